@@ -1,0 +1,18 @@
+-- An index of targets answers what the list of them does.
+use Rattle.std.proofs.Common.{◌≡◌, ℕ, ◌||◌, List, [], ◌∷◌, refl, arith}
+use Rattle.std.specs.List.{list_any}
+use Rattle.std.proofs.lemmas.Bool.Decides.{nat_tests}
+use Rattle.upd_core.specs.declared.target.Target.{Target}
+use Rattle.upd_core.specs.declared.target.Target.TheVariants.{Set, SetIn, Deck}
+use Rattle.upd_core.specs.Status.{takes, is_taken}
+use Rattle.upd_core.specs.Targets.{is_same}
+
+-- what takes an ident in a deck is one of two targets
+takes-split : (z d : ℕ) (t : Target) → takes z d t ≡ (is_same (Set z) t || is_same (SetIn z d) t)
+takes-split z d (Set a) = grind (arith, nat_tests)
+takes-split z d (SetIn a e) = grind (arith, nat_tests)
+takes-split z d (Deck e) = refl
+
+pub is_taken-split : (live : List Target) (d z : ℕ) → is_taken live d z ≡ (list_any (is_same (Set z)) live || list_any (is_same (SetIn z d)) live)
+is_taken-split [] d z = refl
+is_taken-split (t ∷ ts) d z = grind (arith, takes-split z d t, is_taken-split ts d z)

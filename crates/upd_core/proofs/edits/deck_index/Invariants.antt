@@ -1,0 +1,7 @@
+use Rattle.std.proofs.Common.{◌≡◌, drop}
+use Rattle.upd_core.specs.First.{index_from}
+use Rattle.upd_core.specs.Library.{is_deck}
+use Rattle.upd_core.proofs.edits.deck_index.Given as goal
+
+abbrev pub invariant-loop-i : goal.invariant-loop-i
+invariant-loop-i l = index_from (is_deck l.age) l.i (drop l.i l.decks) ≡ index_from (is_deck l.age) 0 l.decks

@@ -1,0 +1,7 @@
+use Rattle.std.proofs.Common.{◌≡◌, take}
+use Rattle.upd_core.specs.Status.{stays_on, is_taken}
+use Rattle.upd_core.proofs.live.stays_on.Given as goal
+
+abbrev pub invariant-loop-i : goal.invariant-loop-i
+invariant-loop-i l =
+    stays_on (is_taken l.targets l.deck) (take l.i l.history) ≡ stays_on (is_taken l.targets l.deck) l.history

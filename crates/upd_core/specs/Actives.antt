@@ -1,0 +1,35 @@
+-- The active cards of a library: all that a compile file is made of.
+use Rattle.std.specs.Prelude.{ℕ, List, map}
+use Rattle.std.specs.List.{filter}
+use Rattle.upd_core.specs.declared.ident.Ident.{Ident}
+use Rattle.upd_core.specs.declared.target.Target.{Target}
+use Rattle.upd_core.specs.Library.{CardView, DeckView, LibraryView}
+use Rattle.upd_core.specs.Status.{is_active, live_targets}
+
+-- A card without its past.
+pub record ActiveCardView : Type 0 where
+  pub ident : ℕ
+  pub number : ℕ
+  pub text : List ℕ
+
+-- The active cards of a deck in order.
+pub record ActiveDeckView : Type 0 where
+  pub ident : ℕ
+  pub cards : List ActiveCardView
+
+-- The directory, and the active cards of each deck other than `YANK$$$`, by age.
+pub record ActivesView : Type 0 where
+  pub idents : List Ident
+  pub decks : List ActiveDeckView
+
+-- a card without its history and targets
+abbrev pub without_past : CardView → ActiveCardView
+without_past c = record { ident = c.ident; number = c.number; text = c.text }
+
+-- the active cards of a deck
+abbrev pub active_deck : List Target → DeckView → ActiveDeckView
+active_deck live d = record { ident = d.ident; cards = map without_past (filter (is_active live d.ident) d.cards) }
+
+-- the active cards of a library
+abbrev pub actives_of : LibraryView → ActivesView
+actives_of l = record { idents = l.idents; decks = map (active_deck (live_targets l)) l.decks }

@@ -1,0 +1,16 @@
+pub mod Names
+pub mod NameFields
+pub mod Lines
+pub mod Faults
+pub mod Outcome
+pub mod First
+pub mod Library
+pub mod Status
+pub mod Targets
+pub mod Limits
+pub mod Counts
+pub mod Edits
+pub mod Parts
+pub mod Gone
+pub mod Sound
+pub mod Actives

@@ -1,0 +1,66 @@
+-- What holds of every library that runs can reach.
+use Rattle.std.specs.Prelude.{◌≡◌, ℕ, ◌+◌, ◌==◌, Bool, false, ◌&&◌, ◌⊎◌, IsTrue, List, [], ◌∷◌, map}
+use Rattle.std.specs.List.{list_any, filter, flat_map, AllByRecursion}
+use Rattle.upd_core.specs.declared.ident.Ident.{Ident}
+use Rattle.upd_core.specs.Library.{CardView, DeckView, LibraryView, all_decks, is_deck_kind}
+use Rattle.upd_core.specs.Status.{IsAged}
+
+-- no two elements of a list are the same
+abbrev pub AreApart : {A : Type 0} → List A → Type 0
+AreApart [] = Unit {0}
+AreApart (x ∷ xs) = AllByRecursion (λ y. x ≡ y → ⊥) xs × AreApart xs
+
+-- the ages of a directory are n, n + 1, ..
+abbrev pub AreAgedFrom : ℕ → List Ident → Type 0
+AreAgedFrom n [] = Unit {0}
+AreAgedFrom n (i ∷ rest) = (i.age ≡ n) × AreAgedFrom (n + 1) rest
+
+-- whether an age is that of a held ident, or of a held deck
+abbrev pub is_held : List Ident → ℕ → Bool
+is_held idents z = list_any (λ i. i.held && (i.age == z)) idents
+
+-- whether an age is that of a held deck
+abbrev pub is_held_deck : List Ident → ℕ → Bool
+is_held_deck idents z = list_any (λ i. i.held && is_deck_kind i.kind && (i.age == z)) idents
+
+-- a deck begins with card 1 of its own ident
+abbrev pub BeginsWithItsOwn : DeckView → Type 0
+BeginsWithItsOwn d = FirstIs d.cards
+  where
+    FirstIs : List CardView → Type 0
+    FirstIs [] = ⊥
+    FirstIs (c ∷ cs) = (c.ident ≡ d.ident) × (c.number ≡ 1)
+
+-- a card's ident is held, and so are those of its entries; ages in the directory end with the youngest ident
+abbrev pub IsOfHeld : List Ident → CardView → Type 0
+IsOfHeld idents c = IsTrue (is_held idents c.ident) × AllByRecursion (λ e. IsTrue (is_held idents e.ident)) c.history
+
+-- what tells a card: its ident and its number
+abbrev pub key_of : CardView → ℕ × ℕ
+key_of c = (c.ident, c.number)
+
+-- the cards of all decks
+abbrev pub all_cards : LibraryView → List CardView
+all_cards l = flat_map (λ d. d.cards) (all_decks l)
+
+-- what holds of a library that runs have made
+pub record IsSound (l : LibraryView) : Type 0 where
+  -- the directory counts 1, 2, .., and held names differ
+  pub ages : AreAgedFrom 1 l.idents
+  pub names : AreApart (map (λ i. i.name) (filter (λ i. i.held) l.idents))
+  -- the decks are held, differ in age, also from `YANK$$$`, and each begins with its own first card
+  pub decks : AllByRecursion (λ d. IsTrue (is_held_deck l.idents d.ident)) l.decks
+  pub deck_ages : AreApart (map (λ d. d.ident) (all_decks l))
+  pub firsts : AllByRecursion BeginsWithItsOwn l.decks
+  -- cards and entries are of held idents, and no two cards have one ident and number
+  pub cards : AllByRecursion (IsOfHeld l.idents) (all_cards l)
+  pub keys : AreApart (map key_of (all_cards l))
+  -- `YANK$$$` is in order of age, and no yank card has a target twice
+  pub yanks : IsAged l.yanks
+  pub targets : AllByRecursion (λ c. AreApart c.targets) l.yanks
+
+-- How a directory goes on: idents come at its end, and some are no longer held.
+abbrev pub Continues : List Ident → List Ident → Type 0
+Continues [] later = Unit {0}
+Continues (i ∷ idents) [] = ⊥
+Continues (i ∷ idents) (j ∷ later) = ((j ≡ i) ⊎ (j ≡ record i { held = false })) × Continues idents later

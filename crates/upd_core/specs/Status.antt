@@ -1,0 +1,120 @@
+-- Which idents are taken, and which cards are good, live and active.
+use Rattle.std.specs.Prelude.{◌≡◌, ℕ, ◌<◌, ◌≤◌, ◌==◌, Bool, false, not, ◌&&◌, if◌then◌else◌, List, [], ◌∷◌, ◌++◌, slice_get, Option, None}
+use Rattle.std.specs.Option.{option_map, option_and_then}
+use Rattle.std.specs.List.{list_any, filter, AllByRecursion}
+use Rattle.upd_core.specs.declared.card.Entry.{Entry}
+use Rattle.upd_core.specs.declared.card_ref.CardRef.{CardRef}
+use Rattle.upd_core.specs.declared.ident.Ident.{Ident}
+use Rattle.upd_core.specs.declared.library.Place.{Place}
+use Rattle.upd_core.specs.declared.target.Target.{Target}
+use Rattle.upd_core.specs.declared.target.Target.TheVariants.{Set, SetIn, Deck}
+use Rattle.upd_core.specs.First.{index_from}
+use Rattle.upd_core.specs.Library.{CardView, LibraryView, held_named, is_card, place_of, card_in}
+
+-- whether a target takes ident z in deck d
+abbrev pub takes : ℕ → ℕ → Target → Bool
+takes z d (Set a) = a == z
+takes z d (SetIn a e) = (a == z) && (e == d)
+takes z d (Deck e) = false
+
+-- whether a target takes all cards of deck d
+abbrev pub takes_deck : ℕ → Target → Bool
+takes_deck d (Set a) = false
+takes_deck d (SetIn a e) = false
+takes_deck d (Deck e) = e == d
+
+-- an ident is taken in a deck while a live target takes it there
+abbrev pub is_taken : List Target → ℕ → ℕ → Bool
+is_taken live d z = list_any (takes z d) live
+
+-- whether there is a last entry and it switches on
+abbrev pub ends_on : List Entry → Bool
+ends_on [] = false
+ends_on (e ∷ []) = e.active
+ends_on (e ∷ f ∷ es) = ends_on (f ∷ es)
+
+-- a history with the entries of taken idents left out ends with one that switches on
+abbrev pub stays_on : (ℕ → Bool) → List Entry → Bool
+stays_on taken history = ends_on (filter (λ e. not (taken e.ident)) history)
+
+-- a card of deck d is good where its history stays on
+abbrev pub is_good : List Target → ℕ → CardView → Bool
+is_good live d c = stays_on (is_taken live d) c.history
+
+-- the targets of cards, those of the last card first
+abbrev pub targets_of : List CardView → List Target
+targets_of [] = []
+targets_of (c ∷ cs) = targets_of cs ++ c.targets
+
+-- The live cards of `YANK$$$` are its good ones. A card is judged by the live ones behind it, which are younger: only these can take what
+-- switched it.
+abbrev pub live_before : CardView → List CardView → List CardView
+live_before y later = if is_good (targets_of later) 0 y then y ∷ later else later
+
+-- the live cards of yank cards in order
+abbrev pub live_cards : List CardView → List CardView
+live_cards [] = []
+live_cards (y ∷ ys) = live_before y (live_cards ys)
+
+-- whether each card of `YANK$$$` is live, in order
+abbrev pub liveness : List CardView → List Bool
+liveness [] = []
+liveness (y ∷ ys) = is_good (targets_of (live_cards ys)) 0 y ∷ liveness ys
+
+-- the cards of a list that are marked
+abbrev pub marked : List Bool → List CardView → List CardView
+marked [] cs = []
+marked (mark ∷ marks) [] = []
+marked (mark ∷ marks) (c ∷ cs) = if mark then c ∷ marked marks cs else marked marks cs
+
+-- the targets of the live cards of a library
+abbrev pub live_targets : LibraryView → List Target
+live_targets l = targets_of (live_cards l.yanks)
+
+-- a card of deck d is active where it is good and no live target takes the deck
+abbrev pub is_active : List Target → ℕ → CardView → Bool
+is_active live d c = is_good live d c && not (list_any (takes_deck d) live)
+
+-- whether the card that a reference names is active, if there is one
+abbrev pub status_of : CardRef → LibraryView → Option Bool
+status_of card l = option_and_then (λ p. option_map (is_active (live_targets l) p.deck) (card_in p l)) (place_of card l)
+
+-- The directory and the cards of `YANK$$$`, whether each of these is live, and the targets of the live ones.
+pub record LiveView : Type 0 where
+  pub idents : List Ident
+  pub yanks : List CardView
+  pub live : List Bool
+  pub targets : List Target
+
+-- what the yank cards of a library do
+abbrev pub live_of : LibraryView → LiveView
+live_of l = record { idents = l.idents; yanks = l.yanks; live = liveness l.yanks; targets = live_targets l }
+
+-- whether the yank card that a reference names is live, if there is one
+abbrev pub live_yank : CardRef → LiveView → Option Bool
+live_yank card v =
+    option_and_then (λ i. option_and_then (slice_get v.live) (index_from (is_card i.age card.number) 0 v.yanks)) (held_named card.name v.idents)
+
+-- whether the card at a place is live, if it is a yank card
+abbrev pub yank_at : LibraryView → Place → Option Bool
+yank_at l place = if place.deck == 0 then slice_get (liveness l.yanks) place.index else None
+
+-- The order of age in `YANK$$$`: targets are older than their card, entries at least as young as the card, and the entries of every later
+-- card as well.
+abbrev pub TakesOlder : ℕ → Target → Type 0
+TakesOlder age (Set z) = z < age
+TakesOlder age (SetIn z d) = (z < age) × (d < age)
+TakesOlder age (Deck d) = d < age
+
+-- the entries of a card are of an age or younger
+abbrev pub HasEntriesFrom : ℕ → CardView → Type 0
+HasEntriesFrom age c = AllByRecursion (λ e. age ≤ e.ident) c.history
+
+-- yank cards in order of age
+abbrev pub IsAged : List CardView → Type 0
+IsAged [] = Unit {0}
+IsAged (y ∷ ys) = AllByRecursion (TakesOlder y.ident) y.targets × AllByRecursion (HasEntriesFrom y.ident) (y ∷ ys) × IsAged ys
+
+-- the cards that are good, given the targets of all these cards
+abbrev pub AreLive : List CardView → List CardView → Type 0
+AreLive live yanks = live ≡ filter (is_good (targets_of live) 0) yanks

@@ -1,0 +1,65 @@
+ghost use Rattle.std.specs.Prelude.{◌≡◌, IfOk};
+
+use crate::ident::Serial;
+use crate::target::Target;
+use std::alloc::{AllocError, Global};
+use std::marker::Model;
+
+/// One entry of a card's history: an ident that switched the card on or off.
+#[derive(Clone, Copy, Debug, PartialEq, Eq)]
+pub struct Entry {
+    pub ident: Serial,
+    pub active: bool,
+}
+
+/// A card: a numbered line of an ident, with all that ever happened to it.
+#[derive(Debug, Drop)]
+pub struct Card {
+    /// The age of the ident that brought the card.
+    pub ident: Serial,
+    /// Its number within that ident, from 1.
+    pub number: u32,
+    pub text: Vec<u8>,
+    /// From the oldest entry, which is the card's own ident, on.
+    pub history: Vec<Entry>,
+    /// What a yank card takes; none for other cards.
+    pub targets: Vec<Target>,
+}
+
+impl Model for Card {
+    ghost use Rattle.upd_core.specs.Library.{CardView};
+
+    ghost Value = { CardView };
+
+    ghost view = { λ c. record { ident = c.ident; number = c.number; text = c.text.items; history = c.history.items; targets = c.targets.items } };
+}
+
+impl Card {
+    /// A copy; memory alone can fail.
+    pub fn copy(&self) -> Result<Card, AllocError>
+        ensures { IfOk result (λ copy. copy ≡ self.now) }
+    {
+        let alloc = *self.text.allocator();
+        let text = Vec::from_slice(alloc, &self.text)?;
+        let history = Vec::from_slice(alloc, &self.history)?;
+        let targets = Vec::from_slice(alloc, &self.targets)?;
+        Ok(Card {
+            ident: self.ident,
+            number: self.number,
+            text,
+            history,
+            targets,
+        })
+    }
+}
+
+/// A copy of cards; memory alone can fail.
+pub(crate) fn copy_cards(alloc: Global, cards: &[Card]) -> Result<Vec<Card>, AllocError>
+    ensures { IfOk result (λ copies. copies.items ≡ cards.now) }
+{
+    let mut copies = Vec::with_capacity(alloc, cards.len())?;
+    for card in cards {
+        copies.push(card.copy()?)?;
+    }
+    Ok(copies)
+}

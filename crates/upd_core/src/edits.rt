@@ -1,0 +1,452 @@
+ghost use Rattle.std.specs.Prelude.{◌≡◌, ◌==◌, ◌-◌, ◌+◌, ◌<◌, ◌≤◌, [], ◌∷◌, ◌++◌, length, map, take, drop, insert, find, is_some, IfOk, IfSome, OnOk, OnErr};
+ghost use Rattle.std.specs.Option.{option_map_or};
+ghost use Rattle.upd_core.specs.Parts.{entered_count, entered_range, entered_in, inserted_in};
+ghost use Rattle.upd_core.specs.Edits.{introduced, new_card, with_deck, with_card, with_yank, entered, with_entries, without_idents, purged, purged_in, purged_back, is_among};
+ghost use Rattle.upd_core.specs.First.{index_from, at_first};
+ghost use Rattle.upd_core.specs.Gone.{is_gone};
+ghost use Rattle.upd_core.specs.Library.{is_deck};
+
+use crate::card::{Card, Entry};
+use crate::counts::Counts;
+use crate::deck::Deck;
+use crate::gone::{Gone, purge_cards, purge_decks, unhold};
+use crate::ident::{Ident, Kind, Serial};
+use crate::library::Library;
+use crate::limits::MAX_INTRODUCED;
+use crate::name::Name;
+use crate::target::Target;
+use std::alloc::{AllocError, Global};
+
+impl Card {
+    /// A new card: its history is its own ident, on.
+    pub fn new(
+        alloc: Global,
+        ident: Serial,
+        number: u32,
+        text: &[u8],
+        targets: Vec<Target>,
+    ) -> Result<Card, AllocError>
+        ensures { IfOk result (λ card. card ≡ new_card ident number text.now targets.items) }
+    {
+        let text = Vec::from_slice(alloc, text)?;
+        let history = Vec::from_slice(
+            alloc,
+            &[Entry {
+                ident,
+                active: true,
+            }],
+        )?;
+        Ok(Card {
+            ident,
+            number,
+            text,
+            history,
+            targets,
+        })
+    }
+}
+
+impl Deck {
+    /// A new deck: its first card has this text.
+    pub fn new(alloc: Global, ident: Serial, text: &[u8]) -> Result<Deck, AllocError>
+        ensures { IfOk result (λ deck. deck ≡ record { ident = ident; cards = new_card ident 1 text.now [] ∷ [] }) }
+    {
+        let first = Card::new(alloc, ident, 1, text, Vec::new(alloc))?;
+        let mut cards = Vec::new(alloc);
+        cards.push(first)?;
+        Ok(Deck { ident, cards })
+    }
+}
+
+/// Each edit that takes memory fails for want of it alone. The library is then as it was, but for `enter`, after which some of the cards
+/// have the entry: work on a copy.
+impl Library {
+    /// The allocator of its vectors.
+    pub fn allocator(&self) -> Global {
+        *self.idents.allocator()
+    }
+
+    /// A new ident with the next age.
+    pub fn introduce(&mut self, name: Name, kind: Kind, noprop: bool) -> Result<(), AllocError>
+        requires { length self.old.idents < MAX_INTRODUCED }
+        ensures ok { OnOk result (self.new ≡ introduced name kind noprop self.old) }
+        ensures err { OnErr result (self.new ≡ self.old) }
+    {
+        let age = self.idents.len() as Serial + 1;
+        self.idents.push(Ident {
+            name,
+            age,
+            kind,
+            noprop,
+            held: true,
+        })?;
+        self.counts.held = self.counts.held.saturating_add(1);
+        Ok(())
+    }
+
+    /// A new deck at the end.
+    pub fn push_deck(&mut self, deck: Deck) -> Result<(), AllocError>
+        ensures ok { OnOk result (self.new ≡ with_deck deck self.old) }
+        ensures err { OnErr result (self.new ≡ self.old) }
+    {
+        let counts = self.counts.with_deck(&deck);
+        self.decks.push(deck)?;
+        self.counts = counts;
+        Ok(())
+    }
+
+    /// A card in the deck of an age, 0 for `YANK$$$`, with so many of its cards behind it. Where there is no such deck it is dropped.
+    pub fn insert_card(&mut self, deck: Serial, behind: usize, card: Card) -> Result<(), AllocError>
+        ensures ok { OnOk result (self.new ≡ with_card deck behind card self.old) }
+        ensures err { OnErr result (self.new ≡ self.old) }
+    {
+        let entries = card.history.len();
+        let targets = card.targets.len();
+        if deck == 0 {
+            insert_behind(&mut self.yanks, behind, card)?;
+            self.counts = self.counts.with_card(entries, targets);
+        } else if insert_in(&mut self.decks, deck, behind, card)? {
+            self.counts = self.counts.with_card(entries, 0);
+        }
+        Ok(())
+    }
+
+    /// A yank card at the end of `YANK$$$`.
+    pub fn push_yank(&mut self, card: Card) -> Result<(), AllocError>
+        ensures ok { OnOk result (self.new ≡ with_yank card self.old) }
+        ensures err { OnErr result (self.new ≡ self.old) }
+    {
+        let counts = self
+            .counts
+            .with_card(card.history.len(), card.targets.len());
+        self.yanks.push(card)?;
+        self.counts = counts;
+        Ok(())
+    }
+
+    /// An entry on each card of a deck from one index to another, as far as there are cards.
+    pub fn enter(
+        &mut self,
+        deck: Serial,
+        from: usize,
+        to: usize,
+        entry: Entry,
+    ) -> Result<(), AllocError>
+        requires { from ≤ to }
+        ensures { OnOk result (self.new ≡ with_entries deck from to entry self.old) }
+    {
+        if deck == 0 {
+            self.enter_yanks(from, to, entry)?;
+        } else {
+            self.enter_deck(deck, from, to, entry)?;
+        }
+        Ok(())
+    }
+
+    fn enter_yanks(&mut self, from: usize, to: usize, entry: Entry) -> Result<(), AllocError>
+        requires { from ≤ to }
+        ensures { OnOk result (self.new ≡ record self.old { yanks = entered_range from to entry self.old.yanks }) }
+    {
+        match enter_range(&mut self.yanks, from, to, entry) {
+            Ok(count) => {
+                self.counts.entries = self.counts.entries.saturating_add(count);
+                Ok(())
+            }
+            Err(error) => {
+                self.counts = Counts::of(&self.idents, &self.decks, &self.yanks, self.rest);
+                Err(error)
+            }
+        }
+    }
+
+    fn enter_deck(
+        &mut self,
+        deck: Serial,
+        from: usize,
+        to: usize,
+        entry: Entry,
+    ) -> Result<(), AllocError>
+        requires { from ≤ to }
+        ensures { OnOk result (self.new ≡ record self.old { decks = entered_in deck from to entry self.old.decks }) }
+    {
+        match enter_in(&mut self.decks, deck, from, to, entry) {
+            Ok(count) => {
+                self.counts.entries = self.counts.entries.saturating_add(count);
+                Ok(())
+            }
+            Err(error) => {
+                self.counts = Counts::of(&self.idents, &self.decks, &self.yanks, self.rest);
+                Err(error)
+            }
+        }
+    }
+
+    /// Purges the idents of these ages.
+    pub fn purge(&mut self, ages: &[Serial]) -> Result<(), AllocError>
+        ensures ok { OnOk result (self.new ≡ purged (is_among ages.now) self.old) }
+        ensures err { OnErr result (self.new ≡ self.old) }
+    {
+        let gone = Gone::among(*self.idents.allocator(), ages)?;
+        self.purge_gone(&gone);
+        Ok(())
+    }
+
+    /// Purges the ident of an age and all younger ones. It takes no memory.
+    pub fn purge_from(&mut self, age: Serial)
+        ensures { self.new ≡ purged_back age self.old }
+    {
+        self.purge_gone(&Gone::From(age));
+    }
+
+    fn purge_gone(&mut self, gone: &Gone)
+        ensures { self.new ≡ purged (is_gone gone.now) self.old }
+    {
+        unhold(&mut self.idents, gone);
+        purge_decks(&mut self.decks, gone);
+        purge_cards(&mut self.yanks, gone);
+        self.counts = Counts::of(&self.idents, &self.decks, &self.yanks, self.rest);
+    }
+
+    /// Purges an ident in one deck, 0 for `YANK$$$`; it stays held. It takes no memory.
+    pub fn purge_in(&mut self, deck: Serial, ident: Serial)
+        ensures { self.new ≡ purged_in deck ident self.old }
+    {
+        if deck == 0 {
+            purge_cards(&mut self.yanks, &Gone::Only(ident));
+        } else {
+            purge_deck(&mut self.decks, deck, ident);
+        }
+        self.counts = Counts::of(&self.idents, &self.decks, &self.yanks, self.rest);
+    }
+}
+
+/// The index of the deck of an age.
+fn deck_index(decks: &[Deck], age: Serial) -> Option<usize>
+    ensures first { result ≡ index_from (is_deck age) 0 decks.now }
+    ensures within { IfSome result (λ i. i < length decks.now) }
+{
+    for (i, deck) in decks.iter().enumerate() {
+        if deck.ident == age {
+            return Some(i);
+        }
+    }
+    None
+}
+
+fn insert_behind(cards: &mut Vec<Card>, behind: usize, card: Card) -> Result<(), AllocError>
+    ensures ok { OnOk result (cards.new.items ≡ insert cards.old.items (length cards.old.items - behind) card) }
+    ensures err { OnErr result (cards.new.items ≡ cards.old.items) }
+{
+    let index = cards.len().saturating_sub(behind);
+    cards.insert(index, card)?;
+    Ok(())
+}
+
+/// Whether there is such a deck.
+fn insert_in(
+    decks: &mut Vec<Deck>,
+    age: Serial,
+    behind: usize,
+    card: Card,
+) -> Result<bool, AllocError>
+    ensures found { IfOk result (λ found. found ≡ is_some (find (is_deck age) decks.old.items)) }
+    ensures ok { OnOk result (decks.new.items ≡ inserted_in age behind card decks.old.items) }
+    ensures err { OnErr result (decks.new.items ≡ decks.old.items) }
+{
+    if let Some(i) = deck_index(decks, age) {
+        let deck = &mut decks[i];
+        insert_behind(&mut deck.cards, behind, card)?;
+        Ok(true)
+    } else {
+        Ok(false)
+    }
+}
+
+fn enter_each(cards: &mut [Card], entry: Entry) -> Result<(), AllocError>
+    ensures { OnOk result (cards.new ≡ map (entered entry) cards.old) }
+{
+    for card in cards.iter_mut() {
+        card.history.push(entry)?;
+    }
+    Ok(())
+}
+
+/// How many cards have the entry.
+fn enter_some(cards: &mut [Card], from: usize, to: usize, entry: Entry) -> Result<usize, AllocError>
+    requires { from ≤ to }
+    ensures count { IfOk result (λ count. count ≡ entered_count from to cards.old) }
+    ensures ok { OnOk result (cards.new ≡ entered_range from to entry cards.old) }
+{
+    if to < cards.len() {
+        enter_each(&mut cards[from..to + 1], entry)?;
+        Ok(to + 1 - from)
+    } else if from < cards.len() {
+        enter_each(&mut cards[from..], entry)?;
+        Ok(cards.len() - from)
+    } else {
+        Ok(0)
+    }
+}
+
+fn enter_range(
+    cards: &mut Vec<Card>,
+    from: usize,
+    to: usize,
+    entry: Entry,
+) -> Result<usize, AllocError>
+    requires { from ≤ to }
+    ensures count { IfOk result (λ count. count ≡ entered_count from to cards.old.items) }
+    ensures ok { OnOk result (cards.new.items ≡ entered_range from to entry cards.old.items) }
+{
+    let count = enter_some(cards, from, to, entry)?;
+    Ok(count)
+}
+
+/// How many cards have the entry.
+fn enter_in(
+    decks: &mut Vec<Deck>,
+    age: Serial,
+    from: usize,
+    to: usize,
+    entry: Entry,
+) -> Result<usize, AllocError>
+    requires { from ≤ to }
+    ensures count { IfOk result (λ count. count ≡ option_map_or (λ d. entered_count from to d.cards) (find (is_deck age) decks.old.items) 0) }
+    ensures ok { OnOk result (decks.new.items ≡ entered_in age from to entry decks.old.items) }
+{
+    if let Some(i) = deck_index(decks, age) {
+        let deck = &mut decks[i];
+        let count = enter_range(&mut deck.cards, from, to, entry)?;
+        Ok(count)
+    } else {
+        Ok(0)
+    }
+}
+
+fn purge_deck(decks: &mut Vec<Deck>, age: Serial, ident: Serial)
+    ensures { decks.new.items ≡ at_first (is_deck age) (λ d. record d { cards = without_idents (λ x. x == ident) d.cards }) decks.old.items }
+{
+    if let Some(i) = deck_index(decks, age) {
+        let deck = &mut decks[i];
+        purge_cards(&mut deck.cards, &Gone::Only(ident));
+    }
+}
+
+#[cfg(test)]
+mod tests {
+    use super::*;
+    use crate::card_ref::CardRef;
+    use crate::library::Place;
+    use std::test::Fail;
+
+    fn name(text: &str) -> Result<Name, Fail> {
+        Ok(Name::read(text.as_bytes()).ok_or("no name")?)
+    }
+
+    // A deck with the cards A.1 to A.3, and one with B.1 and the card X.1 of a set.
+    fn two_decks(alloc: Global) -> Result<Library, Fail> {
+        let mut library = Library::new(alloc);
+        if library.idents().len() < MAX_INTRODUCED {
+            library.introduce(name("A")?, Kind::Deck, false)?;
+        }
+        if library.idents().len() < MAX_INTRODUCED {
+            library.introduce(name("B")?, Kind::Deck, false)?;
+        }
+        if library.idents().len() < MAX_INTRODUCED {
+            library.introduce(name("X")?, Kind::Set, false)?;
+        }
+        library.push_deck(Deck::new(alloc, 1, b"*DECK A")?)?;
+        library.push_deck(Deck::new(alloc, 2, b"*DECK B")?)?;
+        library.insert_card(1, 0, Card::new(alloc, 1, 2, b"TWO", Vec::new(alloc))?)?;
+        library.insert_card(1, 0, Card::new(alloc, 1, 3, b"THREE", Vec::new(alloc))?)?;
+        library.insert_card(2, 0, Card::new(alloc, 3, 1, b"NEW", Vec::new(alloc))?)?;
+        Ok(library)
+    }
+
+    // How many cards the deck at an index has, and how many entries.
+    fn counts(library: &Library, index: usize) -> Option<(usize, usize)> {
+        let deck = library.decks().get(index)?;
+        let mut entries: usize = 0;
+        for card in &deck.cards {
+            entries = entries.checked_add(card.history.len())?;
+        }
+        Some((deck.cards.len(), entries))
+    }
+
+    #[test]
+    fn decks_get_cards_and_entries(rt: HostRuntime) -> Result<(), Fail> {
+        let alloc = rt.alloc();
+        let mut library = two_decks(alloc)?;
+        assert_eq!(rt; library.idents().len(), 3);
+        assert_eq!(rt; counts(&library, 0), Some((3, 3)));
+        assert_eq!(rt; counts(&library, 1), Some((2, 2)));
+        library.enter(
+            1,
+            1,
+            7,
+            Entry {
+                ident: 3,
+                active: false,
+            },
+        )?;
+        assert_eq!(rt; counts(&library, 0), Some((3, 5)));
+        library.insert_card(1, 2, Card::new(alloc, 3, 2, b"", Vec::new(alloc))?)?;
+        assert_eq!(rt;
+            library.card_at(CardRef {
+                name: name("X")?,
+                number: 2
+            }),
+            Some(Place { deck: 1, index: 1 })
+        );
+        library.push_yank(Card::new(alloc, 3, 3, b"*YANK A", Vec::new(alloc))?)?;
+        library.enter(
+            0,
+            0,
+            0,
+            Entry {
+                ident: 3,
+                active: false,
+            },
+        )?;
+        assert_eq!(rt; library.yanks().len(), 1);
+        assert!(rt; library.is_within_limits());
+        Ok(())
+    }
+
+    #[test]
+    fn purges_take_idents(rt: HostRuntime) -> Result<(), Fail> {
+        let alloc = rt.alloc();
+        let mut library = two_decks(alloc)?;
+        library.enter(
+            1,
+            1,
+            1,
+            Entry {
+                ident: 3,
+                active: false,
+            },
+        )?;
+        library.purge_in(1, 3);
+        assert_eq!(rt; counts(&library, 0), Some((3, 3)));
+        assert_eq!(rt; counts(&library, 1), Some((2, 2)));
+        library.enter(
+            1,
+            1,
+            1,
+            Entry {
+                ident: 3,
+                active: false,
+            },
+        )?;
+        library.purge(&[3])?;
+        assert_eq!(rt; counts(&library, 0), Some((3, 3)));
+        assert_eq!(rt; counts(&library, 1), Some((1, 1)));
+        assert_eq!(rt; library.ident_of(&name("X")?), None);
+        library.purge_from(2);
+        assert_eq!(rt; library.decks().len(), 1);
+        assert_eq!(rt; library.deck_of(&name("A")?), Some(1));
+        assert_eq!(rt; library.deck_of(&name("B")?), None);
+        assert_eq!(rt; library.idents().len(), 3);
+        Ok(())
+    }
+}

@@ -1,0 +1,134 @@
+ghost use Rattle.std.specs.Prelude.{◌≡◌, ℕ, ◌<◌, not, map, slice_index, EachIndex, IfOk};
+ghost use Rattle.std.specs.List.{filter};
+ghost use Rattle.upd_core.specs.Edits.{unheld, without_entries, without_idents, deck_without, decks_without, is_among};
+ghost use Rattle.upd_core.specs.Gone.{is_marked, is_gone};
+
+use crate::card::{Card, Entry};
+use crate::deck::Deck;
+use crate::ident::{Ident, Serial};
+use std::alloc::{AllocError, Global};
+
+/// The idents that a purge takes.
+#[derive(Drop)]
+pub enum Gone {
+    Only(Serial),
+    /// An ident and all younger ones.
+    From(Serial),
+    /// The ages whose mark is set.
+    Marked(Vec<bool>),
+}
+
+impl Gone {
+    /// The idents of these ages. It takes a mark for each age up to the greatest.
+    pub fn among(alloc: Global, ages: &[Serial]) -> Result<Gone, AllocError>
+        ensures { IfOk result (λ gone. (z : ℕ) → is_gone gone z ≡ is_among ages.now z) }
+    {
+        let marks = marks(alloc, ages)?;
+        Ok(Gone::Marked(marks))
+    }
+
+    /// Whether the purge takes the ident of an age.
+    pub fn covers(&self, age: Serial) -> bool
+        ensures { result ≡ is_gone self.now age }
+    {
+        match self {
+            Gone::Only(gone) => age == *gone,
+            Gone::From(oldest) => *oldest <= age,
+            Gone::Marked(marks) => is_marked(marks, age),
+        }
+    }
+}
+
+fn is_marked(marks: &[bool], age: Serial) -> bool
+    ensures { result ≡ is_marked marks.now age }
+{
+    let age = age as usize;
+    age < marks.len() && marks[age]
+}
+
+fn marks(alloc: Global, ages: &[Serial]) -> Result<Vec<bool>, AllocError>
+    ensures { IfOk result (λ marks. (z : ℕ) → is_marked marks.items z ≡ is_among ages.now z) }
+{
+    let mut marks = vec![in alloc; false; after_all(ages)]?;
+    for age in ages {
+        marks[*age as usize] = true;
+    }
+    Ok(marks)
+}
+
+/// One more than the greatest age.
+fn after_all(ages: &[Serial]) -> usize
+    ensures { EachIndex ages.now (λ k. slice_index ages.now k < result) }
+{
+    match ages.iter().copied().max() {
+        Some(greatest) => greatest as usize + 1,
+        None => 0,
+    }
+}
+
+fn unheld(ident: Ident, gone: &Gone) -> Ident
+    ensures { result ≡ unheld (is_gone gone.now) ident }
+{
+    let held = ident.held && !gone.covers(ident.age);
+    Ident { held, ..ident }
+}
+
+/// Holds these idents no more.
+pub fn unhold(idents: &mut [Ident], gone: &Gone)
+    ensures { idents.new ≡ map (unheld (is_gone gone.now)) idents.old }
+{
+    for ident in idents.iter_mut() {
+        *ident = unheld(*ident, gone);
+    }
+}
+
+/// Takes the entries of these idents out of a history.
+fn purge_history(history: &mut Vec<Entry>, gone: &Gone)
+    ensures { history.new.items ≡ filter (λ e. not (is_gone gone.now e.ident)) history.old.items }
+{
+    history.retain(|entry| !gone.covers(entry.ident));
+}
+
+fn purge_histories(cards: &mut [Card], gone: &Gone)
+    ensures { cards.new ≡ map (without_entries (is_gone gone.now)) cards.old }
+{
+    for card in cards.iter_mut() {
+        purge_history(&mut card.history, gone);
+    }
+}
+
+fn drop_cards(cards: &mut Vec<Card>, gone: &Gone)
+    ensures { cards.new.items ≡ filter (λ c. not (is_gone gone.now c.ident)) cards.old.items }
+{
+    cards.retain(|card| !gone.covers(card.ident));
+}
+
+/// Takes the cards and the entries of these idents out of cards.
+pub fn purge_cards(cards: &mut Vec<Card>, gone: &Gone)
+    ensures { cards.new.items ≡ without_idents (is_gone gone.now) cards.old.items }
+{
+    drop_cards(cards, gone);
+    purge_histories(cards, gone);
+}
+
+fn purge_each(decks: &mut [Deck], gone: &Gone)
+    ensures { decks.new ≡ map (deck_without (is_gone gone.now)) decks.old }
+{
+    for deck in decks.iter_mut() {
+        purge_cards(&mut deck.cards, gone);
+    }
+}
+
+fn drop_decks(decks: &mut Vec<Deck>, gone: &Gone)
+    ensures { decks.new.items ≡ filter (λ d. not (is_gone gone.now d.ident)) decks.old.items }
+{
+    decks.retain(|deck| !gone.covers(deck.ident));
+}
+
+/// Takes the decks of these idents away, and their cards and entries out of the other decks.
+pub fn purge_decks(decks: &mut Vec<Deck>, gone: &Gone)
+    ensures { decks.new.items ≡ decks_without (is_gone gone.now) decks.old.items }
+{
+    drop_decks(decks, gone);
+    purge_each(decks, gone);
+}

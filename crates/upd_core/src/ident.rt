@@ -1,0 +1,72 @@
+ghost use Rattle.std.specs.Prelude.{◌≡◌};
+ghost use Rattle.std.specs.Option.{option_copied};
+ghost use Rattle.upd_core.specs.Library.{held_named, is_deck_kind, is_common, name_at};
+
+use crate::name::Name;
+
+/// The age of an ident: 1 for the first that was introduced. `YANK$$$` has age 0.
+pub type Serial = u32;
+
+/// What an ident stands for.
+#[derive(Clone, Copy, Debug, PartialEq, Eq)]
+pub enum Kind {
+    Set,
+    Deck,
+    Common,
+}
+
+/// A correction set or a deck in the directory. Its age is its identity: a purged name may be introduced again, with a new age.
+#[derive(Clone, Copy, Debug)]
+pub struct Ident {
+    pub name: Name,
+    pub age: Serial,
+    pub kind: Kind,
+    /// Whether callers of this common deck are left out of a normal compile file when it changes.
+    pub noprop: bool,
+    /// Introduced and not purged.
+    pub held: bool,
+}
+
+impl Kind {
+    /// Whether it is a deck, common or not.
+    pub fn is_deck(self) -> bool
+        ensures { result ≡ is_deck_kind self }
+    {
+        match self {
+            Kind::Set => false,
+            Kind::Deck | Kind::Common => true,
+        }
+    }
+
+    pub fn is_common(self) -> bool
+        ensures { result ≡ is_common self }
+    {
+        match self {
+            Kind::Set | Kind::Deck => false,
+            Kind::Common => true,
+        }
+    }
+}
+
+/// The held ident of a name.
+pub fn held_named<'a>(idents: &'a [Ident], name: &Name) -> Option<&'a Ident>
+    ensures { option_copied result ≡ held_named name.now idents.now }
+{
+    for ident in idents {
+        if ident.held && ident.name == *name {
+            return Some(ident);
+        }
+    }
+    None
+}
+
+/// The name of the ident of an age, held or not.
+pub fn name_at(idents: &[Ident], age: Serial) -> Option<Name>
+    ensures { result ≡ name_at idents.now age }
+{
+    if age == 0 {
+        return None;
+    }
+    let ident = idents.get(age as usize - 1)?;
+    Some(ident.name)
+}

@@ -1,0 +1,225 @@
+ghost use Rattle.std.specs.Prelude.{◌≡◌, IfOk};
+ghost use Rattle.std.specs.Option.{option_copied};
+ghost use Rattle.std.specs.Result.{IsOkUnless};
+ghost use Rattle.upd_core.specs.Actives.{actives_of};
+ghost use Rattle.upd_core.specs.Faults.{fault_at};
+ghost use Rattle.upd_core.specs.declared.fault.FaultKind.TheVariants.{NoMemory};
+ghost use Rattle.upd_core.specs.Library.{empty, name_at, held_named, ident_of, deck_of, place_of, cards_of, card_in};
+ghost use Rattle.upd_core.specs.Status.{live_of, status_of};
+
+use crate::actives::{Actives, active_decks};
+use crate::card::{Card, copy_cards};
+use crate::card_ref::CardRef;
+use crate::counts::Counts;
+use crate::deck::{Deck, card_index, copy_decks, deck_aged, place_in};
+use crate::fault::Fault;
+use crate::ident::{Ident, Serial, held_named, name_at};
+use crate::live::{Live, is_active, swept};
+use crate::name::Name;
+use std::alloc::Global;
+use std::marker::Model;
+
+/// Where a card stands: the age of its deck (0 for `YANK$$$`) and its index there.
+#[derive(Clone, Copy, Debug, PartialEq, Eq)]
+pub struct Place {
+    pub deck: Serial,
+    pub index: usize,
+}
+
+/// What the decks that aren't loaded hold: the limits count it.
+#[derive(Clone, Copy, Debug, PartialEq, Eq)]
+pub struct Rest {
+    pub cards: usize,
+    pub entries: usize,
+}
+
+/// A program library.
+#[derive(Debug, Drop)]
+pub struct Library {
+    pub(crate) idents: Vec<Ident>,
+    pub(crate) decks: Vec<Deck>,
+    pub(crate) yanks: Vec<Card>,
+    pub(crate) rest: Rest,
+    /// How much it holds: each edit keeps them.
+    pub(crate) counts: Counts,
+}
+
+impl Model for Library {
+    ghost use Rattle.upd_core.specs.Counts.{AreOf};
+    ghost use Rattle.upd_core.specs.Library.{LibraryView};
+
+    ghost Value = { LibraryView };
+
+    ghost view = { λ l. record { idents = l.idents.items; decks = l.decks.items; yanks = l.yanks.items; rest = l.rest } };
+
+    ghost invariant = { λ l. AreOf (record { idents = l.idents.items; decks = l.decks.items; yanks = l.yanks.items; rest = l.rest }) l.counts };
+}
+
+impl Library {
+    /// A library with no ident and no card. It takes no memory.
+    pub fn new(alloc: Global) -> Library
+        ensures { result ≡ empty }
+    {
+        Library {
+            idents: Vec::new(alloc),
+            decks: Vec::new(alloc),
+            yanks: Vec::new(alloc),
+            rest: Rest {
+                cards: 0,
+                entries: 0,
+            },
+            counts: Counts::none(),
+        }
+    }
+
+    /// A library with the same contents; memory alone can fail.
+    pub fn copy(&self) -> Result<Library, Fault>
+        ensures ok { IfOk result (λ copy. copy ≡ self.now) }
+        ensures err { IsOkUnless result (fault_at NoMemory 0) }
+    {
+        let alloc = *self.idents.allocator();
+        let idents = Vec::from_slice(alloc, &self.idents)?;
+        let decks = copy_decks(alloc, &self.decks)?;
+        let yanks = copy_cards(alloc, &self.yanks)?;
+        Ok(Library {
+            idents,
+            decks,
+            yanks,
+            rest: self.rest,
+            counts: self.counts,
+        })
+    }
+
+    /// The directory: all idents ever introduced, by age.
+    pub fn idents(&self) -> &[Ident]
+        ensures { result.now ≡ self.now.idents }
+    {
+        self.idents.as_slice()
+    }
+
+    /// The decks other than `YANK$$$`, by age.
+    pub fn decks(&self) -> &[Deck]
+        ensures { result.now ≡ self.now.decks }
+    {
+        self.decks.as_slice()
+    }
+
+    /// The cards of `YANK$$$`.
+    pub fn yanks(&self) -> &[Card]
+        ensures { result.now ≡ self.now.yanks }
+    {
+        self.yanks.as_slice()
+    }
+
+    /// What the decks hold that aren't loaded: nothing in a whole library.
+    pub fn rest(&self) -> Rest
+        ensures { result ≡ self.now.rest }
+    {
+        self.rest
+    }
+
+    /// The name of the ident of an age, held or not. It takes the same time for each.
+    pub fn name_of(&self, age: Serial) -> Option<Name>
+        ensures { result ≡ name_at self.now.idents age }
+    {
+        name_at(&self.idents, age)
+    }
+
+    /// The held ident of a name.
+    pub fn held(&self, name: &Name) -> Option<&Ident>
+        ensures { option_copied result ≡ held_named name.now self.now.idents }
+    {
+        held_named(&self.idents, name)
+    }
+
+    /// The age of the held ident of a name.
+    pub fn ident_of(&self, name: &Name) -> Option<Serial>
+        ensures { result ≡ ident_of name.now self.now }
+    {
+        self.held(name).map(|ident| ident.age)
+    }
+
+    /// The age of the held deck of a name, common or not.
+    pub fn deck_of(&self, name: &Name) -> Option<Serial>
+        ensures { result ≡ deck_of name.now self.now }
+    {
+        let ident = self.held(name)?;
+        if ident.kind.is_deck() {
+            Some(ident.age)
+        } else {
+            None
+        }
+    }
+
+    /// The cards of the deck of an age, 0 for `YANK$$$`; none where there is no such deck.
+    pub fn cards_of(&self, age: Serial) -> &[Card]
+        ensures { result.now ≡ cards_of age self.now }
+    {
+        if age == 0 {
+            return &self.yanks;
+        }
+        match deck_aged(&self.decks, age) {
+            Some(deck) => &deck.cards,
+            None => &[],
+        }
+    }
+
+    /// Where the card stands that a reference names.
+    pub fn card_at(&self, card: CardRef) -> Option<Place>
+        ensures { result ≡ place_of card self.now }
+    {
+        let ident = self.ident_of(&card.name)?;
+        match card_index(&self.yanks, ident, card.number) {
+            Some(index) => Some(Place { deck: 0, index }),
+            None => place_in(&self.decks, ident, card.number),
+        }
+    }
+
+    /// The card at a place.
+    pub fn card(&self, place: Place) -> Option<&Card>
+        ensures { option_copied result ≡ card_in place self.now }
+    {
+        self.cards_of(place.deck).get(place.index)
+    }
+
+    /// Which yank cards are live; memory alone can fail.
+    pub fn live_yanks(&self) -> Result<Live<'_>, Fault>
+        ensures ok { IfOk result (λ live. live ≡ live_of self.now) }
+        ensures err { IsOkUnless result (fault_at NoMemory 0) }
+    {
+        let (live, targets) = swept(*self.yanks.allocator(), &self.yanks)?;
+        Ok(Live {
+            idents: &self.idents,
+            yanks: &self.yanks,
+            live,
+            targets,
+        })
+    }
+
+    /// Whether the card that a reference names is active, for a yank card live.
+    pub fn status(&self, live: &Live, card: CardRef) -> Option<bool>
+        requires { live.now ≡ live_of self.now }
+        ensures { result ≡ status_of card self.now }
+    {
+        let place = self.card_at(card)?;
+        let card = self.card(place)?;
+        Some(is_active(&live.targets, place.deck, card))
+    }
+
+    /// The active cards of all decks other than `YANK$$$`; memory alone can fail.
+    pub fn actives(&self) -> Result<Actives<'_>, Fault>
+        ensures ok { IfOk result (λ actives. actives ≡ actives_of self.now) }
+        ensures err { IsOkUnless result (fault_at NoMemory 0) }
+    {
+        let alloc = *self.decks.allocator();
+        let (_, live) = swept(alloc, &self.yanks)?;
+        let decks = active_decks(alloc, &live, &self.decks)?;
+        Ok(Actives {
+            idents: &self.idents,
+            decks,
+        })
+    }
+}
+
+#[cfg(test)]
+mod tests;

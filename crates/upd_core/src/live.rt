@@ -1,0 +1,118 @@
+ghost use Rattle.std.specs.Prelude.{◌≡◌, List, IfOk};
+ghost use Rattle.std.specs.Option.{option_and_then};
+ghost use Rattle.upd_core.specs.Status.{stays_on, is_taken, is_good, is_active, targets_of, live_cards, liveness, marked, live_of, live_yank, yank_at};
+ghost use Rattle.upd_core.specs.Library.{CardView, LibraryView, place_of};
+ghost use Rattle.upd_core.specs.Sound.{IsSound};
+
+use crate::card::{Card, Entry};
+use crate::card_ref::CardRef;
+use crate::deck::card_index;
+use crate::ident::{Ident, Serial, held_named};
+use crate::targets::Targets;
+use std::alloc::{AllocError, Global};
+use std::marker::Model;
+
+/// Which yank cards of a library are live, and what these take.
+#[derive(Drop)]
+pub struct Live<'a> {
+    pub(crate) idents: &'a [Ident],
+    pub(crate) yanks: &'a [Card],
+    pub(crate) live: Vec<bool>,
+    pub(crate) targets: Targets,
+}
+
+impl<'a> Model for Live<'a> {
+    ghost use Rattle.upd_core.specs.Status.{LiveView};
+
+    ghost Value = { LiveView };
+
+    ghost view = { λ l. record { idents = l.idents.now; yanks = l.yanks.now; live = l.live.items; targets = l.targets } };
+}
+
+impl<'a> Live<'a> {
+    /// Whether the yank card is live that a reference names.
+    pub fn live_yank(&self, card: CardRef) -> Option<bool>
+        ensures { result ≡ live_yank card self.now }
+    {
+        let ident = held_named(self.idents, &card.name)?;
+        let index = card_index(self.yanks, ident.age, card.number)?;
+        self.live.get(index).copied()
+    }
+
+    /// Whether each yank card is live, in the order of `YANK$$$`.
+    pub fn marks(&self) -> &[bool]
+        ensures { result.now ≡ self.now.live }
+    {
+        &self.live
+    }
+
+    /// Whether an ident is taken in a deck.
+    pub fn is_taken(&self, deck: Serial, ident: Serial) -> bool
+        ensures { result ≡ is_taken self.now.targets deck ident }
+    {
+        self.targets.takes(ident, deck)
+    }
+
+    /// Whether a card of a deck is good. It doesn't look whether the card stands there.
+    pub fn is_good(&self, deck: Serial, card: &Card) -> bool
+        ensures { result ≡ is_good self.now.targets deck card.now }
+    {
+        is_good(&self.targets, deck, card)
+    }
+
+    /// Whether a card of a deck is active. It doesn't look whether the card stands there.
+    pub fn is_active(&self, deck: Serial, card: &Card) -> bool
+        ensures { result ≡ is_active self.now.targets deck card.now }
+    {
+        is_active(&self.targets, deck, card)
+    }
+}
+
+/// The live cards are those that are marked as live, and in a sound library a reference finds the mark of the yank card that it names.
+pub fn marks_tell_the_live_cards()
+    ensures cards { (yanks : List CardView) → marked (liveness yanks) yanks ≡ live_cards yanks }
+    ensures references { (l : LibraryView) (card : CardRef) → IsSound l →
+        live_yank card (live_of l) ≡ option_and_then (yank_at l) (place_of card l) }
+{}
+
+/// Whether a history stays on in a deck.
+pub(crate) fn stays_on(targets: &Targets, deck: Serial, history: &[Entry]) -> bool
+    ensures { result ≡ stays_on (is_taken targets.now deck) history.now }
+{
+    for i in (0..history.len()).rev() {
+        if !targets.takes(history[i].ident, deck) {
+            return history[i].active;
+        }
+    }
+    false
+}
+
+/// Whether a card of a deck is good.
+pub(crate) fn is_good(targets: &Targets, deck: Serial, card: &Card) -> bool
+    ensures { result ≡ is_good targets.now deck card.now }
+{
+    stays_on(targets, deck, &card.history)
+}
+
+/// Whether a card of a deck is active.
+pub(crate) fn is_active(targets: &Targets, deck: Serial, card: &Card) -> bool
+    ensures { result ≡ is_active targets.now deck card.now }
+{
+    is_good(targets, deck, card) && !targets.takes_deck(deck)
+}
+
+/// Goes through yank cards from the last to the first: whether each is live, and the targets of the live ones.
+pub(crate) fn swept(alloc: Global, yanks: &[Card]) -> Result<(Vec<bool>, Targets), AllocError>
+    ensures { IfOk result (λ found. (found.0.items ≡ liveness yanks.now) × (found.1 ≡ targets_of (live_cards yanks.now))) }
+{
+    let mut live = vec![in alloc; false; yanks.len()]?;
+    let mut targets = Targets::new(alloc);
+    for i in (0..yanks.len()).rev() {
+        let card = &yanks[i];
+        live[i] = is_good(&targets, 0, card);
+        if live[i] {
+            targets.add(&card.targets)?;
+        }
+    }
+    Ok((live, targets))
+}

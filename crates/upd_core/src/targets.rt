@@ -1,0 +1,73 @@
+ghost use Rattle.std.specs.Prelude.{◌≡◌, [], ◌∷◌, ◌++◌, OnOk};
+ghost use Rattle.std.specs.List.{list_any};
+ghost use Rattle.upd_core.specs.Status.{takes_deck, is_taken};
+
+use crate::ident::Serial;
+use crate::target::Target;
+use std::alloc::{AllocError, Global};
+use std::collections::HashSet;
+use std::marker::Model;
+
+/// The targets of live cards, with an index.
+#[derive(Drop)]
+pub(crate) struct Targets {
+    all: Vec<Target>,
+    index: HashSet<Target>,
+}
+
+impl Model for Targets {
+    ghost use Rattle.std.specs.Prelude.{List};
+    ghost use Rattle.upd_core.specs.declared.target.Target.{Target};
+
+    ghost Value = { List Target };
+
+    ghost use Rattle.upd_core.specs.Targets.{IsIndexed};
+
+    ghost view = { λ t. t.all.items };
+
+    ghost invariant = { IsIndexed };
+}
+
+impl Targets {
+    pub(crate) fn new(alloc: Global) -> Targets
+        ensures { result ≡ [] }
+    {
+        Targets {
+            all: Vec::new(alloc),
+            index: HashSet::new(alloc),
+        }
+    }
+
+    /// Adds the targets of one more card.
+    pub(crate) fn add(&mut self, targets: &[Target]) -> Result<(), AllocError>
+        ensures { OnOk result (self.new ≡ self.old ++ targets.now) }
+    {
+        for target in targets {
+            self.push(*target)?;
+        }
+        Ok(())
+    }
+
+    fn push(&mut self, target: Target) -> Result<(), AllocError>
+        ensures { OnOk result (self.new ≡ self.old ++ target ∷ []) }
+    {
+        self.all.reserve(1)?;
+        self.index.insert(target)?;
+        self.all.push_reserved(target);
+        Ok(())
+    }
+
+    /// Whether one of them takes an ident in a deck.
+    pub(crate) fn takes(&self, ident: Serial, deck: Serial) -> bool
+        ensures { result ≡ is_taken self.now deck ident }
+    {
+        self.index.contains(&Target::Set(ident)) || self.index.contains(&Target::SetIn(ident, deck))
+    }
+
+    /// Whether one of them takes all cards of a deck.
+    pub(crate) fn takes_deck(&self, deck: Serial) -> bool
+        ensures { result ≡ list_any (takes_deck deck) self.now }
+    {
+        self.index.contains(&Target::Deck(deck))
+    }
+}
