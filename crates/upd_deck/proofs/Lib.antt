@@ -1,0 +1,11 @@
+pub mod GrammarParts
+pub mod GrammarFields
+pub mod CutLemmas
+pub mod OrderLaws
+pub mod WordLemmas
+pub mod GrammarNames
+pub mod GrammarItems
+pub mod GrammarSays
+pub mod GrammarLines
+pub mod GrammarRuns
+pub mod GrammarSpans

@@ -1,0 +1,33 @@
+-- What the lines of a run say.
+use Rattle.std.specs.Prelude.{ℕ, Bool, List}
+use Rattle.upd_core.specs.declared.card_ref.CardRef.{CardRef}
+use Rattle.upd_deck.specs.declared.item.NameRange.{NameRange}
+use Rattle.upd_deck.specs.declared.item.IdentIn.{IdentIn}
+use Rattle.upd_deck.specs.declared.line.Span.{Span}
+
+-- What a line says that is no comment.
+pub data ItemView : Type 0 where
+  Text : ItemView
+  Call : List ℕ → ItemView
+  Ident : List ℕ → ItemView
+  Deck : List ℕ → ItemView
+  CommonDeck : List ℕ → Bool → ItemView
+  Insert : CardRef → ItemView
+  Before : CardRef → ItemView
+  Delete : CardRef → CardRef → ItemView
+  Restore : CardRef → CardRef → ItemView
+  Yank : List NameRange → ItemView
+  SelYank : List IdentIn → ItemView
+  YankDeck : List (List ℕ) → ItemView
+  Purge : List NameRange → ItemView
+  PurgeFrom : List ℕ → ItemView
+  SelPurge : List IdentIn → ItemView
+  PurDeck : List NameRange → ItemView
+  Compile : List NameRange → ItemView
+
+-- A line: its number in the run from 1, where its text stands in the run, its text without trailing blanks, and what it says.
+pub record LineView : Type 0 where
+  pub number : ℕ
+  pub span : Span
+  pub text : List ℕ
+  pub item : ItemView

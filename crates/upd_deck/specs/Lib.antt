@@ -1,0 +1,5 @@
+pub mod Grammar
+pub mod Items
+pub mod LineFields
+pub mod Reading
+pub mod Order

@@ -1,0 +1,115 @@
+ghost use Rattle.std.specs.Prelude.{◌≡◌, ℕ, ◌+◌, ◌-◌, ◌<◌, ◌≤◌, ◌∷◌, length};
+ghost use Rattle.std.specs.List.{slice_split};
+ghost use Rattle.std.specs.Str.Lines.{strip_carriage_return};
+ghost use Rattle.upd_core.specs.declared.limits.TheConstants.{MAX_RUN_BYTES};
+ghost use Rattle.upd_deck.specs.Reading.{cut, cut_from, is_feed};
+
+use std::marker::Model;
+use upd_core::limits::MAX_RUN_BYTES;
+use upd_core::line::split_once;
+
+/// A line as it is cut from a run: without its LF, and without a CR directly before that.
+#[derive(Debug, Drop)]
+pub(crate) struct CutLine<'a> {
+    /// From 1.
+    pub(crate) number: u32,
+    /// Where it begins in the run.
+    pub(crate) start: usize,
+    pub(crate) bytes: &'a [u8],
+}
+
+impl<'a> Model for CutLine<'a> {
+    ghost use Rattle.std.specs.Prelude.{◌+◌, ◌≤◌, length};
+    ghost use Rattle.upd_core.specs.declared.limits.TheConstants.{MAX_RUN_BYTES};
+    ghost use Rattle.upd_deck.specs.Reading.{CutLine as CutLineView};
+
+    ghost Value = { CutLineView };
+
+    ghost view = { λ l. record { number = l.number; start = l.start; bytes = l.bytes.now } };
+
+    ghost invariant = { λ l. l.start + length l.bytes.now ≤ MAX_RUN_BYTES };
+}
+
+/// The lines of a run that are not cut yet.
+#[derive(Debug, Drop)]
+pub(crate) struct CutLines<'a> {
+    number: u32,
+    start: usize,
+    rest: &'a [u8],
+}
+
+impl<'a> Model for CutLines<'a> {
+    ghost use Rattle.std.specs.Prelude.{ℕ, ◌+◌, ◌≤◌, List, length};
+    ghost use Rattle.std.specs.List.{slice_split};
+    ghost use Rattle.upd_core.specs.declared.limits.TheConstants.{MAX_RUN_BYTES};
+    ghost use Rattle.upd_deck.specs.Reading.{CutLine as CutLineView, cut_from, is_feed};
+
+    ghost Value = { List CutLineView };
+
+    ghost view = { λ l. cut_from l.number l.start (slice_split is_feed l.rest.now) };
+
+    ghost invariant = { λ l. (l.number + length l.rest.now ≤ MAX_RUN_BYTES + 1) × (l.start + length l.rest.now ≤ MAX_RUN_BYTES) };
+}
+
+/// Cuts a run into lines.
+pub(crate) fn cut_lines(bytes: &[u8]) -> CutLines<'_>
+    requires { length bytes.now ≤ MAX_RUN_BYTES }
+    ensures cut { result ≡ cut bytes.now }
+    ensures few { length result ≤ length bytes.now }
+{
+    CutLines {
+        number: 1,
+        start: 0,
+        rest: bytes,
+    }
+}
+
+impl<'a> Iterator for CutLines<'a> {
+    ghost use Rattle.std.specs.Iterator.{YieldsFirst, item_count};
+
+    type Item = CutLine<'a>;
+
+    ghost next_gives = { YieldsFirst (λ left. left) };
+
+    ghost remaining = { item_count (λ left. left) };
+
+    fn next(&mut self) -> Option<CutLine<'a>> {
+        if self.rest.is_empty() {
+            return None;
+        }
+        let (bytes, rest) = first_line(self.rest);
+        let line = CutLine {
+            number: self.number,
+            start: self.start,
+            bytes,
+        };
+        self.number += 1;
+        self.start += self.rest.len() - rest.len();
+        self.rest = rest;
+        Some(line)
+    }
+}
+
+// The first line of some bytes, and what stands behind it.
+fn first_line(bytes: &[u8]) -> (&[u8], &[u8])
+    requires { 0 < length bytes.now }
+    ensures line { (number start : ℕ) → cut_from number start (slice_split is_feed bytes.now)
+        ≡ record { number = number; start = start; bytes = result.0.now }
+        ∷ cut_from (number + 1) (start + (length bytes.now - length result.1.now)) (slice_split is_feed result.1.now) }
+    ensures shorter { length result.1.now < length bytes.now }
+    ensures within { length result.0.now ≤ length bytes.now }
+{
+    match split_once(bytes, b'\n') {
+        Some((piece, after)) => (without_return(piece), after),
+        None => (bytes, &[]),
+    }
+}
+
+fn without_return(line: &[u8]) -> &[u8]
+    ensures { result.now ≡ strip_carriage_return line.now }
+{
+    match line {
+        [before @ .., b'\r'] => before,
+        _ => line,
+    }
+}

@@ -1,0 +1,14 @@
+//! Reads a correction run: its lines, and the directive, call or text of each.
+#![tactic(auto)]
+
+mod cut;
+mod fields;
+pub mod grammar;
+pub mod item;
+pub mod line;
+pub mod read;
+pub mod word;
+
+pub use item::{IdentIn, Item, NameRange};
+pub use line::{Line, Run, Span};
+pub use read::read_run;
