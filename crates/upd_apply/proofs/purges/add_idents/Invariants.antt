@@ -1,0 +1,9 @@
+use Rattle.std.proofs.Common.{◌≡◌, ◌&&◌, ◌++◌, map, drop}
+use Rattle.std.specs.List.{filter}
+use Rattle.upd_apply.specs.Yanks.{is_in}
+use Rattle.upd_apply.proofs.purges.add_idents.Given as goal
+
+abbrev pub invariant-loop-ident : goal.invariant-loop-ident
+invariant-loop-ident l =
+    l.found.items ++ map (λ i. i.age) (filter (λ i. i.held && is_in l.ages i.age) (drop l.ident-index l.idents))
+    ≡ l.initial.found.items ++ map (λ i. i.age) (filter (λ i. i.held && is_in l.ages i.age) l.idents)

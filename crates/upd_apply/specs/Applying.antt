@@ -1,0 +1,79 @@
+-- What a run makes of a library, or why it is refused.
+use Rattle.std.specs.Prelude.{ℕ, ◌==◌, Bool, true, false, not, ◌&&◌, List, [], ◌∷◌, map, length, drop, None, Result, Ok}
+use Rattle.std.specs.List.{list_any, filter, flat_map}
+use Rattle.upd_core.specs.declared.card.Entry.{Entry}
+use Rattle.upd_core.specs.declared.card_ref.CardRef.{CardRef}
+use Rattle.upd_core.specs.declared.fault.Fault.{Fault}
+use Rattle.upd_core.specs.Library.{CardView, LibraryView, all_decks, cards_of, ref_of, is_card}
+use Rattle.upd_core.specs.Outcome.{◌>>=◌, at_line}
+use Rattle.upd_deck.specs.Items.{ItemView, LineView, Compile}
+use Rattle.upd_apply.specs.declared.state.Spot.TheVariants.{Nowhere}
+use Rattle.upd_apply.specs.declared.state.State.{State}
+use Rattle.upd_apply.specs.Step.{step}
+use Rattle.upd_apply.specs.Yanks.{Ages, ranges_named, decks_in_any}
+
+-- a run begins with no set in hand and no place of text
+abbrev pub started : LibraryView → State
+started l = record { library = l; hand = None; spot = Nowhere }
+
+-- lines one after the other; the first refusal ends the run
+abbrev pub stepped : List LineView → State → Result State Fault
+stepped [] s = Ok s
+stepped (line ∷ lines) s = do
+  t ← at_line line.number (step line s)
+  stepped lines t
+
+-- the ranges of decks that a line names to compile
+abbrev pub ranges_of : List Ages → ItemView → LibraryView → Result (List Ages) Rattle.upd_core.specs.declared.fault.FaultKind.FaultKind
+ranges_of found (Compile ranges) l = ranges_named found ranges l
+ranges_of found _ l = Ok found
+
+-- those of all lines, against the library after the run
+abbrev pub named_by : List Ages → List LineView → LibraryView → Result (List Ages) Fault
+named_by found [] l = Ok found
+named_by found (line ∷ lines) l = do
+  more ← at_line line.number (ranges_of found line.item l)
+  named_by more lines l
+
+-- What a run leaves: the library, the idents that it introduced by age, and the decks that it names to compile by age.
+pub record Reached : Type 0 where
+  pub library : LibraryView
+  pub idents : List ℕ
+  pub compile : List ℕ
+
+-- the ages of the idents that one library has beyond another
+abbrev pub brought : LibraryView → LibraryView → List ℕ
+brought before after = map (λ i. i.age) (drop (length before.idents) after.idents)
+
+-- what a run makes of a library
+abbrev pub applied : List LineView → LibraryView → Result Reached Fault
+applied lines l = do
+  s ← stepped lines (started l)
+  ranges ← named_by [] lines s.library
+  Ok (record { library = s.library; idents = brought l s.library; compile = decks_in_any ranges s.library })
+
+-- ---- the cards that a run touched: those that weren't there before, or whose history differs from before
+
+-- of the same ident, and switching the same way
+abbrev pub same_entry : Entry → Entry → Bool
+same_entry e f = (e.ident == f.ident) && is_same e.active f.active
+  where
+    is_same : Bool → Bool → Bool
+    is_same true b = b
+    is_same false b = not b
+
+-- the same entries in the same order
+abbrev pub same_history : List Entry → List Entry → Bool
+same_history [] [] = true
+same_history [] (f ∷ fs) = false
+same_history (e ∷ es) [] = false
+same_history (e ∷ es) (f ∷ fs) = same_entry e f && same_history es fs
+
+-- whether a card stood in these cards with the same history
+abbrev pub stood_in : List CardView → CardView → Bool
+stood_in cards c = list_any (λ b. is_card c.ident c.number b && same_history b.history c.history) cards
+
+-- the touched cards, by deck (`YANK$$$` first) and place
+abbrev pub touched : LibraryView → LibraryView → List CardRef
+touched before after =
+    flat_map (λ d. map (ref_of after.idents) (filter (λ c. not (stood_in (cards_of d.ident before) c)) d.cards)) (all_decks after)

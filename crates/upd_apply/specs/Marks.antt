@@ -1,0 +1,14 @@
+-- Marks by age for the sets among targets.
+use Rattle.std.specs.Prelude.{◌≡◌, ℕ, Bool, false, List, slice_index_or}
+use Rattle.std.specs.List.{list_any}
+use Rattle.upd_core.specs.declared.target.Target.{Target}
+use Rattle.upd_core.specs.declared.target.Target.TheVariants.{Set}
+use Rattle.upd_apply.specs.Yanks.{is_target}
+
+-- whether an age is marked: beyond the marks none is
+abbrev pub is_marked : List Bool → ℕ → Bool
+is_marked marks z = slice_index_or marks z false
+
+-- just the sets among the targets are marked
+abbrev pub AreMarked : List Bool → List Target → Type 0
+AreMarked marks found = (z : ℕ) → is_marked marks z ≡ list_any (is_target (Set z)) found

@@ -1,0 +1,131 @@
+-- What a line does to the library, the set in hand and the place of text; its refusals in order, Full last.
+use Rattle.std.specs.Prelude.{ℕ, ◌+◌, ◌-◌, ◌==◌, nat_lt, Bool, true, false, not, ◌&&◌, ◌||◌, if◌then◌else◌, List, [], ◌∷◌, length, Some, None, is_some, Result, Ok, Err}
+use Rattle.upd_core.specs.declared.card_ref.CardRef.{CardRef}
+use Rattle.upd_core.specs.declared.fault.FaultKind.{FaultKind}
+use Rattle.upd_core.specs.declared.fault.FaultKind.TheVariants as fault
+use Rattle.upd_core.specs.declared.ident.Kind.{Kind}
+use Rattle.upd_core.specs.declared.ident.Kind.TheVariants as kind
+use Rattle.upd_core.specs.declared.library.Place.{Place}
+use Rattle.upd_core.specs.declared.target.Target.{Target}
+use Rattle.upd_core.specs.Edits.{introduced, next_age, new_card, with_deck, with_card, with_yank, with_entries, purged, purged_in, purged_back, is_among}
+use Rattle.upd_core.specs.Library.{LibraryView, place_of, cards_of, held_named}
+use Rattle.upd_core.specs.Limits.{is_within_limits}
+use Rattle.upd_core.specs.Outcome.{◌>>=◌, need, refuse_if}
+use Rattle.upd_deck.specs.Items.{ItemView, LineView, Text, Call, Ident, Deck, CommonDeck, Insert, Before, Delete, Restore, Yank, SelYank, YankDeck, Purge, PurgeFrom, SelPurge, PurDeck, Compile}
+use Rattle.upd_apply.specs.declared.state.Spot.{Spot}
+use Rattle.upd_apply.specs.declared.state.Spot.TheVariants.{Nowhere, End, Inside}
+use Rattle.upd_apply.specs.declared.state.State.{State}
+use Rattle.upd_apply.specs.Yanks.{is_reserved, known_ident, sets_yanked, pairs_yanked, decks_yanked, idents_purged, decks_purged, AgesIn, pairs_purged}
+
+-- a library that has grown, if no limit is passed
+abbrev pub grown : LibraryView → Result LibraryView FaultKind
+grown l = if is_within_limits l then Ok l else Err fault.Full
+
+-- a name for a new ident
+abbrev pub new_name : List ℕ → LibraryView → Result Bool FaultKind
+new_name name l = do
+  _ ← refuse_if (is_reserved name) fault.Reserved
+  refuse_if (is_some (held_named name l.idents)) fault.NameTaken
+
+-- `*IDENT`: a new set is in hand
+abbrev pub set_begun : List ℕ → State → Result State FaultKind
+set_begun name s = do
+  _ ← new_name name s.library
+  l ← grown (introduced name kind.Set false s.library)
+  Ok (record { library = l; hand = Some (record { ident = next_age s.library; next = 1 }); spot = Nowhere })
+
+-- `*DECK` and `*COMDECK`: a new deck with the line as its first card; the set in hand stays
+abbrev pub deck_begun : List ℕ → Kind → Bool → List ℕ → State → Result State FaultKind
+deck_begun name sort noprop text s = do
+  _ ← new_name name s.library
+  l ← grown (with_deck (record { ident = next_age s.library; cards = new_card (next_age s.library) 1 text [] ∷ [] }) (introduced name sort noprop s.library))
+  Ok (record s { library = l; spot = End (next_age s.library) 2 })
+
+-- how many cards of the deck of a place stand behind it
+abbrev pub behind : Place → LibraryView → ℕ
+behind p l = length (cards_of p.deck l) - (p.index + 1)
+
+-- whether a place is that of a deck's first card
+abbrev pub is_first : Place → Bool
+is_first p = not (p.deck == 0) && (p.index == 0)
+
+-- `*INSERT`: text goes behind the card
+abbrev pub placed_after : CardRef → State → Result State FaultKind
+placed_after card s = do
+  _ ← need fault.NoIdent s.hand
+  p ← need fault.CardUnknown (place_of card s.library)
+  _ ← refuse_if (p.deck == 0) fault.YankText
+  Ok (record s { spot = Inside p.deck (behind p s.library) })
+
+-- `*BEFORE`: text goes before the card
+abbrev pub placed_before : CardRef → State → Result State FaultKind
+placed_before card s = do
+  _ ← need fault.NoIdent s.hand
+  p ← need fault.CardUnknown (place_of card s.library)
+  _ ← refuse_if (p.deck == 0) fault.YankText
+  _ ← refuse_if (is_first p) fault.DeckCard
+  Ok (record s { spot = Inside p.deck (behind p s.library + 1) })
+
+-- `*DELETE` and `*RESTORE`: an entry of the set in hand on each card of the range; text goes behind the last card
+abbrev pub switched : Bool → CardRef → CardRef → State → Result State FaultKind
+switched active first last s = do
+  hand ← need fault.NoIdent s.hand
+  p ← need fault.CardUnknown (place_of first s.library)
+  q ← need fault.CardUnknown (place_of last s.library)
+  _ ← refuse_if (not (p.deck == q.deck) || nat_lt q.index p.index) fault.RangeOrder
+  _ ← refuse_if (is_first p) fault.DeckCard
+  l ← grown (with_entries p.deck p.index q.index (record { ident = hand.ident; active = active }) s.library)
+  Ok (record s { library = l; spot = Inside q.deck (behind q s.library) })
+
+-- Text and calls: a new card at the place of text, where the next text then goes behind it.
+abbrev pub text_put : List ℕ → Spot → State → Result State FaultKind
+text_put text Nowhere s = Err fault.TextNowhere
+text_put text (End d next) s = do
+  l ← grown (with_card d 0 (new_card d next text []) s.library)
+  Ok (record s { library = l; spot = End d (next + 1) })
+text_put text (Inside d after) s = do
+  hand ← need fault.TextNowhere s.hand
+  _ ← refuse_if (d == 0) fault.YankText
+  l ← grown (with_card d after (new_card hand.ident hand.next text []) s.library)
+  Ok (record s { library = l; hand = Some (record { ident = hand.ident; next = hand.next + 1 }) })
+
+-- A yank: a card at the end of `YANK$$$` with these targets, which are fixed now.
+abbrev pub yank_put : List ℕ → (ℕ → LibraryView → Result (List Target) FaultKind) → State → Result State FaultKind
+yank_put text targets s = do
+  hand ← need fault.NoIdent s.hand
+  found ← targets hand.ident s.library
+  l ← grown (with_yank (new_card hand.ident hand.next text found) s.library)
+  Ok (record { library = l; hand = Some (record { ident = hand.ident; next = hand.next + 1 }); spot = Nowhere })
+
+-- a purge leaves no set in hand and no place of text
+abbrev pub ended : LibraryView → State
+ended l = record { library = l; hand = None; spot = Nowhere }
+
+-- `*SELPURGE`: one ident in one deck after the other
+abbrev pub purged_in_all : List AgesIn → LibraryView → LibraryView
+purged_in_all [] l = l
+purged_in_all (a ∷ more) l = purged_in_all more (purged_in a.deck a.ident l)
+
+-- what a line does that says this
+abbrev pub done : ItemView → List ℕ → State → Result State FaultKind
+done Text text s = text_put text s.spot s
+done (Call name) text s = text_put text s.spot s
+done (Ident name) text s = set_begun name s
+done (Deck name) text s = deck_begun name kind.Deck false text s
+done (CommonDeck name noprop) text s = deck_begun name kind.Common noprop text s
+done (Insert card) text s = placed_after card s
+done (Before card) text s = placed_before card s
+done (Delete first last) text s = switched false first last s
+done (Restore first last) text s = switched true first last s
+done (Yank ranges) text s = yank_put text (sets_yanked [] ranges) s
+done (SelYank pairs) text s = yank_put text (pairs_yanked [] pairs) s
+done (YankDeck names) text s = yank_put text (decks_yanked [] names) s
+done (Purge ranges) text s = idents_purged [] ranges s.library >>= (λ ages. Ok (ended (purged (is_among ages) s.library)))
+done (PurgeFrom name) text s = known_ident name s.library >>= (λ age. Ok (ended (purged_back age s.library)))
+done (SelPurge pairs) text s = pairs_purged [] pairs s.library >>= (λ ages. Ok (ended (purged_in_all ages s.library)))
+done (PurDeck ranges) text s = decks_purged [] ranges s.library >>= (λ ages. Ok (ended (purged (is_among ages) s.library)))
+done (Compile ranges) text s = Ok s
+
+-- what a line does
+abbrev pub step : LineView → State → Result State FaultKind
+step line s = done line.item line.text s

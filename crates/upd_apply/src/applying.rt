@@ -1,0 +1,112 @@
+ghost use Rattle.std.specs.Prelude.{◌≡◌, ◌+◌, ◌^◌, ◌<◌, ◌≤◌, [], map, drop, length, Ok, IfErr, IfOk, OnErr, OnOk};
+ghost use Rattle.upd_core.specs.Edits.{purged_back};
+ghost use Rattle.upd_core.specs.Sound.{AreApart, all_cards, key_of};
+ghost use Rattle.upd_core.specs.Outcome.{DoesAt, FailsAt, GivesAt, at_line};
+ghost use Rattle.upd_apply.specs.Applying.{applied, named_by, ranges_of, stepped, touched};
+ghost use Rattle.upd_apply.specs.Numbers.{next_most};
+ghost use Rattle.upd_apply.specs.Step.{step};
+
+use crate::names::AgeRange;
+use crate::purges::{add_ranges, decks_in_any};
+use crate::state::State;
+use crate::touched::touched;
+use std::alloc::{AllocError, Global};
+use upd_core::{CardRef, Fault, Ident, Library, Serial};
+use upd_deck::{Item, Line, Run};
+
+/// What a run left besides the library.
+#[derive(Debug, Drop)]
+pub struct Applied {
+    /// The ages of the idents that it introduced.
+    pub idents: Vec<Serial>,
+    /// The ages of the decks that `*COMPILE` named.
+    pub compile: Vec<Serial>,
+    /// The cards that weren't there before, or whose history differs from before, by deck (`YANK$$$` first) and place.
+    pub touched: Vec<CardRef>,
+}
+
+/// Applies a run. A refusal is at the line that it stands at, want of memory at 0; either leaves the library as it was.
+pub fn apply(library: &mut Library, run: &Run) -> Result<Applied, Fault>
+    ensures ok { IfOk result (λ a. applied run.now library.old
+        ≡ Ok (record { library = library.new; idents = a.idents.items; compile = a.compile.items })) }
+    ensures touched { AreApart (map key_of (all_cards library.old)) → IfOk result (λ a. a.touched.items ≡ touched library.old library.new) }
+    ensures refused { IfErr result (λ fault. FailsAt fault (applied run.now library.old)) }
+    ensures err { OnErr result (library.new ≡ library.old) }
+{
+    let mut state = State::new(library.copy()?);
+    take_steps(&mut state, run.lines())?;
+    let ranges = named_by(&state.library, run.lines())?;
+    let compile = decks_in_any(&state.library, &ranges)?;
+    let idents = ages_from(
+        library.allocator(),
+        state.library.idents(),
+        library.idents().len(),
+    )?;
+    let touched = touched(library, &state.library)?;
+    *library = state.library;
+    Ok(Applied {
+        idents,
+        compile,
+        touched,
+    })
+}
+
+/// Purges the ident of an age and all younger ones. It takes no memory, and an age that no ident has is no fault.
+pub fn purge_back(library: &mut Library, age: Serial)
+    ensures { library.new ≡ purged_back age library.old }
+{
+    library.purge_from(age);
+}
+
+fn take_steps(state: &mut State, lines: &[Line]) -> Result<(), Fault>
+    requires { next_most state.old + length lines.now < 2 ^ 32 }
+    ensures { DoesAt result state.new (stepped lines.now state.old) }
+{
+    for line in lines {
+        take_step(state, line)?;
+    }
+    Ok(())
+}
+
+fn take_step(state: &mut State, line: &Line) -> Result<(), Fault>
+    requires { next_most state.old + 1 < 2 ^ 32 }
+    ensures does { DoesAt result state.new (at_line line.now.number (step line.now state.old)) }
+    ensures number { OnOk result (next_most state.new ≤ next_most state.old + 1) }
+{
+    match state.step(line) {
+        Ok(()) => Ok(()),
+        Err(kind) => Err(kind.at_line(line.number())),
+    }
+}
+
+fn named_by(library: &Library, lines: &[Line]) -> Result<Vec<AgeRange>, Fault>
+    ensures { GivesAt (λ ranges. ranges.items) result (named_by [] lines.now library.now) }
+{
+    let mut found = Vec::new(library.allocator());
+    for line in lines {
+        add_named(library, &mut found, line)?;
+    }
+    Ok(found)
+}
+
+fn add_named(library: &Library, found: &mut Vec<AgeRange>, line: &Line) -> Result<(), Fault>
+    ensures { DoesAt result found.new.items (at_line line.now.number (ranges_of found.old.items line.now.item library.now)) }
+{
+    if let Item::Compile(ranges) = line.item() {
+        if let Err(kind) = add_ranges(library, found, ranges) {
+            return Err(kind.at_line(line.number()));
+        }
+    }
+    Ok(())
+}
+
+/// The ages of idents from an index on.
+fn ages_from(alloc: Global, idents: &[Ident], from: usize) -> Result<Vec<Serial>, AllocError>
+    ensures { IfOk result (λ ages. ages.items ≡ map (λ i. i.age) (drop from idents.now)) }
+{
+    idents
+        .iter()
+        .skip(from)
+        .map(|ident| ident.age)
+        .collect(alloc)
+}

@@ -1,0 +1,13 @@
+//! Applies a correction run to a library: what each line does, whole runs, and purging back.
+#![tactic(auto)]
+
+pub mod applying;
+mod names;
+mod purges;
+pub mod state;
+mod step;
+mod touched;
+mod yanks;
+
+pub use applying::{Applied, apply, purge_back};
+pub use state::{Hand, Spot, State};

@@ -1,0 +1,95 @@
+ghost use Rattle.std.specs.Prelude.{◌≡◌, false, MatchResult};
+ghost use Rattle.upd_apply.specs.Step.{new_name};
+ghost use Rattle.upd_apply.specs.Yanks.{ages_by, is_in, is_reserved, known_deck, known_ident};
+
+use std::marker::Model;
+use upd_core::{FaultKind, Library, Name, Serial};
+use upd_deck::NameRange;
+
+/// Ages from one to another.
+#[derive(Clone, Copy, Debug)]
+pub struct AgeRange {
+    pub from: Serial,
+    pub to: Serial,
+}
+
+impl Model for AgeRange {
+    ghost use Rattle.upd_apply.specs.Yanks.{Ages};
+
+    ghost Value = { Ages };
+
+    ghost view = { λ a. record { from = a.from; to = a.to } };
+
+    ghost inverse = { λ a. record { from = a.from; to = a.to } };
+}
+
+impl AgeRange {
+    pub fn has(&self, age: Serial) -> bool
+        ensures { result ≡ is_in self.now age }
+    {
+        self.from <= age && age <= self.to
+    }
+}
+
+fn is_reserved(name: &Name) -> bool
+    ensures { result ≡ is_reserved name.now }
+{
+    *name == Name::yank()
+}
+
+/// Whether a new ident may have this name; else Reserved or NameTaken.
+pub fn new_name(library: &Library, name: &Name) -> Result<(), FaultKind>
+    ensures { MatchResult result (λ _. new_name name.now library.now ≡ Ok false) (λ e. new_name name.now library.now ≡ Err e) }
+{
+    if is_reserved(name) {
+        return Err(FaultKind::Reserved);
+    }
+    if library.held(name).is_some() {
+        return Err(FaultKind::NameTaken);
+    }
+    Ok(())
+}
+
+/// The age of the held ident of a name; else Reserved or IdentUnknown.
+pub fn known_ident(library: &Library, name: &Name) -> Result<Serial, FaultKind>
+    ensures { result ≡ known_ident name.now library.now }
+{
+    if is_reserved(name) {
+        return Err(FaultKind::Reserved);
+    }
+    library.ident_of(name).ok_or(FaultKind::IdentUnknown)
+}
+
+/// The age of the held deck of a name; else Reserved or DeckUnknown.
+pub fn known_deck(library: &Library, name: &Name) -> Result<Serial, FaultKind>
+    ensures { result ≡ known_deck name.now library.now }
+{
+    if is_reserved(name) {
+        return Err(FaultKind::Reserved);
+    }
+    library.deck_of(name).ok_or(FaultKind::DeckUnknown)
+}
+
+/// The ages of a range of idents; else Reserved, IdentUnknown or RangeOrder.
+pub fn ident_ages(library: &Library, range: &NameRange) -> Result<AgeRange, FaultKind>
+    ensures { result ≡ ages_by known_ident range.now library.now }
+{
+    let from = known_ident(library, &range.first)?;
+    let to = known_ident(library, &range.last)?;
+    if to < from {
+        return Err(FaultKind::RangeOrder);
+    }
+    Ok(AgeRange { from, to })
+}
+
+/// The ages of a range of decks; else Reserved, DeckUnknown or RangeOrder.
+pub fn deck_ages(library: &Library, range: &NameRange) -> Result<AgeRange, FaultKind>
+    ensures { result ≡ ages_by known_deck range.now library.now }
+{
+    let from = known_deck(library, &range.first)?;
+    let to = known_deck(library, &range.last)?;
+    if to < from {
+        return Err(FaultKind::RangeOrder);
+    }
+    Ok(AgeRange { from, to })
+}

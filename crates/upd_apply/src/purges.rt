@@ -1,0 +1,212 @@
+ghost use Rattle.std.specs.Prelude.{◌≡◌, ◌&&◌, ◌+◌, ◌≤◌, [], ◌++◌, map, IfOk, OnOk};
+ghost use Rattle.std.specs.List.{filter, list_any};
+ghost use Rattle.upd_core.specs.Library.{is_deck_kind};
+ghost use Rattle.upd_core.specs.Outcome.{Does, Gives};
+ghost use Rattle.upd_deck.specs.Items.{PurDeck, Purge, PurgeFrom, SelPurge};
+ghost use Rattle.upd_apply.specs.Numbers.{next_most};
+ghost use Rattle.upd_apply.specs.Step.{done, ended, purged_in_all};
+ghost use Rattle.upd_apply.specs.Yanks.{decks_in_any, decks_purged, idents_purged, is_in, pairs_purged, ranges_named};
+
+use crate::names::{AgeRange, deck_ages, ident_ages, known_deck, known_ident};
+use crate::state::{Spot, State};
+use std::alloc::{AllocError, Global};
+use std::marker::Model;
+use upd_core::{FaultKind, Ident, Library, Name, Serial};
+use upd_deck::{IdentIn, NameRange};
+
+/// An ident in a deck, by age.
+#[derive(Clone, Copy, Debug)]
+pub struct AgePair {
+    pub deck: Serial,
+    pub ident: Serial,
+}
+
+impl Model for AgePair {
+    ghost use Rattle.upd_deck.specs.Items.{PurDeck, Purge, PurgeFrom, SelPurge};
+    ghost use Rattle.upd_apply.specs.Numbers.{next_most};
+    ghost use Rattle.upd_apply.specs.Step.{done, ended, purged_in_all};
+    ghost use Rattle.upd_apply.specs.Yanks.{AgesIn};
+
+    ghost Value = { AgesIn };
+
+    ghost view = { λ a. record { deck = a.deck; ident = a.ident } };
+
+    ghost inverse = { λ a. record { deck = a.deck; ident = a.ident } };
+}
+
+/// A purge ends the set in hand and the place of text.
+impl State {
+    /// `*PURGE`
+    pub fn purge_idents(&mut self, ranges: &[NameRange]) -> Result<(), FaultKind>
+        ensures does { Does result self.new (done (Purge ranges.now) [] self.old) }
+        ensures number { OnOk result (next_most self.new ≤ next_most self.old + 1) }
+    {
+        let ages = idents_purged(&self.library, ranges)?;
+        self.library.purge(&ages)?;
+        self.end();
+        Ok(())
+    }
+
+    /// `*PURGE` with a star
+    pub fn purge_from(&mut self, name: &Name) -> Result<(), FaultKind>
+        ensures does { Does result self.new (done (PurgeFrom name.now) [] self.old) }
+        ensures number { OnOk result (next_most self.new ≤ next_most self.old + 1) }
+    {
+        let age = known_ident(&self.library, name)?;
+        self.library.purge_from(age);
+        self.end();
+        Ok(())
+    }
+
+    /// `*SELPURGE`
+    pub fn purge_pairs(&mut self, pairs: &[IdentIn]) -> Result<(), FaultKind>
+        ensures does { Does result self.new (done (SelPurge pairs.now) [] self.old) }
+        ensures number { OnOk result (next_most self.new ≤ next_most self.old + 1) }
+    {
+        let ages = pairs_purged(&self.library, pairs)?;
+        purge_in_all(&mut self.library, &ages);
+        self.end();
+        Ok(())
+    }
+
+    /// `*PURDECK`
+    pub fn purge_decks(&mut self, ranges: &[NameRange]) -> Result<(), FaultKind>
+        ensures does { Does result self.new (done (PurDeck ranges.now) [] self.old) }
+        ensures number { OnOk result (next_most self.new ≤ next_most self.old + 1) }
+    {
+        let ages = decks_purged(&self.library, ranges)?;
+        self.library.purge(&ages)?;
+        self.end();
+        Ok(())
+    }
+
+    fn end(&mut self)
+        ensures { self.new ≡ ended self.old.library }
+    {
+        self.hand = None;
+        self.spot = Spot::Nowhere;
+    }
+}
+
+fn purge_in_all(library: &mut Library, pairs: &[AgePair])
+    ensures { library.new ≡ purged_in_all pairs.now library.old }
+{
+    for pair in pairs {
+        library.purge_in(pair.deck, pair.ident);
+    }
+}
+
+/// The ages of the idents that `*PURGE` names.
+pub fn idents_purged(library: &Library, ranges: &[NameRange]) -> Result<Vec<Serial>, FaultKind>
+    ensures { Gives (λ found. found.items) result (idents_purged [] ranges.now library.now) }
+{
+    let mut found = Vec::new(library.allocator());
+    for range in ranges {
+        let ages = ident_ages(library, range)?;
+        add_idents(&mut found, library.idents(), ages)?;
+    }
+    Ok(found)
+}
+
+/// The ages of the decks that `*PURDECK` names.
+pub fn decks_purged(library: &Library, ranges: &[NameRange]) -> Result<Vec<Serial>, FaultKind>
+    ensures { Gives (λ found. found.items) result (decks_purged [] ranges.now library.now) }
+{
+    let mut found = Vec::new(library.allocator());
+    for range in ranges {
+        let ages = deck_ages(library, range)?;
+        add_decks(&mut found, library.idents(), ages)?;
+    }
+    Ok(found)
+}
+
+/// The idents in decks that `*SELPURGE` names.
+pub fn pairs_purged(library: &Library, pairs: &[IdentIn]) -> Result<Vec<AgePair>, FaultKind>
+    ensures { Gives (λ found. found.items) result (pairs_purged [] pairs.now library.now) }
+{
+    let mut found = Vec::new(library.allocator());
+    for pair in pairs {
+        let deck = known_deck(library, &pair.deck)?;
+        let ident = known_ident(library, &pair.ident)?;
+        if ident == deck {
+            return Err(FaultKind::DeckCard);
+        }
+        found.push(AgePair { deck, ident })?;
+    }
+    Ok(found)
+}
+
+/// Adds the ranges of decks that a line names to compile.
+pub fn add_ranges(
+    library: &Library,
+    found: &mut Vec<AgeRange>,
+    ranges: &[NameRange],
+) -> Result<(), FaultKind>
+    ensures { Does result found.new.items (ranges_named found.old.items ranges.now library.now) }
+{
+    for range in ranges {
+        let ages = deck_ages(library, range)?;
+        found.push(ages)?;
+    }
+    Ok(())
+}
+
+/// The ages of the held decks in any of these ranges.
+pub fn decks_in_any(library: &Library, ranges: &[AgeRange]) -> Result<Vec<Serial>, AllocError>
+    ensures { IfOk result (λ found. found.items ≡ decks_in_any ranges.now library.now) }
+{
+    held_decks_in_any(library.allocator(), library.idents(), ranges)
+}
+
+fn held_decks_in_any(
+    alloc: Global,
+    idents: &[Ident],
+    ranges: &[AgeRange],
+) -> Result<Vec<Serial>, AllocError>
+    ensures { IfOk result (λ found. found.items
+        ≡ map (λ i. i.age) (filter (λ i. i.held && is_deck_kind i.kind && list_any (λ r. is_in r i.age) ranges.now) idents.now)) }
+{
+    let mut found = Vec::new(alloc);
+    for ident in idents {
+        if is_deck_in_any(ident, ranges) {
+            found.push(ident.age)?;
+        }
+    }
+    Ok(found)
+}
+
+fn is_deck_in_any(ident: &Ident, ranges: &[AgeRange]) -> bool
+    ensures { result ≡ (ident.now.held && is_deck_kind ident.now.kind && list_any (λ r. is_in r ident.now.age) ranges.now) }
+{
+    ident.held && ident.kind.is_deck() && is_in_any(ranges, ident.age)
+}
+
+fn is_in_any(ranges: &[AgeRange], age: Serial) -> bool
+    ensures { result ≡ list_any (λ r. is_in r age) ranges.now }
+{
+    ranges.iter().any(|range| range.has(age))
+}
+
+fn add_idents(found: &mut Vec<Serial>, idents: &[Ident], ages: AgeRange) -> Result<(), AllocError>
+    ensures { OnOk result (found.new.items
+        ≡ found.old.items ++ map (λ i. i.age) (filter (λ i. i.held && is_in ages i.age) idents.now)) }
+{
+    for ident in idents {
+        if ident.held && ages.has(ident.age) {
+            found.push(ident.age)?;
+        }
+    }
+    Ok(())
+}
+
+fn add_decks(found: &mut Vec<Serial>, idents: &[Ident], ages: AgeRange) -> Result<(), AllocError>
+    ensures { OnOk result (found.new.items
+        ≡ found.old.items ++ map (λ i. i.age) (filter (λ i. i.held && is_deck_kind i.kind && is_in ages i.age) idents.now)) }
+{
+    for ident in idents {
+        if ident.held && ident.kind.is_deck() && ages.has(ident.age) {
+            found.push(ident.age)?;
+        }
+    }
+    Ok(())
+}

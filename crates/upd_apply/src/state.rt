@@ -1,0 +1,260 @@
+ghost use Rattle.std.specs.Prelude.{◌≡◌, ◌+◌, ◌^◌, ◌<◌, ◌≤◌, [], length, Some, MatchResult, OnOk};
+ghost use Rattle.upd_core.specs.Edits.{new_card, next_age};
+ghost use Rattle.upd_core.specs.Library.{place_of};
+ghost use Rattle.upd_core.specs.Outcome.{Does, need};
+ghost use Rattle.upd_core.specs.declared.fault.FaultKind.TheVariants as fault;
+ghost use Rattle.upd_apply.specs.Applying.{started};
+ghost use Rattle.upd_apply.specs.Numbers.{next_most};
+ghost use Rattle.upd_apply.specs.Step.{behind, deck_begun, grown, is_first, placed_after, placed_before, set_begun, switched, text_put};
+
+use crate::names::new_name;
+use upd_core::limits::MAX_INTRODUCED;
+use upd_core::{Card, CardRef, Deck, Entry, FaultKind, Kind, Library, Name, Place, Serial};
+
+/// The correction set in hand, and the number that its next card gets.
+#[derive(Clone, Copy, Debug, PartialEq, Eq)]
+pub struct Hand {
+    pub ident: Serial,
+    pub next: u32,
+}
+
+/// Where the next text goes.
+#[derive(Clone, Copy, Debug, PartialEq, Eq)]
+pub enum Spot {
+    Nowhere,
+    /// The end of a deck that this run brought, and the number that its next card gets.
+    End { deck: Serial, next: u32 },
+    /// Inside a deck, with so many of its cards behind. Text does not move the spot: the next text goes behind this one.
+    Inside { deck: Serial, behind: usize },
+}
+
+/// A run under way: the library so far, the set in hand, and the place of text.
+#[derive(Debug, Drop)]
+pub struct State {
+    pub(crate) library: Library,
+    pub(crate) hand: Option<Hand>,
+    pub(crate) spot: Spot,
+}
+
+/// Each line's part, on a state of its own: after a refusal the state is of no use.
+impl State {
+    /// A run begins with no set in hand and no place of text.
+    pub fn new(library: Library) -> State
+        ensures { result ≡ started library }
+    {
+        State {
+            library,
+            hand: None,
+            spot: Spot::Nowhere,
+        }
+    }
+
+    /// `*IDENT`
+    pub fn begin_set(&mut self, name: &Name) -> Result<(), FaultKind>
+        ensures does { Does result self.new (set_begun name.now self.old) }
+        ensures number { OnOk result (next_most self.new ≤ next_most self.old + 1) }
+    {
+        new_name(&self.library, name)?;
+        let ident = next_age(&self.library)?;
+        self.library.introduce(*name, Kind::Set, false)?;
+        check_limits(&self.library)?;
+        self.hand = Some(Hand { ident, next: 1 });
+        self.spot = Spot::Nowhere;
+        Ok(())
+    }
+
+    /// `*DECK` and `*COMDECK`
+    pub fn begin_deck(
+        &mut self,
+        name: &Name,
+        kind: Kind,
+        noprop: bool,
+        text: &[u8],
+    ) -> Result<(), FaultKind>
+        ensures does { Does result self.new (deck_begun name.now kind noprop text.now self.old) }
+        ensures number { OnOk result (next_most self.new ≤ next_most self.old + 1) }
+    {
+        new_name(&self.library, name)?;
+        let age = next_age(&self.library)?;
+        let deck = Deck::new(self.library.allocator(), age, text)?;
+        self.library.introduce(*name, kind, noprop)?;
+        self.library.push_deck(deck)?;
+        check_limits(&self.library)?;
+        self.spot = Spot::End { deck: age, next: 2 };
+        Ok(())
+    }
+
+    /// `*INSERT`
+    pub fn place_after(&mut self, card: &CardRef) -> Result<(), FaultKind>
+        ensures does { Does result self.new (placed_after card.now self.old) }
+        ensures number { OnOk result (next_most self.new ≤ next_most self.old + 1) }
+    {
+        self.hand.ok_or(FaultKind::NoIdent)?;
+        let place = known_card(&self.library, card)?;
+        if place.deck == 0 {
+            return Err(FaultKind::YankText);
+        }
+        self.spot = Spot::Inside {
+            deck: place.deck,
+            behind: behind(&self.library, place),
+        };
+        Ok(())
+    }
+
+    /// `*BEFORE`
+    pub fn place_before(&mut self, card: &CardRef) -> Result<(), FaultKind>
+        ensures does { Does result self.new (placed_before card.now self.old) }
+        ensures number { OnOk result (next_most self.new ≤ next_most self.old + 1) }
+    {
+        self.hand.ok_or(FaultKind::NoIdent)?;
+        let place = known_card(&self.library, card)?;
+        if place.deck == 0 {
+            return Err(FaultKind::YankText);
+        }
+        if is_first(place) {
+            return Err(FaultKind::DeckCard);
+        }
+        self.spot = Spot::Inside {
+            deck: place.deck,
+            behind: behind(&self.library, place) + 1,
+        };
+        Ok(())
+    }
+
+    /// `*DELETE` and `*RESTORE`
+    pub fn switch(&mut self, active: bool, first: &CardRef, last: &CardRef) -> Result<(), FaultKind>
+        ensures does { Does result self.new (switched active first.now last.now self.old) }
+        ensures number { OnOk result (next_most self.new ≤ next_most self.old + 1) }
+    {
+        let hand = self.hand.ok_or(FaultKind::NoIdent)?;
+        let from = known_card(&self.library, first)?;
+        let to = known_last(&self.library, first, from, last)?;
+        if from.deck != to.deck || to.index < from.index {
+            return Err(FaultKind::RangeOrder);
+        }
+        if is_first(from) {
+            return Err(FaultKind::DeckCard);
+        }
+        let behind = behind(&self.library, to);
+        let entry = Entry {
+            ident: hand.ident,
+            active,
+        };
+        self.library.enter(from.deck, from.index, to.index, entry)?;
+        check_limits(&self.library)?;
+        self.spot = Spot::Inside {
+            deck: to.deck,
+            behind,
+        };
+        Ok(())
+    }
+
+    /// Text and calls
+    pub fn put_text(&mut self, text: &[u8]) -> Result<(), FaultKind>
+        requires { next_most self.old + 1 < 2 ^ 32 }
+        ensures does { Does result self.new (text_put text.now self.old.spot self.old) }
+        ensures number { OnOk result (next_most self.new ≤ next_most self.old + 1) }
+    {
+        match self.spot {
+            Spot::Nowhere => Err(FaultKind::TextNowhere),
+            Spot::End { deck, next } => {
+                let card = new_card(&self.library, deck, next, text)?;
+                self.library.insert_card(deck, 0, card)?;
+                check_limits(&self.library)?;
+                self.spot = Spot::End {
+                    deck,
+                    next: next + 1,
+                };
+                Ok(())
+            }
+            Spot::Inside { deck, behind } => {
+                let Hand { ident, next } = self.hand.ok_or(FaultKind::TextNowhere)?;
+                if deck == 0 {
+                    return Err(FaultKind::YankText);
+                }
+                let card = new_card(&self.library, ident, next, text)?;
+                self.library.insert_card(deck, behind, card)?;
+                check_limits(&self.library)?;
+                self.hand = Some(Hand {
+                    ident,
+                    next: next + 1,
+                });
+                Ok(())
+            }
+        }
+    }
+}
+
+/// Refuses a library that has grown past a limit.
+pub fn check_limits(library: &Library) -> Result<(), FaultKind>
+    ensures { MatchResult result (λ _. grown library.now ≡ Ok library.now) (λ e. grown library.now ≡ Err e) }
+{
+    if library.is_within_limits() {
+        Ok(())
+    } else {
+        Err(FaultKind::Full)
+    }
+}
+
+/// The age of the next ident; Full where as many were introduced as may be.
+fn next_age(library: &Library) -> Result<Serial, FaultKind>
+    ensures { MatchResult result
+        (λ age. (age ≡ next_age library.now) × (length library.now.idents < MAX_INTRODUCED))
+        (λ e. (e ≡ fault.Full) × (MAX_INTRODUCED ≤ length library.now.idents)) }
+{
+    if library.idents().len() < MAX_INTRODUCED {
+        Ok(library.idents().len() as Serial + 1)
+    } else {
+        Err(FaultKind::Full)
+    }
+}
+
+/// Where the card of a reference stands; else CardUnknown.
+fn known_card(library: &Library, card: &CardRef) -> Result<Place, FaultKind>
+    ensures { result ≡ need fault.CardUnknown (place_of card.now library.now) }
+{
+    library.card_at(*card).ok_or(FaultKind::CardUnknown)
+}
+
+/// Where the last card of a range stands, whose first card stands at `from`. One card isn't looked for twice.
+fn known_last(
+    library: &Library,
+    first: &CardRef,
+    from: Place,
+    last: &CardRef,
+) -> Result<Place, FaultKind>
+    requires { place_of first.now library.now ≡ Some from }
+    ensures { result ≡ need fault.CardUnknown (place_of last.now library.now) }
+{
+    if last == first {
+        return Ok(from);
+    }
+    known_card(library, last)
+}
+
+/// How many cards of its deck stand behind a place.
+fn behind(library: &Library, place: Place) -> usize
+    ensures count { result ≡ behind place library.now }
+    ensures room { result + 1 < 2 ^ 64 }
+{
+    library
+        .cards_of(place.deck)
+        .len()
+        .saturating_sub(place.index)
+        .saturating_sub(1)
+}
+
+fn is_first(place: Place) -> bool
+    ensures { result ≡ is_first place }
+{
+    place.deck != 0 && place.index == 0
+}
+
+/// A new card without targets.
+fn new_card(library: &Library, ident: Serial, number: u32, text: &[u8]) -> Result<Card, FaultKind>
+    ensures { MatchResult result (λ card. card ≡ new_card ident number text.now []) (λ e. e ≡ fault.NoMemory) }
+{
+    let alloc = library.allocator();
+    let card = Card::new(alloc, ident, number, text, Vec::new(alloc))?;
+    Ok(card)
+}

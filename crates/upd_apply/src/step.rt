@@ -1,0 +1,40 @@
+ghost use Rattle.std.specs.Prelude.{◌+◌, ◌^◌, ◌<◌, ◌≤◌, OnOk};
+ghost use Rattle.upd_core.specs.Outcome.{Does};
+ghost use Rattle.upd_apply.specs.Numbers.{next_most};
+ghost use Rattle.upd_apply.specs.Step.{step};
+
+use crate::state::State;
+use upd_core::{FaultKind, Kind};
+use upd_deck::{Item, Line};
+
+impl State {
+    /// What a line does, or why it is refused. After a refusal the state is of no use.
+    pub fn step(&mut self, line: &Line) -> Result<(), FaultKind>
+        requires { next_most self.old + 1 < 2 ^ 32 }
+        ensures does { Does result self.new (step line.now self.old) }
+        ensures number { OnOk result (next_most self.new ≤ next_most self.old + 1) }
+    {
+        let text = line.text();
+        match line.item() {
+            Item::Text | Item::Call(_) => self.put_text(text)?,
+            Item::Ident(name) => self.begin_set(name)?,
+            Item::Deck(name) => self.begin_deck(name, Kind::Deck, false, text)?,
+            Item::CommonDeck { name, noprop } => {
+                self.begin_deck(name, Kind::Common, *noprop, text)?;
+            }
+            Item::Insert(card) => self.place_after(card)?,
+            Item::Before(card) => self.place_before(card)?,
+            Item::Delete { first, last } => self.switch(false, first, last)?,
+            Item::Restore { first, last } => self.switch(true, first, last)?,
+            Item::Yank(ranges) => self.yank_sets(text, ranges)?,
+            Item::SelYank(pairs) => self.yank_pairs(text, pairs)?,
+            Item::YankDeck(names) => self.yank_decks(text, names)?,
+            Item::Purge(ranges) => self.purge_idents(ranges)?,
+            Item::PurgeFrom(name) => self.purge_from(name)?,
+            Item::SelPurge(pairs) => self.purge_pairs(pairs)?,
+            Item::PurDeck(ranges) => self.purge_decks(ranges)?,
+            Item::Compile(_) => {}
+        }
+        Ok(())
+    }
+}

@@ -1,0 +1,201 @@
+ghost use Rattle.std.specs.Prelude.{◌≡◌, ◌+◌, ◌^◌, ◌<◌, ◌≤◌, ◌&&◌, ◌||◌, ◌==◌, ℕ, [], map, Ok, Some, OnOk};
+ghost use Rattle.std.specs.List.{filter, list_any};
+ghost use Rattle.upd_core.specs.Outcome.{Does, Gives};
+ghost use Rattle.upd_core.specs.declared.target.Target.TheVariants.{Set};
+ghost use Rattle.upd_apply.specs.Marks.{AreMarked, is_marked};
+ghost use Rattle.upd_apply.specs.Numbers.{next_most};
+ghost use Rattle.upd_apply.specs.Step.{yank_put};
+ghost use Rattle.upd_apply.specs.Yanks.{decks_yanked, is_in, is_target, pairs_yanked, sets_yanked, with_sets, with_target};
+
+use crate::names::{AgeRange, ident_ages, known_deck, known_ident};
+use crate::state::{Hand, Spot, State, check_limits};
+use std::alloc::AllocError;
+use upd_core::{Card, FaultKind, Ident, Library, Name, Serial, Target};
+use upd_deck::{IdentIn, NameRange};
+
+impl State {
+    /// `*YANK`
+    pub fn yank_sets(&mut self, text: &[u8], ranges: &[NameRange]) -> Result<(), FaultKind>
+        requires { next_most self.old + 1 < 2 ^ 32 }
+        ensures does { Does result self.new (yank_put text.now (sets_yanked [] ranges.now) self.old) }
+        ensures number { OnOk result (next_most self.new ≤ next_most self.old + 1) }
+    {
+        let hand = self.hand.ok_or(FaultKind::NoIdent)?;
+        let targets = sets_yanked(&self.library, hand.ident, ranges)?;
+        self.put_yank(hand, text, targets)?;
+        Ok(())
+    }
+
+    /// `*SELYANK`
+    pub fn yank_pairs(&mut self, text: &[u8], pairs: &[IdentIn]) -> Result<(), FaultKind>
+        requires { next_most self.old + 1 < 2 ^ 32 }
+        ensures does { Does result self.new (yank_put text.now (pairs_yanked [] pairs.now) self.old) }
+        ensures number { OnOk result (next_most self.new ≤ next_most self.old + 1) }
+    {
+        let hand = self.hand.ok_or(FaultKind::NoIdent)?;
+        let targets = pairs_yanked(&self.library, hand.ident, pairs)?;
+        self.put_yank(hand, text, targets)?;
+        Ok(())
+    }
+
+    /// `*YANKDECK`
+    pub fn yank_decks(&mut self, text: &[u8], names: &[Name]) -> Result<(), FaultKind>
+        requires { next_most self.old + 1 < 2 ^ 32 }
+        ensures does { Does result self.new (yank_put text.now (decks_yanked [] names.now) self.old) }
+        ensures number { OnOk result (next_most self.new ≤ next_most self.old + 1) }
+    {
+        let hand = self.hand.ok_or(FaultKind::NoIdent)?;
+        let targets = decks_yanked(&self.library, hand.ident, names)?;
+        self.put_yank(hand, text, targets)?;
+        Ok(())
+    }
+
+    /// A yank card of the set in hand, with these targets.
+    fn put_yank(&mut self, hand: Hand, text: &[u8], targets: Vec<Target>) -> Result<(), FaultKind>
+        requires hand { self.old.hand ≡ Some hand }
+        requires number { hand.next + 1 < 2 ^ 32 }
+        ensures does { Does result self.new (yank_put text.now (λ _ _. Ok targets.items) self.old) }
+        ensures number { OnOk result (next_most self.new ≤ next_most self.old + 1) }
+    {
+        let Hand { ident, next } = hand;
+        let card = Card::new(self.library.allocator(), ident, next, text, targets)?;
+        self.library.push_yank(card)?;
+        check_limits(&self.library)?;
+        self.hand = Some(Hand {
+            ident,
+            next: next + 1,
+        });
+        self.spot = Spot::Nowhere;
+        Ok(())
+    }
+}
+
+/// The targets of `*YANK` by a set: the idents of each range.
+pub fn sets_yanked(
+    library: &Library,
+    set: Serial,
+    ranges: &[NameRange],
+) -> Result<Vec<Target>, FaultKind>
+    ensures { Gives (λ found. found.items) result (sets_yanked [] ranges.now set library.now) }
+{
+    let mut found = Vec::new(library.allocator());
+    let mut marks = Vec::new(library.allocator());
+    for range in ranges {
+        let ages = ident_ages(library, range)?;
+        if set <= ages.to {
+            return Err(FaultKind::YankSelf);
+        }
+        add_sets(&mut found, &mut marks, library.idents(), ages)?;
+    }
+    Ok(found)
+}
+
+/// The targets of `*SELYANK` by a set: an ident in a deck for each pair.
+pub fn pairs_yanked(
+    library: &Library,
+    set: Serial,
+    pairs: &[IdentIn],
+) -> Result<Vec<Target>, FaultKind>
+    ensures { Gives (λ found. found.items) result (pairs_yanked [] pairs.now set library.now) }
+{
+    let mut found = Vec::new(library.allocator());
+    for pair in pairs {
+        let deck = known_deck(library, &pair.deck)?;
+        let ident = known_ident(library, &pair.ident)?;
+        if set <= deck || set <= ident {
+            return Err(FaultKind::YankSelf);
+        }
+        add_target(&mut found, Target::SetIn(ident, deck))?;
+    }
+    Ok(found)
+}
+
+/// The targets of `*YANKDECK` by a set: a deck for each name.
+pub fn decks_yanked(
+    library: &Library,
+    set: Serial,
+    names: &[Name],
+) -> Result<Vec<Target>, FaultKind>
+    ensures { Gives (λ found. found.items) result (decks_yanked [] names.now set library.now) }
+{
+    let mut found = Vec::new(library.allocator());
+    for name in names {
+        let deck = known_deck(library, name)?;
+        if set <= deck {
+            return Err(FaultKind::YankSelf);
+        }
+        add_target(&mut found, Target::Deck(deck))?;
+    }
+    Ok(found)
+}
+
+/// Adds the sets of a range. The marks tell by age which sets are there.
+fn add_sets(
+    found: &mut Vec<Target>,
+    marks: &mut Vec<bool>,
+    idents: &[Ident],
+    ages: AgeRange,
+) -> Result<(), AllocError>
+    requires { AreMarked marks.old.items found.old.items }
+    ensures sets { OnOk result (found.new.items
+        ≡ with_sets found.old.items (map (λ i. i.age) (filter (λ i. i.held && is_in ages i.age) idents.now))) }
+    ensures marked { OnOk result (AreMarked marks.new.items found.new.items) }
+{
+    for ident in idents {
+        if ident.held && ages.has(ident.age) {
+            add_set(found, marks, ident.age)?;
+        }
+    }
+    Ok(())
+}
+
+fn add_set(found: &mut Vec<Target>, marks: &mut Vec<bool>, age: Serial) -> Result<(), AllocError>
+    requires { AreMarked marks.old.items found.old.items }
+    ensures sets { OnOk result (found.new.items ≡ with_target found.old.items (Set age)) }
+    ensures marked { OnOk result (AreMarked marks.new.items found.new.items) }
+{
+    if !is_marked(marks, age) {
+        mark(marks, age)?;
+        found.push(Target::Set(age))?;
+    }
+    Ok(())
+}
+
+fn is_marked(marks: &[bool], age: Serial) -> bool
+    ensures { result ≡ is_marked marks.now age }
+{
+    let age = age as usize;
+    age < marks.len() && marks[age]
+}
+
+fn mark(marks: &mut Vec<bool>, age: Serial) -> Result<(), AllocError>
+    ensures { OnOk result ((z : ℕ) → is_marked marks.new.items z ≡ (is_marked marks.old.items z || (z == age))) }
+{
+    let age = age as usize;
+    if marks.len() <= age {
+        marks.resize(age + 1, false)?;
+    }
+    marks[age] = true;
+    Ok(())
+}
+
+fn add_target(found: &mut Vec<Target>, target: Target) -> Result<(), AllocError>
+    ensures { OnOk result (found.new.items ≡ with_target found.old.items target) }
+{
+    if !is_among(found, target) {
+        found.push(target)?;
+    }
+    Ok(())
+}
+
+fn is_among(found: &[Target], target: Target) -> bool
+    ensures { result ≡ list_any (is_target target) found.now }
+{
+    found.iter().any(|other| is_target(target, *other))
+}
+
+fn is_target(target: Target, other: Target) -> bool
+    ensures { result ≡ is_target target other }
+{
+    target == other
+}
