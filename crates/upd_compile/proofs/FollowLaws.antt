@@ -1,0 +1,78 @@
+-- Lists of followers that grow.
+use Rattle.std.proofs.Common.{◌≡◌, ℕ, zero, suc, add-one, ◌+◌, ◌<◌, ◌≤◌, ◌==◌, nat_lt, Bool, true, false, ◌&&◌, ◌||◌, List, [], ◌∷◌, ◌++◌, length, take, get_or, replicate, Some, slice_get, refl, sym, ap, ◌∙◌, arith}
+use Rattle.std.proofs.lemmas.Bool.{and_left, and_right, and_parts, eqb-true, lt-ltb, ne_eqb}
+use Rattle.std.proofs.lemmas.List.{length-replicate, take_all}
+use Rattle.std.proofs.Math.ListN.{set, length-set}
+use Rattle.upd_compile.specs.Reach.{AreCallers, FollowsMore, follows, is_in, is_marked}
+use Rattle.upd_compile.proofs.ReachLaws.{and-true, or-false, is_in-push, is_marked-more, marks-then, same-where, same_suc}
+
+-- one follower more
+pub follows-set : (lists : List (List ℕ)) (i e c d : ℕ) (list : List ℕ) → slice_get lists i ≡ Some list → follows (set lists i (list ++ e ∷ [])) c d ≡ (follows lists c d || ((i == c) && (e == d)))
+follows-set [] i e c d list h = cc
+follows-set (l ∷ ls) zero e zero d list h = let same : l ≡ list = cc in rw same (is_in-push list e d)
+follows-set (l ∷ ls) zero e (suc c) d list h = rw (and_left (0 == suc c) (e == d) (ne_eqb 0 (suc c) (omega arith))) (sym (or-false (follows ls c d)))
+follows-set (l ∷ ls) (suc i) e zero d list h = rw (and_left (suc i == 0) (e == d) (ne_eqb (suc i) 0 (omega arith))) (sym (or-false (is_in l d)))
+follows-set (l ∷ ls) (suc i) e (suc c) d list h = follows-set ls i e c d list h ∙ ap (λ b. follows ls c d || (b && (e == d))) (same_suc i c)
+
+-- none follow yet
+pub follows-empty : (n c d : ℕ) → follows (replicate n []) c d ≡ false
+follows-empty zero c d = refl
+follows-empty (suc n) zero d = refl
+follows-empty (suc n) (suc c) d = follows-empty n c d
+
+pub FollowsMore-one : (lists : List (List ℕ)) (i e : ℕ) (list : List ℕ) → i < length lists → slice_get lists i ≡ Some list → FollowsMore (λ c d. (i == c) && (e == d)) lists (set lists i (list ++ e ∷ []))
+FollowsMore-one lists i e list h at = record {
+  follows_more = λ c d.
+      follows-set lists i e c d list at
+      ∙ ap (λ b. follows lists c d || b) (same-where ((i == c) && (e == d)) (nat_lt c (length lists)) (λ both.
+      let same : i ≡ c = eqb-true i c (and_parts (i == c) (e == d) both).0 in lt-ltb c (length lists) (omega arith)));
+  same_length = length-set lists i _;
+}
+
+-- some, and then more
+pub FollowsMore-then : (p q r : ℕ → ℕ → Bool) (x y z : List (List ℕ)) → ((c d : ℕ) → r c d ≡ (p c d || q c d)) → FollowsMore p x y → FollowsMore q y z → FollowsMore r x z
+FollowsMore-then p q r x y z both first then = record {
+  follows_more = λ c d.
+      then.follows_more c d
+      ∙ rw (first.follows_more c d, first.same_length, both c d) (marks-then (follows x c d) (p c d) (q c d) (nat_lt c (length x)));
+  same_length = then.same_length ∙ first.same_length;
+}
+
+pub and-or : (a b e : Bool) → ((a || b) && e) ≡ ((a && e) || (b && e))
+and-or true b true = refl
+and-or true b false = sym (and_right b false refl)
+and-or false b e = refl
+
+-- a place that follows a marked one, or the one that is marked now
+pub follows-marked : (m e f g : Bool) → (e ≡ true → f ≡ g) → ((m || e) && f) ≡ ((m && f) || (g && e))
+follows-marked true e true g same = refl
+follows-marked true true false g same = rw (← same refl) refl
+follows-marked true false false g same = sym (and_right g false refl)
+follows-marked false true f g same = same refl ∙ sym (and-true g)
+follows-marked false false f g same = sym (and_right g false refl)
+
+-- one marked place more
+pub callers-more : (calls : List (List ℕ)) (marks : List Bool) (i : ℕ) (list : List ℕ) (x y z : List (List ℕ)) → i < length marks → slice_get calls i ≡ Some list → true ≡ get_or marks i true
+    → FollowsMore (λ c d. is_marked (take i marks) d && follows calls d c) x y → FollowsMore (λ c d. is_in list c && (i == d)) y z
+    → FollowsMore (λ c d. is_marked (take (i + 1) marks) d && follows calls d c) x z
+callers-more calls marks i list x y z within found marked first then =
+    FollowsMore-then _ (λ c d. is_in list c && (i == d)) _ x y z
+    (λ c d.
+    rw (add-one, is_marked-more marks i d true within marked)
+    (follows-marked (is_marked (take i marks) d) (i == d) (follows calls d c) (is_in list c) (λ e. rw (← eqb-true i d e, found) refl)))
+    first then
+
+-- a place more that isn't marked
+pub callers-same : (calls : List (List ℕ)) (marks : List Bool) (i : ℕ) (x y : List (List ℕ)) → i < length marks → false ≡ get_or marks i false
+    → FollowsMore (λ c d. is_marked (take i marks) d && follows calls d c) x y → FollowsMore (λ c d. is_marked (take (i + 1) marks) d && follows calls d c) x y
+callers-same calls marks i x y within unmarked first = record {
+  follows_more = λ c d. rw (add-one, is_marked-more marks i d false within unmarked, or-false (is_marked (take i marks) d)) (first.follows_more c d);
+  same_length = first.same_length;
+}
+
+-- the callers once all places were gone through
+pub callers-all : (calls : List (List ℕ)) (marks : List Bool) (i n : ℕ) (first callers : List (List ℕ)) → n ≡ length calls → n ≤ i → length marks ≡ n → first ≡ replicate n []
+    → FollowsMore (λ c d. is_marked (take i marks) d && follows calls d c) first callers → AreCallers calls marks callers
+callers-all calls marks i n first callers count end same empty more = λ c d.
+    let all : take i marks ≡ marks = take_all i marks (omega arith) in
+    more.follows_more c d ∙ rw (empty, follows-empty n c d, all, length-replicate {A = List ℕ} n [], count) refl

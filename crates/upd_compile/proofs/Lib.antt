@@ -1,0 +1,11 @@
+pub mod ListLaws
+pub mod ReachLaws
+pub mod FollowLaws
+pub mod Reaching
+pub mod ChainLaws
+pub mod ChosenLaws
+pub mod SpreadLaws
+pub mod PlaceLaws
+pub mod ListingLaws
+pub mod WalkLaws
+pub mod WrittenLaw

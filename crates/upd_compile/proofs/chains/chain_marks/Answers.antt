@@ -1,0 +1,34 @@
+use Rattle.std.proofs.Common.{◌≡◌, ◌∙◌, ◌&&◌, ℕ, List, Vec, Global, map, length, sym, ap}
+use Rattle.std.specs.List.{list_any, zip}
+use Rattle.std.proofs.lemmas.List.{length-map}
+use Rattle.upd_compile.specs.Chosen.{is_changed, is_passed_on}
+use Rattle.upd_compile.specs.Places.{called_places}
+use Rattle.upd_compile.specs.Reach.{AreCallers, AreReached, is_marked}
+use Rattle.upd_compile.proofs.SpreadLaws.{chains-marked, is_marked-both, is_marked-map, length-both}
+use Rattle.upd_compile.proofs.chains.chain_marks.Goals as goal
+
+pub returns : goal.returns
+returns c = λ before changed.
+    let a = c.args.source.now in
+    let shown : List (Vec ℕ Global) → List (List ℕ) = map (λ list. list.items) in
+    let calls = shown c.in_ok-calls.calls.items in
+    let passed = c.in_ok-passed.passed.items in
+    let seeds = c.in_ok-seeds.seeds.items in
+    let calls_are : calls ≡ map (called_places a) a.decks = c.in_ok-calls.ensures in
+    let passed_are : passed ≡ map (is_passed_on a) a.decks = c.in_ok-passed.ensures in
+    let seeds_are : seeds ≡ map (λ p. p.0 && p.1) (zip passed c.args.changed.now) = rw c.deref-3.ensures.value at c.in_ok-seeds.ensures in
+    let callers_are : AreCallers calls passed (shown c.in_ok-callers.callers.items) = rw (c.deref.ensures.value, c.deref-2.ensures.value) at c.in_ok-callers.ensures in
+    let reached : AreReached (shown c.in_ok-callers.callers.items) seeds c.in_ok-marks.marks.items = rw (c.deref-4.ensures.value, c.deref-5.ensures.value) at c.in_ok-marks.ensures in
+    let found : c.in_ok-found.found.items ≡ map (list_any (is_marked c.in_ok-marks.marks.items)) calls = rw (c.deref-6.ensures.value, c.deref-7.ensures.value) at c.in_ok-found.ensures in
+    let same_length : length passed ≡ length c.args.changed.now =
+    ap length passed_are ∙ length-map a.decks (is_passed_on a) ∙ sym (ap length changed ∙ length-map a.decks (is_changed before)) in
+    found ∙ chains-marked before a calls (shown c.in_ok-callers.callers.items) passed seeds c.in_ok-marks.marks.items (record {
+      calls_are = calls_are;
+      passed_are = passed_are;
+      seeds_are = λ k.
+          ap (λ m. is_marked m k) seeds_are ∙ is_marked-both passed c.args.changed.now k
+          ∙ ap (λ b. is_marked passed k && b) (ap (λ m. is_marked m k) changed ∙ is_marked-map (is_changed before) a.decks k);
+      seeds_length = ap length seeds_are ∙ length-both passed c.args.changed.now same_length ∙ ap length passed_are ∙ length-map a.decks (is_passed_on a);
+      callers_are = callers_are;
+      reached = reached;
+    })

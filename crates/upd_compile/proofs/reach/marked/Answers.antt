@@ -1,0 +1,18 @@
+use Rattle.std.proofs.Common.{rules, ◌≡◌, sym, add-one, true, false, get_or, take}
+use Rattle.upd_compile.specs.Reach.{is_marked}
+use Rattle.upd_compile.proofs.ReachLaws.{is_in-push, is_marked-more, or-false}
+use Rattle.upd_compile.proofs.reach.marked.Goals as goal
+use Rattle.upd_compile.proofs.reach.marked.Goals.{then-is_marked+in_ok-push, else-is_marked}
+
+pub loop-place-preserved : goal.loop-place-preserved
+loop-place-preserved c = λ k.
+    let marks = c.args.marks.now in
+    let i = c.loop-place.place in
+    elim c.if-is_marked.branch [
+      | then-is_marked+in_ok-push w ↦
+          let here : true ≡ get_or marks i true = search rules in
+          rw (w.places-is, w.in_ok-push.ensures.items, is_in-push c.loop-place.places.items i k, c.loop-place.invariant k, add-one) (sym (is_marked-more marks i k true c.loop-place-test.true here))
+      | else-is_marked w ↦
+          let here : false ≡ get_or marks i false = search rules in
+          rw (w.places-is, c.loop-place.invariant k, add-one, is_marked-more marks i k false c.loop-place-test.true here) (sym (or-false (is_marked (take i marks) k)))
+    ]

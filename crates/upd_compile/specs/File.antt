@@ -1,0 +1,72 @@
+-- The bytes of a compile file, or the first fault of its walk.
+use Rattle.std.specs.Prelude.{ℕ, ◌-◌, ◌==◌, if◌then◌else◌, List, [], ◌∷◌, ◌++◌, length, replicate, decimal, count_by, Bool, true, false, Option, Some, None, Result, Ok, Err}
+use Rattle.std.specs.List.{flat_map}
+use Rattle.upd_core.specs.declared.fault.Fault.{Fault}
+use Rattle.upd_core.specs.declared.fault.FaultKind.{FaultKind}
+use Rattle.upd_core.specs.declared.fault.FaultKind.TheVariants.{CallUnknown, CallDepth, CompileLong}
+use Rattle.upd_core.specs.declared.ident.Ident.{Ident}
+use Rattle.upd_core.specs.declared.limits.TheConstants.{MAX_COMPILE_LINES, MAX_CALLS, MAX_DEPTH}
+use Rattle.upd_core.specs.Actives.{ActiveCardView, ActivesView, actives_of}
+use Rattle.upd_core.specs.Library.{LibraryView, name_of}
+use Rattle.upd_compile.specs.declared.mode.Mode.{Mode}
+use Rattle.upd_compile.specs.Chosen.{chosen}
+use Rattle.upd_compile.specs.Walk.{Event, Line, Follow, Depth, Unknown, walk}
+
+-- A compile file: its bytes, and how many lines they are.
+pub record FileView : Type 0 where
+  pub bytes : List ℕ
+  pub lines : ℕ
+
+-- so many blanks
+abbrev pub blanks : ℕ → List ℕ
+blanks n = replicate n 32
+
+-- a text with blanks behind it, or before it, up to a width
+abbrev pub padded : ℕ → List ℕ → List ℕ
+padded width text = text ++ blanks (width - length text)
+
+-- a text with blanks before it up to a width
+abbrev pub padded_left : ℕ → List ℕ → List ℕ
+padded_left width text = blanks (width - length text) ++ text
+
+-- the line of a card: its text in 80 columns, a blank, its ident in 9, its number in 6, and LF
+abbrev pub card_line : List Ident → ActiveCardView → List ℕ
+card_line idents c = padded 80 c.text ++ 32 ∷ padded 9 (name_of idents c.ident) ++ padded_left 6 (decimal c.number) ++ 10 ∷ []
+
+-- what an event is written as
+abbrev pub event_line : List Ident → Event → List ℕ
+event_line idents (Line c) = card_line idents c
+event_line idents Follow = []
+event_line idents Depth = []
+event_line idents Unknown = []
+
+-- whether an event is a line
+abbrev pub is_line : Event → Bool
+is_line (Line c) = true
+is_line Follow = false
+is_line Depth = false
+is_line Unknown = false
+
+-- the first of these in a walk: a call that isn't known, a call too deep, one line or call followed beyond so many
+abbrev pub first_fault : ℕ → ℕ → List Event → Option FaultKind
+first_fault lines calls [] = None
+first_fault lines calls (Line c ∷ events) = if lines == 0 then Some CompileLong else first_fault (lines - 1) calls events
+first_fault lines calls (Follow ∷ events) = if calls == 0 then Some CompileLong else first_fault lines (calls - 1) events
+first_fault lines calls (Depth ∷ events) = Some CallDepth
+first_fault lines calls (Unknown ∷ events) = Some CallUnknown
+
+-- what a walk is written as
+abbrev pub written : List Ident → List Event → Result FileView Fault
+written idents events = unless (first_fault MAX_COMPILE_LINES MAX_CALLS events)
+  where
+    unless : Option FaultKind → Result FileView Fault
+    unless (Some kind) = Err (record { kind = kind; at = 0 })
+    unless None = Ok (record { bytes = flat_map (event_line idents) events; lines = count_by is_line events })
+
+-- the compile file of a mode: the walks through the chosen decks, one after the other
+abbrev pub file_of : Mode → List ℕ → ActivesView → ActivesView → Result FileView Fault
+file_of mode named before after = written after.idents (flat_map (walk MAX_DEPTH after) (chosen mode named before after))
+
+-- the compile file of two libraries, before and after a run
+abbrev pub compile_file_of : Mode → List ℕ → LibraryView → LibraryView → Result FileView Fault
+compile_file_of mode named before after = file_of mode named (actives_of before) (actives_of after)

@@ -1,0 +1,10 @@
+pub mod Idents
+pub mod Walk
+pub mod Chosen
+pub mod File
+pub mod Progress
+pub mod Places
+pub mod Indexed
+pub mod Reach
+pub mod Listings
+pub mod Modes

@@ -1,0 +1,99 @@
+ghost use Rattle.std.specs.Prelude.{◌≡◌, ◌&&◌, not, map, IfOk, IsTrue, ◌↔◌};
+ghost use Rattle.std.specs.List.{list_any, zip};
+ghost use Rattle.upd_core.specs.Actives.{ActiveDeckView, ActivesView};
+ghost use Rattle.upd_compile.specs.Chosen.{Chain, has_chain, is_changed, is_passed_on};
+ghost use Rattle.upd_compile.specs.Idents.{passes};
+ghost use Rattle.upd_compile.specs.Places.{called_place, called_places};
+ghost use Rattle.upd_compile.specs.Reach.{is_marked};
+
+use crate::callers::callers;
+use crate::idents::ident_at;
+use crate::indexed::Indexed;
+use crate::marks::{both, calls_marked};
+use crate::reach::reached;
+use crate::walk::is_first;
+use std::alloc::{AllocError, Global};
+use upd_core::line::{called, is_call};
+use upd_core::{ActiveCard, ActiveDeck, Ident, Serial};
+
+/// A deck has a chain to a changed common deck where a path of calls leads there, and only there, however long the path is.
+pub fn chains_are_paths()
+    ensures { (before a : ActivesView) (d : ActiveDeckView) → IsTrue (has_chain before a d) ↔ Chain before a d }
+{}
+
+// The places of the held common decks that a deck calls.
+fn called_places(
+    alloc: Global,
+    source: &Indexed,
+    deck: &ActiveDeck,
+) -> Result<Vec<usize>, AllocError>
+    ensures { IfOk result (λ places. places.items ≡ called_places source.now deck.now) }
+{
+    deck.cards
+        .iter()
+        .filter(|card| !is_first(card, deck.ident))
+        .filter_map(|card| called_place(source, card))
+        .collect(alloc)
+}
+
+// The place of the held common deck that a card calls.
+fn called_place(source: &Indexed, card: &ActiveCard) -> Option<usize>
+    ensures { result ≡ called_place source.now card.now }
+{
+    if is_call(card.text) {
+        source.place_named(called(card.text))
+    } else {
+        None
+    }
+}
+
+// The called places of each deck.
+fn calls(alloc: Global, source: &Indexed) -> Result<Vec<Vec<usize>>, AllocError>
+    ensures { IfOk result (λ calls. map (λ list. list.items) calls.items ≡ map (called_places source.now) source.now.decks) }
+{
+    let decks = source.decks();
+    let mut calls = Vec::with_capacity(alloc, decks.len())?;
+    for deck in decks {
+        calls.push(called_places(alloc, source, deck)?)?;
+    }
+    Ok(calls)
+}
+
+// Whether a change of each deck is passed on to its callers.
+fn passed_on(alloc: Global, source: &Indexed) -> Result<Vec<bool>, AllocError>
+    ensures { IfOk result (λ marks. marks.items ≡ map (is_passed_on source.now) source.now.decks) }
+{
+    source
+        .decks()
+        .iter()
+        .map(|deck| is_passed_on(source.idents(), deck.ident))
+        .collect(alloc)
+}
+
+fn is_passed_on(idents: &[Ident], deck: Serial) -> bool
+    ensures { result ≡ not (passes (λ i. i.noprop) idents.now deck) }
+{
+    match ident_at(idents, deck) {
+        Some(ident) => !ident.noprop,
+        None => true,
+    }
+}
+
+/// Whether each deck has a chain, by which decks changed.
+pub(crate) fn chain_marks(
+    alloc: Global,
+    source: &Indexed,
+    changed: &[bool],
+) -> Result<Vec<bool>, AllocError>
+    ensures { IfOk result
+        (λ marks. (before : ActivesView) → changed.now ≡ map (is_changed before) source.now.decks
+        → marks.items ≡ map (has_chain before source.now) source.now.decks) }
+{
+    let calls = calls(alloc, source)?;
+    let passed = passed_on(alloc, source)?;
+    let callers = callers(alloc, &calls, &passed)?;
+    let seeds = both(alloc, &passed, changed)?;
+    let marks = reached(alloc, &callers, &seeds)?;
+    let found = calls_marked(alloc, &calls, &marks)?;
+    Ok(found)
+}

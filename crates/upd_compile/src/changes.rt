@@ -1,0 +1,85 @@
+ghost use Rattle.std.specs.Prelude.{◌≡◌, map, IfOk};
+ghost use Rattle.std.specs.List.{filter};
+ghost use Rattle.std.specs.Result.{IsOkUnless};
+ghost use Rattle.upd_core.specs.Actives.{actives_of};
+ghost use Rattle.upd_core.specs.Faults.{fault_at};
+ghost use Rattle.upd_core.specs.declared.fault.FaultKind.TheVariants.{NoMemory};
+ghost use Rattle.upd_compile.specs.Chosen.{changed, is_changed, same_card, same_cards};
+
+use crate::indexed::Indexed;
+use std::alloc::{AllocError, Global};
+use upd_core::{ActiveCard, ActiveDeck, Fault, Library, Serial};
+
+/// The decks that changed from one library to another, by age; memory alone can fail.
+///
+/// A deck changed where it wasn't there before, or its active cards differ.
+pub fn changed(before: &Library, after: &Library) -> Result<Vec<Serial>, Fault>
+    ensures ok { IfOk result (λ ages. ages.items ≡ changed (actives_of before.now) (actives_of after.now)) }
+    ensures err { IsOkUnless result (fault_at NoMemory 0) }
+{
+    let before = before.actives()?;
+    let after = after.actives()?;
+    let alloc = *after.decks.allocator();
+    let ages = changed_ages(alloc, &Indexed::new(alloc, &before)?, &after.decks)?;
+    Ok(ages)
+}
+
+fn changed_ages(
+    alloc: Global,
+    before: &Indexed,
+    decks: &[ActiveDeck],
+) -> Result<Vec<Serial>, AllocError>
+    ensures { IfOk result (λ ages. ages.items ≡ map (λ d. d.ident) (filter (is_changed before.now) decks.now)) }
+{
+    let mut ages = Vec::new(alloc);
+    for deck in decks {
+        if is_changed(before, deck) {
+            ages.push(deck.ident)?;
+        }
+    }
+    Ok(ages)
+}
+
+/// Whether each of these decks changed.
+pub(crate) fn change_marks(
+    alloc: Global,
+    before: &Indexed,
+    decks: &[ActiveDeck],
+) -> Result<Vec<bool>, AllocError>
+    ensures { IfOk result (λ marks. marks.items ≡ map (is_changed before.now) decks.now) }
+{
+    let mut marks = Vec::with_capacity(alloc, decks.len())?;
+    for deck in decks {
+        marks.push(is_changed(before, deck))?;
+    }
+    Ok(marks)
+}
+
+fn is_changed(before: &Indexed, deck: &ActiveDeck) -> bool
+    ensures { result ≡ is_changed before.now deck.now }
+{
+    match before.deck_aged(deck.ident) {
+        Some(was) => !same_cards(&was.cards, &deck.cards),
+        None => true,
+    }
+}
+
+fn same_cards(was: &[ActiveCard], cards: &[ActiveCard]) -> bool
+    ensures { result ≡ same_cards was.now cards.now }
+{
+    if was.len() != cards.len() {
+        return false;
+    }
+    for i in 0..cards.len() {
+        if !same_card(&was[i], &cards[i]) {
+            return false;
+        }
+    }
+    true
+}
+
+fn same_card(was: &ActiveCard, card: &ActiveCard) -> bool
+    ensures { result ≡ same_card was.now card.now }
+{
+    was.ident == card.ident && was.number == card.number && was.text == card.text
+}

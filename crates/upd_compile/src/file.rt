@@ -1,0 +1,93 @@
+ghost use Rattle.std.specs.Prelude.{◌≡◌, map};
+ghost use Rattle.std.specs.List.{flat_map};
+ghost use Rattle.upd_core.specs.Outcome.{GivesAt};
+ghost use Rattle.upd_compile.specs.File.{compile_file_of, file_of, written};
+ghost use Rattle.upd_compile.specs.Walk.{walk};
+
+use crate::chosen::chosen;
+use crate::indexed::Indexed;
+use crate::mode::Mode;
+use crate::progress::Progress;
+use crate::walk::walk_all;
+use std::alloc::Global;
+use std::marker::Model;
+use upd_core::limits::MAX_DEPTH;
+use upd_core::{ActiveDeck, Actives, Fault, Library, Serial};
+
+/// A compile file: lines of 97 bytes.
+#[derive(Debug, Drop)]
+pub struct CompileFile {
+    pub(crate) bytes: Vec<u8>,
+    pub(crate) lines: u32,
+}
+
+impl Model for CompileFile {
+    ghost use Rattle.upd_compile.specs.File.{FileView};
+
+    ghost Value = { FileView };
+
+    ghost view = { λ f. record { bytes = f.bytes.items; lines = f.lines } };
+}
+
+impl CompileFile {
+    /// The whole file.
+    pub fn bytes(&self) -> &[u8]
+        ensures { result.now ≡ self.now.bytes }
+    {
+        &self.bytes
+    }
+
+    /// How many lines it has.
+    pub fn lines(&self) -> u32
+        ensures { result ≡ self.now.lines }
+    {
+        self.lines
+    }
+}
+
+/// The compile file of a library after a run. `before` is the library before that run, `named` are the ages of the decks that the run named
+/// for the file.
+pub fn compile_file(
+    after: &Library,
+    before: &Library,
+    mode: Mode,
+    named: &[Serial],
+) -> Result<CompileFile, Fault>
+    ensures { GivesAt (λ f. f) result (compile_file_of mode named.now before.now after.now) }
+{
+    let after = after.actives()?;
+    let before = before.actives()?;
+    let file = compile_active(*after.decks.allocator(), &before, &after, mode, named)?;
+    Ok(file)
+}
+
+/// The same from the active cards alone.
+pub fn compile_active(
+    alloc: Global,
+    before: &Actives,
+    after: &Actives,
+    mode: Mode,
+    named: &[Serial],
+) -> Result<CompileFile, Fault>
+    ensures { GivesAt (λ f. f) result (file_of mode named.now before.now after.now) }
+{
+    let source = Indexed::new(alloc, after)?;
+    let decks = chosen(alloc, mode, named, before, &source)?;
+    let file = written(alloc, &source, &decks)?;
+    Ok(file)
+}
+
+// The walks through decks, one after the other.
+fn written(alloc: Global, source: &Indexed, decks: &[&ActiveDeck]) -> Result<CompileFile, Fault>
+    ensures { GivesAt (λ f. f) result
+        (written source.now.idents (flat_map (walk MAX_DEPTH source.now) (map (λ d. d.now) decks.now))) }
+{
+    let mut progress = Progress::new(alloc);
+    match walk_all(source, decks, MAX_DEPTH, &mut progress) {
+        Ok(()) => Ok(progress.finish()),
+        Err(kind) => Err(kind.at_line(0)),
+    }
+}
+
+#[cfg(test)]
+mod tests;

@@ -1,0 +1,15 @@
+ghost use Rattle.std.specs.Prelude.{◌≡◌};
+ghost use Rattle.std.specs.Option.{option_copied};
+ghost use Rattle.upd_compile.specs.Idents.{ident_at};
+
+use upd_core::{Ident, Serial};
+
+/// The ident of an age, held or not.
+pub(crate) fn ident_at(idents: &[Ident], age: Serial) -> Option<&Ident>
+    ensures { option_copied result ≡ ident_at idents.now age }
+{
+    if age == 0 {
+        return None;
+    }
+    idents.get(age as usize - 1)
+}

@@ -1,0 +1,129 @@
+ghost use Rattle.std.specs.Prelude.{◌≡◌, ℕ, List, nat_eq, IfOk};
+ghost use Rattle.std.specs.HashMap as hash;
+ghost use Rattle.std.specs.Option.{option_copied};
+ghost use Rattle.std.specs.Str.{bytes_eq};
+ghost use Rattle.upd_compile.specs.Places.{held_kind, place_aged, place_named};
+ghost use Rattle.upd_compile.specs.Walk.{common_named, deck_aged};
+
+use std::alloc::{AllocError, Global};
+use std::collections::HashMap;
+use std::marker::Model;
+use upd_core::{ActiveDeck, Actives, Ident, Kind, Serial};
+
+/// Active cards, with an index of held idents by name and of decks by age.
+#[derive(Drop)]
+pub(crate) struct Indexed<'a, 'b> {
+    actives: &'a Actives<'b>,
+    names: HashMap<&'a [u8], (Kind, Serial)>,
+    places: HashMap<Serial, usize>,
+}
+
+impl<'a, 'b> Model for Indexed<'a, 'b> {
+    ghost use Rattle.upd_core.specs.Actives.{ActivesView};
+
+    ghost Value = { ActivesView };
+
+    ghost use Rattle.upd_compile.specs.Indexed.{IsIndex};
+
+    ghost view = { λ x. x.actives.now };
+
+    ghost invariant = { IsIndex };
+}
+
+impl<'a, 'b> Indexed<'a, 'b> {
+    pub(crate) fn new(
+        alloc: Global,
+        actives: &'a Actives<'b>,
+    ) -> Result<Indexed<'a, 'b>, AllocError>
+        ensures { IfOk result (λ indexed. indexed ≡ actives.now) }
+    {
+        let names = held_names(alloc, actives.idents)?;
+        let places = deck_places(alloc, &actives.decks)?;
+        Ok(Indexed {
+            actives,
+            names,
+            places,
+        })
+    }
+
+    /// The directory.
+    pub(crate) fn idents(&self) -> &[Ident]
+        ensures { result.now ≡ self.now.idents }
+    {
+        let actives = self.actives;
+        actives.idents
+    }
+
+    /// The decks.
+    pub(crate) fn decks(&self) -> &'a [ActiveDeck<'b>]
+        ensures { result.now ≡ self.now.decks }
+    {
+        let actives = self.actives;
+        &actives.decks
+    }
+
+    /// The place of the deck of an age.
+    pub(crate) fn place_aged(&self, age: Serial) -> Option<usize>
+        ensures { result ≡ place_aged age self.now.decks }
+    {
+        self.places.get(&age).copied()
+    }
+
+    /// The place of the held common deck of a name.
+    pub(crate) fn place_named(&self, name: &[u8]) -> Option<usize>
+        ensures { result ≡ place_named name.now self.now }
+    {
+        let (kind, age) = *self.names.get(name)?;
+        if kind.is_common() {
+            self.place_aged(age)
+        } else {
+            None
+        }
+    }
+
+    /// The deck of an age.
+    pub(crate) fn deck_aged(&self, age: Serial) -> Option<&'a ActiveDeck<'b>>
+        ensures { option_copied result ≡ deck_aged age self.now }
+    {
+        let place = self.place_aged(age)?;
+        let actives = self.actives;
+        actives.decks.get(place)
+    }
+
+    /// The held common deck of a name.
+    pub(crate) fn common_named(&self, name: &[u8]) -> Option<&'a ActiveDeck<'b>>
+        ensures { option_copied result ≡ common_named name.now self.now }
+    {
+        let place = self.place_named(name)?;
+        let actives = self.actives;
+        actives.decks.get(place)
+    }
+}
+
+// The held ident of each name, the first of them in the directory.
+fn held_names(alloc: Global, idents: &[Ident]) -> Result<HashMap<&[u8], (Kind, Serial)>, AllocError>
+    ensures { IfOk result
+        (λ names. (name : List ℕ) → hash.get_by (λ k. bytes_eq name k.now) names ≡ held_kind name idents.now) }
+{
+    let mut names = HashMap::new(alloc);
+    for i in (0..idents.len()).rev() {
+        let ident = &idents[i];
+        if ident.held {
+            names.insert(ident.name.as_bytes(), (ident.kind, ident.age))?;
+        }
+    }
+    Ok(names)
+}
+
+// The place of the deck of each age, the first of them.
+fn deck_places(alloc: Global, decks: &[ActiveDeck]) -> Result<HashMap<Serial, usize>, AllocError>
+    ensures { IfOk result
+        (λ places. (age : ℕ) → hash.get nat_eq places age ≡ place_aged age decks.now) }
+{
+    let mut places = HashMap::new(alloc);
+    for i in (0..decks.len()).rev() {
+        let deck = &decks[i];
+        places.insert(deck.ident, i)?;
+    }
+    Ok(places)
+}

@@ -1,0 +1,22 @@
+//! Compile files and listings: what a library is written as.
+#![tactic(auto)]
+
+mod callers;
+mod chains;
+pub mod changes;
+mod chosen;
+pub mod file;
+mod idents;
+mod indexed;
+pub mod listings;
+mod marks;
+pub mod mode;
+mod progress;
+mod reach;
+mod walk;
+
+pub use chains::chains_are_paths;
+pub use changes::changed;
+pub use file::{CompileFile, compile_active, compile_file};
+pub use listings::{list_card, list_deck, list_idents, list_yanks};
+pub use mode::Mode;

@@ -1,0 +1,54 @@
+//! Marks: a `bool` for each deck.
+
+ghost use Rattle.std.specs.Prelude.{◌≡◌, ◌&&◌, ◌||◌, map, IfOk};
+ghost use Rattle.std.specs.List.{list_any, zip};
+ghost use Rattle.upd_compile.specs.Reach.{is_marked};
+
+use std::alloc::{AllocError, Global};
+
+/// The marks that two lists share.
+pub(crate) fn both(alloc: Global, left: &[bool], right: &[bool]) -> Result<Vec<bool>, AllocError>
+    ensures { IfOk result (λ marks. marks.items ≡ map (λ pair. pair.0 && pair.1) (zip left.now right.now)) }
+{
+    left.iter()
+        .zip(right)
+        .map(|(left, right)| *left && *right)
+        .collect(alloc)
+}
+
+/// The marks of one list or the other.
+pub(crate) fn either(alloc: Global, left: &[bool], right: &[bool]) -> Result<Vec<bool>, AllocError>
+    ensures { IfOk result (λ marks. marks.items ≡ map (λ pair. pair.0 || pair.1) (zip left.now right.now)) }
+{
+    left.iter()
+        .zip(right)
+        .map(|(left, right)| *left || *right)
+        .collect(alloc)
+}
+
+fn any_marked(marks: &[bool], places: &[usize]) -> bool
+    ensures { result ≡ list_any (is_marked marks.now) places.now }
+{
+    places.iter().any(|place| is_marked(marks, *place))
+}
+
+fn is_marked(marks: &[bool], place: usize) -> bool
+    ensures { result ≡ is_marked marks.now place }
+{
+    marks.get(place).copied().unwrap_or(false)
+}
+
+/// Whether each list has a marked place.
+pub(crate) fn calls_marked(
+    alloc: Global,
+    calls: &[Vec<usize>],
+    marks: &[bool],
+) -> Result<Vec<bool>, AllocError>
+    ensures { IfOk result (λ found. found.items ≡ map (list_any (is_marked marks.now)) (map (λ list. list.items) calls.now)) }
+{
+    let mut found = Vec::with_capacity(alloc, calls.len())?;
+    for places in calls {
+        found.push(any_marked(marks, places))?;
+    }
+    Ok(found)
+}

@@ -1,0 +1,130 @@
+ghost use Rattle.std.specs.Prelude.{◌≡◌, ◌≤◌, [], ◌++◌, OnOk};
+ghost use Rattle.upd_core.specs.Library.{name_of};
+ghost use Rattle.upd_core.specs.Outcome.{Does};
+ghost use Rattle.upd_core.specs.declared.fault.FaultKind.{FaultKind};
+ghost use Rattle.upd_compile.specs.File.{blanks, card_line, padded, padded_left};
+ghost use Rattle.upd_compile.specs.Progress.{at_start, after_event, file_so_far};
+ghost use Rattle.upd_compile.specs.Walk.Event.{Line, Follow};
+
+use crate::file::CompileFile;
+use itoa::Buffer;
+use std::alloc::{AllocError, Global};
+use std::marker::Model;
+use upd_core::ident::name_at;
+use upd_core::limits::{MAX_CALLS, MAX_COMPILE_LINES};
+use upd_core::{ActiveCard, FaultKind, Ident, Serial};
+
+/// A compile file as it grows, and how many calls were followed.
+#[derive(Debug, Drop)]
+pub(crate) struct Progress {
+    bytes: Vec<u8>,
+    lines: u32,
+    calls: usize,
+}
+
+impl Model for Progress {
+    ghost use Rattle.upd_compile.specs.Progress.{ProgressView};
+
+    ghost Value = { ProgressView };
+
+    ghost view = { λ p. record { bytes = p.bytes.items; lines = p.lines; calls = p.calls } };
+}
+
+impl Progress {
+    pub(crate) fn new(alloc: Global) -> Progress
+        ensures { result ≡ at_start }
+    {
+        Progress {
+            bytes: Vec::new(alloc),
+            lines: 0,
+            calls: 0,
+        }
+    }
+
+    /// Writes the line of a card.
+    pub(crate) fn line(&mut self, idents: &[Ident], card: &ActiveCard) -> Result<(), FaultKind>
+        ensures { Does result self.new (after_event idents.now (Line card.now) self.old) }
+    {
+        if self.lines as usize >= MAX_COMPILE_LINES {
+            return Err(FaultKind::CompileLong);
+        }
+        push_line(&mut self.bytes, idents, card)?;
+        self.lines += 1;
+        Ok(())
+    }
+
+    /// The file, once all is written.
+    pub(crate) fn finish(self) -> CompileFile
+        ensures { result ≡ file_so_far self }
+    {
+        let Progress { bytes, lines, .. } = self;
+        CompileFile { bytes, lines }
+    }
+
+    /// Counts a call.
+    pub(crate) fn follow(&mut self) -> Result<(), FaultKind>
+        ensures { Does result self.new (after_event [] Follow self.old) }
+    {
+        if self.calls >= MAX_CALLS {
+            return Err(FaultKind::CompileLong);
+        }
+        self.calls += 1;
+        Ok(())
+    }
+}
+
+const BLANKS: &[u8; 80] = &[b' '; 80];
+
+/// Appends the line of a card.
+pub(crate) fn push_line(
+    bytes: &mut Vec<u8>,
+    idents: &[Ident],
+    card: &ActiveCard,
+) -> Result<(), AllocError>
+    ensures { OnOk result (bytes.new.items ≡ bytes.old.items ++ card_line idents.now card.now) }
+{
+    push_padded(bytes, card.text, 80)?;
+    bytes.extend_from_slice(b" ")?;
+    push_name(bytes, idents, card.ident)?;
+    push_padded_left(bytes, Buffer::new().format(card.number).as_bytes(), 6)?;
+    bytes.extend_from_slice(b"\n")?;
+    Ok(())
+}
+
+// The name of the ident of an age, with blanks behind it up to 9 bytes.
+fn push_name(bytes: &mut Vec<u8>, idents: &[Ident], age: Serial) -> Result<(), AllocError>
+    ensures { OnOk result (bytes.new.items ≡ bytes.old.items ++ padded 9 (name_of idents.now age)) }
+{
+    match name_at(idents, age) {
+        Some(name) => push_padded(bytes, name.as_bytes(), 9)?,
+        None => push_padded(bytes, b"", 9)?,
+    }
+    Ok(())
+}
+
+// A text with blanks behind it up to a width.
+fn push_padded(bytes: &mut Vec<u8>, text: &[u8], width: usize) -> Result<(), AllocError>
+    requires { width ≤ 80 }
+    ensures { OnOk result (bytes.new.items ≡ bytes.old.items ++ padded width text.now) }
+{
+    bytes.extend_from_slice(text)?;
+    bytes.extend_from_slice(blanks(width.saturating_sub(text.len())))?;
+    Ok(())
+}
+
+// A text with blanks before it up to a width.
+fn push_padded_left(bytes: &mut Vec<u8>, text: &[u8], width: usize) -> Result<(), AllocError>
+    requires { width ≤ 80 }
+    ensures { OnOk result (bytes.new.items ≡ bytes.old.items ++ padded_left width text.now) }
+{
+    bytes.extend_from_slice(blanks(width.saturating_sub(text.len())))?;
+    bytes.extend_from_slice(text)?;
+    Ok(())
+}
+
+fn blanks(count: usize) -> &'static [u8]
+    requires { count ≤ 80 }
+    ensures { result.now ≡ blanks count }
+{
+    &BLANKS[..count]
+}

@@ -1,0 +1,78 @@
+ghost use Rattle.std.specs.Prelude.{◌≡◌, ◌==◌, ◌&&◌, map};
+ghost use Rattle.std.specs.List.{flat_map};
+ghost use Rattle.upd_core.specs.Outcome.{Does};
+ghost use Rattle.upd_compile.specs.Progress.{after_events};
+ghost use Rattle.upd_compile.specs.Walk.{call_events, card_events, walk};
+
+use crate::indexed::Indexed;
+use crate::progress::Progress;
+use upd_core::line::{called, is_call};
+use upd_core::{ActiveCard, ActiveDeck, FaultKind, Serial};
+
+/// Walks through decks, one after the other, where calls may go so deep.
+pub(crate) fn walk_all(
+    source: &Indexed,
+    decks: &[&ActiveDeck],
+    deep: usize,
+    progress: &mut Progress,
+) -> Result<(), FaultKind>
+    ensures { Does result progress.new
+        (after_events source.now.idents (flat_map (walk deep source.now) (map (λ d. d.now) decks.now)) progress.old) }
+{
+    for deck in decks {
+        walk(source, deck, deep, progress)?;
+    }
+    Ok(())
+}
+
+/// Walks through a deck, where calls may go so deep.
+#[cycle(walk)]
+pub(crate) fn walk(
+    source: &Indexed,
+    deck: &ActiveDeck,
+    deep: usize,
+    progress: &mut Progress,
+) -> Result<(), FaultKind>
+    ensures { Does result progress.new
+        (after_events source.now.idents (walk deep source.now deck.now) progress.old) }
+{
+    for card in &deck.cards {
+        if !is_first(card, deck.ident) {
+            meet(source, card, deep, progress)?;
+        }
+    }
+    Ok(())
+}
+
+// Writes the line of a card, or walks through the deck that it calls.
+#[cycle(walk)]
+fn meet(
+    source: &Indexed,
+    card: &ActiveCard,
+    deep: usize,
+    progress: &mut Progress,
+) -> Result<(), FaultKind>
+    ensures { Does result progress.new
+        (after_events source.now.idents (card_events (call_events deep source.now) card.now) progress.old) }
+{
+    if !is_call(card.text) {
+        progress.line(source.idents(), card)?;
+        return Ok(());
+    }
+    if deep == 0 {
+        return Err(FaultKind::CallDepth);
+    }
+    let common = source
+        .common_named(called(card.text))
+        .ok_or(FaultKind::CallUnknown)?;
+    progress.follow()?;
+    walk(source, common, deep - 1, progress)?;
+    Ok(())
+}
+
+// Whether a card is the first of the deck of an ident.
+pub(crate) fn is_first(card: &ActiveCard, deck: Serial) -> bool
+    ensures { result ≡ (card.now.ident == deck) && (card.now.number == 1) }
+{
+    card.ident == deck && card.number == 1
+}
