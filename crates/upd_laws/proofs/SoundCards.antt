@@ -1,0 +1,204 @@
+-- What each edit does to the cards of a library.
+use Rattle.std.proofs.Common.{◌≡◌, ℕ, zero, suc, ◌+◌, ◌-◌, ◌<◌, ◌≤◌, Bool, true, false, not, List, [], ◌∷◌, ◌++◌, map, length, take, drop, inl, inr, refl, sym, ap, ◌∙◌, subst, arith, append_assoc}
+use Rattle.std.proofs.lemmas.Bool.{ne_eqb}
+use Rattle.std.proofs.lemmas.List.{take-append-drop}
+use Rattle.std.specs.Prelude.{Some, ◌==◌, ◌⊎◌, insert, IsTrue}
+use Rattle.std.specs.Option.{option_map_or}
+use Rattle.std.specs.List.{list_any, find, filter, flat_map, AllByRecursion, AllZip}
+use Rattle.upd_core.specs.declared.card.Entry.{Entry}
+use Rattle.upd_core.specs.declared.ident.Ident.{Ident}
+use Rattle.upd_core.specs.Edits.{unheld, entered, without_entries, without_idents, deck_without, decks_without, with_card, with_deck, with_yank, with_entries}
+use Rattle.upd_core.specs.First.{at_first}
+use Rattle.upd_core.specs.Library.{CardView, DeckView, LibraryView, all_decks, cards_of, is_deck, with_cards}
+use Rattle.upd_core.specs.Sound.{is_held, BeginsWithItsOwn, IsOfHeld, key_of, all_cards}
+use Rattle.upd_laws.specs.Soundness.{stands}
+use Rattle.upd_laws.proofs.SoundLists.{same_number, is_same_number, other_number, HasMore, more_front, IsPart, none, fewer, kept, part_append, part_without, zip_same, at_first_any, at_first_find, at_first_more, at_first_zip}
+use Rattle.upd_laws.proofs.SoundIdents.{held_still}
+
+-- the cards of decks
+abbrev pub flat : List DeckView → List CardView
+flat ds = flat_map (λ d. d.cards) ds
+
+-- a deck with its cards changed
+abbrev pub changed : (List CardView → List CardView) → DeckView → DeckView
+changed change d = record d { cards = change d.cards }
+
+-- ---- the cards of one deck changed
+
+-- `YANK$$$` is the first of all decks
+pub decks_with : (age : ℕ) (change : List CardView → List CardView) (l : LibraryView) → all_decks (with_cards age change l) ≡ at_first (is_deck age) (changed change) (all_decks l)
+decks_with age change l = go (age == 0) refl
+  where
+    front : DeckView
+    front = record { ident = 0; cards = l.yanks }
+
+    go : (b : Bool) → (age == 0) ≡ b → all_decks (with_cards age change l) ≡ at_first (is_deck age) (changed change) (all_decks l)
+    go true e = let f : is_deck age front ≡ true = is_same_number 0 age (sym (same_number age 0 e)) in rw (e, f) refl
+    go false e = let f : is_deck age front ≡ false = ne_eqb 0 age (λ same. other_number age 0 e (sym same)) in rw (e, f) refl
+
+pub idents_with : (age : ℕ) (change : List CardView → List CardView) (l : LibraryView) → (with_cards age change l).idents ≡ l.idents
+idents_with age change l = go (age == 0) refl
+  where
+    go : (b : Bool) → (age == 0) ≡ b → (with_cards age change l).idents ≡ l.idents
+    go true e = rw e refl
+    go false e = rw e refl
+
+pub rest_with : (age : ℕ) (change : List CardView → List CardView) (l : LibraryView) → (with_cards age change l).rest ≡ l.rest
+rest_with age change l = go (age == 0) refl
+  where
+    go : (b : Bool) → (age == 0) ≡ b → (with_cards age change l).rest ≡ l.rest
+    go true e = rw e refl
+    go false e = rw e refl
+
+-- the yank cards, where another deck changed, or where the change keeps what holds of them
+pub yanks_with : (age : ℕ) (change : List CardView → List CardView) (l : LibraryView) → (age ≡ 0 → ⊥) → (with_cards age change l).yanks ≡ l.yanks
+yanks_with age change l other = let e : (age == 0) ≡ false = ne_eqb age 0 other in rw e refl
+
+pub yanks_kept : (P : CardView → Type 0) (age : ℕ) (change : List CardView → List CardView) (l : LibraryView) → AllByRecursion P (change l.yanks) → AllByRecursion P l.yanks → AllByRecursion P (with_cards age change l).yanks
+yanks_kept P age change l after before = go (age == 0) refl
+  where
+    go : (b : Bool) → (age == 0) ≡ b → AllByRecursion P (with_cards age change l).yanks
+    go true e = rw e after
+    go false e = rw e before
+
+pub standing_with : (age : ℕ) (change : List CardView → List CardView) (l : LibraryView) → stands age (with_cards age change l) ≡ stands age l
+standing_with age change l = ap (list_any (is_deck age)) (decks_with age change l) ∙ at_first_any (is_deck age) (changed change) (all_decks l) (λ d. refl)
+
+find_standing : {A : Type 0} (test : A → Bool) (xs : List A) → list_any test xs ≡ true → (x : A) × (find test xs ≡ Some x)
+find_standing test [] e = absurd (cc)
+find_standing test (x ∷ xs) e = go (test x) refl (find_standing test xs)
+  where
+    go : (b : Bool) → test x ≡ b → (list_any test xs ≡ true → (y : _) × (find test xs ≡ Some y)) → (y : _) × (find test (x ∷ xs) ≡ Some y)
+    go true f rest = (x, rw f refl)
+    go false f rest = let r = rest (rw f at e) in (r.0, rw f r.1)
+
+pub cards_with : (age : ℕ) (change : List CardView → List CardView) (l : LibraryView) → stands age l ≡ true → cards_of age (with_cards age change l) ≡ change (cards_of age l)
+cards_with age change l e =
+    let found = find_standing (is_deck age) (all_decks l) e in
+    let after : find (is_deck age) (all_decks (with_cards age change l)) ≡ Some (changed change found.0) =
+    ap (find (is_deck age)) (decks_with age change l) ∙ at_first_find (is_deck age) (changed change) (all_decks l) found.0 (λ d. refl) found.1 in
+    ap (λ o. option_map_or (λ (d : DeckView). d.cards) o []) after ∙ ap (λ o. change (option_map_or (λ (d : DeckView). d.cards) o [])) (sym found.1)
+
+-- a deck of which a card is found stands
+pub standing : (age : ℕ) (l : LibraryView) (n : ℕ) → n < length (cards_of age l) → stands age l ≡ true
+standing age l n h = go (all_decks l) h
+  where
+    go : (ds : List DeckView) → n < length (option_map_or (λ (d : DeckView). d.cards) (find (is_deck age) ds) []) → list_any (is_deck age) ds ≡ true
+    go [] h = absurd (omega arith)
+    go (d ∷ ds) h = one (is_deck age d) refl (go ds)
+      where
+        one : (b : Bool) → is_deck age d ≡ b → (n < length (option_map_or (λ (d : DeckView). d.cards) (find (is_deck age) ds) []) → list_any (is_deck age) ds ≡ true) → list_any (is_deck age) (d ∷ ds) ≡ true
+        one true e rest = rw e refl
+        one false e rest = rw e (rest (rw e at h))
+
+-- ---- a new card
+
+insert_more : (c : CardView) (cards : List CardView) (n : ℕ) → HasMore c cards (insert cards n c)
+insert_more c cards n = record { front = take n cards; back = drop n cards; was = sym (take-append-drop n cards); is = refl }
+
+pub more_with_card : (d behind : ℕ) (c : CardView) (l : LibraryView) → stands d l ≡ true → HasMore c (all_cards l) (all_cards (with_card d behind c l))
+more_with_card d behind c l e =
+    let change : List CardView → List CardView = λ cards. insert cards (length cards - behind) c in
+    subst (λ ds. HasMore c (all_cards l) (flat ds)) (sym (decks_with d change l)) (at_first_more (λ (e : DeckView). e.cards) (is_deck d) (changed change) c (all_decks l) e (λ x. insert_more c x.cards (length x.cards - behind)))
+
+pub more_with_yank : (c : CardView) (l : LibraryView) → HasMore c (all_cards l) (all_cards (with_yank c l))
+more_with_yank c l = record { front = l.yanks; back = flat l.decks; was = refl; is = append_assoc l.yanks (c ∷ []) (flat l.decks) }
+
+pub more_with_deck : (a : ℕ) (c : CardView) (l : LibraryView) → HasMore c (all_cards l) (all_cards (with_deck (record { ident = a; cards = c ∷ [] }) l))
+more_with_deck a c l = more_front c (flat l.decks) (flat (l.decks ++ d ∷ [])) l.yanks (at_end l.decks)
+  where
+    d : DeckView
+    d = record { ident = a; cards = c ∷ [] }
+
+    at_end : (ds : List DeckView) → HasMore c (flat ds) (flat (ds ++ d ∷ []))
+    at_end [] = record { front = []; back = []; was = refl; is = refl }
+    at_end (e ∷ ds) = more_front c (flat ds) (flat (ds ++ d ∷ [])) e.cards (at_end ds)
+
+-- ---- an entry on some cards
+
+abbrev pub IsEntered : Entry → CardView → CardView → Type 0
+IsEntered e x y = (y ≡ x) ⊎ (y ≡ entered e x)
+
+pub entered_some : (e : Entry) (from to : ℕ) (cards : List CardView) → from ≤ to → AllZip (IsEntered e) cards (take from cards ++ map (entered e) (drop from (take to cards)) ++ drop to cards)
+entered_some e zero zero cards h = zip_same (IsEntered e) (λ c. inl refl) cards
+entered_some e zero (suc to) [] h = tt
+entered_some e zero (suc to) (c ∷ cards) h = (inr refl, entered_some e zero to cards (omega arith))
+entered_some e (suc from) zero cards h = absurd (omega arith)
+entered_some e (suc from) (suc to) [] h = tt
+entered_some e (suc from) (suc to) (c ∷ cards) h = (inl refl, entered_some e from to cards (omega arith))
+
+pub zip_with_entries : (d from to : ℕ) (e : Entry) (l : LibraryView) → from ≤ to → AllZip (IsEntered e) (all_cards l) (all_cards (with_entries d from to e l))
+zip_with_entries d from to e l h =
+    let change : List CardView → List CardView = λ cards. take from cards ++ map (entered e) (drop from (take (to + 1) cards)) ++ drop (to + 1) cards in
+    subst (λ ds. AllZip (IsEntered e) (all_cards l) (flat ds)) (sym (decks_with d change l))
+    (at_first_zip (IsEntered e) (λ (x : DeckView). x.cards) (is_deck d) (changed change) (all_decks l) (λ c. inl refl) (λ x. entered_some e from (to + 1) x.cards (omega arith)))
+
+-- ---- a purge
+
+pub all_without : (P : CardView → Type 0) (gone : ℕ → Bool) (cards : List CardView) → ((c : CardView) → gone c.ident ≡ false → P c → P (without_entries gone c)) → AllByRecursion P cards → AllByRecursion P (without_idents gone cards)
+all_without P gone [] k all = tt
+all_without P gone (c ∷ cards) k all = go (gone c.ident) refl (all_without P gone cards k all.1)
+  where
+    go : (b : Bool) → gone c.ident ≡ b → AllByRecursion P (without_idents gone cards) → AllByRecursion P (without_idents gone (c ∷ cards))
+    go true e rest = rw e rest
+    go false e rest = rw e (k c e all.0, rest)
+
+pub keys_without : (gone : ℕ → Bool) (cards : List CardView) → IsPart key_of cards (without_idents gone cards)
+keys_without gone [] = none
+keys_without gone (c ∷ cards) = go (gone c.ident) refl (keys_without gone cards)
+  where
+    go : (b : Bool) → gone c.ident ≡ b → IsPart key_of cards (without_idents gone cards) → IsPart key_of (c ∷ cards) (without_idents gone (c ∷ cards))
+    go true e rest = rw e (fewer rest)
+    go false e rest = rw e (kept refl rest)
+
+pub keys_decks : (gone : ℕ → Bool) (ds : List DeckView) → IsPart key_of (flat ds) (flat (decks_without gone ds))
+keys_decks gone [] = none
+keys_decks gone (d ∷ ds) = go (gone d.ident) refl (keys_decks gone ds)
+  where
+    go : (b : Bool) → gone d.ident ≡ b → IsPart key_of (flat ds) (flat (decks_without gone ds)) → IsPart key_of (flat (d ∷ ds)) (flat (decks_without gone (d ∷ ds)))
+    go true e rest = rw e (part_without key_of d.cards rest)
+    go false e rest = rw e (part_append key_of (keys_without gone d.cards) rest)
+
+pub ages_decks : (gone : ℕ → Bool) (ds : List DeckView) → IsPart (λ (d : DeckView). d.ident) ds (decks_without gone ds)
+ages_decks gone [] = none
+ages_decks gone (d ∷ ds) = go (gone d.ident) refl (ages_decks gone ds)
+  where
+    go : (b : Bool) → gone d.ident ≡ b → IsPart (λ (d : DeckView). d.ident) ds (decks_without gone ds) → IsPart (λ (d : DeckView). d.ident) (d ∷ ds) (decks_without gone (d ∷ ds))
+    go true e rest = rw e (fewer rest)
+    go false e rest = rw e (kept refl rest)
+
+pub all_decks_without : (P Q : DeckView → Type 0) (gone : ℕ → Bool) (ds : List DeckView) → ((d : DeckView) → gone d.ident ≡ false → P d → Q (deck_without gone d)) → AllByRecursion P ds → AllByRecursion Q (decks_without gone ds)
+all_decks_without P Q gone [] k all = tt
+all_decks_without P Q gone (d ∷ ds) k all = go (gone d.ident) refl (all_decks_without P Q gone ds k all.1)
+  where
+    go : (b : Bool) → gone d.ident ≡ b → AllByRecursion Q (decks_without gone ds) → AllByRecursion Q (decks_without gone (d ∷ ds))
+    go true e rest = rw e rest
+    go false e rest = rw e (k d e all.0, rest)
+
+-- cards are of held idents after a purge, too
+pub held_without : (gone : ℕ → Bool) (idents : List Ident) (cards : List CardView) → AllByRecursion (IsOfHeld idents) cards → AllByRecursion (IsOfHeld (map (unheld gone) idents)) (without_idents gone cards)
+held_without gone idents [] all = tt
+held_without gone idents (c ∷ cards) all = go (gone c.ident) refl (held_without gone idents cards all.1)
+  where
+    After : CardView → Type 0
+    After = IsOfHeld (map (unheld gone) idents)
+
+    entries : (es : List Entry) → AllByRecursion (λ e. IsTrue (is_held idents e.ident)) es → AllByRecursion (λ e. IsTrue (is_held (map (unheld gone) idents) e.ident)) (filter (λ e. not (gone e.ident)) es)
+    entries [] held = tt
+    entries (e ∷ es) held = one (gone e.ident) refl (entries es held.1)
+      where
+        one : (b : Bool) → gone e.ident ≡ b → AllByRecursion (λ e. IsTrue (is_held (map (unheld gone) idents) e.ident)) (filter (λ e. not (gone e.ident)) es) → AllByRecursion (λ e. IsTrue (is_held (map (unheld gone) idents) e.ident)) (filter (λ e. not (gone e.ident)) (e ∷ es))
+        one true f rest = rw f rest
+        one false f rest = rw f (held_still gone idents e.ident f held.0, rest)
+
+    go : (b : Bool) → gone c.ident ≡ b → AllByRecursion After (without_idents gone cards) → AllByRecursion After (without_idents gone (c ∷ cards))
+    go true e rest = rw e rest
+    go false e rest = rw e ((held_still gone idents c.ident e all.0.0, entries c.history all.0.1), rest)
+
+-- the first card of a deck stays where its ident does
+pub first_without : (gone : ℕ → Bool) (d : DeckView) → gone d.ident ≡ false → BeginsWithItsOwn d → BeginsWithItsOwn (record d { cards = without_idents gone d.cards })
+first_without gone d e first = go d.cards first
+  where
+    go : (cards : List CardView) → BeginsWithItsOwn (record d { cards = cards }) → BeginsWithItsOwn (record d { cards = without_idents gone cards })
+    go [] first = absurd first
+    go (c ∷ cards) first = let f : gone c.ident ≡ false = ap gone first.0 ∙ e in rw f first

@@ -1,0 +1,210 @@
+-- Each edit keeps a library sound.
+use Rattle.std.proofs.Common.{◌≡◌, ℕ, zero, suc, ◌+◌, ◌-◌, ◌<◌, ◌≤◌, Bool, true, false, cond, not, List, [], ◌∷◌, ◌++◌, map, length, take, drop, inl, inr, refl, sym, ap, ◌∙◌, subst, arith, append-nil}
+use Rattle.std.proofs.lemmas.Bool.{ne_eqb}
+use Rattle.std.specs.Prelude.{Some, None, ◌==◌, ◌⊎◌, insert, IsTrue}
+use Rattle.std.specs.Option.{option_map_or}
+use Rattle.std.specs.List.{find, AllByRecursion, AllZip}
+use Rattle.upd_core.specs.declared.card.Entry.{Entry}
+use Rattle.upd_core.specs.declared.ident.Ident.{Ident}
+use Rattle.upd_core.specs.declared.ident.Kind.{Kind}
+use Rattle.upd_core.specs.declared.target.Target.{Target}
+use Rattle.upd_core.specs.Edits.{introduced, next_age, new_card, unheld, entered, without_entries, without_idents, decks_without, with_card, with_deck, with_yank, with_entries, purged, purged_in}
+use Rattle.upd_core.specs.First.{at_first}
+use Rattle.upd_core.specs.Library.{CardView, DeckView, LibraryView, all_decks, cards_of, held_named, is_deck, with_cards}
+use Rattle.upd_core.specs.Sound.{AreApart, is_held, is_held_deck, BeginsWithItsOwn, IsOfHeld, key_of, all_cards, IsSound}
+use Rattle.upd_core.specs.Status.{IsAged}
+use Rattle.upd_laws.specs.Soundness.{stands}
+use Rattle.upd_laws.proofs.SoundLists.{same_number, other_number, all_append, all_front, all_back, all_weaker, all_filter, all_flat, all_each, more_all, more_apart, IsPart, none, kept, part_apart, part_append, zip_all, zip_part, at_first_all, at_first_map, at_first_part, find_passes}
+use Rattle.upd_laws.proofs.SoundIdents.{ages_end, ages_unheld, held_within, held_more, held_deck_more, held_deck_held, held_deck_still, names_end, names_unheld}
+use Rattle.upd_laws.proofs.SoundCards.{flat, changed, decks_with, more_with_card, more_with_yank, more_with_deck, IsEntered, entered_some, zip_with_entries, all_without, keys_without, keys_decks, ages_decks, all_decks_without, held_without, first_without}
+use Rattle.upd_laws.proofs.SoundYanks.{aged_end, same_ident, same_number_of, same_targets, aged_entered, aged_without, AreYanked}
+
+-- no card is of an ident that isn't in the directory
+pub none_beyond : (l : LibraryView) → IsSound l → AllByRecursion (λ c. c.ident ≤ length l.idents) (all_cards l)
+none_beyond l s = all_weaker (IsOfHeld l.idents) _ (all_cards l) (λ c h. let w = held_within 1 l.idents c.ident s.ages h.0 in omega arith) s.cards
+
+of_held_more : (idents more : List Ident) (c : CardView) → IsOfHeld idents c → IsOfHeld (idents ++ more) c
+of_held_more idents more c h = (held_more idents more c.ident h.0, all_weaker (λ (e : Entry). IsTrue (is_held idents e.ident)) _ c.history (λ e f. held_more idents more e.ident f) h.1)
+
+pub introduced_sound : (name : List ℕ) (kind : Kind) (noprop : Bool) (l : LibraryView) → IsSound l → held_named name l.idents ≡ None → IsSound (introduced name kind noprop l)
+introduced_sound name kind noprop l s free =
+    let i : Ident = record { name = name; age = next_age l; kind = kind; noprop = noprop; held = true } in
+    record {
+      ages = ages_end 1 l.idents i s.ages refl;
+      names = names_end l.idents i refl free s.names;
+      decks = all_weaker (λ (d : DeckView). IsTrue (is_held_deck l.idents d.ident)) _ l.decks (λ d h. held_deck_more l.idents (i ∷ []) d.ident h) s.decks;
+      deck_ages = s.deck_ages;
+      firsts = s.firsts;
+      cards = all_weaker (IsOfHeld l.idents) _ (all_cards l) (λ c h. of_held_more l.idents (i ∷ []) c h) s.cards;
+      keys = s.keys;
+      yanks = s.yanks;
+      targets = s.targets;
+    }
+
+-- a new deck of a held ident that is younger than all decks and cards
+pub deck_sound : (a : ℕ) (text : List ℕ) (l : LibraryView) → IsSound l → IsTrue (is_held_deck l.idents a) → 0 < a → AllByRecursion (λ (d : DeckView). d.ident < a) l.decks → AllByRecursion (λ c. c.ident < a) (all_cards l)
+    → IsSound (with_deck (record { ident = a; cards = new_card a 1 text [] ∷ [] }) l)
+deck_sound a text l s held positive decks cards =
+    let c : CardView = new_card a 1 text [] in
+    let d : DeckView = record { ident = a; cards = c ∷ [] } in
+    let more = more_with_deck a c l in
+    record {
+      ages = s.ages;
+      names = s.names;
+      decks = all_append (λ (d : DeckView). IsTrue (is_held_deck l.idents d.ident)) l.decks (d ∷ []) s.decks (held, tt);
+      deck_ages = more_apart (λ (d : DeckView). d.ident) d (all_decks l) (all_decks l ++ d ∷ []) (record { front = all_decks l; back = []; was = sym (append-nil (all_decks l)); is = refl })
+          ((λ same. omega arith), all_weaker (λ (d : DeckView). d.ident < a) (λ d. a ≡ d.ident → ⊥) l.decks (λ d h same. absurd (omega arith)) decks) s.deck_ages;
+      firsts = all_append BeginsWithItsOwn l.decks (d ∷ []) s.firsts ((refl, refl), tt);
+      cards = more_all (IsOfHeld l.idents) c (all_cards l) _ more (held_deck_held l.idents a held, (held_deck_held l.idents a held, tt)) s.cards;
+      keys = more_apart key_of c (all_cards l) _ more (all_weaker (λ (b : CardView). b.ident < a) _ (all_cards l) (λ b h same. let e = ap (λ (p : ℕ × ℕ). p.0) same in absurd (omega arith)) cards) s.keys;
+      yanks = s.yanks;
+      targets = s.targets;
+    }
+
+-- the cards of one deck changed, where the parts that speak of cards hold
+with_cards_sound : (age : ℕ) (change : List CardView → List CardView) (l : LibraryView) → IsSound l
+    → AllByRecursion (IsOfHeld l.idents) (all_cards (with_cards age change l)) → AreApart (map key_of (all_cards (with_cards age change l)))
+    → ((d : DeckView) → find (is_deck age) (all_decks l) ≡ Some d → BeginsWithItsOwn d → BeginsWithItsOwn (changed change d))
+    → (age ≡ 0 → IsAged (change l.yanks)) → (age ≡ 0 → AllByRecursion (λ c. AreApart c.targets) (change l.yanks)) → IsSound (with_cards age change l)
+with_cards_sound age change l s cards keys firsts yanks targets = go (age == 0) refl cards keys
+  where
+    after : Bool → LibraryView
+    after b = cond b (record l { yanks = change l.yanks }) (record l { decks = at_first (is_deck age) (changed change) l.decks })
+
+    go : (b : Bool) → (age == 0) ≡ b → AllByRecursion (IsOfHeld l.idents) (all_cards (after b)) → AreApart (map key_of (all_cards (after b))) → IsSound (after b)
+    go true e cards keys = record {
+      ages = s.ages;
+      names = s.names;
+      decks = s.decks;
+      deck_ages = s.deck_ages;
+      firsts = s.firsts;
+      cards = cards;
+      keys = keys;
+      yanks = yanks (same_number age 0 e);
+      targets = targets (same_number age 0 e);
+    }
+    go false e cards keys =
+        let front : is_deck age (record { ident = 0; cards = l.yanks }) ≡ false = ne_eqb 0 age (λ same. other_number age 0 e (sym same)) in
+        record {
+          ages = s.ages;
+          names = s.names;
+          decks = at_first_all (is_deck age) (changed change) (λ d. IsTrue (is_held_deck l.idents d.ident)) l.decks (λ d f h. h) s.decks;
+          deck_ages = rw (at_first_map (λ (d : DeckView). d.ident) (is_deck age) (changed change) l.decks (λ d. refl)) s.deck_ages;
+          firsts = at_first_all (is_deck age) (changed change) BeginsWithItsOwn l.decks (λ d f h. firsts d (rw front f) h) s.firsts;
+          cards = cards;
+          keys = keys;
+          yanks = s.yanks;
+          targets = s.targets;
+        }
+
+-- what a new card must be: of a held ident, and its number new
+pub record IsNew (c : CardView) (l : LibraryView) : Type 0 where
+  pub held : IsOfHeld l.idents c
+  pub key : AllByRecursion (λ b. key_of c ≡ key_of b → ⊥) (all_cards l)
+
+-- text behind the first card of a deck
+pub card_sound : (d behind : ℕ) (c : CardView) (l : LibraryView) → IsSound l → stands d l ≡ true → (d ≡ 0 → ⊥) → IsNew c l → (behind ≡ 0) ⊎ (behind < length (cards_of d l)) → IsSound (with_card d behind c l)
+card_sound d behind c l s standing other new place =
+    let more = more_with_card d behind c l standing in
+    with_cards_sound d (λ cards. insert cards (length cards - behind) c) l s
+    (more_all (IsOfHeld l.idents) c (all_cards l) _ more new.held s.cards)
+    (more_apart key_of c (all_cards l) _ more new.key s.keys)
+    (λ e f first. first_kept e (within e f) first)
+    (λ e. absurd (other e)) (λ e. absurd (other e))
+  where
+    within : (e : DeckView) → find (is_deck d) (all_decks l) ≡ Some e → (behind ≡ 0) ⊎ (behind < length e.cards)
+    within e f = elim place [ inl a ↦ inl a | inr b ↦ inr (subst (λ o. behind < length (option_map_or (λ (d : DeckView). d.cards) o [])) f b) ]
+
+    at : (ident : ℕ) (cards : List CardView) (n : ℕ) → 0 < n → BeginsWithItsOwn (record { ident = ident; cards = cards }) → BeginsWithItsOwn (record { ident = ident; cards = insert cards n c })
+    at ident [] n positive first = absurd first
+    at ident (b ∷ cards) zero positive first = absurd (omega arith)
+    at ident (b ∷ cards) (suc n) positive first = first
+
+    some : (ident : ℕ) (cards : List CardView) → BeginsWithItsOwn (record { ident = ident; cards = cards }) → 0 < length cards
+    some ident [] first = absurd first
+    some ident (b ∷ cards) first = omega arith
+
+    first_kept : (e : DeckView) → (behind ≡ 0) ⊎ (behind < length e.cards) → BeginsWithItsOwn e → BeginsWithItsOwn (changed (λ cards. insert cards (length cards - behind) c) e)
+    first_kept e (inl a) first = let b = some e.ident e.cards first in at e.ident e.cards (length e.cards - behind) (omega arith) first
+    first_kept e (inr b) first = at e.ident e.cards (length e.cards - behind) (omega arith) first
+
+pub yank_sound : (z n : ℕ) (text : List ℕ) (targets : List Target) (l : LibraryView) → IsSound l → IsNew (new_card z n text targets) l → AllByRecursion (λ c. c.ident ≤ z) l.yanks → AreYanked z targets → IsSound (with_yank (new_card z n text targets) l)
+yank_sound z n text targets l s new young yanked =
+    let c : CardView = new_card z n text targets in
+    let more = more_with_yank c l in
+    record {
+      ages = s.ages;
+      names = s.names;
+      decks = s.decks;
+      deck_ages = s.deck_ages;
+      firsts = s.firsts;
+      cards = more_all (IsOfHeld l.idents) c (all_cards l) _ more new.held s.cards;
+      keys = more_apart key_of c (all_cards l) _ more new.key s.keys;
+      yanks = aged_end z n text targets l.yanks yanked.older young s.yanks;
+      targets = all_append (λ (b : CardView). AreApart b.targets) l.yanks (c ∷ []) s.targets (yanked.apart, tt);
+    }
+
+same_key : (e : Entry) (x y : CardView) → IsEntered e x y → key_of y ≡ key_of x
+same_key e x y r = let a = same_ident e x y r in let b = same_number_of e x y r in rw (a, b) refl
+
+entered_held : (idents : List Ident) (e : Entry) (x y : CardView) → IsTrue (is_held idents e.ident) → IsEntered e x y → IsOfHeld idents x → IsOfHeld idents y
+entered_held idents e x y held (inl same) h = subst (IsOfHeld idents) (sym same) h
+entered_held idents e x y held (inr same) h = subst (IsOfHeld idents) (sym same) (h.0, all_append (λ (f : Entry). IsTrue (is_held idents f.ident)) x.history (e ∷ []) h.1 (held, tt))
+
+-- entries of a held ident that is as young as any of `YANK$$$`
+pub entries_sound : (d from to : ℕ) (e : Entry) (l : LibraryView) → IsSound l → from ≤ to → IsTrue (is_held l.idents e.ident) → AllByRecursion (λ c. c.ident ≤ e.ident) l.yanks → IsSound (with_entries d from to e l)
+entries_sound d from to e l s order held young =
+    let zip = zip_with_entries d from to e l order in
+    let some : (cards : List CardView) → AllZip (IsEntered e) cards (take from cards ++ map (entered e) (drop from (take (to + 1) cards)) ++ drop (to + 1) cards) = λ cards. entered_some e from (to + 1) cards (omega arith) in
+    with_cards_sound d (λ cards. take from cards ++ map (entered e) (drop from (take (to + 1) cards)) ++ drop (to + 1) cards) l s
+    (zip_all (IsEntered e) (IsOfHeld l.idents) (IsOfHeld l.idents) (all_cards l) _ (λ x y r h. entered_held l.idents e x y held r h) zip s.cards)
+    (part_apart key_of (zip_part (IsEntered e) key_of (all_cards l) _ (same_key e) zip) s.keys)
+    (λ x f first. first_entered e x.ident x.cards _ (some x.cards) first)
+    (λ zero. aged_entered e l.yanks _ (some l.yanks) young s.yanks)
+    (λ zero. zip_all (IsEntered e) (λ (c : CardView). AreApart c.targets) (λ c. AreApart c.targets) l.yanks _ (λ x y r h. subst AreApart (sym (same_targets e x y r)) h) (some l.yanks) s.targets)
+  where
+    first_entered : (e : Entry) (ident : ℕ) (xs ys : List CardView) → AllZip (IsEntered e) xs ys → BeginsWithItsOwn (record { ident = ident; cards = xs }) → BeginsWithItsOwn (record { ident = ident; cards = ys })
+    first_entered e ident [] ys zip first = absurd first
+    first_entered e ident (x ∷ xs) [] zip first = absurd zip
+    first_entered e ident (x ∷ xs) (y ∷ ys) zip first = (same_ident e x y zip.0 ∙ first.0, same_number_of e x y zip.0 ∙ first.1)
+
+yanks_stay : (gone : ℕ → Bool) (l : LibraryView) → IsPart (λ (d : DeckView). d.ident) (record { ident = 0; cards = l.yanks } ∷ []) (record { ident = 0; cards = without_idents gone l.yanks } ∷ [])
+yanks_stay gone l = kept refl none
+
+-- a purge of any idents
+pub purged_sound : (gone : ℕ → Bool) (l : LibraryView) → IsSound l → IsSound (purged gone l)
+purged_sound gone l s = record {
+  ages = ages_unheld gone 1 l.idents s.ages;
+  names = part_apart (λ (i : Ident). i.name) (names_unheld gone l.idents) s.names;
+  decks = all_decks_without (λ d. IsTrue (is_held_deck l.idents d.ident)) _ gone l.decks (λ d e h. held_deck_still gone l.idents d.ident e h) s.decks;
+  deck_ages = part_apart (λ (d : DeckView). d.ident) (part_append (λ (d : DeckView). d.ident) (yanks_stay gone l) (ages_decks gone l.decks)) s.deck_ages;
+  firsts = all_decks_without BeginsWithItsOwn BeginsWithItsOwn gone l.decks (λ d e h. first_without gone d e h) s.firsts;
+  cards = all_append (IsOfHeld (map (unheld gone) l.idents)) (without_idents gone l.yanks) (flat (decks_without gone l.decks))
+      (held_without gone l.idents l.yanks (all_front (IsOfHeld l.idents) l.yanks (flat l.decks) s.cards))
+      (all_flat (IsOfHeld (map (unheld gone) l.idents)) (λ (d : DeckView). d.cards) (decks_without gone l.decks)
+      (all_decks_without (λ (d : DeckView). AllByRecursion (IsOfHeld l.idents) d.cards) _ gone l.decks (λ d e h. held_without gone l.idents d.cards h)
+      (all_each (IsOfHeld l.idents) (λ (d : DeckView). d.cards) l.decks (all_back (IsOfHeld l.idents) l.yanks (flat l.decks) s.cards))));
+  keys = part_apart key_of (part_append key_of (keys_without gone l.yanks) (keys_decks gone l.decks)) s.keys;
+  yanks = aged_without gone l.yanks s.yanks;
+  targets = all_without (λ (c : CardView). AreApart c.targets) gone l.yanks (λ c e h. h) s.targets;
+}
+
+-- a purge of one ident in a deck of another
+pub purged_in_sound : (d z : ℕ) (l : LibraryView) → (z ≡ d → ⊥) → IsSound l → IsSound (purged_in d z l)
+purged_in_sound d z l other s =
+    with_cards_sound d (without_idents (λ x. x == z)) l s
+    (subst (λ ds. AllByRecursion (IsOfHeld l.idents) (flat ds)) (sym (decks_with d (without_idents (λ x. x == z)) l))
+    (all_flat (IsOfHeld l.idents) (λ (e : DeckView). e.cards) _
+    (at_first_all (is_deck d) (changed (without_idents (λ x. x == z))) (λ e. AllByRecursion (IsOfHeld l.idents) e.cards) (all_decks l) (λ e f h. all_without (IsOfHeld l.idents) (λ x. x == z) e.cards held h)
+    (all_each (IsOfHeld l.idents) (λ (e : DeckView). e.cards) (all_decks l) s.cards))))
+    (part_apart key_of (subst (λ ds. IsPart key_of (all_cards l) (flat ds)) (sym (decks_with d (without_idents (λ x. x == z)) l))
+    (at_first_part key_of (λ (e : DeckView). e.cards) (is_deck d) (changed (without_idents (λ x. x == z))) (all_decks l) (λ e. keys_without (λ x. x == z) e.cards))) s.keys)
+    (λ e f first. first_without (λ x. x == z) e (ne_eqb e.ident z (λ same. other (sym same ∙ found_age e f))) first)
+    (λ e. aged_without (λ x. x == z) l.yanks s.yanks)
+    (λ e. all_without (λ (c : CardView). AreApart c.targets) (λ x. x == z) l.yanks (λ c f h. h) s.targets)
+  where
+    held : (c : CardView) → (c.ident == z) ≡ false → IsOfHeld l.idents c → IsOfHeld l.idents (without_entries (λ x. x == z) c)
+    held c e h = (h.0, all_filter (λ (e : Entry). IsTrue (is_held l.idents e.ident)) (λ e. not (e.ident == z)) c.history h.1)
+
+    found_age : (e : DeckView) → find (is_deck d) (all_decks l) ≡ Some e → e.ident ≡ d
+    found_age e f = same_number e.ident d (find_passes (is_deck d) (all_decks l) e f)

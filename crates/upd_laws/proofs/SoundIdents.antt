@@ -1,0 +1,148 @@
+-- The directory: its ages, the names that are held, who is held, and how it goes on.
+use Rattle.std.proofs.Common.{◌≡◌, ℕ, ◌+◌, ◌<◌, ◌≤◌, Bool, true, false, cond, not, ◌&&◌, List, [], ◌∷◌, ◌++◌, map, length, inl, inr, refl, sym, ap, ◌∙◌, subst, arith}
+use Rattle.std.proofs.lemmas.List.Elements.{filter-append}
+use Rattle.std.proofs.lemmas.Slice.Eq.{bytes_eq-Decides}
+use Rattle.std.specs.Prelude.{Option, Some, None, is_some, ◌==◌, ◌⊎◌}
+use Rattle.std.specs.Str.{bytes_eq}
+use Rattle.std.specs.List.{filter, AllByRecursion}
+use Rattle.upd_core.specs.declared.ident.Ident.{Ident}
+use Rattle.upd_core.specs.Edits.{unheld}
+use Rattle.upd_core.specs.Library.{held_named, is_deck_kind}
+use Rattle.upd_core.specs.Sound.{AreApart, AreAgedFrom, is_held, is_held_deck, Continues}
+use Rattle.upd_laws.proofs.SoundLists.{and_left, and_right, both, or_cases, same_number, is_same_number, apart_end, all_map, IsPart, none, fewer, kept, any_front, any_last, any_mapped, any_weaker}
+
+-- ---- ages
+
+pub ages_end : (n : ℕ) (idents : List Ident) (i : Ident) → AreAgedFrom n idents → i.age ≡ length idents + n → AreAgedFrom n (idents ++ i ∷ [])
+ages_end n [] i ages e = (omega arith, tt)
+ages_end n (j ∷ idents) i ages e = (ages.0, ages_end (n + 1) idents i ages.1 (omega arith))
+
+pub ages_unheld : (gone : ℕ → Bool) (n : ℕ) (idents : List Ident) → AreAgedFrom n idents → AreAgedFrom n (map (unheld gone) idents)
+ages_unheld gone n [] ages = tt
+ages_unheld gone n (i ∷ idents) ages = (ages.0, ages_unheld gone (n + 1) idents ages.1)
+
+-- a held ident is as old as its place
+pub held_within : (n : ℕ) (idents : List Ident) (z : ℕ) → AreAgedFrom n idents → is_held idents z ≡ true → (n ≤ z) × (z < n + length idents)
+held_within n [] z ages e = absurd (cc)
+held_within n (i ∷ idents) z ages e = go (or_cases (i.held && (i.age == z)) (is_held idents z) e) (held_within (n + 1) idents z ages.1)
+  where
+    go : ((i.held && (i.age == z)) ≡ true) ⊎ (is_held idents z ≡ true) → (is_held idents z ≡ true → (n + 1 ≤ z) × (z < (n + 1) + length idents)) → (n ≤ z) × (z < n + length (i ∷ idents))
+    go (inl f) rest = let same = same_number i.age z (and_right i.held (i.age == z) f) in (omega (arith, ages.0), omega (arith, ages.0))
+    go (inr f) rest = let r = rest f in (omega arith, omega arith)
+
+-- ---- who is held
+
+pub held_more : (idents more : List Ident) (z : ℕ) → is_held idents z ≡ true → is_held (idents ++ more) z ≡ true
+held_more idents more z e = any_front _ idents more e
+
+pub held_deck_more : (idents more : List Ident) (z : ℕ) → is_held_deck idents z ≡ true → is_held_deck (idents ++ more) z ≡ true
+held_deck_more idents more z e = any_front _ idents more e
+
+pub held_last : (idents : List Ident) (i : Ident) → i.held ≡ true → is_held (idents ++ i ∷ []) i.age ≡ true
+held_last idents i e = any_last _ idents i (both i.held (i.age == i.age) e (is_same_number i.age i.age refl))
+
+pub held_deck_last : (idents : List Ident) (i : Ident) → i.held ≡ true → is_deck_kind i.kind ≡ true → is_held_deck (idents ++ i ∷ []) i.age ≡ true
+held_deck_last idents i e k = any_last _ idents i (rw (e, k, is_same_number i.age i.age refl) refl)
+
+pub held_deck_held : (idents : List Ident) (z : ℕ) → is_held_deck idents z ≡ true → is_held idents z ≡ true
+held_deck_held idents z e = any_weaker _ _ idents (λ i f. go i f) e
+  where
+    go : (i : Ident) → (i.held && is_deck_kind i.kind && (i.age == z)) ≡ true → (i.held && (i.age == z)) ≡ true
+    go i f =
+        let deck = and_left (i.held && is_deck_kind i.kind) (i.age == z) f in
+        both i.held (i.age == z) (and_left i.held (is_deck_kind i.kind) deck) (and_right (i.held && is_deck_kind i.kind) (i.age == z) f)
+
+pub held_still : (gone : ℕ → Bool) (idents : List Ident) (z : ℕ) → gone z ≡ false → is_held idents z ≡ true → is_held (map (unheld gone) idents) z ≡ true
+held_still gone idents z stays e = any_mapped _ _ (unheld gone) idents (λ i f. go i f) e
+  where
+    go : (i : Ident) → (i.held && (i.age == z)) ≡ true → ((i.held && not (gone i.age)) && (i.age == z)) ≡ true
+    go i f =
+        let same : i.age ≡ z = same_number i.age z (and_right i.held (i.age == z) f) in
+        rw (and_left i.held (i.age == z) f, same, stays, is_same_number z z refl) refl
+
+pub held_deck_still : (gone : ℕ → Bool) (idents : List Ident) (z : ℕ) → gone z ≡ false → is_held_deck idents z ≡ true → is_held_deck (map (unheld gone) idents) z ≡ true
+held_deck_still gone idents z stays e = any_mapped _ _ (unheld gone) idents (λ i f. go i f) e
+  where
+    go : (i : Ident) → (i.held && is_deck_kind i.kind && (i.age == z)) ≡ true → ((i.held && not (gone i.age)) && is_deck_kind i.kind && (i.age == z)) ≡ true
+    go i f =
+        let deck = and_left (i.held && is_deck_kind i.kind) (i.age == z) f in
+        let same : i.age ≡ z = same_number i.age z (and_right (i.held && is_deck_kind i.kind) (i.age == z) f) in
+        rw (and_left i.held (is_deck_kind i.kind) deck, and_right i.held (is_deck_kind i.kind) deck, same, stays, is_same_number z z refl) refl
+
+-- ---- names
+
+pub not_some : {A : Type 0} (o : Option A) → is_some o ≡ false → o ≡ None
+not_some None e = refl
+not_some (Some x) e = absurd (cc)
+
+unnamed : (name : List ℕ) (idents : List Ident) → held_named name idents ≡ None → AllByRecursion (λ i. name ≡ i.name → ⊥) (filter (λ i. i.held) idents)
+unnamed name [] e = tt
+unnamed name (i ∷ idents) e = go i.held refl (bytes_eq i.name name) refl (unnamed name idents)
+  where
+    Rest : Type 0
+    Rest = held_named name idents ≡ None → AllByRecursion (λ i. name ≡ i.name → ⊥) (filter (λ i. i.held) idents)
+
+    go : (h : Bool) → i.held ≡ h → (b : Bool) → bytes_eq i.name name ≡ b → Rest → AllByRecursion (λ i. name ≡ i.name → ⊥) (filter (λ i. i.held) (i ∷ idents))
+    go false f b g rest = let later = rw f at e in rw f (rest later)
+    go true f true g rest = let found = rw (f, g) at e in absurd (cc)
+    go true f false g rest = let later = rw (f, g) at e in rw f ((λ same. let is : bytes_eq i.name name ≡ true = (bytes_eq-Decides i.name name).1 (sym same) in absurd (cc)), rest later)
+
+pub names_end : (idents : List Ident) (i : Ident) → i.held ≡ true → held_named i.name idents ≡ None → AreApart (map (λ i. i.name) (filter (λ i. i.held) idents)) → AreApart (map (λ i. i.name) (filter (λ i. i.held) (idents ++ i ∷ [])))
+names_end idents i held free apart = subst AreApart (sym whole) (apart_end i.name _ apart (all_map _ (λ (j : Ident). j.name) _ (unnamed i.name idents free)))
+  where
+    name : Ident → List ℕ
+    name j = j.name
+
+    mapped : (xs : List Ident) → map name (xs ++ i ∷ []) ≡ map name xs ++ i.name ∷ []
+    mapped [] = refl
+    mapped (x ∷ xs) = ap (λ l. x.name ∷ l) (mapped xs)
+
+    whole : map name (filter (λ j. j.held) (idents ++ i ∷ [])) ≡ map name (filter (λ j. j.held) idents) ++ i.name ∷ []
+    whole = ap (map name) (filter-append (λ (j : Ident). j.held) idents (i ∷ []) ∙ ap (λ b. filter (λ (j : Ident). j.held) idents ++ cond b (i ∷ []) []) held) ∙ mapped (filter (λ j. j.held) idents)
+
+pub names_unheld : (gone : ℕ → Bool) (idents : List Ident) → IsPart (λ (i : Ident). i.name) (filter (λ i. i.held) idents) (filter (λ i. i.held) (map (unheld gone) idents))
+names_unheld gone [] = none
+names_unheld gone (i ∷ idents) = go i.held refl (gone i.age) refl (names_unheld gone idents)
+  where
+    go : (h : Bool) → i.held ≡ h → (b : Bool) → gone i.age ≡ b → IsPart (λ (i : Ident). i.name) (filter (λ i. i.held) idents) (filter (λ i. i.held) (map (unheld gone) idents))
+        → IsPart (λ (i : Ident). i.name) (filter (λ i. i.held) (i ∷ idents)) (filter (λ i. i.held) (map (unheld gone) (i ∷ idents)))
+    go false f b g rest = rw f rest
+    go true f true g rest = rw (f, g) (fewer rest)
+    go true f false g rest = rw (f, g) (kept refl rest)
+
+-- ---- how it goes on
+
+pub continues_more : (idents more : List Ident) → Continues idents (idents ++ more)
+continues_more [] more = tt
+continues_more (i ∷ idents) more = (inl refl, continues_more idents more)
+
+pub continues_same : (idents : List Ident) → Continues idents idents
+continues_same [] = tt
+continues_same (i ∷ idents) = (inl refl, continues_same idents)
+
+pub continues_unheld : (gone : ℕ → Bool) (idents : List Ident) → Continues idents (map (unheld gone) idents)
+continues_unheld gone [] = tt
+continues_unheld gone (i ∷ idents) = (go i.held refl (not (gone i.age)), continues_unheld gone idents)
+  where
+    with_held : Bool → Ident
+    with_held h = record i { held = h }
+
+    go : (h : Bool) → i.held ≡ h → (b : Bool) → (with_held (i.held && b) ≡ i) ⊎ (with_held (i.held && b) ≡ with_held false)
+    go false f b = inr (ap (λ h. with_held (h && b)) f)
+    go true f true = inl (ap (λ h. with_held (h && true)) f ∙ ap with_held (sym f))
+    go true f false = inr (ap (λ h. with_held (h && false)) f)
+
+pub continues_on : (a b c : List Ident) → Continues a b → Continues b c → Continues a c
+continues_on [] b c p q = tt
+continues_on (i ∷ a) [] c p q = absurd p
+continues_on (i ∷ a) (j ∷ b) [] p q = absurd q
+continues_on (i ∷ a) (j ∷ b) (k ∷ c) p q = (one p.0 q.0, continues_on a b c p.1 q.1)
+  where
+    off : Ident → Ident
+    off i = record i { held = false }
+
+    one : (j ≡ i) ⊎ (j ≡ off i) → (k ≡ j) ⊎ (k ≡ off j) → (k ≡ i) ⊎ (k ≡ off i)
+    one (inl e) (inl f) = inl (f ∙ e)
+    one (inl e) (inr f) = inr (f ∙ ap off e)
+    one (inr e) (inl f) = inr (f ∙ e)
+    one (inr e) (inr f) = inr (f ∙ ap off e)

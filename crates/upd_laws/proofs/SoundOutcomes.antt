@@ -1,0 +1,35 @@
+-- What is known where a step goes through.
+use Rattle.std.proofs.Common.{◌≡◌, Bool, true, false, refl, subst}
+use Rattle.std.specs.Prelude.{Option, Some, None, Result, Ok, Err}
+use Rattle.upd_core.specs.declared.fault.FaultKind.{FaultKind}
+use Rattle.upd_core.specs.Library.{LibraryView}
+use Rattle.upd_core.specs.Limits.{is_within_limits}
+use Rattle.upd_core.specs.Outcome.{◌>>=◌, need, refuse_if}
+use Rattle.upd_apply.specs.Step.{grown}
+
+pub through : {A B E : Type 0} (r : Result A E) (f : A → Result B E) (y : B) (P : Type 0) → r >>= f ≡ Ok y → ((x : A) → r ≡ Ok x → f x ≡ Ok y → P) → P
+through (Ok x) f y P h k = k x refl h
+through (Err e) f y P h k = absurd (cc)
+
+pub through_need : {A B : Type 0} (fault : FaultKind) (o : Option A) (f : A → Result B FaultKind) (y : B) (P : Type 0) → need fault o >>= f ≡ Ok y → ((x : A) → o ≡ Some x → f x ≡ Ok y → P) → P
+through_need fault (Some x) f y P h k = k x refl h
+through_need fault None f y P h k = absurd (cc)
+
+pub through_refusal : {B : Type 0} (bad : Bool) (fault : FaultKind) (f : Bool → Result B FaultKind) (y : B) (P : Type 0) → refuse_if bad fault >>= f ≡ Ok y → (bad ≡ false → f false ≡ Ok y → P) → P
+through_refusal false fault f y P h k = k refl h
+through_refusal true fault f y P h k = absurd (cc)
+
+-- what has grown is within the limits
+pub through_limits : {B : Type 0} (l : LibraryView) (f : LibraryView → Result B FaultKind) (y : B) (P : Type 0) → grown l >>= f ≡ Ok y → (is_within_limits l ≡ true → f l ≡ Ok y → P) → P
+through_limits {B} l f y P h k = go (is_within_limits l) refl
+  where
+    go : (b : Bool) → is_within_limits l ≡ b → P
+    go true e = k e (rw e at h)
+    go false e = absurd (let bad = rw e at h in cc)
+
+pub through_grown : {B : Type 0} (l : LibraryView) (f : LibraryView → Result B FaultKind) (y : B) (P : Type 0) → grown l >>= f ≡ Ok y → (f l ≡ Ok y → P) → P
+through_grown l f y P h k = through_limits l f y P h (λ within e. k e)
+
+-- what holds of a value holds of what comes of it
+pub holds_of : {A E : Type 0} (P : A → Type 0) (x y : A) → ◌≡◌ {A = Result A E} (Ok x) (Ok y) → P x → P y
+holds_of {A} {E} P x y h p = let same : x ≡ y = cc in subst P same p

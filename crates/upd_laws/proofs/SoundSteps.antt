@@ -1,0 +1,386 @@
+-- Each line keeps a state sound.
+use Rattle.std.proofs.Common.{◌≡◌, ℕ, ◌+◌, ◌-◌, ◌<◌, ◌≤◌, Bool, true, false, not, ◌||◌, List, [], ◌∷◌, ◌++◌, map, length, take, drop, inl, inr, refl, sym, ap, ◌∙◌, subst, arith}
+use Rattle.std.proofs.lemmas.Bool.Decides.{nat_tests}
+use Rattle.std.proofs.lemmas.List.Edits.{length-insert}
+use Rattle.std.specs.Prelude.{Option, Some, None, is_some, Result, Ok, ◌==◌, ◌⊎◌, nat_lt, insert, IsTrue}
+use Rattle.std.specs.Option.{IfSome}
+use Rattle.std.specs.List.{AllByRecursion, AllZip}
+use Rattle.upd_core.specs.declared.card_ref.CardRef.{CardRef}
+use Rattle.upd_core.specs.declared.card.Entry.{Entry}
+use Rattle.upd_core.specs.declared.fault.FaultKind.{FaultKind}
+use Rattle.upd_core.specs.declared.fault.FaultKind.TheVariants as fault
+use Rattle.upd_core.specs.declared.ident.Ident.{Ident}
+use Rattle.upd_core.specs.declared.ident.Kind.{Kind}
+use Rattle.upd_core.specs.declared.ident.Kind.TheVariants as kind
+use Rattle.upd_core.specs.declared.library.Place.{Place}
+use Rattle.upd_core.specs.declared.target.Target.{Target}
+use Rattle.upd_core.specs.Edits.{introduced, next_age, new_card, entered, with_deck, with_card, with_yank, with_entries, purged_in}
+use Rattle.upd_core.specs.Library.{CardView, DeckView, LibraryView, all_decks, cards_of, held_named, is_deck, is_deck_kind, place_of}
+use Rattle.upd_core.specs.Outcome.{refuse_if}
+use Rattle.upd_core.specs.Sound.{all_cards, is_held, is_held_deck, IsSound}
+use Rattle.upd_deck.specs.declared.item.IdentIn.{IdentIn}
+use Rattle.upd_apply.specs.declared.Hand.{Hand}
+use Rattle.upd_apply.specs.declared.state.Spot.{Spot}
+use Rattle.upd_apply.specs.declared.state.Spot.TheVariants.{Nowhere, End, Inside}
+use Rattle.upd_apply.specs.declared.state.State.{State}
+use Rattle.upd_apply.specs.Step.{new_name, set_begun, deck_begun, behind, is_first, placed_after, placed_before, switched, text_put, yank_put, ended, purged_in_all}
+use Rattle.upd_apply.specs.Yanks.{AgesIn, is_reserved, known_deck, known_ident, pairs_purged}
+use Rattle.upd_laws.specs.Soundness.{stands, IsNext, IsInHand, IsHandSound, IsAtEnd, IsSpotSound, IsSoundState}
+use Rattle.upd_laws.proofs.SoundOutcomes.{through, through_need, through_refusal, through_grown, holds_of}
+use Rattle.upd_laws.proofs.SoundLists.{same_number, is_same_number, other_number, any_last, all_append, all_weaker, all_front, HasMore, zip_all, zip_length}
+use Rattle.upd_laws.proofs.SoundIdents.{held_within, held_more, held_last, held_deck_last, held_deck_held, not_some}
+use Rattle.upd_laws.proofs.SoundCards.{IsEntered, entered_some, idents_with, yanks_with, yanks_kept, standing_with, cards_with, standing, more_with_card, more_with_yank, more_with_deck, zip_with_entries, flat}
+use Rattle.upd_laws.proofs.SoundYanks.{same_ident, AreYanked}
+use Rattle.upd_laws.proofs.SoundEdits.{none_beyond, introduced_sound, deck_sound, card_sound, yank_sound, entries_sound, purged_in_sound}
+use Rattle.upd_laws.proofs.SoundNumbers.{next_first, next_own, next_other, next_entered, next_new}
+use Rattle.upd_laws.proofs.SoundPlaces.{place_within}
+
+-- ---- new idents
+
+name_free : (name : List ℕ) (l : LibraryView) (b : Bool) → new_name name l ≡ Ok b → held_named name l.idents ≡ None
+name_free name l b h = through_refusal (is_reserved name) fault.Reserved _ b _ h (λ e h1. go (is_some (held_named name l.idents)) refl h1)
+  where
+    go : (taken : Bool) → is_some (held_named name l.idents) ≡ taken → refuse_if taken fault.NameTaken ≡ Ok b → held_named name l.idents ≡ None
+    go true e h1 = absurd (cc)
+    go false e h1 = not_some (held_named name l.idents) e
+
+-- no yank card is younger than an age that no card is beyond
+yanks_below : (l : LibraryView) (z : ℕ) → length l.idents ≤ z → IsSound l → AllByRecursion (λ c. c.ident ≤ z) l.yanks
+yanks_below l z below s = all_weaker (λ (c : CardView). c.ident ≤ length l.idents) _ l.yanks (λ c h. omega arith) (all_front _ l.yanks (flat l.decks) (none_beyond l s))
+
+pub set_sound : (name : List ℕ) (s t : State) → IsSoundState s → set_begun name s ≡ Ok t → IsSoundState t
+set_sound name s t sound h =
+    through (new_name name s.library) _ t (IsSoundState t) h (λ b e h1.
+    through_grown (introduced name kind.Set false s.library) _ t (IsSoundState t) h1 (λ h2.
+    holds_of IsSoundState _ t h2 (after (name_free name s.library b e))))
+  where
+    l : LibraryView
+    l = introduced name kind.Set false s.library
+
+    i : Ident
+    i = record { name = name; age = next_age s.library; kind = kind.Set; noprop = false; held = true }
+
+    after : held_named name s.library.idents ≡ None → IsSoundState (record { library = l; hand = Some (record { ident = next_age s.library; next = 1 }); spot = Nowhere })
+    after free = record {
+      library = introduced_sound name kind.Set false s.library sound.library free;
+      hand = record {
+        held = held_last s.library.idents i refl;
+        youngest = yanks_below s.library (next_age s.library) (omega arith) sound.library;
+        next = next_first (next_age s.library) l (all_weaker (λ (c : CardView). c.ident ≤ length s.library.idents) _ (all_cards s.library) (λ c h e. absurd (omega arith)) (none_beyond s.library sound.library));
+      };
+      spot = tt;
+    }
+
+-- ---- the set in hand while the library changes
+
+hand_moved : (hand : Option Hand) (l m : LibraryView) → ((h : Hand) → IsInHand h l → IsInHand h m) → IsHandSound hand l → IsHandSound hand m
+hand_moved None l m k h = tt
+hand_moved (Some hand) l m k h = k hand h
+
+hand_apart : (hand : Option Hand) (d : ℕ) (l m : LibraryView) → ((h : Hand) → (h.ident ≡ d → ⊥) → IsInHand h l → IsInHand h m) → IfSome hand (λ h. h.ident ≡ d → ⊥) → IsHandSound hand l → IsHandSound hand m
+hand_apart None d l m k other h = tt
+hand_apart (Some hand) d l m k other h = k hand other h
+
+hand_is_not : (hand : Option Hand) (l : LibraryView) (d : ℕ) → ((h : Hand) → IsInHand h l → h.ident ≡ d → ⊥) → IsHandSound hand l → IfSome hand (λ h. h.ident ≡ d → ⊥)
+hand_is_not None l d k h = tt
+hand_is_not (Some hand) l d k h = k hand h
+
+-- ---- a new deck
+
+pub deck_begun_sound : (name : List ℕ) (sort : Kind) (noprop : Bool) (text : List ℕ) (s t : State) → is_deck_kind sort ≡ true → IsSoundState s → deck_begun name sort noprop text s ≡ Ok t → IsSoundState t
+deck_begun_sound name sort noprop text s t deck sound h =
+    through (new_name name s.library) _ t (IsSoundState t) h (λ b e h1.
+    through_grown m _ t (IsSoundState t) h1 (λ h2. holds_of IsSoundState _ t h2 (after (name_free name s.library b e))))
+  where
+    a : ℕ
+    a = next_age s.library
+
+    c : CardView
+    c = new_card a 1 text []
+
+    d : DeckView
+    d = record { ident = a; cards = c ∷ [] }
+
+    l : LibraryView
+    l = introduced name sort noprop s.library
+
+    m : LibraryView
+    m = with_deck d l
+
+    i : Ident
+    i = record { name = name; age = a; kind = sort; noprop = noprop; held = true }
+
+    held : is_held_deck l.idents a ≡ true
+    held = held_deck_last s.library.idents i refl deck
+
+    cards_below : AllByRecursion (λ (b : CardView). b.ident < a) (all_cards s.library)
+    cards_below = all_weaker (λ (b : CardView). b.ident ≤ length s.library.idents) _ (all_cards s.library) (λ b h. omega arith) (none_beyond s.library sound.library)
+
+    decks_below : AllByRecursion (λ (e : DeckView). e.ident < a) s.library.decks
+    decks_below = all_weaker (λ (e : DeckView). IsTrue (is_held_deck s.library.idents e.ident)) _ s.library.decks (λ e h. let w = held_within 1 s.library.idents e.ident sound.library.ages (held_deck_held s.library.idents e.ident h) in omega arith) sound.library.decks
+
+    in_hand_below : (h : Hand) → IsInHand h s.library → h.ident ≡ a → ⊥
+    in_hand_below h in_hand same = let w = held_within 1 s.library.idents h.ident sound.library.ages in_hand.held in omega arith
+
+    in_hand_after : (h : Hand) → IsInHand h s.library → IsInHand h m
+    in_hand_after h in_hand = record {
+      held = held_more s.library.idents (i ∷ []) h.ident in_hand.held;
+      youngest = in_hand.youngest;
+      next = next_other h.ident h.next c s.library m (more_with_deck a c l) (λ same. in_hand_below h in_hand (sym same)) in_hand.next;
+    }
+
+    after : held_named name s.library.idents ≡ None → IsSoundState (record s { library = m; spot = End a 2 })
+    after free = record {
+      library = deck_sound a text l (introduced_sound name sort noprop s.library sound.library free) held (omega arith) decks_below cards_below;
+      hand = hand_moved s.hand s.library m in_hand_after sound.hand;
+      spot = record {
+        held = held;
+        standing = any_last (is_deck a) (all_decks l) d (is_same_number a a refl);
+        next = next_own a 1 c l m (more_with_deck a c l) refl refl (next_first a l (all_weaker (λ (b : CardView). b.ident < a) _ (all_cards l) (λ b h e. absurd (omega arith)) cards_below));
+        other = hand_is_not s.hand s.library a in_hand_below sound.hand;
+      };
+    }
+
+-- ---- the place of text
+
+behind_within : (n i : ℕ) → i < n → n - (i + 1) < n
+behind_within n i h = omega arith
+
+pub after_sound : (card : CardRef) (s t : State) → IsSoundState s → placed_after card s ≡ Ok t → IsSoundState t
+after_sound card s t sound h =
+    through_need fault.NoIdent s.hand _ t (IsSoundState t) h (λ hand e h1.
+    through_need fault.CardUnknown (place_of card s.library) _ t (IsSoundState t) h1 (λ p f h2.
+    through_refusal (p.deck == 0) fault.YankText _ t (IsSoundState t) h2 (λ g h3.
+    holds_of IsSoundState _ t h3 (record {
+      library = sound.library;
+      hand = sound.hand;
+      spot = inr (behind_within (length (cards_of p.deck s.library)) p.index (place_within card s.library p sound.library.deck_ages f));
+    }))))
+
+pub before_sound : (card : CardRef) (s t : State) → IsSoundState s → placed_before card s ≡ Ok t → IsSoundState t
+before_sound card s t sound h =
+    through_need fault.NoIdent s.hand _ t (IsSoundState t) h (λ hand e h1.
+    through_need fault.CardUnknown (place_of card s.library) _ t (IsSoundState t) h1 (λ p f h2.
+    through_refusal (p.deck == 0) fault.YankText _ t (IsSoundState t) h2 (λ g h3.
+    through_refusal (is_first p) fault.DeckCard _ t (IsSoundState t) h3 (λ k h4.
+    let within = place_within card s.library p sound.library.deck_ages f in
+    holds_of IsSoundState _ t h4 (record {
+      library = sound.library;
+      hand = sound.hand;
+      spot = inr (up (length (cards_of p.deck s.library)) p.index within (later p g k));
+    })))))
+  where
+    later : (p : Place) → (p.deck == 0) ≡ false → is_first p ≡ false → 0 < p.index
+    later p g k = let first : (p.index == 0) ≡ false = rw g at k in let other = other_number p.index 0 first in absurd_zero p.index other
+      where
+        absurd_zero : (n : ℕ) → (n ≡ 0 → ⊥) → 0 < n
+        absurd_zero n other = grind arith
+
+    up : (n i : ℕ) → i < n → 0 < i → n - (i + 1) + 1 < n
+    up n i a b = omega arith
+
+-- ---- entries
+
+not_or : (a b : Bool) → (not a || b) ≡ false → a ≡ true
+not_or true b e = refl
+not_or false b e = absurd (cc)
+
+or_not : (a b : Bool) → (not a || b) ≡ false → b ≡ false
+or_not true b e = e
+or_not false b e = absurd (cc)
+
+pub switched_sound : (active : Bool) (first last : CardRef) (s t : State) → IsSoundState s → switched active first last s ≡ Ok t → IsSoundState t
+switched_sound active first last s t sound h =
+    through_need fault.NoIdent s.hand _ t (IsSoundState t) h (λ hand e h1.
+    through_need fault.CardUnknown (place_of first s.library) _ t (IsSoundState t) h1 (λ p f h2.
+    through_need fault.CardUnknown (place_of last s.library) _ t (IsSoundState t) h2 (λ q g h3.
+    through_refusal (not (p.deck == q.deck) || nat_lt q.index p.index) fault.RangeOrder _ t (IsSoundState t) h3 (λ k h4.
+    through_refusal (is_first p) fault.DeckCard _ t (IsSoundState t) h4 (λ n h5.
+    through_grown (with_entries p.deck p.index q.index (record { ident = hand.ident; active = active }) s.library) _ t (IsSoundState t) h5 (λ h6.
+    holds_of IsSoundState _ t h6 (after hand p q e
+    (same_number p.deck q.deck (not_or (p.deck == q.deck) (nat_lt q.index p.index) k))
+    (in_order p q (or_not (p.deck == q.deck) (nat_lt q.index p.index) k))
+    (place_within last s.library q sound.library.deck_ages g))))))))
+  where
+    in_order : (p q : Place) → nat_lt q.index p.index ≡ false → p.index ≤ q.index
+    in_order p q e = grind (arith, nat_tests)
+
+    after : (hand : Hand) (p q : Place) → s.hand ≡ Some hand → p.deck ≡ q.deck → p.index ≤ q.index → q.index < length (cards_of q.deck s.library)
+        → IsSoundState (record s { library = with_entries p.deck p.index q.index (record { ident = hand.ident; active = active }) s.library; spot = Inside q.deck (behind q s.library) })
+    after hand p q e deck order within =
+        let was : IsInHand hand s.library = subst (λ o. IsHandSound o s.library) e sound.hand in
+        record {
+          library = entries_sound p.deck p.index q.index entry s.library sound.library order was.held was.youngest;
+          hand = subst (λ o. IsHandSound o l) (sym e) (record {
+            held = subst (λ idents. IsTrue (is_held idents hand.ident)) (sym (idents_with p.deck change s.library)) was.held;
+            youngest = yanks_kept (λ (c : CardView). c.ident ≤ hand.ident) p.deck change s.library
+                (zip_all (IsEntered entry) (λ (c : CardView). c.ident ≤ hand.ident) (λ c. c.ident ≤ hand.ident) s.library.yanks _ (λ x y r h. rw (same_ident entry x y r) h) (some s.library.yanks) was.youngest) was.youngest;
+            next = next_entered hand.ident hand.next entry s.library l (zip_with_entries p.deck p.index q.index entry s.library order) was.next;
+          });
+          spot = inr (subst (λ d. behind q s.library < length (cards_of d l)) deck same_deck);
+        }
+      where
+        entry : Entry
+        entry = record { ident = hand.ident; active = active }
+
+        change : List CardView → List CardView
+        change cards = take p.index cards ++ map (entered entry) (drop p.index (take (q.index + 1) cards)) ++ drop (q.index + 1) cards
+
+        l : LibraryView
+        l = with_entries p.deck p.index q.index entry s.library
+
+        some : (cards : List CardView) → AllZip (IsEntered entry) cards (change cards)
+        some cards = entered_some entry p.index (q.index + 1) cards (omega arith)
+
+        inside : q.index < length (cards_of p.deck s.library)
+        inside = subst (λ d. q.index < length (cards_of d s.library)) (sym deck) within
+
+        same_length : length (cards_of p.deck l) ≡ length (cards_of q.deck s.library)
+        same_length = ap length (cards_with p.deck change s.library (standing p.deck s.library q.index inside)) ∙ zip_length (IsEntered entry) _ _ (some (cards_of p.deck s.library)) ∙ ap (λ d. length (cards_of d s.library)) deck
+
+        same_deck : behind q s.library < length (cards_of p.deck l)
+        same_deck = rw same_length (behind_within (length (cards_of q.deck s.library)) q.index within)
+
+-- ---- text
+
+hand_card : (d after : ℕ) (c : CardView) (l : LibraryView) (h : Hand) (n : ℕ) → (d ≡ 0 → ⊥) → IsInHand h l → IsNext h.ident n (with_card d after c l) → IsInHand (record { ident = h.ident; next = n }) (with_card d after c l)
+hand_card d after c l h n other in_hand next =
+    let change : List CardView → List CardView = λ cards. insert cards (length cards - after) c in
+    record {
+      held = subst (λ idents. IsTrue (is_held idents h.ident)) (sym (idents_with d change l)) in_hand.held;
+      youngest = subst (AllByRecursion (λ (c : CardView). c.ident ≤ h.ident)) (sym (yanks_with d change l other)) in_hand.youngest;
+      next = next;
+    }
+
+-- at the end of a deck
+end_sound : (text : List ℕ) (d n : ℕ) (s t : State) → IsSoundState s → IsAtEnd d n s.hand s.library → text_put text (End d n) s ≡ Ok t → IsSoundState t
+end_sound text d n s t sound at h = through_grown m _ t (IsSoundState t) h (λ h1. holds_of IsSoundState _ t h1 after)
+  where
+    l : LibraryView
+    l = s.library
+
+    c : CardView
+    c = new_card d n text []
+
+    m : LibraryView
+    m = with_card d 0 c l
+
+    change : List CardView → List CardView
+    change cards = insert cards (length cards - 0) c
+
+    positive : d ≡ 0 → ⊥
+    positive e = let w = held_within 1 l.idents d sound.library.ages (held_deck_held l.idents d at.held) in omega arith
+
+    more : HasMore c (all_cards l) (all_cards m)
+    more = more_with_card d 0 c l at.standing
+
+    in_hand_after : (h : Hand) → (h.ident ≡ d → ⊥) → IsInHand h l → IsInHand h m
+    in_hand_after h other in_hand = hand_card d 0 c l h h.next positive in_hand (next_other h.ident h.next c l m more (λ e. other (sym e)) in_hand.next)
+
+    after : IsSoundState (record s { library = m; spot = End d (n + 1) })
+    after = record {
+      library = card_sound d 0 c l sound.library at.standing positive (next_new d n text [] l (held_deck_held l.idents d at.held) at.next) (inl refl);
+      hand = hand_apart s.hand d l m in_hand_after at.other sound.hand;
+      spot = record {
+        held = subst (λ idents. IsTrue (is_held_deck idents d)) (sym (idents_with d change l)) at.held;
+        standing = standing_with d change l ∙ at.standing;
+        next = next_own d n c l m more refl refl at.next;
+        other = at.other;
+      };
+    }
+
+-- inside a deck
+inside_sound : (text : List ℕ) (d after : ℕ) (s t : State) → IsSoundState s → s.spot ≡ Inside d after → (d ≡ 0) ⊎ (after < length (cards_of d s.library)) → text_put text (Inside d after) s ≡ Ok t → IsSoundState t
+inside_sound text d after s t sound spot place h =
+    through_need fault.TextNowhere s.hand _ t (IsSoundState t) h (λ hand e h1.
+    through_refusal (d == 0) fault.YankText _ t (IsSoundState t) h1 (λ f h2.
+    through_grown (with_card d after (new_card hand.ident hand.next text []) s.library) _ t (IsSoundState t) h2 (λ h3.
+    holds_of IsSoundState _ t h3 (put hand e (other_number d 0 f) (within f place)))))
+  where
+    l : LibraryView
+    l = s.library
+
+    within : (d == 0) ≡ false → (d ≡ 0) ⊎ (after < length (cards_of d l)) → after < length (cards_of d l)
+    within f (inl zero) = absurd (other_number d 0 f zero)
+    within f (inr inside) = inside
+
+    put : (hand : Hand) → s.hand ≡ Some hand → (d ≡ 0 → ⊥) → after < length (cards_of d l)
+        → IsSoundState (record s { library = with_card d after (new_card hand.ident hand.next text []) l; hand = Some (record { ident = hand.ident; next = hand.next + 1 }) })
+    put hand e other inside =
+        let was : IsInHand hand l = subst (λ o. IsHandSound o l) e sound.hand in
+        let more = more_with_card d after c l stands_there in
+        record {
+          library = card_sound d after c l sound.library stands_there other (next_new hand.ident hand.next text [] l was.held was.next) (inr inside);
+          hand = hand_card d after c l hand (hand.next + 1) other was (next_own hand.ident hand.next c l m more refl refl was.next);
+          spot = subst (λ spot. IsSpotSound spot (Some (record { ident = hand.ident; next = hand.next + 1 })) m) (sym spot) (inr longer);
+        }
+      where
+        c : CardView
+        c = new_card hand.ident hand.next text []
+
+        m : LibraryView
+        m = with_card d after c l
+
+        stands_there : stands d l ≡ true
+        stands_there = standing d l after inside
+
+        longer : after < length (cards_of d m)
+        longer =
+            let cards = cards_of d l in
+            let e = ap length (cards_with d (λ cards. insert cards (length cards - after) c) l stands_there) in
+            let f = length-insert cards (length cards - after) c (omega arith) in
+            omega arith
+
+text_sound : (text : List ℕ) (s t : State) (spot : Spot) → s.spot ≡ spot → IsSoundState s → text_put text spot s ≡ Ok t → IsSoundState t
+text_sound text s t Nowhere e sound h = absurd (cc)
+text_sound text s t (End d n) e sound h = end_sound text d n s t sound (subst (λ spot. IsSpotSound spot s.hand s.library) e sound.spot) h
+text_sound text s t (Inside d after) e sound h = inside_sound text d after s t sound e (subst (λ spot. IsSpotSound spot s.hand s.library) e sound.spot) h
+
+pub put_sound : (text : List ℕ) (s t : State) → IsSoundState s → text_put text s.spot s ≡ Ok t → IsSoundState t
+put_sound text s t sound h = text_sound text s t s.spot refl sound h
+
+-- ---- yanks
+
+pub yank_put_sound : (text : List ℕ) (targets : ℕ → LibraryView → Result (List Target) FaultKind) (s t : State) → ((z : ℕ) (l : LibraryView) (found : List Target) → targets z l ≡ Ok found → AreYanked z found)
+    → IsSoundState s → yank_put text targets s ≡ Ok t → IsSoundState t
+yank_put_sound text targets s t are sound h =
+    through_need fault.NoIdent s.hand _ t (IsSoundState t) h (λ hand e h1.
+    through (targets hand.ident s.library) _ t (IsSoundState t) h1 (λ found f h2.
+    through_grown (with_yank (new_card hand.ident hand.next text found) s.library) _ t (IsSoundState t) h2 (λ h3.
+    holds_of IsSoundState _ t h3 (put hand found (subst (λ o. IsHandSound o s.library) e sound.hand) (are hand.ident s.library found f)))))
+  where
+    l : LibraryView
+    l = s.library
+
+    put : (hand : Hand) (found : List Target) → IsInHand hand l → AreYanked hand.ident found
+        → IsSoundState (record { library = with_yank (new_card hand.ident hand.next text found) l; hand = Some (record { ident = hand.ident; next = hand.next + 1 }); spot = Nowhere })
+    put hand found was yanked = record {
+      library = yank_sound hand.ident hand.next text found l sound.library (next_new hand.ident hand.next text found l was.held was.next) was.youngest yanked;
+      hand = record {
+        held = was.held;
+        youngest = all_append (λ (c : CardView). c.ident ≤ hand.ident) l.yanks (new_card hand.ident hand.next text found ∷ []) was.youngest (omega arith, tt);
+        next = next_own hand.ident hand.next (new_card hand.ident hand.next text found) l (with_yank (new_card hand.ident hand.next text found) l) (more_with_yank (new_card hand.ident hand.next text found) l) refl refl was.next;
+      };
+      spot = tt;
+    }
+
+-- ---- purges
+
+-- an ident and a deck that isn't its own
+abbrev pub AreOthers : List AgesIn → Type 0
+AreOthers ages = AllByRecursion (λ a. a.ident ≡ a.deck → ⊥) ages
+
+pub others_found : (pairs : List IdentIn) (l : LibraryView) (found ages : List AgesIn) → pairs_purged found pairs l ≡ Ok ages → AreOthers found → AreOthers ages
+others_found [] l found ages h were = holds_of AreOthers found ages h were
+others_found (pair ∷ pairs) l found ages h were =
+    through (known_deck pair.deck l) _ ages (AreOthers ages) h (λ d e h1.
+    through (known_ident pair.ident l) _ ages (AreOthers ages) h1 (λ z f h2.
+    through_refusal (z == d) fault.DeckCard _ ages (AreOthers ages) h2 (λ g h3.
+    others_found pairs l (found ++ record { deck = d; ident = z } ∷ []) ages h3 (all_append (λ (a : AgesIn). a.ident ≡ a.deck → ⊥) found _ were (other_number z d g, tt)))))
+
+pub purged_in_all_sound : (ages : List AgesIn) (l : LibraryView) → AreOthers ages → IsSound l → IsSound (purged_in_all ages l)
+purged_in_all_sound [] l others s = s
+purged_in_all_sound (a ∷ ages) l others s = purged_in_all_sound ages (purged_in a.deck a.ident l) others.1 (purged_in_sound a.deck a.ident l others.0 s)
+
+pub ended_sound : (l : LibraryView) → IsSound l → IsSoundState (ended l)
+ended_sound l s = record { library = s; hand = tt; spot = tt }

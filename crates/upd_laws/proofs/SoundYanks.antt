@@ -1,0 +1,123 @@
+-- `YANK$$$` stays in order of age, and the targets of a yank are older than it and differ.
+use Rattle.std.proofs.Common.{◌≡◌, ℕ, ◌<◌, ◌≤◌, Bool, true, false, not, ◌&&◌, ◌||◌, List, [], ◌∷◌, ◌++◌, inl, inr, refl, sym, ap, subst, arith}
+use Rattle.std.proofs.lemmas.Bool.Decides.{nat_tests}
+use Rattle.std.specs.Prelude.{◌==◌, nat_le, Ok}
+use Rattle.std.specs.List.{list_any, AllByRecursion, AllZip}
+use Rattle.upd_core.specs.declared.card.Entry.{Entry}
+use Rattle.upd_core.specs.declared.fault.FaultKind.TheVariants as fault
+use Rattle.upd_core.specs.declared.ident.Ident.{Ident}
+use Rattle.upd_core.specs.declared.target.Target.{Target}
+use Rattle.upd_core.specs.declared.target.Target.TheVariants.{Set, SetIn, Deck}
+use Rattle.upd_core.specs.Edits.{new_card, without_entries, without_idents}
+use Rattle.upd_core.specs.Library.{CardView, LibraryView}
+use Rattle.upd_core.specs.Sound.{AreApart}
+use Rattle.upd_core.specs.Status.{TakesOlder, HasEntriesFrom, IsAged}
+use Rattle.upd_deck.specs.declared.item.NameRange.{NameRange}
+use Rattle.upd_deck.specs.declared.item.IdentIn.{IdentIn}
+use Rattle.upd_apply.specs.Yanks.{Ages, is_in, idents_in, known_ident, known_deck, ages_by, is_target, with_target, with_sets, sets_yanked, pairs_yanked, decks_yanked}
+use Rattle.upd_laws.proofs.SoundLists.{and_right, both, or_none_left, or_none_right, is_same_number, all_append, all_filter, all_map, all_pass, apart_end, zip_all}
+use Rattle.upd_laws.proofs.SoundCards.{IsEntered, all_without}
+use Rattle.upd_laws.proofs.SoundOutcomes.{through, through_refusal, holds_of}
+
+-- ---- order of age
+
+pub aged_end : (z n : ℕ) (text : List ℕ) (targets : List Target) (yanks : List CardView) → AllByRecursion (TakesOlder z) targets → AllByRecursion (λ c. c.ident ≤ z) yanks → IsAged yanks → IsAged (yanks ++ new_card z n text targets ∷ [])
+aged_end z n text targets [] older young aged = (older, (((omega arith), tt), tt), tt)
+aged_end z n text targets (y ∷ ys) older young aged =
+    (aged.0, all_append (HasEntriesFrom y.ident) (y ∷ ys) (new_card z n text targets ∷ []) aged.1 ((young.0, tt), tt), aged_end z n text targets ys older young.1 aged.2)
+
+entries_from : (age : ℕ) (e : Entry) (x y : CardView) → age ≤ e.ident → IsEntered e x y → HasEntriesFrom age x → HasEntriesFrom age y
+entries_from age e x y young (inl same) from = subst (HasEntriesFrom age) (sym same) from
+entries_from age e x y young (inr same) from = subst (HasEntriesFrom age) (sym same) (all_append (λ (f : Entry). age ≤ f.ident) x.history (e ∷ []) from (young, tt))
+
+pub same_ident : (e : Entry) (x y : CardView) → IsEntered e x y → y.ident ≡ x.ident
+same_ident e x y (inl same) = ap (λ (c : CardView). c.ident) same
+same_ident e x y (inr same) = ap (λ (c : CardView). c.ident) same
+
+pub same_number_of : (e : Entry) (x y : CardView) → IsEntered e x y → y.number ≡ x.number
+same_number_of e x y (inl same) = ap (λ (c : CardView). c.number) same
+same_number_of e x y (inr same) = ap (λ (c : CardView). c.number) same
+
+pub same_targets : (e : Entry) (x y : CardView) → IsEntered e x y → y.targets ≡ x.targets
+same_targets e x y (inl same) = ap (λ (c : CardView). c.targets) same
+same_targets e x y (inr same) = ap (λ (c : CardView). c.targets) same
+
+pub aged_entered : (e : Entry) (xs ys : List CardView) → AllZip (IsEntered e) xs ys → AllByRecursion (λ c. c.ident ≤ e.ident) xs → IsAged xs → IsAged ys
+aged_entered e [] [] zip young aged = tt
+aged_entered e [] (y ∷ ys) zip young aged = absurd zip
+aged_entered e (x ∷ xs) [] zip young aged = tt
+aged_entered e (x ∷ xs) (y ∷ ys) zip young aged =
+    let older : AllByRecursion (TakesOlder y.ident) y.targets = rw (same_ident e x y zip.0, same_targets e x y zip.0) aged.0 in
+    let from : AllByRecursion (HasEntriesFrom x.ident) (y ∷ ys) = zip_all (IsEntered e) (HasEntriesFrom x.ident) (HasEntriesFrom x.ident) (x ∷ xs) (y ∷ ys) (λ a b r h. entries_from x.ident e a b young.0 r h) zip aged.1 in
+    (older, subst (λ age. AllByRecursion (HasEntriesFrom age) (y ∷ ys)) (sym (same_ident e x y zip.0)) from, aged_entered e xs ys zip.1 young.1 aged.2)
+
+pub aged_without : (gone : ℕ → Bool) (yanks : List CardView) → IsAged yanks → IsAged (without_idents gone yanks)
+aged_without gone [] aged = tt
+aged_without gone (y ∷ ys) aged = go (gone y.ident) refl (aged_without gone ys aged.2)
+  where
+    fewer : (c : CardView) → HasEntriesFrom y.ident c → HasEntriesFrom y.ident (without_entries gone c)
+    fewer c from = all_filter (λ (e : Entry). y.ident ≤ e.ident) (λ e. not (gone e.ident)) c.history from
+
+    go : (b : Bool) → gone y.ident ≡ b → IsAged (without_idents gone ys) → IsAged (without_idents gone (y ∷ ys))
+    go true e rest = rw e rest
+    go false e rest = rw e (aged.0, (fewer y aged.1.0, all_without (HasEntriesFrom y.ident) gone ys (λ c f from. fewer c from) aged.1.1), rest)
+
+-- ---- targets
+
+-- targets that a yank by set z may have
+pub record AreYanked (z : ℕ) (found : List Target) : Type 0 where
+  pub older : AllByRecursion (TakesOlder z) found
+  pub apart : AreApart found
+
+is_target_itself : (t : Target) → is_target t t ≡ true
+is_target_itself (Set a) = is_same_number a a refl
+is_target_itself (SetIn a d) = both (a == a) (d == d) (is_same_number a a refl) (is_same_number d d refl)
+is_target_itself (Deck d) = is_same_number d d refl
+
+not_among : (t : Target) (found : List Target) → list_any (is_target t) found ≡ false → AllByRecursion (λ u. t ≡ u → ⊥) found
+not_among t [] e = tt
+not_among t (u ∷ found) e = (
+  (λ same. let f : is_target t u ≡ true = subst (λ v. is_target t v ≡ true) same (is_target_itself t) in let g = or_none_left (is_target t u) (list_any (is_target t) found) e in absurd (cc)),
+  not_among t found (or_none_right (is_target t u) (list_any (is_target t) found) e),
+)
+
+target_found : (z : ℕ) (found : List Target) (t : Target) → TakesOlder z t → AreYanked z found → AreYanked z (with_target found t)
+target_found z found t older were = go (list_any (is_target t) found) refl
+  where
+    go : (b : Bool) → list_any (is_target t) found ≡ b → AreYanked z (with_target found t)
+    go true e = rw e were
+    go false e = rw e (record { older = all_append (TakesOlder z) found (t ∷ []) were.older (older, tt); apart = apart_end t found were.apart (not_among t found e) })
+
+sets_found : (z : ℕ) (ages : List ℕ) (found : List Target) → AllByRecursion (λ a. a < z) ages → AreYanked z found → AreYanked z (with_sets found ages)
+sets_found z [] found older were = were
+sets_found z (a ∷ ages) found older were = sets_found z ages (with_target found (Set a)) older.1 (target_found z found (Set a) older.0 were)
+
+older_in : (ages : Ages) (z : ℕ) (l : LibraryView) → nat_le z ages.to ≡ false → AllByRecursion (λ a. a < z) (idents_in ages l)
+older_in ages z l e = all_map (λ a. a < z) (λ (i : Ident). i.age) _ (all_pass (λ (i : Ident). i.age < z) _ l.idents (λ i f. go i f))
+  where
+    go : (i : Ident) → (i.held && is_in ages i.age) ≡ true → i.age < z
+    go i f = let below = and_right (nat_le ages.from i.age) (nat_le i.age ages.to) (and_right i.held (is_in ages i.age) f) in grind (arith, nat_tests)
+
+pub sets_are : (z : ℕ) (l : LibraryView) (ranges : List NameRange) (found t : List Target) → sets_yanked found ranges z l ≡ Ok t → AreYanked z found → AreYanked z t
+sets_are z l [] found t h were = holds_of (AreYanked z) found t h were
+sets_are z l (range ∷ ranges) found t h were =
+    through (ages_by known_ident range l) _ t (AreYanked z t) h (λ ages e h1.
+    through_refusal (nat_le z ages.to) fault.YankSelf _ t (AreYanked z t) h1 (λ f h2.
+    sets_are z l ranges (with_sets found (idents_in ages l)) t h2 (sets_found z (idents_in ages l) found (older_in ages z l f) were)))
+
+pub pairs_are : (z : ℕ) (l : LibraryView) (pairs : List IdentIn) (found t : List Target) → pairs_yanked found pairs z l ≡ Ok t → AreYanked z found → AreYanked z t
+pairs_are z l [] found t h were = holds_of (AreYanked z) found t h were
+pairs_are z l (pair ∷ pairs) found t h were =
+    through (known_deck pair.deck l) _ t (AreYanked z t) h (λ d e h1.
+    through (known_ident pair.ident l) _ t (AreYanked z t) h1 (λ y g h2.
+    through_refusal (nat_le z d || nat_le z y) fault.YankSelf _ t (AreYanked z t) h2 (λ f h3.
+    let left = or_none_left (nat_le z d) (nat_le z y) f in
+    let right = or_none_right (nat_le z d) (nat_le z y) f in
+    pairs_are z l pairs (with_target found (SetIn y d)) t h3 (target_found z found (SetIn y d) (grind (arith, nat_tests), grind (arith, nat_tests)) were))))
+
+pub decks_are : (z : ℕ) (l : LibraryView) (names : List (List ℕ)) (found t : List Target) → decks_yanked found names z l ≡ Ok t → AreYanked z found → AreYanked z t
+decks_are z l [] found t h were = holds_of (AreYanked z) found t h were
+decks_are z l (name ∷ names) found t h were =
+    through (known_deck name l) _ t (AreYanked z t) h (λ d e h1.
+    through_refusal (nat_le z d) fault.YankSelf _ t (AreYanked z t) h1 (λ f h2.
+    decks_are z l names (with_target found (Deck d)) t h2 (target_found z found (Deck d) (grind (arith, nat_tests)) were)))

@@ -1,0 +1,2 @@
+pub mod PurgingBack
+pub mod Soundness

@@ -1,0 +1,80 @@
+-- Runs that purge nothing: how a library grows by them, and what is left once their idents are purged.
+use Rattle.std.specs.Prelude.{◌≡◌, ℕ, ◌<◌, ◌≤◌, Bool, true, false, not, IsTrue, List, [], ◌∷◌, ◌++◌, length, Result, Ok}
+use Rattle.std.specs.List.{list_all, AllByRecursion}
+use Rattle.upd_core.specs.declared.card.Entry.{Entry}
+use Rattle.upd_core.specs.declared.fault.Fault.{Fault}
+use Rattle.upd_core.specs.declared.ident.Ident.{Ident}
+use Rattle.upd_core.specs.Edits.{next_age}
+use Rattle.upd_core.specs.Library.{CardView, DeckView, LibraryView}
+use Rattle.upd_core.specs.Outcome.{◌>>=◌}
+use Rattle.upd_core.specs.Sound.{AreAgedFrom}
+use Rattle.upd_deck.specs.Items.{ItemView, LineView, Purge, PurgeFrom, SelPurge, PurDeck}
+use Rattle.upd_apply.specs.Applying.{applied}
+
+-- ---- runs
+
+-- whether a line purges
+abbrev pub is_purge : ItemView → Bool
+is_purge (Purge ranges) = true
+is_purge (PurgeFrom name) = true
+is_purge (SelPurge pairs) = true
+is_purge (PurDeck ranges) = true
+is_purge _ = false
+
+-- no line of a run is a purge
+abbrev pub purges_nothing : List LineView → Bool
+purges_nothing run = list_all (λ line. not (is_purge line.item)) run
+
+-- runs one after the other; the first refusal ends them
+abbrev pub all_applied : List (List LineView) → LibraryView → Result LibraryView Fault
+all_applied [] l = Ok l
+all_applied (run ∷ runs) l = do
+  reached ← applied run l
+  all_applied runs reached.library
+
+-- runs that purge nothing and are all accepted lead from one library to another
+abbrev pub LeadTo : List (List LineView) → LibraryView → LibraryView → Type 0
+LeadTo runs before after = IsTrue (list_all purges_nothing runs) × (all_applied runs before ≡ Ok after)
+
+-- ---- growth by idents that are new
+
+-- an age that the later library's directory has and the earlier one's has not
+abbrev pub IsNewer : LibraryView → LibraryView → ℕ → Type 0
+IsNewer before after z = (length before.idents < z) × (z ≤ length after.idents)
+
+-- a card as it was, but for entries of new idents at the end of its history
+abbrev pub GoesOn : (ℕ → Type 0) → CardView → CardView → Type 0
+GoesOn IsNew c d = (more : List Entry) × AllByRecursion (λ e. IsNew e.ident) more × (d ≡ record c { history = c.history ++ more })
+
+-- Cards stand among others in their order: each has gone on, and those between them are new, with all their entries.
+pub data AreAmong (IsNew : ℕ → Type 0) : List CardView → List CardView → Type 0 where
+  Ended : AreAmong IsNew [] []
+  Kept : {c d : CardView} {cs ds : List CardView} → GoesOn IsNew c d → AreAmong IsNew cs ds → AreAmong IsNew (c ∷ cs) (d ∷ ds)
+  Come : {d : CardView} {cs ds : List CardView}
+      → IsNew d.ident → AllByRecursion (λ e. IsNew e.ident) d.history → AreAmong IsNew cs ds → AreAmong IsNew cs (d ∷ ds)
+
+-- decks stand first and in their order, each with its cards among the later ones; behind them come new decks
+abbrev pub DecksGoOn : (ℕ → Type 0) → List DeckView → List DeckView → Type 0
+DecksGoOn IsNew [] later = AllByRecursion (λ d. IsNew d.ident) later
+DecksGoOn IsNew (d ∷ decks) [] = ⊥
+DecksGoOn IsNew (d ∷ decks) (e ∷ later) = (e.ident ≡ d.ident) × AreAmong IsNew d.cards e.cards × DecksGoOn IsNew decks later
+
+-- A library has only grown: idents came with the next ages, and all else that came is of them.
+pub record IsGrown (before after : LibraryView) : Type 0 where
+  pub brought : List Ident
+  pub idents : after.idents ≡ before.idents ++ brought
+  pub ages : AreAgedFrom (next_age before) brought
+  pub decks : DecksGoOn (IsNewer before after) before.decks after.decks
+  pub yanks : AreAmong (IsNewer before after) before.yanks after.yanks
+  pub rest : after.rest ≡ before.rest
+
+-- ---- back again
+
+-- A library once more, but for idents at the end of the directory that are no longer held.
+pub record IsAgain (before back : LibraryView) : Type 0 where
+  pub gone : List Ident
+  pub idents : back.idents ≡ before.idents ++ gone
+  pub unheld : AllByRecursion (λ i. i.held ≡ false) gone
+  pub decks : back.decks ≡ before.decks
+  pub yanks : back.yanks ≡ before.yanks
+  pub rest : back.rest ≡ before.rest

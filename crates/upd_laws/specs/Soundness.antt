@@ -1,0 +1,70 @@
+-- What holds of every library that runs can reach, and of every state on the way.
+use Rattle.std.specs.Prelude.{◌≡◌, ℕ, ◌+◌, ◌<◌, ◌≤◌, ◌==◌, Bool, ◌⊎◌, IsTrue, List, [], ◌∷◌, length, count_by, Option, Some, None, Result, Ok, Err}
+use Rattle.std.specs.Option.{IfSome}
+use Rattle.std.specs.List.{list_any, AllByRecursion}
+use Rattle.upd_core.specs.declared.fault.Fault.{Fault}
+use Rattle.upd_core.specs.Library.{LibraryView, all_decks, cards_of, is_deck}
+use Rattle.upd_core.specs.Sound.{IsSound, all_cards, is_held, is_held_deck}
+use Rattle.upd_deck.specs.Items.{LineView}
+use Rattle.upd_apply.specs.declared.Hand.{Hand}
+use Rattle.upd_apply.specs.declared.state.Spot.{Spot}
+use Rattle.upd_apply.specs.declared.state.Spot.TheVariants.{Nowhere, End, Inside}
+use Rattle.upd_apply.specs.declared.state.State.{State}
+use Rattle.upd_apply.specs.Applying.{Reached, applied}
+
+-- ---- states
+
+-- how many cards of an ident a library holds
+abbrev pub count_of : ℕ → LibraryView → ℕ
+count_of ident l = count_by (λ c. c.ident == ident) (all_cards l)
+
+-- whether a deck stands in a library
+abbrev pub stands : ℕ → LibraryView → Bool
+stands d l = list_any (is_deck d) (all_decks l)
+
+-- The next number of an ident is one more than the number of its cards, and none of these has it or a higher one.
+pub record IsNext (ident n : ℕ) (l : LibraryView) : Type 0 where
+  pub counted : n ≡ count_of ident l + 1
+  pub above : AllByRecursion (λ c. c.ident ≡ ident → c.number < n) (all_cards l)
+
+-- The set in hand is held, and at least as young as the ident of any yank card.
+pub record IsInHand (hand : Hand) (l : LibraryView) : Type 0 where
+  pub held : IsTrue (is_held l.idents hand.ident)
+  pub youngest : AllByRecursion (λ c. c.ident ≤ hand.ident) l.yanks
+  pub next : IsNext hand.ident hand.next l
+
+-- the set in hand, if there is one
+abbrev pub IsHandSound : Option Hand → LibraryView → Type 0
+IsHandSound None l = Unit {0}
+IsHandSound (Some hand) l = IsInHand hand l
+
+-- A deck whose end takes text is held and stands, and it is not the ident in hand.
+pub record IsAtEnd (d n : ℕ) (hand : Option Hand) (l : LibraryView) : Type 0 where
+  pub held : IsTrue (is_held_deck l.idents d)
+  pub standing : IsTrue (stands d l)
+  pub next : IsNext d n l
+  pub other : IfSome hand (λ h. h.ident ≡ d → ⊥)
+
+-- Text inside a deck never goes before its first card.
+abbrev pub IsSpotSound : Spot → Option Hand → LibraryView → Type 0
+IsSpotSound Nowhere hand l = Unit {0}
+IsSpotSound (End d next) hand l = IsAtEnd d next hand l
+IsSpotSound (Inside d behind) hand l = (d ≡ 0) ⊎ (behind < length (cards_of d l))
+
+-- what holds of a state on the way of a run
+pub record IsSoundState (s : State) : Type 0 where
+  pub library : IsSound s.library
+  pub hand : IsHandSound s.hand s.library
+  pub spot : IsSpotSound s.spot s.hand s.library
+
+-- ---- libraries
+
+-- the library once a run has come: a refused one changes nothing
+abbrev pub after_run : LibraryView → Result Reached Fault → LibraryView
+after_run l (Ok reached) = reached.library
+after_run l (Err fault) = l
+
+-- the library after runs, one after the other
+abbrev pub after_runs : List (List LineView) → LibraryView → LibraryView
+after_runs [] l = l
+after_runs (run ∷ runs) l = after_runs runs (after_run l (applied run l))

@@ -1,0 +1,8 @@
+//! Laws of the library: what holds of every library that runs can reach, and what purging back undoes.
+//!
+//! Each function has an empty body, and each clause of it is a law about the definitions that other contracts cite.
+#![tactic(auto)]
+
+pub mod numbers;
+pub mod purging_back;
+pub mod soundness;

@@ -1,0 +1,47 @@
+ghost use Rattle.std.specs.Prelude.{◌≡◌, ℕ, Bool, IsTrue, List, Ok};
+ghost use Rattle.upd_core.specs.Edits.{purged};
+ghost use Rattle.upd_core.specs.Library.{LibraryView, empty};
+ghost use Rattle.upd_core.specs.Limits.{is_within_limits};
+ghost use Rattle.upd_core.specs.Sound.{Continues, IsSound};
+ghost use Rattle.upd_core.specs.Status.{IsAged};
+ghost use Rattle.upd_deck.specs.Items.{LineView};
+ghost use Rattle.upd_apply.specs.declared.state.State.{State};
+ghost use Rattle.upd_apply.specs.Applying.{Reached, applied, started, stepped};
+ghost use Rattle.upd_apply.specs.Step.{step};
+ghost use Rattle.upd_laws.specs.Soundness.{after_runs, IsSoundState};
+
+/// Each line keeps a state sound, and a run that has not begun is sound where its library is.
+pub fn lines_keep_states_sound()
+    ensures started { (l : LibraryView) → IsSound l → IsSoundState (started l) }
+    ensures kept { (line : LineView) (s t : State) → IsSoundState s → step line s ≡ Ok t → IsSoundState t }
+    ensures all { (lines : List LineView) (s t : State) → IsSoundState s → stepped lines s ≡ Ok t → IsSoundState t }
+{}
+
+/// A run keeps a sound library sound, and so does a purge of any idents.
+pub fn runs_keep_libraries_sound()
+    ensures run { (lines : List LineView) (l : LibraryView) (r : Reached) → IsSound l → applied lines l ≡ Ok r → IsSound r.library }
+    ensures purge { (gone : ℕ → Bool) (l : LibraryView) → IsSound l → IsSound (purged gone l) }
+{}
+
+/// Each library that runs can reach is sound, and so its yank cards stand in order of age.
+pub fn reached_libraries_are_sound()
+    ensures empty { IsSound empty }
+    ensures sound { (runs : List (List LineView)) → IsSound (after_runs runs empty) }
+    ensures aged { (runs : List (List LineView)) → IsAged (after_runs runs empty).yanks }
+{}
+
+/// No library that runs can reach passes a limit.
+pub fn reached_libraries_are_within_limits()
+    ensures run { (lines : List LineView) (l : LibraryView) (r : Reached) → IsTrue (is_within_limits l) → applied lines l ≡ Ok r
+        → IsTrue (is_within_limits r.library) }
+    ensures reached { (runs : List (List LineView)) → IsTrue (is_within_limits (after_runs runs empty)) }
+    ensures purge { (gone : ℕ → Bool) (l : LibraryView) → IsTrue (is_within_limits l) → IsTrue (is_within_limits (purged gone l)) }
+{}
+
+/// The directory goes on: idents come at its end, and purged ones are no longer held.
+pub fn directories_go_on()
+    ensures line { (line : LineView) (s t : State) → step line s ≡ Ok t → Continues s.library.idents t.library.idents }
+    ensures run { (lines : List LineView) (l : LibraryView) (r : Reached) → applied lines l ≡ Ok r → Continues l.idents r.library.idents }
+    ensures runs { (runs : List (List LineView)) (l : LibraryView) → Continues l.idents (after_runs runs l).idents }
+    ensures purge { (gone : ℕ → Bool) (l : LibraryView) → Continues l.idents (purged gone l).idents }
+{}
