@@ -1,0 +1,3 @@
+pub mod TrialLaws
+pub mod CommandLaws
+pub mod WordLaws

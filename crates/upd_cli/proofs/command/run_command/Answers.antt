@@ -1,0 +1,18 @@
+use Rattle.std.proofs.Common.{ℕ, List, IfSome, map, subst}
+use Rattle.clap.specs.Words.{Text}
+use Rattle.upd_cli.specs.Command.{Answers, answer_to}
+use Rattle.upd_cli.specs.Trial.{trial_named}
+use Rattle.upd_cli.specs.Words.{IsAsked}
+use Rattle.upd_cli.specs.declared.words.Request.TheVariants.{Trial}
+use Rattle.upd_cli.proofs.CommandLaws.{answered_of_known}
+use Rattle.upd_cli.proofs.command.run_command.Goals as goal
+
+pub returns-in-Ok-Trial-clause-trial : goal.returns-in-Ok-Trial-clause-trial
+returns-in-Ok-Trial-clause-trial g c =
+    let words : List Text = map g.S.AsStr.text c.args.words.now in
+    let asked : IsAsked words (Trial c.in-Ok-Trial.mode) = subst (IsAsked words) c.in-Ok-Trial.field-0-is c.in-Ok-Trial.ensures.ok in
+    let IsAnswered : List ℕ → Type 0 = λ word. IfSome (g.R.Read.remaining c.args.input.now) (λ bytes. Answers (answer_to (trial_named word bytes)) c.finish.result
+    (g.W.Write.contents c.args.output.now) (g.W.Write.contents c.carry_out_trial-ended.new.output) (g.E.Write.contents c.args.faults.now) (g.E.Write.contents c.finish.new.faults)) in
+    λ none. subst IsAnswered asked.1 (answered_of_known c.carry_out_trial-ended.result c.finish.result (g.R.Read.remaining c.args.input.now) (trial_named c.in-Ok-Trial.mode.now)
+    (g.W.Write.contents c.args.output.now) (g.W.Write.contents c.carry_out_trial-ended.new.output) (g.E.Write.contents c.args.faults.now) (g.E.Write.contents c.finish.new.faults)
+    c.carry_out_trial-ended.ensures.ends c.finish.ensures.told)

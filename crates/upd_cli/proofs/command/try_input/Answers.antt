@@ -1,0 +1,27 @@
+use Rattle.std.proofs.Common.{◌≡◌, ◌+◌, ℕ, List, take, IfSome, IsErrAnd, Result, Ok, Err, ap, sym, ◌∙◌, subst}
+use Rattle.upd_core.specs.declared.fault.Fault.{Fault}
+use Rattle.upd_core.specs.declared.limits.TheConstants.{MAX_RUN_BYTES}
+use Rattle.upd_core.specs.Outcome.{GivesAt}
+use Rattle.upd_compile.specs.File.{FileView}
+use Rattle.upd_cli.specs.Trial.{trial_of}
+use Rattle.upd_cli.proofs.TrialLaws.{given_of_front}
+use Rattle.upd_cli.proofs.command.try_input.Goals as goal
+
+error_is : (result : Result FileView Fault) (fault : Fault) → IsErrAnd result (λ e. e ≡ fault) → result ≡ Err fault
+error_is (Ok file) fault is = absurd is
+error_is (Err e) fault is = ap Err is
+
+pub returns-in_err-file-clause-gives : goal.returns-in_err-file-clause-gives
+returns-in_err-file-clause-gives g c =
+    let result = c.from_residual-in_err-file.result in
+    let IsFront : List ℕ → Type 0 = λ run. IfSome (g.R.Read.remaining c.args.input.now) (λ all. run ≡ take (MAX_RUN_BYTES + 1) all) in
+    let IsGiven : Result FileView Fault → Type 0 = λ r. GivesAt (λ file. file) r (trial_of c.in_ok-mode.mode c.deref.result.now) in
+    given_of_front c.args.mode.now c.in_ok-mode.mode c.deref.result.now result (g.R.Read.remaining c.args.input.now)
+    (sym c.read_mode.ensures ∙ c.in_ok-mode.was) (subst IsFront (sym c.deref.ensures.value) c.in_ok-run.ensures.ok)
+    (subst IsGiven (sym (error_is result c.in_err-file.field-0.0 c.from_residual-in_err-file.ensures.1)) c.in_err-file.ensures)
+
+pub returns-clause-gives : goal.returns-clause-gives
+returns-clause-gives g c =
+    let IsFront : List ℕ → Type 0 = λ run. IfSome (g.R.Read.remaining c.args.input.now) (λ all. run ≡ take (MAX_RUN_BYTES + 1) all) in
+    given_of_front c.args.mode.now c.in_ok-mode.mode c.deref.result.now (Ok c.in_ok-file.file) (g.R.Read.remaining c.args.input.now)
+    (sym c.read_mode.ensures ∙ c.in_ok-mode.was) (subst IsFront (sym c.deref.ensures.value) c.in_ok-run.ensures.ok) c.in_ok-file.ensures

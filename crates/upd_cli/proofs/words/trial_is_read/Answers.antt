@@ -1,0 +1,8 @@
+use Rattle.upd_cli.proofs.WordLaws.{plain_read, plain_word}
+use Rattle.upd_cli.proofs.words.trial_is_read.Goals as goal
+
+pub returns-clause-read : goal.returns-clause-read
+returns-clause-read c = plain_read
+
+pub returns-clause-mode : goal.returns-clause-mode
+returns-clause-mode c = plain_word

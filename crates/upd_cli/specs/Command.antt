@@ -1,0 +1,51 @@
+-- What a command reads, what it writes, and its exit status.
+use Rattle.std.specs.Prelude.{◌≡◌, ◌⊎◌, ℕ, List, [], Option, Result, Ok, Err, IsOkAnd}
+use Rattle.std.specs.Io.KnownBytes.{Appends}
+use Rattle.clap.specs.Words.{IsAmong, Text}
+use Rattle.clap.specs.declared.error.kind.ErrorKind.{ErrorKind}
+use Rattle.clap.specs.declared.error.kind.ErrorKind.TheVariants.{DisplayHelp, DisplayVersion}
+use Rattle.upd_core.specs.declared.fault.Fault.{Fault}
+use Rattle.upd_compile.specs.File.{FileView}
+use Rattle.upd_cli.specs.Status.{exit_status, fault_line}
+use Rattle.upd_cli.specs.Words.{word_faults}
+
+-- What a command answers: its exit status, its output, and what it says on the fault stream.
+pub record Answer : Type 0 where
+  pub status : ℕ
+  pub output : List ℕ
+  pub faults : List ℕ
+
+-- a compile file goes to the output, a refusal to the fault stream
+abbrev pub answer_to : Result FileView Fault → Answer
+answer_to (Ok file) = record { status = 0; output = file.bytes; faults = [] }
+answer_to (Err fault) = record { status = exit_status fault.kind; output = []; faults = fault_line fault }
+
+-- The command ended with this answer, as far as output and fault stream tell what they hold; or memory, a read or a write failed.
+abbrev pub Answers : Answer → ℕ → Option (List ℕ) → Option (List ℕ) → Option (List ℕ) → Option (List ℕ) → Type 0
+Answers answer status output output' faults faults' =
+    (status ≡ 3) ⊎ ((status ≡ answer.status) × Appends output output' answer.output × Appends faults faults' answer.faults)
+
+-- A compile file is the defined one, a refusal is the defined one; or memory or a read failed.
+abbrev pub GivesUnlessFailed : Result FileView Fault → Result FileView Fault → Type 0
+GivesUnlessFailed (Ok file) defined = defined ≡ Ok file
+GivesUnlessFailed (Err fault) defined = (exit_status fault.kind ≡ 3) ⊎ (defined ≡ Err fault)
+
+-- A command wrote what is defined, or met the defined refusal; or memory, a read or a write failed.
+abbrev pub Ends : {U : Type 0} → Result U Fault → Option (List ℕ) → Option (List ℕ) → Result FileView Fault → Type 0
+Ends (Ok u) output output' defined = IsOkAnd defined (λ file. Appends output output' file.bytes)
+Ends (Err fault) output output' defined = (exit_status fault.kind ≡ 3) ⊎ ((defined ≡ Err fault) × Appends output output' [])
+
+-- how a command that ended so is told: a fault by its line
+abbrev pub IsEnd : {U : Type 0} → Result U Fault → ℕ → Option (List ℕ) → Option (List ℕ) → Type 0
+IsEnd (Ok u) status faults faults' = (status ≡ 0) × Appends faults faults' []
+IsEnd (Err fault) status faults faults' = (status ≡ 3) ⊎ ((status ≡ exit_status fault.kind) × Appends faults faults' (fault_line fault))
+
+-- the exit status of words that are not read: 0 for help or the version, and 2 for a mistake
+abbrev pub told_status : ErrorKind → ℕ
+told_status DisplayHelp = 0
+told_status DisplayVersion = 0
+told_status _ = 2
+
+-- words that are not read were told so, or memory or a write failed
+abbrev pub IsToldOf : List Text → ℕ → Type 0
+IsToldOf words status = (status ≡ 3) ⊎ ((kind : ErrorKind) × IsAmong kind (word_faults words) × (status ≡ told_status kind))

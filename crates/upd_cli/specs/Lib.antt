@@ -1,0 +1,4 @@
+pub mod Status
+pub mod Words
+pub mod Trial
+pub mod Command

@@ -1,0 +1,41 @@
+//! Exit statuses and fault lines.
+ghost use Rattle.std.specs.Prelude.{◌≡◌, OnOk};
+ghost use Rattle.std.specs.Io.KnownBytes.{Appends};
+ghost use Rattle.upd_cli.specs.Status.{exit_status, fault_line};
+
+use std::io;
+use std::io::Write;
+use upd_core::{Fault, FaultKind};
+
+/// All is done.
+pub const DONE: u8 = 0;
+
+/// A refusal.
+pub const REFUSED: u8 = 1;
+
+/// The words are no command line.
+pub const UNREAD: u8 = 2;
+
+/// Memory, the store, a read or a write failed.
+pub const FAILED: u8 = 3;
+
+/// The exit status for a fault.
+pub fn exit_status(kind: FaultKind) -> u8
+    ensures { result ≡ exit_status kind }
+{
+    match kind {
+        FaultKind::NoMemory | FaultKind::Store | FaultKind::Read | FaultKind::Write => FAILED,
+        _ => REFUSED,
+    }
+}
+
+/// Writes the line of a fault, its `Display` behind the program's name, and flushes.
+pub(crate) fn write_fault<E: Write>(faults: &mut E, fault: Fault) -> io::Result<()>
+    ensures { OnOk result (Appends (E.contents faults.old) (E.contents faults.new) (fault_line fault)) }
+{
+    let name = fault.kind.name();
+    let number = fault.kind.number();
+    let at = fault.at;
+    writeln!(faults, "upd: {name} ({number}) at {at}")?;
+    faults.flush()
+}
