@@ -2,7 +2,6 @@ pub mod GrammarParts
 pub mod GrammarFields
 pub mod CutLemmas
 pub mod OrderLaws
-pub mod WordLemmas
 pub mod GrammarNames
 pub mod GrammarItems
 pub mod GrammarSays

@@ -48,9 +48,13 @@ spellings =
     ∷ spelled (codes "SELPURGE") words.SelPurge
     ∷ spelled (codes "PURDECK") words.PurDeck ∷ []
 
+-- what a text means by the first spelling that it is
+abbrev pub meaning_in : List Spelling → List ℕ → Option Word
+meaning_in table text = option_map (λ s. s.means) (find (λ s. bytes_eq text s.text) table)
+
 -- what a word means, if the profile knows it
 abbrev pub meaning : List ℕ → Option Word
-meaning text = option_map (λ s. s.means) (find (λ s. bytes_eq text s.text) spellings)
+meaning = meaning_in spellings
 
 -- ---- fields
 

@@ -1,5 +1,5 @@
-ghost use Rattle.std.specs.Prelude.{◌≡◌};
-ghost use Rattle.upd_deck.specs.Reading.{meaning};
+ghost use Rattle.std.specs.Prelude.{◌≡◌, map};
+ghost use Rattle.upd_deck.specs.Reading.{meaning, meaning_in, spelled};
 
 /// The words that the profile knows. A line with another word is a text card.
 #[derive(Clone, Copy, Debug, PartialEq, Eq)]
@@ -21,28 +21,50 @@ pub enum Word {
     Compile,
 }
 
+const SPELLINGS: [(&[u8], Word); 25] = [
+    (b"IDENT", Word::Ident),
+    (b"ID", Word::Ident),
+    (b"DECK", Word::Deck),
+    (b"DK", Word::Deck),
+    (b"COMDECK", Word::CommonDeck),
+    (b"CD", Word::CommonDeck),
+    (b"INSERT", Word::Insert),
+    (b"I", Word::Insert),
+    (b"BEFORE", Word::Before),
+    (b"B", Word::Before),
+    (b"DELETE", Word::Delete),
+    (b"D", Word::Delete),
+    (b"RESTORE", Word::Restore),
+    (b"R", Word::Restore),
+    (b"CALL", Word::Call),
+    (b"CA", Word::Call),
+    (b"COMPILE", Word::Compile),
+    (b"C", Word::Compile),
+    (b"YANK", Word::Yank),
+    (b"Y", Word::Yank),
+    (b"SELYANK", Word::SelYank),
+    (b"YANKDECK", Word::YankDeck),
+    (b"PURGE", Word::Purge),
+    (b"SELPURGE", Word::SelPurge),
+    (b"PURDECK", Word::PurDeck),
+];
+
 impl Word {
     /// Reads a word or its short form, in full.
     pub fn read(text: &[u8]) -> Option<Word>
         ensures { result ≡ meaning text.now }
     {
-        match text {
-            b"IDENT" | b"ID" => Some(Word::Ident),
-            b"DECK" | b"DK" => Some(Word::Deck),
-            b"COMDECK" | b"CD" => Some(Word::CommonDeck),
-            b"INSERT" | b"I" => Some(Word::Insert),
-            b"BEFORE" | b"B" => Some(Word::Before),
-            b"DELETE" | b"D" => Some(Word::Delete),
-            b"RESTORE" | b"R" => Some(Word::Restore),
-            b"CALL" | b"CA" => Some(Word::Call),
-            b"COMPILE" | b"C" => Some(Word::Compile),
-            b"YANK" | b"Y" => Some(Word::Yank),
-            b"SELYANK" => Some(Word::SelYank),
-            b"YANKDECK" => Some(Word::YankDeck),
-            b"PURGE" => Some(Word::Purge),
-            b"SELPURGE" => Some(Word::SelPurge),
-            b"PURDECK" => Some(Word::PurDeck),
-            _ => None,
+        meaning_in(&SPELLINGS, text)
+    }
+}
+
+fn meaning_in(spellings: &[(&[u8], Word)], text: &[u8]) -> Option<Word>
+    ensures { result ≡ meaning_in (map (λ s. spelled s.0.now s.1) spellings.now) text.now }
+{
+    for spelling in spellings {
+        if text == spelling.0 {
+            return Some(spelling.1);
         }
     }
+    None
 }

@@ -1,0 +1,15 @@
+use Rattle.std.proofs.Common.{arith}
+use Rattle.std.proofs.lemmas.Grind.{common_steps}
+use Rattle.upd_apply.proofs.purges.idents_purged.Goals as goal
+
+pub returns-in_err-ages : goal.returns-in_err-ages
+returns-in_err-ages c = grind (arith, common_steps)
+
+pub returns-in_err-add_idents : goal.returns-in_err-add_idents
+returns-in_err-add_idents c = grind (arith, common_steps)
+
+pub loop-range-preserved : goal.loop-range-preserved
+loop-range-preserved c = grind (arith, common_steps)
+
+pub returns : goal.returns
+returns c = grind (arith, common_steps)
