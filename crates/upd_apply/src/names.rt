@@ -24,7 +24,7 @@ impl Model for AgeRange {
 }
 
 impl AgeRange {
-    pub fn has(&self, age: Serial) -> bool
+    pub(crate) fn has(&self, age: Serial) -> bool
         ensures { result ≡ is_in self.now age }
     {
         self.from <= age && age <= self.to
@@ -38,7 +38,7 @@ fn is_reserved(name: &Name) -> bool
 }
 
 /// Whether a new ident may have this name; else Reserved or NameTaken.
-pub fn new_name(library: &Library, name: &Name) -> Result<(), FaultKind>
+pub(crate) fn new_name(library: &Library, name: &Name) -> Result<(), FaultKind>
     ensures { MatchResult result (λ _. new_name name.now library.now ≡ Ok false) (λ e. new_name name.now library.now ≡ Err e) }
 {
     if is_reserved(name) {
@@ -51,7 +51,7 @@ pub fn new_name(library: &Library, name: &Name) -> Result<(), FaultKind>
 }
 
 /// The age of the held ident of a name; else Reserved or IdentUnknown.
-pub fn known_ident(library: &Library, name: &Name) -> Result<Serial, FaultKind>
+pub(crate) fn known_ident(library: &Library, name: &Name) -> Result<Serial, FaultKind>
     ensures { result ≡ known_ident name.now library.now }
 {
     if is_reserved(name) {
@@ -61,7 +61,7 @@ pub fn known_ident(library: &Library, name: &Name) -> Result<Serial, FaultKind>
 }
 
 /// The age of the held deck of a name; else Reserved or DeckUnknown.
-pub fn known_deck(library: &Library, name: &Name) -> Result<Serial, FaultKind>
+pub(crate) fn known_deck(library: &Library, name: &Name) -> Result<Serial, FaultKind>
     ensures { result ≡ known_deck name.now library.now }
 {
     if is_reserved(name) {
@@ -71,7 +71,7 @@ pub fn known_deck(library: &Library, name: &Name) -> Result<Serial, FaultKind>
 }
 
 /// The ages of a range of idents; else Reserved, IdentUnknown or RangeOrder.
-pub fn ident_ages(library: &Library, range: &NameRange) -> Result<AgeRange, FaultKind>
+pub(crate) fn ident_ages(library: &Library, range: &NameRange) -> Result<AgeRange, FaultKind>
     ensures { result ≡ ages_by known_ident range.now library.now }
 {
     let from = known_ident(library, &range.first)?;
@@ -83,7 +83,7 @@ pub fn ident_ages(library: &Library, range: &NameRange) -> Result<AgeRange, Faul
 }
 
 /// The ages of a range of decks; else Reserved, DeckUnknown or RangeOrder.
-pub fn deck_ages(library: &Library, range: &NameRange) -> Result<AgeRange, FaultKind>
+pub(crate) fn deck_ages(library: &Library, range: &NameRange) -> Result<AgeRange, FaultKind>
     ensures { result ≡ ages_by known_deck range.now library.now }
 {
     let from = known_deck(library, &range.first)?;

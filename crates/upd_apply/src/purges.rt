@@ -37,7 +37,7 @@ impl Model for AgePair {
 /// A purge ends the set in hand and the place of text.
 impl State {
     /// `*PURGE`
-    pub fn purge_idents(&mut self, ranges: &[NameRange]) -> Result<(), FaultKind>
+    pub(crate) fn purge_idents(&mut self, ranges: &[NameRange]) -> Result<(), FaultKind>
         ensures does { Does result self.new (done (Purge ranges.now) [] self.old) }
         ensures number { OnOk result (next_most self.new ≤ next_most self.old + 1) }
     {
@@ -48,7 +48,7 @@ impl State {
     }
 
     /// `*PURGE` with a star
-    pub fn purge_from(&mut self, name: &Name) -> Result<(), FaultKind>
+    pub(crate) fn purge_from(&mut self, name: &Name) -> Result<(), FaultKind>
         ensures does { Does result self.new (done (PurgeFrom name.now) [] self.old) }
         ensures number { OnOk result (next_most self.new ≤ next_most self.old + 1) }
     {
@@ -59,7 +59,7 @@ impl State {
     }
 
     /// `*SELPURGE`
-    pub fn purge_pairs(&mut self, pairs: &[IdentIn]) -> Result<(), FaultKind>
+    pub(crate) fn purge_pairs(&mut self, pairs: &[IdentIn]) -> Result<(), FaultKind>
         ensures does { Does result self.new (done (SelPurge pairs.now) [] self.old) }
         ensures number { OnOk result (next_most self.new ≤ next_most self.old + 1) }
     {
@@ -70,7 +70,7 @@ impl State {
     }
 
     /// `*PURDECK`
-    pub fn purge_decks(&mut self, ranges: &[NameRange]) -> Result<(), FaultKind>
+    pub(crate) fn purge_decks(&mut self, ranges: &[NameRange]) -> Result<(), FaultKind>
         ensures does { Does result self.new (done (PurDeck ranges.now) [] self.old) }
         ensures number { OnOk result (next_most self.new ≤ next_most self.old + 1) }
     {
@@ -97,7 +97,10 @@ fn purge_in_all(library: &mut Library, pairs: &[AgePair])
 }
 
 /// The ages of the idents that `*PURGE` names.
-pub fn idents_purged(library: &Library, ranges: &[NameRange]) -> Result<Vec<Serial>, FaultKind>
+pub(crate) fn idents_purged(
+    library: &Library,
+    ranges: &[NameRange],
+) -> Result<Vec<Serial>, FaultKind>
     ensures { Gives (λ found. found.items) result (idents_purged [] ranges.now library.now) }
 {
     let mut found = Vec::new(library.allocator());
@@ -109,7 +112,10 @@ pub fn idents_purged(library: &Library, ranges: &[NameRange]) -> Result<Vec<Seri
 }
 
 /// The ages of the decks that `*PURDECK` names.
-pub fn decks_purged(library: &Library, ranges: &[NameRange]) -> Result<Vec<Serial>, FaultKind>
+pub(crate) fn decks_purged(
+    library: &Library,
+    ranges: &[NameRange],
+) -> Result<Vec<Serial>, FaultKind>
     ensures { Gives (λ found. found.items) result (decks_purged [] ranges.now library.now) }
 {
     let mut found = Vec::new(library.allocator());
@@ -121,7 +127,7 @@ pub fn decks_purged(library: &Library, ranges: &[NameRange]) -> Result<Vec<Seria
 }
 
 /// The idents in decks that `*SELPURGE` names.
-pub fn pairs_purged(library: &Library, pairs: &[IdentIn]) -> Result<Vec<AgePair>, FaultKind>
+pub(crate) fn pairs_purged(library: &Library, pairs: &[IdentIn]) -> Result<Vec<AgePair>, FaultKind>
     ensures { Gives (λ found. found.items) result (pairs_purged [] pairs.now library.now) }
 {
     let mut found = Vec::new(library.allocator());
@@ -137,7 +143,7 @@ pub fn pairs_purged(library: &Library, pairs: &[IdentIn]) -> Result<Vec<AgePair>
 }
 
 /// Adds the ranges of decks that a line names to compile.
-pub fn add_ranges(
+pub(crate) fn add_ranges(
     library: &Library,
     found: &mut Vec<AgeRange>,
     ranges: &[NameRange],
@@ -152,7 +158,10 @@ pub fn add_ranges(
 }
 
 /// The ages of the held decks in any of these ranges.
-pub fn decks_in_any(library: &Library, ranges: &[AgeRange]) -> Result<Vec<Serial>, AllocError>
+pub(crate) fn decks_in_any(
+    library: &Library,
+    ranges: &[AgeRange],
+) -> Result<Vec<Serial>, AllocError>
     ensures { IfOk result (λ found. found.items ≡ decks_in_any ranges.now library.now) }
 {
     held_decks_in_any(library.allocator(), library.idents(), ranges)

@@ -39,7 +39,7 @@ pub struct State {
 /// Each line's part, on a state of its own: after a refusal the state is of no use.
 impl State {
     /// A run begins with no set in hand and no place of text.
-    pub fn new(library: Library) -> State
+    pub(crate) fn new(library: Library) -> State
         ensures { result ≡ started library }
     {
         State {
@@ -50,7 +50,7 @@ impl State {
     }
 
     /// `*IDENT`
-    pub fn begin_set(&mut self, name: &Name) -> Result<(), FaultKind>
+    pub(crate) fn begin_set(&mut self, name: &Name) -> Result<(), FaultKind>
         ensures does { Does result self.new (set_begun name.now self.old) }
         ensures number { OnOk result (next_most self.new ≤ next_most self.old + 1) }
     {
@@ -64,7 +64,7 @@ impl State {
     }
 
     /// `*DECK` and `*COMDECK`
-    pub fn begin_deck(
+    pub(crate) fn begin_deck(
         &mut self,
         name: &Name,
         kind: Kind,
@@ -85,7 +85,7 @@ impl State {
     }
 
     /// `*INSERT`
-    pub fn place_after(&mut self, card: &CardRef) -> Result<(), FaultKind>
+    pub(crate) fn place_after(&mut self, card: &CardRef) -> Result<(), FaultKind>
         ensures does { Does result self.new (placed_after card.now self.old) }
         ensures number { OnOk result (next_most self.new ≤ next_most self.old + 1) }
     {
@@ -102,7 +102,7 @@ impl State {
     }
 
     /// `*BEFORE`
-    pub fn place_before(&mut self, card: &CardRef) -> Result<(), FaultKind>
+    pub(crate) fn place_before(&mut self, card: &CardRef) -> Result<(), FaultKind>
         ensures does { Does result self.new (placed_before card.now self.old) }
         ensures number { OnOk result (next_most self.new ≤ next_most self.old + 1) }
     {
@@ -122,7 +122,12 @@ impl State {
     }
 
     /// `*DELETE` and `*RESTORE`
-    pub fn switch(&mut self, active: bool, first: &CardRef, last: &CardRef) -> Result<(), FaultKind>
+    pub(crate) fn switch(
+        &mut self,
+        active: bool,
+        first: &CardRef,
+        last: &CardRef,
+    ) -> Result<(), FaultKind>
         ensures does { Does result self.new (switched active first.now last.now self.old) }
         ensures number { OnOk result (next_most self.new ≤ next_most self.old + 1) }
     {
@@ -150,7 +155,7 @@ impl State {
     }
 
     /// Text and calls
-    pub fn put_text(&mut self, text: &[u8]) -> Result<(), FaultKind>
+    pub(crate) fn put_text(&mut self, text: &[u8]) -> Result<(), FaultKind>
         requires { next_most self.old + 1 < 2 ^ 32 }
         ensures does { Does result self.new (text_put text.now self.old.spot self.old) }
         ensures number { OnOk result (next_most self.new ≤ next_most self.old + 1) }
@@ -186,7 +191,7 @@ impl State {
 }
 
 /// Refuses a library that has grown past a limit.
-pub fn check_limits(library: &Library) -> Result<(), FaultKind>
+pub(crate) fn check_limits(library: &Library) -> Result<(), FaultKind>
     ensures { MatchResult result (λ _. grown library.now ≡ Ok library.now) (λ e. grown library.now ≡ Err e) }
 {
     if library.is_within_limits() {

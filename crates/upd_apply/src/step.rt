@@ -9,7 +9,7 @@ use upd_deck::{Item, Line};
 
 impl State {
     /// What a line does, or why it is refused. After a refusal the state is of no use.
-    pub fn step(&mut self, line: &Line) -> Result<(), FaultKind>
+    pub(crate) fn step(&mut self, line: &Line) -> Result<(), FaultKind>
         requires { next_most self.old + 1 < 2 ^ 32 }
         ensures does { Does result self.new (step line.now self.old) }
         ensures number { OnOk result (next_most self.new ≤ next_most self.old + 1) }

@@ -9,7 +9,7 @@ use upd_core::ident::name_at;
 use upd_core::{Card, CardRef, Deck, Entry, Ident, Library, Name, Serial};
 
 /// The cards of a library after a run that weren't there before, or whose history differs, by deck (`YANK$$$` first) and place.
-pub fn touched(before: &Library, after: &Library) -> Result<Vec<CardRef>, AllocError>
+pub(crate) fn touched(before: &Library, after: &Library) -> Result<Vec<CardRef>, AllocError>
     ensures { AreApart (map key_of (all_cards before.now)) → IfOk result (λ cards. cards.items ≡ touched before.now after.now) }
 {
     let mut found = Vec::new(after.allocator());

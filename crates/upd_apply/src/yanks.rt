@@ -15,7 +15,7 @@ use upd_deck::{IdentIn, NameRange};
 
 impl State {
     /// `*YANK`
-    pub fn yank_sets(&mut self, text: &[u8], ranges: &[NameRange]) -> Result<(), FaultKind>
+    pub(crate) fn yank_sets(&mut self, text: &[u8], ranges: &[NameRange]) -> Result<(), FaultKind>
         requires { next_most self.old + 1 < 2 ^ 32 }
         ensures does { Does result self.new (yank_put text.now (sets_yanked [] ranges.now) self.old) }
         ensures number { OnOk result (next_most self.new ≤ next_most self.old + 1) }
@@ -27,7 +27,7 @@ impl State {
     }
 
     /// `*SELYANK`
-    pub fn yank_pairs(&mut self, text: &[u8], pairs: &[IdentIn]) -> Result<(), FaultKind>
+    pub(crate) fn yank_pairs(&mut self, text: &[u8], pairs: &[IdentIn]) -> Result<(), FaultKind>
         requires { next_most self.old + 1 < 2 ^ 32 }
         ensures does { Does result self.new (yank_put text.now (pairs_yanked [] pairs.now) self.old) }
         ensures number { OnOk result (next_most self.new ≤ next_most self.old + 1) }
@@ -39,7 +39,7 @@ impl State {
     }
 
     /// `*YANKDECK`
-    pub fn yank_decks(&mut self, text: &[u8], names: &[Name]) -> Result<(), FaultKind>
+    pub(crate) fn yank_decks(&mut self, text: &[u8], names: &[Name]) -> Result<(), FaultKind>
         requires { next_most self.old + 1 < 2 ^ 32 }
         ensures does { Does result self.new (yank_put text.now (decks_yanked [] names.now) self.old) }
         ensures number { OnOk result (next_most self.new ≤ next_most self.old + 1) }
@@ -71,7 +71,7 @@ impl State {
 }
 
 /// The targets of `*YANK` by a set: the idents of each range.
-pub fn sets_yanked(
+pub(crate) fn sets_yanked(
     library: &Library,
     set: Serial,
     ranges: &[NameRange],
@@ -91,7 +91,7 @@ pub fn sets_yanked(
 }
 
 /// The targets of `*SELYANK` by a set: an ident in a deck for each pair.
-pub fn pairs_yanked(
+pub(crate) fn pairs_yanked(
     library: &Library,
     set: Serial,
     pairs: &[IdentIn],
@@ -111,7 +111,7 @@ pub fn pairs_yanked(
 }
 
 /// The targets of `*YANKDECK` by a set: a deck for each name.
-pub fn decks_yanked(
+pub(crate) fn decks_yanked(
     library: &Library,
     set: Serial,
     names: &[Name],

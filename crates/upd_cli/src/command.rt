@@ -107,6 +107,3 @@ fn try_input<R: Read>(alloc: Global, mode: &str, input: &mut R) -> Result<Compil
     let file = trial(alloc, mode, &run)?;
     Ok(file)
 }
-
-#[cfg(test)]
-mod tests;

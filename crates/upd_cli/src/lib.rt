@@ -1,11 +1,12 @@
 //! The commands of the program: what is read, what is written, and the exit status.
 #![tactic(auto)]
 
-pub mod command;
-pub mod status;
+mod command;
+mod status;
 mod streams;
-pub mod trial_run;
-pub mod words;
+mod trial_run;
+mod words;
 
 pub use command::{report_words, run_command};
 pub use trial_run::trial;
+pub use words::trial_is_read;

@@ -20,7 +20,7 @@ pub const UNREAD: u8 = 2;
 pub const FAILED: u8 = 3;
 
 /// The exit status for a fault.
-pub fn exit_status(kind: FaultKind) -> u8
+pub(crate) fn exit_status(kind: FaultKind) -> u8
     ensures { result ≡ exit_status kind }
 {
     match kind {

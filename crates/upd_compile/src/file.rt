@@ -88,6 +88,3 @@ fn written(alloc: Global, source: &Indexed, decks: &[&ActiveDeck]) -> Result<Com
         Err(kind) => Err(kind.at_line(0)),
     }
 }
-
-#[cfg(test)]
-mod tests;

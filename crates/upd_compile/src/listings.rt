@@ -353,6 +353,3 @@ fn push_behind(text: &mut Vec<u8>, words: &[&[u8]]) -> Result<(), AllocError>
     }
     Ok(())
 }
-
-#[cfg(test)]
-mod tests;

@@ -78,38 +78,3 @@ pub fn card_references_are_read_from_one_text()
     ensures spelled { (field : List ℕ) → IfSome (card_of field) IsReference }
     ensures read_back { (card : CardRef) → IsReference card → card_of (card_text card) ≡ Some card }
 {}
-
-#[cfg(test)]
-mod tests {
-    use super::*;
-    use std::test::Fail;
-
-    #[test]
-    fn reads_card_references(rt: HostRuntime) -> Result<(), Fail> {
-        let card = CardRef::read(b"DECK1.999999").ok_or("a card")?;
-        assert_eq!(rt; card.name.as_bytes(), b"DECK1".as_slice());
-        assert_eq!(rt; card.number, 999_999);
-        let text = format!(in rt.alloc(); "{card}")?;
-        assert_eq!(rt; text.as_str(), "DECK1.999999");
-        Ok(())
-    }
-
-    #[test]
-    fn refuses_what_is_no_card_reference(rt: HostRuntime) {
-        let fields = [
-            b"A.0".as_slice(),
-            b"A.01",
-            b"A.1000000",
-            b"A.",
-            b".2",
-            b"2",
-            b"A",
-            b"A.2.3",
-            b"A.2x",
-            b"*.1",
-        ];
-        for field in fields {
-            assert!(rt; CardRef::read(field).is_none());
-        }
-    }
-}

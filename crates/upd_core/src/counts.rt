@@ -17,7 +17,7 @@ pub struct Counts {
 
 impl Counts {
     /// Those of a library that holds nothing.
-    pub fn none() -> Counts
+    pub(crate) fn none() -> Counts
         ensures { result ≡ record { held = 0; cards = 0; entries = 0; targets = 0 } }
     {
         Counts {
@@ -29,7 +29,7 @@ impl Counts {
     }
 
     /// Those of a library with these parts. It looks at each ident and each card.
-    pub fn of(idents: &[Ident], decks: &[Deck], yanks: &[Card], rest: Rest) -> Counts
+    pub(crate) fn of(idents: &[Ident], decks: &[Deck], yanks: &[Card], rest: Rest) -> Counts
         ensures { AreOf (record { idents = idents.now; decks = decks.now; yanks = yanks.now; rest = rest }) result }
     {
         let cards = yanks.len().saturating_add(card_count(decks));
@@ -43,7 +43,7 @@ impl Counts {
     }
 
     /// With one more deck.
-    pub fn with_deck(self, deck: &Deck) -> Counts
+    pub(crate) fn with_deck(self, deck: &Deck) -> Counts
         ensures { result ≡ record self {
           cards = capped (self.cards + length deck.now.cards);
           entries = capped (self.entries + sum_by (λ c. length c.history) deck.now.cards);
@@ -57,7 +57,7 @@ impl Counts {
     }
 
     /// With one more card.
-    pub fn with_card(self, entries: usize, targets: usize) -> Counts
+    pub(crate) fn with_card(self, entries: usize, targets: usize) -> Counts
         ensures { result ≡ record self {
           cards = capped (self.cards + 1);
           entries = capped (self.entries + entries);

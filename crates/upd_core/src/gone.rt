@@ -20,7 +20,7 @@ pub enum Gone {
 
 impl Gone {
     /// The idents of these ages. It takes a mark for each age up to the greatest.
-    pub fn among(alloc: Global, ages: &[Serial]) -> Result<Gone, AllocError>
+    pub(crate) fn among(alloc: Global, ages: &[Serial]) -> Result<Gone, AllocError>
         ensures { IfOk result (λ gone. (z : ℕ) → is_gone gone z ≡ is_among ages.now z) }
     {
         let marks = marks(alloc, ages)?;
@@ -28,7 +28,7 @@ impl Gone {
     }
 
     /// Whether the purge takes the ident of an age.
-    pub fn covers(&self, age: Serial) -> bool
+    pub(crate) fn covers(&self, age: Serial) -> bool
         ensures { result ≡ is_gone self.now age }
     {
         match self {
@@ -74,7 +74,7 @@ fn unheld(ident: Ident, gone: &Gone) -> Ident
 }
 
 /// Holds these idents no more.
-pub fn unhold(idents: &mut [Ident], gone: &Gone)
+pub(crate) fn unhold(idents: &mut [Ident], gone: &Gone)
     ensures { idents.new ≡ map (unheld (is_gone gone.now)) idents.old }
 {
     for ident in idents.iter_mut() {
@@ -104,7 +104,7 @@ fn drop_cards(cards: &mut Vec<Card>, gone: &Gone)
 }
 
 /// Takes the cards and the entries of these idents out of cards.
-pub fn purge_cards(cards: &mut Vec<Card>, gone: &Gone)
+pub(crate) fn purge_cards(cards: &mut Vec<Card>, gone: &Gone)
     ensures { cards.new.items ≡ without_idents (is_gone gone.now) cards.old.items }
 {
     drop_cards(cards, gone);
@@ -126,7 +126,7 @@ fn drop_decks(decks: &mut Vec<Deck>, gone: &Gone)
 }
 
 /// Takes the decks of these idents away, and their cards and entries out of the other decks.
-pub fn purge_decks(decks: &mut Vec<Deck>, gone: &Gone)
+pub(crate) fn purge_decks(decks: &mut Vec<Deck>, gone: &Gone)
     ensures { decks.new.items ≡ decks_without (is_gone gone.now) decks.old.items }
 {
     drop_decks(decks, gone);

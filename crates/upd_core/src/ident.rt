@@ -49,7 +49,7 @@ impl Kind {
 }
 
 /// The held ident of a name.
-pub fn held_named<'a>(idents: &'a [Ident], name: &Name) -> Option<&'a Ident>
+pub(crate) fn held_named<'a>(idents: &'a [Ident], name: &Name) -> Option<&'a Ident>
     ensures { option_copied result ≡ held_named name.now idents.now }
 {
     for ident in idents {

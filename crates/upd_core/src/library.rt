@@ -220,6 +220,3 @@ impl Library {
         })
     }
 }
-
-#[cfg(test)]
-mod tests;

@@ -149,33 +149,3 @@ impl fmt::Display for Name {
         f.write_str(text)
     }
 }
-
-#[cfg(test)]
-mod tests {
-    use super::*;
-    use std::test::Fail;
-
-    #[test]
-    fn reads_names(rt: HostRuntime) -> Result<(), Fail> {
-        let name = Name::read(b"Z+-*/()$=").ok_or("a name of nine bytes")?;
-        assert_eq!(rt; name.as_bytes(), b"Z+-*/()$=".as_slice());
-        assert!(rt; Name::read(b"").is_none());
-        assert!(rt; Name::read(b"*").is_none());
-        assert!(rt; Name::read(b"ABCDEFGHIJ").is_none());
-        assert!(rt; Name::read(b"a").is_none());
-        assert!(rt; Name::read(b"A.B").is_none());
-        Ok(())
-    }
-
-    #[test]
-    fn orders_and_writes_names(rt: HostRuntime) -> Result<(), Fail> {
-        let first = Name::read(b"A9").ok_or("a name")?;
-        let second = Name::read(b"AB").ok_or("a name")?;
-        assert!(rt; first < second);
-        assert_eq!(rt; first, first);
-        assert_eq!(rt; first.cmp(&second), Ordering::Less);
-        let text = format!(in rt.alloc(); "{}", Name::yank())?;
-        assert_eq!(rt; text.as_str(), "YANK$$$");
-        Ok(())
-    }
-}

@@ -4,7 +4,7 @@ ghost use Rattle.upd_core.specs.Status.{takes, takes_deck};
 use crate::ident::Serial;
 
 /// What a yank card takes out of use while it is live.
-#[derive(Clone, Copy, Debug, PartialEq, Eq, PartialOrd, Ord, Hash)]
+#[derive(Clone, Copy, Debug, PartialEq, Eq, Hash)]
 pub enum Target {
     /// All that a set did.
     Set(Serial),
@@ -16,7 +16,7 @@ pub enum Target {
 
 impl Target {
     /// Whether it takes an ident in a deck.
-    pub fn takes(self, ident: Serial, deck: Serial) -> bool
+    pub(crate) fn takes(self, ident: Serial, deck: Serial) -> bool
         ensures { result ≡ takes ident deck self }
     {
         match self {
@@ -27,7 +27,7 @@ impl Target {
     }
 
     /// Whether it takes all cards of a deck.
-    pub fn takes_deck(self, deck: Serial) -> bool
+    pub(crate) fn takes_deck(self, deck: Serial) -> bool
         ensures { result ≡ takes_deck deck self }
     {
         match self {

@@ -1,99 +1,115 @@
-use crate::shelf::{Lines, Shelf};
+//! Libraries at their limits; `bench/apply.py` times these tests.
+use crate::parts::Part;
+use crate::shelf::{Ask, Shelf, check};
+use std::alloc::Global;
+use std::process::Abort;
 use std::test::Fail;
-use upd_core::{Fault, FaultKind};
+use upd_compile::Mode;
+use upd_core::Library;
 
-const FULL: FaultKind = FaultKind::Full;
-
-/// Brings the idents N0 to N4095 by three runs.
-fn bring_all(shelf: &mut Shelf, rt: &HostRuntime) -> Result<(), Fail> {
-    for (first, last) in [(0, 1999), (2000, 3999), (4000, 4095)] {
-        let mut run = Lines::new(rt.alloc());
-        run.idents(first, last)?;
-        shelf.run(run.text())?;
-    }
-    Ok(())
-}
+const ALL_IDENTS: [(Ask<'static>, &str); 3] = [
+    (Ask::Long(&[Part::Idents(0, 1999)]), "accepted"),
+    (Ask::Long(&[Part::Idents(2000, 3999)]), "accepted"),
+    (Ask::Long(&[Part::Idents(4000, 4095)]), "accepted"),
+];
 
 #[test]
 fn holds_4096_idents(rt: HostRuntime) -> Result<(), Fail> {
-    let mut shelf = Shelf::new(rt.alloc());
-    bring_all(&mut shelf, &rt)?;
-    assert_eq!(rt;
-        shelf.run("*IDENT LAST\n"),
-        Err(Fault { kind: FULL, at: 1 })
-    );
-    shelf.run("*PURGE N0\n*IDENT LAST\n")?;
-    Ok(())
+    let mut shelf = Shelf::new(Library::new(rt.alloc()));
+    shelf.check(&rt, &ALL_IDENTS)?;
+    let asked = [
+        (Ask::Run("*IDENT LAST\n"), "Full (19) at 1"),
+        (Ask::Run("*PURGE N0\n*IDENT LAST\n"), "accepted"),
+    ];
+    shelf.check(&rt, &asked)
 }
 
 #[test]
 fn introduces_65536_idents(rt: HostRuntime) -> Result<(), Fail> {
-    let mut shelf = Shelf::new(rt.alloc());
+    let mut shelf = Shelf::new(Library::new(rt.alloc()));
     for _ in 0..16 {
-        bring_all(&mut shelf, &rt)?;
-        shelf.run("*PURGE N0,*\n")?;
+        shelf.check(&rt, &ALL_IDENTS)?;
+        shelf.check(&rt, &[(Ask::Run("*PURGE N0,*\n"), "accepted")])?;
     }
-    assert_eq!(rt;
-        shelf.run("*IDENT LAST\n"),
-        Err(Fault { kind: FULL, at: 1 })
-    );
-    Ok(())
+    shelf.check(&rt, &[(Ask::Run("*IDENT LAST\n"), "Full (19) at 1")])
+}
+
+/// Brings 50,000 cards in the decks DECK0 to DECK24.
+fn with_50000_cards(rt: &impl Abort, alloc: Global) -> Result<Shelf, Fail> {
+    let mut shelf = Shelf::new(Library::new(alloc));
+    for n in 0..25 {
+        let first = format!(in alloc; "*DECK DECK{n}")?;
+        let parts = [
+            Part::Line(first.as_str()),
+            Part::Times(1999, "      CONTINUE"),
+        ];
+        shelf.check(rt, &[(Ask::Long(&parts), "accepted")])?;
+    }
+    Ok(shelf)
 }
 
 #[test]
 fn holds_50000_cards(rt: HostRuntime) -> Result<(), Fail> {
-    let mut shelf = Shelf::new(rt.alloc());
-    for n in 0..25 {
-        let mut run = Lines::new(rt.alloc());
-        run.line(&format!(in rt.alloc(); "*DECK D{n}")?)?;
-        run.times(1999, "      CONTINUE")?;
-        shelf.run(run.text())?;
-    }
-    assert_eq!(rt; shelf.run("*DECK Z\n"), Err(Fault { kind: FULL, at: 1 }));
-    Ok(())
+    let mut shelf = with_50000_cards(&rt, rt.alloc())?;
+    shelf.check(&rt, &[(Ask::Run("*DECK Z\n"), "Full (19) at 1")])
+}
+
+#[test]
+fn takes_1999_corrections_on_50000_cards(rt: HostRuntime) -> Result<(), Fail> {
+    let mut shelf = with_50000_cards(&rt, rt.alloc())?;
+    let parts = [Part::Line("*IDENT X"), Part::Deletions(1999)];
+    shelf.check(&rt, &[(Ask::Long(&parts), "accepted")])
 }
 
 #[test]
 fn holds_200000_entries(rt: HostRuntime) -> Result<(), Fail> {
-    let mut deck = Lines::new(rt.alloc());
-    deck.line("*DECK A")?;
-    deck.times(1999, "      CONTINUE")?;
-    let mut full = Lines::new(rt.alloc());
-    full.line("*IDENT X")?;
-    full.times(99, "*DELETE A.2,A.2000")?;
-    full.line("*DELETE A.2,A.100")?;
-    let mut over = Lines::new(rt.alloc());
-    over.line("*IDENT X")?;
-    over.times(99, "*DELETE A.2,A.2000")?;
-    over.line("*DELETE A.2,A.101")?;
-    let mut shelf = Shelf::with(rt.alloc(), &[deck.text()])?;
-    assert_eq!(rt;
-        shelf.run(over.text()),
-        Err(Fault {
-            kind: FULL,
-            at: 101
-        })
-    );
-    shelf.run(full.text())?;
-    Ok(())
+    let deck = [Part::Line("*DECK A"), Part::Times(1999, "      CONTINUE")];
+    let over = [
+        Part::Line("*IDENT X"),
+        Part::Times(99, "*DELETE A.2,A.2000"),
+        Part::Line("*DELETE A.2,A.101"),
+    ];
+    let full = [
+        Part::Line("*IDENT X"),
+        Part::Times(99, "*DELETE A.2,A.2000"),
+        Part::Line("*DELETE A.2,A.100"),
+    ];
+    let asked = [
+        (Ask::Long(&deck), "accepted"),
+        (Ask::Long(&over), "Full (19) at 101"),
+        (Ask::Long(&full), "accepted"),
+    ];
+    check(&rt, rt.alloc(), &asked)
 }
 
 #[test]
 fn holds_100000_targets(rt: HostRuntime) -> Result<(), Fail> {
-    let mut shelf = Shelf::new(rt.alloc());
-    for (first, last) in [(1, 2000), (2001, 4000)] {
-        let mut run = Lines::new(rt.alloc());
-        run.idents(first, last)?;
-        shelf.run(run.text())?;
+    let over = [
+        Part::Line("*IDENT Z"),
+        Part::Times(25, "*YANK N1.N4000"),
+        Part::Line("*YANK N1"),
+    ];
+    let full = [Part::Line("*IDENT Z"), Part::Times(25, "*YANK N1.N4000")];
+    let asked = [
+        (Ask::Long(&[Part::Idents(1, 2000)]), "accepted"),
+        (Ask::Long(&[Part::Idents(2001, 4000)]), "accepted"),
+        (Ask::Long(&over), "Full (19) at 27"),
+        (Ask::Long(&full), "accepted"),
+    ];
+    check(&rt, rt.alloc(), &asked)
+}
+
+#[test]
+fn follows_4000_common_decks_in_one_chain(rt: HostRuntime) -> Result<(), Fail> {
+    let mut shelf = Shelf::new(Library::new(rt.alloc()));
+    for n in 0..8u32 {
+        let parts = [Part::Chain(500 * n, 500 * n + 499, 1)];
+        shelf.check(&rt, &[(Ask::Long(&parts), "accepted")])?;
     }
-    let mut over = Lines::new(rt.alloc());
-    over.line("*IDENT Z")?;
-    over.times(25, "*YANK N1.N4000")?;
-    over.line("*YANK N1")?;
-    assert_eq!(rt; shelf.run(over.text()), Err(Fault { kind: FULL, at: 27 }));
-    let mut full = Lines::new(rt.alloc());
-    full.line("*IDENT Z")?;
-    full.times(25, "*YANK N1.N4000")?;
-    shelf.run(full.text())?;
-    Ok(())
+    let change = "*IDENT X\n*INSERT C3999.1\nMORE\n";
+    let asked = [
+        (Ask::Run("*DECK A\n*CALL C0\n"), "accepted"),
+        (Ask::Compiled(Mode::Normal, change), "CallDepth (21) at 0"),
+    ];
+    shelf.check(&rt, &asked)
 }

@@ -1,132 +1,183 @@
+use crate::parts::{Part, text_of};
 use std::alloc::Global;
+use std::process::Abort;
 use std::test::Fail;
-use upd_apply::apply;
-use upd_compile::{CompileFile, Mode, compile_file, list_card, list_deck, list_idents, list_yanks};
-use upd_core::{CardRef, Fault, Library, Name};
+use upd_apply::{apply, purge_back};
+use upd_compile::{
+    CompileFile, Mode, changed, compile_file, list_card, list_deck, list_idents, list_yanks,
+};
+use upd_core::{CardRef, Library, Name, Serial};
 use upd_deck::read_run;
 
 /// The run that brings deck A with three lines.
 pub const DECK_A: &str = "*DECK A\nONE\nTWO\nTHREE\n";
 
+/// What is asked of a library.
+#[derive(Clone, Copy, Debug)]
+pub enum Ask<'a> {
+    /// A run: "accepted", or its fault.
+    Run(&'a str),
+    /// The same for a run that is made of parts.
+    Long(&'a [Part<'a>]),
+    /// A run: the ages that it introduced and those to compile, and the cards that it touched.
+    Applied(&'a str),
+    /// A run: the ages of the decks that it changed.
+    Changed(&'a str),
+    /// A run: the cards of its compile file as `A.2 X.1`, or the fault.
+    Compiled(Mode, &'a str),
+    /// A run that is made of parts: how many lines its full compile file has, or the fault.
+    Lines(&'a [Part<'a>]),
+    /// The bytes of the full compile file.
+    File,
+    /// The cards of the full compile file.
+    Active,
+    Deck(&'a str),
+    Card(&'a str),
+    Idents,
+    Yanks,
+    /// Everything of this age and younger is purged by the call: nothing is said.
+    PurgeBack(Serial),
+}
+
+/// Asks all this of a library that begins empty.
+pub fn check(rt: &impl Abort, alloc: Global, asked: &[(Ask<'_>, &str)]) -> Result<(), Fail> {
+    Shelf::new(Library::new(alloc)).check(rt, asked)
+}
+
 /// A library to which runs come one after the other.
 #[derive(Drop)]
 pub struct Shelf {
-    pub library: Library,
-    alloc: Global,
+    library: Library,
 }
 
 impl Shelf {
-    pub fn new(alloc: Global) -> Self {
-        Shelf {
-            library: Library::new(alloc),
-            alloc,
-        }
+    pub fn new(library: Library) -> Self {
+        Shelf { library }
     }
 
-    /// A library after these runs, all accepted.
-    pub fn with(alloc: Global, runs: &[&str]) -> Result<Self, Fail> {
-        let mut shelf = Shelf::new(alloc);
-        for run in runs {
-            shelf.run(run)?;
+    /// Asks one after the other, and compares each answer with the one that is wanted.
+    pub fn check(&mut self, rt: &impl Abort, asked: &[(Ask<'_>, &str)]) -> Result<(), Fail> {
+        for (ask, wanted) in asked {
+            let answer = self.answer(*ask)?;
+            assert_eq!(rt; answer.as_str(), *wanted, "{ask:?}");
         }
-        Ok(shelf)
-    }
-
-    pub fn run(&mut self, text: &str) -> Result<(), Fault> {
-        let run = read_run(self.alloc, text.as_bytes())?;
-        apply(&mut self.library, &run)?;
         Ok(())
     }
 
-    /// The compile file of a run in a mode; the library is left as the run leaves it.
-    pub fn compile(&mut self, text: &str, mode: Mode) -> Result<CompileFile, Fault> {
-        let before = self.library.copy()?;
-        let run = read_run(self.alloc, text.as_bytes())?;
+    fn answer(&mut self, ask: Ask<'_>) -> Result<String, Fail> {
+        match ask {
+            Ask::Run(run) => self.run(run),
+            Ask::Long(parts) => self.long(parts),
+            Ask::Applied(run) => self.applied(run),
+            Ask::Changed(run) => self.changed(run),
+            Ask::Compiled(mode, run) => self.compiled(mode, run),
+            Ask::Lines(parts) => self.lines(parts),
+            Ask::File => self.file(),
+            Ask::Active => self.compiled(Mode::Full, ""),
+            Ask::Deck(name) => self.deck(name),
+            Ask::Card(card) => self.card(card),
+            Ask::Idents => listing(list_idents(&self.library)?),
+            Ask::Yanks => listing(list_yanks(&self.library)?),
+            Ask::PurgeBack(age) => self.purge_back(age),
+        }
+    }
+
+    fn alloc(&self) -> Global {
+        self.library.allocator()
+    }
+
+    fn run(&mut self, text: &str) -> Result<String, Fail> {
+        let run = match read_run(self.alloc(), text.as_bytes()) {
+            Ok(run) => run,
+            Err(fault) => return Ok(format!(in self.alloc(); "{fault}")?),
+        };
+        match apply(&mut self.library, &run) {
+            Ok(_) => Ok(String::from_str(self.alloc(), "accepted")?),
+            Err(fault) => Ok(format!(in self.alloc(); "{fault}")?),
+        }
+    }
+
+    fn long(&mut self, parts: &[Part<'_>]) -> Result<String, Fail> {
+        let text = text_of(self.alloc(), parts)?;
+        self.run(text.as_str())
+    }
+
+    fn applied(&mut self, text: &str) -> Result<String, Fail> {
+        let run = read_run(self.alloc(), text.as_bytes())?;
         let applied = apply(&mut self.library, &run)?;
-        compile_file(&self.library, &before, mode, &applied.compile)
+        let (idents, compile) = (applied.idents.as_slice(), applied.compile.as_slice());
+        let mut told = format!(in self.alloc(); "{idents:?} {compile:?}")?;
+        for card in &applied.touched {
+            write!(told, " {card}")?;
+        }
+        Ok(told)
     }
 
-    /// The cards of the full compile file.
-    pub fn active(&self) -> Result<String, Fail> {
+    fn changed(&mut self, text: &str) -> Result<String, Fail> {
+        let before = self.library.copy()?;
+        self.run(text)?;
+        let ages = changed(&before, &self.library)?;
+        Ok(format!(in self.alloc(); "{:?}", ages.as_slice())?)
+    }
+
+    fn compiled(&mut self, mode: Mode, text: &str) -> Result<String, Fail> {
+        let before = self.library.copy()?;
+        let run = read_run(self.alloc(), text.as_bytes())?;
+        let applied = apply(&mut self.library, &run)?;
+        match compile_file(&self.library, &before, mode, &applied.compile) {
+            Ok(file) => cards(self.alloc(), &file),
+            Err(fault) => Ok(format!(in self.alloc(); "{fault}")?),
+        }
+    }
+
+    fn lines(&mut self, parts: &[Part<'_>]) -> Result<String, Fail> {
+        self.long(parts)?;
+        match compile_file(&self.library, &self.library, Mode::Full, &[]) {
+            Ok(file) => Ok(format!(in self.alloc(); "{}", file.lines())?),
+            Err(fault) => Ok(format!(in self.alloc(); "{fault}")?),
+        }
+    }
+
+    fn file(&self) -> Result<String, Fail> {
         let file = compile_file(&self.library, &self.library, Mode::Full, &[])?;
-        cards(self.alloc, &file)
+        Ok(String::from_str(self.alloc(), std::str::from_utf8(file.bytes())?)?)
     }
 
-    pub fn deck(&self, name: &str) -> Result<String, Fail> {
+    fn deck(&self, name: &str) -> Result<String, Fail> {
         let name = Name::read(name.as_bytes()).ok_or("no name")?;
-        let listing = list_deck(&self.library, &name)?;
-        Ok(String::from_utf8(listing)?)
+        match list_deck(&self.library, &name) {
+            Ok(bytes) => listing(bytes),
+            Err(fault) => Ok(format!(in self.alloc(); "{fault}")?),
+        }
     }
 
-    pub fn card(&self, card: &str) -> Result<String, Fail> {
+    fn card(&self, card: &str) -> Result<String, Fail> {
         let card = CardRef::read(card.as_bytes()).ok_or("no card reference")?;
-        let listing = list_card(&self.library, card)?;
-        Ok(String::from_utf8(listing)?)
+        match list_card(&self.library, card) {
+            Ok(bytes) => listing(bytes),
+            Err(fault) => Ok(format!(in self.alloc(); "{fault}")?),
+        }
     }
 
-    pub fn idents(&self) -> Result<String, Fail> {
-        let listing = list_idents(&self.library)?;
-        Ok(String::from_utf8(listing)?)
-    }
-
-    pub fn yanks(&self) -> Result<String, Fail> {
-        let listing = list_yanks(&self.library)?;
-        Ok(String::from_utf8(listing)?)
+    fn purge_back(&mut self, age: Serial) -> Result<String, Fail> {
+        purge_back(&mut self.library, age);
+        Ok(String::new(self.alloc()))
     }
 }
 
+fn listing(bytes: Vec<u8>) -> Result<String, Fail> {
+    Ok(String::from_utf8(bytes)?)
+}
+
 /// The cards of a compile file, as `A.2 X.1`.
-pub fn cards(alloc: Global, file: &CompileFile) -> Result<String, Fail> {
+fn cards(alloc: Global, file: &CompileFile) -> Result<String, Fail> {
     let mut cards = String::new(alloc);
     for line in file.bytes().chunks(97) {
         let ident = line.get(81..90).ok_or("a short line")?;
         let number = line.get(90..96).ok_or("a short line")?;
-        if !cards.is_empty() {
-            cards.push_str(" ")?;
-        }
-        cards.push_str(std::str::from_utf8(ident)?.trim_end())?;
-        cards.push_str(".")?;
-        cards.push_str(std::str::from_utf8(number)?.trim_start())?;
+        let space = if cards.is_empty() { "" } else { " " };
+        let (ident, number) = (std::str::from_utf8(ident)?, std::str::from_utf8(number)?);
+        write!(cards, "{space}{}.{}", ident.trim_end(), number.trim_start())?;
     }
     Ok(cards)
-}
-
-/// A run of lines that the caller makes one after the other.
-#[derive(Drop)]
-pub struct Lines {
-    text: String,
-}
-
-impl Lines {
-    pub fn new(alloc: Global) -> Self {
-        Lines {
-            text: String::new(alloc),
-        }
-    }
-
-    pub fn line(&mut self, line: &str) -> Result<(), Fail> {
-        self.text.push_str(line)?;
-        self.text.push_str("\n")?;
-        Ok(())
-    }
-
-    /// So many times the same line.
-    pub fn times(&mut self, count: u32, line: &str) -> Result<(), Fail> {
-        for _ in 0..count {
-            self.line(line)?;
-        }
-        Ok(())
-    }
-
-    /// `*IDENT` lines for names from N`first` up to N`last`.
-    pub fn idents(&mut self, first: u32, last: u32) -> Result<(), Fail> {
-        for n in first..=last {
-            write!(self.text, "*IDENT N{n}\n")?;
-        }
-        Ok(())
-    }
-
-    pub fn text(&self) -> &str {
-        self.text.as_str()
-    }
 }

@@ -1,20 +1,29 @@
 //! Whole command lines over readers and writers in memory.
-use super::{report_words, run_command};
-use std::alloc::{AllocError, Global};
+use std::alloc::Global;
 use std::io;
 use std::io::{ErrorKind, Read, Write};
 use std::process::Abort;
-use std::test::Fail;
+use upd_cli::{report_words, run_command};
 
-/// Gives its bytes one at a time, and counts its reads; read number `fails_at` fails.
+/// Gives the bytes of a run one at a time, and counts its reads; read number `fails_at` fails.
 #[derive(Drop)]
-struct Dribble<'a> {
-    bytes: &'a [u8],
+struct Dribble {
+    bytes: &'static [u8],
     reads: u64,
     fails_at: u64,
 }
 
-impl Read for Dribble<'_> {
+impl Dribble {
+    fn new(fails_at: u64) -> Dribble {
+        Dribble {
+            bytes: INSERTION.as_bytes(),
+            reads: 0,
+            fails_at,
+        }
+    }
+}
+
+impl Read for Dribble {
     fn read(&mut self, buf: &mut [u8]) -> io::Result<usize> {
         self.reads = self.reads.saturating_add(1);
         if self.reads == self.fails_at {
@@ -85,8 +94,15 @@ fn run_words(alloc: Global, words: &[&str], mut run: &[u8]) -> Answer {
     }
 }
 
-fn trial(alloc: Global, mode: &str, run: &[u8]) -> Answer {
-    run_words(alloc, &["upd", "trial", mode], run)
+fn run_input<R: Read>(alloc: Global, mode: &str, input: &mut R) -> Answer {
+    let (mut output, mut faults) = (Vec::new(alloc), Vec::new(alloc));
+    let words = ["upd", "trial", mode];
+    let status = run_command(alloc, words.as_slice(), input, &mut output, &mut faults);
+    Answer {
+        status,
+        output,
+        faults,
+    }
 }
 
 fn assert_answer(rt: &impl Abort, found: &Answer, status: u8, output: &[u8], faults: &[u8]) {
@@ -95,172 +111,103 @@ fn assert_answer(rt: &impl Abort, found: &Answer, status: u8, output: &[u8], fau
     assert_eq!(rt; found.faults.as_slice(), faults);
 }
 
-fn line(alloc: Global, text: &str, name: &str, number: u32) -> Result<String, AllocError> {
-    format!(in alloc; "{text:<80} {name:<9}{number:>6}\n")
-}
+const INSERTION: &str = "*DECK A\nONE\nTWO\nTHREE\n*IDENT X\n*INSERT A.2\nNEW\n";
 
-const INSERTION: &[u8] = b"*DECK A\nONE\nTWO\nTHREE\n*IDENT X\n*INSERT A.2\nNEW\n";
+const INSERTED: &str = "\
+ONE                                                                              A             2
+NEW                                                                              X             1
+TWO                                                                              A             3
+THREE                                                                            A             4
+";
 
-#[test]
-fn a_run_gives_its_compile_file(rt: HostRuntime) -> Result<(), Fail> {
-    let alloc = rt.alloc();
-    let mut wanted = line(alloc, "ONE", "A", 2)?;
-    wanted.push_str(line(alloc, "NEW", "X", 1)?.as_str())?;
-    wanted.push_str(line(alloc, "TWO", "A", 3)?.as_str())?;
-    wanted.push_str(line(alloc, "THREE", "A", 4)?.as_str())?;
-    assert_answer(
-        &rt,
-        &trial(alloc, "full", INSERTION),
-        0,
-        wanted.as_bytes(),
-        b"",
-    );
-    assert_answer(
-        &rt,
-        &trial(alloc, "normal", INSERTION),
-        0,
-        wanted.as_bytes(),
-        b"",
-    );
-    assert_answer(&rt, &trial(alloc, "quick", INSERTION), 0, b"", b"");
-    assert_answer(&rt, &trial(alloc, "full", b""), 0, b"", b"");
-    Ok(())
-}
+const CYCLE: &str = "*COMDECK C\n*CALL C\n*DECK A\n*CALL C\n";
+
+/// A mode and a run, the exit status, and what is written on the output and on the fault stream.
+const TRIALS: [(&str, &str, u8, &str, &str); 9] = [
+    ("full", INSERTION, 0, INSERTED, ""),
+    ("normal", INSERTION, 0, INSERTED, ""),
+    ("quick", INSERTION, 0, "", ""),
+    ("full", "", 0, "", ""),
+    ("full", "HELLO\n", 1, "", "upd: TextNowhere (9) at 1\n"),
+    ("Full", "HELLO\n", 1, "", "upd: BadMode (25) at 0\n"),
+    ("full", "*DECK A\nX\x07\n", 1, "", "upd: BadByte (3) at 2\n"),
+    ("full", CYCLE, 1, "", "upd: CallDepth (21) at 0\n"),
+    ("quick", CYCLE, 0, "", ""),
+];
 
 #[test]
-fn a_refusal_goes_to_the_fault_stream(rt: HostRuntime) {
-    let alloc = rt.alloc();
-    assert_answer(
-        &rt,
-        &trial(alloc, "full", b"HELLO\n"),
-        1,
-        b"",
-        b"upd: TextNowhere (9) at 1\n",
-    );
-    assert_answer(
-        &rt,
-        &trial(alloc, "Full", b"HELLO\n"),
-        1,
-        b"",
-        b"upd: BadMode (25) at 0\n",
-    );
-    assert_answer(
-        &rt,
-        &trial(alloc, "full", b"*DECK A\nX\x07\n"),
-        1,
-        b"",
-        b"upd: BadByte (3) at 2\n",
-    );
-    let called = b"*COMDECK C\n*CALL C\n*DECK A\n*CALL C\n";
-    assert_answer(
-        &rt,
-        &trial(alloc, "full", called),
-        1,
-        b"",
-        b"upd: CallDepth (21) at 0\n",
-    );
-    assert_answer(&rt, &trial(alloc, "quick", called), 0, b"", b"");
+fn runs_give_compile_files_or_refusals(rt: HostRuntime) {
+    for (mode, run, status, output, faults) in &TRIALS {
+        let found = run_words(rt.alloc(), &["upd", "trial", mode], run.as_bytes());
+        assert_answer(&rt, &found, *status, output.as_bytes(), faults.as_bytes());
+    }
 }
 
 #[test]
 fn the_mode_is_looked_at_before_the_input(rt: HostRuntime) {
-    let alloc = rt.alloc();
-    let mut input = Dribble {
-        bytes: INSERTION,
-        reads: 0,
-        fails_at: 1,
-    };
-    let (mut output, mut faults) = (Vec::new(alloc), Vec::new(alloc));
-    let words = ["upd", "trial", "slow"];
-    let status = run_command(
-        alloc,
-        words.as_slice(),
-        &mut input,
-        &mut output,
-        &mut faults,
-    );
-    assert_eq!(rt; (status, input.reads), (1, 0));
-    assert_eq!(rt; faults.as_slice(), b"upd: BadMode (25) at 0\n".as_slice());
+    let mut input = Dribble::new(1);
+    let found = run_input(rt.alloc(), "slow", &mut input);
+    assert_answer(&rt, &found, 1, b"", b"upd: BadMode (25) at 0\n");
+    assert_eq!(rt; input.reads, 0);
 }
 
 #[test]
 fn a_run_that_is_too_long_is_not_read_to_its_end(rt: HostRuntime) {
-    let alloc = rt.alloc();
     let mut input = Endless { given: 0 };
-    let (mut output, mut faults) = (Vec::new(alloc), Vec::new(alloc));
-    let words = ["upd", "trial", "full"];
-    let status = run_command(
-        alloc,
-        words.as_slice(),
-        &mut input,
-        &mut output,
-        &mut faults,
-    );
-    assert_eq!(rt; (status, input.given), (1, 65_537));
-    assert_eq!(rt; faults.as_slice(), b"upd: RunLong (1) at 0\n".as_slice());
+    let found = run_input(rt.alloc(), "full", &mut input);
+    assert_answer(&rt, &found, 1, b"", b"upd: RunLong (1) at 0\n");
+    assert_eq!(rt; input.given, 65_537);
 }
 
 #[test]
-fn bytes_that_come_singly_are_the_same_run_and_a_failed_read_ends_it(rt: HostRuntime) {
-    let alloc = rt.alloc();
-    let whole = trial(alloc, "full", INSERTION);
-    let words = ["upd", "trial", "full"];
-    for fails_at in 0..=INSERTION.len() as u64 {
-        let mut input = Dribble {
-            bytes: INSERTION,
-            reads: 0,
-            fails_at,
-        };
-        let (mut output, mut faults) = (Vec::new(alloc), Vec::new(alloc));
-        let status = run_command(
-            alloc,
-            words.as_slice(),
-            &mut input,
-            &mut output,
-            &mut faults,
-        );
-        if fails_at == 0 {
-            assert_eq!(rt; status, 0);
-            assert_eq!(rt; output.as_slice(), whole.output.as_slice());
-        } else {
-            assert_eq!(rt; (status, output.len()), (3, 0), "read {fails_at}");
-            assert_eq!(rt; faults.as_slice(), b"upd: Read (32) at 0\n".as_slice());
-        }
+fn bytes_that_come_singly_are_the_same_run(rt: HostRuntime) {
+    let found = run_input(rt.alloc(), "full", &mut Dribble::new(0));
+    assert_answer(&rt, &found, 0, INSERTED.as_bytes(), b"");
+}
+
+#[test]
+fn a_failed_read_ends_the_run(rt: HostRuntime) {
+    for fails_at in 1..=INSERTION.len() as u64 {
+        let found = run_input(rt.alloc(), "full", &mut Dribble::new(fails_at));
+        assert_answer(&rt, &found, 3, b"", b"upd: Read (32) at 0\n");
     }
+}
+
+/// The exit status of a run into a writer with so much room, and how many bytes of its compile file the writer took.
+fn run_into(alloc: Global, room: usize, faults: &mut Vec<u8>) -> (u8, usize) {
+    let mut output = Narrow {
+        taken: Vec::new(alloc),
+        room,
+    };
+    let words = ["upd", "trial", "full"];
+    let mut run = INSERTION.as_bytes();
+    let status = run_command(alloc, words.as_slice(), &mut run, &mut output, faults);
+    let is_front = INSERTED.as_bytes().starts_with(&output.taken);
+    (status, if is_front { output.taken.len() } else { 0 })
 }
 
 #[test]
 fn a_failed_write_leaves_the_front_of_the_output(rt: HostRuntime) {
-    let alloc = rt.alloc();
-    let whole = trial(alloc, "full", INSERTION);
-    let words = ["upd", "trial", "full"];
-    for room in 0..whole.output.len() {
-        let mut output = Narrow {
-            taken: Vec::new(alloc),
-            room,
-        };
-        let mut faults = Vec::new(alloc);
-        let status = run_command(
-            alloc,
-            words.as_slice(),
-            &mut &*INSERTION,
-            &mut output,
-            &mut faults,
-        );
-        assert_eq!(rt; status, 3);
-        assert!(rt; output.taken.len() == room && whole.output.starts_with(&output.taken));
+    for room in 0..INSERTED.len() {
+        let mut faults = Vec::new(rt.alloc());
+        assert_eq!(rt; run_into(rt.alloc(), room, &mut faults), (3, room));
         assert_eq!(rt; faults.as_slice(), b"upd: Write (33) at 0\n".as_slice());
     }
+}
+
+#[test]
+fn a_fault_that_cannot_be_written(rt: HostRuntime) {
     for room in 0..b"upd: TextNowhere (9) at 1\n".len() {
-        let mut output = Vec::new(alloc);
+        let mut output = Vec::new(rt.alloc());
         let mut faults = Narrow {
-            taken: Vec::new(alloc),
+            taken: Vec::new(rt.alloc()),
             room,
         };
+        let (words, mut run) = (["upd", "trial", "full"], b"HELLO".as_slice());
         let status = run_command(
-            alloc,
+            rt.alloc(),
             words.as_slice(),
-            &mut b"HELLO".as_slice(),
+            &mut run,
             &mut output,
             &mut faults,
         );
