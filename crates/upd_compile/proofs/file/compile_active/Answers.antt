@@ -1,0 +1,15 @@
+use Rattle.std.proofs.Common.{arith}
+use Rattle.std.proofs.lemmas.Grind.{common_steps}
+use Rattle.upd_compile.proofs.file.compile_active.Goals as goal
+
+pub returns-in_err-source : goal.returns-in_err-source
+returns-in_err-source c = grind (arith, common_steps)
+
+pub returns-in_err-decks : goal.returns-in_err-decks
+returns-in_err-decks c = grind (arith, common_steps)
+
+pub returns-in_err-file : goal.returns-in_err-file
+returns-in_err-file c = grind (arith, common_steps)
+
+pub returns : goal.returns
+returns c = grind (arith, common_steps)

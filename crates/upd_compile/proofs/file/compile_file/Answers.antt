@@ -1,0 +1,15 @@
+use Rattle.std.proofs.Common.{arith}
+use Rattle.std.proofs.lemmas.Grind.{common_steps}
+use Rattle.upd_compile.proofs.file.compile_file.Goals as goal
+
+pub returns-in_err-after : goal.returns-in_err-after
+returns-in_err-after c = grind (arith, common_steps)
+
+pub returns-in_err-before : goal.returns-in_err-before
+returns-in_err-before c = grind (arith, common_steps)
+
+pub returns-in_err-file : goal.returns-in_err-file
+returns-in_err-file c = grind (arith, common_steps)
+
+pub returns : goal.returns
+returns c = grind (arith, common_steps)
