@@ -2,10 +2,10 @@
 use Rattle.std.specs.Prelude.{ℕ, ◌==◌, Bool, true, false, not, ◌&&◌, List, [], ◌∷◌, map, length, drop, None, Result, Ok}
 use Rattle.std.specs.List.{list_any, filter, flat_map}
 use Rattle.upd_core.specs.declared.card.Entry.{Entry}
-use Rattle.upd_core.specs.declared.card_ref.CardRef.{CardRef}
-use Rattle.upd_core.specs.declared.fault.Fault.{Fault}
+use Rattle.upd_text.specs.declared.card_ref.CardRef.{CardRef}
+use Rattle.upd_text.specs.declared.fault.Fault.{Fault}
 use Rattle.upd_core.specs.Library.{CardView, LibraryView, all_decks, cards_of, ref_of, is_card}
-use Rattle.upd_core.specs.Outcome.{◌>>=◌, at_line}
+use Rattle.upd_text.specs.Outcome.{◌>>=◌, at_line}
 use Rattle.upd_deck.specs.Items.{ItemView, LineView, Compile}
 use Rattle.upd_apply.specs.declared.state.Spot.TheVariants.{Nowhere}
 use Rattle.upd_apply.specs.declared.state.State.{State}
@@ -24,7 +24,7 @@ stepped (line ∷ lines) s = do
   stepped lines t
 
 -- the ranges of decks that a line names to compile
-abbrev pub ranges_of : List Ages → ItemView → LibraryView → Result (List Ages) Rattle.upd_core.specs.declared.fault.FaultKind.FaultKind
+abbrev pub ranges_of : List Ages → ItemView → LibraryView → Result (List Ages) Rattle.upd_text.specs.declared.fault.FaultKind.FaultKind
 ranges_of found (Compile ranges) l = ranges_named found ranges l
 ranges_of found _ l = Ok found
 

@@ -1,8 +1,8 @@
 -- What a line does to the library, the set in hand and the place of text; its refusals in order, Full last.
 use Rattle.std.specs.Prelude.{ℕ, ◌+◌, ◌-◌, ◌==◌, nat_lt, Bool, true, false, not, ◌&&◌, ◌||◌, if◌then◌else◌, List, [], ◌∷◌, length, Some, None, is_some, Result, Ok, Err}
-use Rattle.upd_core.specs.declared.card_ref.CardRef.{CardRef}
-use Rattle.upd_core.specs.declared.fault.FaultKind.{FaultKind}
-use Rattle.upd_core.specs.declared.fault.FaultKind.TheVariants as fault
+use Rattle.upd_text.specs.declared.card_ref.CardRef.{CardRef}
+use Rattle.upd_text.specs.declared.fault.FaultKind.{FaultKind}
+use Rattle.upd_text.specs.declared.fault.FaultKind.TheVariants as fault
 use Rattle.upd_core.specs.declared.ident.Kind.{Kind}
 use Rattle.upd_core.specs.declared.ident.Kind.TheVariants as kind
 use Rattle.upd_core.specs.declared.library.Place.{Place}
@@ -10,7 +10,7 @@ use Rattle.upd_core.specs.declared.target.Target.{Target}
 use Rattle.upd_core.specs.Edits.{introduced, next_age, new_card, with_deck, with_card, with_yank, with_entries, purged, purged_in, purged_back, is_among}
 use Rattle.upd_core.specs.Library.{LibraryView, place_of, cards_of, held_named}
 use Rattle.upd_core.specs.Limits.{is_within_limits}
-use Rattle.upd_core.specs.Outcome.{◌>>=◌, need, refuse_if}
+use Rattle.upd_text.specs.Outcome.{◌>>=◌, need, refuse_if}
 use Rattle.upd_deck.specs.Items.{ItemView, LineView, Text, Call, Ident, Deck, CommonDeck, Insert, Before, Delete, Restore, Yank, SelYank, YankDeck, Purge, PurgeFrom, SelPurge, PurDeck, Compile}
 use Rattle.upd_apply.specs.declared.state.Spot.{Spot}
 use Rattle.upd_apply.specs.declared.state.Spot.TheVariants.{Nowhere, End, Inside}

@@ -2,13 +2,13 @@
 use Rattle.std.specs.Prelude.{ℕ, ◌==◌, nat_lt, nat_le, Bool, false, ◌&&◌, ◌||◌, if◌then◌else◌, List, [], ◌∷◌, ◌++◌, map, Result, Ok}
 use Rattle.std.specs.Str.{bytes_eq}
 use Rattle.std.specs.List.{list_any, filter}
-use Rattle.upd_core.specs.declared.fault.FaultKind.{FaultKind}
-use Rattle.upd_core.specs.declared.fault.FaultKind.TheVariants as fault
+use Rattle.upd_text.specs.declared.fault.FaultKind.{FaultKind}
+use Rattle.upd_text.specs.declared.fault.FaultKind.TheVariants as fault
 use Rattle.upd_core.specs.declared.target.Target.{Target}
 use Rattle.upd_core.specs.declared.target.Target.TheVariants.{Set, SetIn, Deck}
 use Rattle.upd_core.specs.Library.{LibraryView, ident_of, deck_of, is_deck_kind}
-use Rattle.upd_core.specs.Names.{yank_name}
-use Rattle.upd_core.specs.Outcome.{◌>>=◌, need, refuse_if}
+use Rattle.upd_text.specs.Names.{yank_name}
+use Rattle.upd_text.specs.Outcome.{◌>>=◌, need, refuse_if}
 use Rattle.upd_deck.specs.declared.item.NameRange.{NameRange}
 use Rattle.upd_deck.specs.declared.item.IdentIn.{IdentIn}
 

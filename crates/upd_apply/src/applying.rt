@@ -1,7 +1,7 @@
 ghost use Rattle.std.specs.Prelude.{◌≡◌, ◌+◌, ◌^◌, ◌<◌, ◌≤◌, [], map, drop, length, Ok, IfErr, IfOk, OnErr, OnOk};
 ghost use Rattle.upd_core.specs.Edits.{purged_back};
 ghost use Rattle.upd_core.specs.Sound.{AreApart, all_cards, key_of};
-ghost use Rattle.upd_core.specs.Outcome.{DoesAt, FailsAt, GivesAt, at_line};
+ghost use Rattle.upd_text.specs.Outcome.{DoesAt, FailsAt, GivesAt, at_line};
 ghost use Rattle.upd_apply.specs.Applying.{applied, named_by, ranges_of, stepped, touched};
 ghost use Rattle.upd_apply.specs.Numbers.{next_most};
 ghost use Rattle.upd_apply.specs.Step.{step};
@@ -11,8 +11,9 @@ use crate::purges::{add_ranges, decks_in_any};
 use crate::state::State;
 use crate::touched::touched;
 use std::alloc::{AllocError, Global};
-use upd_core::{CardRef, Fault, Ident, Library, Serial};
+use upd_core::{Ident, Library, Serial};
 use upd_deck::{Item, Line, Run};
+use upd_text::{CardRef, Fault};
 
 /// What a run left besides the library.
 #[derive(Debug, Drop)]

@@ -3,8 +3,9 @@ ghost use Rattle.upd_apply.specs.Step.{new_name};
 ghost use Rattle.upd_apply.specs.Yanks.{ages_by, is_in, is_reserved, known_deck, known_ident};
 
 use std::marker::Model;
-use upd_core::{FaultKind, Library, Name, Serial};
+use upd_core::{Library, Serial};
 use upd_deck::NameRange;
+use upd_text::{FaultKind, Name};
 
 /// Ages from one to another.
 #[derive(Clone, Copy, Debug)]

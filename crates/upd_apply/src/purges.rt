@@ -1,7 +1,7 @@
 ghost use Rattle.std.specs.Prelude.{◌≡◌, ◌&&◌, ◌+◌, ◌≤◌, [], ◌++◌, map, IfOk, OnOk};
 ghost use Rattle.std.specs.List.{filter, list_any};
 ghost use Rattle.upd_core.specs.Library.{is_deck_kind};
-ghost use Rattle.upd_core.specs.Outcome.{Does, Gives};
+ghost use Rattle.upd_text.specs.Outcome.{Does, Gives};
 ghost use Rattle.upd_deck.specs.Items.{PurDeck, Purge, PurgeFrom, SelPurge};
 ghost use Rattle.upd_apply.specs.Numbers.{next_most};
 ghost use Rattle.upd_apply.specs.Step.{done, ended, purged_in_all};
@@ -11,8 +11,9 @@ use crate::names::{AgeRange, deck_ages, ident_ages, known_deck, known_ident};
 use crate::state::{Spot, State};
 use std::alloc::{AllocError, Global};
 use std::marker::Model;
-use upd_core::{FaultKind, Ident, Library, Name, Serial};
+use upd_core::{Ident, Library, Serial};
 use upd_deck::{IdentIn, NameRange};
+use upd_text::{FaultKind, Name};
 
 /// An ident in a deck, by age.
 #[derive(Clone, Copy, Debug)]

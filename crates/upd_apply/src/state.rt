@@ -1,15 +1,16 @@
 ghost use Rattle.std.specs.Prelude.{◌≡◌, ◌+◌, ◌^◌, ◌<◌, ◌≤◌, [], length, Some, MatchResult, OnOk};
 ghost use Rattle.upd_core.specs.Edits.{new_card, next_age};
 ghost use Rattle.upd_core.specs.Library.{place_of};
-ghost use Rattle.upd_core.specs.Outcome.{Does, need};
-ghost use Rattle.upd_core.specs.declared.fault.FaultKind.TheVariants as fault;
+ghost use Rattle.upd_text.specs.Outcome.{Does, need};
+ghost use Rattle.upd_text.specs.declared.fault.FaultKind.TheVariants as fault;
 ghost use Rattle.upd_apply.specs.Applying.{started};
 ghost use Rattle.upd_apply.specs.Numbers.{next_most};
 ghost use Rattle.upd_apply.specs.Step.{behind, deck_begun, grown, is_first, placed_after, placed_before, set_begun, switched, text_put};
 
 use crate::names::new_name;
-use upd_core::limits::MAX_INTRODUCED;
-use upd_core::{Card, CardRef, Deck, Entry, FaultKind, Kind, Library, Name, Place, Serial};
+use upd_core::{Card, Deck, Entry, Kind, Library, Place, Serial};
+use upd_text::limits::MAX_INTRODUCED;
+use upd_text::{CardRef, FaultKind, Name};
 
 /// The correction set in hand, and the number that its next card gets.
 #[derive(Clone, Copy, Debug, PartialEq, Eq)]

@@ -1,11 +1,12 @@
 ghost use Rattle.std.specs.Prelude.{◌+◌, ◌^◌, ◌<◌, ◌≤◌, OnOk};
-ghost use Rattle.upd_core.specs.Outcome.{Does};
+ghost use Rattle.upd_text.specs.Outcome.{Does};
 ghost use Rattle.upd_apply.specs.Numbers.{next_most};
 ghost use Rattle.upd_apply.specs.Step.{step};
 
 use crate::state::State;
-use upd_core::{FaultKind, Kind};
+use upd_core::Kind;
 use upd_deck::{Item, Line};
+use upd_text::FaultKind;
 
 impl State {
     /// What a line does, or why it is refused. After a refusal the state is of no use.

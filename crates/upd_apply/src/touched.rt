@@ -6,7 +6,8 @@ ghost use Rattle.upd_apply.specs.Applying.{same_history, stood_in, touched};
 
 use std::alloc::AllocError;
 use upd_core::ident::name_at;
-use upd_core::{Card, CardRef, Deck, Entry, Ident, Library, Name, Serial};
+use upd_core::{Card, Deck, Entry, Ident, Library, Serial};
+use upd_text::{CardRef, Name};
 
 /// The cards of a library after a run that weren't there before, or whose history differs, by deck (`YANK$$$` first) and place.
 pub(crate) fn touched(before: &Library, after: &Library) -> Result<Vec<CardRef>, AllocError>

@@ -1,6 +1,6 @@
 ghost use Rattle.std.specs.Prelude.{◌≡◌, ◌+◌, ◌^◌, ◌<◌, ◌≤◌, ◌&&◌, ◌||◌, ◌==◌, ℕ, [], map, Ok, Some, OnOk};
 ghost use Rattle.std.specs.List.{filter, list_any};
-ghost use Rattle.upd_core.specs.Outcome.{Does, Gives};
+ghost use Rattle.upd_text.specs.Outcome.{Does, Gives};
 ghost use Rattle.upd_core.specs.declared.target.Target.TheVariants.{Set};
 ghost use Rattle.upd_apply.specs.Marks.{AreMarked, is_marked};
 ghost use Rattle.upd_apply.specs.Numbers.{next_most};
@@ -10,8 +10,9 @@ ghost use Rattle.upd_apply.specs.Yanks.{decks_yanked, is_in, is_target, pairs_ya
 use crate::names::{AgeRange, ident_ages, known_deck, known_ident};
 use crate::state::{Hand, Spot, State, check_limits};
 use std::alloc::AllocError;
-use upd_core::{Card, FaultKind, Ident, Library, Name, Serial, Target};
+use upd_core::{Card, Ident, Library, Serial, Target};
 use upd_deck::{IdentIn, NameRange};
+use upd_text::{FaultKind, Name};
 
 impl State {
     /// `*YANK`

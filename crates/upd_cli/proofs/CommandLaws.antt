@@ -1,6 +1,6 @@
 -- A command that ended so, and is told so, has answered what is defined.
 use Rattle.std.proofs.Common.{inl, inr, ℕ, List, Option, Some, None, Result, Ok, Err, IfSome, sym, ◌∙◌, subst}
-use Rattle.upd_core.specs.declared.fault.Fault.{Fault}
+use Rattle.upd_text.specs.declared.fault.Fault.{Fault}
 use Rattle.upd_compile.specs.File.{FileView}
 use Rattle.upd_cli.specs.Command.{Answers, Ends, IsEnd, answer_to}
 

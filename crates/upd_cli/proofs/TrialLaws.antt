@@ -4,11 +4,11 @@ use Rattle.upd_core.specs.Library.{empty}
 use Rattle.upd_apply.specs.Applying.{applied}
 use Rattle.std.proofs.lemmas.Bool.{cases_lt, lt-ltb}
 use Rattle.std.proofs.lemmas.List.{length-take-le, take_all}
-use Rattle.upd_core.specs.declared.fault.Fault.{Fault}
-use Rattle.upd_core.specs.declared.fault.FaultKind.{FaultKind}
-use Rattle.upd_core.specs.declared.fault.FaultKind.TheVariants.{RunLong, TooManyLines, BadByte, LineLong, BadName, BadCard, BadField, NoIdent, TextNowhere, NameTaken, IdentUnknown, DeckUnknown, CardUnknown, RangeOrder, DeckCard, YankText, YankSelf, Reserved, Full, CallUnknown, CallDepth, CompileLong, BadSite, BadNumber, BadMode, RunChanged, Settled, NoMemory, Store, BadFrame, CutFrame, Read, Write}
-use Rattle.upd_core.specs.declared.limits.TheConstants.{MAX_RUN_BYTES}
-use Rattle.upd_core.specs.Outcome.{◌>>=◌, FailsOf, GivesAt, at_line, need, refuse_if}
+use Rattle.upd_text.specs.declared.fault.Fault.{Fault}
+use Rattle.upd_text.specs.declared.fault.FaultKind.{FaultKind}
+use Rattle.upd_text.specs.declared.fault.FaultKind.TheVariants.{RunLong, TooManyLines, BadByte, LineLong, BadName, BadCard, BadField, NoIdent, TextNowhere, NameTaken, IdentUnknown, DeckUnknown, CardUnknown, RangeOrder, DeckCard, YankText, YankSelf, Reserved, Full, CallUnknown, CallDepth, CompileLong, BadSite, BadNumber, BadMode, RunChanged, Settled, NoMemory, Store, BadFrame, CutFrame, Read, Write}
+use Rattle.upd_text.specs.declared.limits.TheConstants.{MAX_RUN_BYTES}
+use Rattle.upd_text.specs.Outcome.{◌>>=◌, FailsOf, GivesAt, at_line, need, refuse_if}
 use Rattle.upd_deck.specs.Reading.{reading}
 use Rattle.upd_compile.specs.File.{FileView, compile_file_of}
 use Rattle.upd_compile.specs.Modes.{mode_named}

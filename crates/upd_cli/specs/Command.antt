@@ -4,7 +4,7 @@ use Rattle.std.specs.Io.KnownBytes.{Appends}
 use Rattle.clap.specs.Words.{IsAmong, Text}
 use Rattle.clap.specs.declared.error.kind.ErrorKind.{ErrorKind}
 use Rattle.clap.specs.declared.error.kind.ErrorKind.TheVariants.{DisplayHelp, DisplayVersion}
-use Rattle.upd_core.specs.declared.fault.Fault.{Fault}
+use Rattle.upd_text.specs.declared.fault.Fault.{Fault}
 use Rattle.upd_compile.specs.File.{FileView}
 use Rattle.upd_cli.specs.Status.{exit_status, fault_line}
 use Rattle.upd_cli.specs.Words.{word_faults}

@@ -1,9 +1,9 @@
 -- Exit statuses and fault lines.
 use Rattle.std.specs.Prelude.{ℕ, List, [], ◌∷◌, ◌++◌, codes, decimal}
-use Rattle.upd_core.specs.declared.fault.Fault.{Fault}
-use Rattle.upd_core.specs.declared.fault.FaultKind.{FaultKind}
-use Rattle.upd_core.specs.declared.fault.FaultKind.TheVariants.{NoMemory, Store, Read, Write}
-use Rattle.upd_core.specs.Faults.{fault_name, fault_number}
+use Rattle.upd_text.specs.declared.fault.Fault.{Fault}
+use Rattle.upd_text.specs.declared.fault.FaultKind.{FaultKind}
+use Rattle.upd_text.specs.declared.fault.FaultKind.TheVariants.{NoMemory, Store, Read, Write}
+use Rattle.upd_text.specs.Faults.{fault_name, fault_number}
 
 -- the exit status of a fault: 3 where memory, the store, a read or a write failed, and 1 for a refusal
 abbrev pub exit_status : FaultKind → ℕ

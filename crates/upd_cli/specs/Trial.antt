@@ -1,9 +1,9 @@
 -- A run on its own: what it makes of an empty library.
 use Rattle.std.specs.Prelude.{ℕ, List, Result}
-use Rattle.upd_core.specs.declared.fault.Fault.{Fault}
-use Rattle.upd_core.specs.declared.fault.FaultKind.TheVariants.{BadMode}
+use Rattle.upd_text.specs.declared.fault.Fault.{Fault}
+use Rattle.upd_text.specs.declared.fault.FaultKind.TheVariants.{BadMode}
 use Rattle.upd_core.specs.Library.{empty}
-use Rattle.upd_core.specs.Outcome.{◌>>=◌, at_line, need}
+use Rattle.upd_text.specs.Outcome.{◌>>=◌, at_line, need}
 use Rattle.upd_deck.specs.Reading.{reading}
 use Rattle.upd_apply.specs.Applying.{applied}
 use Rattle.upd_compile.specs.File.{FileView, compile_file_of}

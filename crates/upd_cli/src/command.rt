@@ -16,7 +16,7 @@ use std::convert::AsStr;
 use std::io;
 use std::io::{ErrorKind, Read, Write};
 use upd_compile::CompileFile;
-use upd_core::Fault;
+use upd_text::Fault;
 
 /// Carries out the command line `words`, the program's own name first, and answers the exit status: 0 where all is done; 1 for a refusal,
 /// whose line goes to `faults`; 2 where the words are no command line; 3 where memory, a read or a write failed.
@@ -94,7 +94,7 @@ fn carry_out_trial<R: Read, W: Write>(
     ensures silent { IfErr result (λ fault. exit_status fault.kind ≡ 1 → output.new ≡ output.old) }
 {
     let file = try_input(alloc, mode, input)?;
-    write_out(output, file.bytes())
+    write_out(output, &file.bytes)
 }
 
 /// The compile file of the run on the input. The mode is looked at before the input is read.

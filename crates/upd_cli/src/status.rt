@@ -5,7 +5,7 @@ ghost use Rattle.upd_cli.specs.Status.{exit_status, fault_line};
 
 use std::io;
 use std::io::Write;
-use upd_core::{Fault, FaultKind};
+use upd_text::{Fault, FaultKind};
 
 /// All is done.
 pub const DONE: u8 = 0;

@@ -6,8 +6,8 @@ ghost use Rattle.upd_cli.specs.Status.{no_memory, read_failed, write_failed};
 use std::alloc::{AllocError, Global};
 use std::io;
 use std::io::{ErrorKind, Read, Write};
-use upd_core::limits::MAX_RUN_BYTES;
-use upd_core::{Fault, FaultKind};
+use upd_text::limits::MAX_RUN_BYTES;
+use upd_text::{Fault, FaultKind};
 
 /// All bytes of an input, or the first `MAX_RUN_BYTES` and one more.
 pub(crate) fn read_input<R: Read>(alloc: Global, input: &mut R) -> Result<Vec<u8>, Fault>

@@ -1,15 +1,16 @@
 //! A run on its own, against an empty library.
 ghost use Rattle.std.specs.Prelude.{◌≡◌};
-ghost use Rattle.upd_core.specs.Outcome.{GivesAt, at_line, need};
-ghost use Rattle.upd_core.specs.declared.fault.FaultKind.TheVariants.{BadMode};
+ghost use Rattle.upd_text.specs.Outcome.{GivesAt, at_line, need};
+ghost use Rattle.upd_text.specs.declared.fault.FaultKind.TheVariants.{BadMode};
 ghost use Rattle.upd_compile.specs.Modes.{mode_named};
 ghost use Rattle.upd_cli.specs.Trial.{trial_of};
 
 use std::alloc::Global;
 use upd_apply::apply;
 use upd_compile::{CompileFile, Mode, compile_file};
-use upd_core::{Fault, FaultKind, Library};
+use upd_core::Library;
 use upd_deck::read_run;
+use upd_text::{Fault, FaultKind};
 
 /// The compile file of a run that is applied to an empty library, or the run's first refusal. Keeps nothing.
 pub fn trial(alloc: Global, mode: Mode, run: &[u8]) -> Result<CompileFile, Fault>

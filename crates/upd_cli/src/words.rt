@@ -10,7 +10,7 @@ use clap::error::ErrorKind;
 use clap::{Arg, ArgAction, ArgMatches, Command, Error};
 use std::alloc::{AllocError, Global};
 use std::convert::AsStr;
-use upd_core::Fault;
+use upd_text::Fault;
 
 /// What the words of a command line ask for.
 #[derive(Debug, Drop)]

@@ -7,7 +7,7 @@ use Rattle.std.proofs.lemmas.List.Folds.{Any-from_list_any, list_any-from_Any}
 use Rattle.upd_core.specs.declared.ident.Ident.{Ident}
 use Rattle.upd_core.specs.Actives.{ActiveCardView, ActiveDeckView, ActivesView}
 use Rattle.upd_core.specs.Library.{held_named, is_common}
-use Rattle.upd_core.specs.Lines.{is_call, called}
+use Rattle.upd_text.specs.Lines.{is_call, called}
 use Rattle.upd_compile.specs.Chosen.{Calls, Chain, Call, Through, called_decks, has_chain, has_chain_within, is_changed, is_passed_on}
 use Rattle.upd_compile.specs.Walk.{common_named, deck_aged, text_cards}
 use Rattle.upd_compile.proofs.ListLaws.{list_any-weaker, list_any-same, list_any-taken, find-holds, number, number-grows, number-all}

@@ -7,7 +7,7 @@ use Rattle.std.proofs.lemmas.List.Folds.{Any-from_list_any, list_any-from_Any}
 use Rattle.std.proofs.lemmas.List.{length-map}
 use Rattle.std.proofs.lemmas.Option.{slice_get-map, slice_get_within}
 use Rattle.upd_core.specs.Actives.{ActiveDeckView, ActivesView}
-use Rattle.upd_core.specs.Lines.{is_call, called}
+use Rattle.upd_text.specs.Lines.{is_call, called}
 use Rattle.upd_compile.specs.Chosen.{called_decks, has_chain, is_changed, is_passed_on}
 use Rattle.upd_compile.specs.Places.{called_place, called_places, place_named}
 use Rattle.upd_compile.specs.Reach.{AreCallers, AreReached, follows, is_in, is_marked}

@@ -2,11 +2,11 @@
 use Rattle.std.proofs.Common.{◌≡◌, ℕ, zero, suc, sub-one, ◌+◌, ◌-◌, ◌<◌, true, false, ◌==◌, ◌&&◌, List, [], ◌∷◌, ◌++◌, map, drop, length, get_or, Bor, Some, Ok, Err, Result, refl, arith, ◌∙◌}
 use Rattle.std.specs.List.{flat_map}
 use Rattle.std.proofs.lemmas.List.{at_drop_more}
-use Rattle.upd_core.specs.declared.fault.FaultKind.{FaultKind}
+use Rattle.upd_text.specs.declared.fault.FaultKind.{FaultKind}
 use Rattle.upd_core.specs.declared.ident.Ident.{Ident}
 use Rattle.upd_core.specs.Actives.{ActiveCardView, ActiveDeckView, ActivesView}
-use Rattle.upd_core.specs.Lines.{is_call, called}
-use Rattle.upd_core.specs.Outcome.{◌>>=◌}
+use Rattle.upd_text.specs.Lines.{is_call, called}
+use Rattle.upd_text.specs.Outcome.{◌>>=◌}
 use Rattle.upd_compile.specs.Progress.{ProgressView, after_event, after_events}
 use Rattle.upd_compile.specs.Walk.{Event, Follow, common_named, call_events, card_events, walk}
 

@@ -4,11 +4,11 @@ use Rattle.std.specs.List.{flat_map}
 use Rattle.std.proofs.lemmas.Grind.{common_steps}
 use Rattle.std.proofs.lemmas.List.Sums.{sum_by-cons}
 use Rattle.std.proofs.lemmas.Bool.Decides.{nat_tests}
-use Rattle.upd_core.specs.declared.fault.FaultKind.{FaultKind}
+use Rattle.upd_text.specs.declared.fault.FaultKind.{FaultKind}
 use Rattle.upd_core.specs.declared.ident.Ident.{Ident}
-use Rattle.upd_core.specs.declared.limits.TheConstants.{MAX_COMPILE_LINES, MAX_CALLS}
+use Rattle.upd_text.specs.declared.limits.TheConstants.{MAX_COMPILE_LINES, MAX_CALLS}
 use Rattle.upd_core.specs.Actives.{ActiveCardView}
-use Rattle.upd_core.specs.Outcome.{◌>>=◌, at_line}
+use Rattle.upd_text.specs.Outcome.{◌>>=◌, at_line}
 use Rattle.upd_compile.specs.File.{FileView, card_line, event_line, first_fault, is_line, written}
 use Rattle.upd_compile.specs.Progress.{ProgressView, after_events, at_start, file_so_far}
 use Rattle.upd_compile.specs.Walk.{Event, Line, Follow, Depth, Unknown}

@@ -6,7 +6,7 @@ use Rattle.std.specs.Str.{bytes_eq}
 use Rattle.upd_core.specs.Actives.{ActiveCardView, ActiveDeckView, ActivesView}
 use Rattle.upd_core.specs.Edits.{is_among}
 use Rattle.upd_core.specs.Library.{is_common}
-use Rattle.upd_core.specs.Lines.{is_call, called}
+use Rattle.upd_text.specs.Lines.{is_call, called}
 use Rattle.upd_compile.specs.declared.mode.Mode.{Mode}
 use Rattle.upd_compile.specs.declared.mode.Mode.TheVariants.{Full, Quick, Normal}
 use Rattle.upd_compile.specs.Idents.{passes}

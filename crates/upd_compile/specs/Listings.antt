@@ -4,17 +4,17 @@ use Rattle.std.specs.Option.{option_map_or}
 use Rattle.std.specs.List.{flat_map, list_any}
 use Rattle.std.specs.Str.{bytes_eq}
 use Rattle.upd_core.specs.declared.card.Entry.{Entry}
-use Rattle.upd_core.specs.declared.card_ref.CardRef.{CardRef}
-use Rattle.upd_core.specs.declared.fault.Fault.{Fault}
-use Rattle.upd_core.specs.declared.fault.FaultKind.TheVariants.{DeckUnknown, CardUnknown}
+use Rattle.upd_text.specs.declared.card_ref.CardRef.{CardRef}
+use Rattle.upd_text.specs.declared.fault.Fault.{Fault}
+use Rattle.upd_text.specs.declared.fault.FaultKind.TheVariants.{DeckUnknown, CardUnknown}
 use Rattle.upd_core.specs.declared.ident.Ident.{Ident}
 use Rattle.upd_core.specs.declared.ident.Kind.{Kind}
 use Rattle.upd_core.specs.declared.ident.Kind.TheVariants as kind
 use Rattle.upd_core.specs.declared.target.Target.{Target}
 use Rattle.upd_core.specs.declared.target.Target.TheVariants.{Set, SetIn, Deck}
 use Rattle.upd_core.specs.Library.{CardView, LibraryView, name_of, ref_of, is_common, deck_of, place_of, card_in, cards_of}
-use Rattle.upd_core.specs.Names.{yank_name, card_text}
-use Rattle.upd_core.specs.Outcome.{◌>>=◌, need, at_line}
+use Rattle.upd_text.specs.Names.{yank_name, card_text}
+use Rattle.upd_text.specs.Outcome.{◌>>=◌, need, at_line}
 use Rattle.upd_core.specs.Status.{is_active, is_good, is_taken, live_targets}
 use Rattle.upd_compile.specs.Idents.{ident_at}
 

@@ -7,7 +7,7 @@ use Rattle.upd_core.specs.declared.ident.Kind.{Kind}
 use Rattle.upd_core.specs.Actives.{ActiveCardView, ActiveDeckView, ActivesView}
 use Rattle.upd_core.specs.First.{index_from}
 use Rattle.upd_core.specs.Library.{held_named, is_common}
-use Rattle.upd_core.specs.Lines.{is_call, called}
+use Rattle.upd_text.specs.Lines.{is_call, called}
 use Rattle.upd_compile.specs.Walk.{text_cards}
 
 abbrev pub kind_and_age : Ident → Kind × ℕ

@@ -1,10 +1,10 @@
 -- A compile file as it grows on the walk.
 use Rattle.std.specs.Prelude.{ℕ, ◌+◌, nat_lt, if◌then◌else◌, List, [], ◌∷◌, ◌++◌, Result, Ok, Err}
-use Rattle.upd_core.specs.declared.fault.FaultKind.{FaultKind}
-use Rattle.upd_core.specs.declared.fault.FaultKind.TheVariants.{CallUnknown, CallDepth, CompileLong}
+use Rattle.upd_text.specs.declared.fault.FaultKind.{FaultKind}
+use Rattle.upd_text.specs.declared.fault.FaultKind.TheVariants.{CallUnknown, CallDepth, CompileLong}
 use Rattle.upd_core.specs.declared.ident.Ident.{Ident}
-use Rattle.upd_core.specs.declared.limits.TheConstants.{MAX_COMPILE_LINES, MAX_CALLS}
-use Rattle.upd_core.specs.Outcome.{◌>>=◌}
+use Rattle.upd_text.specs.declared.limits.TheConstants.{MAX_COMPILE_LINES, MAX_CALLS}
+use Rattle.upd_text.specs.Outcome.{◌>>=◌}
 use Rattle.upd_compile.specs.File.{FileView, card_line}
 use Rattle.upd_compile.specs.Walk.{Event, Line, Follow, Depth, Unknown}
 

@@ -4,7 +4,7 @@ use Rattle.std.specs.Option.{option_and_then}
 use Rattle.std.specs.List.{filter, find, flat_map}
 use Rattle.upd_core.specs.Actives.{ActiveCardView, ActiveDeckView, ActivesView}
 use Rattle.upd_core.specs.Library.{is_common, held_named}
-use Rattle.upd_core.specs.Lines.{is_call, called}
+use Rattle.upd_text.specs.Lines.{is_call, called}
 
 -- What a walk meets: a line, a call that is followed, a call too deep, a call of what is no held common deck.
 pub data Event : Type 0 where

@@ -13,8 +13,8 @@ use crate::marks::{both, calls_marked};
 use crate::reach::reached;
 use crate::walk::is_first;
 use std::alloc::{AllocError, Global};
-use upd_core::line::{called, is_call};
 use upd_core::{ActiveCard, ActiveDeck, Ident, Serial};
+use upd_text::line::{called, is_call};
 
 /// A deck has a chain to a changed common deck where a path of calls leads there, and only there, however long the path is.
 pub fn chains_are_paths()

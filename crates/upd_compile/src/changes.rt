@@ -2,13 +2,14 @@ ghost use Rattle.std.specs.Prelude.{◌≡◌, map, IfOk};
 ghost use Rattle.std.specs.List.{filter};
 ghost use Rattle.std.specs.Result.{IsOkUnless};
 ghost use Rattle.upd_core.specs.Actives.{actives_of};
-ghost use Rattle.upd_core.specs.Faults.{fault_at};
-ghost use Rattle.upd_core.specs.declared.fault.FaultKind.TheVariants.{NoMemory};
+ghost use Rattle.upd_text.specs.Faults.{fault_at};
+ghost use Rattle.upd_text.specs.declared.fault.FaultKind.TheVariants.{NoMemory};
 ghost use Rattle.upd_compile.specs.Chosen.{changed, is_changed, same_card, same_cards};
 
 use crate::indexed::Indexed;
 use std::alloc::{AllocError, Global};
-use upd_core::{ActiveCard, ActiveDeck, Fault, Library, Serial};
+use upd_core::{ActiveCard, ActiveDeck, Library, Serial};
+use upd_text::Fault;
 
 /// The decks that changed from one library to another, by age; memory alone can fail.
 ///

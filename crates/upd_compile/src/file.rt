@@ -1,6 +1,6 @@
 ghost use Rattle.std.specs.Prelude.{◌≡◌, map};
 ghost use Rattle.std.specs.List.{flat_map};
-ghost use Rattle.upd_core.specs.Outcome.{GivesAt};
+ghost use Rattle.upd_text.specs.Outcome.{GivesAt};
 ghost use Rattle.upd_compile.specs.File.{compile_file_of, file_of, written};
 ghost use Rattle.upd_compile.specs.Walk.{walk};
 
@@ -11,14 +11,16 @@ use crate::progress::Progress;
 use crate::walk::walk_all;
 use std::alloc::Global;
 use std::marker::Model;
-use upd_core::limits::MAX_DEPTH;
-use upd_core::{ActiveDeck, Actives, Fault, Library, Serial};
+use upd_core::{ActiveDeck, Actives, Library, Serial};
+use upd_text::Fault;
+use upd_text::limits::MAX_DEPTH;
 
 /// A compile file: lines of 97 bytes.
 #[derive(Debug, Drop)]
 pub struct CompileFile {
-    pub(crate) bytes: Vec<u8>,
-    pub(crate) lines: u32,
+    pub bytes: Vec<u8>,
+    /// How many lines it has.
+    pub lines: u32,
 }
 
 impl Model for CompileFile {
@@ -27,22 +29,6 @@ impl Model for CompileFile {
     ghost Value = { FileView };
 
     ghost view = { λ f. record { bytes = f.bytes.items; lines = f.lines } };
-}
-
-impl CompileFile {
-    /// The whole file.
-    pub fn bytes(&self) -> &[u8]
-        ensures { result.now ≡ self.now.bytes }
-    {
-        &self.bytes
-    }
-
-    /// How many lines it has.
-    pub fn lines(&self) -> u32
-        ensures { result ≡ self.now.lines }
-    {
-        self.lines
-    }
 }
 
 /// The compile file of a library after a run. `before` is the library before that run, `named` are the ages of the decks that the run named

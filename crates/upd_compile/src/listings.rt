@@ -5,19 +5,18 @@ ghost use Rattle.std.specs.List.{flat_map, list_any};
 ghost use Rattle.std.specs.Option.{option_copied, option_to_list};
 ghost use Rattle.std.specs.Result.{IsOkUnless};
 ghost use Rattle.upd_core.specs.declared.ident.Ident.{Ident};
-ghost use Rattle.upd_core.specs.declared.fault.FaultKind.TheVariants.{NoMemory};
-ghost use Rattle.upd_core.specs.Faults.{fault_at};
+ghost use Rattle.upd_text.specs.declared.fault.FaultKind.TheVariants.{NoMemory};
+ghost use Rattle.upd_text.specs.Faults.{fault_at};
 ghost use Rattle.upd_core.specs.Library.{name_of};
-ghost use Rattle.upd_core.specs.Outcome.{GivesAt};
+ghost use Rattle.upd_text.specs.Outcome.{GivesAt};
 ghost use Rattle.upd_core.specs.Sound.{AreAgedFrom, is_held};
 ghost use Rattle.upd_compile.specs.Listings.{card_lines, card_listing, card_name, deck_heading, deck_line, deck_listing, deck_name, entry_line, ident_line, ident_listing, is_purged, listed_deck, purged_mark, spaced, target_line, word_if, yank_lines, yank_listing};
 
 use crate::idents::ident_at;
 use itoa::Buffer;
 use std::alloc::AllocError;
-use upd_core::{
-    Card, CardRef, Entry, Fault, FaultKind, Ident, Kind, Library, Live, Name, Serial, Target,
-};
+use upd_core::{Card, Entry, Ident, Kind, Library, Live, Serial, Target};
+use upd_text::{CardRef, Fault, FaultKind, Name};
 
 /// A deck's head line and its cards, each active or inactive. `YANK$$$` can be listed too, and active means live there. DeckUnknown where no
 /// held deck has the name.

@@ -1,7 +1,7 @@
 ghost use Rattle.std.specs.Prelude.{◌≡◌, ◌≤◌, [], ◌++◌, OnOk};
 ghost use Rattle.upd_core.specs.Library.{name_of};
-ghost use Rattle.upd_core.specs.Outcome.{Does};
-ghost use Rattle.upd_core.specs.declared.fault.FaultKind.{FaultKind};
+ghost use Rattle.upd_text.specs.Outcome.{Does};
+ghost use Rattle.upd_text.specs.declared.fault.FaultKind.{FaultKind};
 ghost use Rattle.upd_compile.specs.File.{blanks, card_line, padded, padded_left};
 ghost use Rattle.upd_compile.specs.Progress.{at_start, after_event, file_so_far};
 ghost use Rattle.upd_compile.specs.Walk.Event.{Line, Follow};
@@ -11,8 +11,9 @@ use itoa::Buffer;
 use std::alloc::{AllocError, Global};
 use std::marker::Model;
 use upd_core::ident::name_at;
-use upd_core::limits::{MAX_CALLS, MAX_COMPILE_LINES};
-use upd_core::{ActiveCard, FaultKind, Ident, Serial};
+use upd_core::{ActiveCard, Ident, Serial};
+use upd_text::FaultKind;
+use upd_text::limits::{MAX_CALLS, MAX_COMPILE_LINES};
 
 /// A compile file as it grows, and how many calls were followed.
 #[derive(Debug, Drop)]

@@ -1,13 +1,14 @@
 ghost use Rattle.std.specs.Prelude.{◌≡◌, ◌==◌, ◌&&◌, map};
 ghost use Rattle.std.specs.List.{flat_map};
-ghost use Rattle.upd_core.specs.Outcome.{Does};
+ghost use Rattle.upd_text.specs.Outcome.{Does};
 ghost use Rattle.upd_compile.specs.Progress.{after_events};
 ghost use Rattle.upd_compile.specs.Walk.{call_events, card_events, walk};
 
 use crate::indexed::Indexed;
 use crate::progress::Progress;
-use upd_core::line::{called, is_call};
-use upd_core::{ActiveCard, ActiveDeck, FaultKind, Serial};
+use upd_core::{ActiveCard, ActiveDeck, Serial};
+use upd_text::FaultKind;
+use upd_text::line::{called, is_call};
 
 /// Walks through decks, one after the other, where calls may go so deep.
 pub(crate) fn walk_all(

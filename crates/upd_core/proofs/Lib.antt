@@ -1,7 +1,5 @@
 pub mod StatusLaws
 pub mod TargetLaws
-pub mod CardRefLaws
-pub mod SplitLemmas
 pub mod LiveLaw
 pub mod InPlace
 pub mod FirstLaws

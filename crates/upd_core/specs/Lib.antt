@@ -1,8 +1,3 @@
-pub mod Names
-pub mod NameFields
-pub mod Lines
-pub mod Faults
-pub mod Outcome
 pub mod First
 pub mod Library
 pub mod Status

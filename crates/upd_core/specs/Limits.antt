@@ -1,6 +1,6 @@
 -- How much a library holds, and how much it may hold.
 use Rattle.std.specs.Prelude.{ℕ, ◌+◌, nat_le, Bool, ◌&&◌, length, sum_by, count_by}
-use Rattle.upd_core.specs.declared.limits.TheConstants.{MAX_HELD, MAX_INTRODUCED, MAX_CARDS, MAX_ENTRIES, MAX_TARGETS}
+use Rattle.upd_text.specs.declared.limits.TheConstants.{MAX_HELD, MAX_INTRODUCED, MAX_CARDS, MAX_ENTRIES, MAX_TARGETS}
 use Rattle.upd_core.specs.Library.{LibraryView, all_decks}
 
 -- the cards of a library, those of decks that aren't loaded too

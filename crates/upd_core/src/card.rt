@@ -36,7 +36,7 @@ impl Model for Card {
 
 impl Card {
     /// A copy; memory alone can fail.
-    pub fn copy(&self) -> Result<Card, AllocError>
+    pub(crate) fn copy(&self) -> Result<Card, AllocError>
         ensures { IfOk result (λ copy. copy ≡ self.now) }
     {
         let alloc = *self.text.allocator();

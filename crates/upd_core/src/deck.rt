@@ -27,7 +27,7 @@ impl Model for Deck {
 
 impl Deck {
     /// A copy; memory alone can fail.
-    pub fn copy(&self) -> Result<Deck, AllocError>
+    pub(crate) fn copy(&self) -> Result<Deck, AllocError>
         ensures { IfOk result (λ copy. copy ≡ self.now) }
     {
         let cards = copy_cards(*self.cards.allocator(), &self.cards)?;

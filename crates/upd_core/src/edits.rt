@@ -12,10 +12,10 @@ use crate::deck::Deck;
 use crate::gone::{Gone, purge_cards, purge_decks, unhold};
 use crate::ident::{Ident, Kind, Serial};
 use crate::library::Library;
-use crate::limits::MAX_INTRODUCED;
-use crate::name::Name;
 use crate::target::Target;
 use std::alloc::{AllocError, Global};
+use upd_text::Name;
+use upd_text::limits::MAX_INTRODUCED;
 
 impl Card {
     /// A new card: its history is its own ident, on.

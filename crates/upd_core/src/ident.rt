@@ -2,7 +2,7 @@ ghost use Rattle.std.specs.Prelude.{◌≡◌};
 ghost use Rattle.std.specs.Option.{option_copied};
 ghost use Rattle.upd_core.specs.Library.{held_named, is_deck_kind, is_common, name_at};
 
-use crate::name::Name;
+use upd_text::Name;
 
 /// The age of an ident: 1 for the first that was introduced. `YANK$$$` has age 0.
 pub type Serial = u32;

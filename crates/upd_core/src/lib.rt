@@ -5,29 +5,23 @@
 
 pub mod actives;
 pub mod card;
-pub mod card_ref;
 mod counts;
 pub mod deck;
 pub mod edits;
-pub mod fault;
 mod gone;
 pub mod ident;
 pub mod library;
-pub mod limits;
-pub mod line;
+mod limits;
 pub mod live;
-pub mod name;
 pub mod status_laws;
 pub mod target;
 mod targets;
 
 pub use actives::{ActiveCard, ActiveDeck, Actives};
 pub use card::{Card, Entry};
-pub use card_ref::CardRef;
 pub use deck::Deck;
-pub use fault::{Fault, FaultKind};
 pub use ident::{Ident, Kind, Serial};
 pub use library::{Library, Place, Rest};
 pub use live::Live;
-pub use name::Name;
 pub use target::Target;
+pub use upd_text::{CardRef, Fault, FaultKind, Name};

@@ -2,22 +2,20 @@ ghost use Rattle.std.specs.Prelude.{◌≡◌, IfOk};
 ghost use Rattle.std.specs.Option.{option_copied};
 ghost use Rattle.std.specs.Result.{IsOkUnless};
 ghost use Rattle.upd_core.specs.Actives.{actives_of};
-ghost use Rattle.upd_core.specs.Faults.{fault_at};
-ghost use Rattle.upd_core.specs.declared.fault.FaultKind.TheVariants.{NoMemory};
-ghost use Rattle.upd_core.specs.Library.{empty, name_at, held_named, ident_of, deck_of, place_of, cards_of, card_in};
+ghost use Rattle.upd_text.specs.Faults.{fault_at};
+ghost use Rattle.upd_text.specs.declared.fault.FaultKind.TheVariants.{NoMemory};
+ghost use Rattle.upd_core.specs.Library.{empty, held_named, ident_of, deck_of, place_of, cards_of, card_in};
 ghost use Rattle.upd_core.specs.Status.{live_of, status_of};
 
 use crate::actives::{Actives, active_decks};
 use crate::card::{Card, copy_cards};
-use crate::card_ref::CardRef;
 use crate::counts::Counts;
 use crate::deck::{Deck, card_index, copy_decks, deck_aged, place_in};
-use crate::fault::Fault;
-use crate::ident::{Ident, Serial, held_named, name_at};
+use crate::ident::{Ident, Serial, held_named};
 use crate::live::{Live, is_active, swept};
-use crate::name::Name;
 use std::alloc::Global;
 use std::marker::Model;
+use upd_text::{CardRef, Fault, Name};
 
 /// Where a card stands: the age of its deck (0 for `YANK$$$`) and its index there.
 #[derive(Clone, Copy, Debug, PartialEq, Eq)]
@@ -116,13 +114,6 @@ impl Library {
         ensures { result ≡ self.now.rest }
     {
         self.rest
-    }
-
-    /// The name of the ident of an age, held or not. It takes the same time for each.
-    pub fn name_of(&self, age: Serial) -> Option<Name>
-        ensures { result ≡ name_at self.now.idents age }
-    {
-        name_at(&self.idents, age)
     }
 
     /// The held ident of a name.

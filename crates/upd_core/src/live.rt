@@ -5,12 +5,12 @@ ghost use Rattle.upd_core.specs.Library.{CardView, LibraryView, place_of};
 ghost use Rattle.upd_core.specs.Sound.{IsSound};
 
 use crate::card::{Card, Entry};
-use crate::card_ref::CardRef;
 use crate::deck::card_index;
 use crate::ident::{Ident, Serial, held_named};
 use crate::targets::Targets;
 use std::alloc::{AllocError, Global};
 use std::marker::Model;
+use upd_text::CardRef;
 
 /// Which yank cards of a library are live, and what these take.
 #[derive(Drop)]
@@ -37,13 +37,6 @@ impl<'a> Live<'a> {
         let ident = held_named(self.idents, &card.name)?;
         let index = card_index(self.yanks, ident.age, card.number)?;
         self.live.get(index).copied()
-    }
-
-    /// Whether each yank card is live, in the order of `YANK$$$`.
-    pub fn marks(&self) -> &[bool]
-        ensures { result.now ≡ self.now.live }
-    {
-        &self.live
     }
 
     /// Whether an ident is taken in a deck.

@@ -4,7 +4,7 @@ use Rattle.std.proofs.lemmas.Bool.{cond_both, not-true, cond-false, ne_eqb, eqb-
 use Rattle.std.proofs.lemmas.List.{length-replicate}
 use Rattle.std.proofs.lemmas.List.Splits.{join_with_byte-slice_split}
 use Rattle.std.specs.List.{AllByRecursion, slice_split, onto_first, join_with_byte}
-use Rattle.upd_core.specs.Lines.{is_blank, is_comma, ends_word, up_to, from_first, after_blanks, after_comma, is_starred, word, field, remark, fields_of, fields}
+use Rattle.upd_text.specs.Lines.{is_blank, is_comma, ends_word, up_to, from_first, after_blanks, after_comma, is_starred, word, field, remark, fields_of, fields}
 use Rattle.upd_deck.specs.Grammar.{blanks, IsInk, IsField, Comma, IsLead, Blanks, Separator, BeginsInked, IsRemark, Nothing, Remark, AreFields, Last, Next, IsStarLine, Bare, Fields}
 use Rattle.upd_deck.proofs.GrammarParts.{all_weaker, Begins, up_to_end, from_end, both_parts, up_to_all, from_begins, not_blank, ink_no_comma, ink_no_end, no_end_ink, blanks_gone, blanks_only, ink_stays, lead_gone, HasNoComma, blanks_no_comma, field_no_comma, split_at_comma, split_onto, first_piece, begins_field, field_is, remark_is, begins_blanks, begins_more, fields_more, fields_last, blanks_before}
 

@@ -4,10 +4,10 @@ use Rattle.std.proofs.lemmas.Bool.{and_parts, and_from, or_cases, ne_eqb, eqb-tr
 use Rattle.std.proofs.lemmas.Slice.Eq.{bytes_eq-Decides}
 use Rattle.std.specs.List.{AllByRecursion, AllZip, list_any}
 use Rattle.std.specs.Str.{bytes_eq}
-use Rattle.upd_core.specs.declared.card_ref.CardRef.{CardRef}
-use Rattle.upd_core.specs.declared.fault.FaultKind.{FaultKind}
-use Rattle.upd_core.specs.Names.{is_name}
-use Rattle.upd_core.specs.Outcome.{◌>>=◌}
+use Rattle.upd_text.specs.declared.card_ref.CardRef.{CardRef}
+use Rattle.upd_text.specs.declared.fault.FaultKind.{FaultKind}
+use Rattle.upd_text.specs.Names.{is_name}
+use Rattle.upd_text.specs.Outcome.{◌>>=◌}
 use Rattle.upd_deck.specs.declared.item.NameRange.{NameRange}
 use Rattle.upd_deck.specs.declared.item.IdentIn.{IdentIn}
 use Rattle.upd_deck.specs.declared.word.Word.{Word}

@@ -5,11 +5,11 @@ use Rattle.std.proofs.lemmas.Bool.{and_right, or_left, or_right, eq-eqb, and_par
 use Rattle.std.proofs.lemmas.List.{length-replicate, get_or-append_right, get_or-replicate, take_more, take_all, get_or_append_left}
 use Rattle.std.proofs.lemmas.List.Sums.{suffix_len_is}
 use Rattle.std.specs.List.{AllByRecursion, list_all, suffix_len}
-use Rattle.upd_core.specs.declared.fault.FaultKind.{FaultKind}
-use Rattle.upd_core.specs.declared.fault.FaultKind.TheVariants as fault
-use Rattle.upd_core.specs.declared.limits.TheConstants.{MAX_RUN_LINES, MAX_LINE_BYTES}
-use Rattle.upd_core.specs.Lines.{is_blank, is_comment}
-use Rattle.upd_core.specs.Outcome.{◌>>=◌, refuse_if}
+use Rattle.upd_text.specs.declared.fault.FaultKind.{FaultKind}
+use Rattle.upd_text.specs.declared.fault.FaultKind.TheVariants as fault
+use Rattle.upd_text.specs.declared.limits.TheConstants.{MAX_RUN_LINES, MAX_LINE_BYTES}
+use Rattle.upd_text.specs.Lines.{is_blank, is_comment}
+use Rattle.upd_text.specs.Outcome.{◌>>=◌, refuse_if}
 use Rattle.upd_deck.specs.Items.{LineView}
 use Rattle.upd_deck.specs.Grammar.{blanks, IsAllowed, EndsInked, IsTextOf, Trimmed, IsComment, Slashed, line_view, IsLine, Comment, Line}
 use Rattle.upd_deck.specs.Reading.{item_of, trimmed, is_allowed, text_of, CutLine, said}

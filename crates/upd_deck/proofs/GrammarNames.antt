@@ -8,11 +8,11 @@ use Rattle.std.proofs.lemmas.Str.Parse.{IsNumeralModel, numerals_by_fold, digits
 use Rattle.std.specs.Fmt.{decimal}
 use Rattle.std.specs.List.{AllByRecursion, AllZip, list_any, list_all, prefix_len, before_first, after_first}
 use Rattle.std.specs.Str.{bytes_eq}
-use Rattle.upd_core.specs.declared.card_ref.CardRef.{CardRef}
-use Rattle.upd_core.specs.declared.fault.FaultKind.{FaultKind}
-use Rattle.upd_core.specs.declared.fault.FaultKind.TheVariants as fault
-use Rattle.upd_core.specs.Names.{is_between, is_digit, is_name_byte, is_name, is_card_number, number_behind, is_point, card_text}
-use Rattle.upd_core.specs.Outcome.{◌>>=◌, need}
+use Rattle.upd_text.specs.declared.card_ref.CardRef.{CardRef}
+use Rattle.upd_text.specs.declared.fault.FaultKind.{FaultKind}
+use Rattle.upd_text.specs.declared.fault.FaultKind.TheVariants as fault
+use Rattle.upd_text.specs.Names.{is_between, is_digit, is_name_byte, is_name, is_card_number, number_behind, is_point, card_text}
+use Rattle.upd_text.specs.Outcome.{◌>>=◌, need}
 use Rattle.upd_deck.specs.declared.item.NameRange.{NameRange}
 use Rattle.upd_deck.specs.declared.item.IdentIn.{IdentIn}
 use Rattle.upd_deck.specs.Grammar.{IsName, IsCard, Card, IsRange, Two, Lone, IsPair, Pair}

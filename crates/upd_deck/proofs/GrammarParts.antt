@@ -2,7 +2,7 @@
 use Rattle.std.proofs.Common.{◌≡◌, ℕ, zero, suc, ◌<◌, Bool, true, false, cond, eqb, not, List, [], ◌∷◌, ◌++◌, length, refl, sym, ap, ◌∙◌, append_assoc, append-nil, arith}
 use Rattle.std.proofs.lemmas.Bool.{cond_both, or_parts, ne_eqb, eqb-false}
 use Rattle.std.specs.List.{AllByRecursion, slice_split, onto_first}
-use Rattle.upd_core.specs.Lines.{is_blank, is_comma, ends_word, up_to, from_first, after_blanks, after_comma, field, remark, fields_of}
+use Rattle.upd_text.specs.Lines.{is_blank, is_comma, ends_word, up_to, from_first, after_blanks, after_comma, field, remark, fields_of}
 use Rattle.upd_deck.specs.Grammar.{blanks, IsInk, IsField, Comma, IsLead, Blanks, Separator, BeginsInked}
 
 pub all_weaker : {A : Type 0} (P Q : A → Type 0) → ((x : A) → P x → Q x) → (xs : List A) → AllByRecursion P xs → AllByRecursion Q xs

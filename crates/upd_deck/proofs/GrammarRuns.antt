@@ -7,11 +7,11 @@ use Rattle.std.proofs.lemmas.List.Elements.{All-from_recursion}
 use Rattle.std.proofs.lemmas.List.Splits.{join_with_byte-slice_split}
 use Rattle.std.specs.List.{AllByRecursion, slice_split, onto_first, join_with_byte}
 use Rattle.std.specs.Str.Lines.{strip_carriage_return}
-use Rattle.upd_core.specs.declared.fault.Fault.{Fault}
-use Rattle.upd_core.specs.declared.fault.FaultKind.{FaultKind}
-use Rattle.upd_core.specs.declared.fault.FaultKind.TheVariants as fault
-use Rattle.upd_core.specs.declared.limits.TheConstants.{MAX_RUN_BYTES, MAX_RUN_LINES}
-use Rattle.upd_core.specs.Outcome.{◌>>=◌, refuse_if, at_line}
+use Rattle.upd_text.specs.declared.fault.Fault.{Fault}
+use Rattle.upd_text.specs.declared.fault.FaultKind.{FaultKind}
+use Rattle.upd_text.specs.declared.fault.FaultKind.TheVariants as fault
+use Rattle.upd_text.specs.declared.limits.TheConstants.{MAX_RUN_BYTES, MAX_RUN_LINES}
+use Rattle.upd_text.specs.Outcome.{◌>>=◌, refuse_if, at_line}
 use Rattle.upd_deck.specs.Items.{LineView}
 use Rattle.upd_deck.specs.Grammar.{blanks, IsAllowed, IsTextOf, Trimmed, IsLine, Comment, Line, Feed, ReturnFeed, AreLines, NoMore, LastLine, NextLine, Reads}
 use Rattle.upd_deck.specs.Reading.{CutLine, cut_from, is_feed, cut, said, said_behind, reading}

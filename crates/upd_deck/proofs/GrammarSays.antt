@@ -5,10 +5,10 @@ use Rattle.std.proofs.lemmas.Slice.Eq.{bytes_eq-Decides}
 use Rattle.std.specs.List.{AllByRecursion, Contains, find, list_any}
 use Rattle.std.specs.Option.{option_map}
 use Rattle.std.specs.Str.{bytes_eq}
-use Rattle.upd_core.specs.declared.fault.FaultKind.{FaultKind}
-use Rattle.upd_core.specs.declared.fault.FaultKind.TheVariants as fault
-use Rattle.upd_core.specs.Lines.{is_blank, is_comma, ends_word, up_to, from_first, is_starred, word, fields}
-use Rattle.upd_core.specs.Outcome.{◌>>=◌, refuse_if}
+use Rattle.upd_text.specs.declared.fault.FaultKind.{FaultKind}
+use Rattle.upd_text.specs.declared.fault.FaultKind.TheVariants as fault
+use Rattle.upd_text.specs.Lines.{is_blank, is_comma, ends_word, up_to, from_first, is_starred, word, fields}
+use Rattle.upd_text.specs.Outcome.{◌>>=◌, refuse_if}
 use Rattle.upd_deck.specs.declared.word.Word.{Word}
 use Rattle.upd_deck.specs.Items.{ItemView, Text}
 use Rattle.upd_deck.specs.Grammar.{IsInk, IsStarLine, Bare, Fields, EndsWord, HasWord, Starred, Means, Says, Directive, Other}

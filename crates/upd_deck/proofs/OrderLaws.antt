@@ -5,12 +5,12 @@ use Rattle.std.specs.Str.Lines.{strip_carriage_return}
 use Rattle.std.proofs.lemmas.Bool.Decides.{nat_tests}
 use Rattle.std.proofs.lemmas.Bool.{cond_both}
 use Rattle.std.proofs.lemmas.List.{append-nil, take-append-drop}
-use Rattle.upd_core.specs.declared.fault.Fault.{Fault}
-use Rattle.upd_core.specs.declared.fault.FaultKind.{FaultKind}
-use Rattle.upd_core.specs.declared.fault.FaultKind.TheVariants as fault
-use Rattle.upd_core.specs.declared.limits.TheConstants.{MAX_RUN_BYTES, MAX_RUN_LINES, MAX_LINE_BYTES}
-use Rattle.upd_core.specs.Lines.{is_blank, is_comment}
-use Rattle.upd_core.specs.Outcome.{◌>>=◌, at_line, refuse_if}
+use Rattle.upd_text.specs.declared.fault.Fault.{Fault}
+use Rattle.upd_text.specs.declared.fault.FaultKind.{FaultKind}
+use Rattle.upd_text.specs.declared.fault.FaultKind.TheVariants as fault
+use Rattle.upd_text.specs.declared.limits.TheConstants.{MAX_RUN_BYTES, MAX_RUN_LINES, MAX_LINE_BYTES}
+use Rattle.upd_text.specs.Lines.{is_blank, is_comment}
+use Rattle.upd_text.specs.Outcome.{◌>>=◌, at_line, refuse_if}
 use Rattle.upd_deck.specs.Items.{ItemView, LineView}
 use Rattle.upd_deck.specs.Order.{FollowFrom}
 use Rattle.upd_deck.specs.Reading.{CutLine, cut, cut_from, is_allowed, is_feed, item_of, reading, said, said_behind, trimmed}

@@ -1,9 +1,9 @@
 -- The grammar of a run: how its lines, their words and their fields are spelled, and what they say.
 use Rattle.std.specs.Prelude.{◌≡◌, ◌≢◌, ℕ, ◌+◌, ◌^◌, ◌<◌, ◌≤◌, ◌⊎◌, true, false, IsTrue, List, [], ◌∷◌, ◌++◌, length, replicate, codes, count_by}
 use Rattle.std.specs.List.{AllByRecursion, AllZip, Contains}
-use Rattle.upd_core.specs.declared.card_ref.CardRef.{CardRef}
-use Rattle.upd_core.specs.declared.limits.TheConstants.{MAX_RUN_BYTES, MAX_RUN_LINES, MAX_LINE_BYTES, MAX_NUMBER_DIGITS}
-use Rattle.upd_core.specs.Names.{is_name, card_text}
+use Rattle.upd_text.specs.declared.card_ref.CardRef.{CardRef}
+use Rattle.upd_text.specs.declared.limits.TheConstants.{MAX_RUN_BYTES, MAX_RUN_LINES, MAX_LINE_BYTES, MAX_NUMBER_DIGITS}
+use Rattle.upd_text.specs.Names.{is_name, card_text}
 use Rattle.upd_deck.specs.declared.item.NameRange.{NameRange}
 use Rattle.upd_deck.specs.declared.item.IdentIn.{IdentIn}
 use Rattle.upd_deck.specs.declared.word.Word.{Word}

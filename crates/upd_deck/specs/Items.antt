@@ -1,6 +1,6 @@
 -- What the lines of a run say.
 use Rattle.std.specs.Prelude.{ℕ, Bool, List}
-use Rattle.upd_core.specs.declared.card_ref.CardRef.{CardRef}
+use Rattle.upd_text.specs.declared.card_ref.CardRef.{CardRef}
 use Rattle.upd_deck.specs.declared.item.NameRange.{NameRange}
 use Rattle.upd_deck.specs.declared.item.IdentIn.{IdentIn}
 use Rattle.upd_deck.specs.declared.line.Span.{Span}

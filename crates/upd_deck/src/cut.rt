@@ -1,12 +1,12 @@
 ghost use Rattle.std.specs.Prelude.{◌≡◌, ℕ, ◌+◌, ◌-◌, ◌<◌, ◌≤◌, ◌∷◌, length};
 ghost use Rattle.std.specs.List.{slice_split};
 ghost use Rattle.std.specs.Str.Lines.{strip_carriage_return};
-ghost use Rattle.upd_core.specs.declared.limits.TheConstants.{MAX_RUN_BYTES};
+ghost use Rattle.upd_text.specs.declared.limits.TheConstants.{MAX_RUN_BYTES};
 ghost use Rattle.upd_deck.specs.Reading.{cut, cut_from, is_feed};
 
 use std::marker::Model;
-use upd_core::limits::MAX_RUN_BYTES;
-use upd_core::line::split_once;
+use upd_text::limits::MAX_RUN_BYTES;
+use upd_text::line::split_once;
 
 /// A line as it is cut from a run: without its LF, and without a CR directly before that.
 #[derive(Debug, Drop)]
@@ -20,7 +20,7 @@ pub(crate) struct CutLine<'a> {
 
 impl<'a> Model for CutLine<'a> {
     ghost use Rattle.std.specs.Prelude.{◌+◌, ◌≤◌, length};
-    ghost use Rattle.upd_core.specs.declared.limits.TheConstants.{MAX_RUN_BYTES};
+    ghost use Rattle.upd_text.specs.declared.limits.TheConstants.{MAX_RUN_BYTES};
     ghost use Rattle.upd_deck.specs.Reading.{CutLine as CutLineView};
 
     ghost Value = { CutLineView };
@@ -41,7 +41,7 @@ pub(crate) struct CutLines<'a> {
 impl<'a> Model for CutLines<'a> {
     ghost use Rattle.std.specs.Prelude.{ℕ, ◌+◌, ◌≤◌, List, length};
     ghost use Rattle.std.specs.List.{slice_split};
-    ghost use Rattle.upd_core.specs.declared.limits.TheConstants.{MAX_RUN_BYTES};
+    ghost use Rattle.upd_text.specs.declared.limits.TheConstants.{MAX_RUN_BYTES};
     ghost use Rattle.upd_deck.specs.Reading.{CutLine as CutLineView, cut_from, is_feed};
 
     ghost Value = { List CutLineView };

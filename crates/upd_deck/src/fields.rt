@@ -1,8 +1,8 @@
 ghost use Rattle.std.specs.Prelude.{◌≡◌, ◌==◌, ℕ, List, [], Result, map, length, is_some, Some, IfSome};
 ghost use Rattle.std.specs.Str.{bytes_eq};
 ghost use Rattle.std.specs.List.{list_any};
-ghost use Rattle.upd_core.specs.declared.fault.FaultKind.{FaultKind};
-ghost use Rattle.upd_core.specs.Outcome.{Gives};
+ghost use Rattle.upd_text.specs.declared.fault.FaultKind.{FaultKind};
+ghost use Rattle.upd_text.specs.Outcome.{Gives};
 ghost use Rattle.upd_deck.specs.declared.word.Word.TheVariants as words;
 ghost use Rattle.upd_deck.specs.LineFields.{seen};
 ghost use Rattle.upd_deck.specs.Reading.{are_its_fields, card_ref_in, each_in, first_field, ident_in, is_from_name, is_marked_right, item_by, item_of, item_with, last_of_two, may_have, name_in, range_in};
@@ -10,8 +10,8 @@ ghost use Rattle.upd_deck.specs.Reading.{are_its_fields, card_ref_in, each_in, f
 use crate::item::{IdentIn, Item, NameRange};
 use crate::word::Word;
 use std::alloc::Global;
-use upd_core::line::{fields, is_starred, split_once, word};
-use upd_core::{CardRef, FaultKind, Name};
+use upd_text::line::{fields, is_starred, split_once, word};
+use upd_text::{CardRef, FaultKind, Name};
 
 // What a field says.
 trait FieldValue: Drop {

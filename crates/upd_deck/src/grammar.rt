@@ -1,6 +1,6 @@
 ghost use Rattle.std.specs.Prelude.{◌≡◌, ◌↔◌, ℕ, ◌<◌, length, List, IsTrue, Ok};
 ghost use Rattle.std.specs.List.{AllByRecursion};
-ghost use Rattle.upd_core.specs.Lines.{fields, is_starred, word};
+ghost use Rattle.upd_text.specs.Lines.{fields, is_starred, word};
 ghost use Rattle.upd_deck.specs.Grammar.{IsStarLine, Reads, StandsIn};
 ghost use Rattle.upd_deck.specs.Items.{LineView};
 ghost use Rattle.upd_deck.specs.Reading.{reading};

@@ -1,4 +1,4 @@
-use upd_core::{CardRef, Name};
+use upd_text::{CardRef, Name};
 
 /// The idents or decks from one name to another, by age; a lone name is the range from itself to itself.
 #[derive(Clone, Copy, Debug)]

@@ -1,5 +1,5 @@
 ghost use Rattle.std.specs.Prelude.{◌≡◌, ◌≤◌, length};
-ghost use Rattle.upd_core.specs.declared.limits.TheConstants.{MAX_RUN_LINES};
+ghost use Rattle.upd_text.specs.declared.limits.TheConstants.{MAX_RUN_LINES};
 ghost use Rattle.upd_deck.specs.LineFields.{seen};
 
 use crate::item::Item;
@@ -67,7 +67,7 @@ pub struct Run<'a> {
 
 impl<'a> Model for Run<'a> {
     ghost use Rattle.std.specs.Prelude.{List, length, ◌≤◌};
-    ghost use Rattle.upd_core.specs.declared.limits.TheConstants.{MAX_RUN_LINES};
+    ghost use Rattle.upd_text.specs.declared.limits.TheConstants.{MAX_RUN_LINES};
     ghost use Rattle.upd_deck.specs.Items.{LineView};
 
     ghost Value = { List LineView };

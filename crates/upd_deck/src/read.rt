@@ -1,8 +1,8 @@
 ghost use Rattle.std.specs.Prelude.{◌≡◌, ℕ, ◌≤◌, List, [], length, IfOk};
 ghost use Rattle.std.specs.List.{AllByRecursion, list_all};
 ghost use Rattle.std.specs.Option.{option_to_list};
-ghost use Rattle.upd_core.specs.declared.limits.TheConstants.{MAX_RUN_BYTES, MAX_RUN_LINES};
-ghost use Rattle.upd_core.specs.Outcome.{Gives, GivesAt, at_line};
+ghost use Rattle.upd_text.specs.declared.limits.TheConstants.{MAX_RUN_BYTES, MAX_RUN_LINES};
+ghost use Rattle.upd_text.specs.Outcome.{Gives, GivesAt, at_line};
 ghost use Rattle.upd_deck.specs.Order.{FollowFrom};
 ghost use Rattle.upd_deck.specs.Reading.{cut, is_allowed, reading, said, said_behind, text_of, trimmed};
 
@@ -10,9 +10,9 @@ use crate::cut::{CutLine, cut_lines};
 use crate::fields::item_of;
 use crate::line::{Line, Run, Span};
 use std::alloc::Global;
-use upd_core::limits::{MAX_LINE_BYTES, MAX_RUN_BYTES, MAX_RUN_LINES};
-use upd_core::line::is_comment;
-use upd_core::{Fault, FaultKind};
+use upd_text::limits::{MAX_LINE_BYTES, MAX_RUN_BYTES, MAX_RUN_LINES};
+use upd_text::line::is_comment;
+use upd_text::{Fault, FaultKind};
 
 /// Reads a run as a whole. The first faulty line decides; its fault is at its number.
 pub fn read_run(alloc: Global, bytes: &[u8]) -> Result<Run<'_>, Fault>

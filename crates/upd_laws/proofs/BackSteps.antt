@@ -6,17 +6,17 @@ use Rattle.std.specs.Result.{IfOk}
 use Rattle.std.proofs.lemmas.Bool.{or_parts, and_parts, not-true}
 use Rattle.std.proofs.lemmas.Result.{IfOk-weaker}
 use Rattle.upd_core.specs.declared.card.Entry.{Entry}
-use Rattle.upd_core.specs.declared.card_ref.CardRef.{CardRef}
-use Rattle.upd_core.specs.declared.fault.Fault.{Fault}
-use Rattle.upd_core.specs.declared.fault.FaultKind.{FaultKind}
-use Rattle.upd_core.specs.declared.fault.FaultKind.TheVariants as fault
+use Rattle.upd_text.specs.declared.card_ref.CardRef.{CardRef}
+use Rattle.upd_text.specs.declared.fault.Fault.{Fault}
+use Rattle.upd_text.specs.declared.fault.FaultKind.{FaultKind}
+use Rattle.upd_text.specs.declared.fault.FaultKind.TheVariants as fault
 use Rattle.upd_core.specs.declared.ident.Kind.{Kind}
 use Rattle.upd_core.specs.declared.ident.Kind.TheVariants as kind
 use Rattle.upd_core.specs.declared.target.Target.{Target}
 use Rattle.upd_core.specs.Edits.{introduced, next_age, new_card, with_deck, with_card, with_yank, with_entries}
 use Rattle.upd_core.specs.Library.{DeckView, LibraryView, place_of}
 use Rattle.upd_core.specs.Limits.{is_within_limits}
-use Rattle.upd_core.specs.Outcome.{◌>>=◌, need, refuse_if, at_line}
+use Rattle.upd_text.specs.Outcome.{◌>>=◌, need, refuse_if, at_line}
 use Rattle.upd_deck.specs.Items.{ItemView, LineView, Text, Call, Ident, Deck, CommonDeck, Insert, Before, Delete, Restore, Yank, SelYank, YankDeck, Purge, PurgeFrom, SelPurge, PurDeck, Compile}
 use Rattle.upd_apply.specs.declared.state.Hand.{Hand}
 use Rattle.upd_apply.specs.declared.state.Spot.{Spot}

@@ -2,9 +2,9 @@
 use Rattle.std.proofs.Common.{◌≡◌, ℕ, ◌+◌, ◌-◌, Bool, true, false, not, ◌||◌, List, [], ◌∷◌, ◌++◌, map, length, take, drop, sym, subst}
 use Rattle.std.specs.Prelude.{Result, Ok, ◌==◌, nat_lt, nat_le, insert}
 use Rattle.upd_core.specs.declared.card.Entry.{Entry}
-use Rattle.upd_core.specs.declared.card_ref.CardRef.{CardRef}
-use Rattle.upd_core.specs.declared.fault.FaultKind.{FaultKind}
-use Rattle.upd_core.specs.declared.fault.FaultKind.TheVariants as fault
+use Rattle.upd_text.specs.declared.card_ref.CardRef.{CardRef}
+use Rattle.upd_text.specs.declared.fault.FaultKind.{FaultKind}
+use Rattle.upd_text.specs.declared.fault.FaultKind.TheVariants as fault
 use Rattle.upd_core.specs.declared.ident.Kind.{Kind}
 use Rattle.upd_core.specs.declared.ident.Kind.TheVariants as kind
 use Rattle.upd_core.specs.declared.target.Target.{Target}

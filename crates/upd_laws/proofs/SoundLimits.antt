@@ -7,7 +7,7 @@ use Rattle.std.specs.List.{filter}
 use Rattle.upd_core.specs.declared.card.Entry.{Entry}
 use Rattle.upd_core.specs.declared.ident.Ident.{Ident}
 use Rattle.upd_core.specs.declared.library.Rest.{Rest}
-use Rattle.upd_core.specs.declared.limits.TheConstants.{MAX_HELD, MAX_INTRODUCED, MAX_CARDS, MAX_ENTRIES, MAX_TARGETS}
+use Rattle.upd_text.specs.declared.limits.TheConstants.{MAX_HELD, MAX_INTRODUCED, MAX_CARDS, MAX_ENTRIES, MAX_TARGETS}
 use Rattle.upd_core.specs.Edits.{unheld, without_entries, without_idents, deck_without, decks_without, purged, purged_in}
 use Rattle.upd_core.specs.First.{at_first}
 use Rattle.upd_core.specs.Library.{CardView, DeckView, LibraryView, all_decks, is_deck}

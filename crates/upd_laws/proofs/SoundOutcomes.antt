@@ -1,10 +1,10 @@
 -- What is known where a step goes through.
 use Rattle.std.proofs.Common.{◌≡◌, Bool, true, false, refl, subst}
 use Rattle.std.specs.Prelude.{Option, Some, None, Result, Ok, Err}
-use Rattle.upd_core.specs.declared.fault.FaultKind.{FaultKind}
+use Rattle.upd_text.specs.declared.fault.FaultKind.{FaultKind}
 use Rattle.upd_core.specs.Library.{LibraryView}
 use Rattle.upd_core.specs.Limits.{is_within_limits}
-use Rattle.upd_core.specs.Outcome.{◌>>=◌, need, refuse_if}
+use Rattle.upd_text.specs.Outcome.{◌>>=◌, need, refuse_if}
 use Rattle.upd_apply.specs.Step.{grown}
 
 pub through : {A B E : Type 0} (r : Result A E) (f : A → Result B E) (y : B) (P : Type 0) → r >>= f ≡ Ok y → ((x : A) → r ≡ Ok x → f x ≡ Ok y → P) → P

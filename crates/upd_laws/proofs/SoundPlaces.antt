@@ -4,7 +4,7 @@ use Rattle.std.proofs.lemmas.Bool.{ne_eqb}
 use Rattle.std.specs.Prelude.{Option, Some, None}
 use Rattle.std.specs.Option.{option_map_or}
 use Rattle.std.specs.List.{find, AllByRecursion}
-use Rattle.upd_core.specs.declared.card_ref.CardRef.{CardRef}
+use Rattle.upd_text.specs.declared.card_ref.CardRef.{CardRef}
 use Rattle.upd_core.specs.declared.library.Place.{Place}
 use Rattle.upd_core.specs.First.{index_from}
 use Rattle.upd_core.specs.Library.{DeckView, LibraryView, all_decks, cards_of, ident_of, is_card, is_deck, place_in, place_of}

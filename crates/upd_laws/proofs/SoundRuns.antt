@@ -1,13 +1,13 @@
 -- Lines and runs keep what they find sound, the directory goes on, and no limit is passed.
 use Rattle.std.proofs.Common.{◌≡◌, ℕ, ◌+◌, true, false, List, [], ◌∷◌, refl, subst}
 use Rattle.std.specs.Prelude.{Some, Result, Ok, Err, nat_le}
-use Rattle.upd_core.specs.declared.fault.Fault.{Fault}
-use Rattle.upd_core.specs.declared.fault.FaultKind.{FaultKind}
+use Rattle.upd_text.specs.declared.fault.Fault.{Fault}
+use Rattle.upd_text.specs.declared.fault.FaultKind.{FaultKind}
 use Rattle.upd_core.specs.declared.ident.Kind.TheVariants as kind
 use Rattle.upd_core.specs.Edits.{purged, purged_back, is_among}
 use Rattle.upd_core.specs.Library.{LibraryView, empty}
 use Rattle.upd_core.specs.Limits.{is_within_limits}
-use Rattle.upd_core.specs.Outcome.{at_line}
+use Rattle.upd_text.specs.Outcome.{at_line}
 use Rattle.upd_core.specs.Sound.{IsSound, Continues}
 use Rattle.upd_deck.specs.Items.{ItemView, LineView, Text, Call, Ident, Deck, CommonDeck, Insert, Before, Delete, Restore, Yank, SelYank, YankDeck, Purge, PurgeFrom, SelPurge, PurDeck, Compile}
 use Rattle.upd_apply.specs.declared.Hand.{Hand}

@@ -5,10 +5,10 @@ use Rattle.std.proofs.lemmas.List.Edits.{length-insert}
 use Rattle.std.specs.Prelude.{Option, Some, None, is_some, Result, Ok, ◌==◌, ◌⊎◌, nat_lt, insert, IsTrue}
 use Rattle.std.specs.Option.{IfSome}
 use Rattle.std.specs.List.{AllByRecursion, AllZip}
-use Rattle.upd_core.specs.declared.card_ref.CardRef.{CardRef}
+use Rattle.upd_text.specs.declared.card_ref.CardRef.{CardRef}
 use Rattle.upd_core.specs.declared.card.Entry.{Entry}
-use Rattle.upd_core.specs.declared.fault.FaultKind.{FaultKind}
-use Rattle.upd_core.specs.declared.fault.FaultKind.TheVariants as fault
+use Rattle.upd_text.specs.declared.fault.FaultKind.{FaultKind}
+use Rattle.upd_text.specs.declared.fault.FaultKind.TheVariants as fault
 use Rattle.upd_core.specs.declared.ident.Ident.{Ident}
 use Rattle.upd_core.specs.declared.ident.Kind.{Kind}
 use Rattle.upd_core.specs.declared.ident.Kind.TheVariants as kind
@@ -16,7 +16,7 @@ use Rattle.upd_core.specs.declared.library.Place.{Place}
 use Rattle.upd_core.specs.declared.target.Target.{Target}
 use Rattle.upd_core.specs.Edits.{introduced, next_age, new_card, entered, with_deck, with_card, with_yank, with_entries, purged_in}
 use Rattle.upd_core.specs.Library.{CardView, DeckView, LibraryView, all_decks, cards_of, held_named, is_deck, is_deck_kind, place_of}
-use Rattle.upd_core.specs.Outcome.{refuse_if}
+use Rattle.upd_text.specs.Outcome.{refuse_if}
 use Rattle.upd_core.specs.Sound.{all_cards, is_held, is_held_deck, IsSound}
 use Rattle.upd_deck.specs.declared.item.IdentIn.{IdentIn}
 use Rattle.upd_apply.specs.declared.Hand.{Hand}

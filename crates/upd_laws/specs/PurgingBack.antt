@@ -2,11 +2,11 @@
 use Rattle.std.specs.Prelude.{◌≡◌, ℕ, ◌<◌, ◌≤◌, Bool, true, false, not, IsTrue, List, [], ◌∷◌, ◌++◌, length, Result, Ok}
 use Rattle.std.specs.List.{list_all, AllByRecursion}
 use Rattle.upd_core.specs.declared.card.Entry.{Entry}
-use Rattle.upd_core.specs.declared.fault.Fault.{Fault}
+use Rattle.upd_text.specs.declared.fault.Fault.{Fault}
 use Rattle.upd_core.specs.declared.ident.Ident.{Ident}
 use Rattle.upd_core.specs.Edits.{next_age}
 use Rattle.upd_core.specs.Library.{CardView, DeckView, LibraryView}
-use Rattle.upd_core.specs.Outcome.{◌>>=◌}
+use Rattle.upd_text.specs.Outcome.{◌>>=◌}
 use Rattle.upd_core.specs.Sound.{AreAgedFrom}
 use Rattle.upd_deck.specs.Items.{ItemView, LineView, Purge, PurgeFrom, SelPurge, PurDeck}
 use Rattle.upd_apply.specs.Applying.{applied}

@@ -2,7 +2,7 @@
 use Rattle.std.specs.Prelude.{◌≡◌, ℕ, ◌+◌, ◌<◌, ◌≤◌, ◌==◌, Bool, ◌⊎◌, IsTrue, List, [], ◌∷◌, length, count_by, Option, Some, None, Result, Ok, Err}
 use Rattle.std.specs.Option.{IfSome}
 use Rattle.std.specs.List.{list_any, AllByRecursion}
-use Rattle.upd_core.specs.declared.fault.Fault.{Fault}
+use Rattle.upd_text.specs.declared.fault.Fault.{Fault}
 use Rattle.upd_core.specs.Library.{LibraryView, all_decks, cards_of, is_deck}
 use Rattle.upd_core.specs.Sound.{IsSound, all_cards, is_held, is_held_deck}
 use Rattle.upd_deck.specs.Items.{LineView}

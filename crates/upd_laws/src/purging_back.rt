@@ -1,6 +1,6 @@
 //! Purging back undoes all that runs without purges have done.
 ghost use Rattle.std.specs.Prelude.{◌≡◌, List, length};
-ghost use Rattle.upd_core.specs.declared.card_ref.CardRef.{CardRef};
+ghost use Rattle.upd_text.specs.declared.card_ref.CardRef.{CardRef};
 ghost use Rattle.upd_core.specs.Edits.{next_age, purged_back};
 ghost use Rattle.upd_core.specs.Library.{LibraryView};
 ghost use Rattle.upd_core.specs.Sound.{IsSound};

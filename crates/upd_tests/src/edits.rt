@@ -3,8 +3,10 @@ use crate::shelf::{Ask, Shelf};
 use std::alloc::Global;
 use std::test::Fail;
 use upd_compile::{Mode, compile_active};
-use upd_core::limits::MAX_INTRODUCED;
-use upd_core::{Card, CardRef, Deck, Entry, Kind, Library, Name, Place, Serial, Target};
+use upd_core::ident::name_at;
+use upd_core::{Card, Deck, Entry, Kind, Library, Place, Serial, Target};
+use upd_text::limits::MAX_INTRODUCED;
+use upd_text::{CardRef, Name};
 
 fn name(text: &str) -> Result<Name, Fail> {
     Ok(Name::read(text.as_bytes()).ok_or("no name")?)
@@ -130,8 +132,8 @@ fn finds_what_is_there(rt: HostRuntime) -> Result<(), Fail> {
     );
     assert_eq!(rt; library.deck_of(&deck), Some(4));
     assert!(rt; library.held(&deck).is_some());
-    assert!(rt; library.name_of(3) == Some(set));
-    assert!(rt; library.name_of(5).is_none());
+    assert!(rt; name_at(library.idents(), 3) == Some(set));
+    assert!(rt; name_at(library.idents(), 5).is_none());
     assert_eq!(rt; library.cards_of(4).len(), 1);
     assert_eq!(rt;
         (library.card_at(new), library.card_at(none)),
@@ -163,8 +165,8 @@ fn compiles_the_active_cards(rt: HostRuntime) -> Result<(), Fail> {
     let library = corrected(alloc)?;
     let actives = library.actives()?;
     let file = compile_active(alloc, &actives, &actives, Mode::Quick, &[1])?;
-    assert_eq!(rt; file.lines(), 2);
+    assert_eq!(rt; file.lines, 2);
     let file = compile_active(alloc, &actives, &actives, Mode::Quick, &[4])?;
-    assert_eq!(rt; file.lines(), 0);
+    assert_eq!(rt; file.lines, 0);
     Ok(())
 }

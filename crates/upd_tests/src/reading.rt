@@ -1,9 +1,9 @@
 //! Names, card references, lines and whole runs, as they are read.
 use std::alloc::Global;
 use std::test::Fail;
-use upd_core::line::{called, fields, is_call, is_comment, is_starred, split_once, word};
-use upd_core::{CardRef, Name};
 use upd_deck::{Item, Span, read_run};
+use upd_text::line::{called, fields, is_call, is_comment, is_starred, split_once, word};
+use upd_text::{CardRef, Name};
 
 const NO_NAMES: [&str; 5] = ["", "*", "ABCDEFGHIJ", "a", "A.B"];
 

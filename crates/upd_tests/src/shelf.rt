@@ -6,8 +6,9 @@ use upd_apply::{apply, purge_back};
 use upd_compile::{
     CompileFile, Mode, changed, compile_file, list_card, list_deck, list_idents, list_yanks,
 };
-use upd_core::{CardRef, Library, Name, Serial};
+use upd_core::{Library, Serial};
 use upd_deck::read_run;
+use upd_text::{CardRef, Name};
 
 /// The run that brings deck A with three lines.
 pub const DECK_A: &str = "*DECK A\nONE\nTWO\nTHREE\n";
@@ -133,14 +134,14 @@ impl Shelf {
     fn lines(&mut self, parts: &[Part<'_>]) -> Result<String, Fail> {
         self.long(parts)?;
         match compile_file(&self.library, &self.library, Mode::Full, &[]) {
-            Ok(file) => Ok(format!(in self.alloc(); "{}", file.lines())?),
+            Ok(file) => Ok(format!(in self.alloc(); "{}", file.lines)?),
             Err(fault) => Ok(format!(in self.alloc(); "{fault}")?),
         }
     }
 
     fn file(&self) -> Result<String, Fail> {
         let file = compile_file(&self.library, &self.library, Mode::Full, &[])?;
-        Ok(String::from_str(self.alloc(), std::str::from_utf8(file.bytes())?)?)
+        Ok(String::from_str(self.alloc(), std::str::from_utf8(&file.bytes)?)?)
     }
 
     fn deck(&self, name: &str) -> Result<String, Fail> {
@@ -172,7 +173,7 @@ fn listing(bytes: Vec<u8>) -> Result<String, Fail> {
 /// The cards of a compile file, as `A.2 X.1`.
 fn cards(alloc: Global, file: &CompileFile) -> Result<String, Fail> {
     let mut cards = String::new(alloc);
-    for line in file.bytes().chunks(97) {
+    for line in file.bytes.chunks(97) {
         let ident = line.get(81..90).ok_or("a short line")?;
         let number = line.get(90..96).ok_or("a short line")?;
         let space = if cards.is_empty() { "" } else { " " };

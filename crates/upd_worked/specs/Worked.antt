@@ -1,16 +1,16 @@
 -- Runs given as texts, one after the other, and what comes of them.
 use Rattle.std.specs.Prelude.{ℕ, List, [], ◌∷◌, ◌++◌, count_by, codes, Option, Some, None, Result, Ok, Err}
 use Rattle.std.specs.List.{flat_map, list_any}
-use Rattle.upd_core.specs.declared.card_ref.CardRef.{CardRef}
-use Rattle.upd_core.specs.declared.fault.Fault.{Fault}
-use Rattle.upd_core.specs.declared.fault.FaultKind.{FaultKind}
+use Rattle.upd_text.specs.declared.card_ref.CardRef.{CardRef}
+use Rattle.upd_text.specs.declared.fault.Fault.{Fault}
+use Rattle.upd_text.specs.declared.fault.FaultKind.{FaultKind}
 use Rattle.upd_core.specs.declared.ident.Ident.{Ident}
-use Rattle.upd_core.specs.declared.limits.TheConstants.{MAX_DEPTH}
+use Rattle.upd_text.specs.declared.limits.TheConstants.{MAX_DEPTH}
 use Rattle.upd_core.specs.declared.target.Target.{Target}
 use Rattle.upd_core.specs.Actives.{ActivesView, actives_of}
 use Rattle.upd_core.specs.Library.{LibraryView, empty, name_of}
-use Rattle.upd_core.specs.Names.{card_text}
-use Rattle.upd_core.specs.Outcome.{◌>>=◌}
+use Rattle.upd_text.specs.Names.{card_text}
+use Rattle.upd_text.specs.Outcome.{◌>>=◌}
 use Rattle.upd_core.specs.Status.{live_cards}
 use Rattle.upd_deck.specs.Reading.{reading}
 use Rattle.upd_apply.specs.Applying.{Reached, applied}

@@ -1,6 +1,6 @@
 //! Common decks, calls and modes.
 ghost use Rattle.std.specs.Prelude.{◌≡◌, ◌++◌, [], ◌∷◌, codes, Ok};
-ghost use Rattle.upd_core.specs.declared.fault.FaultKind.TheVariants.{CallDepth, CallUnknown};
+ghost use Rattle.upd_text.specs.declared.fault.FaultKind.TheVariants.{CallDepth, CallUnknown};
 ghost use Rattle.upd_compile.specs.declared.mode.Mode.TheVariants.{Full, Normal, Quick};
 ghost use Rattle.upd_worked.specs.Worked.{changed_by, compiled, file_after, refused};
 ghost use Rattle.upd_worked.specs.Yanked.{chained, with_common, with_noprop};

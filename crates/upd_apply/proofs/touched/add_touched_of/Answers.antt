@@ -1,7 +1,7 @@
 use Rattle.std.proofs.Common.{◌≡◌, ◌++◌, ◌∙◌, not, map, List}
 use Rattle.std.specs.List.{filter}
 use Rattle.upd_core.specs.contracts.deck.Deck.{the_view}
-use Rattle.upd_core.specs.declared.card_ref.CardRef.{CardRef}
+use Rattle.upd_text.specs.declared.card_ref.CardRef.{CardRef}
 use Rattle.upd_core.specs.Library.{DeckView, cards_of, ref_of}
 use Rattle.upd_core.specs.Sound.{AreApart, key_of}
 use Rattle.upd_apply.specs.Applying.{stood_in}

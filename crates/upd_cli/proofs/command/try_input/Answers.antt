@@ -1,7 +1,7 @@
 use Rattle.std.proofs.Common.{◌≡◌, ◌+◌, ℕ, List, take, IfSome, IsErrAnd, Result, Ok, Err, ap, sym, ◌∙◌, subst}
-use Rattle.upd_core.specs.declared.fault.Fault.{Fault}
-use Rattle.upd_core.specs.declared.limits.TheConstants.{MAX_RUN_BYTES}
-use Rattle.upd_core.specs.Outcome.{GivesAt}
+use Rattle.upd_text.specs.declared.fault.Fault.{Fault}
+use Rattle.upd_text.specs.declared.limits.TheConstants.{MAX_RUN_BYTES}
+use Rattle.upd_text.specs.Outcome.{GivesAt}
 use Rattle.upd_compile.specs.File.{FileView}
 use Rattle.upd_cli.specs.Trial.{trial_of}
 use Rattle.upd_cli.proofs.TrialLaws.{given_of_front}

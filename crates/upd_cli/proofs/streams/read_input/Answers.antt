@@ -1,5 +1,5 @@
 use Rattle.std.proofs.Common.{◌≡◌, ◌+◌, IfSome, take, [], ℕ, List, ◌++◌, MutBor, Option, Some, None, option_map, ap₂, subst, ◌∙◌, ap}
-use Rattle.upd_core.specs.declared.limits.TheConstants.{MAX_RUN_BYTES}
+use Rattle.upd_text.specs.declared.limits.TheConstants.{MAX_RUN_BYTES}
 use Rattle.upd_cli.proofs.streams.read_input.Goals as goal
 
 known_front : (n : ℕ) (known : Option (List ℕ)) (start items : List ℕ) → start ≡ []

@@ -1,5 +1,5 @@
 use Rattle.std.proofs.Common.{◌≡◌, true, rules}
-use Rattle.upd_core.specs.Lines.{is_call, called}
+use Rattle.upd_text.specs.Lines.{is_call, called}
 use Rattle.upd_compile.specs.Places.{place_named}
 use Rattle.upd_compile.proofs.chains.called_place.Goals as goal
 

@@ -1,8 +1,8 @@
 use Rattle.std.proofs.Common.{rules, ◌≡◌, ◌∙◌, Ok, Result, List, map, sym, subst, refl}
 use Rattle.std.specs.List.{flat_map}
-use Rattle.upd_core.specs.declared.fault.Fault.{Fault}
-use Rattle.upd_core.specs.declared.limits.TheConstants.{MAX_DEPTH}
-use Rattle.upd_core.specs.Outcome.{FailsAt}
+use Rattle.upd_text.specs.declared.fault.Fault.{Fault}
+use Rattle.upd_text.specs.declared.limits.TheConstants.{MAX_DEPTH}
+use Rattle.upd_text.specs.Outcome.{FailsAt}
 use Rattle.upd_compile.specs.File.{FileView}
 use Rattle.upd_compile.specs.Progress.{after_events, at_start}
 use Rattle.upd_compile.specs.Walk.{Event, walk}

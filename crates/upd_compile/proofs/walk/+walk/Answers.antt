@@ -1,8 +1,8 @@
 use Rattle.std.proofs.Common.{rules, [], ◌≡◌, ◌==◌, ◌&&◌, true, false, Ok, Some, Result, sym, ◌∙◌, ◌<◌, ap, subst, arith, length, get_or}
 use Rattle.std.specs.Option.{option_copied}
-use Rattle.upd_core.specs.declared.fault.FaultKind.{FaultKind}
-use Rattle.upd_core.specs.Lines.{is_call, called}
-use Rattle.upd_core.specs.Outcome.{Does}
+use Rattle.upd_text.specs.declared.fault.FaultKind.{FaultKind}
+use Rattle.upd_text.specs.Lines.{is_call, called}
+use Rattle.upd_text.specs.Outcome.{Does}
 use Rattle.upd_compile.specs.Progress.{ProgressView, after_event, after_events}
 use Rattle.upd_compile.specs.Walk.{Follow, call_events, card_events, common_named}
 use Rattle.upd_compile.proofs.WalkLaws.{call-followed, walk-at_card, walk-at_first}

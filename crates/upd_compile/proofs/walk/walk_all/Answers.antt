@@ -1,6 +1,6 @@
 use Rattle.std.proofs.Common.{rules, ◌≡◌, ◌∙◌, Ok, Result, sym, subst}
-use Rattle.upd_core.specs.declared.fault.FaultKind.{FaultKind}
-use Rattle.upd_core.specs.Outcome.{Does}
+use Rattle.upd_text.specs.declared.fault.FaultKind.{FaultKind}
+use Rattle.upd_text.specs.Outcome.{Does}
 use Rattle.upd_compile.specs.Progress.{ProgressView, after_events}
 use Rattle.upd_compile.specs.Walk.{walk}
 use Rattle.upd_compile.proofs.WalkLaws.{walks-at_deck}

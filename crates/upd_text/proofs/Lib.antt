@@ -1,0 +1,2 @@
+pub mod CardRefLaws
+pub mod SplitLemmas

@@ -1,0 +1,5 @@
+pub mod Names
+pub mod NameFields
+pub mod Lines
+pub mod Faults
+pub mod Outcome

@@ -1,0 +1,151 @@
+ghost use Rattle.std.specs.Prelude.{◌≡◌, [], ◌≤◌, ◌↔◌, length, Some, IfSome, IsSome, IsTrue};
+ghost use Rattle.std.specs.Cmp.{partial_order_from_own_ties};
+ghost use Rattle.std.specs.Cmp.Lexicographic.{slice_cmp};
+ghost use Rattle.std.specs.Cmp.Rules.{comparing};
+ghost use Rattle.std.specs.List.{list_all};
+ghost use Rattle.std.specs.Ordering.{nat_cmp, as_partial_cmp};
+ghost use Rattle.std.specs.Str.{bytes_eq};
+ghost use Rattle.std.proofs.Common.{rules};
+ghost use Rattle.upd_text.specs.Names.{is_name, is_name_byte, yank_name};
+
+use crate::limits::MAX_NAME_BYTES;
+use std::cmp::Ordering;
+use std::marker::Model;
+use std::{fmt, str};
+
+/// A name of an ident: 1 to 9 of `A-Z 0-9 + - * / ( ) $ =`, and not `*` alone.
+#[derive(Clone, Copy, Debug)]
+pub struct Name {
+    bytes: [u8; 9],
+    len: u8,
+}
+
+impl Model for Name {
+    ghost use Rattle.std.specs.Prelude.{List, ℕ};
+
+    ghost Value = { List ℕ };
+
+    ghost use Rattle.upd_text.specs.NameFields.{shown, IsPadded, fields, fields_again};
+
+    ghost view = { shown };
+
+    ghost invariant = { IsPadded };
+
+    ghost inverse = { fields };
+
+    ghost inverse_ok = { fields_again };
+}
+
+impl Name {
+    /// Reads a name, in full.
+    pub fn read(text: &[u8]) -> Option<Name>
+        ensures name { IsSome result ↔ IsTrue (is_name text.now) }
+        ensures value { IfSome result (λ n. n ≡ text.now) }
+    {
+        if is_name(text) {
+            Some(Name::of(text))
+        } else {
+            None
+        }
+    }
+
+    /// The name of the deck of yank cards. It is reserved: no ident has it.
+    pub fn yank() -> Name
+        ensures { result ≡ yank_name }
+    {
+        Name::of(b"YANK$$$")
+    }
+
+    /// No bytes: what stands for the name of an ident that isn't listed. No field is read as it.
+    pub fn none() -> Name
+        ensures { result ≡ [] }
+    {
+        Name::of(b"")
+    }
+
+    fn of(text: &[u8]) -> Name
+        requires { length text.now ≤ MAX_NAME_BYTES }
+        ensures { result ≡ text.now }
+    {
+        let mut bytes = [0; 9];
+        bytes[..text.len()].copy_from_slice(text);
+        Name {
+            bytes,
+            len: text.len() as u8,
+        }
+    }
+
+    pub fn as_bytes(&self) -> &[u8]
+        ensures { result.now ≡ self.now }
+    {
+        &self.bytes[..usize::from(self.len)]
+    }
+}
+
+fn is_name(text: &[u8]) -> bool
+    ensures { result ≡ is_name text.now }
+{
+    !text.is_empty()
+        && text.len() <= MAX_NAME_BYTES
+        && all_name_bytes(text)
+        && text != b"*".as_slice()
+}
+
+fn all_name_bytes(text: &[u8]) -> bool
+    ensures { result ≡ list_all is_name_byte text.now }
+{
+    text.iter().all(|&byte| is_name_byte(byte))
+}
+
+fn is_name_byte(byte: u8) -> bool
+    ensures { result ≡ is_name_byte byte }
+{
+    matches!(byte, b'A'..=b'Z' | b'0'..=b'9' | b'+' | b'-' | b'*' | b'/' | b'(' | b')' | b'$' | b'=')
+}
+
+impl PartialEq for Name {
+    ghost eq = { bytes_eq };
+
+    ghost laws = { Prim.search (comparing, rules) };
+
+    fn eq(&self, other: &Name) -> bool {
+        self.as_bytes() == other.as_bytes()
+    }
+}
+
+impl Eq for Name {
+    ghost laws = { Prim.search (comparing, rules) };
+}
+
+impl PartialOrd for Name {
+    ghost partial_cmp = { as_partial_cmp (slice_cmp nat_cmp) };
+
+    ghost laws = { partial_order_from_own_ties (Prim.search (comparing, rules)) (Prim.search (comparing, rules)) };
+
+    fn partial_cmp(&self, other: &Name) -> Option<Ordering> {
+        Some(self.cmp(other))
+    }
+}
+
+impl Ord for Name {
+    ghost cmp = { slice_cmp nat_cmp };
+
+    ghost total = { Prim.search (comparing, rules) };
+
+    ghost matches_partial_cmp = { Prim.search (comparing, rules) };
+
+    ghost matches_eq = { Prim.search (comparing, rules) };
+
+    fn cmp(&self, other: &Name) -> Ordering {
+        self.as_bytes().cmp(other.as_bytes())
+    }
+}
+
+impl fmt::Display for Name {
+    ghost output = { λ name. Some name };
+
+    fn fmt<W: fmt::Write>(&self, f: &mut fmt::Formatter<W>) -> fmt::Result {
+        let text = str::from_utf8(self.as_bytes()).map_err(|_| fmt::Error)?;
+        f.write_str(text)
+    }
+}
