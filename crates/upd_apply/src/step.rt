@@ -17,25 +17,24 @@ impl State {
     {
         let text = line.text();
         match line.item() {
-            Item::Text | Item::Call(_) => self.put_text(text)?,
-            Item::Ident(name) => self.begin_set(name)?,
-            Item::Deck(name) => self.begin_deck(name, Kind::Deck, false, text)?,
+            Item::Text | Item::Call(_) => self.put_text(text),
+            Item::Ident(name) => self.begin_set(name),
+            Item::Deck(name) => self.begin_deck(name, Kind::Deck, false, text),
             Item::CommonDeck { name, noprop } => {
-                self.begin_deck(name, Kind::Common, *noprop, text)?;
+                self.begin_deck(name, Kind::Common, *noprop, text)
             }
-            Item::Insert(card) => self.place_after(card)?,
-            Item::Before(card) => self.place_before(card)?,
-            Item::Delete { first, last } => self.switch(false, first, last)?,
-            Item::Restore { first, last } => self.switch(true, first, last)?,
-            Item::Yank(ranges) => self.yank_sets(text, ranges)?,
-            Item::SelYank(pairs) => self.yank_pairs(text, pairs)?,
-            Item::YankDeck(names) => self.yank_decks(text, names)?,
-            Item::Purge(ranges) => self.purge_idents(ranges)?,
-            Item::PurgeFrom(name) => self.purge_from(name)?,
-            Item::SelPurge(pairs) => self.purge_pairs(pairs)?,
-            Item::PurDeck(ranges) => self.purge_decks(ranges)?,
-            Item::Compile(_) => {}
+            Item::Insert(card) => self.place_after(card),
+            Item::Before(card) => self.place_before(card),
+            Item::Delete { first, last } => self.switch(false, first, last),
+            Item::Restore { first, last } => self.switch(true, first, last),
+            Item::Yank(ranges) => self.yank_sets(text, ranges),
+            Item::SelYank(pairs) => self.yank_pairs(text, pairs),
+            Item::YankDeck(names) => self.yank_decks(text, names),
+            Item::Purge(ranges) => self.purge_idents(ranges),
+            Item::PurgeFrom(name) => self.purge_from(name),
+            Item::SelPurge(pairs) => self.purge_pairs(pairs),
+            Item::PurDeck(ranges) => self.purge_decks(ranges),
+            Item::Compile(_) => Ok(()),
         }
-        Ok(())
     }
 }

@@ -23,8 +23,7 @@ impl State {
     {
         let hand = self.hand.ok_or(FaultKind::NoIdent)?;
         let targets = sets_yanked(&self.library, hand.ident, ranges)?;
-        self.put_yank(hand, text, targets)?;
-        Ok(())
+        self.put_yank(hand, text, targets)
     }
 
     /// `*SELYANK`
@@ -35,8 +34,7 @@ impl State {
     {
         let hand = self.hand.ok_or(FaultKind::NoIdent)?;
         let targets = pairs_yanked(&self.library, hand.ident, pairs)?;
-        self.put_yank(hand, text, targets)?;
-        Ok(())
+        self.put_yank(hand, text, targets)
     }
 
     /// `*YANKDECK`
@@ -47,8 +45,7 @@ impl State {
     {
         let hand = self.hand.ok_or(FaultKind::NoIdent)?;
         let targets = decks_yanked(&self.library, hand.ident, names)?;
-        self.put_yank(hand, text, targets)?;
-        Ok(())
+        self.put_yank(hand, text, targets)
     }
 
     /// A yank card of the set in hand, with these targets.

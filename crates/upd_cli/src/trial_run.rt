@@ -20,8 +20,7 @@ pub fn trial(alloc: Global, mode: Mode, run: &[u8]) -> Result<CompileFile, Fault
     let before = Library::new(alloc);
     let mut after = Library::new(alloc);
     let applied = apply(&mut after, &run)?;
-    let file = compile_file(&after, &before, mode, &applied.compile)?;
-    Ok(file)
+    compile_file(&after, &before, mode, &applied.compile)
 }
 
 /// The mode of a word. Another word is BadMode, at 0.

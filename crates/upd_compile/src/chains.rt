@@ -94,6 +94,5 @@ pub(crate) fn chain_marks(
     let callers = callers(alloc, &calls, &passed)?;
     let seeds = both(alloc, &passed, changed)?;
     let marks = reached(alloc, &callers, &seeds)?;
-    let found = calls_marked(alloc, &calls, &marks)?;
-    Ok(found)
+    calls_marked(alloc, &calls, &marks)
 }

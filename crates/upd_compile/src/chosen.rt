@@ -30,8 +30,7 @@ pub(crate) fn chosen<'a, 'b>(
     let uncommon = uncommon_marks(alloc, after)?;
     let choices = choices(alloc, mode, named, before, after)?;
     let marks = both(alloc, &uncommon, &choices)?;
-    let decks = picked(alloc, after.decks(), &marks)?;
-    Ok(decks)
+    picked(alloc, after.decks(), &marks)
 }
 
 // The marked decks.
@@ -106,8 +105,7 @@ fn normal_marks(
     let changed = change_marks(alloc, &before, after.decks())?;
     let chained = chain_marks(alloc, after, &changed)?;
     let named_or_changed = either(alloc, &named, &changed)?;
-    let marks = either(alloc, &named_or_changed, &chained)?;
-    Ok(marks)
+    either(alloc, &named_or_changed, &chained)
 }
 
 fn all_marks(alloc: Global, decks: &[ActiveDeck]) -> Result<Vec<bool>, AllocError>

@@ -43,8 +43,7 @@ pub fn compile_file(
 {
     let after = after.actives()?;
     let before = before.actives()?;
-    let file = compile_active(*after.decks.allocator(), &before, &after, mode, named)?;
-    Ok(file)
+    compile_active(*after.decks.allocator(), &before, &after, mode, named)
 }
 
 /// The same from the active cards alone.
@@ -59,8 +58,7 @@ pub fn compile_active(
 {
     let source = Indexed::new(alloc, after)?;
     let decks = chosen(alloc, mode, named, before, &source)?;
-    let file = written(alloc, &source, &decks)?;
-    Ok(file)
+    written(alloc, &source, &decks)
 }
 
 // The walks through decks, one after the other.

@@ -140,8 +140,7 @@ fn push_card_lines(
     push_line(text, b"DECK", &[deck_name(idents, deck)], None)?;
     push_line(text, b"TEXT", &[&card.text], None)?;
     push_line(text, b"STATUS", &[status], None)?;
-    push_entries(text, idents, live, deck, &card.history)?;
-    Ok(())
+    push_entries(text, idents, live, deck, &card.history)
 }
 
 fn push_entries(
@@ -186,8 +185,7 @@ fn push_ident(text: &mut Vec<u8>, ident: &Ident) -> Result<(), AllocError>
     let state: &[u8] = if ident.held { b"held" } else { b"purged" };
     let mut buffer = Buffer::new();
     let age = buffer.format(ident.age).as_bytes();
-    push_line(text, age, &[ident.name.as_bytes(), kind, state], None)?;
-    Ok(())
+    push_line(text, age, &[ident.name.as_bytes(), kind, state], None)
 }
 
 fn push_yanks(

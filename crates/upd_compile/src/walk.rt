@@ -57,8 +57,7 @@ fn meet(
         (after_events source.now.idents (card_events (call_events deep source.now) card.now) progress.old) }
 {
     if !is_call(card.text) {
-        progress.line(source.idents(), card)?;
-        return Ok(());
+        return progress.line(source.idents(), card);
     }
     if deep == 0 {
         return Err(FaultKind::CallDepth);
@@ -67,8 +66,7 @@ fn meet(
         .common_named(called(card.text))
         .ok_or(FaultKind::CallUnknown)?;
     progress.follow()?;
-    walk(source, common, deep - 1, progress)?;
-    Ok(())
+    walk(source, common, deep - 1, progress)
 }
 
 // Whether a card is the first of the deck of an ident.

@@ -298,8 +298,7 @@ fn enter_range(
     ensures count { IfOk result (λ count. count ≡ entered_count from to cards.old.items) }
     ensures ok { OnOk result (cards.new.items ≡ entered_range from to entry cards.old.items) }
 {
-    let count = enter_some(cards, from, to, entry)?;
-    Ok(count)
+    enter_some(cards, from, to, entry)
 }
 
 /// How many cards have the entry.

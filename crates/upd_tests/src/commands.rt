@@ -3,7 +3,9 @@ use std::alloc::Global;
 use std::io;
 use std::io::{ErrorKind, Read, Write};
 use std::process::Abort;
-use upd_cli::{report_words, run_command};
+use std::test::Fail;
+use upd_cli::{report_words, run_command, trial};
+use upd_compile::Mode;
 
 /// Gives the bytes of a run one at a time, and counts its reads; read number `fails_at` fails.
 #[derive(Drop)]
@@ -122,25 +124,45 @@ THREE                                                                           
 
 const CYCLE: &str = "*COMDECK C\n*CALL C\n*DECK A\n*CALL C\n";
 
-/// A mode and a run, the exit status, and what is written on the output and on the fault stream.
-const TRIALS: [(&str, &str, u8, &str, &str); 9] = [
-    ("full", INSERTION, 0, INSERTED, ""),
-    ("normal", INSERTION, 0, INSERTED, ""),
-    ("quick", INSERTION, 0, "", ""),
-    ("full", "", 0, "", ""),
-    ("full", "HELLO\n", 1, "", "upd: TextNowhere (9) at 1\n"),
-    ("Full", "HELLO\n", 1, "", "upd: BadMode (25) at 0\n"),
-    ("full", "*DECK A\nX\x07\n", 1, "", "upd: BadByte (3) at 2\n"),
-    ("full", CYCLE, 1, "", "upd: CallDepth (21) at 0\n"),
-    ("quick", CYCLE, 0, "", ""),
-];
+/// A command line and a run, the exit status, and what is written on the output and on the fault stream.
+type Case = (
+    &'static [&'static str],
+    &'static str,
+    u8,
+    &'static str,
+    &'static str,
+);
+
+fn check(rt: &impl Abort, alloc: Global, cases: &[Case]) {
+    for (words, run, status, output, faults) in cases {
+        let found = run_words(alloc, words, run.as_bytes());
+        assert_answer(rt, &found, *status, output.as_bytes(), faults.as_bytes());
+    }
+}
 
 #[test]
 fn runs_give_compile_files_or_refusals(rt: HostRuntime) {
-    for (mode, run, status, output, faults) in &TRIALS {
-        let found = run_words(rt.alloc(), &["upd", "trial", mode], run.as_bytes());
-        assert_answer(&rt, &found, *status, output.as_bytes(), faults.as_bytes());
-    }
+    const FULL: &[&str] = &["upd", "trial", "full"];
+    const NORMAL: &[&str] = &["upd", "trial", "normal"];
+    const QUICK: &[&str] = &["upd", "trial", "quick"];
+    const CASES: &[Case] = &[
+        (FULL, INSERTION, 0, INSERTED, ""),
+        (NORMAL, INSERTION, 0, INSERTED, ""),
+        (QUICK, INSERTION, 0, "", ""),
+        (FULL, "", 0, "", ""),
+        (FULL, "HELLO\n", 1, "", "upd: TextNowhere (9) at 1\n"),
+        (
+            &["upd", "trial", "Full"],
+            "HELLO\n",
+            1,
+            "",
+            "upd: BadMode (25) at 0\n",
+        ),
+        (FULL, "*DECK A\nX\x07\n", 1, "", "upd: BadByte (3) at 2\n"),
+        (FULL, CYCLE, 1, "", "upd: CallDepth (21) at 0\n"),
+        (QUICK, CYCLE, 0, "", ""),
+    ];
+    check(&rt, rt.alloc(), CASES);
 }
 
 #[test]
@@ -215,7 +237,7 @@ fn a_fault_that_cannot_be_written(rt: HostRuntime) {
     }
 }
 
-const TRIAL_HELP: &[u8] = b"\
+const TRIAL_HELP: &str = "\
 Applies the run on standard input to an empty library and writes its compile file
 
 Usage: upd trial <MODE>
@@ -229,20 +251,18 @@ Options:
 
 #[test]
 fn words_that_ask_for_a_text_get_it_on_the_output(rt: HostRuntime) {
-    let alloc = rt.alloc();
-    let version = run_words(alloc, &["upd", "--version"], b"");
-    assert_answer(&rt, &version, 0, b"upd 1.0\n", b"");
-    let help = run_words(alloc, &["upd", "trial", "--help"], b"");
-    assert_answer(&rt, &help, 0, TRIAL_HELP, b"");
-    let help = run_words(alloc, &["upd", "--help"], b"");
+    const CASES: &[Case] = &[
+        (&["upd", "--version"], "", 0, "upd 1.0\n", ""),
+        (&["upd", "trial", "--help"], "", 0, TRIAL_HELP, ""),
+    ];
+    check(&rt, rt.alloc(), CASES);
+    let help = run_words(rt.alloc(), &["upd", "--help"], b"");
+    let front = b"The desk of a program library\n\nUsage: upd <COMMAND>\n";
     assert!(rt; help.status == 0 && help.faults.is_empty());
-    assert!(rt;
-        help.output
-            .starts_with(b"The desk of a program library\n\nUsage: upd <COMMAND>\n")
-    );
+    assert!(rt; help.output.starts_with(front));
 }
 
-const NO_MODE: &[u8] = b"\
+const NO_MODE: &str = "\
 error: the following required arguments were not provided:
   <MODE>
 
@@ -251,7 +271,7 @@ Usage: upd trial <MODE>
 For more information, try '--help'.
 ";
 
-const ONE_MORE: &[u8] = b"\
+const ONE_MORE: &str = "\
 error: unexpected argument 'A' found
 
 Usage: upd trial <MODE>
@@ -259,7 +279,7 @@ Usage: upd trial <MODE>
 For more information, try '--help'.
 ";
 
-const MISSPELT: &[u8] = b"\
+const MISSPELT: &str = "\
 error: unrecognized subcommand 'trail'
 
   tip: a similar subcommand exists: 'trial'
@@ -271,18 +291,16 @@ For more information, try '--help'.
 
 #[test]
 fn words_that_are_no_command_line_are_told_on_the_fault_stream(rt: HostRuntime) {
-    let alloc = rt.alloc();
-    let unread = run_words(alloc, &["upd", "trial"], b"");
-    assert_answer(&rt, &unread, 2, b"", NO_MODE);
-    let unread = run_words(alloc, &["upd", "trial", "full", "A"], b"");
-    assert_answer(&rt, &unread, 2, b"", ONE_MORE);
-    let unread = run_words(alloc, &["upd", "trail", "full"], b"");
-    assert_answer(&rt, &unread, 2, b"", MISSPELT);
-    let unread = run_words(alloc, &["upd"], b"");
+    const CASES: &[Case] = &[
+        (&["upd", "trial"], "", 2, "", NO_MODE),
+        (&["upd", "trial", "full", "A"], "", 2, "", ONE_MORE),
+        (&["upd", "trail", "full"], "", 2, "", MISSPELT),
+    ];
+    check(&rt, rt.alloc(), CASES);
+    let unread = run_words(rt.alloc(), &["upd"], b"");
+    let front = b"error: 'upd' requires a subcommand but one was not provided\n";
     assert!(rt; unread.status == 2 && unread.output.is_empty());
-    assert!(rt;
-        unread.faults.starts_with(b"error: 'upd' requires a subcommand but one was not provided\n")
-    );
+    assert!(rt; unread.faults.starts_with(front));
 }
 
 #[test]
@@ -295,4 +313,12 @@ fn words_that_cannot_be_had(rt: HostRuntime) {
     let status = report_words(&io::Error::from(ErrorKind::OutOfMemory), &mut faults);
     let line = b"upd: NoMemory (28) at 0\n";
     assert!(rt; status == 3 && faults.as_slice() == line.as_slice());
+}
+
+#[test]
+fn trials_are_calls(rt: HostRuntime) -> Result<(), Fail> {
+    let file = trial(rt.alloc(), Mode::Full, INSERTION.as_bytes())?;
+    assert_eq!(rt; file.bytes.as_slice(), INSERTED.as_bytes());
+    assert_eq!(rt; file.lines, 4);
+    Ok(())
 }

@@ -1,5 +1,5 @@
 use crate::parts::Part;
-use crate::shelf::{Ask, check};
+use crate::shelf::{Ask, Asked, check};
 use std::test::Fail;
 use upd_compile::Mode;
 
@@ -11,18 +11,18 @@ const MORE: &str = "*IDENT X\n*INSERT C.2\nMORE\n";
 
 #[test]
 fn callers_of_a_changed_common_deck(rt: HostRuntime) -> Result<(), Fail> {
-    let asked = [
+    const ASKED: Asked = &[
         (Ask::Compiled(Mode::Normal, COMMON), "C.2 B.2"),
         (Ask::Compiled(Mode::Normal, MORE), "C.2 X.1"),
         (Ask::Compiled(Mode::Quick, "*COMPILE B\n"), "B.2"),
         (Ask::Changed("*IDENT Y\n*DELETE C.2\n"), "[1]"),
     ];
-    check(&rt, rt.alloc(), &asked)
+    check(&rt, rt.alloc(), ASKED)
 }
 
 #[test]
 fn changes_that_are_not_passed_on(rt: HostRuntime) -> Result<(), Fail> {
-    let asked = [
+    const ASKED: Asked = &[
         (Ask::Run(NOPROP), "accepted"),
         (Ask::Compiled(Mode::Normal, MORE), ""),
         (
@@ -30,78 +30,98 @@ fn changes_that_are_not_passed_on(rt: HostRuntime) -> Result<(), Fail> {
             "COMDECK C NOPROP\nA C.1 *COMDECK C,NOPROP\nA C.2 CEE\nA X.1 MORE\n",
         ),
     ];
-    check(&rt, rt.alloc(), &asked)
+    check(&rt, rt.alloc(), ASKED)
 }
 
 #[test]
 fn calls_of_a_purged_common_deck(rt: HostRuntime) -> Result<(), Fail> {
-    let asked = [
+    const ASKED: Asked = &[
         (Ask::Run(COMMON), "accepted"),
         (Ask::Compiled(Mode::Quick, "*PURDECK C\n"), ""),
         (Ask::Compiled(Mode::Full, ""), "CallUnknown (20) at 0"),
         (Ask::Compiled(Mode::Normal, ""), ""),
     ];
-    check(&rt, rt.alloc(), &asked)
+    check(&rt, rt.alloc(), ASKED)
 }
 
 #[test]
 fn calls_go_eight_deep(rt: HostRuntime) -> Result<(), Fail> {
-    let last = "*COMDECK C8\nDEEP\n*DECK A\n*CALL C1";
-    let asked = [
+    const LAST: &str = "*COMDECK C8\nDEEP\n*DECK A\n*CALL C1";
+    const ASKED: Asked = &[
         (
-            Ask::Long(&[Part::Chain(1, 7, 1), Part::Line(last)]),
+            Ask::Long(&[Part::Chain(1, 7, 1), Part::Line(LAST)]),
             "accepted",
         ),
         (Ask::Active, "C8.2"),
     ];
-    check(&rt, rt.alloc(), &asked)
+    check(&rt, rt.alloc(), ASKED)
 }
 
 #[test]
 fn calls_go_no_deeper(rt: HostRuntime) -> Result<(), Fail> {
-    let last = "*COMDECK C9\nDEEP\n*DECK A\n*CALL C1";
-    let asked = [
+    const LAST: &str = "*COMDECK C9\nDEEP\n*DECK A\n*CALL C1";
+    const ASKED: Asked = &[
         (
-            Ask::Long(&[Part::Chain(1, 8, 1), Part::Line(last)]),
+            Ask::Long(&[Part::Chain(1, 8, 1), Part::Line(LAST)]),
             "accepted",
         ),
         (Ask::Active, "CallDepth (21) at 0"),
     ];
-    check(&rt, rt.alloc(), &asked)
+    check(&rt, rt.alloc(), ASKED)
 }
 
 #[test]
 fn a_cycle_of_calls_ends(rt: HostRuntime) -> Result<(), Fail> {
-    let cycle = "*COMDECK C\n*CALL C\n*DECK A\n*CALL C\n";
-    let asked = [
-        (Ask::Compiled(Mode::Quick, cycle), ""),
+    const CYCLE: &str = "*COMDECK C\n*CALL C\n*DECK A\n*CALL C\n";
+    const ASKED: Asked = &[
+        (Ask::Compiled(Mode::Quick, CYCLE), ""),
         (Ask::Active, "CallDepth (21) at 0"),
     ];
-    check(&rt, rt.alloc(), &asked)
+    check(&rt, rt.alloc(), ASKED)
 }
 
 #[test]
 fn calls_that_multiply_end(rt: HostRuntime) -> Result<(), Fail> {
-    let last = "*COMDECK C8\n*/ no text\n*DECK A\n*CALL C1";
-    let asked = [(
-        Ask::Lines(&[Part::Chain(1, 7, 10), Part::Line(last)]),
+    const LAST: &str = "*COMDECK C8\n*/ no text\n*DECK A\n*CALL C1";
+    const ASKED: Asked = &[(
+        Ask::Lines(&[Part::Chain(1, 7, 10), Part::Line(LAST)]),
         "CompileLong (22) at 0",
     )];
-    check(&rt, rt.alloc(), &asked)
+    check(&rt, rt.alloc(), ASKED)
 }
 
 #[test]
 fn compile_files_have_10000_lines(rt: HostRuntime) -> Result<(), Fail> {
-    let parts = [
+    const PARTS: &[Part<'_>] = &[
         Part::Line("*COMDECK C"),
         Part::Times(100, "      CONTINUE"),
         Part::Line("*DECK A"),
         Part::Times(100, "*CALL C"),
     ];
-    let asked = [
-        (Ask::Lines(&parts), "10000"),
+    const ASKED: Asked = &[
+        (Ask::Lines(PARTS), "10000"),
         (Ask::Run("*IDENT X\n*INSERT A.1\nONE MORE\n"), "accepted"),
         (Ask::Active, "CompileLong (22) at 0"),
     ];
-    check(&rt, rt.alloc(), &asked)
+    check(&rt, rt.alloc(), ASKED)
+}
+
+#[test]
+fn cards_without_text_are_listed(rt: HostRuntime) -> Result<(), Fail> {
+    const ASKED: Asked = &[
+        (Ask::Run("*COMDECK C,NOPROP\n\n"), "accepted"),
+        (
+            Ask::Deck("C"),
+            "COMDECK C NOPROP\nA C.1 *COMDECK C,NOPROP\nA C.2 \n",
+        ),
+    ];
+    check(&rt, rt.alloc(), ASKED)
+}
+
+#[test]
+fn modes_have_names(rt: HostRuntime) {
+    assert!(rt; matches!(Mode::read("full"), Some(Mode::Full)));
+    assert!(rt; matches!(Mode::read("quick"), Some(Mode::Quick)));
+    assert!(rt; matches!(Mode::read("normal"), Some(Mode::Normal)));
+    assert!(rt; Mode::read("Full").is_none() && Mode::read("").is_none());
 }

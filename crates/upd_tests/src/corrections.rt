@@ -1,20 +1,20 @@
-use crate::shelf::{Ask, DECK_A, check};
+use crate::shelf::{Ask, Asked, DECK_A, check};
 use std::test::Fail;
 
 #[test]
 fn later_insertions_stand_nearer(rt: HostRuntime) -> Result<(), Fail> {
-    let asked = [
+    const ASKED: Asked = &[
         (Ask::Run(DECK_A), "accepted"),
         (Ask::Run("*IDENT X\n*INSERT A.2\nXX\n"), "accepted"),
         (Ask::Run("*IDENT Y\n*INSERT A.2\nYY\n"), "accepted"),
         (Ask::Active, "A.2 Y.1 X.1 A.3 A.4"),
     ];
-    check(&rt, rt.alloc(), &asked)
+    check(&rt, rt.alloc(), ASKED)
 }
 
 #[test]
 fn short_forms_remarks_and_comments(rt: HostRuntime) -> Result<(), Fail> {
-    let asked = [
+    const ASKED: Asked = &[
         (Ask::Run(DECK_A), "accepted"),
         (
             Ask::Run("*ID X cleanup\n*D A.2 , A.3 old lines\n*/ note\nNEW\n*FOO\n"),
@@ -26,12 +26,12 @@ fn short_forms_remarks_and_comments(rt: HostRuntime) -> Result<(), Fail> {
             "CARD X.2\nDECK A\nTEXT *FOO\nSTATUS active\nENTRY X on\n",
         ),
     ];
-    check(&rt, rt.alloc(), &asked)
+    check(&rt, rt.alloc(), ASKED)
 }
 
 #[test]
 fn what_is_refused_leaves_nothing(rt: HostRuntime) -> Result<(), Fail> {
-    let asked = [
+    const ASKED: Asked = &[
         (Ask::Run(DECK_A), "accepted"),
         (Ask::Run("*DECK B\nBEE\n"), "accepted"),
         (
@@ -49,12 +49,12 @@ fn what_is_refused_leaves_nothing(rt: HostRuntime) -> Result<(), Fail> {
         (Ask::Run("*IDENT X\n*INSERT A.1\nTOP\n"), "accepted"),
         (Ask::Active, "X.1 A.2 A.3 A.4 B.2"),
     ];
-    check(&rt, rt.alloc(), &asked)
+    check(&rt, rt.alloc(), ASKED)
 }
 
 #[test]
 fn lines_that_are_refused(rt: HostRuntime) -> Result<(), Fail> {
-    let asked = [
+    const ASKED: Asked = &[
         (Ask::Run(DECK_A), "accepted"),
         (Ask::Run("*IDENT Y\n*YANK A\n"), "accepted"),
         (Ask::Run("*DELETE A.2\n"), "NoIdent (8) at 1"),
@@ -74,12 +74,12 @@ fn lines_that_are_refused(rt: HostRuntime) -> Result<(), Fail> {
         (Ask::Run("*IDENT X\n*YANK A.X\n"), "YankSelf (17) at 2"),
         (Ask::Run("*COMPILE Y\n*DECK C\n"), "DeckUnknown (12) at 1"),
     ];
-    check(&rt, rt.alloc(), &asked)
+    check(&rt, rt.alloc(), ASKED)
 }
 
 #[test]
 fn a_run_tells_what_it_touched_and_named(rt: HostRuntime) -> Result<(), Fail> {
-    let asked = [
+    const ASKED: Asked = &[
         (Ask::Run(DECK_A), "accepted"),
         (
             Ask::Applied("*DECK B\n*IDENT X\n*DELETE A.2\nNEW\n*YANK A\n*C B,A.B\n"),
@@ -87,5 +87,5 @@ fn a_run_tells_what_it_touched_and_named(rt: HostRuntime) -> Result<(), Fail> {
         ),
         (Ask::Applied("*PURGE X\n"), "[] [] A.2"),
     ];
-    check(&rt, rt.alloc(), &asked)
+    check(&rt, rt.alloc(), ASKED)
 }

@@ -1,5 +1,5 @@
 //! Each edit of a library and each look at it, called directly.
-use crate::shelf::{Ask, Shelf};
+use crate::shelf::{Ask, Asked, Shelf};
 use std::alloc::Global;
 use std::test::Fail;
 use upd_compile::{Mode, compile_active};
@@ -61,33 +61,36 @@ const BEFORE: &str = "DECK A\nA A.1 *DECK A\nA A.2 ONE\nI X.1 NEW\nA A.3 TWO\n";
 fn decks_get_cards_and_entries(rt: HostRuntime) -> Result<(), Fail> {
     let library = corrected(rt.alloc())?;
     assert!(rt; library.is_within_limits());
-    let asked = [
+    const ASKED: Asked = &[
         (Ask::Deck("A"), BEFORE),
         (Ask::Deck("B"), "DECK B\nA B.1 *DECK B\n"),
+        (Ask::Deck("YANK$$$"), "DECK YANK$$$\nA Y.1 *YANK X\n"),
+        (Ask::Deck("X"), "DeckUnknown (12) at 0"),
+        (Ask::Card("A.5"), "CardUnknown (13) at 0"),
         (Ask::Yanks, "live Y.1 *YANK X\n set X\n"),
         (
             Ask::Card("A.2"),
             "CARD A.2\nDECK A\nTEXT ONE\nSTATUS active\nENTRY A on\nENTRY X off taken\n",
         ),
     ];
-    Shelf::new(library).check(&rt, &asked)
+    Shelf::new(library).check(&rt, ASKED)
 }
 
 #[test]
 fn copies_are_the_same(rt: HostRuntime) -> Result<(), Fail> {
     let copy = corrected(rt.alloc())?.copy()?;
-    let asked = [
+    const ASKED: Asked = &[
         (Ask::Deck("A"), BEFORE),
         (Ask::Yanks, "live Y.1 *YANK X\n set X\n"),
     ];
-    Shelf::new(copy).check(&rt, &asked)
+    Shelf::new(copy).check(&rt, ASKED)
 }
 
 #[test]
 fn purges_take_idents(rt: HostRuntime) -> Result<(), Fail> {
     let mut library = corrected(rt.alloc())?;
     library.purge(&[2])?;
-    let asked = [
+    const ASKED: Asked = &[
         (
             Ask::Deck("A"),
             "DECK A\nA A.1 *DECK A\nA A.2 ONE\nA A.3 TWO\n",
@@ -98,7 +101,7 @@ fn purges_take_idents(rt: HostRuntime) -> Result<(), Fail> {
             "1 A deck held\n2 X set purged\n3 Y set held\n4 B deck held\n",
         ),
     ];
-    Shelf::new(library).check(&rt, &asked)
+    Shelf::new(library).check(&rt, ASKED)
 }
 
 #[test]
@@ -106,7 +109,7 @@ fn purges_in_one_deck_and_purges_back(rt: HostRuntime) -> Result<(), Fail> {
     let mut library = corrected(rt.alloc())?;
     library.purge_in(1, 2);
     library.purge_from(3);
-    let asked = [
+    const ASKED: Asked = &[
         (
             Ask::Deck("A"),
             "DECK A\nA A.1 *DECK A\nA A.2 ONE\nA A.3 TWO\n",
@@ -117,7 +120,7 @@ fn purges_in_one_deck_and_purges_back(rt: HostRuntime) -> Result<(), Fail> {
             "1 A deck held\n2 X set held\n3 Y set purged\n4 B deck purged\n",
         ),
     ];
-    Shelf::new(library).check(&rt, &asked)
+    Shelf::new(library).check(&rt, ASKED)
 }
 
 #[test]
@@ -156,6 +159,9 @@ fn reads_the_status_off_histories(rt: HostRuntime) -> Result<(), Fail> {
     assert_eq!(rt; library.status(&live, yank), Some(true));
     assert_eq!(rt; library.status(&live, new), Some(false));
     assert_eq!(rt; library.status(&live, none), None);
+    assert!(rt; live.is_taken(1, 2) && !live.is_taken(1, 1));
+    let card = library.card(Place { deck: 1, index: 2 }).ok_or("X.1")?;
+    assert!(rt; !live.is_good(1, card) && !live.is_active(1, card));
     Ok(())
 }
 

@@ -1,13 +1,13 @@
 //! Libraries at their limits; `bench/apply.py` times these tests.
 use crate::parts::Part;
-use crate::shelf::{Ask, Shelf, check};
+use crate::shelf::{Ask, Asked, Shelf, check};
 use std::alloc::Global;
 use std::process::Abort;
 use std::test::Fail;
 use upd_compile::Mode;
 use upd_core::Library;
 
-const ALL_IDENTS: [(Ask<'static>, &str); 3] = [
+const ALL_IDENTS: Asked = &[
     (Ask::Long(&[Part::Idents(0, 1999)]), "accepted"),
     (Ask::Long(&[Part::Idents(2000, 3999)]), "accepted"),
     (Ask::Long(&[Part::Idents(4000, 4095)]), "accepted"),
@@ -16,19 +16,19 @@ const ALL_IDENTS: [(Ask<'static>, &str); 3] = [
 #[test]
 fn holds_4096_idents(rt: HostRuntime) -> Result<(), Fail> {
     let mut shelf = Shelf::new(Library::new(rt.alloc()));
-    shelf.check(&rt, &ALL_IDENTS)?;
-    let asked = [
+    shelf.check(&rt, ALL_IDENTS)?;
+    const ASKED: Asked = &[
         (Ask::Run("*IDENT LAST\n"), "Full (19) at 1"),
         (Ask::Run("*PURGE N0\n*IDENT LAST\n"), "accepted"),
     ];
-    shelf.check(&rt, &asked)
+    shelf.check(&rt, ASKED)
 }
 
 #[test]
 fn introduces_65536_idents(rt: HostRuntime) -> Result<(), Fail> {
     let mut shelf = Shelf::new(Library::new(rt.alloc()));
     for _ in 0..16 {
-        shelf.check(&rt, &ALL_IDENTS)?;
+        shelf.check(&rt, ALL_IDENTS)?;
         shelf.check(&rt, &[(Ask::Run("*PURGE N0,*\n"), "accepted")])?;
     }
     shelf.check(&rt, &[(Ask::Run("*IDENT LAST\n"), "Full (19) at 1")])
@@ -57,46 +57,46 @@ fn holds_50000_cards(rt: HostRuntime) -> Result<(), Fail> {
 #[test]
 fn takes_1999_corrections_on_50000_cards(rt: HostRuntime) -> Result<(), Fail> {
     let mut shelf = with_50000_cards(&rt, rt.alloc())?;
-    let parts = [Part::Line("*IDENT X"), Part::Deletions(1999)];
-    shelf.check(&rt, &[(Ask::Long(&parts), "accepted")])
+    const PARTS: &[Part<'_>] = &[Part::Line("*IDENT X"), Part::Deletions(1999)];
+    shelf.check(&rt, &[(Ask::Long(PARTS), "accepted")])
 }
 
 #[test]
 fn holds_200000_entries(rt: HostRuntime) -> Result<(), Fail> {
-    let deck = [Part::Line("*DECK A"), Part::Times(1999, "      CONTINUE")];
-    let over = [
+    const DECK: &[Part<'_>] = &[Part::Line("*DECK A"), Part::Times(1999, "      CONTINUE")];
+    const OVER: &[Part<'_>] = &[
         Part::Line("*IDENT X"),
         Part::Times(99, "*DELETE A.2,A.2000"),
         Part::Line("*DELETE A.2,A.101"),
     ];
-    let full = [
+    const FULL: &[Part<'_>] = &[
         Part::Line("*IDENT X"),
         Part::Times(99, "*DELETE A.2,A.2000"),
         Part::Line("*DELETE A.2,A.100"),
     ];
-    let asked = [
-        (Ask::Long(&deck), "accepted"),
-        (Ask::Long(&over), "Full (19) at 101"),
-        (Ask::Long(&full), "accepted"),
+    const ASKED: Asked = &[
+        (Ask::Long(DECK), "accepted"),
+        (Ask::Long(OVER), "Full (19) at 101"),
+        (Ask::Long(FULL), "accepted"),
     ];
-    check(&rt, rt.alloc(), &asked)
+    check(&rt, rt.alloc(), ASKED)
 }
 
 #[test]
 fn holds_100000_targets(rt: HostRuntime) -> Result<(), Fail> {
-    let over = [
+    const OVER: &[Part<'_>] = &[
         Part::Line("*IDENT Z"),
         Part::Times(25, "*YANK N1.N4000"),
         Part::Line("*YANK N1"),
     ];
-    let full = [Part::Line("*IDENT Z"), Part::Times(25, "*YANK N1.N4000")];
-    let asked = [
+    const FULL: &[Part<'_>] = &[Part::Line("*IDENT Z"), Part::Times(25, "*YANK N1.N4000")];
+    const ASKED: Asked = &[
         (Ask::Long(&[Part::Idents(1, 2000)]), "accepted"),
         (Ask::Long(&[Part::Idents(2001, 4000)]), "accepted"),
-        (Ask::Long(&over), "Full (19) at 27"),
-        (Ask::Long(&full), "accepted"),
+        (Ask::Long(OVER), "Full (19) at 27"),
+        (Ask::Long(FULL), "accepted"),
     ];
-    check(&rt, rt.alloc(), &asked)
+    check(&rt, rt.alloc(), ASKED)
 }
 
 #[test]
@@ -106,10 +106,10 @@ fn follows_4000_common_decks_in_one_chain(rt: HostRuntime) -> Result<(), Fail> {
         let parts = [Part::Chain(500 * n, 500 * n + 499, 1)];
         shelf.check(&rt, &[(Ask::Long(&parts), "accepted")])?;
     }
-    let change = "*IDENT X\n*INSERT C3999.1\nMORE\n";
-    let asked = [
+    const CHANGE: &str = "*IDENT X\n*INSERT C3999.1\nMORE\n";
+    const ASKED: Asked = &[
         (Ask::Run("*DECK A\n*CALL C0\n"), "accepted"),
-        (Ask::Compiled(Mode::Normal, change), "CallDepth (21) at 0"),
+        (Ask::Compiled(Mode::Normal, CHANGE), "CallDepth (21) at 0"),
     ];
-    shelf.check(&rt, &asked)
+    shelf.check(&rt, ASKED)
 }

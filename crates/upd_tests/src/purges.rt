@@ -1,4 +1,4 @@
-use crate::shelf::{Ask, DECK_A, check};
+use crate::shelf::{Ask, Asked, DECK_A, check};
 use std::test::Fail;
 
 const REPLACED: &str = "*IDENT X\n*DELETE A.2\nNEW\n";
@@ -9,7 +9,7 @@ const PURGED: &str = "1 A deck held\n2 X set purged\n3 B deck purged\n4 Y set pu
 
 #[test]
 fn a_purge_takes_cards_and_entries(rt: HostRuntime) -> Result<(), Fail> {
-    let asked = [
+    const ASKED: Asked = &[
         (Ask::Run(DECK_A), "accepted"),
         (Ask::Run(REPLACED), "accepted"),
         (Ask::Run("*IDENT Y\n*YANK X\n"), "accepted"),
@@ -23,12 +23,12 @@ fn a_purge_takes_cards_and_entries(rt: HostRuntime) -> Result<(), Fail> {
         (Ask::Active, "A.2 A.3 A.4"),
         (Ask::Run("*IDENT X\n"), "accepted"),
     ];
-    check(&rt, rt.alloc(), &asked)
+    check(&rt, rt.alloc(), ASKED)
 }
 
 #[test]
 fn purging_back_by_a_run(rt: HostRuntime) -> Result<(), Fail> {
-    let asked = [
+    const ASKED: Asked = &[
         (Ask::Run(DECK_A), "accepted"),
         (Ask::Run(THREE), "accepted"),
         (Ask::Active, "X.1 B.2"),
@@ -36,24 +36,24 @@ fn purging_back_by_a_run(rt: HostRuntime) -> Result<(), Fail> {
         (Ask::Active, "A.2 A.3 A.4"),
         (Ask::Idents, PURGED),
     ];
-    check(&rt, rt.alloc(), &asked)
+    check(&rt, rt.alloc(), ASKED)
 }
 
 #[test]
 fn purging_back_by_the_call(rt: HostRuntime) -> Result<(), Fail> {
-    let asked = [
+    const ASKED: Asked = &[
         (Ask::Run(DECK_A), "accepted"),
         (Ask::Run(THREE), "accepted"),
         (Ask::PurgeBack(2), ""),
         (Ask::Active, "A.2 A.3 A.4"),
         (Ask::Idents, PURGED),
     ];
-    check(&rt, rt.alloc(), &asked)
+    check(&rt, rt.alloc(), ASKED)
 }
 
 #[test]
 fn purges_that_are_refused(rt: HostRuntime) -> Result<(), Fail> {
-    let asked = [
+    const ASKED: Asked = &[
         (Ask::Run(DECK_A), "accepted"),
         (Ask::Run("*IDENT X\n*INSERT A.2\nNEW\n"), "accepted"),
         (Ask::Run("*PURGE X.A\n"), "RangeOrder (14) at 1"),
@@ -63,12 +63,12 @@ fn purges_that_are_refused(rt: HostRuntime) -> Result<(), Fail> {
         (Ask::Run("*PURGE X\n*DELETE A.2\n"), "NoIdent (8) at 2"),
         (Ask::Active, "A.2 X.1 A.3 A.4"),
     ];
-    check(&rt, rt.alloc(), &asked)
+    check(&rt, rt.alloc(), ASKED)
 }
 
 #[test]
 fn names_come_again(rt: HostRuntime) -> Result<(), Fail> {
-    let asked = [
+    const ASKED: Asked = &[
         (Ask::Run(DECK_A), "accepted"),
         (Ask::Run(REPLACED), "accepted"),
         (Ask::Run("*IDENT Y\n*YANK X\n"), "accepted"),
@@ -87,12 +87,12 @@ fn names_come_again(rt: HostRuntime) -> Result<(), Fail> {
             "live Y.1 *YANK X\n set X purged\nlive Z.1 *YANK X\n set X\n",
         ),
     ];
-    check(&rt, rt.alloc(), &asked)
+    check(&rt, rt.alloc(), ASKED)
 }
 
 #[test]
 fn a_name_comes_again_in_one_run(rt: HostRuntime) -> Result<(), Fail> {
-    let asked = [
+    const ASKED: Asked = &[
         (Ask::Run(DECK_A), "accepted"),
         (Ask::Run("*IDENT X\n*INSERT A.2\nNEW\n"), "accepted"),
         (
@@ -101,5 +101,5 @@ fn a_name_comes_again_in_one_run(rt: HostRuntime) -> Result<(), Fail> {
         ),
         (Ask::Active, "A.2 A.3 A.4 X.1"),
     ];
-    check(&rt, rt.alloc(), &asked)
+    check(&rt, rt.alloc(), ASKED)
 }

@@ -28,8 +28,6 @@ pub enum Ask<'a> {
     Compiled(Mode, &'a str),
     /// A run that is made of parts: how many lines its full compile file has, or the fault.
     Lines(&'a [Part<'a>]),
-    /// The bytes of the full compile file.
-    File,
     /// The cards of the full compile file.
     Active,
     Deck(&'a str),
@@ -39,6 +37,9 @@ pub enum Ask<'a> {
     /// Everything of this age and younger is purged by the call: nothing is said.
     PurgeBack(Serial),
 }
+
+/// What is asked one after the other, each with the answer that is wanted.
+pub type Asked = &'static [(Ask<'static>, &'static str)];
 
 /// Asks all this of a library that begins empty.
 pub fn check(rt: &impl Abort, alloc: Global, asked: &[(Ask<'_>, &str)]) -> Result<(), Fail> {
@@ -73,7 +74,6 @@ impl Shelf {
             Ask::Changed(run) => self.changed(run),
             Ask::Compiled(mode, run) => self.compiled(mode, run),
             Ask::Lines(parts) => self.lines(parts),
-            Ask::File => self.file(),
             Ask::Active => self.compiled(Mode::Full, ""),
             Ask::Deck(name) => self.deck(name),
             Ask::Card(card) => self.card(card),
@@ -137,11 +137,6 @@ impl Shelf {
             Ok(file) => Ok(format!(in self.alloc(); "{}", file.lines)?),
             Err(fault) => Ok(format!(in self.alloc(); "{fault}")?),
         }
-    }
-
-    fn file(&self) -> Result<String, Fail> {
-        let file = compile_file(&self.library, &self.library, Mode::Full, &[])?;
-        Ok(String::from_str(self.alloc(), std::str::from_utf8(&file.bytes)?)?)
     }
 
     fn deck(&self, name: &str) -> Result<String, Fail> {

@@ -1,11 +1,11 @@
-use crate::shelf::{Ask, DECK_A, check};
+use crate::shelf::{Ask, Asked, DECK_A, check};
 use std::test::Fail;
 
 const REPLACED: &str = "*IDENT X\n*DELETE A.2\nNEW\n";
 
 #[test]
 fn a_yank_takes_back_what_a_set_did(rt: HostRuntime) -> Result<(), Fail> {
-    let asked = [
+    const ASKED: Asked = &[
         (Ask::Run(DECK_A), "accepted"),
         (Ask::Run(REPLACED), "accepted"),
         (Ask::Active, "X.1 A.3 A.4"),
@@ -16,12 +16,12 @@ fn a_yank_takes_back_what_a_set_did(rt: HostRuntime) -> Result<(), Fail> {
             "DECK A\nA A.1 *DECK A\nA A.2 ONE\nI X.1 NEW\nA A.3 TWO\nA A.4 THREE\n",
         ),
     ];
-    check(&rt, rt.alloc(), &asked)
+    check(&rt, rt.alloc(), ASKED)
 }
 
 #[test]
 fn each_deletion_is_an_entry(rt: HostRuntime) -> Result<(), Fail> {
-    let asked = [
+    const ASKED: Asked = &[
         (Ask::Run(DECK_A), "accepted"),
         (Ask::Run("*IDENT X\n*DELETE A.2\n"), "accepted"),
         (Ask::Run("*IDENT Y\n*DELETE A.2\n"), "accepted"),
@@ -31,12 +31,12 @@ fn each_deletion_is_an_entry(rt: HostRuntime) -> Result<(), Fail> {
             "CARD A.2\nDECK A\nTEXT ONE\nSTATUS inactive\nENTRY A on\nENTRY X off taken\nENTRY Y off\n",
         ),
     ];
-    check(&rt, rt.alloc(), &asked)
+    check(&rt, rt.alloc(), ASKED)
 }
 
 #[test]
 fn two_yanks_of_one_set(rt: HostRuntime) -> Result<(), Fail> {
-    let asked = [
+    const ASKED: Asked = &[
         (Ask::Run(DECK_A), "accepted"),
         (Ask::Run(REPLACED), "accepted"),
         (Ask::Run("*IDENT V\n*YANK X\n"), "accepted"),
@@ -48,12 +48,12 @@ fn two_yanks_of_one_set(rt: HostRuntime) -> Result<(), Fail> {
         (Ask::Run("*IDENT S\n*RESTORE V.1\n"), "accepted"),
         (Ask::Active, "A.2 A.3 A.4"),
     ];
-    check(&rt, rt.alloc(), &asked)
+    check(&rt, rt.alloc(), ASKED)
 }
 
 #[test]
 fn a_yank_of_a_yank(rt: HostRuntime) -> Result<(), Fail> {
-    let asked = [
+    const ASKED: Asked = &[
         (Ask::Run(DECK_A), "accepted"),
         (Ask::Run(REPLACED), "accepted"),
         (Ask::Run("*IDENT Y\n*YANK X\n"), "accepted"),
@@ -66,12 +66,12 @@ fn a_yank_of_a_yank(rt: HostRuntime) -> Result<(), Fail> {
             "live Y.1 *YANK X\n set X\ndead Z.1 *YANK Y\n set Y\n",
         ),
     ];
-    check(&rt, rt.alloc(), &asked)
+    check(&rt, rt.alloc(), ASKED)
 }
 
 #[test]
 fn yanks_in_one_deck(rt: HostRuntime) -> Result<(), Fail> {
-    let asked = [
+    const ASKED: Asked = &[
         (Ask::Run(DECK_A), "accepted"),
         (Ask::Run("*DECK B\nBEE\n"), "accepted"),
         (
@@ -89,5 +89,5 @@ fn yanks_in_one_deck(rt: HostRuntime) -> Result<(), Fail> {
         (Ask::Run("*PURDECK A\n"), "accepted"),
         (Ask::Active, "B.2"),
     ];
-    check(&rt, rt.alloc(), &asked)
+    check(&rt, rt.alloc(), ASKED)
 }

@@ -1,6 +1,7 @@
 use Rattle.std.proofs.Common.{◌≡◌, ◌∙◌, ◌&&◌, ℕ, List, Vec, Global, map, length, sym, ap}
 use Rattle.std.specs.List.{list_any, zip}
 use Rattle.std.proofs.lemmas.List.{length-map}
+use Rattle.std.proofs.lemmas.Result.{IfOk-weaker}
 use Rattle.upd_compile.specs.Chosen.{is_changed, is_passed_on}
 use Rattle.upd_compile.specs.Places.{called_places}
 use Rattle.upd_compile.specs.Reach.{AreCallers, AreReached, is_marked}
@@ -8,7 +9,7 @@ use Rattle.upd_compile.proofs.SpreadLaws.{chains-marked, is_marked-both, is_mark
 use Rattle.upd_compile.proofs.chains.chain_marks.Goals as goal
 
 pub returns : goal.returns
-returns c = λ before changed.
+returns c = IfOk-weaker c.calls_marked.result _ _ (λ marks ensured before changed.
     let a = c.args.source.now in
     let shown : List (Vec ℕ Global) → List (List ℕ) = map (λ list. list.items) in
     let calls = shown c.in_ok-calls.calls.items in
@@ -19,7 +20,7 @@ returns c = λ before changed.
     let seeds_are : seeds ≡ map (λ p. p.0 && p.1) (zip passed c.args.changed.now) = rw c.deref-3.ensures.value at c.in_ok-seeds.ensures in
     let callers_are : AreCallers calls passed (shown c.in_ok-callers.callers.items) = rw (c.deref.ensures.value, c.deref-2.ensures.value) at c.in_ok-callers.ensures in
     let reached : AreReached (shown c.in_ok-callers.callers.items) seeds c.in_ok-marks.marks.items = rw (c.deref-4.ensures.value, c.deref-5.ensures.value) at c.in_ok-marks.ensures in
-    let found : c.in_ok-found.found.items ≡ map (list_any (is_marked c.in_ok-marks.marks.items)) calls = rw (c.deref-6.ensures.value, c.deref-7.ensures.value) at c.in_ok-found.ensures in
+    let found : marks.items ≡ map (list_any (is_marked c.in_ok-marks.marks.items)) calls = rw (c.deref-6.ensures.value, c.deref-7.ensures.value) at ensured in
     let same_length : length passed ≡ length c.args.changed.now =
     ap length passed_are ∙ length-map a.decks (is_passed_on a) ∙ sym (ap length changed ∙ length-map a.decks (is_changed before)) in
     found ∙ chains-marked before a calls (shown c.in_ok-callers.callers.items) passed seeds c.in_ok-marks.marks.items (record {
@@ -31,4 +32,4 @@ returns c = λ before changed.
       seeds_length = ap length seeds_are ∙ length-both passed c.args.changed.now same_length ∙ ap length passed_are ∙ length-map a.decks (is_passed_on a);
       callers_are = callers_are;
       reached = reached;
-    })
+    })) c.calls_marked.ensures

@@ -1,4 +1,5 @@
 use Rattle.std.proofs.Common.{◌≡◌, ◌∙◌, ◌||◌, map}
+use Rattle.std.proofs.lemmas.Result.{IfOk-weaker}
 use Rattle.upd_core.specs.Edits.{is_among}
 use Rattle.upd_compile.specs.Chosen.{has_chain, is_changed}
 use Rattle.upd_compile.proofs.ChosenLaws.{either-map}
@@ -13,4 +14,4 @@ returns c =
     let chained : c.in_ok-chained.chained.items ≡ map (has_chain before a) a.decks = c.in_ok-chained.ensures before (c.deref.ensures.value ∙ changed) in
     let some : c.in_ok-named_or_changed.named_or_changed.items ≡ map (λ d. is_among named d.ident || is_changed before d) a.decks =
     cc (c.in_ok-named_or_changed.ensures, c.in_ok-named.ensures, either-map (λ d. is_among named d.ident) (is_changed before) a.decks) in
-    cc (c.in_ok-marks.ensures, either-map (λ d. is_among named d.ident || is_changed before d) (has_chain before a) a.decks)
+    IfOk-weaker c.either-2.result _ _ (λ marks ensured. cc (ensured, some, chained, either-map (λ d. is_among named d.ident || is_changed before d) (has_chain before a) a.decks)) c.either-2.ensures

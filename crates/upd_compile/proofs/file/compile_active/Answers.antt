@@ -8,8 +8,5 @@ returns-in_err-source c = grind (arith, common_steps)
 pub returns-in_err-decks : goal.returns-in_err-decks
 returns-in_err-decks c = grind (arith, common_steps)
 
-pub returns-in_err-file : goal.returns-in_err-file
-returns-in_err-file c = grind (arith, common_steps)
-
 pub returns : goal.returns
 returns c = grind (arith, common_steps)

@@ -8,8 +8,5 @@ returns-in_err-after c = grind (arith, common_steps)
 pub returns-in_err-before : goal.returns-in_err-before
 returns-in_err-before c = grind (arith, common_steps)
 
-pub returns-in_err-file : goal.returns-in_err-file
-returns-in_err-file c = grind (arith, common_steps)
-
 pub returns : goal.returns
 returns c = grind (arith, common_steps)

@@ -9,14 +9,14 @@ use Rattle.upd_compile.proofs.WalkLaws.{call-followed, walk-at_card, walk-at_fir
 use Rattle.upd_compile.proofs.walk.+walk.Goals as goal
 use Rattle.upd_compile.proofs.walk.+walk.Goals.{walk-then-not-is_first+in_ok-meet, walk-else-not-is_first}
 
-pub meet-returns-in_err-walk : goal.meet-returns-in_err-walk
-meet-returns-in_err-walk t c =
+pub meet-returns : goal.meet-returns
+meet-returns t c =
     let call : is_call c.args.card.now.text ≡ true = search rules in
     let named : common_named (called c.args.card.now.text) c.args.source.now ≡ Some c.in_ok-common.common.now =
     rw (← c.card.view_is, ← c.called.ensures, ← c.common_named.ensures) (ap option_copied c.in_ok-common.ensures.ok_part) in
     let counted : after_event [] Follow c.args.progress.now ≡ Ok c.follow.new.self = search rules in
     let same = call-followed c.args.deep c.args.source.now c.args.card.now c.in_ok-common.common.now c.args.progress.now c.follow.new.self (omega arith) call named counted in
-    let P : Result ProgressView FaultKind → Type 0 = Does c.from_residual-in_err-walk.result c.walk.new.progress in
+    let P : Result ProgressView FaultKind → Type 0 = Does c.walk.result c.walk.new.progress in
     subst P (sym same) (search rules)
 
 pub walk-returns-in_err-meet : goal.walk-returns-in_err-meet
