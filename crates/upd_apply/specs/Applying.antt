@@ -35,6 +35,12 @@ named_by found (line ∷ lines) l = do
   more ← at_line line.number (ranges_of found line.item l)
   named_by more lines l
 
+-- the decks that all lines name to compile, by age
+abbrev pub named_decks : List LineView → LibraryView → Result (List ℕ) Fault
+named_decks lines l = do
+  ranges ← named_by [] lines l
+  Ok (decks_in_any ranges l)
+
 -- What a run leaves: the library, the idents that it introduced by age, and the decks that it names to compile by age.
 pub record Reached : Type 0 where
   pub library : LibraryView
@@ -49,8 +55,8 @@ brought before after = map (λ i. i.age) (drop (length before.idents) after.iden
 abbrev pub applied : List LineView → LibraryView → Result Reached Fault
 applied lines l = do
   s ← stepped lines (started l)
-  ranges ← named_by [] lines s.library
-  Ok (record { library = s.library; idents = brought l s.library; compile = decks_in_any ranges s.library })
+  decks ← named_decks lines s.library
+  Ok (record { library = s.library; idents = brought l s.library; compile = decks })
 
 -- ---- the cards that a run touched: those that weren't there before, or whose history differs from before
 

@@ -5,12 +5,12 @@ use Rattle.upd_apply.specs.declared.state.Spot.{Spot}
 use Rattle.upd_apply.specs.declared.state.Spot.TheVariants.{Nowhere, End, Inside}
 use Rattle.upd_apply.specs.declared.state.State.{State}
 
--- the next number of the set in hand, 0 without one
+-- the next number of the set in hand, 1 without one
 abbrev pub hand_next : Option Hand → ℕ
 hand_next None = 1
 hand_next (Some h) = h.next
 
--- the next number at a new deck's end, 0 elsewhere
+-- the next number at a new deck's end, 1 elsewhere
 abbrev pub spot_next : Spot → ℕ
 spot_next Nowhere = 1
 spot_next (End d next) = next

@@ -2,7 +2,7 @@ ghost use Rattle.std.specs.Prelude.{◌≡◌, ◌+◌, ◌^◌, ◌<◌, ◌≤
 ghost use Rattle.upd_core.specs.Edits.{purged_back};
 ghost use Rattle.upd_core.specs.Sound.{AreApart, all_cards, key_of};
 ghost use Rattle.upd_text.specs.Outcome.{DoesAt, FailsAt, GivesAt, at_line};
-ghost use Rattle.upd_apply.specs.Applying.{applied, named_by, ranges_of, stepped, touched};
+ghost use Rattle.upd_apply.specs.Applying.{applied, brought, named_by, named_decks, ranges_of, stepped, touched};
 ghost use Rattle.upd_apply.specs.Numbers.{next_most};
 ghost use Rattle.upd_apply.specs.Step.{step};
 
@@ -36,15 +36,21 @@ pub fn apply(library: &mut Library, run: &Run) -> Result<Applied, Fault>
 {
     let mut state = State::new(library.copy()?);
     take_steps(&mut state, run.lines())?;
-    let ranges = named_by(&state.library, run.lines())?;
-    let compile = decks_in_any(&state.library, &ranges)?;
-    let idents = ages_from(
-        library.allocator(),
-        state.library.idents(),
-        library.idents().len(),
-    )?;
-    let touched = touched(library, &state.library)?;
+    let applied = compared(library, &state.library, run.lines())?;
     *library = state.library;
+    Ok(applied)
+}
+
+/// What a run left besides the library, from the library before and after it.
+fn compared(before: &Library, after: &Library, lines: &[Line]) -> Result<Applied, Fault>
+    ensures idents { IfOk result (λ a. a.idents.items ≡ brought before.now after.now) }
+    ensures compile { GivesAt (λ a. a.compile.items) result (named_decks lines.now after.now) }
+    ensures touched { AreApart (map key_of (all_cards before.now)) → IfOk result (λ a. a.touched.items ≡ touched before.now after.now) }
+{
+    let ranges = named_by(after, lines)?;
+    let compile = decks_in_any(after, &ranges)?;
+    let idents = ages_from(after.allocator(), after.idents(), before.idents().len())?;
+    let touched = touched(before, after)?;
     Ok(Applied {
         idents,
         compile,

@@ -4,6 +4,7 @@ ghost use Rattle.upd_core.specs.Library.{place_of};
 ghost use Rattle.upd_text.specs.Outcome.{Does, need};
 ghost use Rattle.upd_text.specs.declared.fault.FaultKind.TheVariants as fault;
 ghost use Rattle.upd_apply.specs.Applying.{started};
+ghost use Rattle.upd_apply.specs.declared.state.Spot.TheVariants.{End, Inside};
 ghost use Rattle.upd_apply.specs.Numbers.{next_most};
 ghost use Rattle.upd_apply.specs.Step.{behind, deck_begun, grown, is_first, placed_after, placed_before, set_begun, switched, text_put};
 
@@ -163,31 +164,45 @@ impl State {
     {
         match self.spot {
             Spot::Nowhere => Err(FaultKind::TextNowhere),
-            Spot::End { deck, next } => {
-                let card = new_card(&self.library, deck, next, text)?;
-                self.library.insert_card(deck, 0, card)?;
-                check_limits(&self.library)?;
-                self.spot = Spot::End {
-                    deck,
-                    next: next + 1,
-                };
-                Ok(())
-            }
-            Spot::Inside { deck, behind } => {
-                let Hand { ident, next } = self.hand.ok_or(FaultKind::TextNowhere)?;
-                if deck == 0 {
-                    return Err(FaultKind::YankText);
-                }
-                let card = new_card(&self.library, ident, next, text)?;
-                self.library.insert_card(deck, behind, card)?;
-                check_limits(&self.library)?;
-                self.hand = Some(Hand {
-                    ident,
-                    next: next + 1,
-                });
-                Ok(())
-            }
+            Spot::End { deck, next } => self.put_at_end(deck, next, text),
+            Spot::Inside { deck, behind } => self.put_inside(deck, behind, text),
         }
+    }
+
+    fn put_at_end(&mut self, deck: Serial, next: u32, text: &[u8]) -> Result<(), FaultKind>
+        requires spot { self.old.spot ≡ End deck next }
+        requires number { next_most self.old + 1 < 2 ^ 32 }
+        ensures does { Does result self.new (text_put text.now self.old.spot self.old) }
+        ensures number { OnOk result (next_most self.new ≤ next_most self.old + 1) }
+    {
+        let card = new_card(&self.library, deck, next, text)?;
+        self.library.insert_card(deck, 0, card)?;
+        check_limits(&self.library)?;
+        self.spot = Spot::End {
+            deck,
+            next: next + 1,
+        };
+        Ok(())
+    }
+
+    fn put_inside(&mut self, deck: Serial, behind: usize, text: &[u8]) -> Result<(), FaultKind>
+        requires spot { self.old.spot ≡ Inside deck behind }
+        requires number { next_most self.old + 1 < 2 ^ 32 }
+        ensures does { Does result self.new (text_put text.now self.old.spot self.old) }
+        ensures number { OnOk result (next_most self.new ≤ next_most self.old + 1) }
+    {
+        let Hand { ident, next } = self.hand.ok_or(FaultKind::TextNowhere)?;
+        if deck == 0 {
+            return Err(FaultKind::YankText);
+        }
+        let card = new_card(&self.library, ident, next, text)?;
+        self.library.insert_card(deck, behind, card)?;
+        check_limits(&self.library)?;
+        self.hand = Some(Hand {
+            ident,
+            next: next + 1,
+        });
+        Ok(())
     }
 }
 

@@ -22,7 +22,7 @@ use Rattle.upd_apply.specs.declared.state.Hand.{Hand}
 use Rattle.upd_apply.specs.declared.state.Spot.{Spot}
 use Rattle.upd_apply.specs.declared.state.Spot.TheVariants.{Nowhere, End, Inside}
 use Rattle.upd_apply.specs.declared.state.State.{State}
-use Rattle.upd_apply.specs.Applying.{Reached, started, stepped, applied, named_by}
+use Rattle.upd_apply.specs.Applying.{Reached, started, stepped, applied, named_decks}
 use Rattle.upd_apply.specs.Step.{grown, new_name, set_begun, deck_begun, placed_after, placed_before, switched, text_put, yank_put, is_first, done, step}
 use Rattle.upd_apply.specs.Yanks.{sets_yanked, pairs_yanked, decks_yanked}
 use Rattle.upd_laws.specs.PurgingBack.{is_purge, purges_nothing, all_applied}
@@ -203,7 +203,7 @@ applied_grows : (x : ℕ) (lines : List LineView) (l : LibraryView) → x ≤ ne
 applied_grows x lines l le p =
     let ready : Ready x (started l) = record { from = le; hand = tt; spot = tt } in
     after_ok (Next x (started l)) _ (stepped lines (started l)) _ (stepped_next x lines (started l) ready p) (λ s n.
-    after_any _ (named_by [] lines s.library) _ (λ _. n.library))
+    after_any _ (named_decks lines s.library) _ (λ _. n.library))
 
 -- runs that purge nothing only let a library grow
 pub all_applied_grows : (x : ℕ) (runs : List (List LineView)) (l : LibraryView) → x ≤ next_age l → IsTrue (list_all purges_nothing runs)

@@ -13,7 +13,7 @@ use Rattle.upd_deck.specs.Items.{ItemView, LineView, Text, Call, Ident, Deck, Co
 use Rattle.upd_apply.specs.declared.Hand.{Hand}
 use Rattle.upd_apply.specs.declared.state.Spot.TheVariants.{End}
 use Rattle.upd_apply.specs.declared.state.State.{State}
-use Rattle.upd_apply.specs.Applying.{Reached, applied, started, stepped, named_by}
+use Rattle.upd_apply.specs.Applying.{Reached, applied, started, stepped, named_decks}
 use Rattle.upd_apply.specs.Step.{done, step, purged_in_all}
 use Rattle.upd_apply.specs.Yanks.{known_ident, sets_yanked, pairs_yanked, decks_yanked, idents_purged, decks_purged, pairs_purged}
 use Rattle.upd_laws.specs.Soundness.{count_of, IsInHand, IsHandSound, IsAtEnd, IsSpotSound, IsSoundState, after_run, after_runs}
@@ -87,7 +87,7 @@ started_sound l s = record { library = s; hand = tt; spot = tt }
 reached_by : (P : LibraryView → Type 0) (lines : List LineView) (l : LibraryView) (r : Reached) → ((s : State) → stepped lines (started l) ≡ Ok s → P s.library) → applied lines l ≡ Ok r → P r.library
 reached_by P lines l r k h =
     through (stepped lines (started l)) _ r (P r.library) h (λ s e h1.
-    through (named_by [] lines s.library) _ r (P r.library) h1 (λ ranges f h2. holds_of (λ (r : Reached). P r.library) _ r h2 (k s e)))
+    through (named_decks lines s.library) _ r (P r.library) h1 (λ decks f h2. holds_of (λ (r : Reached). P r.library) _ r h2 (k s e)))
 
 pub run_sound : (lines : List LineView) (l : LibraryView) (r : Reached) → IsSound l → applied lines l ≡ Ok r → IsSound r.library
 run_sound lines l r sound h = reached_by IsSound lines l r (λ s e. let t = steps_sound lines (started l) s (started_sound l sound) e in t.library) h
