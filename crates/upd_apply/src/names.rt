@@ -8,7 +8,7 @@ use upd_deck::NameRange;
 use upd_text::{FaultKind, Name};
 
 /// Ages from one to another.
-#[derive(Clone, Copy, Debug)]
+#[derive(Clone, Copy)]
 pub struct AgeRange {
     pub from: Serial,
     pub to: Serial,

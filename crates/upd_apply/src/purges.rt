@@ -16,16 +16,13 @@ use upd_deck::{IdentIn, NameRange};
 use upd_text::{FaultKind, Name};
 
 /// An ident in a deck, by age.
-#[derive(Clone, Copy, Debug)]
+#[derive(Clone, Copy)]
 pub struct AgePair {
     pub deck: Serial,
     pub ident: Serial,
 }
 
 impl Model for AgePair {
-    ghost use Rattle.upd_deck.specs.Items.{PurDeck, Purge, PurgeFrom, SelPurge};
-    ghost use Rattle.upd_apply.specs.Numbers.{next_most};
-    ghost use Rattle.upd_apply.specs.Step.{done, ended, purged_in_all};
     ghost use Rattle.upd_apply.specs.Yanks.{AgesIn};
 
     ghost Value = { AgesIn };

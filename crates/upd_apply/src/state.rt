@@ -14,14 +14,14 @@ use upd_text::limits::MAX_INTRODUCED;
 use upd_text::{CardRef, FaultKind, Name};
 
 /// The correction set in hand, and the number that its next card gets.
-#[derive(Clone, Copy, Debug, PartialEq, Eq)]
+#[derive(Clone, Copy)]
 pub struct Hand {
     pub ident: Serial,
     pub next: u32,
 }
 
 /// Where the next text goes.
-#[derive(Clone, Copy, Debug, PartialEq, Eq)]
+#[derive(Clone, Copy)]
 pub enum Spot {
     Nowhere,
     /// The end of a deck that this run brought, and the number that its next card gets.
@@ -31,7 +31,7 @@ pub enum Spot {
 }
 
 /// A run under way: the library so far, the set in hand, and the place of text.
-#[derive(Debug, Drop)]
+#[derive(Drop)]
 pub struct State {
     pub(crate) library: Library,
     pub(crate) hand: Option<Hand>,

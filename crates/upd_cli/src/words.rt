@@ -13,7 +13,7 @@ use std::convert::AsStr;
 use upd_text::Fault;
 
 /// What the words of a command line ask for.
-#[derive(Debug, Drop)]
+#[derive(Drop)]
 pub enum Request<'a> {
     /// `trial MODE`
     Trial { mode: &'a str },

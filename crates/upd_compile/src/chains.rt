@@ -93,6 +93,6 @@ pub(crate) fn chain_marks(
     let passed = passed_on(alloc, source)?;
     let callers = callers(alloc, &calls, &passed)?;
     let seeds = both(alloc, &passed, changed)?;
-    let marks = reached(alloc, &callers, &seeds)?;
+    let marks = reached(alloc, &callers, seeds)?;
     calls_marked(alloc, &calls, &marks)
 }

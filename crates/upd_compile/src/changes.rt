@@ -8,7 +8,7 @@ ghost use Rattle.upd_compile.specs.Chosen.{changed, is_changed, same_card, same_
 
 use crate::indexed::Indexed;
 use std::alloc::{AllocError, Global};
-use upd_core::{ActiveCard, ActiveDeck, Library, Serial};
+use upd_core::{ActiveCard, ActiveDeck, Actives, Library, Serial};
 use upd_text::Fault;
 
 /// The decks that changed from one library to another, by age; memory alone can fail.
@@ -20,12 +20,22 @@ pub fn changed(before: &Library, after: &Library) -> Result<Vec<Serial>, Fault>
 {
     let before = before.actives()?;
     let after = after.actives()?;
-    let alloc = *after.decks.allocator();
-    let ages = changed_ages(alloc, &Indexed::new(alloc, &before)?, &after.decks)?;
+    let ages = changed_ages(*after.decks.allocator(), &before, &after.decks)?;
     Ok(ages)
 }
 
 fn changed_ages(
+    alloc: Global,
+    before: &Actives,
+    decks: &[ActiveDeck],
+) -> Result<Vec<Serial>, AllocError>
+    ensures { IfOk result (λ ages. ages.items ≡ map (λ d. d.ident) (filter (is_changed before.now) decks.now)) }
+{
+    let before = Indexed::new(alloc, before)?;
+    ages_changed_since(alloc, &before, decks)
+}
+
+fn ages_changed_since(
     alloc: Global,
     before: &Indexed,
     decks: &[ActiveDeck],
@@ -44,14 +54,15 @@ fn changed_ages(
 /// Whether each of these decks changed.
 pub(crate) fn change_marks(
     alloc: Global,
-    before: &Indexed,
+    before: &Actives,
     decks: &[ActiveDeck],
 ) -> Result<Vec<bool>, AllocError>
     ensures { IfOk result (λ marks. marks.items ≡ map (is_changed before.now) decks.now) }
 {
+    let before = Indexed::new(alloc, before)?;
     let mut marks = Vec::with_capacity(alloc, decks.len())?;
     for deck in decks {
-        marks.push(is_changed(before, deck))?;
+        marks.push(is_changed(&before, deck))?;
     }
     Ok(marks)
 }

@@ -11,7 +11,7 @@ use crate::chains::chain_marks;
 use crate::changes::change_marks;
 use crate::idents::ident_at;
 use crate::indexed::Indexed;
-use crate::marks::{both, either};
+use crate::marks::any_of;
 use crate::mode::Mode;
 use std::alloc::{AllocError, Global};
 use std::collections::HashSet;
@@ -27,48 +27,36 @@ pub(crate) fn chosen<'a, 'b>(
 ) -> Result<Vec<&'a ActiveDeck<'b>>, AllocError>
     ensures { IfOk result (λ decks. map (λ d. d.now) decks.items ≡ chosen mode named.now before.now after.now) }
 {
-    let uncommon = uncommon_marks(alloc, after)?;
     let choices = choices(alloc, mode, named, before, after)?;
-    let marks = both(alloc, &uncommon, &choices)?;
-    picked(alloc, after.decks(), &marks)
+    picked(alloc, after, &choices)
 }
 
-// The marked decks.
+// The marked decks that aren't common.
 fn picked<'a, 'b>(
     alloc: Global,
-    decks: &'a [ActiveDeck<'b>],
+    source: &Indexed<'a, 'b>,
     marks: &[bool],
 ) -> Result<Vec<&'a ActiveDeck<'b>>, AllocError>
-    requires { length marks.now ≡ length decks.now }
-    ensures { IfOk result (λ found. (test : ActiveDeckView → Bool) → marks.now ≡ map test decks.now
-        → map (λ d. d.now) found.items ≡ filter test decks.now) }
+    requires { length marks.now ≡ length source.now.decks }
+    ensures { IfOk result (λ found. (test : ActiveDeckView → Bool) → marks.now ≡ map test source.now.decks
+        → map (λ d. d.now) found.items ≡ filter (λ d. not (is_common_deck source.now d) && test d) source.now.decks) }
 {
+    let decks = source.decks();
     let mut found = Vec::new(alloc);
     for (i, deck) in decks.iter().enumerate() {
-        if marks[i] {
+        if is_picked(source.idents(), deck.ident, marks[i]) {
             found.push(deck)?;
         }
     }
     Ok(found)
 }
 
-// Whether each deck isn't common.
-fn uncommon_marks(alloc: Global, source: &Indexed) -> Result<Vec<bool>, AllocError>
-    ensures { IfOk result (λ marks. marks.items ≡ map (λ d. not (is_common_deck source.now d)) source.now.decks) }
-{
-    source
-        .decks()
-        .iter()
-        .map(|deck| !is_common(source.idents(), deck.ident))
-        .collect(alloc)
-}
-
-fn is_common(idents: &[Ident], deck: Serial) -> bool
-    ensures { result ≡ passes (λ i. is_common i.kind) idents.now deck }
+fn is_picked(idents: &[Ident], deck: Serial, is_marked: bool) -> bool
+    ensures { result ≡ not (passes (λ i. is_common i.kind) idents.now deck) && is_marked }
 {
     match ident_at(idents, deck) {
-        Some(ident) => ident.kind.is_common(),
-        None => false,
+        Some(ident) => !ident.kind.is_common() && is_marked,
+        None => is_marked,
     }
 }
 
@@ -100,12 +88,10 @@ fn normal_marks(
     ensures { IfOk result
         (λ marks. marks.items ≡ map (chooses Mode.Normal named.now before.now after.now) after.now.decks) }
 {
-    let before = Indexed::new(alloc, before)?;
     let named = named_marks(alloc, named, after.decks())?;
-    let changed = change_marks(alloc, &before, after.decks())?;
+    let changed = change_marks(alloc, before, after.decks())?;
     let chained = chain_marks(alloc, after, &changed)?;
-    let named_or_changed = either(alloc, &named, &changed)?;
-    either(alloc, &named_or_changed, &chained)
+    any_of(alloc, &named, &changed, &chained)
 }
 
 fn all_marks(alloc: Global, decks: &[ActiveDeck]) -> Result<Vec<bool>, AllocError>
@@ -123,19 +109,14 @@ fn named_marks(
     ensures { IfOk result (λ marks. marks.items ≡ map (λ d. is_among named.now d.ident) decks.now) }
 {
     let named = set_of(alloc, named)?;
-    let mut marks = Vec::with_capacity(alloc, decks.len())?;
-    for deck in decks {
-        marks.push(named.contains(&deck.ident))?;
-    }
-    Ok(marks)
+    decks
+        .iter()
+        .map(|deck| named.contains(&deck.ident))
+        .collect(alloc)
 }
 
 fn set_of(alloc: Global, ages: &[Serial]) -> Result<HashSet<Serial>, AllocError>
     ensures { IfOk result (λ set. (age : ℕ) → bag.contains nat_eq set age ≡ is_among ages.now age) }
 {
-    let mut set = HashSet::new(alloc);
-    for age in ages {
-        set.insert(*age)?;
-    }
-    Ok(set)
+    ages.iter().copied().collect(alloc)
 }

@@ -1,5 +1,6 @@
 ghost use Rattle.std.specs.Prelude.{◌≡◌};
 ghost use Rattle.std.specs.Option.{option_copied};
+ghost use Rattle.upd_core.specs.Library.{name_of};
 ghost use Rattle.upd_compile.specs.Idents.{ident_at};
 
 use upd_core::{Ident, Serial};
@@ -12,4 +13,14 @@ pub(crate) fn ident_at(idents: &[Ident], age: Serial) -> Option<&Ident>
         return None;
     }
     idents.get(age as usize - 1)
+}
+
+/// The name of the ident of an age, and no bytes where there is no such ident.
+pub(crate) fn name_of(idents: &[Ident], age: Serial) -> &[u8]
+    ensures { result.now ≡ name_of idents.now age }
+{
+    match ident_at(idents, age) {
+        Some(ident) => ident.name.as_bytes(),
+        None => b"",
+    }
 }

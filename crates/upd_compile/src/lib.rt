@@ -11,6 +11,7 @@ mod indexed;
 pub mod listings;
 mod marks;
 pub mod mode;
+mod parts;
 mod progress;
 mod reach;
 mod walk;

@@ -1,18 +1,18 @@
 //! The four listings: lines with LF.
 
-ghost use Rattle.std.specs.Prelude.{◌≡◌, ◌==◌, ◌∷◌, ◌++◌, [], ℕ, List, if◌then◌else◌, codes, map, OnOk, IfOk, not};
+ghost use Rattle.std.specs.Prelude.{◌≡◌, ◌∷◌, ◌++◌, [], ℕ, List, if◌then◌else◌, codes, drop, OnOk, IfOk, not};
 ghost use Rattle.std.specs.List.{flat_map, list_any};
-ghost use Rattle.std.specs.Option.{option_copied, option_to_list};
 ghost use Rattle.std.specs.Result.{IsOkUnless};
 ghost use Rattle.upd_core.specs.declared.ident.Ident.{Ident};
 ghost use Rattle.upd_text.specs.declared.fault.FaultKind.TheVariants.{NoMemory};
 ghost use Rattle.upd_text.specs.Faults.{fault_at};
-ghost use Rattle.upd_core.specs.Library.{name_of};
 ghost use Rattle.upd_text.specs.Outcome.{GivesAt};
 ghost use Rattle.upd_core.specs.Sound.{AreAgedFrom, is_held};
+ghost use Rattle.upd_core.specs.Status.{is_active, live_targets};
 ghost use Rattle.upd_compile.specs.Listings.{card_lines, card_listing, card_name, deck_heading, deck_line, deck_listing, deck_name, entry_line, ident_line, ident_listing, is_purged, listed_deck, purged_mark, spaced, target_line, word_if, yank_lines, yank_listing};
 
-use crate::idents::ident_at;
+use crate::idents::{ident_at, name_of};
+use crate::parts::push_parts;
 use itoa::Buffer;
 use std::alloc::AllocError;
 use upd_core::{Card, Entry, Ident, Kind, Library, Live, Serial, Target};
@@ -24,17 +24,7 @@ pub fn list_deck(library: &Library, name: &Name) -> Result<Vec<u8>, Fault>
     ensures { GivesAt (λ text. text.items) result (deck_listing name.now library.now) }
 {
     let deck = listed_deck(library, name).ok_or(FaultKind::DeckUnknown.at_line(0))?;
-    let live = library.live_yanks()?;
-    let mut text = Vec::new(library.allocator());
-    push_heading(&mut text, library.idents(), deck)?;
-    push_deck_lines(
-        &mut text,
-        library.idents(),
-        &live,
-        deck,
-        library.cards_of(deck),
-    )?;
-    Ok(text)
+    deck_text(library, deck, library.cards_of(deck))
 }
 
 /// A card with its status and its history. CardUnknown where there is no such card.
@@ -44,10 +34,7 @@ pub fn list_card(library: &Library, card: CardRef) -> Result<Vec<u8>, Fault>
     let unknown = FaultKind::CardUnknown.at_line(0);
     let place = library.card_at(card).ok_or(unknown)?;
     let card = library.card(place).ok_or(unknown)?;
-    let live = library.live_yanks()?;
-    let mut text = Vec::new(library.allocator());
-    push_card_lines(&mut text, library.idents(), &live, place.deck, card)?;
-    Ok(text)
+    card_text(library, place.deck, card)
 }
 
 /// All idents ever introduced, by age. Memory alone can fail.
@@ -87,17 +74,34 @@ fn listed_deck(library: &Library, name: &Name) -> Option<Serial>
     }
 }
 
+// The head line of a deck, and a line for each of these cards.
+fn deck_text(library: &Library, deck: Serial, cards: &[Card]) -> Result<Vec<u8>, Fault>
+    ensures ok { IfOk result (λ text. text.items
+        ≡ deck_heading library.now.idents deck ++ flat_map (deck_line library.now.idents (live_targets library.now) deck) cards.now) }
+    ensures err { IsOkUnless result (fault_at NoMemory 0) }
+{
+    let live = library.live_yanks()?;
+    let mut text = Vec::new(library.allocator());
+    push_heading(&mut text, library.idents(), deck)?;
+    push_deck_lines(&mut text, library.idents(), &live, deck, cards)?;
+    Ok(text)
+}
+
 fn push_heading(text: &mut Vec<u8>, idents: &[Ident], deck: Serial) -> Result<(), AllocError>
     ensures { OnOk result (text.new.items ≡ text.old.items ++ deck_heading idents.now deck) }
 {
-    let name = deck_name(idents, deck);
     match ident_at(idents, deck) {
-        Some(ident) if ident.kind.is_common() => {
-            push_line(text, b"COMDECK", &[name], mark_if(ident.noprop, b"NOPROP"))?;
-        }
-        _ => push_line(text, b"DECK", &[name], None)?,
+        Some(ident) if ident.kind.is_common() => push_parts(
+            text,
+            &[
+                b"COMDECK ",
+                deck_name(idents, deck),
+                mark_if(ident.noprop, b" NOPROP"),
+                b"\n",
+            ],
+        ),
+        _ => push_parts(text, &[b"DECK ", deck_name(idents, deck), b"\n"]),
     }
-    Ok(())
 }
 
 fn push_deck_lines(
@@ -110,14 +114,21 @@ fn push_deck_lines(
     ensures { OnOk result (text.new.items ≡ text.old.items ++ flat_map (deck_line idents.now live.now.targets deck) cards.now) }
 {
     for card in cards {
-        let status: &[u8] = if live.is_active(deck, card) {
-            b"A"
-        } else {
-            b"I"
-        };
+        let status = word_of(live.is_active(deck, card), b"A", b"I");
         push_card(text, status, idents, card)?;
     }
     Ok(())
+}
+
+// A card with its status and its history.
+fn card_text(library: &Library, deck: Serial, card: &Card) -> Result<Vec<u8>, Fault>
+    ensures ok { IfOk result (λ text. text.items ≡ card_lines library.now.idents (live_targets library.now) deck card.now) }
+    ensures err { IsOkUnless result (fault_at NoMemory 0) }
+{
+    let live = library.live_yanks()?;
+    let mut text = Vec::new(library.allocator());
+    push_card_lines(&mut text, library.idents(), &live, deck, card)?;
+    Ok(text)
 }
 
 fn push_card_lines(
@@ -129,18 +140,33 @@ fn push_card_lines(
 ) -> Result<(), AllocError>
     ensures { OnOk result (text.new.items ≡ text.old.items ++ card_lines idents.now live.now.targets deck card.now) }
 {
-    let status: &[u8] = if live.is_active(deck, card) {
-        b"active"
-    } else {
-        b"inactive"
-    };
+    push_head(text, idents, card)?;
+    push_fields(text, idents, live, deck, card)?;
+    push_entries(text, idents, live, deck, &card.history)
+}
+
+fn push_head(text: &mut Vec<u8>, idents: &[Ident], card: &Card) -> Result<(), AllocError>
+    ensures { OnOk result (text.new.items ≡ text.old.items ++ spaced (codes "CARD" ∷ card_name idents.now card.now ∷ [])) }
+{
     text.extend_from_slice(b"CARD ")?;
     push_card_name(text, idents, card)?;
-    text.extend_from_slice(b"\n")?;
-    push_line(text, b"DECK", &[deck_name(idents, deck)], None)?;
-    push_line(text, b"TEXT", &[&card.text], None)?;
-    push_line(text, b"STATUS", &[status], None)?;
-    push_entries(text, idents, live, deck, &card.history)
+    text.extend_from_slice(b"\n")
+}
+
+fn push_fields(
+    text: &mut Vec<u8>,
+    idents: &[Ident],
+    live: &Live,
+    deck: Serial,
+    card: &Card,
+) -> Result<(), AllocError>
+    ensures { OnOk result (text.new.items ≡ text.old.items
+        ++ spaced (codes "DECK" ∷ deck_name idents.now deck ∷ []) ++ spaced (codes "TEXT" ∷ card.now.text ∷ [])
+        ++ spaced (codes "STATUS" ∷ (if is_active live.now.targets deck card.now then codes "active" else codes "inactive") ∷ [])) }
+{
+    push_parts(text, &[b"DECK ", deck_name(idents, deck), b"\nTEXT "])?;
+    let status = word_of(live.is_active(deck, card), b"active", b"inactive");
+    push_parts(text, &[&card.text, b"\nSTATUS ", status, b"\n"])
 }
 
 fn push_entries(
@@ -153,16 +179,30 @@ fn push_entries(
     ensures { OnOk result (text.new.items ≡ text.old.items ++ flat_map (entry_line idents.now live.now.targets deck) history.now) }
 {
     for entry in history {
-        let status: &[u8] = if entry.active { b"on" } else { b"off" };
-        let mark = mark_if(live.is_taken(deck, entry.ident), b"taken");
-        push_line(
-            text,
-            b"ENTRY",
-            &[name_of(idents, entry.ident), status],
-            mark,
-        )?;
+        push_entry(text, idents, live, deck, entry)?;
     }
     Ok(())
+}
+
+fn push_entry(
+    text: &mut Vec<u8>,
+    idents: &[Ident],
+    live: &Live,
+    deck: Serial,
+    entry: &Entry,
+) -> Result<(), AllocError>
+    ensures { OnOk result (text.new.items ≡ text.old.items ++ entry_line idents.now live.now.targets deck entry.now) }
+{
+    push_parts(
+        text,
+        &[
+            b"ENTRY ",
+            name_of(idents, entry.ident),
+            word_of(entry.active, b" on", b" off"),
+            mark_if(live.is_taken(deck, entry.ident), b" taken"),
+            b"\n",
+        ],
+    )
 }
 
 fn push_ident_lines(text: &mut Vec<u8>, idents: &[Ident]) -> Result<(), AllocError>
@@ -182,10 +222,12 @@ fn push_ident(text: &mut Vec<u8>, ident: &Ident) -> Result<(), AllocError>
         Kind::Deck => b"deck",
         Kind::Common => b"comdeck",
     };
-    let state: &[u8] = if ident.held { b"held" } else { b"purged" };
-    let mut buffer = Buffer::new();
-    let age = buffer.format(ident.age).as_bytes();
-    push_line(text, age, &[ident.name.as_bytes(), kind, state], None)
+    let state = word_of(ident.held, b"held", b"purged");
+    text.extend_from_slice(Buffer::new().format(ident.age).as_bytes())?;
+    push_parts(
+        text,
+        &[b" ", ident.name.as_bytes(), b" ", kind, b" ", state, b"\n"],
+    )
 }
 
 fn push_yanks(
@@ -197,11 +239,7 @@ fn push_yanks(
     ensures { OnOk result (text.new.items ≡ text.old.items ++ flat_map (yank_lines idents.now live.now.targets) yanks.now) }
 {
     for card in yanks {
-        let status: &[u8] = if live.is_good(0, card) {
-            b"live"
-        } else {
-            b"dead"
-        };
+        let status = word_of(live.is_good(0, card), b"live", b"dead");
         push_card(text, status, idents, card)?;
         push_targets(text, idents, &card.targets)?;
     }
@@ -220,34 +258,44 @@ fn push_targets(text: &mut Vec<u8>, idents: &[Ident], targets: &[Target]) -> Res
 fn push_target(text: &mut Vec<u8>, idents: &[Ident], target: Target) -> Result<(), AllocError>
     ensures { OnOk result (text.new.items ≡ text.old.items ++ target_line idents.now target) }
 {
-    text.extend_from_slice(b" ")?;
     match target {
-        Target::Set(set) => {
-            let mark = purged_mark(idents, &[set]);
-            push_line(text, b"set", &[name_of(idents, set)], mark)?;
-        }
-        Target::SetIn(set, deck) => {
-            let mark = purged_mark(idents, &[set, deck]);
-            push_line(
-                text,
-                b"setin",
-                &[name_of(idents, set), name_of(idents, deck)],
-                mark,
-            )?;
-        }
-        Target::Deck(deck) => {
-            let mark = purged_mark(idents, &[deck]);
-            push_line(text, b"deck", &[name_of(idents, deck)], mark)?;
-        }
+        Target::Set(set) => push_parts(
+            text,
+            &[
+                b" set ",
+                name_of(idents, set),
+                purged_mark(idents, &[set]),
+                b"\n",
+            ],
+        ),
+        Target::SetIn(set, deck) => push_parts(
+            text,
+            &[
+                b" setin ",
+                name_of(idents, set),
+                b" ",
+                name_of(idents, deck),
+                purged_mark(idents, &[set, deck]),
+                b"\n",
+            ],
+        ),
+        Target::Deck(deck) => push_parts(
+            text,
+            &[
+                b" deck ",
+                name_of(idents, deck),
+                purged_mark(idents, &[deck]),
+                b"\n",
+            ],
+        ),
     }
-    Ok(())
 }
 
 // A mark where one of these idents is purged.
-fn purged_mark(idents: &[Ident], ages: &[Serial]) -> Option<&'static [u8]>
-    ensures { option_to_list (option_copied result) ≡ purged_mark idents.now ages.now }
+fn purged_mark<'a>(idents: &'a [Ident], ages: &[Serial]) -> &'a [u8]
+    ensures { result.now ≡ flat_map (λ x. 32 ∷ x) (purged_mark idents.now ages.now) }
 {
-    mark_if(is_any_purged(idents, ages), b"purged")
+    mark_if(is_any_purged(idents, ages), b" purged")
 }
 
 fn is_any_purged(idents: &[Ident], ages: &[Serial]) -> bool
@@ -262,16 +310,6 @@ fn is_purged(idents: &[Ident], age: Serial) -> bool
     match ident_at(idents, age) {
         Some(ident) => !ident.held,
         None => true,
-    }
-}
-
-// The name of the ident of an age, and no bytes where there is no such ident.
-fn name_of(idents: &[Ident], age: Serial) -> &[u8]
-    ensures { result.now ≡ name_of idents.now age }
-{
-    match ident_at(idents, age) {
-        Some(ident) => ident.name.as_bytes(),
-        None => b"",
     }
 }
 
@@ -295,58 +333,30 @@ fn push_card(
 ) -> Result<(), AllocError>
     ensures { OnOk result (text.new.items ≡ text.old.items ++ spaced (status.now ∷ card_name idents.now card.now ∷ card.now.text ∷ [])) }
 {
-    text.extend_from_slice(status)?;
-    text.extend_from_slice(b" ")?;
+    push_parts(text, &[status, b" "])?;
     push_card_name(text, idents, card)?;
-    text.extend_from_slice(b" ")?;
-    text.extend_from_slice(&card.text)?;
-    text.extend_from_slice(b"\n")?;
-    Ok(())
+    push_parts(text, &[b" ", &card.text, b"\n"])
 }
 
 // The reference of a card.
 fn push_card_name(text: &mut Vec<u8>, idents: &[Ident], card: &Card) -> Result<(), AllocError>
     ensures { OnOk result (text.new.items ≡ text.old.items ++ card_name idents.now card.now) }
 {
-    text.extend_from_slice(name_of(idents, card.ident))?;
-    text.extend_from_slice(b".")?;
-    text.extend_from_slice(Buffer::new().format(card.number).as_bytes())?;
-    Ok(())
+    push_parts(text, &[name_of(idents, card.ident), b"."])?;
+    text.extend_from_slice(Buffer::new().format(card.number).as_bytes())
 }
 
-// A word where a test holds.
-fn mark_if(test: bool, word: &'static [u8]) -> Option<&'static [u8]>
-    ensures { option_to_list (option_copied result) ≡ word_if test word.now }
+// One word or the other.
+fn word_of<'a>(test: bool, word: &'a [u8], other: &'a [u8]) -> &'a [u8]
+    ensures { result.now ≡ (if test then word.now else other.now) }
 {
-    if test { Some(word) } else { None }
+    if test { word } else { other }
 }
 
-// A line of words with a blank between two, and a mark behind them if there is one.
-fn push_line(
-    text: &mut Vec<u8>,
-    first: &[u8],
-    others: &[&[u8]],
-    mark: Option<&[u8]>,
-) -> Result<(), AllocError>
-    ensures { OnOk result (text.new.items
-        ≡ text.old.items ++ spaced (first.now ∷ map (λ word. word.now) others.now ++ option_to_list (option_copied mark.entry))) }
+// A blank and a word where a test holds.
+fn mark_if<'a>(test: bool, mark: &'a [u8]) -> &'a [u8]
+    requires { mark.now ≡ 32 ∷ drop 1 mark.now }
+    ensures { result.now ≡ flat_map (λ x. 32 ∷ x) (word_if test (drop 1 mark.now)) }
 {
-    text.extend_from_slice(first)?;
-    push_behind(text, others)?;
-    if let Some(mark) = mark {
-        push_behind(text, &[mark])?;
-    }
-    text.extend_from_slice(b"\n")?;
-    Ok(())
-}
-
-// Words with a blank before each.
-fn push_behind(text: &mut Vec<u8>, words: &[&[u8]]) -> Result<(), AllocError>
-    ensures { OnOk result (text.new.items ≡ text.old.items ++ flat_map (λ word. 32 ∷ word) (map (λ word. word.now) words.now)) }
-{
-    for word in words {
-        text.extend_from_slice(b" ")?;
-        text.extend_from_slice(word)?;
-    }
-    Ok(())
+    if test { mark } else { b"" }
 }

@@ -16,13 +16,21 @@ pub(crate) fn both(alloc: Global, left: &[bool], right: &[bool]) -> Result<Vec<b
         .collect(alloc)
 }
 
-/// The marks of one list or the other.
-pub(crate) fn either(alloc: Global, left: &[bool], right: &[bool]) -> Result<Vec<bool>, AllocError>
-    ensures { IfOk result (λ marks. marks.items ≡ map (λ pair. pair.0 || pair.1) (zip left.now right.now)) }
+/// The marks of any of three lists.
+pub(crate) fn any_of(
+    alloc: Global,
+    first: &[bool],
+    second: &[bool],
+    third: &[bool],
+) -> Result<Vec<bool>, AllocError>
+    ensures { IfOk result (λ marks. marks.items
+        ≡ map (λ each. each.0.0 || each.0.1 || each.1) (zip (zip first.now second.now) third.now)) }
 {
-    left.iter()
-        .zip(right)
-        .map(|(left, right)| *left || *right)
+    first
+        .iter()
+        .zip(second)
+        .zip(third)
+        .map(|((first, second), third)| *first || *second || *third)
         .collect(alloc)
 }
 

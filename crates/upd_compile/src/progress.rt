@@ -1,5 +1,4 @@
 ghost use Rattle.std.specs.Prelude.{◌≡◌, ◌≤◌, [], ◌++◌, OnOk};
-ghost use Rattle.upd_core.specs.Library.{name_of};
 ghost use Rattle.upd_text.specs.Outcome.{Does};
 ghost use Rattle.upd_text.specs.declared.fault.FaultKind.{FaultKind};
 ghost use Rattle.upd_compile.specs.File.{blanks, card_line, padded, padded_left};
@@ -7,11 +6,11 @@ ghost use Rattle.upd_compile.specs.Progress.{at_start, after_event, file_so_far}
 ghost use Rattle.upd_compile.specs.Walk.Event.{Line, Follow};
 
 use crate::file::CompileFile;
+use crate::idents::name_of;
 use itoa::Buffer;
 use std::alloc::{AllocError, Global};
 use std::marker::Model;
-use upd_core::ident::name_at;
-use upd_core::{ActiveCard, Ident, Serial};
+use upd_core::{ActiveCard, Ident};
 use upd_text::FaultKind;
 use upd_text::limits::{MAX_CALLS, MAX_COMPILE_LINES};
 
@@ -86,21 +85,9 @@ pub(crate) fn push_line(
 {
     push_padded(bytes, card.text, 80)?;
     bytes.extend_from_slice(b" ")?;
-    push_name(bytes, idents, card.ident)?;
+    push_padded(bytes, name_of(idents, card.ident), 9)?;
     push_padded_left(bytes, Buffer::new().format(card.number).as_bytes(), 6)?;
-    bytes.extend_from_slice(b"\n")?;
-    Ok(())
-}
-
-// The name of the ident of an age, with blanks behind it up to 9 bytes.
-fn push_name(bytes: &mut Vec<u8>, idents: &[Ident], age: Serial) -> Result<(), AllocError>
-    ensures { OnOk result (bytes.new.items ≡ bytes.old.items ++ padded 9 (name_of idents.now age)) }
-{
-    match name_at(idents, age) {
-        Some(name) => push_padded(bytes, name.as_bytes(), 9)?,
-        None => push_padded(bytes, b"", 9)?,
-    }
-    Ok(())
+    bytes.extend_from_slice(b"\n")
 }
 
 // A text with blanks behind it up to a width.
@@ -109,8 +96,7 @@ fn push_padded(bytes: &mut Vec<u8>, text: &[u8], width: usize) -> Result<(), All
     ensures { OnOk result (bytes.new.items ≡ bytes.old.items ++ padded width text.now) }
 {
     bytes.extend_from_slice(text)?;
-    bytes.extend_from_slice(blanks(width.saturating_sub(text.len())))?;
-    Ok(())
+    bytes.extend_from_slice(blanks(width.saturating_sub(text.len())))
 }
 
 // A text with blanks before it up to a width.
@@ -119,8 +105,7 @@ fn push_padded_left(bytes: &mut Vec<u8>, text: &[u8], width: usize) -> Result<()
     ensures { OnOk result (bytes.new.items ≡ bytes.old.items ++ padded_left width text.now) }
 {
     bytes.extend_from_slice(blanks(width.saturating_sub(text.len())))?;
-    bytes.extend_from_slice(text)?;
-    Ok(())
+    bytes.extend_from_slice(text)
 }
 
 fn blanks(count: usize) -> &'static [u8]

@@ -9,12 +9,12 @@ use std::alloc::{AllocError, Global};
 pub(crate) fn reached(
     alloc: Global,
     followers: &[Vec<usize>],
-    seeds: &[bool],
+    seeds: Vec<bool>,
 ) -> Result<Vec<bool>, AllocError>
-    ensures { IfOk result (λ marks. AreReached (map (λ list. list.items) followers.now) seeds.now marks.items) }
+    ensures { IfOk result (λ marks. AreReached (map (λ list. list.items) followers.now) seeds.items marks.items) }
 {
-    let mut marks = Vec::from_slice(alloc, seeds)?;
-    let mut work = marked(alloc, seeds)?;
+    let mut work = marked(alloc, &seeds)?;
+    let mut marks = seeds;
     while let Some(place) = work.pop() {
         if let Some(next) = followers.get(place) {
             mark_all(&mut marks, &mut work, next)?;

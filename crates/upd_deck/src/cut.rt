@@ -9,7 +9,7 @@ use upd_text::limits::MAX_RUN_BYTES;
 use upd_text::line::split_once;
 
 /// A line as it is cut from a run: without its LF, and without a CR directly before that.
-#[derive(Debug, Drop)]
+#[derive(Drop)]
 pub(crate) struct CutLine<'a> {
     /// From 1.
     pub(crate) number: u32,
@@ -31,7 +31,7 @@ impl<'a> Model for CutLine<'a> {
 }
 
 /// The lines of a run that are not cut yet.
-#[derive(Debug, Drop)]
+#[derive(Drop)]
 pub(crate) struct CutLines<'a> {
     number: u32,
     start: usize,

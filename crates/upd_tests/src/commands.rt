@@ -7,18 +7,18 @@ use std::test::Fail;
 use upd_cli::{report_words, run_command, trial};
 use upd_compile::Mode;
 
-/// Gives the bytes of a run one at a time, and counts its reads; read number `fails_at` fails.
+/// Gives the bytes of INSERTION one at a time, and counts its reads; read number `fails_at` fails.
 #[derive(Drop)]
 struct Dribble {
-    bytes: &'static [u8],
-    reads: u64,
-    fails_at: u64,
+    given: usize,
+    reads: usize,
+    fails_at: usize,
 }
 
 impl Dribble {
-    fn new(fails_at: u64) -> Dribble {
+    fn new(fails_at: usize) -> Dribble {
         Dribble {
-            bytes: INSERTION.as_bytes(),
+            given: 0,
             reads: 0,
             fails_at,
         }
@@ -31,14 +31,13 @@ impl Read for Dribble {
         if self.reads == self.fails_at {
             return Err(io::Error::from(ErrorKind::Other));
         }
-        match self.bytes {
-            [first, rest @ ..] if !buf.is_empty() => {
-                buf[0] = *first;
-                self.bytes = rest;
-                Ok(1)
-            }
-            _ => Ok(0),
+        let bytes = INSERTION.as_bytes();
+        if buf.is_empty() || self.given >= bytes.len() {
+            return Ok(0);
         }
+        buf[0] = bytes[self.given];
+        self.given += 1;
+        Ok(1)
     }
 }
 
@@ -61,6 +60,15 @@ impl Read for Endless {
 struct Narrow {
     taken: Vec<u8>,
     room: usize,
+}
+
+impl Narrow {
+    fn new(alloc: Global, room: usize) -> Narrow {
+        Narrow {
+            taken: Vec::new(alloc),
+            room,
+        }
+    }
 }
 
 impl Write for Narrow {
@@ -86,9 +94,9 @@ struct Answer {
     faults: Vec<u8>,
 }
 
-fn run_words(alloc: Global, words: &[&str], mut run: &[u8]) -> Answer {
+fn run_input<R: Read>(alloc: Global, words: &[&str], input: &mut R) -> Answer {
     let (mut output, mut faults) = (Vec::new(alloc), Vec::new(alloc));
-    let status = run_command(alloc, words, &mut run, &mut output, &mut faults);
+    let status = run_command(alloc, words, input, &mut output, &mut faults);
     Answer {
         status,
         output,
@@ -96,21 +104,14 @@ fn run_words(alloc: Global, words: &[&str], mut run: &[u8]) -> Answer {
     }
 }
 
-fn run_input<R: Read>(alloc: Global, mode: &str, input: &mut R) -> Answer {
-    let (mut output, mut faults) = (Vec::new(alloc), Vec::new(alloc));
-    let words = ["upd", "trial", mode];
-    let status = run_command(alloc, words.as_slice(), input, &mut output, &mut faults);
-    Answer {
-        status,
-        output,
-        faults,
-    }
+fn run_words(alloc: Global, words: &[&str], mut run: &[u8]) -> Answer {
+    run_input(alloc, words, &mut run)
 }
 
 fn assert_answer(rt: &impl Abort, found: &Answer, status: u8, output: &[u8], faults: &[u8]) {
     assert_eq!(rt; found.status, status);
-    assert_eq!(rt; found.output.as_slice(), output);
-    assert_eq!(rt; found.faults.as_slice(), faults);
+    assert!(rt; found.output.as_slice() == output);
+    assert!(rt; found.faults.as_slice() == faults);
 }
 
 const INSERTION: &str = "*DECK A\nONE\nTWO\nTHREE\n*IDENT X\n*INSERT A.2\nNEW\n";
@@ -121,6 +122,8 @@ NEW                                                                             
 TWO                                                                              A             3
 THREE                                                                            A             4
 ";
+
+const FULL: &[&str] = &["upd", "trial", "full"];
 
 const CYCLE: &str = "*COMDECK C\n*CALL C\n*DECK A\n*CALL C\n";
 
@@ -142,7 +145,6 @@ fn check(rt: &impl Abort, alloc: Global, cases: &[Case]) {
 
 #[test]
 fn runs_give_compile_files_or_refusals(rt: HostRuntime) {
-    const FULL: &[&str] = &["upd", "trial", "full"];
     const NORMAL: &[&str] = &["upd", "trial", "normal"];
     const QUICK: &[&str] = &["upd", "trial", "quick"];
     const CASES: &[Case] = &[
@@ -167,8 +169,9 @@ fn runs_give_compile_files_or_refusals(rt: HostRuntime) {
 
 #[test]
 fn the_mode_is_looked_at_before_the_input(rt: HostRuntime) {
+    const SLOW: &[&str] = &["upd", "trial", "slow"];
     let mut input = Dribble::new(1);
-    let found = run_input(rt.alloc(), "slow", &mut input);
+    let found = run_input(rt.alloc(), SLOW, &mut input);
     assert_answer(&rt, &found, 1, b"", b"upd: BadMode (25) at 0\n");
     assert_eq!(rt; input.reads, 0);
 }
@@ -176,64 +179,66 @@ fn the_mode_is_looked_at_before_the_input(rt: HostRuntime) {
 #[test]
 fn a_run_that_is_too_long_is_not_read_to_its_end(rt: HostRuntime) {
     let mut input = Endless { given: 0 };
-    let found = run_input(rt.alloc(), "full", &mut input);
+    let found = run_input(rt.alloc(), FULL, &mut input);
     assert_answer(&rt, &found, 1, b"", b"upd: RunLong (1) at 0\n");
     assert_eq!(rt; input.given, 65_537);
 }
 
 #[test]
 fn bytes_that_come_singly_are_the_same_run(rt: HostRuntime) {
-    let found = run_input(rt.alloc(), "full", &mut Dribble::new(0));
+    let found = run_input(rt.alloc(), FULL, &mut Dribble::new(0));
     assert_answer(&rt, &found, 0, INSERTED.as_bytes(), b"");
 }
 
 #[test]
 fn a_failed_read_ends_the_run(rt: HostRuntime) {
-    for fails_at in 1..=INSERTION.len() as u64 {
-        let found = run_input(rt.alloc(), "full", &mut Dribble::new(fails_at));
+    for given in 0..INSERTION.len() {
+        let found = run_input(rt.alloc(), FULL, &mut Dribble::new(given + 1));
         assert_answer(&rt, &found, 3, b"", b"upd: Read (32) at 0\n");
     }
 }
 
-/// The exit status of a run into a writer with so much room, and how many bytes of its compile file the writer took.
-fn run_into(alloc: Global, room: usize, faults: &mut Vec<u8>) -> (u8, usize) {
-    let mut output = Narrow {
-        taken: Vec::new(alloc),
-        room,
-    };
-    let words = ["upd", "trial", "full"];
+/// The answer where the writer of the output takes so many bytes.
+fn run_into(alloc: Global, room: usize) -> Answer {
+    let mut output = Narrow::new(alloc, room);
+    let mut faults = Vec::new(alloc);
     let mut run = INSERTION.as_bytes();
-    let status = run_command(alloc, words.as_slice(), &mut run, &mut output, faults);
-    let is_front = INSERTED.as_bytes().starts_with(&output.taken);
-    (status, if is_front { output.taken.len() } else { 0 })
+    let status = run_command(alloc, FULL, &mut run, &mut output, &mut faults);
+    Answer {
+        status,
+        output: output.taken,
+        faults,
+    }
 }
 
 #[test]
 fn a_failed_write_leaves_the_front_of_the_output(rt: HostRuntime) {
     for room in 0..INSERTED.len() {
-        let mut faults = Vec::new(rt.alloc());
-        assert_eq!(rt; run_into(rt.alloc(), room, &mut faults), (3, room));
-        assert_eq!(rt; faults.as_slice(), b"upd: Write (33) at 0\n".as_slice());
+        let found = run_into(rt.alloc(), room);
+        let front = &INSERTED.as_bytes()[..room];
+        assert_answer(&rt, &found, 3, front, b"upd: Write (33) at 0\n");
+    }
+}
+
+/// The answer where the writer of the fault takes so many bytes.
+fn tell_into(alloc: Global, room: usize) -> Answer {
+    let mut output = Vec::new(alloc);
+    let mut faults = Narrow::new(alloc, room);
+    let mut run = b"HELLO".as_slice();
+    let status = run_command(alloc, FULL, &mut run, &mut output, &mut faults);
+    Answer {
+        status,
+        output,
+        faults: faults.taken,
     }
 }
 
 #[test]
 fn a_fault_that_cannot_be_written(rt: HostRuntime) {
-    for room in 0..b"upd: TextNowhere (9) at 1\n".len() {
-        let mut output = Vec::new(rt.alloc());
-        let mut faults = Narrow {
-            taken: Vec::new(rt.alloc()),
-            room,
-        };
-        let (words, mut run) = (["upd", "trial", "full"], b"HELLO".as_slice());
-        let status = run_command(
-            rt.alloc(),
-            words.as_slice(),
-            &mut run,
-            &mut output,
-            &mut faults,
-        );
-        assert_eq!(rt; (status, output.len(), faults.taken.len()), (3, 0, room));
+    const FAULT: &[u8] = b"upd: TextNowhere (9) at 1\n";
+    for room in 0..FAULT.len() {
+        let found = tell_into(rt.alloc(), room);
+        assert_answer(&rt, &found, 3, b"", &FAULT[..room]);
     }
 }
 
@@ -317,8 +322,14 @@ fn words_that_cannot_be_had(rt: HostRuntime) {
 
 #[test]
 fn trials_are_calls(rt: HostRuntime) -> Result<(), Fail> {
-    let file = trial(rt.alloc(), Mode::Full, INSERTION.as_bytes())?;
-    assert_eq!(rt; file.bytes.as_slice(), INSERTED.as_bytes());
-    assert_eq!(rt; file.lines, 4);
+    const TRIALS: &[(Mode, &str, &str, u32)] = &[
+        (Mode::Full, INSERTION, INSERTED, 4),
+        (Mode::Quick, INSERTION, "", 0),
+    ];
+    for (mode, run, wanted, lines) in TRIALS {
+        let file = trial(rt.alloc(), *mode, run.as_bytes())?;
+        assert!(rt; file.bytes.as_slice() == wanted.as_bytes());
+        assert_eq!(rt; file.lines, *lines);
+    }
     Ok(())
 }

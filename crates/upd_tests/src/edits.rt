@@ -1,12 +1,13 @@
 //! Each edit of a library and each look at it, called directly.
 use crate::shelf::{Ask, Asked, Shelf};
 use std::alloc::Global;
+use std::process::Abort;
 use std::test::Fail;
 use upd_compile::{Mode, compile_active};
 use upd_core::ident::name_at;
-use upd_core::{Card, Deck, Entry, Kind, Library, Place, Serial, Target};
+use upd_core::{Card, Deck, Entry, Kind, Library, Live, Place, Serial, Target};
 use upd_text::limits::MAX_INTRODUCED;
-use upd_text::{CardRef, Name};
+use upd_text::{CardRef, Fault, Name};
 
 fn name(text: &str) -> Result<Name, Fail> {
     Ok(Name::read(text.as_bytes()).ok_or("no name")?)
@@ -23,35 +24,55 @@ fn introduce(library: &mut Library, text: &str, kind: Kind) -> Result<(), Fail> 
     Ok(())
 }
 
+fn push_deck(library: &mut Library, ident: Serial, text: &[u8]) -> Result<(), Fail> {
+    let deck = Deck::new(library.allocator(), ident, text)?;
+    Ok(library.push_deck(deck)?)
+}
+
 fn insert(library: &mut Library, ident: Serial, number: u32, text: &[u8]) -> Result<(), Fail> {
     let alloc = library.allocator();
     let card = Card::new(alloc, ident, number, text, Vec::new(alloc))?;
-    library.insert_card(1, 0, card)?;
-    Ok(())
+    Ok(library.insert_card(1, 0, card)?)
 }
 
-fn off(ident: Serial) -> Entry {
-    Entry {
+/// An entry of an ident, off, on the second card of deck A.
+fn switch_off(library: &mut Library, ident: Serial) -> Result<(), Fail> {
+    let off = Entry {
         ident,
         active: false,
-    }
+    };
+    Ok(library.enter(1, 1, 1, off)?)
 }
 
-/// A deck A of three texts and a deck B of none; X switches A.2 off and brings a text behind it; Y yanks X.
+fn push_yank(library: &mut Library, ident: Serial, text: &[u8], set: Serial) -> Result<(), Fail> {
+    let alloc = library.allocator();
+    let targets = Vec::from_slice(alloc, &[Target::Set(set)])?;
+    Ok(library.push_yank(Card::new(alloc, ident, 1, text, targets)?)?)
+}
+
+/// Brings a deck A of two texts, and X, which switches the first off and brings a text behind it.
+fn bring_deck_and_set(library: &mut Library) -> Result<(), Fail> {
+    introduce(library, "A", Kind::Deck)?;
+    push_deck(library, 1, b"*DECK A")?;
+    insert(library, 1, 2, b"ONE")?;
+    introduce(library, "X", Kind::Set)?;
+    switch_off(library, 2)?;
+    insert(library, 2, 1, b"NEW")?;
+    insert(library, 1, 3, b"TWO")
+}
+
+/// Brings Y, which yanks X, and a deck B of no texts.
+fn bring_yank_and_deck(library: &mut Library) -> Result<(), Fail> {
+    introduce(library, "Y", Kind::Set)?;
+    push_yank(library, 3, b"*YANK X", 2)?;
+    introduce(library, "B", Kind::Deck)?;
+    push_deck(library, 4, b"*DECK B")
+}
+
 fn corrected(alloc: Global) -> Result<Library, Fail> {
     let mut library = Library::new(alloc);
-    introduce(&mut library, "A", Kind::Deck)?;
-    library.push_deck(Deck::new(alloc, 1, b"*DECK A")?)?;
-    insert(&mut library, 1, 2, b"ONE")?;
-    introduce(&mut library, "X", Kind::Set)?;
-    library.enter(1, 1, 1, off(2))?;
-    insert(&mut library, 2, 1, b"NEW")?;
-    insert(&mut library, 1, 3, b"TWO")?;
-    introduce(&mut library, "Y", Kind::Set)?;
-    let targets = Vec::from_slice(alloc, &[Target::Set(2)])?;
-    library.push_yank(Card::new(alloc, 3, 1, b"*YANK X", targets)?)?;
-    introduce(&mut library, "B", Kind::Deck)?;
-    library.push_deck(Deck::new(alloc, 4, b"*DECK B")?)?;
+    bring_deck_and_set(&mut library)?;
+    bring_yank_and_deck(&mut library)?;
     Ok(library)
 }
 
@@ -78,12 +99,12 @@ fn decks_get_cards_and_entries(rt: HostRuntime) -> Result<(), Fail> {
 
 #[test]
 fn copies_are_the_same(rt: HostRuntime) -> Result<(), Fail> {
-    let copy = corrected(rt.alloc())?.copy()?;
+    let library = corrected(rt.alloc())?;
     const ASKED: Asked = &[
         (Ask::Deck("A"), BEFORE),
         (Ask::Yanks, "live Y.1 *YANK X\n set X\n"),
     ];
-    Shelf::new(copy).check(&rt, ASKED)
+    Shelf::new(library.copy()?).check(&rt, ASKED)
 }
 
 #[test]
@@ -123,56 +144,96 @@ fn purges_in_one_deck_and_purges_back(rt: HostRuntime) -> Result<(), Fail> {
     Shelf::new(library).check(&rt, ASKED)
 }
 
+fn check_name(rt: &impl Abort, library: &Library, name: Name, ident: Serial, deck: Option<Serial>) {
+    assert!(rt; library.ident_of(&name) == Some(ident) && library.deck_of(&name) == deck);
+    assert!(rt; library.held(&name).is_some());
+    assert!(rt; name_at(library.idents(), ident) == Some(name));
+}
+
 #[test]
-fn finds_what_is_there(rt: HostRuntime) -> Result<(), Fail> {
+fn finds_idents_and_decks(rt: HostRuntime) -> Result<(), Fail> {
     let library = corrected(rt.alloc())?;
-    let (deck, set) = (name("B")?, name("Y")?);
-    let (new, none) = (card_ref("X.1")?, card_ref("A.4")?);
-    let place = Place { deck: 1, index: 2 };
-    assert_eq!(rt;
-        (library.ident_of(&set), library.deck_of(&set)),
-        (Some(3), None)
-    );
-    assert_eq!(rt; library.deck_of(&deck), Some(4));
-    assert!(rt; library.held(&deck).is_some());
-    assert!(rt; name_at(library.idents(), 3) == Some(set));
+    check_name(&rt, &library, name("Y")?, 3, None);
+    check_name(&rt, &library, name("B")?, 4, Some(4));
     assert!(rt; name_at(library.idents(), 5).is_none());
-    assert_eq!(rt; library.cards_of(4).len(), 1);
-    assert_eq!(rt;
-        (library.card_at(new), library.card_at(none)),
-        (Some(place), None)
-    );
-    assert!(rt; library.card(place).is_some());
-    assert_eq!(rt; (library.rest().cards, library.decks().len()), (0, 2));
     Ok(())
+}
+
+#[test]
+fn counts_decks_and_cards(rt: HostRuntime) -> Result<(), Fail> {
+    let library = corrected(rt.alloc())?;
+    assert!(rt; library.decks().len() == 2 && library.cards_of(4).len() == 1);
+    assert!(rt; library.rest().cards == 0);
+    Ok(())
+}
+
+/// Where X.1 stands.
+const PLACE: Place = Place { deck: 1, index: 2 };
+
+fn place(library: &Library, card: &str) -> Result<Option<Place>, Fail> {
+    Ok(library.card_at(card_ref(card)?))
+}
+
+#[test]
+fn finds_cards(rt: HostRuntime) -> Result<(), Fail> {
+    let library = corrected(rt.alloc())?;
+    assert_eq!(rt; place(&library, "X.1")?, Some(PLACE));
+    assert_eq!(rt; place(&library, "A.4")?, None);
+    assert!(rt; library.card(PLACE).is_some());
+    Ok(())
+}
+
+fn status(library: &Library, card: CardRef) -> Result<Option<bool>, Fault> {
+    let live = library.live_yanks()?;
+    Ok(library.status(&live, card))
+}
+
+fn live_yank(library: &Library, card: CardRef) -> Result<Option<bool>, Fault> {
+    let live = library.live_yanks()?;
+    Ok(live.live_yank(card))
 }
 
 #[test]
 fn reads_the_status_off_histories(rt: HostRuntime) -> Result<(), Fail> {
+    const CARDS: &[(&str, Option<bool>, Option<bool>)] = &[
+        ("Y.1", Some(true), Some(true)),
+        ("X.1", Some(false), None),
+        ("A.4", None, None),
+    ];
     let library = corrected(rt.alloc())?;
-    let live = library.live_yanks()?;
-    let (yank, new, none) = (card_ref("Y.1")?, card_ref("X.1")?, card_ref("A.4")?);
-    assert_eq!(rt;
-        (live.live_yank(yank), live.live_yank(new)),
-        (Some(true), None)
-    );
-    assert_eq!(rt; library.status(&live, yank), Some(true));
-    assert_eq!(rt; library.status(&live, new), Some(false));
-    assert_eq!(rt; library.status(&live, none), None);
-    assert!(rt; live.is_taken(1, 2) && !live.is_taken(1, 1));
-    let card = library.card(Place { deck: 1, index: 2 }).ok_or("X.1")?;
-    assert!(rt; !live.is_good(1, card) && !live.is_active(1, card));
+    for (text, active, live) in CARDS {
+        let card = card_ref(text)?;
+        assert_eq!(rt; status(&library, card)?, *active, "{text}");
+        assert_eq!(rt; live_yank(&library, card)?, *live, "{text}");
+    }
     Ok(())
+}
+
+fn check_taken(rt: &impl Abort, live: &Live<'_>, card: &Card) {
+    assert!(rt; live.is_taken(1, 2) && !live.is_taken(1, 1));
+    assert!(rt; !live.is_good(1, card) && !live.is_active(1, card));
+}
+
+#[test]
+fn knows_what_yanks_take(rt: HostRuntime) -> Result<(), Fail> {
+    let library = corrected(rt.alloc())?;
+    let card = library.card(PLACE).ok_or("X.1")?;
+    check_taken(&rt, &library.live_yanks()?, card);
+    Ok(())
+}
+
+/// How many lines the compile file of a deck has.
+fn line_count(library: &Library, deck: Serial) -> Result<u32, Fault> {
+    let alloc = library.allocator();
+    let actives = library.actives()?;
+    let file = compile_active(alloc, &actives, &actives, Mode::Quick, &[deck])?;
+    Ok(file.lines)
 }
 
 #[test]
 fn compiles_the_active_cards(rt: HostRuntime) -> Result<(), Fail> {
-    let alloc = rt.alloc();
-    let library = corrected(alloc)?;
-    let actives = library.actives()?;
-    let file = compile_active(alloc, &actives, &actives, Mode::Quick, &[1])?;
-    assert_eq!(rt; file.lines, 2);
-    let file = compile_active(alloc, &actives, &actives, Mode::Quick, &[4])?;
-    assert_eq!(rt; file.lines, 0);
+    let library = corrected(rt.alloc())?;
+    assert_eq!(rt; line_count(&library, 1)?, 2);
+    assert_eq!(rt; line_count(&library, 4)?, 0);
     Ok(())
 }

@@ -26,24 +26,27 @@ fn holds_4096_idents(rt: HostRuntime) -> Result<(), Fail> {
 
 #[test]
 fn introduces_65536_idents(rt: HostRuntime) -> Result<(), Fail> {
+    const PURGE: Asked = &[(Ask::Run("*PURGE N0,*\n"), "accepted")];
+    const LAST: Asked = &[(Ask::Run("*IDENT LAST\n"), "Full (19) at 1")];
     let mut shelf = Shelf::new(Library::new(rt.alloc()));
     for _ in 0..16 {
         shelf.check(&rt, ALL_IDENTS)?;
-        shelf.check(&rt, &[(Ask::Run("*PURGE N0,*\n"), "accepted")])?;
+        shelf.check(&rt, PURGE)?;
     }
-    shelf.check(&rt, &[(Ask::Run("*IDENT LAST\n"), "Full (19) at 1")])
+    shelf.check(&rt, LAST)
+}
+
+fn take_2000_cards(rt: &impl Abort, shelf: &mut Shelf, deck: &str) -> Result<(), Fail> {
+    let parts = [Part::Line(deck), Part::Times(1999, "      CONTINUE")];
+    shelf.check(rt, &[(Ask::Long(&parts), "accepted")])
 }
 
 /// Brings 50,000 cards in the decks DECK0 to DECK24.
 fn with_50000_cards(rt: &impl Abort, alloc: Global) -> Result<Shelf, Fail> {
     let mut shelf = Shelf::new(Library::new(alloc));
     for n in 0..25 {
-        let first = format!(in alloc; "*DECK DECK{n}")?;
-        let parts = [
-            Part::Line(first.as_str()),
-            Part::Times(1999, "      CONTINUE"),
-        ];
-        shelf.check(rt, &[(Ask::Long(&parts), "accepted")])?;
+        let deck = format!(in alloc; "*DECK DECK{n}")?;
+        take_2000_cards(rt, &mut shelf, deck.as_str())?;
     }
     Ok(shelf)
 }
@@ -51,14 +54,16 @@ fn with_50000_cards(rt: &impl Abort, alloc: Global) -> Result<Shelf, Fail> {
 #[test]
 fn holds_50000_cards(rt: HostRuntime) -> Result<(), Fail> {
     let mut shelf = with_50000_cards(&rt, rt.alloc())?;
-    shelf.check(&rt, &[(Ask::Run("*DECK Z\n"), "Full (19) at 1")])
+    const ASKED: Asked = &[(Ask::Run("*DECK Z\n"), "Full (19) at 1")];
+    shelf.check(&rt, ASKED)
 }
 
 #[test]
 fn takes_1999_corrections_on_50000_cards(rt: HostRuntime) -> Result<(), Fail> {
     let mut shelf = with_50000_cards(&rt, rt.alloc())?;
     const PARTS: &[Part<'_>] = &[Part::Line("*IDENT X"), Part::Deletions(1999)];
-    shelf.check(&rt, &[(Ask::Long(PARTS), "accepted")])
+    const ASKED: Asked = &[(Ask::Long(PARTS), "accepted")];
+    shelf.check(&rt, ASKED)
 }
 
 #[test]
@@ -99,12 +104,16 @@ fn holds_100000_targets(rt: HostRuntime) -> Result<(), Fail> {
     check(&rt, rt.alloc(), ASKED)
 }
 
+fn take_chain(rt: &impl Abort, shelf: &mut Shelf, first: u32, last: u32) -> Result<(), Fail> {
+    let parts = [Part::Chain(first, last, 1)];
+    shelf.check(rt, &[(Ask::Long(&parts), "accepted")])
+}
+
 #[test]
 fn follows_4000_common_decks_in_one_chain(rt: HostRuntime) -> Result<(), Fail> {
     let mut shelf = Shelf::new(Library::new(rt.alloc()));
-    for n in 0..8u32 {
-        let parts = [Part::Chain(500 * n, 500 * n + 499, 1)];
-        shelf.check(&rt, &[(Ask::Long(&parts), "accepted")])?;
+    for n in 0..8 {
+        take_chain(&rt, &mut shelf, 500 * n, 500 * n + 499)?;
     }
     const CHANGE: &str = "*IDENT X\n*INSERT C3999.1\nMORE\n";
     const ASKED: Asked = &[

@@ -15,6 +15,10 @@ pub enum Part<'a> {
     Chain(u32, u32, u32),
 }
 
+pub fn text(bytes: &[u8]) -> Result<&str, Fail> {
+    Ok(std::str::from_utf8(bytes)?)
+}
+
 /// The text that the parts make.
 pub fn text_of(alloc: Global, parts: &[Part<'_>]) -> Result<String, Fail> {
     let mut text = String::new(alloc);

@@ -1,21 +1,20 @@
 //! Names, card references, lines and whole runs, as they are read.
+use crate::parts::text;
 use std::alloc::Global;
 use std::test::Fail;
 use upd_deck::{Item, Span, read_run};
 use upd_text::line::{called, fields, is_call, is_comment, is_starred, split_once, word};
 use upd_text::{CardRef, Name};
 
-const NO_NAMES: [&str; 5] = ["", "*", "ABCDEFGHIJ", "a", "A.B"];
+const NO_NAMES: &[&str] = &["", "*", "ABCDEFGHIJ", "a", "A.B"];
 
 #[test]
 fn names_have_one_to_nine_bytes(rt: HostRuntime) -> Result<(), Fail> {
     let name = Name::read(b"Z+-*/()$=").ok_or("a name of nine bytes")?;
-    assert_eq!(rt; name.as_bytes(), b"Z+-*/()$=".as_slice());
-    assert!(rt;
-        NO_NAMES
-            .iter()
-            .all(|text| Name::read(text.as_bytes()).is_none())
-    );
+    assert!(rt; name.as_bytes() == b"Z+-*/()$=".as_slice());
+    for text in NO_NAMES {
+        assert!(rt; Name::read(text.as_bytes()).is_none(), "{text}");
+    }
     Ok(())
 }
 
@@ -27,7 +26,7 @@ fn names_have_an_order(rt: HostRuntime) -> Result<(), Fail> {
     Ok(())
 }
 
-const NO_CARDS: [&str; 10] = [
+const NO_CARDS: &[&str] = &[
     "A.0",
     "A.01",
     "A.1000000",
@@ -45,35 +44,48 @@ fn card_references_are_written_as_they_were_read(rt: HostRuntime) -> Result<(), 
     let card = CardRef::read(b"DECK1.999999").ok_or("a card")?;
     let text = format!(in rt.alloc(); "{card}")?;
     assert_eq!(rt; text.as_str(), "DECK1.999999");
-    assert!(rt;
-        NO_CARDS
-            .iter()
-            .all(|text| CardRef::read(text.as_bytes()).is_none())
-    );
     Ok(())
+}
+
+#[test]
+fn card_references_have_a_name_and_a_number(rt: HostRuntime) {
+    for text in NO_CARDS {
+        assert!(rt; CardRef::read(text.as_bytes()).is_none(), "{text}");
+    }
 }
 
 /// What a line says, by each of the calls that look at lines.
 fn told(alloc: Global, line: &[u8]) -> Result<String, Fail> {
     if is_comment(line) {
-        return Ok(String::from_str(alloc, "a comment")?);
+        Ok(String::from_str(alloc, "a comment")?)
+    } else if !is_starred(line) {
+        Ok(String::from_str(alloc, "a text")?)
+    } else if is_call(line) {
+        told_call(alloc, called(line))
+    } else {
+        told_fields(alloc, word(line), line)
     }
-    if !is_starred(line) {
-        return Ok(String::from_str(alloc, "a text")?);
-    }
-    if is_call(line) {
-        let called = std::str::from_utf8(called(line))?;
-        return Ok(format!(in alloc; "a call of {called}")?);
-    }
-    let mut told = String::from_str(alloc, std::str::from_utf8(word(line))?)?;
-    for field in fields(alloc, line)?.as_slice() {
-        let field = std::str::from_utf8(field)?;
-        write!(told, "|{field}")?;
+}
+
+fn told_call(alloc: Global, called: &[u8]) -> Result<String, Fail> {
+    let called = text(called)?;
+    Ok(format!(in alloc; "a call of {called}")?)
+}
+
+fn told_fields(alloc: Global, word: &[u8], line: &[u8]) -> Result<String, Fail> {
+    let mut told = String::from_str(alloc, text(word)?)?;
+    for field in &fields(alloc, line)? {
+        push_field(&mut told, field)?;
     }
     Ok(told)
 }
 
-const LINES: [(&str, &str); 14] = [
+fn push_field(told: &mut String, field: &[u8]) -> Result<(), Fail> {
+    let field = text(field)?;
+    Ok(write!(told, "|{field}")?)
+}
+
+const LINES: &[(&str, &str)] = &[
     ("*", ""),
     (" *", "a text"),
     ("*/DELETE A.2", "a comment"),
@@ -92,7 +104,7 @@ const LINES: [(&str, &str); 14] = [
 
 #[test]
 fn lines_have_words_and_fields(rt: HostRuntime) -> Result<(), Fail> {
-    for (line, wanted) in &LINES {
+    for (line, wanted) in LINES {
         let told = told(rt.alloc(), line.as_bytes())?;
         assert_eq!(rt; told.as_str(), *wanted, "{line}");
     }
@@ -102,52 +114,89 @@ fn lines_have_words_and_fields(rt: HostRuntime) -> Result<(), Fail> {
 #[test]
 fn texts_are_split_at_the_first(rt: HostRuntime) -> Result<(), Fail> {
     let (before, behind) = split_once(b"A.B.C", b'.').ok_or("a point")?;
-    assert_eq!(rt; (before, behind), (b"A".as_slice(), b"B.C".as_slice()));
+    assert!(rt; before == b"A".as_slice() && behind == b"B.C".as_slice());
     assert!(rt; split_once(b"A", b'.').is_none());
     Ok(())
 }
 
+/// What was read on a line, as far as the tests below look.
+fn item_name(item: &Item) -> &'static str {
+    match item {
+        Item::Text => "text",
+        Item::Ident(name) if name.as_bytes() == b"X".as_slice() => "ident X",
+        Item::Delete { first, last } if first.number == 2 && last.number == 3 => "delete 2 to 3",
+        Item::PurgeFrom(_) => "purge from",
+        Item::Yank(ranges) if ranges.len() == 2 => "yank two",
+        Item::SelYank(idents) if idents.len() == 1 => "selyank one",
+        Item::CommonDeck {
+            name: _,
+            noprop: true,
+        } => "common deck, noprop",
+        _ => "another",
+    }
+}
+
+/// The lines of a run, each with its number and span.
+fn told_lines(alloc: Global, run: &[u8]) -> Result<String, Fail> {
+    let run = read_run(alloc, run)?;
+    let mut told = String::new(alloc);
+    for line in run.lines() {
+        push_line(&mut told, line.number(), line.span(), text(line.text())?)?;
+    }
+    Ok(told)
+}
+
+fn push_line(told: &mut String, number: u32, span: Span, text: &str) -> Result<(), Fail> {
+    let Span { start, end } = span;
+    Ok(write!(told, "{number} {start}..{end} {text}\n")?)
+}
+
+fn told_items(alloc: Global, run: &[u8]) -> Result<String, Fail> {
+    let run = read_run(alloc, run)?;
+    let mut told = String::new(alloc);
+    for line in run.lines() {
+        write!(told, "{}\n", item_name(line.item()))?;
+    }
+    Ok(told)
+}
+
+const THREE_LINES: &str = "*ID X cleanup  \r\n*/ note\n*IDENT\tY\nlast\t";
+
+const SIX_LINES: &str = "\
+*D A.2 , A.3 old, lines
+*PURGE A,*
+*FOO A,,
+*Y A.B,C
+*SELYANK D.Z
+*CD C,NOPROP";
+
+const SIX_ITEMS: &str = "\
+delete 2 to 3
+purge from
+text
+yank two
+selyank one
+common deck, noprop
+";
+
 #[test]
 fn runs_are_read_line_by_line(rt: HostRuntime) -> Result<(), Fail> {
-    let run = read_run(rt.alloc(), b"*ID X cleanup  \r\n*/ note\n*IDENT\tY\nlast\t")?;
-    let [ident, word, last] = run.lines() else {
-        return Err(Fail::from("three lines"));
-    };
-    assert!(rt; matches!(ident.item(), Item::Ident(name) if name.as_bytes() == b"X".as_slice()));
-    assert_eq!(rt;
-        (ident.text(), ident.span()),
-        (b"*ID X cleanup".as_slice(), Span { start: 0, end: 13 })
-    );
-    assert!(rt; matches!(word.item(), Item::Text) && matches!(last.item(), Item::Text));
-    assert_eq!(rt; (word.number(), last.number()), (3, 4));
-    assert_eq!(rt; last.text(), b"last\t".as_slice());
+    let told = told_lines(rt.alloc(), THREE_LINES.as_bytes())?;
+    let wanted = "1 0..13 *ID X cleanup\n3 25..33 *IDENT\tY\n4 34..39 last\t\n";
+    assert_eq!(rt; told.as_str(), wanted);
     Ok(())
 }
 
 #[test]
 fn fields_are_read_by_their_word(rt: HostRuntime) -> Result<(), Fail> {
-    let run = read_run(
-        rt.alloc(),
-        b"*D A.2 , A.3 old, lines\n*PURGE A,*\n*FOO A,,\n*Y A.B,C\n*SELYANK D.Z\n*CD C,NOPROP",
-    )?;
-    let [delete, purge, text, yank, selyank, common] = run.lines() else {
-        return Err(Fail::from("six lines"));
-    };
-    assert!(rt;
-        matches!(delete.item(), Item::Delete { first, last } if first.number == 2 && last.number == 3)
-    );
-    assert!(rt; matches!(purge.item(), Item::PurgeFrom(_)) && matches!(text.item(), Item::Text));
-    assert!(rt; matches!(yank.item(), Item::Yank(ranges) if ranges.len() == 2));
-    assert!(rt; matches!(selyank.item(), Item::SelYank(idents) if idents.len() == 1));
-    assert!(rt;
-        matches!(
-            common.item(),
-            Item::CommonDeck {
-                name: _,
-                noprop: true
-            }
-        )
-    );
+    const RUNS: &[(&str, &str)] = &[
+        (THREE_LINES, "ident X\ntext\ntext\n"),
+        (SIX_LINES, SIX_ITEMS),
+    ];
+    for (run, wanted) in RUNS {
+        let told = told_items(rt.alloc(), run.as_bytes())?;
+        assert_eq!(rt; told.as_str(), *wanted, "{run}");
+    }
     Ok(())
 }
 
@@ -159,7 +208,7 @@ fn refusal(alloc: Global, run: &[u8]) -> Result<String, Fail> {
     }
 }
 
-const REFUSED: [(&str, &str); 16] = [
+const REFUSED: &[(&str, &str)] = &[
     ("*DELETE A.2,", "BadField (7) at 1"),
     ("*IDENT ,, X", "BadField (7) at 1"),
     ("*IDENT", "BadField (7) at 1"),
@@ -180,29 +229,31 @@ const REFUSED: [(&str, &str); 16] = [
 
 #[test]
 fn faulty_lines_are_refused(rt: HostRuntime) -> Result<(), Fail> {
-    for (run, wanted) in &REFUSED {
+    for (run, wanted) in REFUSED {
         let refusal = refusal(rt.alloc(), run.as_bytes())?;
         assert_eq!(rt; refusal.as_str(), *wanted, "{run}");
     }
     Ok(())
 }
 
-#[test]
-fn lines_have_80_bytes(rt: HostRuntime) -> Result<(), Fail> {
-    let long = vec![in rt.alloc(); b'A'; 81]?;
-    assert_eq!(rt; refusal(rt.alloc(), &long)?.as_str(), "LineLong (4) at 1");
-    assert_eq!(rt; refusal(rt.alloc(), &long[..80])?.as_str(), "");
-    Ok(())
+/// The fault of a run of so many bytes that are all the same.
+fn repeated_refusal(alloc: Global, count: usize, byte: u8) -> Result<String, Fail> {
+    let run = vec![in alloc; byte; count]?;
+    refusal(alloc, &run)
 }
 
 #[test]
-fn runs_have_2000_lines_and_65536_bytes(rt: HostRuntime) -> Result<(), Fail> {
-    let feeds = vec![in rt.alloc(); b'\n'; 65_537]?;
-    assert_eq!(rt; refusal(rt.alloc(), &feeds)?.as_str(), "RunLong (1) at 0");
-    assert_eq!(rt;
-        refusal(rt.alloc(), &feeds[..2_001])?.as_str(),
-        "TooManyLines (2) at 0"
-    );
-    assert_eq!(rt; refusal(rt.alloc(), &feeds[..2_000])?.as_str(), "");
+fn lines_have_80_bytes_and_runs_2000_lines_and_65536_bytes(rt: HostRuntime) -> Result<(), Fail> {
+    const RUNS: &[(usize, u8, &str)] = &[
+        (80, b'A', ""),
+        (81, b'A', "LineLong (4) at 1"),
+        (2_000, b'\n', ""),
+        (2_001, b'\n', "TooManyLines (2) at 0"),
+        (65_537, b'\n', "RunLong (1) at 0"),
+    ];
+    for (count, byte, wanted) in RUNS {
+        let refusal = repeated_refusal(rt.alloc(), *count, *byte)?;
+        assert_eq!(rt; refusal.as_str(), *wanted);
+    }
     Ok(())
 }

@@ -1,14 +1,15 @@
-use crate::parts::{Part, text_of};
+use crate::parts::{Part, text, text_of};
 use std::alloc::Global;
+use std::ops::Range;
 use std::process::Abort;
 use std::test::Fail;
-use upd_apply::{apply, purge_back};
+use upd_apply::{Applied, apply, purge_back};
 use upd_compile::{
     CompileFile, Mode, changed, compile_file, list_card, list_deck, list_idents, list_yanks,
 };
 use upd_core::{Library, Serial};
 use upd_deck::read_run;
-use upd_text::{CardRef, Name};
+use upd_text::{CardRef, Fault, Name};
 
 /// The run that brings deck A with three lines.
 pub const DECK_A: &str = "*DECK A\nONE\nTWO\nTHREE\n";
@@ -77,8 +78,8 @@ impl Shelf {
             Ask::Active => self.compiled(Mode::Full, ""),
             Ask::Deck(name) => self.deck(name),
             Ask::Card(card) => self.card(card),
-            Ask::Idents => listing(list_idents(&self.library)?),
-            Ask::Yanks => listing(list_yanks(&self.library)?),
+            Ask::Idents => self.idents(),
+            Ask::Yanks => self.yanks(),
             Ask::PurgeBack(age) => self.purge_back(age),
         }
     }
@@ -87,14 +88,15 @@ impl Shelf {
         self.library.allocator()
     }
 
+    fn apply(&mut self, text: &str) -> Result<Applied, Fault> {
+        let run = read_run(self.alloc(), text.as_bytes())?;
+        apply(&mut self.library, &run)
+    }
+
     fn run(&mut self, text: &str) -> Result<String, Fail> {
-        let run = match read_run(self.alloc(), text.as_bytes()) {
-            Ok(run) => run,
-            Err(fault) => return Ok(format!(in self.alloc(); "{fault}")?),
-        };
-        match apply(&mut self.library, &run) {
+        match self.apply(text) {
             Ok(_) => Ok(String::from_str(self.alloc(), "accepted")?),
-            Err(fault) => Ok(format!(in self.alloc(); "{fault}")?),
+            Err(fault) => told(self.alloc(), fault),
         }
     }
 
@@ -104,55 +106,43 @@ impl Shelf {
     }
 
     fn applied(&mut self, text: &str) -> Result<String, Fail> {
-        let run = read_run(self.alloc(), text.as_bytes())?;
-        let applied = apply(&mut self.library, &run)?;
-        let (idents, compile) = (applied.idents.as_slice(), applied.compile.as_slice());
-        let mut told = format!(in self.alloc(); "{idents:?} {compile:?}")?;
-        for card in &applied.touched {
-            write!(told, " {card}")?;
-        }
-        Ok(told)
+        let applied = self.apply(text)?;
+        told_applied(self.alloc(), &applied)
     }
 
     fn changed(&mut self, text: &str) -> Result<String, Fail> {
         let before = self.library.copy()?;
         self.run(text)?;
-        let ages = changed(&before, &self.library)?;
-        Ok(format!(in self.alloc(); "{:?}", ages.as_slice())?)
+        changes(&before, &self.library)
     }
 
     fn compiled(&mut self, mode: Mode, text: &str) -> Result<String, Fail> {
         let before = self.library.copy()?;
-        let run = read_run(self.alloc(), text.as_bytes())?;
-        let applied = apply(&mut self.library, &run)?;
-        match compile_file(&self.library, &before, mode, &applied.compile) {
-            Ok(file) => cards(self.alloc(), &file),
-            Err(fault) => Ok(format!(in self.alloc(); "{fault}")?),
-        }
+        let applied = self.apply(text)?;
+        compiled(&self.library, &before, mode, &applied.compile)
     }
 
     fn lines(&mut self, parts: &[Part<'_>]) -> Result<String, Fail> {
         self.long(parts)?;
-        match compile_file(&self.library, &self.library, Mode::Full, &[]) {
-            Ok(file) => Ok(format!(in self.alloc(); "{}", file.lines)?),
-            Err(fault) => Ok(format!(in self.alloc(); "{fault}")?),
-        }
+        line_count(&self.library, Mode::Full)
     }
 
     fn deck(&self, name: &str) -> Result<String, Fail> {
         let name = Name::read(name.as_bytes()).ok_or("no name")?;
-        match list_deck(&self.library, &name) {
-            Ok(bytes) => listing(bytes),
-            Err(fault) => Ok(format!(in self.alloc(); "{fault}")?),
-        }
+        listing(self.alloc(), list_deck(&self.library, &name))
     }
 
     fn card(&self, card: &str) -> Result<String, Fail> {
         let card = CardRef::read(card.as_bytes()).ok_or("no card reference")?;
-        match list_card(&self.library, card) {
-            Ok(bytes) => listing(bytes),
-            Err(fault) => Ok(format!(in self.alloc(); "{fault}")?),
-        }
+        listing(self.alloc(), list_card(&self.library, card))
+    }
+
+    fn idents(&self) -> Result<String, Fail> {
+        listing(self.alloc(), list_idents(&self.library))
+    }
+
+    fn yanks(&self) -> Result<String, Fail> {
+        listing(self.alloc(), list_yanks(&self.library))
     }
 
     fn purge_back(&mut self, age: Serial) -> Result<String, Fail> {
@@ -161,19 +151,71 @@ impl Shelf {
     }
 }
 
-fn listing(bytes: Vec<u8>) -> Result<String, Fail> {
-    Ok(String::from_utf8(bytes)?)
+fn told(alloc: Global, fault: Fault) -> Result<String, Fail> {
+    Ok(format!(in alloc; "{fault}")?)
+}
+
+fn ages(alloc: Global, ages: &[Serial]) -> Result<String, Fail> {
+    Ok(format!(in alloc; "{ages:?}")?)
+}
+
+fn told_applied(alloc: Global, applied: &Applied) -> Result<String, Fail> {
+    let mut told = ages(alloc, &applied.idents)?;
+    write!(told, " {:?}", applied.compile.as_slice())?;
+    for card in &applied.touched {
+        write!(told, " {card}")?;
+    }
+    Ok(told)
+}
+
+fn changes(before: &Library, after: &Library) -> Result<String, Fail> {
+    let changed = changed(before, after)?;
+    ages(after.allocator(), &changed)
+}
+
+fn compiled(
+    after: &Library,
+    before: &Library,
+    mode: Mode,
+    named: &[Serial],
+) -> Result<String, Fail> {
+    match compile_file(after, before, mode, named) {
+        Ok(file) => cards(after.allocator(), &file),
+        Err(fault) => told(after.allocator(), fault),
+    }
+}
+
+fn line_count(library: &Library, mode: Mode) -> Result<String, Fail> {
+    match compile_file(library, library, mode, &[]) {
+        Ok(file) => Ok(format!(in library.allocator(); "{}", file.lines)?),
+        Err(fault) => told(library.allocator(), fault),
+    }
+}
+
+fn listing(alloc: Global, listing: Result<Vec<u8>, Fault>) -> Result<String, Fail> {
+    match listing {
+        Ok(bytes) => Ok(String::from_utf8(bytes)?),
+        Err(fault) => told(alloc, fault),
+    }
 }
 
 /// The cards of a compile file, as `A.2 X.1`.
 fn cards(alloc: Global, file: &CompileFile) -> Result<String, Fail> {
     let mut cards = String::new(alloc);
     for line in file.bytes.chunks(97) {
-        let ident = line.get(81..90).ok_or("a short line")?;
-        let number = line.get(90..96).ok_or("a short line")?;
-        let space = if cards.is_empty() { "" } else { " " };
-        let (ident, number) = (std::str::from_utf8(ident)?, std::str::from_utf8(number)?);
-        write!(cards, "{space}{}.{}", ident.trim_end(), number.trim_start())?;
+        if !cards.is_empty() {
+            cards.push(' ')?;
+        }
+        push_card(&mut cards, line)?;
     }
     Ok(cards)
+}
+
+fn push_card(cards: &mut String, line: &[u8]) -> Result<(), Fail> {
+    let (ident, number) = (columns(line, 81..90)?, columns(line, 90..96)?);
+    Ok(write!(cards, "{}.{}", ident.trim_end(), number.trim_start())?)
+}
+
+fn columns(line: &[u8], range: Range<usize>) -> Result<&str, Fail> {
+    text(line.get(range).ok_or("a short line")?)
 }

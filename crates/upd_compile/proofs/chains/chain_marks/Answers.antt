@@ -19,8 +19,8 @@ returns c = IfOk-weaker c.calls_marked.result _ _ (λ marks ensured before chang
     let passed_are : passed ≡ map (is_passed_on a) a.decks = c.in_ok-passed.ensures in
     let seeds_are : seeds ≡ map (λ p. p.0 && p.1) (zip passed c.args.changed.now) = rw c.deref-3.ensures.value at c.in_ok-seeds.ensures in
     let callers_are : AreCallers calls passed (shown c.in_ok-callers.callers.items) = rw (c.deref.ensures.value, c.deref-2.ensures.value) at c.in_ok-callers.ensures in
-    let reached : AreReached (shown c.in_ok-callers.callers.items) seeds c.in_ok-marks.marks.items = rw (c.deref-4.ensures.value, c.deref-5.ensures.value) at c.in_ok-marks.ensures in
-    let found : marks.items ≡ map (list_any (is_marked c.in_ok-marks.marks.items)) calls = rw (c.deref-6.ensures.value, c.deref-7.ensures.value) at ensured in
+    let reached : AreReached (shown c.in_ok-callers.callers.items) seeds c.in_ok-marks.marks.items = rw c.deref-4.ensures.value at c.in_ok-marks.ensures in
+    let found : marks.items ≡ map (list_any (is_marked c.in_ok-marks.marks.items)) calls = rw (c.deref-5.ensures.value, c.deref-6.ensures.value) at ensured in
     let same_length : length passed ≡ length c.args.changed.now =
     ap length passed_are ∙ length-map a.decks (is_passed_on a) ∙ sym (ap length changed ∙ length-map a.decks (is_changed before)) in
     found ∙ chains-marked before a calls (shown c.in_ok-callers.callers.items) passed seeds c.in_ok-marks.marks.items (record {

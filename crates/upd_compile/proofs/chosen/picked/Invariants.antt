@@ -1,7 +1,10 @@
-use Rattle.std.proofs.Common.{◌≡◌, Bool, map, take}
+use Rattle.std.proofs.Common.{◌≡◌, Bool, ◌&&◌, not, map, take}
 use Rattle.std.specs.List.{filter}
 use Rattle.upd_core.specs.Actives.{ActiveDeckView}
+use Rattle.upd_compile.specs.Chosen.{is_common_deck}
 use Rattle.upd_compile.proofs.chosen.picked.Given as goal
 
 abbrev pub invariant-loop-i : goal.invariant-loop-i
-invariant-loop-i l = (test : ActiveDeckView → Bool) → l.marks ≡ map test l.decks → map (λ d. d.now) l.found.items ≡ filter test (take l.i l.decks)
+invariant-loop-i l =
+    (test : ActiveDeckView → Bool) → l.marks ≡ map test l.decks
+    → map (λ d. d.now) l.found.items ≡ filter (λ d. not (is_common_deck l.source d) && test d) (take l.i l.decks)

@@ -1,0 +1,6 @@
+use Rattle.std.proofs.Common.{arith}
+use Rattle.std.proofs.lemmas.Grind.{common_steps}
+use Rattle.upd_compile.proofs.chains.calls.Goals as goal
+
+pub loop-deck-preserved : goal.loop-deck-preserved
+loop-deck-preserved c = grind (arith, common_steps)

@@ -1,7 +1,0 @@
-use Rattle.std.proofs.Common.{◌≡◌, map, take}
-use Rattle.std.specs.List.{filter}
-use Rattle.upd_compile.specs.Chosen.{is_changed}
-use Rattle.upd_compile.proofs.changes.changed_ages.Given as goal
-
-abbrev pub invariant-loop-deck : goal.invariant-loop-deck
-invariant-loop-deck l = l.ages.items ≡ map (λ d. d.ident) (filter (is_changed l.before) (take l.deck-index l.decks))

@@ -1,0 +1,6 @@
+use Rattle.std.proofs.Common.{arith}
+use Rattle.std.proofs.lemmas.Grind.{common_steps}
+use Rattle.upd_compile.proofs.listings.push_targets.Goals as goal
+
+pub loop-target-preserved : goal.loop-target-preserved
+loop-target-preserved c = grind (arith, common_steps)

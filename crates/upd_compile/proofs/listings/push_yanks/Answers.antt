@@ -1,0 +1,6 @@
+use Rattle.std.proofs.Common.{arith}
+use Rattle.std.proofs.lemmas.Grind.{common_steps}
+use Rattle.upd_compile.proofs.listings.push_yanks.Goals as goal
+
+pub loop-card-preserved : goal.loop-card-preserved
+loop-card-preserved c = grind (arith, common_steps)
