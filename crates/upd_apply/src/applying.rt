@@ -82,7 +82,7 @@ fn take_step(state: &mut State, line: &Line) -> Result<(), Fault>
 {
     match state.step(line) {
         Ok(()) => Ok(()),
-        Err(kind) => Err(kind.at_line(line.number())),
+        Err(kind) => Err(kind.at_line(line.number)),
     }
 }
 
@@ -99,9 +99,9 @@ fn named_by(library: &Library, lines: &[Line]) -> Result<Vec<AgeRange>, Fault>
 fn add_named(library: &Library, found: &mut Vec<AgeRange>, line: &Line) -> Result<(), Fault>
     ensures { DoesAt result found.new.items (at_line line.now.number (ranges_of found.old.items line.now.item library.now)) }
 {
-    if let Item::Compile(ranges) = line.item() {
+    if let Item::Compile(ranges) = &line.item {
         if let Err(kind) = add_ranges(library, found, ranges) {
-            return Err(kind.at_line(line.number()));
+            return Err(kind.at_line(line.number));
         }
     }
     Ok(())

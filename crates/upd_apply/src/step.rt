@@ -15,8 +15,8 @@ impl State {
         ensures does { Does result self.new (step line.now self.old) }
         ensures number { OnOk result (next_most self.new ≤ next_most self.old + 1) }
     {
-        let text = line.text();
-        match line.item() {
+        let text = line.text;
+        match &line.item {
             Item::Text | Item::Call(_) => self.put_text(text),
             Item::Ident(name) => self.begin_set(name),
             Item::Deck(name) => self.begin_deck(name, Kind::Deck, false, text),

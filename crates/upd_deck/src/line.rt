@@ -1,6 +1,5 @@
 ghost use Rattle.std.specs.Prelude.{◌≡◌, ◌≤◌, length};
 ghost use Rattle.upd_text.specs.declared.limits.TheConstants.{MAX_RUN_LINES};
-ghost use Rattle.upd_deck.specs.LineFields.{seen};
 
 use crate::item::Item;
 use std::marker::Model;
@@ -15,10 +14,12 @@ pub struct Span {
 /// A line of a run, comments aside.
 #[derive(Debug, Drop)]
 pub struct Line<'a> {
-    pub(crate) number: u32,
-    pub(crate) span: Span,
-    pub(crate) text: &'a [u8],
-    pub(crate) item: Item,
+    /// From 1, comments counted.
+    pub number: u32,
+    pub span: Span,
+    /// Without trailing blanks.
+    pub text: &'a [u8],
+    pub item: Item,
 }
 
 impl<'a> Model for Line<'a> {
@@ -29,34 +30,6 @@ impl<'a> Model for Line<'a> {
     ghost use Rattle.upd_deck.specs.LineFields.{line_seen};
 
     ghost view = { line_seen };
-}
-
-impl<'a> Line<'a> {
-    /// From 1, comments counted.
-    pub fn number(&self) -> u32
-        ensures { result ≡ self.now.number }
-    {
-        self.number
-    }
-
-    pub fn span(&self) -> Span
-        ensures { result ≡ self.now.span }
-    {
-        self.span
-    }
-
-    /// Without trailing blanks.
-    pub fn text(&self) -> &'a [u8]
-        ensures { result.now ≡ self.now.text }
-    {
-        self.text
-    }
-
-    pub fn item(&self) -> &Item
-        ensures { seen result.now ≡ self.now.item }
-    {
-        &self.item
-    }
 }
 
 /// The lines of a run in order, comments left out: at most 2,000.

@@ -141,7 +141,7 @@ fn told_lines(alloc: Global, run: &[u8]) -> Result<String, Fail> {
     let run = read_run(alloc, run)?;
     let mut told = String::new(alloc);
     for line in run.lines() {
-        push_line(&mut told, line.number(), line.span(), text(line.text())?)?;
+        push_line(&mut told, line.number, line.span, text(line.text)?)?;
     }
     Ok(told)
 }
@@ -155,7 +155,7 @@ fn told_items(alloc: Global, run: &[u8]) -> Result<String, Fail> {
     let run = read_run(alloc, run)?;
     let mut told = String::new(alloc);
     for line in run.lines() {
-        write!(told, "{}\n", item_name(line.item()))?;
+        write!(told, "{}\n", item_name(&line.item))?;
     }
     Ok(told)
 }

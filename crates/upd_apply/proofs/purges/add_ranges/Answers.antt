@@ -1,4 +1,4 @@
-use Rattle.std.proofs.Common.{arith}
+use Rattle.std.proofs.Common.{rules, arith}
 use Rattle.std.proofs.lemmas.Grind.{common_steps}
 use Rattle.upd_apply.proofs.purges.add_ranges.Goals as goal
 
@@ -6,7 +6,7 @@ pub returns-in_err-ages : goal.returns-in_err-ages
 returns-in_err-ages c = grind (arith, common_steps)
 
 pub returns-in_err-push : goal.returns-in_err-push
-returns-in_err-push c = grind (arith, common_steps)
+returns-in_err-push c = search rules
 
 pub loop-range-preserved : goal.loop-range-preserved
 loop-range-preserved c = grind (arith, common_steps)

@@ -1,4 +1,5 @@
-use Rattle.std.proofs.Common.{◌&&◌, Bool, true, false}
+use Rattle.std.proofs.lemmas.Grind.{common_steps}
+use Rattle.std.proofs.Common.{arith, ◌&&◌, Bool, true, false}
 use Rattle.std.specs.List.{list_any}
 use Rattle.upd_core.specs.declared.ident.Ident.{Ident}
 use Rattle.upd_core.specs.Library.{is_deck_kind}
@@ -14,3 +15,6 @@ loop-ident-preserved c =
       | then-is_deck_in_any+in_ok-push w ↦ filter_more (λ i. i.age) test c.args.idents.now c.loop-ident.ident-index c.ident-item.result _ _ _ true c.loop-ident-test.true c.ident-item.is w.if-is_deck_in_any.ensures (cc (w.in_ok-push.ensures.items)) c.loop-ident.invariant
       | else-is_deck_in_any w ↦ filter_more (λ i. i.age) test c.args.idents.now c.loop-ident.ident-index c.ident-item.result _ _ _ false c.loop-ident-test.true c.ident-item.is w.if-is_deck_in_any.ensures (cc) c.loop-ident.invariant
     ]
+
+pub returns : goal.returns
+returns c = grind (arith, common_steps)

@@ -1,4 +1,4 @@
-use Rattle.std.proofs.Common.{arith}
+use Rattle.std.proofs.Common.{rules, arith}
 use Rattle.std.proofs.lemmas.Grind.{common_steps}
 use Rattle.upd_apply.proofs.purges.pairs_purged.Goals as goal
 
@@ -12,7 +12,7 @@ pub returns-then-ident-deck : goal.returns-then-ident-deck
 returns-then-ident-deck c = grind (arith, common_steps)
 
 pub returns-in_err-push : goal.returns-in_err-push
-returns-in_err-push c = grind (arith, common_steps)
+returns-in_err-push c = search rules
 
 pub loop-pair-preserved : goal.loop-pair-preserved
 loop-pair-preserved c = grind (arith, common_steps)

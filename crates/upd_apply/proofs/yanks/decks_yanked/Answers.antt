@@ -1,4 +1,4 @@
-use Rattle.std.proofs.Common.{arith}
+use Rattle.std.proofs.Common.{rules, arith}
 use Rattle.std.proofs.lemmas.Grind.{common_steps}
 use Rattle.upd_apply.proofs.yanks.decks_yanked.Goals as goal
 
@@ -9,7 +9,7 @@ pub returns-then-set-deck : goal.returns-then-set-deck
 returns-then-set-deck c = grind (arith, common_steps)
 
 pub returns-in_err-add_target : goal.returns-in_err-add_target
-returns-in_err-add_target c = grind (arith, common_steps)
+returns-in_err-add_target c = search rules
 
 pub loop-name-preserved : goal.loop-name-preserved
 loop-name-preserved c = grind (arith, common_steps)

@@ -1,4 +1,4 @@
-use Rattle.std.proofs.Common.{ℕ, List, IfSome, map, subst}
+use Rattle.std.proofs.Common.{rules, ℕ, List, IfSome, map, subst}
 use Rattle.clap.specs.Words.{Text}
 use Rattle.upd_cli.specs.Command.{Answers, answer_to}
 use Rattle.upd_cli.specs.Trial.{trial_named}
@@ -16,3 +16,6 @@ returns-in-Ok-Trial-clause-trial g c =
     λ none. subst IsAnswered asked.1 (answered_of_known c.carry_out_trial-ended.result c.finish.result (g.R.Read.remaining c.args.input.now) (trial_named c.in-Ok-Trial.mode.now)
     (g.W.Write.contents c.args.output.now) (g.W.Write.contents c.carry_out_trial-ended.new.output) (g.E.Write.contents c.args.faults.now) (g.E.Write.contents c.finish.new.faults)
     c.carry_out_trial-ended.ensures.ends c.finish.ensures.told)
+
+pub returns-in-Ok-clause-silent : goal.returns-in-Ok-clause-silent
+returns-in-Ok-clause-silent g c = search rules

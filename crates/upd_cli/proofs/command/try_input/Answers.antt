@@ -1,4 +1,4 @@
-use Rattle.std.proofs.Common.{◌≡◌, ◌+◌, ℕ, List, take, IfSome, IsErrAnd, Result, Ok, Err, ap, sym, ◌∙◌, subst}
+use Rattle.std.proofs.Common.{rules, ◌≡◌, ◌+◌, ℕ, List, take, IfSome, IsErrAnd, Result, Ok, Err, ap, sym, ◌∙◌, subst}
 use Rattle.upd_text.specs.declared.fault.Fault.{Fault}
 use Rattle.upd_text.specs.declared.limits.TheConstants.{MAX_RUN_BYTES}
 use Rattle.upd_text.specs.Outcome.{GivesAt}
@@ -25,3 +25,9 @@ returns-clause-gives g c =
     let IsFront : List ℕ → Type 0 = λ run. IfSome (g.R.Read.remaining c.args.input.now) (λ all. run ≡ take (MAX_RUN_BYTES + 1) all) in
     given_of_front c.args.mode.now c.in_ok-mode.mode c.deref.result.now (Ok c.in_ok-file.file) (g.R.Read.remaining c.args.input.now)
     (sym c.read_mode.ensures ∙ c.in_ok-mode.was) (subst IsFront (sym c.deref.ensures.value) c.in_ok-run.ensures.ok) c.in_ok-file.ensures
+
+pub returns-in_err-run-clause-waits : goal.returns-in_err-run-clause-waits
+returns-in_err-run-clause-waits g c = search rules
+
+pub returns-in_err-mode-clause-waits : goal.returns-in_err-mode-clause-waits
+returns-in_err-mode-clause-waits g c = search rules

@@ -1,4 +1,5 @@
-use Rattle.std.proofs.Common.{◌∙◌, ◌+◌, ◌==◌, ◌&&◌, ap, take, slice_index}
+use Rattle.std.proofs.lemmas.Grind.{common_steps}
+use Rattle.std.proofs.Common.{arith, ◌∙◌, ◌+◌, ◌==◌, ◌&&◌, ap, take, slice_index}
 use Rattle.std.proofs.lemmas.List.{take_more}
 use Rattle.upd_compile.specs.Reach.{is_in}
 use Rattle.upd_compile.proofs.FollowLaws.{FollowsMore-then, and-or}
@@ -16,3 +17,6 @@ loop-place-preserved c =
     ap (λ l. is_in l a && (caller == d)) (take_more places i 0 c.loop-place-test.true) ∙ ap (λ b. b && (caller == d)) (is_in-push (take i places) place a)
     ∙ and-or (is_in (take i places) a) (place == a) (caller == d))
     c.loop-place.invariant c.in_ok-add_to.ensures
+
+pub returns : goal.returns
+returns c = grind (arith, common_steps)

@@ -4,3 +4,6 @@ use Rattle.upd_compile.proofs.chains.calls.Goals as goal
 
 pub loop-deck-preserved : goal.loop-deck-preserved
 loop-deck-preserved c = grind (arith, common_steps)
+
+pub returns : goal.returns
+returns c = grind (arith, common_steps)

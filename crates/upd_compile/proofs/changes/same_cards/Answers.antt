@@ -1,4 +1,5 @@
-use Rattle.std.proofs.Common.{◌≡◌, suc, true, false, ◌&&◌, List, [], ◌∷◌, length, refl, sym, ap}
+use Rattle.std.proofs.lemmas.Grind.{common_steps}
+use Rattle.std.proofs.Common.{arith, ◌≡◌, suc, true, false, ◌&&◌, List, [], ◌∷◌, length, refl, sym, ap}
 use Rattle.upd_core.specs.Actives.{ActiveCardView}
 use Rattle.upd_compile.specs.Chosen.{same_card, same_cards}
 use Rattle.upd_compile.proofs.changes.same_cards.Goals as goal
@@ -13,3 +14,12 @@ same_cards-lengths (c ∷ cs) (e ∷ es) differ =
 
 pub returns-then-was-cards : goal.returns-then-was-cards
 returns-then-was-cards c = sym (same_cards-lengths c.args.was.now c.args.cards.now c.if-was-cards.true)
+
+pub returns-then-not-same_card : goal.returns-then-not-same_card
+returns-then-not-same_card c = grind (arith, common_steps)
+
+pub loop-i-preserved : goal.loop-i-preserved
+loop-i-preserved c = grind (arith, common_steps)
+
+pub returns : goal.returns
+returns c = grind (arith, common_steps)

@@ -1,4 +1,5 @@
-use Rattle.std.proofs.Common.{◌≡◌, ℕ, ◌+◌, ◌-◌, ◌∙◌, Bool, true, false, ◌&&◌, cond, List, ◌∷◌, Some, drop, refl, rules}
+use Rattle.std.proofs.lemmas.Grind.{common_steps}
+use Rattle.std.proofs.Common.{arith, ◌≡◌, ℕ, ◌+◌, ◌-◌, ◌∙◌, Bool, true, false, ◌&&◌, cond, List, ◌∷◌, Some, drop, refl, rules}
 use Rattle.std.specs.Option.{option_map}
 use Rattle.std.specs.Str.{bytes_eq}
 use Rattle.std.proofs.lemmas.List.{at_drop_more}
@@ -25,3 +26,9 @@ loop-i-preserved-in_ok-insert c = λ name.
     let before = c.loop-i.invariant name in
     let front = held_kind-cons c.index-idents-i.result (drop c.loop-i.i c.args.idents.now) name c.if-ident.true in
     updated ∙ rw (here, one, ← c.index-idents-i.is, front, ← c.as_bytes.ensures, before) refl
+
+pub loop-i-init : goal.loop-i-init
+loop-i-init c = grind (arith, common_steps)
+
+pub loop-i-preserved : goal.loop-i-preserved
+loop-i-preserved c = grind (arith, common_steps)

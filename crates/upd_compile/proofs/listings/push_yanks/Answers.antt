@@ -4,3 +4,6 @@ use Rattle.upd_compile.proofs.listings.push_yanks.Goals as goal
 
 pub loop-card-preserved : goal.loop-card-preserved
 loop-card-preserved c = grind (arith, common_steps)
+
+pub returns : goal.returns
+returns c = grind (arith, common_steps)

@@ -4,3 +4,6 @@ use Rattle.upd_compile.proofs.marks.calls_marked.Goals as goal
 
 pub loop-places-preserved : goal.loop-places-preserved
 loop-places-preserved c = grind (arith, common_steps)
+
+pub returns : goal.returns
+returns c = grind (arith, common_steps)

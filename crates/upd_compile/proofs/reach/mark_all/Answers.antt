@@ -1,4 +1,5 @@
-use Rattle.std.proofs.Common.{take, slice_index}
+use Rattle.std.proofs.lemmas.Grind.{common_steps}
+use Rattle.std.proofs.Common.{arith, take, slice_index}
 use Rattle.std.proofs.lemmas.List.{take_more}
 use Rattle.upd_compile.proofs.ReachLaws.{MarksMore-then}
 use Rattle.upd_compile.proofs.reach.mark_all.Goals as goal
@@ -9,3 +10,6 @@ loop-place-preserved c =
     let i = c.loop-place.place-index in
     let more = MarksMore-then (take i places) (slice_index places i) _ _ _ _ _ _ c.loop-place.invariant c.in_ok-mark.ensures in
     rw (take_more places i 0 c.loop-place-test.true) more
+
+pub returns : goal.returns
+returns c = grind (arith, common_steps)

@@ -1,4 +1,5 @@
-use Rattle.std.proofs.Common.{rules, ◌≡◌, sym, add-one, true, false, get_or, take}
+use Rattle.std.proofs.lemmas.Grind.{common_steps}
+use Rattle.std.proofs.Common.{arith, rules, ◌≡◌, sym, add-one, true, false, get_or, take}
 use Rattle.upd_compile.specs.Reach.{is_marked}
 use Rattle.upd_compile.proofs.ReachLaws.{is_in-push, is_marked-more, or-false}
 use Rattle.upd_compile.proofs.reach.marked.Goals as goal
@@ -16,3 +17,6 @@ loop-place-preserved c = λ k.
           let here : false ≡ get_or marks i false = search rules in
           rw (w.places-is, c.loop-place.invariant k, add-one, is_marked-more marks i k false c.loop-place-test.true here) (sym (or-false (is_marked (take i marks) k)))
     ]
+
+pub returns : goal.returns
+returns c = grind (arith, common_steps)

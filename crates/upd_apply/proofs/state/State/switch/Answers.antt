@@ -1,0 +1,6 @@
+use Rattle.std.proofs.Common.{arith}
+use Rattle.std.proofs.lemmas.Grind.{elements}
+use Rattle.upd_apply.proofs.state.State.switch.Goals as goal
+
+pub returns-in_err-check_limits-clause-does : goal.returns-in_err-check_limits-clause-does
+returns-in_err-check_limits-clause-does c = grind (arith, elements)

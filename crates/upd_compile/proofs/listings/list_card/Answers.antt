@@ -1,0 +1,5 @@
+use Rattle.std.proofs.Common.{rules}
+use Rattle.upd_compile.proofs.listings.list_card.Goals as goal
+
+pub returns : goal.returns
+returns c = search rules

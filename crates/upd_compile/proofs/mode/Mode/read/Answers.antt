@@ -1,0 +1,5 @@
+use Rattle.std.proofs.Common.{rules}
+use Rattle.upd_compile.proofs.mode.Mode.read.Goals as goal
+
+pub returns-in-quick : goal.returns-in-quick
+returns-in-quick c = search rules
