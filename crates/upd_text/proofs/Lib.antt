@@ -1,2 +1,3 @@
 pub mod CardRefLaws
 pub mod SplitLemmas
+pub mod EachLemmas

@@ -1,5 +1,5 @@
 -- Outcomes with refusals: the first refusal decides, and what was asked before it did nothing.
-use Rattle.std.specs.Prelude.{◌≡◌, ℕ, Bool, if◌then◌else◌, Option, Some, None, Result, Ok, Err}
+use Rattle.std.specs.Prelude.{◌≡◌, ℕ, Bool, if◌then◌else◌, List, [], ◌∷◌, ◌++◌, Option, Some, None, Result, Ok, Err}
 use Rattle.upd_text.specs.declared.fault.Fault.{Fault}
 use Rattle.upd_text.specs.declared.fault.FaultKind.{FaultKind}
 use Rattle.upd_text.specs.declared.fault.FaultKind.TheVariants.{NoMemory}
@@ -23,6 +23,14 @@ refuse_if bad fault = if bad then Err fault else Ok bad
 abbrev pub at_line : {A : Type 0} → ℕ → Result A FaultKind → Result A Fault
 at_line n (Ok x) = Ok x
 at_line n (Err kind) = Err (record { kind = kind; at = n })
+
+-- all that is found for each element, one after the other, or the first refusal
+abbrev pub each : {A B E : Type 0} → (A → Result (List B) E) → List A → Result (List B) E
+each f [] = Ok []
+each f (x ∷ xs) = do
+  found ← f x
+  more ← each f xs
+  Ok (found ++ more)
 
 -- A refusal is the defined one; want of memory may be met at any growth, and says nothing of what is defined.
 abbrev pub Fails : {A : Type 0} → FaultKind → Result A FaultKind → Type 0
