@@ -3,7 +3,7 @@ use Rattle.std.specs.Prelude.{ℕ, Bool, List}
 use Rattle.upd_text.specs.declared.card_ref.CardRef.{CardRef}
 use Rattle.upd_deck.specs.declared.item.NameRange.{NameRange}
 use Rattle.upd_deck.specs.declared.item.IdentIn.{IdentIn}
-use Rattle.upd_deck.specs.declared.line.Span.{Span}
+use Rattle.upd_deck.specs.declared.run.Span.{Span}
 
 -- What a line says that is no comment.
 pub data ItemView : Type 0 where

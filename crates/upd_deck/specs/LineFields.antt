@@ -1,7 +1,7 @@
 -- A line and its item as contracts see them.
 use Rattle.upd_deck.specs.declared.item.Item.{Item}
 use Rattle.upd_deck.specs.declared.item.Item.TheVariants as item
-use Rattle.upd_deck.specs.declared.line.Line.TheInside.{Inside}
+use Rattle.upd_deck.specs.declared.run.Line.TheInside.{Inside}
 use Rattle.upd_deck.specs.Items.{ItemView, LineView, Text, Call, Ident, Deck, CommonDeck, Insert, Before, Delete, Restore, Yank, SelYank, YankDeck, Purge, PurgeFrom, SelPurge, PurDeck, Compile}
 
 -- an item, its vectors seen as lists

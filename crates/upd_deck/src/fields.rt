@@ -119,14 +119,14 @@ fn item_with(alloc: Global, word: Word, fields: &[&[u8]]) -> Result<Item, FaultK
         Word::Yank => Ok(Item::Yank(each_in(alloc, fields)?)),
         Word::SelYank => Ok(Item::SelYank(each_in(alloc, fields)?)),
         Word::YankDeck => Ok(Item::YankDeck(each_in(alloc, fields)?)),
-        Word::Purge => purge(alloc, fields),
+        Word::Purge => purge_with(alloc, fields),
         Word::SelPurge => Ok(Item::SelPurge(each_in(alloc, fields)?)),
         Word::PurDeck => Ok(Item::PurDeck(each_in(alloc, fields)?)),
         Word::Compile => Ok(Item::Compile(each_in(alloc, fields)?)),
     }
 }
 
-fn purge(alloc: Global, fields: &[&[u8]]) -> Result<Item, FaultKind>
+fn purge_with(alloc: Global, fields: &[&[u8]]) -> Result<Item, FaultKind>
     ensures { Gives seen result (item_with words.Purge (map (λ x. x.now) fields.now)) }
 {
     match from_name(fields) {

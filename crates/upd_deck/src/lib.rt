@@ -5,10 +5,10 @@ mod cut;
 mod fields;
 pub mod grammar;
 pub mod item;
-pub mod line;
 pub mod read;
+pub mod run;
 pub mod word;
 
 pub use item::{IdentIn, Item, NameRange};
-pub use line::{Line, Run, Span};
 pub use read::read_run;
+pub use run::{Line, Run, Span};

@@ -8,7 +8,7 @@ ghost use Rattle.upd_deck.specs.Reading.{cut, is_allowed, reading, said, said_be
 
 use crate::cut::{CutLine, cut_lines};
 use crate::fields::item_of;
-use crate::line::{Line, Run, Span};
+use crate::run::{Line, Run, Span};
 use std::alloc::Global;
 use upd_text::limits::{MAX_LINE_BYTES, MAX_RUN_BYTES, MAX_RUN_LINES};
 use upd_text::line::is_comment;

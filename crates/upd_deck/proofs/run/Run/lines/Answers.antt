@@ -1,5 +1,5 @@
 use Rattle.std.proofs.Common.{rules}
-use Rattle.upd_deck.proofs.line.Run.lines.Goals as goal
+use Rattle.upd_deck.proofs.run.Run.lines.Goals as goal
 
 pub returns-clause-lines : goal.returns-clause-lines
 returns-clause-lines c = search rules
