@@ -1,0 +1,134 @@
+-- The tables of a store as lists of rows, and when they show a library.
+use Rattle.std.specs.Prelude.{◌≡◌, ℕ, ◌+◌, ◌==◌, Bool, ◌&&◌, if◌then◌else◌, List, [], ◌∷◌, count_by, Option, Some, None}
+use Rattle.std.specs.List.{list_any, filter, flat_map}
+use Rattle.std.specs.Str.{bytes_eq}
+use Rattle.upd_core.specs.declared.card.Entry.{Entry}
+use Rattle.upd_text.specs.declared.card_ref.CardRef.{CardRef}
+use Rattle.upd_core.specs.declared.ident.Ident.{Ident}
+use Rattle.upd_core.specs.declared.target.Target.{Target}
+use Rattle.upd_core.specs.Library.{CardView, LibraryView, all_decks, ref_of}
+use Rattle.upd_core.specs.Sound.{all_cards}
+use Rattle.upd_core.specs.Status.{live_cards, status_of}
+use Rattle.upd_core.specs.Targets.{is_same}
+
+-- ---- rows; the card that a row is of stands first, or else what its key is
+
+-- A card stands in a deck (0 for `YANK$$$`) at a place, from 0 on.
+pub record CardRow : Type 0 where
+  pub card : CardRef
+  pub deck : ℕ
+  pub pos : ℕ
+  pub body : List ℕ
+
+-- A card's history has an entry at a place, from 0 on.
+pub record EntryRow : Type 0 where
+  pub card : CardRef
+  pub ord : ℕ
+  pub entry : Entry
+
+-- A yank card has a target at a place, from 0 on.
+pub record TargetRow : Type 0 where
+  pub card : CardRef
+  pub ord : ℕ
+  pub target : Target
+
+-- A site's run of a number was sent in a mode (0 full, 1 quick, 2 normal) with these bytes, was accepted or not, and has this reply.
+pub record RunView : Type 0 where
+  pub site : List ℕ
+  pub number : ℕ
+  pub mode : ℕ
+  pub bytes : List ℕ
+  pub accepted : Bool
+  pub reply : List ℕ
+
+-- A card is active or not; a yank card is live or not.
+pub record StateRow : Type 0 where
+  pub card : CardRef
+  pub active : Bool
+
+-- So many live yank cards have a target.
+pub record CountRow : Type 0 where
+  pub target : Target
+  pub n : ℕ
+
+-- A site's runs up to a number are settled.
+pub record MarkRow : Type 0 where
+  pub site : List ℕ
+  pub mark : ℕ
+
+-- All tables. A row of idents is the ident itself.
+pub record Rows : Type 0 where
+  pub idents : List Ident
+  pub cards : List CardRow
+  pub entries : List EntryRow
+  pub targets : List TargetRow
+  pub runs : List RunView
+  pub states : List StateRow
+  pub counts : List CountRow
+  pub settled : List MarkRow
+
+-- ---- the rows of a library
+
+-- the rows of cards that stand in a deck from a place on
+abbrev pub card_rows : List Ident → ℕ → ℕ → List CardView → List CardRow
+card_rows idents d p [] = []
+card_rows idents d p (c ∷ cs) = record { card = ref_of idents c; deck = d; pos = p; body = c.text } ∷ card_rows idents d (p + 1) cs
+
+-- the rows of a card's entries from a place on
+abbrev pub entry_rows : CardRef → ℕ → List Entry → List EntryRow
+entry_rows card n [] = []
+entry_rows card n (e ∷ es) = record { card = card; ord = n; entry = e } ∷ entry_rows card (n + 1) es
+
+-- the rows of a card's targets from a place on
+abbrev pub target_rows : CardRef → ℕ → List Target → List TargetRow
+target_rows card n [] = []
+target_rows card n (t ∷ ts) = record { card = card; ord = n; target = t } ∷ target_rows card (n + 1) ts
+
+-- the rows of a library; what is kept of runs, statuses and counts is no part of them
+abbrev pub rows_of : LibraryView → Rows
+rows_of l = record {
+  idents = l.idents;
+  cards = flat_map (λ d. card_rows l.idents d.ident 0 d.cards) (all_decks l);
+  entries = flat_map (λ c. entry_rows (ref_of l.idents c) 0 c.history) (all_cards l);
+  targets = flat_map (λ c. target_rows (ref_of l.idents c) 0 c.targets) (all_cards l);
+  runs = [];
+  states = [];
+  counts = [];
+  settled = [];
+}
+
+-- The same elements as often, in whatever order: each test passes as many of the one list as of the other.
+pub record IsSame {A : Type 0} (xs ys : List A) : Type 0 where
+  pub passes : (test : A → Bool) → count_by test xs ≡ count_by test ys
+
+-- Tables show a library where they have its idents, cards, entries and targets as rows, in whatever order, and no others.
+pub record Shows (rows : Rows) (l : LibraryView) : Type 0 where
+  pub idents : IsSame rows.idents (rows_of l).idents
+  pub cards : IsSame rows.cards (rows_of l).cards
+  pub entries : IsSame rows.entries (rows_of l).entries
+  pub targets : IsSame rows.targets (rows_of l).targets
+
+-- ---- statuses and counts
+
+-- whether two references are the same
+abbrev pub same_ref : CardRef → CardRef → Bool
+same_ref a b = bytes_eq a.name b.name && (a.number == b.number)
+
+-- the row of a card that is there: its status
+abbrev pub state_row : CardRef → Option Bool → List StateRow
+state_row card None = []
+state_row card (Some active) = record { card = card; active = active } ∷ []
+
+-- how many live yank cards have a target
+abbrev pub live_count : Target → LibraryView → ℕ
+live_count target l = count_by (λ c. list_any (is_same target) c.targets) (live_cards l.yanks)
+
+-- the row of a target that is counted
+abbrev pub count_row : Target → ℕ → List CountRow
+count_row target n = if n == 0 then [] else record { target = target; n = n } ∷ []
+
+-- Tables show the statuses of a library where each card that it has is in one row with its status, each target that a live yank card has
+-- is in one row with the number of these, and there are no others.
+pub record ShowsStates (rows : Rows) (l : LibraryView) : Type 0 where
+  pub states : (card : CardRef) → filter (λ r. same_ref card r.card) rows.states ≡ state_row card (status_of card l)
+  pub counts : (target : Target) → filter (λ r. is_same target r.target) rows.counts ≡ count_row target (live_count target l)
