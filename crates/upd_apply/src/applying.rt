@@ -27,7 +27,8 @@ pub struct Applied {
 }
 
 /// Applies a run. A refusal is at the line that it stands at, want of memory at 0; either leaves the library as it was.
-pub fn apply(library: &mut Library, run: &Run) -> Result<Applied, Fault>
+/// What is answered lives in `alloc`; the library keeps its own allocator.
+pub fn apply(alloc: Global, library: &mut Library, run: &Run) -> Result<Applied, Fault>
     ensures ok { IfOk result (λ a. applied run.now library.old
         ≡ Ok (record { library = library.new; idents = a.idents.items; compile = a.compile.items })) }
     ensures touched { AreApart (map key_of (all_cards library.old)) → IfOk result (λ a. a.touched.items ≡ touched library.old library.new) }
@@ -36,20 +37,25 @@ pub fn apply(library: &mut Library, run: &Run) -> Result<Applied, Fault>
 {
     let mut state = State::new(library.copy()?);
     take_steps(&mut state, run.lines())?;
-    let applied = compared(library, &state.library, run.lines())?;
+    let applied = compared(alloc, library, &state.library, run.lines())?;
     *library = state.library;
     Ok(applied)
 }
 
 /// What a run left besides the library, from the library before and after it.
-fn compared(before: &Library, after: &Library, lines: &[Line]) -> Result<Applied, Fault>
+fn compared(
+    alloc: Global,
+    before: &Library,
+    after: &Library,
+    lines: &[Line],
+) -> Result<Applied, Fault>
     ensures idents { IfOk result (λ a. a.idents.items ≡ brought before.now after.now) }
     ensures compile { GivesAt (λ a. a.compile.items) result (named_decks lines.now after.now) }
     ensures touched { AreApart (map key_of (all_cards before.now)) → IfOk result (λ a. a.touched.items ≡ touched before.now after.now) }
 {
-    let ranges = named_by(after, lines)?;
-    let compile = decks_in_any(after, &ranges)?;
-    let idents = ages_from(after.allocator(), after.idents(), before.idents().len())?;
+    let ranges = named_by(alloc, after, lines)?;
+    let compile = decks_in_any(alloc, after, &ranges)?;
+    let idents = ages_from(alloc, after.idents(), before.idents().len())?;
     let touched = touched(before, after)?;
     Ok(Applied {
         idents,
@@ -86,10 +92,10 @@ fn take_step(state: &mut State, line: &Line) -> Result<(), Fault>
     }
 }
 
-fn named_by(library: &Library, lines: &[Line]) -> Result<Vec<AgeRange>, Fault>
+fn named_by(alloc: Global, library: &Library, lines: &[Line]) -> Result<Vec<AgeRange>, Fault>
     ensures { GivesAt (λ ranges. ranges.items) result (named_by [] lines.now library.now) }
 {
-    let mut found = Vec::new(library.allocator());
+    let mut found = Vec::new(alloc);
     for line in lines {
         add_named(library, &mut found, line)?;
     }

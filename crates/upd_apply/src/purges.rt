@@ -157,12 +157,13 @@ pub(crate) fn add_ranges(
 
 /// The ages of the held decks in any of these ranges.
 pub(crate) fn decks_in_any(
+    alloc: Global,
     library: &Library,
     ranges: &[AgeRange],
 ) -> Result<Vec<Serial>, AllocError>
     ensures { IfOk result (λ found. found.items ≡ decks_in_any ranges.now library.now) }
 {
-    held_decks_in_any(library.allocator(), library.idents(), ranges)
+    held_decks_in_any(alloc, library.idents(), ranges)
 }
 
 fn held_decks_in_any(

@@ -19,7 +19,7 @@ pub fn trial(alloc: Global, mode: Mode, run: &[u8]) -> Result<CompileFile, Fault
     let run = read_run(alloc, run)?;
     let before = Library::new(alloc);
     let mut after = Library::new(alloc);
-    let applied = apply(&mut after, &run)?;
+    let applied = apply(alloc, &mut after, &run)?;
     compile_file(&after, &before, mode, &applied.compile)
 }
 

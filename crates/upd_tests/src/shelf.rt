@@ -89,8 +89,9 @@ impl Shelf {
     }
 
     fn apply(&mut self, text: &str) -> Result<Applied, Fault> {
-        let run = read_run(self.alloc(), text.as_bytes())?;
-        apply(&mut self.library, &run)
+        let alloc = self.alloc();
+        let run = read_run(alloc, text.as_bytes())?;
+        apply(alloc, &mut self.library, &run)
     }
 
     fn run(&mut self, text: &str) -> Result<String, Fail> {
