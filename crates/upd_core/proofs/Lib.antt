@@ -4,3 +4,5 @@ pub mod LiveLaw
 pub mod InPlace
 pub mod FirstLaws
 pub mod CountLaws
+pub mod ApartLemmas
+pub mod FoundLemmas

@@ -13,6 +13,7 @@ pub mod ident;
 pub mod library;
 mod limits;
 pub mod live;
+pub mod sound_laws;
 pub mod status_laws;
 pub mod target;
 mod targets;

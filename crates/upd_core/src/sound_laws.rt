@@ -1,0 +1,35 @@
+//! Where cards stand in a sound library.
+ghost use Rattle.std.specs.Prelude.{◌≡◌, ℕ, IsTrue, map, slice_get, Some};
+ghost use Rattle.std.specs.List.{Contains};
+ghost use Rattle.upd_text.specs.declared.card_ref.CardRef.{CardRef};
+ghost use Rattle.upd_core.specs.declared.library.Place.{Place};
+ghost use Rattle.upd_core.specs.Library.{CardView, DeckView, LibraryView, all_decks, card_in, ident_of, name_of};
+ghost use Rattle.upd_core.specs.Library.{place_of, ref_of};
+ghost use Rattle.upd_core.specs.Sound.{AreApart, IsSound, all_cards, is_held};
+ghost use Rattle.upd_core.specs.Status.{is_active, live_targets, status_of};
+
+/// A held ident has a name, under which it is found.
+pub fn held_idents_are_found()
+    ensures { (l : LibraryView) (z : ℕ) → IsSound l → IsTrue (is_held l.idents z)
+        → ident_of (name_of l.idents z) l ≡ Some z }
+{}
+
+/// Each card is found under its own reference, where it stands, and its status is what holds of it there.
+pub fn cards_are_found()
+    ensures place { (l : LibraryView) (d : DeckView) (i : ℕ) (c : CardView) → IsSound l → Contains (all_decks l) d
+        → slice_get d.cards i ≡ Some c → place_of (ref_of l.idents c) l ≡ Some (record { deck = d.ident; index = i }) }
+    ensures card { (l : LibraryView) (d : DeckView) (i : ℕ) (c : CardView) → IsSound l → Contains (all_decks l) d
+        → slice_get d.cards i ≡ Some c → card_in (record { deck = d.ident; index = i }) l ≡ Some c }
+    ensures status { (l : LibraryView) (d : DeckView) (c : CardView) → IsSound l → Contains (all_decks l) d
+        → Contains d.cards c → status_of (ref_of l.idents c) l ≡ Some (is_active (live_targets l) d.ident c) }
+{}
+
+/// A reference finds no other card: what it finds is a card that it is the reference of, and cards of one reference
+/// are one card.
+pub fn references_find_no_other_card()
+    ensures own { (l : LibraryView) (card : CardRef) (p : Place) → IsSound l → place_of card l ≡ Some p
+        → (c : CardView) × (card_in p l ≡ Some c) × (ref_of l.idents c ≡ card) }
+    ensures one { (l : LibraryView) (b c : CardView) → IsSound l → Contains (all_cards l) b → Contains (all_cards l) c
+        → ref_of l.idents b ≡ ref_of l.idents c → b ≡ c }
+    ensures apart { (l : LibraryView) → IsSound l → AreApart (map (ref_of l.idents) (all_cards l)) }
+{}
