@@ -6,3 +6,4 @@ pub mod FirstLaws
 pub mod CountLaws
 pub mod ApartLemmas
 pub mod FoundLemmas
+pub mod LiveLemmas

@@ -1,12 +1,14 @@
 -- The live cards are the one solution of their equation.
 use Rattle.std.proofs.Common.{◌≡◌, ℕ, ◌≤◌, Bool, true, false, cond, not, ◌||◌, List, [], ◌∷◌, ◌++◌, refl, sym, ap, ◌∙◌, subst, arith}
 use Rattle.std.proofs.lemmas.Bool.{ne_eqb}
+use Rattle.std.proofs.lemmas.List.Folds.{list_any-append}
 use Rattle.std.specs.List.{list_any, filter, AllByRecursion}
 use Rattle.upd_core.specs.declared.card.Entry.{Entry}
 use Rattle.upd_core.specs.declared.target.Target.{Target}
 use Rattle.upd_core.specs.declared.target.Target.TheVariants.{Set, SetIn, Deck}
 use Rattle.upd_core.specs.Library.{CardView}
-use Rattle.upd_core.specs.Status.{takes, is_taken, ends_on, is_good, targets_of, live_before, live_cards, TakesOlder, HasEntriesFrom, IsAged, AreLive}
+use Rattle.upd_core.proofs.LiveLemmas.{live_before, good_before, bad_before}
+use Rattle.upd_core.specs.Status.{takes, is_taken, ends_on, is_good, targets_of, live_cards, TakesOlder, HasEntriesFrom, IsAged, AreLive}
 
 -- older targets take no younger ident
 takes_none : (age z d : ℕ) → age ≤ z → (more : List Target) → AllByRecursion (TakesOlder age) more → list_any (takes z d) more ≡ false
@@ -15,38 +17,36 @@ takes_none age z d young (Set a ∷ more) older = rw (ne_eqb a z (λ e. omega (a
 takes_none age z d young (SetIn a e ∷ more) older = rw (ne_eqb a z (λ e. omega (arith, older.0.0))) (takes_none age z d young more older.1)
 takes_none age z d young (Deck e ∷ more) older = takes_none age z d young more older.1
 
-any_append : {A : Type 0} (test : A → Bool) (xs ys : List A) → list_any test ys ≡ false → list_any test (xs ++ ys) ≡ list_any test xs
-any_append test [] ys e = e
-any_append test (x ∷ xs) ys e = ap (λ b. test x || b) (any_append test xs ys e)
+-- an ident that none of the first targets takes is taken by the others or not at all
+taken_behind : (z d : ℕ) (first others : List Target) → list_any (takes z d) first ≡ false → is_taken (first ++ others) d z ≡ is_taken others d z
+taken_behind z d first others none = list_any-append (takes z d) first others ∙ ap (λ b. b || is_taken others d z) none
 
 filter_same : {A : Type 0} (p q : A → Bool) (xs : List A) → AllByRecursion (λ x. p x ≡ q x) xs → filter p xs ≡ filter q xs
 filter_same p q [] same = refl
 filter_same p q (x ∷ xs) same = rw (same.0, filter_same p q xs same.1) refl
 
 -- more targets that are older than the entries of a card leave it as good as it was
-good_same : (live more : List Target) (age : ℕ) (c : CardView) → AllByRecursion (TakesOlder age) more → HasEntriesFrom age c → is_good (live ++ more) 0 c ≡ is_good live 0 c
+good_same : (live more : List Target) (age : ℕ) (c : CardView) → AllByRecursion (TakesOlder age) more → HasEntriesFrom age c →
+    is_good (more ++ live) 0 c ≡ is_good live 0 c
 good_same live more age c older young = ap ends_on (filter_same _ _ c.history (entries c.history young))
   where
-    entries : (es : List Entry) → AllByRecursion (λ e. age ≤ e.ident) es → AllByRecursion (λ e. not (is_taken (live ++ more) 0 e.ident) ≡ not (is_taken live 0 e.ident)) es
+    entries : (es : List Entry) → AllByRecursion (λ e. age ≤ e.ident) es →
+        AllByRecursion (λ e. not (is_taken (more ++ live) 0 e.ident) ≡ not (is_taken live 0 e.ident)) es
     entries [] young = tt
-    entries (e ∷ es) young = (ap not (any_append (takes e.ident 0) live more (takes_none age e.ident 0 young.0 more older)), entries es young.1)
+    entries (e ∷ es) young = (ap not (taken_behind e.ident 0 more live (takes_none age e.ident 0 young.0 more older)), entries es young.1)
 
 -- the same of cards with entries from an age on
-all_good_same : (live more : List Target) (age : ℕ) (ys : List CardView) → AllByRecursion (TakesOlder age) more → AllByRecursion (HasEntriesFrom age) ys → AllByRecursion (λ c. is_good (live ++ more) 0 c ≡ is_good live 0 c) ys
+all_good_same : (live more : List Target) (age : ℕ) (ys : List CardView) → AllByRecursion (TakesOlder age) more → AllByRecursion (HasEntriesFrom age) ys →
+    AllByRecursion (λ c. is_good (more ++ live) 0 c ≡ is_good live 0 c) ys
 all_good_same live more age [] older young = tt
 all_good_same live more age (c ∷ ys) older young = (good_same live more age c older young.0, all_good_same live more age ys older young.1)
 
 -- the good cards of an aged list, where its first card is live or is not
-first_live : (live : List CardView) (y : CardView) (ys : List CardView) → IsAged (y ∷ ys) → is_good (targets_of live) 0 y ≡ true → filter (is_good (targets_of (y ∷ live)) 0) (y ∷ ys) ≡ y ∷ filter (is_good (targets_of live) 0) ys
+first_live : (live : List CardView) (y : CardView) (ys : List CardView) → IsAged (y ∷ ys) → is_good (targets_of live) 0 y ≡ true →
+    filter (is_good (targets_of (y ∷ live)) 0) (y ∷ ys) ≡ y ∷ filter (is_good (targets_of live) 0) ys
 first_live live y ys aged good =
     let all = all_good_same (targets_of live) y.targets y.ident (y ∷ ys) aged.0 aged.1 in
     rw (all.0, good, filter_same _ _ ys all.1) refl
-
-good_before : (y : CardView) (later : List CardView) → is_good (targets_of later) 0 y ≡ true → live_before y later ≡ y ∷ later
-good_before y later e = ap (λ b. cond b (y ∷ later) later) e
-
-bad_before : (y : CardView) (later : List CardView) → is_good (targets_of later) 0 y ≡ false → live_before y later ≡ later
-bad_before y later e = ap (λ b. cond b (y ∷ later) later) e
 
 -- a good first card is live, and a bad one is not
 live_first : (y : CardView) (ys later : List CardView) → IsAged (y ∷ ys) → AreLive later ys → AreLive (live_before y later) (y ∷ ys)
@@ -70,7 +70,8 @@ only (y ∷ ys) live aged h = by_first (is_good (targets_of live) 0 y) refl (λ 
     later : List CardView
     later = filter (is_good (targets_of live) 0) ys
 
-    by_first : (good : Bool) → is_good (targets_of live) 0 y ≡ good → ((later : List CardView) → AreLive later ys → later ≡ live_cards ys) → live ≡ live_cards (y ∷ ys)
+    by_first : (good : Bool) → is_good (targets_of live) 0 y ≡ good → ((later : List CardView) → AreLive later ys → later ≡ live_cards ys) →
+        live ≡ live_cards (y ∷ ys)
     by_first true e rest =
         let is : live ≡ y ∷ later = h ∙ ap (λ b. cond b (y ∷ later) later) e in
         let all = all_good_same (targets_of later) y.targets y.ident (y ∷ ys) aged.0 aged.1 in

@@ -9,9 +9,9 @@ use Rattle.upd_core.specs.declared.card.Entry.{Entry}
 use Rattle.upd_text.specs.declared.card_ref.CardRef.{CardRef}
 use Rattle.upd_core.specs.declared.ident.Ident.{Ident}
 use Rattle.upd_core.specs.First.{index_from}
-use Rattle.upd_core.specs.Library.{CardView, DeckView, LibraryView, all_decks, held_named, is_card, place_in, place_of}
+use Rattle.upd_core.specs.Library.{DeckView, LibraryView, all_decks, held_named, is_card, place_in, place_of}
 use Rattle.upd_core.specs.Sound.{AreApart, IsSound}
-use Rattle.upd_core.specs.Status.{ends_on, stays_on, liveness, live_cards, marked, live_of, live_yank, yank_at}
+use Rattle.upd_core.specs.Status.{ends_on, stays_on, liveness, live_of, live_yank, yank_at}
 
 -- the last entry decides
 ends_on-push : (es : List Entry) (e : Entry) → ends_on (es ++ e ∷ []) ≡ e.active
@@ -33,10 +33,6 @@ stays_on-take taken es i d some h =
     let k : i ≡ i - 1 + 1 = omega arith in
     let less : i - 1 < length es = omega arith in
     ap (λ n. stays_on taken (take n es)) k ∙ (rw (take_more es (i - 1) d less) (stays_on-push taken (take (i - 1) es) (get_or es (i - 1) d)))
-
-pub marked-liveness : (ys : List CardView) → marked (liveness ys) ys ≡ live_cards ys
-marked-liveness [] = refl
-marked-liveness (y ∷ ys) = rw (marked-liveness ys) refl
 
 is_other : (n : ℕ) → (0 ≡ n → ⊥) → (n == 0) ≡ false
 is_other n apart = grind (arith, nat_tests)

@@ -1,7 +1,7 @@
 -- Which idents are taken, and which cards are good, live and active.
-use Rattle.std.specs.Prelude.{◌≡◌, ℕ, ◌<◌, ◌≤◌, ◌==◌, Bool, false, not, ◌&&◌, if◌then◌else◌, List, [], ◌∷◌, ◌++◌, slice_get, Option, None}
+use Rattle.std.specs.Prelude.{◌≡◌, ℕ, ◌<◌, ◌≤◌, ◌==◌, Bool, false, not, ◌&&◌, if◌then◌else◌, List, [], ◌∷◌, slice_get, Option, None}
 use Rattle.std.specs.Option.{option_map, option_and_then}
-use Rattle.std.specs.List.{list_any, filter, AllByRecursion}
+use Rattle.std.specs.List.{list_any, filter, flat_map, AllByRecursion}
 use Rattle.upd_core.specs.declared.card.Entry.{Entry}
 use Rattle.upd_text.specs.declared.card_ref.CardRef.{CardRef}
 use Rattle.upd_core.specs.declared.ident.Ident.{Ident}
@@ -41,31 +41,25 @@ stays_on taken history = ends_on (filter (λ e. not (taken e.ident)) history)
 abbrev pub is_good : List Target → ℕ → CardView → Bool
 is_good live d c = stays_on (is_taken live d) c.history
 
--- the targets of cards, those of the last card first
+-- the targets of cards in order
 abbrev pub targets_of : List CardView → List Target
-targets_of [] = []
-targets_of (c ∷ cs) = targets_of cs ++ c.targets
-
--- The live cards of `YANK$$$` are its good ones. A card is judged by the live ones behind it, which are younger: only these can take what
--- switched it.
-abbrev pub live_before : CardView → List CardView → List CardView
-live_before y later = if is_good (targets_of later) 0 y then y ∷ later else later
-
--- the live cards of yank cards in order
-abbrev pub live_cards : List CardView → List CardView
-live_cards [] = []
-live_cards (y ∷ ys) = live_before y (live_cards ys)
-
--- whether each card of `YANK$$$` is live, in order
-abbrev pub liveness : List CardView → List Bool
-liveness [] = []
-liveness (y ∷ ys) = is_good (targets_of (live_cards ys)) 0 y ∷ liveness ys
+targets_of cards = flat_map (λ c. c.targets) cards
 
 -- the cards of a list that are marked
 abbrev pub marked : List Bool → List CardView → List CardView
 marked [] cs = []
 marked (mark ∷ marks) [] = []
 marked (mark ∷ marks) (c ∷ cs) = if mark then c ∷ marked marks cs else marked marks cs
+
+-- Whether each card of `YANK$$$` is live, in order: whether it is good, given the targets of the live ones behind it. These are younger, and
+-- only younger cards can take what switched a card.
+abbrev pub liveness : List CardView → List Bool
+liveness [] = []
+liveness (y ∷ ys) = is_good (targets_of (marked (liveness ys) ys)) 0 y ∷ liveness ys
+
+-- the live cards of `YANK$$$` in order
+abbrev pub live_cards : List CardView → List CardView
+live_cards yanks = marked (liveness yanks) yanks
 
 -- the targets of the live cards of a library
 abbrev pub live_targets : LibraryView → List Target

@@ -1,5 +1,5 @@
 -- The targets of live cards, with an index by which one is found fast.
-use Rattle.std.specs.Prelude.{◌≡◌, Bool}
+use Rattle.std.specs.Prelude.{◌≡◌, Bool, List, reverse}
 use Rattle.std.specs.List.{list_any}
 use Rattle.std.specs.HashSet as bag
 use Rattle.upd_core.specs.contracts.target.TargetPartialEq.TheImpl as same
@@ -10,6 +10,10 @@ use Rattle.upd_core.specs.declared.targets.Targets.TheInside.{Inside}
 abbrev pub is_same : Target → Target → Bool
 is_same = (same.ghosts).eq
 
+-- the targets in order: they are kept from the last to the first
+abbrev pub shown : Inside → List Target
+shown t = reverse t.all.items
+
 -- the index has what stands in the list
 abbrev pub IsIndexed : Inside → Type 0
-IsIndexed t = (target : Target) → bag.contains is_same t.index target ≡ list_any (is_same target) t.all.items
+IsIndexed t = (target : Target) → bag.contains is_same t.index target ≡ list_any (is_same target) (shown t)

@@ -1,7 +1,7 @@
-ghost use Rattle.std.specs.Prelude.{◌≡◌, List, IfOk};
+ghost use Rattle.std.specs.Prelude.{◌≡◌, IfOk};
 ghost use Rattle.std.specs.Option.{option_and_then};
-ghost use Rattle.upd_core.specs.Status.{stays_on, is_taken, is_good, is_active, targets_of, live_cards, liveness, marked, live_of, live_yank, yank_at};
-ghost use Rattle.upd_core.specs.Library.{CardView, LibraryView, place_of};
+ghost use Rattle.upd_core.specs.Status.{stays_on, is_taken, is_good, is_active, targets_of, live_cards, liveness, live_of, live_yank, yank_at};
+ghost use Rattle.upd_core.specs.Library.{LibraryView, place_of};
 ghost use Rattle.upd_core.specs.Sound.{IsSound};
 
 use crate::card::{Card, Entry};
@@ -61,11 +61,9 @@ impl<'a> Live<'a> {
     }
 }
 
-/// The live cards are those that are marked as live, and in a sound library a reference finds the mark of the yank card that it names.
-pub fn marks_tell_the_live_cards()
-    ensures cards { (yanks : List CardView) → marked (liveness yanks) yanks ≡ live_cards yanks }
-    ensures references { (l : LibraryView) (card : CardRef) → IsSound l →
-        live_yank card (live_of l) ≡ option_and_then (yank_at l) (place_of card l) }
+/// In a sound library a reference finds whether the yank card is live that stands at its place.
+pub fn references_find_their_yank_cards()
+    ensures { (l : LibraryView) (card : CardRef) → IsSound l → live_yank card (live_of l) ≡ option_and_then (yank_at l) (place_of card l) }
 {}
 
 /// Whether a history stays on in a deck.

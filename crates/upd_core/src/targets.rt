@@ -8,9 +8,10 @@ use std::alloc::{AllocError, Global};
 use std::collections::HashSet;
 use std::marker::Model;
 
-/// The targets of live cards, with an index.
+/// The targets of live cards, with an index. Cards come from the last to the first, so what came last stands first.
 #[derive(Drop)]
 pub(crate) struct Targets {
+    /// From the last to the first.
     all: Vec<Target>,
     index: HashSet<Target>,
 }
@@ -21,9 +22,9 @@ impl Model for Targets {
 
     ghost Value = { List Target };
 
-    ghost use Rattle.upd_core.specs.Targets.{IsIndexed};
+    ghost use Rattle.upd_core.specs.Targets.{IsIndexed, shown};
 
-    ghost view = { λ t. t.all.items };
+    ghost view = { shown };
 
     ghost invariant = { IsIndexed };
 }
@@ -38,18 +39,18 @@ impl Targets {
         }
     }
 
-    /// Adds the targets of one more card.
+    /// Adds the targets of one more card, in front of all others.
     pub(crate) fn add(&mut self, targets: &[Target]) -> Result<(), AllocError>
-        ensures { OnOk result (self.new ≡ self.old ++ targets.now) }
+        ensures { OnOk result (self.new ≡ targets.now ++ self.old) }
     {
-        for target in targets {
-            self.push(*target)?;
+        for i in (0..targets.len()).rev() {
+            self.push_front(targets[i])?;
         }
         Ok(())
     }
 
-    fn push(&mut self, target: Target) -> Result<(), AllocError>
-        ensures { OnOk result (self.new ≡ self.old ++ target ∷ []) }
+    fn push_front(&mut self, target: Target) -> Result<(), AllocError>
+        ensures { OnOk result (self.new ≡ target ∷ self.old) }
     {
         self.all.reserve(1)?;
         self.index.insert(target)?;

@@ -1,5 +1,5 @@
-use Rattle.std.proofs.Common.{◌≡◌, ◌++◌, take}
+use Rattle.std.proofs.Common.{◌≡◌, ◌++◌, drop}
 use Rattle.upd_core.proofs.targets.Targets.add.Given as goal
 
-abbrev pub invariant-loop-target : goal.invariant-loop-target
-invariant-loop-target l = l.self ≡ l.initial.self ++ take l.target-index l.targets
+abbrev pub invariant-loop-i : goal.invariant-loop-i
+invariant-loop-i l = l.self ≡ drop l.i l.targets ++ l.initial.self
