@@ -1,0 +1,45 @@
+-- What the tables keep of runs and settled marks, and what a commit and a settlement make of the tables.
+use Rattle.std.specs.Prelude.{ℕ, ◌==◌, nat_le, Bool, not, ◌&&◌, if◌then◌else◌, List, [], ◌∷◌, ◌++◌, Option}
+use Rattle.std.specs.Option.{option_map_or}
+use Rattle.std.specs.Str.{bytes_eq}
+use Rattle.std.specs.List.{find, filter}
+use Rattle.upd_change.specs.Rows.{RunView, MarkRow, Rows}
+use Rattle.upd_change.specs.Changes.{ChangeView, done_all}
+
+-- whether a run is the one of a key, that is of a site and a number
+abbrev pub is_run : List ℕ → ℕ → RunView → Bool
+is_run site number r = bytes_eq r.site site && (r.number == number)
+
+-- the run that is kept under a key
+abbrev pub run_at : List ℕ → ℕ → Rows → Option RunView
+run_at site number rows = find (is_run site number) rows.runs
+
+-- whether a mark is a site's
+abbrev pub is_mark_of : List ℕ → MarkRow → Bool
+is_mark_of site m = bytes_eq m.site site
+
+-- the number up to which a site has settled, 0 where it never did
+abbrev pub mark_at : List ℕ → Rows → ℕ
+mark_at site rows = option_map_or (λ m. m.mark) (find (is_mark_of site) rows.settled) 0
+
+-- the tables with one more kept run
+abbrev pub with_run : RunView → Rows → Rows
+with_run run rows = record rows { runs = rows.runs ++ run ∷ [] }
+
+-- one commit: row changes in order, and the run that brought them
+abbrev pub committed : List ChangeView → RunView → Rows → Rows
+committed changes run rows = with_run run (done_all changes rows)
+
+-- whether a run is one of a site's, up to a number
+abbrev pub is_settled : List ℕ → ℕ → RunView → Bool
+is_settled site n r = bytes_eq r.site site && nat_le r.number n
+
+-- A settlement: where the number is above the site's mark it becomes the mark, and the site's runs up to it go. Else nothing changes.
+abbrev pub settled_to : List ℕ → ℕ → Rows → Rows
+settled_to site n rows =
+    if nat_le n (mark_at site rows)
+    then rows
+    else record rows {
+      runs = filter (λ r. not (is_settled site n r)) rows.runs;
+      settled = filter (λ m. not (is_mark_of site m)) rows.settled ++ record { site = site; mark = n } ∷ [];
+    }

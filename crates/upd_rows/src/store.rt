@@ -1,0 +1,128 @@
+//! What a store of rows promises.
+ghost use Rattle.std.specs.Prelude.{◌≡◌, ℕ, None, IfErr, IfOk, OnErr, OnOk, map};
+ghost use Rattle.upd_text.specs.declared.fault.FaultKind.TheVariants.{Store};
+ghost use Rattle.upd_core.specs.Library.{LibraryView};
+ghost use Rattle.upd_core.specs.Sound.{IsSound};
+ghost use Rattle.upd_change.specs.Changes.{change_seen};
+ghost use Rattle.upd_change.specs.Rows.{Rows, Shows};
+ghost use Rattle.upd_rows.specs.Fits.{AllFit};
+ghost use Rattle.upd_rows.specs.Keeping.{IsLost, Keeps, MoreFailures, Tries};
+ghost use Rattle.upd_rows.specs.Parts.{IsWhole, part_of};
+ghost use Rattle.upd_rows.specs.Tables.{committed, mark_at, run_at, settled_to};
+
+use std::alloc::Global;
+use upd_change::{Change, RunRow};
+use upd_core::{Library, Serial};
+use upd_text::Fault;
+
+/// Tables of rows that are changed by commits, each of which is all or nothing, also where the machine stops.
+///
+/// Each call but `failures` can answer NoMemory, at 0, or Store. Nothing is changed then. A failure may shut the store: from then on each call
+/// answers Store, and what it keeps is found when it is opened again.
+pub trait RowStore {
+    // What is in the file, or in what stands for one.
+    ghost Image: { Type 0 };
+
+    // Which tables an image shows. An image that is no library of ours shows none.
+    ghost shows: { Image → Rows → Type 0 };
+
+    // What the last commit left. It says something only while the store is open.
+    ghost image: { Self → Image };
+
+    // No failure has shut the store.
+    ghost is_open: { Self → Type 0 };
+
+    // The premise: the disk has returned what was written to it.
+    ghost is_honest: { Self → Type 0 };
+
+    // What the next open may find after a crash at this moment.
+    ghost may_leave: { Self → Image → Type 0 };
+
+    // How often it has failed.
+    ghost failures_of: { Self → ℕ };
+
+    // What a call met, outside of this program, that answers Store: nothing else may answer so.
+    ghost caused: { Self → Self → Type 0 };
+
+    /// The whole library, from its idents, cards, entries and targets.
+    fn load(&mut self, alloc: Global) -> Result<Library, Fault>
+        ensures found { is_honest self.new → IfOk result (λ found. (l : LibraryView) → IsSound l → IsWhole l
+            → (rows : Rows) → shows (image self.old) rows → Shows rows l → found ≡ l) }
+        ensures open { is_honest self.new → OnOk result (is_open self.new) }
+        ensures same { Keeps is_honest is_open image shows may_leave failures_of self.old self.new }
+        ensures lost { IfErr result IsLost }
+        ensures failed { IfErr result (λ e. e.kind ≡ Store → MoreFailures (failures_of self.old) (failures_of self.new)) }
+        ensures cause { IfErr result (λ e. e.kind ≡ Store → caused self.old self.new) };
+
+    /// The directory, `YANK$$$` and those of these decks that are held; the rest counts what the others have.
+    fn load_decks(&mut self, alloc: Global, decks: &[Serial]) -> Result<Library, Fault>
+        ensures found { is_honest self.new → IfOk result (λ found. (l : LibraryView) → IsSound l → IsWhole l
+            → (rows : Rows) → shows (image self.old) rows → Shows rows l → found ≡ part_of decks.now l) }
+        ensures open { is_honest self.new → OnOk result (is_open self.new) }
+        ensures same { Keeps is_honest is_open image shows may_leave failures_of self.old self.new }
+        ensures lost { IfErr result IsLost }
+        ensures failed { IfErr result (λ e. e.kind ≡ Store → MoreFailures (failures_of self.old) (failures_of self.new)) }
+        ensures cause { IfErr result (λ e. e.kind ≡ Store → caused self.old self.new) };
+
+    /// The run that is kept under a key.
+    fn kept_run(&mut self, alloc: Global, site: &str, number: u64) -> Result<Option<RunRow>, Fault>
+        ensures found { is_honest self.new → IfOk result (λ found. (rows : Rows) → shows (image self.old) rows
+            → found ≡ run_at site.now number rows) }
+        ensures open { is_honest self.new → OnOk result (is_open self.new) }
+        ensures same { Keeps is_honest is_open image shows may_leave failures_of self.old self.new }
+        ensures lost { IfErr result IsLost }
+        ensures failed { IfErr result (λ e. e.kind ≡ Store → MoreFailures (failures_of self.old) (failures_of self.new)) }
+        ensures cause { IfErr result (λ e. e.kind ≡ Store → caused self.old self.new) };
+
+    /// The number up to which a site has settled, 0 where it never did.
+    fn mark(&mut self, alloc: Global, site: &str) -> Result<u64, Fault>
+        ensures found { is_honest self.new → IfOk result (λ found. (rows : Rows) → shows (image self.old) rows → found ≡ mark_at site.now rows) }
+        ensures open { is_honest self.new → OnOk result (is_open self.new) }
+        ensures same { Keeps is_honest is_open image shows may_leave failures_of self.old self.new }
+        ensures lost { IfErr result IsLost }
+        ensures failed { IfErr result (λ e. e.kind ≡ Store → MoreFailures (failures_of self.old) (failures_of self.new)) }
+        ensures cause { IfErr result (λ e. e.kind ≡ Store → caused self.old self.new) };
+
+    /// Carries out row changes and keeps the run that brought them, in one transaction.
+    fn commit(&mut self, alloc: Global, changes: &[Change], run: RunRow) -> Result<(), Fault>
+        requires new_key { is_honest self.old → is_open self.old → (rows : Rows) → shows (image self.old) rows
+            → run_at run.site run.number rows ≡ None }
+        requires fits { is_honest self.old → is_open self.old → (rows : Rows) → shows (image self.old) rows
+            → AllFit (map change_seen changes.now) rows }
+        ensures done { is_honest self.new → OnOk result ((rows : Rows) → shows (image self.old) rows
+            → shows (image self.new) (committed (map change_seen changes.now) run rows)) }
+        ensures open { is_honest self.new → OnOk result (is_open self.new) }
+        ensures undone { is_honest self.new → is_open self.new → OnErr result (image self.new ≡ image self.old) }
+        ensures crash { Tries is_honest is_open image shows may_leave failures_of
+            (λ before after. after ≡ committed (map change_seen changes.now) run before) self.old self.new }
+        ensures lost { IfErr result IsLost }
+        ensures failed { IfErr result (λ e. e.kind ≡ Store → MoreFailures (failures_of self.old) (failures_of self.new)) }
+        ensures cause { IfErr result (λ e. e.kind ≡ Store → caused self.old self.new) };
+
+    /// Settles a site's runs up to a number, and answers the site's mark afterwards.
+    fn settle_to(&mut self, alloc: Global, site: &str, number: u64) -> Result<u64, Fault>
+        ensures done { is_honest self.new → IfOk result (λ mark. (rows : Rows) → shows (image self.old) rows
+            → (mark ≡ mark_at site.now (settled_to site.now number rows)) × shows (image self.new) (settled_to site.now number rows)) }
+        ensures open { is_honest self.new → OnOk result (is_open self.new) }
+        ensures undone { is_honest self.new → is_open self.new → OnErr result (image self.new ≡ image self.old) }
+        ensures crash { Tries is_honest is_open image shows may_leave failures_of
+            (λ before after. after ≡ settled_to site.now number before) self.old self.new }
+        ensures lost { IfErr result IsLost }
+        ensures failed { IfErr result (λ e. e.kind ≡ Store → MoreFailures (failures_of self.old) (failures_of self.new)) }
+        ensures cause { IfErr result (λ e. e.kind ≡ Store → caused self.old self.new) };
+
+    /// How often the store has failed; it stops at the last value.
+    fn failures(&self) -> u64
+        ensures { result ≡ failures_of self.now };
+
+    // An image shows one set of tables, at most.
+    ghost one: { (i : Image) (a b : Rows) → shows i a → shows i b → a ≡ b };
+
+    // While the store is open, a crash leaves what it keeps, and nothing else.
+    ghost settled: { (s : Self) (i : Image) → is_honest s → is_open s → may_leave s i → i ≡ image s };
+
+    ghost stays: { (s : Self) → is_honest s → is_open s → may_leave s (image s) };
+
+    // A crash leaves something, whatever failed before it.
+    ghost survives: { (s : Self) → is_honest s → ∥ ((i : Image) × may_leave s i) ∥₁ };
+}
