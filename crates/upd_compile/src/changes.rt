@@ -14,13 +14,13 @@ use upd_text::Fault;
 /// The decks that changed from one library to another, by age; memory alone can fail.
 ///
 /// A deck changed where it wasn't there before, or its active cards differ.
-pub fn changed(before: &Library, after: &Library) -> Result<Vec<Serial>, Fault>
+pub fn changed(alloc: Global, before: &Library, after: &Library) -> Result<Vec<Serial>, Fault>
     ensures ok { IfOk result (λ ages. ages.items ≡ changed (actives_of before.now) (actives_of after.now)) }
     ensures err { IsOkUnless result (fault_at NoMemory 0) }
 {
     let before = before.actives()?;
     let after = after.actives()?;
-    let ages = changed_ages(*after.decks.allocator(), &before, &after.decks)?;
+    let ages = changed_ages(alloc, &before, &after.decks)?;
     Ok(ages)
 }
 

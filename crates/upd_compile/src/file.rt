@@ -34,6 +34,7 @@ impl Model for CompileFile {
 /// The compile file of a library after a run. `before` is the library before that run, `named` are the ages of the decks that the run named
 /// for the file.
 pub fn compile_file(
+    alloc: Global,
     after: &Library,
     before: &Library,
     mode: Mode,
@@ -43,14 +44,14 @@ pub fn compile_file(
 {
     let after = after.actives()?;
     let before = before.actives()?;
-    compile_active(*after.decks.allocator(), &before, &after, mode, named)
+    compile_active(alloc, &after, &before, mode, named)
 }
 
 /// The same from the active cards alone.
 pub fn compile_active(
     alloc: Global,
-    before: &Actives,
     after: &Actives,
+    before: &Actives,
     mode: Mode,
     named: &[Serial],
 ) -> Result<CompileFile, Fault>

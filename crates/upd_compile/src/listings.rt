@@ -14,46 +14,46 @@ ghost use Rattle.upd_compile.specs.Listings.{card_lines, card_listing, card_name
 use crate::idents::{ident_at, name_of};
 use crate::parts::push_parts;
 use itoa::Buffer;
-use std::alloc::AllocError;
+use std::alloc::{AllocError, Global};
 use upd_core::{Card, Entry, Ident, Kind, Library, Live, Serial, Target};
 use upd_text::{CardRef, Fault, FaultKind, Name};
 
 /// A deck's head line and its cards, each active or inactive. `YANK$$$` can be listed too, and active means live there. DeckUnknown where no
 /// held deck has the name.
-pub fn list_deck(library: &Library, name: &Name) -> Result<Vec<u8>, Fault>
+pub fn list_deck(alloc: Global, library: &Library, name: &Name) -> Result<Vec<u8>, Fault>
     ensures { GivesAt (λ text. text.items) result (deck_listing name.now library.now) }
 {
     let deck = listed_deck(library, name).ok_or(FaultKind::DeckUnknown.at_line(0))?;
-    deck_text(library, deck, library.cards_of(deck))
+    deck_text(alloc, library, deck, library.cards_of(deck))
 }
 
 /// A card with its status and its history. CardUnknown where there is no such card.
-pub fn list_card(library: &Library, card: CardRef) -> Result<Vec<u8>, Fault>
+pub fn list_card(alloc: Global, library: &Library, card: CardRef) -> Result<Vec<u8>, Fault>
     ensures { GivesAt (λ text. text.items) result (card_listing card library.now) }
 {
     let unknown = FaultKind::CardUnknown.at_line(0);
     let place = library.card_at(card).ok_or(unknown)?;
     let card = library.card(place).ok_or(unknown)?;
-    card_text(library, place.deck, card)
+    card_text(alloc, library, place.deck, card)
 }
 
 /// All idents ever introduced, by age. Memory alone can fail.
-pub fn list_idents(library: &Library) -> Result<Vec<u8>, Fault>
+pub fn list_idents(alloc: Global, library: &Library) -> Result<Vec<u8>, Fault>
     ensures ok { IfOk result (λ text. text.items ≡ ident_listing library.now) }
     ensures err { IsOkUnless result (fault_at NoMemory 0) }
 {
-    let mut text = Vec::new(library.allocator());
+    let mut text = Vec::new(alloc);
     push_ident_lines(&mut text, library.idents())?;
     Ok(text)
 }
 
 /// All yank cards, each live or dead, with their targets. Memory alone can fail.
-pub fn list_yanks(library: &Library) -> Result<Vec<u8>, Fault>
+pub fn list_yanks(alloc: Global, library: &Library) -> Result<Vec<u8>, Fault>
     ensures ok { IfOk result (λ text. text.items ≡ yank_listing library.now) }
     ensures err { IsOkUnless result (fault_at NoMemory 0) }
 {
     let live = library.live_yanks()?;
-    let mut text = Vec::new(library.allocator());
+    let mut text = Vec::new(alloc);
     push_yanks(&mut text, library.idents(), &live, library.yanks())?;
     Ok(text)
 }
@@ -75,13 +75,18 @@ fn listed_deck(library: &Library, name: &Name) -> Option<Serial>
 }
 
 // The head line of a deck, and a line for each of these cards.
-fn deck_text(library: &Library, deck: Serial, cards: &[Card]) -> Result<Vec<u8>, Fault>
+fn deck_text(
+    alloc: Global,
+    library: &Library,
+    deck: Serial,
+    cards: &[Card],
+) -> Result<Vec<u8>, Fault>
     ensures ok { IfOk result (λ text. text.items
         ≡ deck_heading library.now.idents deck ++ flat_map (deck_line library.now.idents (live_targets library.now) deck) cards.now) }
     ensures err { IsOkUnless result (fault_at NoMemory 0) }
 {
     let live = library.live_yanks()?;
-    let mut text = Vec::new(library.allocator());
+    let mut text = Vec::new(alloc);
     push_heading(&mut text, library.idents(), deck)?;
     push_deck_lines(&mut text, library.idents(), &live, deck, cards)?;
     Ok(text)
@@ -121,12 +126,12 @@ fn push_deck_lines(
 }
 
 // A card with its status and its history.
-fn card_text(library: &Library, deck: Serial, card: &Card) -> Result<Vec<u8>, Fault>
+fn card_text(alloc: Global, library: &Library, deck: Serial, card: &Card) -> Result<Vec<u8>, Fault>
     ensures ok { IfOk result (λ text. text.items ≡ card_lines library.now.idents (live_targets library.now) deck card.now) }
     ensures err { IsOkUnless result (fault_at NoMemory 0) }
 {
     let live = library.live_yanks()?;
-    let mut text = Vec::new(library.allocator());
+    let mut text = Vec::new(alloc);
     push_card_lines(&mut text, library.idents(), &live, deck, card)?;
     Ok(text)
 }

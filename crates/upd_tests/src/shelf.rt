@@ -130,20 +130,20 @@ impl Shelf {
 
     fn deck(&self, name: &str) -> Result<String, Fail> {
         let name = Name::read(name.as_bytes()).ok_or("no name")?;
-        listing(self.alloc(), list_deck(&self.library, &name))
+        listing(self.alloc(), list_deck(self.alloc(), &self.library, &name))
     }
 
     fn card(&self, card: &str) -> Result<String, Fail> {
         let card = CardRef::read(card.as_bytes()).ok_or("no card reference")?;
-        listing(self.alloc(), list_card(&self.library, card))
+        listing(self.alloc(), list_card(self.alloc(), &self.library, card))
     }
 
     fn idents(&self) -> Result<String, Fail> {
-        listing(self.alloc(), list_idents(&self.library))
+        listing(self.alloc(), list_idents(self.alloc(), &self.library))
     }
 
     fn yanks(&self) -> Result<String, Fail> {
-        listing(self.alloc(), list_yanks(&self.library))
+        listing(self.alloc(), list_yanks(self.alloc(), &self.library))
     }
 
     fn purge_back(&mut self, age: Serial) -> Result<String, Fail> {
@@ -170,8 +170,9 @@ fn told_applied(alloc: Global, applied: &Applied) -> Result<String, Fail> {
 }
 
 fn changes(before: &Library, after: &Library) -> Result<String, Fail> {
-    let changed = changed(before, after)?;
-    ages(after.allocator(), &changed)
+    let alloc = after.allocator();
+    let changed = changed(alloc, before, after)?;
+    ages(alloc, &changed)
 }
 
 fn compiled(
@@ -180,16 +181,18 @@ fn compiled(
     mode: Mode,
     named: &[Serial],
 ) -> Result<String, Fail> {
-    match compile_file(after, before, mode, named) {
-        Ok(file) => cards(after.allocator(), &file),
-        Err(fault) => told(after.allocator(), fault),
+    let alloc = after.allocator();
+    match compile_file(alloc, after, before, mode, named) {
+        Ok(file) => cards(alloc, &file),
+        Err(fault) => told(alloc, fault),
     }
 }
 
 fn line_count(library: &Library, mode: Mode) -> Result<String, Fail> {
-    match compile_file(library, library, mode, &[]) {
-        Ok(file) => Ok(format!(in library.allocator(); "{}", file.lines)?),
-        Err(fault) => told(library.allocator(), fault),
+    let alloc = library.allocator();
+    match compile_file(alloc, library, library, mode, &[]) {
+        Ok(file) => Ok(format!(in alloc; "{}", file.lines)?),
+        Err(fault) => told(alloc, fault),
     }
 }
 
