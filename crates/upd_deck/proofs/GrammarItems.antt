@@ -54,8 +54,8 @@ has_byte f h = ne_eqb (length f) 0 (λ e. omega arith)
 many_filled : (fs : List (List ℕ)) → 0 < length fs → AllByRecursion (λ f. 0 < length f) fs → (leb 1 (length fs) && not (list_any (λ f. eqb (length f) 0) fs) && true) ≡ true
 many_filled fs some filled = and_from _ _ (and_from _ _ (le-leb 1 (length fs) some) (not_from_false _ (no_empty fs filled))) refl
 
-each_item : {A : Type 0} (R : List ℕ → A → Type 0) (reads : List ℕ → Result A FaultKind) (make : List A → ItemView) → ((f : List ℕ) (x : A) → R f x → reads f ≡ Ok x) → (fs : List (List ℕ)) (xs : List A) → AllZip R fs xs → (each_in reads [] fs >>= (λ ys. Ok (make ys))) ≡ Ok (make xs)
-each_item R reads make one fs xs h = rw (each_read R reads one [] fs xs h) refl
+each_item : {A : Type 0} (R : List ℕ → A → Type 0) (reads : List ℕ → Result A FaultKind) (make : List A → ItemView) → ((f : List ℕ) (x : A) → R f x → reads f ≡ Ok x) → (fs : List (List ℕ)) (xs : List A) → AllZip R fs xs → (each_in reads fs >>= (λ ys. Ok (make ys))) ≡ Ok (make xs)
+each_item R reads make one fs xs h = rw (each_read R reads one fs xs h) refl
 
 -- a name is read as itself
 abbrev IsSameName : List ℕ → List ℕ → Type 0
@@ -165,11 +165,10 @@ cards_taken w make one two fs item count e = ⊎_elim (λ h. by_one h) (λ h. by
     by_two : eqb (length fs) 2 ≡ true → Takes w fs item
     by_two h = subst (Takes w fs) (ok_same _ _ second.2) (subst (λ l. Takes w l (make first.0 second.0)) (sym (two_fields fs h)) (two f g first.0 second.0 (card_back f first.0 first.1) (card_back g second.0 second.1)))
 
-each_taken : {A : Type 0} (w : Word) (R : List ℕ → A → Type 0) (reads : List ℕ → Result A FaultKind) (make : List A → ItemView) → ((f : List ℕ) (x : A) → reads f ≡ Ok x → R f x) → ((fs : List (List ℕ)) (xs : List A) → 0 < length fs → AllZip R fs xs → Takes w fs (make xs)) → (fs : List (List ℕ)) (item : ItemView) → leb 1 (length fs) ≡ true → (each_in reads [] fs >>= (λ xs. Ok (make xs))) ≡ Ok item → Takes w fs item
+each_taken : {A : Type 0} (w : Word) (R : List ℕ → A → Type 0) (reads : List ℕ → Result A FaultKind) (make : List A → ItemView) → ((f : List ℕ) (x : A) → reads f ≡ Ok x → R f x) → ((fs : List (List ℕ)) (xs : List A) → 0 < length fs → AllZip R fs xs → Takes w fs (make xs)) → (fs : List (List ℕ)) (item : ItemView) → leb 1 (length fs) ≡ true → (each_in reads fs >>= (λ xs. Ok (make xs))) ≡ Ok item → Takes w fs item
 each_taken w R reads make back row fs item some e =
-    let step = step_back (each_in reads [] fs) (λ xs. Ok (make xs)) item e in
-    let xs = each_back R reads back [] fs step.0 step.1 in
-    subst (Takes w fs) (ap make (sym xs.1) ∙ ok_same _ _ step.2) (row fs xs.0 (leb-true 1 (length fs) some) xs.2)
+    let step = step_back (each_in reads fs) (λ xs. Ok (make xs)) item e in
+    subst (Takes w fs) (ok_same _ _ step.2) (row fs step.0 (leb-true 1 (length fs) some) (each_back R reads back fs step.0 step.1))
 
 names_of_zip : (fs gs : List (List ℕ)) → AllZip IsSameName fs gs → AllByRecursion IsName fs × (fs ≡ gs)
 names_of_zip [] [] h = (tt, refl)
@@ -213,7 +212,7 @@ common_taken fs item a e = ⊎_elim by_one by_two (or_cases (eqb (length fs) 1) 
 purge_taken : (fs : List (List ℕ)) (item : ItemView) → leb 1 (length fs) ≡ true → item_with words.Purge fs ≡ Ok item → Takes words.Purge fs item
 purge_taken fs item some e = by_test (is_from_name fs) refl e
   where
-    by_test : (t : Bool) → is_from_name fs ≡ t → cond t (Ok (PurgeFrom (first_field fs))) (each_in range_in [] fs >>= (λ rs. Ok (Purge rs))) ≡ Ok item → Takes words.Purge fs item
+    by_test : (t : Bool) → is_from_name fs ≡ t → cond t (Ok (PurgeFrom (first_field fs))) (each_in range_in fs >>= (λ rs. Ok (Purge rs))) ≡ Ok item → Takes words.Purge fs item
     by_test true h e = let from = from_name fs h in subst (Takes words.Purge fs) (ok_same _ _ e) (subst (λ l. Takes words.Purge l (PurgeFrom (first_field fs))) (sym from.1) (TakesPurgeFrom (first_field fs) from.0))
     by_test false h e = each_taken words.Purge IsRange range_in Purge range_back TakesPurge fs item some e
 

@@ -1,5 +1,5 @@
 -- Names, ranges, pairs and card references are read exactly where they are spelled so.
-use Rattle.std.proofs.Common.{◌≡◌, ℕ, zero, suc, ◌+◌, ◌^◌, ◌<◌, Bool, true, false, cond, eqb, leb, not, ◌&&◌, ◌||◌, List, [], ◌∷◌, ◌++◌, length, refl, sym, ap, ◌∙◌, subst, get_or, append-nil, append_assoc, Some, None, Result, Ok, Err, arith, rules}
+use Rattle.std.proofs.Common.{◌≡◌, ℕ, zero, suc, ◌+◌, ◌^◌, ◌<◌, Bool, true, false, cond, eqb, leb, not, ◌&&◌, ◌||◌, List, [], ◌∷◌, ◌++◌, length, refl, sym, ap, ◌∙◌, subst, get_or, Some, None, Result, Ok, Err, arith, rules}
 use Rattle.std.proofs.Math.Seq.{take-append_seam, drop-append-add}
 use Rattle.std.proofs.lemmas.Bool.{or_right, or_parts, and_parts, and_from, not_from_false, not-true, ne_eqb, eqb-true, eqb-false, leb-true, le-leb, false≢true}
 use Rattle.std.proofs.lemmas.Fmt.{decimal_digit, decimal_nonempty, length-decimal-le, first_decimal, digits_decimal, digits_value-decimal, decimal-digits_value}
@@ -17,7 +17,7 @@ use Rattle.upd_deck.specs.declared.item.NameRange.{NameRange}
 use Rattle.upd_deck.specs.declared.item.IdentIn.{IdentIn}
 use Rattle.upd_deck.specs.Grammar.{IsName, IsCard, Card, IsRange, Two, Lone, IsPair, Pair}
 use Rattle.upd_deck.proofs.GrammarParts.{all_weaker}
-use Rattle.upd_deck.specs.Reading.{name_in, card_ref_in, names_in, ident_in, range_in, each_in}
+use Rattle.upd_deck.specs.Reading.{name_in, card_ref_in, names_in, ident_in, range_in, one_in, each_in}
 
 -- ---- results in steps
 
@@ -216,15 +216,19 @@ card_back f c e = by_test (is_name (before_first is_point f) && is_card_number (
 
 -- ---- one after another
 
-pub each_read : {A : Type 0} (R : List ℕ → A → Type 0) (reads : List ℕ → Result A FaultKind) → ((f : List ℕ) (x : A) → R f x → reads f ≡ Ok x) → (found : List A) (fs : List (List ℕ)) (xs : List A) → AllZip R fs xs → each_in reads found fs ≡ Ok (found ++ xs)
-each_read R reads one found [] [] h = ap Ok (sym (append-nil found))
-each_read R reads one found [] (x ∷ xs) h = absurd h
-each_read R reads one found (f ∷ fs) [] h = absurd h
-each_read R reads one found (f ∷ fs) (x ∷ xs) h = rw (one f x h.0) (each_read R reads one (found ++ x ∷ []) fs xs h.1 ∙ ap Ok (append_assoc found (x ∷ []) xs))
+pub each_read : {A : Type 0} (R : List ℕ → A → Type 0) (reads : List ℕ → Result A FaultKind) → ((f : List ℕ) (x : A) → R f x → reads f ≡ Ok x)
+    → (fs : List (List ℕ)) (xs : List A) → AllZip R fs xs → each_in reads fs ≡ Ok xs
+each_read R reads one [] [] h = refl
+each_read R reads one [] (x ∷ xs) h = absurd h
+each_read R reads one (f ∷ fs) [] h = absurd h
+each_read R reads one (f ∷ fs) (x ∷ xs) h = rw (one f x h.0, each_read R reads one fs xs h.1) refl
 
-pub each_back : {A : Type 0} (R : List ℕ → A → Type 0) (reads : List ℕ → Result A FaultKind) → ((f : List ℕ) (x : A) → reads f ≡ Ok x → R f x) → (found : List A) (fs : List (List ℕ)) (ys : List A) → each_in reads found fs ≡ Ok ys → (xs : List A) × (ys ≡ found ++ xs) × AllZip R fs xs
-each_back R reads one found [] ys e = ([], sym (ok_same _ _ e) ∙ sym (append-nil found), tt)
-each_back R reads one found (f ∷ fs) ys e =
-    let step = step_back (reads f) (λ x. each_in reads (found ++ x ∷ []) fs) ys e in
-    let rest = each_back R reads one (found ++ step.0 ∷ []) fs ys step.2 in
-    (step.0 ∷ rest.0, rest.1 ∙ append_assoc found (step.0 ∷ []) rest.0, (one f step.0 step.1, rest.2))
+pub each_back : {A : Type 0} (R : List ℕ → A → Type 0) (reads : List ℕ → Result A FaultKind) → ((f : List ℕ) (x : A) → reads f ≡ Ok x → R f x)
+    → (fs : List (List ℕ)) (xs : List A) → each_in reads fs ≡ Ok xs → AllZip R fs xs
+each_back R reads one [] xs e = subst (AllZip R []) (ok_same _ _ e) tt
+each_back R reads one (f ∷ fs) xs e =
+    let found = step_back (one_in reads f) (λ found. each_in reads fs >>= (λ more. Ok (found ++ more))) xs e in
+    let first = step_back (reads f) (λ x. Ok (x ∷ [])) found.0 found.1 in
+    let rest = step_back (each_in reads fs) (λ more. Ok (found.0 ++ more)) xs found.2 in
+    subst (AllZip R (f ∷ fs)) (ap (λ front. front ++ rest.0) (ok_same _ _ first.2) ∙ ok_same _ _ rest.2)
+    (one f first.0 first.1, each_back R reads one fs rest.0 rest.1)

@@ -11,10 +11,10 @@ use Rattle.upd_text.specs.declared.fault.Fault.{Fault}
 use Rattle.upd_text.specs.declared.fault.FaultKind.{FaultKind}
 use Rattle.upd_text.specs.declared.fault.FaultKind.TheVariants as fault
 use Rattle.upd_text.specs.declared.limits.TheConstants.{MAX_RUN_BYTES, MAX_RUN_LINES}
-use Rattle.upd_text.specs.Outcome.{◌>>=◌, refuse_if, at_line}
+use Rattle.upd_text.specs.Outcome.{◌>>=◌, refuse_if, at_line, each}
 use Rattle.upd_deck.specs.Items.{LineView}
 use Rattle.upd_deck.specs.Grammar.{blanks, IsAllowed, IsTextOf, Trimmed, IsLine, Comment, Line, Feed, ReturnFeed, AreLines, NoMore, LastLine, NextLine, Reads}
-use Rattle.upd_deck.specs.Reading.{CutLine, cut_from, is_feed, cut, said, said_behind, reading}
+use Rattle.upd_deck.specs.Reading.{CutLine, cut_from, is_feed, cut, said, said_at, reading}
 use Rattle.upd_deck.proofs.GrammarParts.{all_weaker, all_append}
 use Rattle.upd_deck.proofs.GrammarNames.{step_back, ok_same}
 use Rattle.upd_deck.proofs.GrammarLines.{line_read, line_back, cut_line}
@@ -100,36 +100,44 @@ cut_next number start line piece rest strip plain =
     let first = first_piece rest in
     rw (split_at_feed piece rest plain, first.2) (ap (λ l. cut_line number start l ∷ cut_from (number + 1) (start + length piece + 1) (first.0 ∷ first.1)) strip)
 
-next_read : (number start : ℕ) (line : List ℕ) (more later found : List LineView) (cuts all : List CutLine) → all ≡ cut_line number start line ∷ cuts → said (cut_line number start line) ≡ Ok more → said_behind (found ++ more) cuts ≡ Ok ((found ++ more) ++ later) → said_behind found all ≡ Ok (found ++ (more ++ later))
-next_read number start line more later found cuts all e one rest =
-    ap (said_behind found) e ∙ ap (λ r. at_line number r >>= (λ m. said_behind (found ++ m) cuts)) one ∙ rest ∙ ap Ok (append_assoc found more later)
+-- a line that was read, and what the lines behind it say
+next_read : (number start : ℕ) (line : List ℕ) (more later : List LineView) (cuts all : List CutLine) → all ≡ cut_line number start line ∷ cuts
+    → said (cut_line number start line) ≡ Ok more → each said_at cuts ≡ Ok later → each said_at all ≡ Ok (more ++ later)
+next_read number start line more later cuts all e one rest =
+    ap (each said_at) e ∙ ap (λ r. at_line number r >>= (λ m. each said_at cuts >>= (λ l. Ok (m ++ l)))) one ∙ ap (λ r. r >>= (λ l. Ok (more ++ l))) rest
 
--- what is left of a run from a place on reads as lines behind what was found, and its lines are few
-abbrev IsReadAs : ℕ → List ℕ → List LineView → List LineView → ℕ → Type 0
-IsReadAs number bytes lines found start =
-    (said_behind found (cut_from number start (slice_split is_feed bytes)) ≡ Ok (found ++ lines)) × (number + length (cut_from number start (slice_split is_feed bytes)) ≤ MAX_RUN_LINES + 1)
+-- what is left of a run from a place on reads as lines, and its lines are few
+abbrev IsReadAs : ℕ → List ℕ → List LineView → ℕ → Type 0
+IsReadAs number bytes lines start =
+    (each said_at (cut_from number start (slice_split is_feed bytes)) ≡ Ok lines)
+    × (number + length (cut_from number start (slice_split is_feed bytes)) ≤ MAX_RUN_LINES + 1)
 
-lines_read : (number start : ℕ) (bytes : List ℕ) (lines : List LineView) → AreLines number start bytes lines → (found : List LineView) → number ≤ MAX_RUN_LINES + 1 → IsReadAs number bytes lines found start
-lines_read number start bytes lines (NoMore _ _) found few = (ap Ok (sym (append-nil found)), omega arith)
-lines_read number start bytes lines (LastLine _ _ _ _ some is) found few =
+lines_read : (number start : ℕ) (bytes : List ℕ) (lines : List LineView) → AreLines number start bytes lines → number ≤ MAX_RUN_LINES + 1
+    → IsReadAs number bytes lines start
+lines_read number start bytes lines (NoMore _ _) few = (refl, omega arith)
+lines_read number start bytes lines (LastLine _ _ _ _ some is) few =
     let one = line_read number start bytes lines is in
     let all : cut_from number start (slice_split is_feed bytes) ≡ cut_line number start bytes ∷ [] =
     ap (cut_from number start) (split_whole bytes (plain_feed bytes (line_plain number start bytes lines is))) ∙ cut_last number start bytes some in
-    (ap (said_behind found) all ∙ ap (λ r. at_line number r >>= (λ m. said_behind (found ++ m) [])) one.1, omega (arith, ap length all, one.0))
-lines_read number start bytes lines (NextLine _ _ line end rest more later is Feed behind) found few =
+    (next_read number start bytes lines [] [] _ all one.1 refl ∙ ap Ok (append-nil lines), omega (arith, ap length all, one.0))
+lines_read number start bytes lines (NextLine _ _ line end rest more later is Feed behind) few =
     let one = line_read number start line more is in
     let plain = line_plain number start line more is in
-    let all = ap (λ l. cut_from number start (slice_split is_feed l)) (append_assoc line (10 ∷ []) rest) ∙ cut_next number start line line rest (strip_plain line (plain_return line plain)) (plain_feed line plain) in
-    let others = lines_read (number + 1) (start + length line + 1) rest later behind (found ++ more) (omega (arith, one.0)) in
-    (next_read number start line more later found _ _ all one.1 others.0, omega (arith, ap length all, others.1))
-lines_read number start bytes lines (NextLine _ _ line end rest more later is ReturnFeed behind) found few =
+    let all =
+    ap (λ l. cut_from number start (slice_split is_feed l)) (append_assoc line (10 ∷ []) rest)
+    ∙ cut_next number start line line rest (strip_plain line (plain_return line plain)) (plain_feed line plain) in
+    let others = lines_read (number + 1) (start + length line + 1) rest later behind (omega (arith, one.0)) in
+    (next_read number start line more later _ _ all one.1 others.0, omega (arith, ap length all, others.1))
+lines_read number start bytes lines (NextLine _ _ line end rest more later is ReturnFeed behind) few =
     let one = line_read number start line more is in
     let piece : List ℕ = line ++ 13 ∷ [] in
     let plain = all_append (λ b. eqb b 10 ≡ false) line (13 ∷ []) (plain_feed line (line_plain number start line more is)) (refl, tt) in
-    let all = ap (λ l. cut_from number start (slice_split is_feed l)) (append_assoc line (13 ∷ 10 ∷ []) rest ∙ sym (append_assoc line (13 ∷ []) (10 ∷ rest))) ∙ cut_next number start line piece rest (strip_return line) plain in
+    let all =
+    ap (λ l. cut_from number start (slice_split is_feed l)) (append_assoc line (13 ∷ 10 ∷ []) rest ∙ sym (append_assoc line (13 ∷ []) (10 ∷ rest)))
+    ∙ cut_next number start line piece rest (strip_return line) plain in
     let begin : start + length line + 2 ≡ start + length piece + 1 = omega (arith, length-append line (13 ∷ [])) in
-    let others = subst (IsReadAs (number + 1) rest later (found ++ more)) begin (lines_read (number + 1) (start + length line + 2) rest later behind (found ++ more) (omega (arith, one.0))) in
-    (next_read number start line more later found _ _ all one.1 others.0, omega (arith, ap length all, others.1))
+    let others = subst (IsReadAs (number + 1) rest later) begin (lines_read (number + 1) (start + length line + 2) rest later behind (omega (arith, one.0))) in
+    (next_read number start line more later _ _ all one.1 others.0, omega (arith, ap length all, others.1))
 
 -- ---- what is read is spelled so
 
@@ -137,42 +145,49 @@ at_line_back : {A : Type 0} (number : ℕ) (r : Result A FaultKind) (x : A) → 
 at_line_back number (Ok y) x e = cc
 at_line_back number (Err kind) x e = absurd cc
 
--- the lines that are behind what was found
-abbrev Behind : ℕ → ℕ → List ℕ → List LineView → List LineView → Type 0
-Behind number start bytes found ys = (lines : List LineView) × (ys ≡ found ++ lines) × AreLines number start bytes lines
-
-last_back : (number start : ℕ) (piece : List ℕ) (found ys : List LineView) → number + length (cut_from number start (piece ∷ [])) ≤ MAX_RUN_LINES + 1 → said_behind found (cut_from number start (piece ∷ [])) ≡ Ok ys → Behind number start piece found ys
-last_back number start [] found ys few e = ([], sym (ok_same _ _ e) ∙ sym (append-nil found), NoMore number start)
-last_back number start (b ∷ bs) found ys few e =
+last_back : (number start : ℕ) (piece : List ℕ) (lines : List LineView) → number + length (cut_from number start (piece ∷ [])) ≤ MAX_RUN_LINES + 1
+    → each said_at (cut_from number start (piece ∷ [])) ≡ Ok lines → AreLines number start piece lines
+last_back number start [] lines few e = subst (AreLines number start []) (ok_same _ _ e) (NoMore number start)
+last_back number start (b ∷ bs) lines few e =
     let all = cut_last number start (b ∷ bs) (omega arith) in
-    let step = step_back (at_line number (said (cut_line number start (b ∷ bs)))) (λ more. said_behind (found ++ more) []) ys (sym (ap (said_behind found) all) ∙ e) in
-    let is = line_back number start (b ∷ bs) step.0 (omega (arith, ap length all)) (at_line_back number (said (cut_line number start (b ∷ bs))) step.0 step.1) in
-    (step.0, sym (ok_same _ _ step.2), LastLine number start (b ∷ bs) step.0 (omega arith) is)
+    let line : CutLine = cut_line number start (b ∷ bs) in
+    let step = step_back (at_line number (said line)) (λ found. Ok (found ++ [])) lines (sym (ap (each said_at) all) ∙ e) in
+    let is = line_back number start (b ∷ bs) step.0 (omega (arith, ap length all)) (at_line_back number (said line) step.0 step.1) in
+    subst (AreLines number start (b ∷ bs)) (sym (append-nil step.0) ∙ ok_same _ _ step.2) (LastLine number start (b ∷ bs) step.0 (omega arith) is)
 
-next_back : (number start : ℕ) (piece rest : List ℕ) (more later : List LineView) → IsLine number start (strip_carriage_return piece) more → AreLines (number + 1) (start + length piece + 1) rest later → AreLines number start (piece ++ 10 ∷ rest) (more ++ later)
+next_back : (number start : ℕ) (piece rest : List ℕ) (more later : List LineView) → IsLine number start (strip_carriage_return piece) more
+    → AreLines (number + 1) (start + length piece + 1) rest later → AreLines number start (piece ++ 10 ∷ rest) (more ++ later)
 next_back number start piece rest more later is behind = ⊎_elim by_feed by_return (strip_split piece)
   where
     line : List ℕ
     line = strip_carriage_return piece
 
     by_feed : line ≡ piece → AreLines number start (piece ++ 10 ∷ rest) (more ++ later)
-    by_feed e = subst (λ l. AreLines number start l (more ++ later)) (append_assoc piece (10 ∷ []) rest) (NextLine number start piece (10 ∷ []) rest more later (subst (λ l. IsLine number start l more) e is) Feed behind)
+    by_feed e =
+        let next = NextLine number start piece (10 ∷ []) rest more later (subst (λ l. IsLine number start l more) e is) Feed behind in
+        subst (λ l. AreLines number start l (more ++ later)) (append_assoc piece (10 ∷ []) rest) next
 
     by_return : piece ≡ line ++ 13 ∷ [] → AreLines number start (piece ++ 10 ∷ rest) (more ++ later)
     by_return e =
         let begin : start + length piece + 1 ≡ start + length line + 2 = omega (arith, ap length e, length-append line (13 ∷ [])) in
-        let bytes : line ++ 13 ∷ 10 ∷ [] ++ rest ≡ piece ++ 10 ∷ rest = append_assoc line (13 ∷ 10 ∷ []) rest ∙ sym (append_assoc line (13 ∷ []) (10 ∷ rest)) ∙ ap (λ l. l ++ 10 ∷ rest) (sym e) in
-        subst (λ l. AreLines number start l (more ++ later)) bytes (NextLine number start line (13 ∷ 10 ∷ []) rest more later is ReturnFeed (subst (λ k. AreLines (number + 1) k rest later) begin behind))
+        let bytes : line ++ 13 ∷ 10 ∷ [] ++ rest ≡ piece ++ 10 ∷ rest =
+        append_assoc line (13 ∷ 10 ∷ []) rest ∙ sym (append_assoc line (13 ∷ []) (10 ∷ rest)) ∙ ap (λ l. l ++ 10 ∷ rest) (sym e) in
+        subst (λ l. AreLines number start l (more ++ later)) bytes
+        (NextLine number start line (13 ∷ 10 ∷ []) rest more later is ReturnFeed (subst (λ k. AreLines (number + 1) k rest later) begin behind))
 
-lines_back : (number start : ℕ) (piece : List ℕ) (pieces : List (List ℕ)) (found ys : List LineView) → number + length (cut_from number start (piece ∷ pieces)) ≤ MAX_RUN_LINES + 1 → said_behind found (cut_from number start (piece ∷ pieces)) ≡ Ok ys → Behind number start (join_with_byte 10 (piece ∷ pieces)) found ys
-lines_back number start piece [] found ys few e = last_back number start piece found ys few e
-lines_back number start piece (next ∷ pieces) found ys few e =
+lines_back : (number start : ℕ) (piece : List ℕ) (pieces : List (List ℕ)) (lines : List LineView)
+    → number + length (cut_from number start (piece ∷ pieces)) ≤ MAX_RUN_LINES + 1 → each said_at (cut_from number start (piece ∷ pieces)) ≡ Ok lines
+    → AreLines number start (join_with_byte 10 (piece ∷ pieces)) lines
+lines_back number start piece [] lines few e = last_back number start piece lines few e
+lines_back number start piece (next ∷ pieces) lines few e =
     let line : CutLine = cut_line number start (strip_carriage_return piece) in
     let cuts : List CutLine = cut_from (number + 1) (start + length piece + 1) (next ∷ pieces) in
-    let step = step_back (at_line number (said line)) (λ more. said_behind (found ++ more) cuts) ys e in
-    let is = line_back number start (strip_carriage_return piece) step.0 (omega arith) (at_line_back number (said line) step.0 step.1) in
-    let rest = lines_back (number + 1) (start + length piece + 1) next pieces (found ++ step.0) ys (omega arith) step.2 in
-    (step.0 ++ rest.0, rest.1 ∙ append_assoc found step.0 rest.0, next_back number start piece (join_with_byte 10 (next ∷ pieces)) step.0 rest.0 is rest.2)
+    let first = step_back (at_line number (said line)) (λ found. each said_at cuts >>= (λ more. Ok (found ++ more))) lines e in
+    let rest = step_back (each said_at cuts) (λ more. Ok (first.0 ++ more)) lines first.2 in
+    let is = line_back number start (strip_carriage_return piece) first.0 (omega arith) (at_line_back number (said line) first.0 first.1) in
+    let behind = lines_back (number + 1) (start + length piece + 1) next pieces rest.0 (omega arith) rest.1 in
+    subst (AreLines number start (join_with_byte 10 (piece ∷ next ∷ pieces))) (ok_same _ _ rest.2)
+    (next_back number start piece (join_with_byte 10 (next ∷ pieces)) first.0 rest.0 is behind)
 
 -- ---- the limits of a run
 
@@ -184,26 +199,27 @@ gate_back true kind next y e = absurd cc
 gate_back false kind next y e = (refl, e)
 
 abbrev counted : List ℕ → Result (List LineView) Fault
-counted bytes = at_line 0 (refuse_if (ltb MAX_RUN_LINES (length (cut bytes))) fault.TooManyLines) >>= (λ _. said_behind [] (cut bytes))
+counted bytes = at_line 0 (refuse_if (ltb MAX_RUN_LINES (length (cut bytes))) fault.TooManyLines) >>= (λ _. each said_at (cut bytes))
 
 run_read : (bytes : List ℕ) (lines : List LineView) → Reads bytes lines → reading bytes ≡ Ok lines
 run_read bytes lines h =
-    let read = lines_read 1 0 bytes lines h.spelled [] (omega arith) in
+    let read = lines_read 1 0 bytes lines h.spelled (omega arith) in
     gate_read (ltb MAX_RUN_BYTES (length bytes)) fault.RunLong (λ _. counted bytes) (le-ltb MAX_RUN_BYTES (length bytes) h.short)
-    ∙ gate_read (ltb MAX_RUN_LINES (length (cut bytes))) fault.TooManyLines (λ _. said_behind [] (cut bytes)) (le-ltb MAX_RUN_LINES (length (cut bytes)) (omega (arith, read.1)))
+    ∙ gate_read (ltb MAX_RUN_LINES (length (cut bytes))) fault.TooManyLines (λ _. each said_at (cut bytes)) (le-ltb MAX_RUN_LINES (length (cut bytes)) (omega (arith, read.1)))
     ∙ read.0
 
 pub run_back : (bytes : List ℕ) (lines : List LineView) → reading bytes ≡ Ok lines → Reads bytes lines
 run_back bytes lines e =
     let short = gate_back (ltb MAX_RUN_BYTES (length bytes)) fault.RunLong (λ _. counted bytes) lines e in
-    let few = gate_back (ltb MAX_RUN_LINES (length (cut bytes))) fault.TooManyLines (λ _. said_behind [] (cut bytes)) lines short.1 in
+    let few = gate_back (ltb MAX_RUN_LINES (length (cut bytes))) fault.TooManyLines (λ _. each said_at (cut bytes)) lines short.1 in
     let first = first_piece bytes in
     let cuts : cut bytes ≡ cut_from 1 0 (first.0 ∷ first.1) = ap (cut_from 1 0) first.2 in
-    let rest = lines_back 1 0 first.0 first.1 [] lines (omega (arith, ltb-false MAX_RUN_LINES (length (cut bytes)) few.0, ap length cuts)) (sym (ap (said_behind []) cuts) ∙ few.1) in
+    let rest = lines_back 1 0 first.0 first.1 lines (omega (arith, ltb-false MAX_RUN_LINES (length (cut bytes)) few.0, ap length cuts))
+    (sym (ap (each said_at) cuts) ∙ few.1) in
     let joined : join_with_byte 10 (first.0 ∷ first.1) ≡ bytes = ap (join_with_byte 10) (sym first.2) ∙ join_with_byte-slice_split 10 bytes in
     record {
       short = ltb-false MAX_RUN_BYTES (length bytes) short.0;
-      spelled = subst (λ l. AreLines 1 0 bytes l) (sym rest.1) (subst (λ l. AreLines 1 0 l rest.0) joined rest.2);
+      spelled = subst (λ l. AreLines 1 0 l lines) joined rest;
     }
 
 pub runs : (bytes : List ℕ) (lines : List LineView) → Reads bytes lines ↔ (reading bytes ≡ Ok lines)

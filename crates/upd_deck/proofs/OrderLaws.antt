@@ -1,5 +1,5 @@
 -- The lines of a run follow one another.
-use Rattle.std.proofs.Common.{◌≡◌, ℕ, ◌+◌, ◌-◌, ◌<◌, ◌≤◌, ◌==◌, nat_lt, Bool, true, false, cond, if◌then◌else◌, not, List, [], ◌∷◌, ◌++◌, length, take, drop, get_or, length-append, Result, Ok, Err, IfOk, sym, ap, ◌∙◌, subst, append_assoc, refl, arith}
+use Rattle.std.proofs.Common.{◌≡◌, ℕ, ◌+◌, ◌-◌, ◌<◌, ◌≤◌, ◌==◌, nat_lt, Bool, true, false, cond, if◌then◌else◌, not, List, [], ◌∷◌, ◌++◌, length, take, drop, get_or, length-append, Result, Ok, Err, IfOk, sym, ap, ◌∙◌, subst, refl, arith}
 use Rattle.std.specs.List.{AllByRecursion, list_all, slice_split, suffix_len}
 use Rattle.std.specs.Str.Lines.{strip_carriage_return}
 use Rattle.std.proofs.lemmas.Bool.Decides.{nat_tests}
@@ -10,10 +10,11 @@ use Rattle.upd_text.specs.declared.fault.FaultKind.{FaultKind}
 use Rattle.upd_text.specs.declared.fault.FaultKind.TheVariants as fault
 use Rattle.upd_text.specs.declared.limits.TheConstants.{MAX_RUN_BYTES, MAX_RUN_LINES, MAX_LINE_BYTES}
 use Rattle.upd_text.specs.Lines.{is_blank, is_comment}
-use Rattle.upd_text.specs.Outcome.{◌>>=◌, at_line, refuse_if}
+use Rattle.upd_text.specs.Outcome.{◌>>=◌, at_line, each, refuse_if}
 use Rattle.upd_deck.specs.Items.{ItemView, LineView}
 use Rattle.upd_deck.specs.Order.{FollowFrom}
-use Rattle.upd_deck.specs.Reading.{CutLine, cut, cut_from, is_allowed, is_feed, item_of, reading, said, said_behind, trimmed}
+use Rattle.upd_deck.specs.Reading.{CutLine, cut, cut_from, is_allowed, is_feed, item_of, reading, said, said_at, trimmed}
+use Rattle.upd_deck.proofs.GrammarNames.{step_back, ok_same}
 
 -- ---- what a line says
 
@@ -55,26 +56,25 @@ said_of line more e = of_tail (is_comment (trimmed line.bytes)) (item_of (trimme
 read_all : (Q : List CutLine → List LineView → Type 0) → Q [] []
     → ((line : CutLine) (lines : List CutLine) (out : List LineView) → Q lines out → Q (line ∷ lines) out)
     → ((line : CutLine) (x : LineView) (lines : List CutLine) (out : List LineView) → IsOf line x → Q lines out → Q (line ∷ lines) (x ∷ out))
-    → (lines : List CutLine) (found out : List LineView) → said_behind found lines ≡ Ok out → (rest : List LineView) × (out ≡ found ++ rest) × Q lines rest
-read_all Q none silent speaks [] found out e = let same : found ≡ out = cc in ([], sym same ∙ sym (append-nil found), none)
-read_all Q none silent speaks (line ∷ lines) found out e = of (said line) (said_of line) e (λ before. read_all Q none silent speaks lines before out)
+    → (lines : List CutLine) (out : List LineView) → each said_at lines ≡ Ok out → Q lines out
+read_all Q none silent speaks [] out e = subst (Q []) (ok_same _ _ e) none
+read_all Q none silent speaks (line ∷ lines) out e = of (said line) (said_of line) e (λ rest. read_all Q none silent speaks lines rest)
   where
-    joined : (x : LineView) (more rest : List LineView) → more ≡ [] → (found ++ x ∷ more) ++ rest ≡ found ++ x ∷ rest
-    joined x more rest none = rw none (append_assoc found (x ∷ []) rest)
-
-    of : (r : Result (List LineView) FaultKind) → ((more : List LineView) → r ≡ Ok more → IsSaid line more) → (at_line line.number r >>= (λ more. said_behind (found ++ more) lines)) ≡ Ok out
-        → ((before : List LineView) → said_behind before lines ≡ Ok out → (rest : List LineView) × (out ≡ before ++ rest) × Q lines rest)
-        → (rest : List LineView) × (out ≡ found ++ rest) × Q (line ∷ lines) rest
+    of : (r : Result (List LineView) FaultKind) → ((more : List LineView) → r ≡ Ok more → IsSaid line more)
+        → (at_line line.number r >>= (λ more. each said_at lines >>= (λ rest. Ok (more ++ rest)))) ≡ Ok out
+        → ((rest : List LineView) → each said_at lines ≡ Ok rest → Q lines rest) → Q (line ∷ lines) out
     of (Err kind) is e later = cc
-    of (Ok []) is e later = let l = later (found ++ []) e in (l.0, l.1 ∙ ap (λ xs. xs ++ l.0) (append-nil found), silent line lines l.0 l.2)
+    of (Ok []) is e later =
+        let rest = step_back (each said_at lines) (λ rest. Ok rest) out e in
+        subst (Q (line ∷ lines)) (ok_same _ _ rest.2) (silent line lines rest.0 (later rest.0 rest.1))
     of (Ok (x ∷ more)) is e later =
-        let l = later (found ++ x ∷ more) e in
+        let rest = step_back (each said_at lines) (λ rest. Ok (x ∷ more ++ rest)) out e in
         let said = is (x ∷ more) refl in
-        (x ∷ l.0, l.1 ∙ joined x more l.0 said.0, speaks line x lines l.0 said.1 l.2)
+        subst (Q (line ∷ lines)) (ap (λ m. x ∷ m ++ rest.0) (sym said.0) ∙ ok_same _ _ rest.2) (speaks line x lines rest.0 said.1 (later rest.0 rest.1))
 
 -- what holds of lines that were read, if no limit is passed
-if_read : (bytes : List ℕ) (P : List LineView → Type 0) → ((out : List LineView) → nat_lt MAX_RUN_LINES (length (cut bytes)) ≡ false → said_behind [] (cut bytes) ≡ Ok out → P out) → IfOk (reading bytes) P
-if_read bytes P holds = of (nat_lt MAX_RUN_BYTES (length bytes)) (nat_lt MAX_RUN_LINES (length (cut bytes))) (said_behind [] (cut bytes)) holds
+if_read : (bytes : List ℕ) (P : List LineView → Type 0) → ((out : List LineView) → nat_lt MAX_RUN_LINES (length (cut bytes)) ≡ false → each said_at (cut bytes) ≡ Ok out → P out) → IfOk (reading bytes) P
+if_read bytes P holds = of (nat_lt MAX_RUN_BYTES (length bytes)) (nat_lt MAX_RUN_LINES (length (cut bytes))) (each said_at (cut bytes)) holds
   where
     of : (long many : Bool) (r : Result (List LineView) Fault) → ((out : List LineView) → many ≡ false → r ≡ Ok out → P out)
         → IfOk (at_line 0 (refuse_if long fault.RunLong) >>= (λ _. at_line 0 (refuse_if many fault.TooManyLines) >>= (λ _. r))) P
@@ -136,8 +136,8 @@ length-trimmed-le line = omega (arith, simp length-append at (ap length (trim_ag
 
 pub lines_follow : (bytes : List ℕ) → IfOk (reading bytes) (FollowFrom 1 0)
 lines_follow bytes = if_read bytes (FollowFrom 1 0) (λ out few e.
-    let r = read_all (λ lines out. (number place : ℕ) → IsCutFrom number place lines → FollowFrom number place out) (λ number place from. tt) silent speaks (cut bytes) [] out e in
-    subst (FollowFrom 1 0) (sym r.1) (r.2 1 0 (cut_from_follows 1 0 (slice_split is_feed bytes))))
+    let r = read_all (λ lines out. (number place : ℕ) → IsCutFrom number place lines → FollowFrom number place out) (λ number place from. tt) silent speaks (cut bytes) out e in
+    r 1 0 (cut_from_follows 1 0 (slice_split is_feed bytes)))
   where
     silent : (line : CutLine) (lines : List CutLine) (out : List LineView) → ((number place : ℕ) → IsCutFrom number place lines → FollowFrom number place out)
         → (number place : ℕ) → IsCutFrom number place (line ∷ lines) → FollowFrom number place out
@@ -157,8 +157,8 @@ lines_follow bytes = if_read bytes (FollowFrom 1 0) (λ out few e.
 pub numbers_are_few : (bytes : List ℕ) → IfOk (reading bytes) (AllByRecursion (λ line. line.number ≤ MAX_RUN_LINES))
 numbers_are_few bytes = if_read bytes (AllByRecursion (λ line. line.number ≤ MAX_RUN_LINES)) (λ out few e.
     let r = read_all (λ lines out. AllByRecursion (λ line. line.number < MAX_RUN_LINES + 1) lines → AllByRecursion (λ line. line.number ≤ MAX_RUN_LINES) out)
-    (λ _. tt) (λ line lines out q h. q h.1) (λ line x lines out of q h. (omega (arith, h.0, of.number), q h.1)) (cut bytes) [] out e in
-    subst (AllByRecursion (λ line. line.number ≤ MAX_RUN_LINES)) (sym r.1) (r.2 (cut_from_is_below (MAX_RUN_LINES + 1) 1 0 (slice_split is_feed bytes) (at_most (length (cut bytes)) few))))
+    (λ _. tt) (λ line lines out q h. q h.1) (λ line x lines out of q h. (omega (arith, h.0, of.number), q h.1)) (cut bytes) out e in
+    r (cut_from_is_below (MAX_RUN_LINES + 1) 1 0 (slice_split is_feed bytes) (at_most (length (cut bytes)) few)))
   where
     at_most : (n : ℕ) → nat_lt MAX_RUN_LINES n ≡ false → 1 + n ≤ MAX_RUN_LINES + 1
     at_most n few = grind (arith, nat_tests)

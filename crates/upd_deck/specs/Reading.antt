@@ -1,5 +1,5 @@
 -- What a run says: its lines in order, or its first fault.
-use Rattle.std.specs.Prelude.{ℕ, ◌+◌, ◌-◌, ◌==◌, nat_lt, nat_le, Bool, true, not, ◌&&◌, ◌||◌, if◌then◌else◌, List, [], ◌∷◌, ◌++◌, length, take, codes, Option, Some, None, Result, Ok, Err}
+use Rattle.std.specs.Prelude.{ℕ, ◌+◌, ◌-◌, ◌==◌, nat_lt, nat_le, Bool, true, not, ◌&&◌, ◌||◌, if◌then◌else◌, List, [], ◌∷◌, length, take, codes, Option, Some, None, Result, Ok, Err}
 use Rattle.std.specs.Option.{option_map}
 use Rattle.std.specs.Str.{bytes_eq}
 use Rattle.std.specs.Str.Lines.{strip_carriage_return}
@@ -11,7 +11,7 @@ use Rattle.upd_text.specs.declared.fault.FaultKind.TheVariants as fault
 use Rattle.upd_text.specs.declared.limits.TheConstants.{MAX_RUN_BYTES, MAX_RUN_LINES, MAX_LINE_BYTES}
 use Rattle.upd_text.specs.Lines.{is_blank, is_starred, is_comment, word, fields}
 use Rattle.upd_text.specs.Names.{is_name, is_point, card_of}
-use Rattle.upd_text.specs.Outcome.{◌>>=◌, need, refuse_if, at_line}
+use Rattle.upd_text.specs.Outcome.{◌>>=◌, need, refuse_if, at_line, each}
 use Rattle.upd_deck.specs.declared.item.NameRange.{NameRange}
 use Rattle.upd_deck.specs.declared.item.IdentIn.{IdentIn}
 use Rattle.upd_deck.specs.declared.word.Word.{Word}
@@ -122,12 +122,13 @@ ident_in f = do
 abbrev pub range_in : List ℕ → Result NameRange FaultKind
 range_in f = if list_any is_point f then names_in f else (name_in f >>= (λ a. Ok (record { first = a; last = a })))
 
--- what each field says behind what was found, or the first fault
-abbrev pub each_in : {A : Type 0} → (List ℕ → Result A FaultKind) → List A → List (List ℕ) → Result (List A) FaultKind
-each_in read found [] = Ok found
-each_in read found (f ∷ fs) = do
-  x ← read f
-  each_in read (found ++ x ∷ []) fs
+-- the one thing that a field says
+abbrev pub one_in : {A : Type 0} → (List ℕ → Result A FaultKind) → List ℕ → Result (List A) FaultKind
+one_in read f = read f >>= (λ x. Ok (x ∷ []))
+
+-- what each field says, or the fault of the first from the left that is bad
+abbrev pub each_in : {A : Type 0} → (List ℕ → Result A FaultKind) → List (List ℕ) → Result (List A) FaultKind
+each_in read fs = each (one_in read) fs
 
 -- whether the fields are a name and a star
 abbrev pub is_from_name : List (List ℕ) → Bool
@@ -150,14 +151,14 @@ item_with words.Insert fs = card_ref_in (first_field fs) >>= (λ card. Ok (Inser
 item_with words.Before fs = card_ref_in (first_field fs) >>= (λ card. Ok (Before card))
 item_with words.Delete fs = two_cards_in fs Delete
 item_with words.Restore fs = two_cards_in fs Restore
-item_with words.Yank fs = each_in range_in [] fs >>= (λ ranges. Ok (Yank ranges))
-item_with words.SelYank fs = each_in ident_in [] fs >>= (λ pairs. Ok (SelYank pairs))
-item_with words.YankDeck fs = each_in name_in [] fs >>= (λ names. Ok (YankDeck names))
+item_with words.Yank fs = each_in range_in fs >>= (λ ranges. Ok (Yank ranges))
+item_with words.SelYank fs = each_in ident_in fs >>= (λ pairs. Ok (SelYank pairs))
+item_with words.YankDeck fs = each_in name_in fs >>= (λ names. Ok (YankDeck names))
 item_with words.Purge fs =
-    if is_from_name fs then Ok (PurgeFrom (first_field fs)) else (each_in range_in [] fs >>= (λ ranges. Ok (Purge ranges)))
-item_with words.SelPurge fs = each_in ident_in [] fs >>= (λ pairs. Ok (SelPurge pairs))
-item_with words.PurDeck fs = each_in range_in [] fs >>= (λ ranges. Ok (PurDeck ranges))
-item_with words.Compile fs = each_in range_in [] fs >>= (λ ranges. Ok (Compile ranges))
+    if is_from_name fs then Ok (PurgeFrom (first_field fs)) else (each_in range_in fs >>= (λ ranges. Ok (Purge ranges)))
+item_with words.SelPurge fs = each_in ident_in fs >>= (λ pairs. Ok (SelPurge pairs))
+item_with words.PurDeck fs = each_in range_in fs >>= (λ ranges. Ok (PurDeck ranges))
+item_with words.Compile fs = each_in range_in fs >>= (λ ranges. Ok (Compile ranges))
 
 -- ---- lines
 
@@ -218,16 +219,13 @@ said line = do
     item ← item_of text
     Ok (record { number = line.number; span = record { start = line.start; end = line.start + length text }; text = text; item = item } ∷ []))
 
--- what lines say behind what was found, or the first fault of the first faulty line
-abbrev pub said_behind : List LineView → List CutLine → Result (List LineView) Fault
-said_behind found [] = Ok found
-said_behind found (line ∷ lines) = do
-  more ← at_line line.number (said line)
-  said_behind (found ++ more) lines
+-- what a line of a run says, or its fault at its number
+abbrev pub said_at : CutLine → Result (List LineView) Fault
+said_at line = at_line line.number (said line)
 
--- the reading of a run
+-- The reading of a run: what its lines say in order, or the fault of the first faulty one. The limits of a run come before that.
 abbrev pub reading : List ℕ → Result (List LineView) Fault
 reading bytes = do
   _ ← at_line 0 (refuse_if (nat_lt MAX_RUN_BYTES (length bytes)) fault.RunLong)
   _ ← at_line 0 (refuse_if (nat_lt MAX_RUN_LINES (length (cut bytes))) fault.TooManyLines)
-  said_behind [] (cut bytes)
+  each said_at (cut bytes)

@@ -54,8 +54,7 @@ impl<'a> Model for CutLines<'a> {
 /// Cuts a run into lines.
 pub(crate) fn cut_lines(bytes: &[u8]) -> CutLines<'_>
     requires { length bytes.now ≤ MAX_RUN_BYTES }
-    ensures cut { result ≡ cut bytes.now }
-    ensures few { length result ≤ length bytes.now }
+    ensures { result ≡ cut bytes.now }
 {
     CutLines {
         number: 1,

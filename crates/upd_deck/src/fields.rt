@@ -1,4 +1,4 @@
-ghost use Rattle.std.specs.Prelude.{◌≡◌, ◌==◌, ℕ, List, [], Result, map, length, is_some, Some, IfSome};
+ghost use Rattle.std.specs.Prelude.{◌≡◌, ◌==◌, ℕ, List, Result, map, length, is_some, Some, IfSome};
 ghost use Rattle.std.specs.Str.{bytes_eq};
 ghost use Rattle.std.specs.List.{list_any};
 ghost use Rattle.upd_text.specs.declared.fault.FaultKind.{FaultKind};
@@ -62,7 +62,7 @@ impl FieldValue for IdentIn {
 }
 
 fn each_in<T: FieldValue>(alloc: Global, fields: &[&[u8]]) -> Result<Vec<T>, FaultKind>
-    ensures { Gives (λ found. found.items) result (each_in T.field_gives [] (map (λ x. x.now) fields.now)) }
+    ensures { Gives (λ found. found.items) result (each_in T.field_gives (map (λ x. x.now) fields.now)) }
 {
     let mut found = Vec::with_capacity(alloc, fields.len())?;
     for field in fields {

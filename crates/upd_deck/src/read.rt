@@ -1,10 +1,10 @@
-ghost use Rattle.std.specs.Prelude.{◌≡◌, ℕ, ◌≤◌, List, [], length, IfOk};
+ghost use Rattle.std.specs.Prelude.{◌≡◌, ℕ, ◌≤◌, List, length, IfOk};
 ghost use Rattle.std.specs.List.{AllByRecursion, list_all};
 ghost use Rattle.std.specs.Option.{option_to_list};
 ghost use Rattle.upd_text.specs.declared.limits.TheConstants.{MAX_RUN_BYTES, MAX_RUN_LINES};
-ghost use Rattle.upd_text.specs.Outcome.{Gives, GivesAt, at_line};
+ghost use Rattle.upd_text.specs.Outcome.{Gives, GivesAt, each};
 ghost use Rattle.upd_deck.specs.Order.{FollowFrom};
-ghost use Rattle.upd_deck.specs.Reading.{cut, is_allowed, reading, said, said_behind, text_of, trimmed};
+ghost use Rattle.upd_deck.specs.Reading.{cut, is_allowed, reading, said, said_at, text_of, trimmed};
 
 use crate::cut::{CutLine, cut_lines};
 use crate::fields::item_of;
@@ -21,20 +21,20 @@ pub fn read_run(alloc: Global, bytes: &[u8]) -> Result<Run<'_>, Fault>
     if bytes.len() > MAX_RUN_BYTES {
         return Err(FaultKind::RunLong.at_line(0));
     }
-    if cut_lines(bytes).count() > MAX_RUN_LINES {
+    let cut: Vec<CutLine<'_>> = cut_lines(bytes).collect(alloc)?;
+    if cut.len() > MAX_RUN_LINES {
         return Err(FaultKind::TooManyLines.at_line(0));
     }
-    let lines = read_lines(alloc, bytes)?;
+    let lines = read_lines(alloc, &cut)?;
     Ok(Run { lines })
 }
 
-fn read_lines(alloc: Global, bytes: &[u8]) -> Result<Vec<Line<'_>>, Fault>
-    requires { length bytes.now ≤ MAX_RUN_BYTES }
-    ensures lines { GivesAt (λ lines. lines.items) result (said_behind [] (cut bytes.now)) }
-    ensures few { IfOk result (λ lines. length lines.items ≤ length (cut bytes.now)) }
+fn read_lines<'a>(alloc: Global, cut: &[CutLine<'a>]) -> Result<Vec<Line<'a>>, Fault>
+    ensures lines { GivesAt (λ lines. lines.items) result (each said_at cut.now) }
+    ensures few { IfOk result (λ lines. length lines.items ≤ length cut.now) }
 {
     let mut lines = Vec::new(alloc);
-    for line in cut_lines(bytes) {
+    for line in cut {
         if let Some(line) = read_line(alloc, line)? {
             lines.push(line)?;
         }
@@ -42,33 +42,28 @@ fn read_lines(alloc: Global, bytes: &[u8]) -> Result<Vec<Line<'_>>, Fault>
     Ok(lines)
 }
 
-fn read_line(alloc: Global, line: CutLine<'_>) -> Result<Option<Line<'_>>, Fault>
-    ensures { GivesAt option_to_list result (at_line line.entry.number (said line.entry)) }
+fn read_line<'a>(alloc: Global, line: &CutLine<'a>) -> Result<Option<Line<'a>>, Fault>
+    ensures { GivesAt option_to_list result (said_at line.now) }
 {
     let number = line.number;
     said(alloc, line).map_err(|kind| kind.at_line(number))
 }
 
 // What a line says; nothing where it is a comment.
-fn said(alloc: Global, line: CutLine<'_>) -> Result<Option<Line<'_>>, FaultKind>
-    ensures { Gives option_to_list result (said line.entry) }
+fn said<'a>(alloc: Global, line: &CutLine<'a>) -> Result<Option<Line<'a>>, FaultKind>
+    ensures { Gives option_to_list result (said line.now) }
 {
-    let CutLine {
-        number,
-        start,
-        bytes,
-    } = line;
-    let text = text_of(bytes)?;
+    let text = text_of(line.bytes)?;
     if is_comment(text) {
         return Ok(None);
     }
     let item = item_of(alloc, text)?;
     let span = Span {
-        start,
-        end: start + text.len(),
+        start: line.start,
+        end: line.start + text.len(),
     };
     Ok(Some(Line {
-        number,
+        number: line.number,
         span,
         text,
         item,

@@ -1,8 +1,9 @@
-use Rattle.std.proofs.Common.{◌≡◌, [], map, drop}
-use Rattle.upd_deck.specs.Reading.{each_in}
+use Rattle.std.proofs.Common.{◌≡◌, map, drop}
+use Rattle.upd_text.proofs.EachLemmas.{each_behind}
+use Rattle.upd_deck.specs.Reading.{each_in, one_in}
 use Rattle.upd_deck.proofs.fields.each_in.Given as goal
 
 abbrev pub invariant-loop-field : goal.invariant-loop-field
 invariant-loop-field g l =
-    each_in g.T.FieldValue.field_gives l.found.items (map (λ x. x.now) (drop l.field-index l.fields))
-    ≡ each_in g.T.FieldValue.field_gives [] (map (λ x. x.now) l.fields)
+    each_behind (one_in g.T.FieldValue.field_gives) l.found.items (map (λ x. x.now) (drop l.field-index l.fields))
+    ≡ each_in g.T.FieldValue.field_gives (map (λ x. x.now) l.fields)

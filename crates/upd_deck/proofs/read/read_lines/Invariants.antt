@@ -1,7 +1,9 @@
-use Rattle.std.proofs.Common.{◌≡◌, ◌+◌, ◌≤◌, [], length}
-use Rattle.upd_deck.specs.Reading.{cut, said_behind}
+use Rattle.std.proofs.Common.{◌≡◌, ◌≤◌, length, drop}
+use Rattle.upd_text.proofs.EachLemmas.{each_behind}
+use Rattle.upd_text.specs.Outcome.{each}
+use Rattle.upd_deck.specs.Reading.{said_at}
 use Rattle.upd_deck.proofs.read.read_lines.Given as goal
 
 abbrev pub invariant-loop-line : goal.invariant-loop-line
 invariant-loop-line l =
-    (said_behind l.lines.items l.line-iterator ≡ said_behind [] (cut l.bytes)) × (length l.lines.items + length l.line-iterator ≤ length (cut l.bytes))
+    (each_behind said_at l.lines.items (drop l.line-index l.cut) ≡ each said_at l.cut) × (length l.lines.items ≤ l.line-index)
