@@ -9,3 +9,4 @@ pub mod Parts
 pub mod Gone
 pub mod Sound
 pub mod Actives
+pub mod Order

@@ -1,10 +1,15 @@
-ghost use Rattle.std.specs.Prelude.{◌≡◌};
+ghost use Rattle.std.specs.Prelude.{◌≡◌, ◌↔◌};
+ghost use Rattle.std.specs.Ordering.{is_eq};
+ghost use Rattle.std.specs.declared.cmp.Ordering.TheVariants.{Equal};
+ghost use Rattle.upd_core.specs.Order.{key_order, target_key, target_order};
+ghost use Rattle.upd_core.specs.Targets.{is_same};
+ghost use Rattle.upd_core.specs.declared.target.Target.{Target};
 ghost use Rattle.upd_core.specs.Status.{takes, takes_deck};
 
 use crate::ident::Serial;
 
 /// What a yank card takes out of use while it is live.
-#[derive(Clone, Copy, Debug, PartialEq, Eq, Hash)]
+#[derive(Clone, Copy, Debug, PartialEq, Eq, PartialOrd, Ord, Hash)]
 pub enum Target {
     /// All that a set did.
     Set(Serial),
@@ -36,3 +41,10 @@ impl Target {
         }
     }
 }
+
+/// Targets are ordered by their keys, and are equal by this order exactly where they are the same.
+pub fn targets_are_ordered_by_key()
+    ensures order { (s t : Target) → target_order s t ≡ key_order (target_key s) (target_key t) }
+    ensures equality { (s t : Target) → is_same s t ≡ is_eq (target_order s t) }
+    ensures exact { (s t : Target) → (target_order s t ≡ Equal) ↔ (s ≡ t) }
+{}

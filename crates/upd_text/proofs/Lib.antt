@@ -1,3 +1,4 @@
 pub mod CardRefLaws
 pub mod SplitLemmas
 pub mod EachLemmas
+pub mod OrderLemmas

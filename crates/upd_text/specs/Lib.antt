@@ -3,3 +3,4 @@ pub mod NameFields
 pub mod Lines
 pub mod Faults
 pub mod Outcome
+pub mod Order

@@ -1,0 +1,27 @@
+-- The order of targets.
+use Rattle.std.specs.Prelude.{ℕ}
+use Rattle.std.specs.Ordering.{nat_cmp, ordering_then}
+use Rattle.std.specs.declared.cmp.Ordering.{Ordering}
+use Rattle.upd_core.specs.contracts.target.TargetOrd.TheImpl as derived
+use Rattle.upd_core.specs.declared.target.Target.{Target}
+use Rattle.upd_core.specs.declared.target.Target.TheVariants.{Set, SetIn, Deck}
+
+-- What tells a target: its kind (0 a set, 1 a set in a deck, 2 a deck) and its ages, 0 for the second where there is one.
+pub record TargetKey : Type 0 where
+  pub kind : ℕ
+  pub age : ℕ
+  pub deck : ℕ
+
+-- the key of a target
+abbrev pub target_key : Target → TargetKey
+target_key (Set z) = record { kind = 0; age = z; deck = 0 }
+target_key (SetIn z d) = record { kind = 1; age = z; deck = d }
+target_key (Deck d) = record { kind = 2; age = d; deck = 0 }
+
+-- keys by kind, then by age, then by deck
+abbrev pub key_order : TargetKey → TargetKey → Ordering
+key_order a b = ordering_then (nat_cmp a.kind b.kind) (ordering_then (nat_cmp a.age b.age) (nat_cmp a.deck b.deck))
+
+-- the order of targets, as it is derived
+abbrev pub target_order : Target → Target → Ordering
+target_order = (derived.ghosts).cmp
