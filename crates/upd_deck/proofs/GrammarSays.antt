@@ -63,10 +63,10 @@ from_table (s ∷ ss) w word a (suc k, lt, e) =
     (any_in ss (λ t. bytes_eq s.text t.text) (spelled w word) rest (ap (λ v. bytes_eq s.text v) (same_text w s.text h) ∙ text_same s.text))) in
     rw not_here (from_table ss w word both.1 rest)
 
-means_read : (w : List ℕ) (word : Word) → Means w word → meaning w ≡ Some word
+pub means_read : (w : List ℕ) (word : Word) → Means w word → meaning w ≡ Some word
 means_read w word h = from_table spellings w word refl h
 
-means_back : (w : List ℕ) (word : Word) → meaning w ≡ Some word → Means w word
+pub means_back : (w : List ℕ) (word : Word) → meaning w ≡ Some word → Means w word
 means_back w word e = in_table spellings w word e
 
 ends_read : (rest : List ℕ) → EndsWord rest → Begins ends_word rest
@@ -77,10 +77,10 @@ ends_back : (rest : List ℕ) → Begins ends_word rest → EndsWord rest
 ends_back [] h = tt
 ends_back (b ∷ bs) h = ⊎_elim (λ e. inl (eqb-true b 32 e)) (λ e. inr (eqb-true b 44 e)) (or_cases (is_blank b) (is_comma b) h)
 
-word_read : (text w : List ℕ) → HasWord text w → (is_starred text ≡ true) × (word text ≡ w)
+pub word_read : (text w : List ℕ) → HasWord text w → (is_starred text ≡ true) × (word text ≡ w)
 word_read text v (Starred w rest ink ends) = (refl, up_to_end ends_word w rest (all_weaker IsInk (λ b. ends_word b ≡ false) ink_no_end w ink) (ends_read rest ends))
 
-word_back : (text : List ℕ) → is_starred text ≡ true → HasWord text (word text)
+pub word_back : (text : List ℕ) → is_starred text ≡ true → HasWord text (word text)
 word_back [] star = absurd (false≢true star)
 word_back (b ∷ bs) star =
     let ink = all_weaker (λ b. ends_word b ≡ false) IsInk no_end_ink (up_to ends_word bs) (up_to_all ends_word bs) in
@@ -89,7 +89,7 @@ word_back (b ∷ bs) star =
 
 -- ---- what a line says
 
-star_starred : (text w : List ℕ) (fs : List (List ℕ)) → IsStarLine text w fs → is_starred text ≡ true
+pub star_starred : (text w : List ℕ) (fs : List (List ℕ)) → IsStarLine text w fs → is_starred text ≡ true
 star_starred text v fs (Bare w lead ink l) = refl
 star_starred text v fs (Fields w lead rest gs ink l some more) = refl
 

@@ -8,3 +8,4 @@ pub mod GrammarSays
 pub mod GrammarLines
 pub mod GrammarRuns
 pub mod GrammarSpans
+pub mod CallLaws

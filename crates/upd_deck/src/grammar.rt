@@ -1,9 +1,12 @@
-ghost use Rattle.std.specs.Prelude.{◌≡◌, ◌↔◌, ℕ, ◌<◌, length, List, IsTrue, Ok};
+//! The grammar of a run, as laws: what is read is what is spelled.
+
+ghost use Rattle.std.specs.Prelude.{◌≡◌, ◌↔◌, ℕ, ◌<◌, length, List, IsTrue, Some, Ok};
 ghost use Rattle.std.specs.List.{AllByRecursion};
-ghost use Rattle.upd_text.specs.Lines.{fields, is_starred, word};
-ghost use Rattle.upd_deck.specs.Grammar.{IsStarLine, Reads, StandsIn};
-ghost use Rattle.upd_deck.specs.Items.{LineView};
-ghost use Rattle.upd_deck.specs.Reading.{reading};
+ghost use Rattle.upd_text.specs.Lines.{called, fields, is_call, is_starred, word};
+ghost use Rattle.upd_deck.specs.declared.word.Word.TheVariants as words;
+ghost use Rattle.upd_deck.specs.Grammar.{IsStarLine, Reads, Says, StandsIn};
+ghost use Rattle.upd_deck.specs.Items.{Call, ItemView, LineView};
+ghost use Rattle.upd_deck.specs.Reading.{meaning, reading};
 
 /// A line that is spelled so is read so, a line that is read without an empty field is spelled so, and hence a line has one reading.
 pub fn fields_are_as_spelled()
@@ -20,4 +23,11 @@ pub fn runs_are_as_spelled()
 /// Each line that is read stands in the run where its span says, at the line of its number.
 pub fn lines_stand_in_their_run()
     ensures { (bytes : List ℕ) (lines : List LineView) → reading bytes ≡ Ok lines → AllByRecursion (StandsIn bytes) lines }
+{}
+
+/// A line is read as a call exactly where the walk of a compile file takes it for one, and it is the name that was read which is called.
+pub fn calls_are_what_is_called()
+    ensures words { (text : List ℕ) → IsTrue (is_call text) ↔ (IsTrue (is_starred text) × (meaning (word text) ≡ Some words.Call)) }
+    ensures read { (text name : List ℕ) → Says text (Call name) → IsTrue (is_call text) × (called text ≡ name) }
+    ensures said { (text : List ℕ) (item : ItemView) → Says text item → IsTrue (is_call text) → item ≡ Call (called text) }
 {}
