@@ -1,0 +1,67 @@
+//! Replies and fault texts, as compact JSON.
+//!
+//! Texts in them are lines of runs, names, sites and modes: printable ASCII, tabs and LF. What else a text may hold is
+//! replaced as `String::from_utf8_lossy` does it, or escaped as JSON asks; no clause says more of such a text.
+#![tactic(auto)]
+
+mod values;
+
+ghost use Rattle.std.specs.Prelude.{◌≡◌, IfOk};
+ghost use Rattle.std.specs.List.{AllByRecursion};
+ghost use Rattle.upd_reply.specs.Texts.{AreShown, accepted_text, fault_text, refused_text, settled_text};
+
+use std::alloc::{AllocError, Global};
+use upd_text::{Fault, Name};
+
+/// The reply to an accepted run: the compile file with the number of its lines, and the names of the idents that the run
+/// introduced.
+pub fn accepted(
+    alloc: Global,
+    site: &str,
+    number: u64,
+    mode: &str,
+    idents: &[Name],
+    file: &[u8],
+    lines: u32,
+) -> Result<Vec<u8>, AllocError>
+    ensures { AreShown site.now → AreShown mode.now → AllByRecursion AreShown idents.now → AreShown file.now
+        → IfOk result (λ text. text.items ≡ accepted_text site.now number mode.now idents.now file.now lines) }
+{
+    let value = values::accepted(alloc, site, number, mode, idents, file, lines)?;
+    let text = value.to_vec(alloc)?;
+    Ok(text)
+}
+
+/// The reply to a refused run.
+pub fn refused(
+    alloc: Global,
+    site: &str,
+    number: u64,
+    mode: &str,
+    fault: Fault,
+) -> Result<Vec<u8>, AllocError>
+    ensures { AreShown site.now → AreShown mode.now
+        → IfOk result (λ text. text.items ≡ refused_text site.now number mode.now fault) }
+{
+    let value = values::refused(alloc, site, number, mode, fault)?;
+    let text = value.to_vec(alloc)?;
+    Ok(text)
+}
+
+/// What tells a fault where there is no reply.
+pub fn fault(alloc: Global, fault: Fault) -> Result<Vec<u8>, AllocError>
+    ensures { IfOk result (λ text. text.items ≡ fault_text fault) }
+{
+    let value = values::fault(alloc, fault)?;
+    let text = value.to_vec(alloc)?;
+    Ok(text)
+}
+
+/// The answer to a settlement: the site's mark afterwards.
+pub fn settled(alloc: Global, site: &str, mark: u64) -> Result<Vec<u8>, AllocError>
+    ensures { AreShown site.now → IfOk result (λ text. text.items ≡ settled_text site.now mark) }
+{
+    let value = values::settled(alloc, site, mark)?;
+    let text = value.to_vec(alloc)?;
+    Ok(text)
+}
