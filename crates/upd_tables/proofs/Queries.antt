@@ -1,0 +1,39 @@
+-- The answer of a plain query: the rows that pass, each shown, in some order.
+use Rattle.std.proofs.Common.{◌≡◌, ℕ, Bool, true, false, if◌then◌else◌, List, [], ◌∷◌, ◌++◌, map, filter, flat_map, refl, sym, ap, ◌∙◌, IsPermutation}
+use Rattle.std.specs.List.{list_all}
+use Rattle.std.proofs.lemmas.List.Sorted.{IsPermutation-trans, IsPermutation-map}
+use Rattle.sqlite_value.specs.declared.keys.Key.{Key}
+use Rattle.sqlite_value.specs.declared.value.Value.TheVariants.{Null}
+use Rattle.sqlite_value.specs.Order.{Row}
+use Rattle.sqlite_trees.specs.Tree.{Trees}
+use Rattle.sqlite_sql.specs.Term.{Term, eval_all, holds}
+use Rattle.sqlite_sql.specs.Query.{Output, IsAnswer, IsSureAnswer, output}
+use Rattle.sqlite_sql.specs.Program.{overlay}
+use Rattle.sqlite_keyed.proofs.ListLemmas.{map-map, IsPermutation-same}
+use Rattle.upd_tables.specs.Keyed.{plain_query}
+
+pick_as_filter : {A B : Type 0} (p : A → Bool) (f : A → B) (xs : List A) → flat_map (λ x. if p x then f x ∷ [] else []) xs ≡ map f (filter p xs)
+pick_as_filter p f [] = refl
+pick_as_filter p f (x ∷ xs) =
+    elim (p x) as (λ b. (if b then f x ∷ [] else []) ++ flat_map (λ y. if p y then f y ∷ [] else []) xs ≡ map f (if b then x ∷ filter p xs else filter p xs))
+    [ true ↦ ap (λ l. f x ∷ l) (pick_as_filter p f xs) | false ↦ pick_as_filter p f xs ]
+
+module _ (tree : ℕ) (tests project : List Term) (order : List (Term × Key)) (params : Row) (trees : Trees) (own : overlay trees [] tree ≡ trees tree) where
+  abbrev pub passes : Row → Bool
+  passes r = list_all (holds (params ∷ r ∷ [])) tests
+
+  abbrev pub shown : Row → Row
+  shown r = eval_all project (params ∷ r ∷ [])
+
+  abbrev put_out : Row → Output
+  put_out r = output (plain_query tree tests project order) (params ∷ r ∷ [])
+
+  pub any_order : (rows : List Row) → IsSureAnswer (plain_query tree tests project order) (overlay trees []) params rows → IsPermutation (map shown (filter passes (trees tree))) rows
+  any_order rows sure =
+      let a : IsAnswer (plain_query tree tests project order) (overlay trees []) params rows = sure Null in
+      let staged : a.staged ≡ map (λ r. params ∷ r ∷ []) (filter passes (trees tree)) =
+      a.grouped ∙ pick_as_filter passes (λ r. params ∷ r ∷ []) (overlay trees [] tree) ∙ ap (λ rs. map (λ r. params ∷ r ∷ []) (filter passes rs)) own in
+      let kept : a.kept ≡ map put_out (filter passes (trees tree)) = a.distinct ∙ ap (map (output (plain_query tree tests project order))) staged ∙ map-map _ _ _ in
+      let outs : IsPermutation (map (λ (o : Output). o.1) a.kept) (map (λ (o : Output). o.1) a.ordered) = IsPermutation-map _ a.kept a.ordered a.same in
+      let first : map shown (filter passes (trees tree)) ≡ map (λ (o : Output). o.1) a.kept = sym (map-map (λ (o : Output). o.1) put_out _) ∙ ap (map (λ (o : Output). o.1)) (sym kept) in
+      IsPermutation-trans _ _ _ (IsPermutation-same _ _ first) (IsPermutation-trans _ _ _ outs (IsPermutation-same _ _ (sym a.shown)))

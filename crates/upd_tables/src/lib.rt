@@ -1,0 +1,41 @@
+//! What statements do to tables that hold lists of rows, whatever the rows mean.
+//!
+//! Tables have a key of their own beside the rowid, and columns that are never NULL. The lemmas of `Shapes` say what an INSERT of one row, a DELETE
+//! or an UPDATE of the rows that pass a test, a SELECT of one table and a CREATE TABLE make of the lists: equations, with no rowid in them.
+#![tactic(auto)]
+
+ghost use Rattle.std.specs.Prelude.{◌≡◌, IfOk};
+ghost use Rattle.sqlite.specs.Held.{state};
+ghost use Rattle.sqlite.specs.State.{HasCleanDisk, Shown};
+ghost use Rattle.sqlite.specs.Values.{bound};
+ghost use Rattle.upd_tables.specs.Steps.{Ran, Steps};
+
+use sqlite::types::ValueRef;
+use sqlite::{Alter, Error, Row, Transaction};
+
+/// Runs a text that is one statement.
+pub fn run<S: Alter>(
+    tx: &mut Transaction<'_, S>,
+    sql: &str,
+    params: &[ValueRef<'_>],
+) -> Result<(), Error>
+    ensures same_reference { tx.new.conn.ghost_name ≡ tx.old.conn.ghost_name }
+    ensures ran { Ran sql.now (bound params.now) (state S.Store tx.old.conn.now) (state S.Store tx.new.conn.now) result }
+{
+    tx.execute(sql, params)?;
+    Ok(())
+}
+
+/// All rows of a query's answer.
+pub fn ask<S: Alter>(
+    tx: &mut Transaction<'_, S>,
+    sql: &str,
+    params: &[ValueRef<'_>],
+) -> Result<Vec<Row>, Error>
+    ensures same_reference { tx.new.conn.ghost_name ≡ tx.old.conn.ghost_name }
+    ensures steps { Steps (state S.Store tx.old.conn.now) (state S.Store tx.new.conn.now) result }
+    ensures shown { HasCleanDisk (state S.Store tx.new.conn.now)
+        → IfOk result (λ rows. Shown sql.now (bound params.now) (state S.Store tx.old.conn.now) (state S.Store tx.new.conn.now) rows.items) }
+{
+    tx.query_all(sql, params)
+}
