@@ -1,5 +1,5 @@
 -- Walks one after the other.
-use Rattle.std.proofs.Common.{◌≡◌, ℕ, zero, suc, sub-one, ◌+◌, ◌-◌, ◌<◌, true, false, ◌==◌, ◌&&◌, List, [], ◌∷◌, ◌++◌, map, drop, length, get_or, Bor, Some, Ok, Err, Result, refl, arith, ◌∙◌}
+use Rattle.std.proofs.Common.{◌≡◌, ℕ, zero, suc, sub-one, ◌+◌, ◌-◌, ◌<◌, true, false, ◌==◌, ◌&&◌, List, [], ◌∷◌, ◌++◌, map, drop, length, get_or, Bor, Some, None, Ok, Err, Result, refl, arith, ◌∙◌}
 use Rattle.std.specs.List.{flat_map}
 use Rattle.std.proofs.lemmas.List.{at_drop_more}
 use Rattle.upd_text.specs.declared.fault.FaultKind.{FaultKind}
@@ -8,7 +8,7 @@ use Rattle.upd_core.specs.Actives.{ActiveCardView, ActiveDeckView, ActivesView}
 use Rattle.upd_text.specs.Lines.{is_call, called}
 use Rattle.upd_text.specs.Outcome.{◌>>=◌}
 use Rattle.upd_compile.specs.Progress.{ProgressView, after_event, after_events}
-use Rattle.upd_compile.specs.Walk.{Event, Follow, common_named, call_events, card_events, walk}
+use Rattle.upd_compile.specs.Walk.{Event, Line, Follow, Unknown, common_named, card_events, walk}
 
 -- events after events
 pub after_events-append : (idents : List Ident) (es fs : List Event) (p : ProgressView) → after_events idents (es ++ fs) p ≡ after_events idents es p >>= after_events idents fs
@@ -17,19 +17,29 @@ after_events-append idents (e ∷ es) fs p =
     elim (after_event idents e p) as (λ r. (r >>= after_events idents (es ++ fs)) ≡ (r >>= after_events idents es) >>= after_events idents fs)
     [ Ok q ↦ after_events-append idents es fs q | Err fault ↦ refl ]
 
--- what a card gives that calls a deck
-pub call-followed : (deep : ℕ) (a : ActivesView) (c : ActiveCardView) (d : ActiveDeckView) (p q : ProgressView) → 0 < deep → is_call c.text ≡ true → common_named (called c.text) a ≡ Some d → after_event [] Follow p ≡ Ok q
-    → after_events a.idents (card_events (call_events deep a) c) p ≡ after_events a.idents (walk (deep - 1) a d) q
-call-followed zero a c d p q h call named counted = absurd (omega arith)
-call-followed (suc deep) a c d p q h call named counted = rw (call, named, counted, sub-one) refl
+-- what a card gives that is no call
+pub events-text : (deep : ℕ) (a : ActivesView) (c : ActiveCardView) → is_call c.text ≡ false → card_events deep a c ≡ Line c ∷ []
+events-text zero a c text = rw text refl
+events-text (suc deep) a c text = rw text refl
+
+-- what a call gives of what is no held common deck
+pub events-unknown : (deep : ℕ) (a : ActivesView) (c : ActiveCardView) → 0 < deep → is_call c.text ≡ true → common_named (called c.text) a ≡ None → card_events deep a c ≡ Unknown ∷ []
+events-unknown zero a c h call none = absurd (omega arith)
+events-unknown (suc deep) a c h call none = rw (call, none) refl
+
+-- what a call gives of a held common deck
+pub events-followed : (deep : ℕ) (a : ActivesView) (c : ActiveCardView) (d : ActiveDeckView) → 0 < deep → is_call c.text ≡ true → common_named (called c.text) a ≡ Some d
+    → card_events deep a c ≡ Follow ∷ walk (deep - 1) a d
+events-followed zero a c d h call named = absurd (omega arith)
+events-followed (suc deep) a c d h call named = rw (call, named, sub-one) refl
 
 -- what a deck gives from a card on that isn't its first
 pub walk-at_card : (deep : ℕ) (a : ActivesView) (d : ActiveDeckView) (i : ℕ) (c : ActiveCardView) (idents : List Ident) (p : ProgressView) → i < length d.cards → c ≡ get_or d.cards i c → (c.ident == d.ident) && (c.number == 1) ≡ false
     → after_events idents (walk deep a (record d { cards = drop i d.cards })) p
-    ≡ after_events idents (card_events (call_events deep a) c) p >>= after_events idents (walk deep a (record d { cards = drop (i + 1) d.cards }))
+    ≡ after_events idents (card_events deep a c) p >>= after_events idents (walk deep a (record d { cards = drop (i + 1) d.cards }))
 walk-at_card deep a d i c idents p h e first =
     let F : List ActiveCardView → Result ProgressView FaultKind = λ cards. after_events idents (walk deep a (record d { cards = cards })) p in
-    at_drop_more F d.cards i c h ∙ rw (← e, first) (after_events-append idents (card_events (call_events deep a) c) _ p)
+    at_drop_more F d.cards i c h ∙ rw (← e, first) (after_events-append idents (card_events deep a c) _ p)
 
 -- its first card gives nothing
 pub walk-at_first : (deep : ℕ) (a : ActivesView) (d : ActiveDeckView) (i : ℕ) (c : ActiveCardView) → i < length d.cards → c ≡ get_or d.cards i c → (c.ident == d.ident) && (c.number == 1) ≡ true

@@ -1,72 +1,113 @@
 -- A compile file that grows is what its walk is written as.
-use Rattle.std.proofs.Common.{◌≡◌, ℕ, zero, suc, sub-one, zero-add, ◌+◌, ◌-◌, ◌==◌, nat_lt, true, false, cond, List, [], ◌∷◌, ◌++◌, Option, Some, None, Ok, Err, Result, refl, sym, ap, subst, arith, append_assoc, count_by}
-use Rattle.std.specs.List.{flat_map}
-use Rattle.std.proofs.lemmas.Grind.{common_steps}
-use Rattle.std.proofs.lemmas.List.Sums.{sum_by-cons}
-use Rattle.std.proofs.lemmas.Bool.Decides.{nat_tests}
+use Rattle.std.proofs.Common.{◌≡◌, zero-add, add-zero, ◌+◌, nat_lt, Bool, true, false, cond, List, [], ◌∷◌, ◌++◌, length, take, Some, None, Ok, Err, Result, refl, sym, ap, ◌∙◌, subst, arith, append_assoc, append-nil, count_by}
+use Rattle.std.proofs.lemmas.List.{length-append}
+use Rattle.std.specs.List.{enumerate_from, filter_map, flat_map}
+use Rattle.std.proofs.Math.Seq.{take-append_seam}
+use Rattle.std.proofs.lemmas.List.Sums.{sum_by-append, sum_by-cons}
 use Rattle.upd_text.specs.declared.fault.FaultKind.{FaultKind}
+use Rattle.upd_text.specs.declared.fault.FaultKind.TheVariants.{CompileLong}
 use Rattle.upd_core.specs.declared.ident.Ident.{Ident}
 use Rattle.upd_text.specs.declared.limits.TheConstants.{MAX_COMPILE_LINES, MAX_CALLS}
 use Rattle.upd_core.specs.Actives.{ActiveCardView}
 use Rattle.upd_text.specs.Outcome.{◌>>=◌, at_line}
-use Rattle.upd_compile.specs.File.{FileView, card_line, event_line, first_fault, is_line, written}
+use Rattle.upd_compile.specs.File.{FileView, card_line, event_fault, event_line, is_follow, is_line, walk_faults, written}
 use Rattle.upd_compile.specs.Progress.{ProgressView, after_events, at_start, file_so_far}
 use Rattle.upd_compile.specs.Walk.{Event, Line, Follow, Depth, Unknown}
 
 -- what these events add, unless there is a fault
-abbrev pub Adds : List Ident → List Event → ProgressView → Option FaultKind → Type 0
-Adds idents events p (Some kind) = after_events idents events p ≡ Err kind
-Adds idents events p None =
+abbrev pub Adds : List Ident → List Event → ProgressView → List FaultKind → Type 0
+Adds idents events p (kind ∷ kinds) = after_events idents events p ≡ Err kind
+Adds idents events p [] =
     (after_events idents events p >>= (λ q. let r : Result FileView FaultKind = Ok (file_so_far q) in r))
     ≡ Ok (record { bytes = p.bytes ++ flat_map (event_line idents) events; lines = p.lines + count_by is_line events })
 
 -- a line more, and a call more
-Adds-line : (idents : List Ident) (card : ActiveCardView) (events : List Event) (p : ProgressView) (o : Option FaultKind) → nat_lt p.lines MAX_COMPILE_LINES ≡ true
-    → Adds idents events (record { bytes = p.bytes ++ card_line idents card; lines = p.lines + 1; calls = p.calls }) o → Adds idents (Line card ∷ events) p o
-Adds-line idents card events p (Some kind) h adds = rw h adds
-Adds-line idents card events p None h adds =
+Adds-line : (idents : List Ident) (card : ActiveCardView) (events : List Event) (p : ProgressView) (kinds : List FaultKind) → nat_lt p.lines MAX_COMPILE_LINES ≡ true
+    → Adds idents events (record { bytes = p.bytes ++ card_line idents card; lines = p.lines + 1; calls = p.calls }) kinds → Adds idents (Line card ∷ events) p kinds
+Adds-line idents card events p (kind ∷ kinds) h adds = rw h adds
+Adds-line idents card events p [] h adds =
     let lines : p.lines + count_by is_line (Line card ∷ events) ≡ (p.lines + 1) + count_by is_line events =
     rw (sum_by-cons (λ e. cond (is_line e) 1 0) (Line card) events) (omega arith) in
     rw (h, lines, ← append_assoc p.bytes (card_line idents card) (flat_map (event_line idents) events)) adds
 
-Adds-follow : (idents : List Ident) (events : List Event) (p : ProgressView) (o : Option FaultKind) → nat_lt p.calls MAX_CALLS ≡ true
-    → Adds idents events (record { bytes = p.bytes; lines = p.lines; calls = p.calls + 1 }) o → Adds idents (Follow ∷ events) p o
-Adds-follow idents events p (Some kind) h adds = rw h adds
-Adds-follow idents events p None h adds = rw h adds
+Adds-follow : (idents : List Ident) (events : List Event) (p : ProgressView) (kinds : List FaultKind) → nat_lt p.calls MAX_CALLS ≡ true
+    → Adds idents events (record { bytes = p.bytes; lines = p.lines; calls = p.calls + 1 }) kinds → Adds idents (Follow ∷ events) p kinds
+Adds-follow idents events p (kind ∷ kinds) h adds = rw h adds
+Adds-follow idents events p [] h adds = rw h adds
 
--- one line less, and one call less
-first_fault-line : (lines calls : ℕ) (card : ActiveCardView) (events : List Event) → first_fault (suc lines) calls (Line card ∷ events) ≡ first_fault lines calls events
-first_fault-line lines calls card events =
-    let some : (suc lines == 0) ≡ false = grind (arith, nat_tests) in
-    rw some (ap (λ n. first_fault n calls events) (sub-one (suc lines)))
+-- what stands in a file so far is what these events have added
+pub record IsAfter (before : List Event) (p : ProgressView) : Type 0 where
+  pub lines : count_by is_line before ≡ p.lines
+  pub calls : count_by is_follow before ≡ p.calls
 
-first_fault-follow : (lines calls : ℕ) (events : List Event) → first_fault lines (suc calls) (Follow ∷ events) ≡ first_fault lines calls events
-first_fault-follow lines calls events =
-    let some : (suc calls == 0) ≡ false = grind (arith, nat_tests) in
-    rw some (ap (λ n. first_fault lines n events) (sub-one (suc calls)))
+-- how many there are with one event more
+count-one : (test : Event → Bool) (before : List Event) (e : Event) → count_by test (before ++ e ∷ []) ≡ count_by test before + cond (test e) 1 0
+count-one test before e = sum_by-append (λ e. cond (test e) 1 0) before (e ∷ []) ∙ ap (λ n. count_by test before + n) (zero-add (cond (test e) 1 0))
 
-pub events-add : (idents : List Ident) (events : List Event) (p : ProgressView) (lines calls : ℕ) → lines ≡ MAX_COMPILE_LINES - p.lines → calls ≡ MAX_CALLS - p.calls → Adds idents events p (first_fault lines calls events)
-events-add idents [] p lines calls l c = grind (arith, common_steps)
-events-add idents (Line card ∷ events) p zero calls l c =
-    let full : nat_lt p.lines MAX_COMPILE_LINES ≡ false = grind (arith, nat_tests) in rw full refl
-events-add idents (Line card ∷ events) p (suc lines) calls l c =
-    let room : nat_lt p.lines MAX_COMPILE_LINES ≡ true = grind (arith, nat_tests) in
-    let q : ProgressView = record { bytes = p.bytes ++ card_line idents card; lines = p.lines + 1; calls = p.calls } in
-    subst (Adds idents (Line card ∷ events) p) (sym (first_fault-line lines calls card events)) (Adds-line idents card events p _ room (events-add idents events q lines calls (omega arith) c))
-events-add idents (Follow ∷ events) p lines zero l c =
-    let full : nat_lt p.calls MAX_CALLS ≡ false = grind (arith, nat_tests) in rw full refl
-events-add idents (Follow ∷ events) p lines (suc calls) l c =
-    let room : nat_lt p.calls MAX_CALLS ≡ true = grind (arith, nat_tests) in
-    let q : ProgressView = record { bytes = p.bytes; lines = p.lines; calls = p.calls + 1 } in
-    subst (Adds idents (Follow ∷ events) p) (sym (first_fault-follow lines calls events)) (Adds-follow idents events p _ room (events-add idents events q lines calls l (omega arith)))
-events-add idents (Depth ∷ events) p lines calls l c = refl
-events-add idents (Unknown ∷ events) p lines calls l c = refl
+-- the events before one, among all
+before-one : (all before events : List Event) → all ≡ before ++ events → take (length before) all ≡ before
+before-one all before events is = rw is (take-append_seam before events)
+
+-- one event further on
+further : (all before events : List Event) (e : Event) → all ≡ before ++ e ∷ events → all ≡ (before ++ e ∷ []) ++ events
+further all before events e is = is ∙ sym (append_assoc before (e ∷ []) events)
+
+abbrev pub faults_from : List Event → List Event → List Event → List FaultKind
+faults_from all before events = filter_map (λ e. event_fault (take e.0 all) e.1) (enumerate_from (length before) events)
+
+faults_from-more : (all before events : List Event) (e : Event) → all ≡ before ++ e ∷ events → event_fault before e ≡ None
+    → faults_from all before (e ∷ events) ≡ faults_from all (before ++ e ∷ []) events
+faults_from-more all before events e is none = rw (before-one all before (e ∷ events) is, none, length-append before (e ∷ [])) refl
+
+faults_from-fault : (all before events : List Event) (e : Event) (kind : FaultKind) → all ≡ before ++ e ∷ events → event_fault before e ≡ Some kind
+    → faults_from all before (e ∷ events) ≡ kind ∷ faults_from all (before ++ e ∷ []) events
+faults_from-fault all before events e kind is some = rw (before-one all before (e ∷ events) is, some, length-append before (e ∷ [])) refl
+
+-- with what the rest adds, once this line or call is counted
+add-line : (idents : List Ident) (all before events : List Event) (card : ActiveCardView) (p : ProgressView) → all ≡ before ++ Line card ∷ events → IsAfter before p
+    → ((q : ProgressView) → IsAfter (before ++ Line card ∷ []) q → Adds idents events q (faults_from all (before ++ Line card ∷ []) events))
+    → Adds idents (Line card ∷ events) p (faults_from all before (Line card ∷ events))
+add-line idents all before events card p is after rest = of (nat_lt p.lines MAX_COMPILE_LINES) refl
+  where
+    of : (room : Bool) → nat_lt p.lines MAX_COMPILE_LINES ≡ room → Adds idents (Line card ∷ events) p (faults_from all before (Line card ∷ events))
+    of true room =
+        subst (Adds idents (Line card ∷ events) p) (sym (faults_from-more all before events (Line card) is (rw (after.lines, room) refl)))
+        (Adds-line idents card events p _ room (rest (record { bytes = p.bytes ++ card_line idents card; lines = p.lines + 1; calls = p.calls }) (record {
+          lines = count-one is_line before (Line card) ∙ ap (λ n. n + 1) after.lines;
+          calls = count-one is_follow before (Line card) ∙ add-zero (count_by is_follow before) ∙ after.calls;
+        })))
+    of false full =
+        subst (Adds idents (Line card ∷ events) p) (sym (faults_from-fault all before events (Line card) CompileLong is (rw (after.lines, full) refl))) (rw full refl)
+
+add-follow : (idents : List Ident) (all before events : List Event) (p : ProgressView) → all ≡ before ++ Follow ∷ events → IsAfter before p
+    → ((q : ProgressView) → IsAfter (before ++ Follow ∷ []) q → Adds idents events q (faults_from all (before ++ Follow ∷ []) events))
+    → Adds idents (Follow ∷ events) p (faults_from all before (Follow ∷ events))
+add-follow idents all before events p is after rest = of (nat_lt p.calls MAX_CALLS) refl
+  where
+    of : (room : Bool) → nat_lt p.calls MAX_CALLS ≡ room → Adds idents (Follow ∷ events) p (faults_from all before (Follow ∷ events))
+    of true room =
+        subst (Adds idents (Follow ∷ events) p) (sym (faults_from-more all before events Follow is (rw (after.calls, room) refl)))
+        (Adds-follow idents events p _ room (rest (record { bytes = p.bytes; lines = p.lines; calls = p.calls + 1 }) (record {
+          lines = count-one is_line before Follow ∙ add-zero (count_by is_line before) ∙ after.lines;
+          calls = count-one is_follow before Follow ∙ ap (λ n. n + 1) after.calls;
+        })))
+    of false full =
+        subst (Adds idents (Follow ∷ events) p) (sym (faults_from-fault all before events Follow CompileLong is (rw (after.calls, full) refl))) (rw full refl)
+
+events-add : (idents : List Ident) (all before events : List Event) (p : ProgressView) → all ≡ before ++ events → IsAfter before p → Adds idents events p (faults_from all before events)
+events-add idents all before [] p is after = simp (append-nil, add-zero)
+events-add idents all before (Line card ∷ events) p is after =
+    add-line idents all before events card p is after (λ q. events-add idents all (before ++ Line card ∷ []) events q (further all before events (Line card) is))
+events-add idents all before (Follow ∷ events) p is after =
+    add-follow idents all before events p is after (λ q. events-add idents all (before ++ Follow ∷ []) events q (further all before events Follow is))
+events-add idents all before (Depth ∷ events) p is after = refl
+events-add idents all before (Unknown ∷ events) p is after = refl
 
 -- what is written at the end of a walk
 pub written-is : (idents : List Ident) (events : List Event) → written idents events ≡ at_line 0 (after_events idents events at_start >>= (λ q. let r : Result FileView FaultKind = Ok (file_so_far q) in r))
-written-is idents events = ends (first_fault MAX_COMPILE_LINES MAX_CALLS events) refl (events-add idents events at_start MAX_COMPILE_LINES MAX_CALLS refl refl)
+written-is idents events = ends (walk_faults events) refl (events-add idents events [] events at_start refl (record { lines = refl; calls = refl }))
   where
-    ends : (o : Option FaultKind) → first_fault MAX_COMPILE_LINES MAX_CALLS events ≡ o → Adds idents events at_start o
+    ends : (kinds : List FaultKind) → walk_faults events ≡ kinds → Adds idents events at_start kinds
         → written idents events ≡ at_line 0 (after_events idents events at_start >>= (λ q. let r : Result FileView FaultKind = Ok (file_so_far q) in r))
-    ends (Some kind) e adds = rw (e, adds) refl
-    ends None e adds = rw (e, adds, zero-add) refl
+    ends (kind ∷ kinds) e adds = rw (e, adds) refl
+    ends [] e adds = rw (e, adds, zero-add) refl

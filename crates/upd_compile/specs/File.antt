@@ -1,6 +1,6 @@
 -- The bytes of a compile file, or the first fault of its walk.
-use Rattle.std.specs.Prelude.{ℕ, ◌-◌, ◌==◌, if◌then◌else◌, List, [], ◌∷◌, ◌++◌, length, replicate, decimal, count_by, Bool, true, false, Option, Some, None, Result, Ok, Err}
-use Rattle.std.specs.List.{flat_map}
+use Rattle.std.specs.Prelude.{ℕ, ◌-◌, nat_lt, if◌then◌else◌, List, [], ◌∷◌, ◌++◌, length, take, replicate, decimal, count_by, Bool, true, false, Option, Some, None, Result, Ok, Err}
+use Rattle.std.specs.List.{enumerate_from, filter_map, flat_map}
 use Rattle.upd_text.specs.declared.fault.Fault.{Fault}
 use Rattle.upd_text.specs.declared.fault.FaultKind.{FaultKind}
 use Rattle.upd_text.specs.declared.fault.FaultKind.TheVariants.{CallUnknown, CallDepth, CompileLong}
@@ -47,21 +47,31 @@ is_line Follow = false
 is_line Depth = false
 is_line Unknown = false
 
--- the first of these in a walk: a call that isn't known, a call too deep, one line or call followed beyond so many
-abbrev pub first_fault : ℕ → ℕ → List Event → Option FaultKind
-first_fault lines calls [] = None
-first_fault lines calls (Line c ∷ events) = if lines == 0 then Some CompileLong else first_fault (lines - 1) calls events
-first_fault lines calls (Follow ∷ events) = if calls == 0 then Some CompileLong else first_fault lines (calls - 1) events
-first_fault lines calls (Depth ∷ events) = Some CallDepth
-first_fault lines calls (Unknown ∷ events) = Some CallUnknown
+-- whether an event is a call that is followed
+abbrev pub is_follow : Event → Bool
+is_follow (Line c) = false
+is_follow Follow = true
+is_follow Depth = false
+is_follow Unknown = false
 
--- what a walk is written as
+-- the fault of an event with these before it: an unknown call, a call too deep, a line or a followed call with the most of its kind before it
+abbrev pub event_fault : List Event → Event → Option FaultKind
+event_fault before (Line c) = if nat_lt (count_by is_line before) MAX_COMPILE_LINES then None else Some CompileLong
+event_fault before Follow = if nat_lt (count_by is_follow before) MAX_CALLS then None else Some CompileLong
+event_fault before Depth = Some CallDepth
+event_fault before Unknown = Some CallUnknown
+
+-- the faults of a walk in the order of its events
+abbrev pub walk_faults : List Event → List FaultKind
+walk_faults events = filter_map (λ e. event_fault (take e.0 events) e.1) (enumerate_from 0 events)
+
+-- what a walk is written as: its lines, or its first fault
 abbrev pub written : List Ident → List Event → Result FileView Fault
-written idents events = unless (first_fault MAX_COMPILE_LINES MAX_CALLS events)
+written idents events = unless (walk_faults events)
   where
-    unless : Option FaultKind → Result FileView Fault
-    unless (Some kind) = Err (record { kind = kind; at = 0 })
-    unless None = Ok (record { bytes = flat_map (event_line idents) events; lines = count_by is_line events })
+    unless : List FaultKind → Result FileView Fault
+    unless (kind ∷ kinds) = Err (record { kind = kind; at = 0 })
+    unless [] = Ok (record { bytes = flat_map (event_line idents) events; lines = count_by is_line events })
 
 -- the compile file of a mode: the walks through the chosen decks, one after the other
 abbrev pub file_of : Mode → List ℕ → ActivesView → ActivesView → Result FileView Fault

@@ -25,24 +25,16 @@ common_named name a = option_and_then (λ i. if is_common i.kind then deck_aged 
 abbrev pub text_cards : ActiveDeckView → List ActiveCardView
 text_cards d = filter (λ c. not ((c.ident == d.ident) && (c.number == 1))) d.cards
 
--- what a card gives, by what its call gives if it is one
-abbrev pub card_events : (List ℕ → List Event) → ActiveCardView → List Event
-card_events call c = if is_call c.text then call (called c.text) else Line c ∷ []
+-- a call that is followed gives what the text cards of its deck give
+abbrev pub followed : (ActiveCardView → List Event) → Option ActiveDeckView → List Event
+followed given None = Unknown ∷ []
+followed given (Some d) = Follow ∷ flat_map given (text_cards d)
 
--- what a deck gives, by what the calls in it give
-abbrev pub deck_events : (List ℕ → List Event) → ActiveDeckView → List Event
-deck_events call d = flat_map (card_events call) (text_cards d)
+-- what a card gives where calls are followed so many levels deep
+abbrev pub card_events : ℕ → ActivesView → ActiveCardView → List Event
+card_events zero a c = if is_call c.text then Depth ∷ [] else Line c ∷ []
+card_events (suc levels) a c = if is_call c.text then followed (card_events levels a) (common_named (called c.text) a) else Line c ∷ []
 
--- a call of a common deck stands for what that deck gives
-abbrev pub followed : (ActiveDeckView → List Event) → Option ActiveDeckView → List Event
-followed through None = Unknown ∷ []
-followed through (Some d) = Follow ∷ through d
-
--- what a call of a name gives where calls may go so deep
-abbrev pub call_events : ℕ → ActivesView → List ℕ → List Event
-call_events zero a name = Depth ∷ []
-call_events (suc deeper) a name = followed (deck_events (call_events deeper a)) (common_named name a)
-
--- the walk through a deck where calls may go so deep
+-- the walk through a deck: what its text cards give, one after the other
 abbrev pub walk : ℕ → ActivesView → ActiveDeckView → List Event
-walk deep a d = deck_events (call_events deep a) d
+walk levels a d = flat_map (card_events levels a) (text_cards d)

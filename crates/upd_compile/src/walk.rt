@@ -2,7 +2,7 @@ ghost use Rattle.std.specs.Prelude.{◌≡◌, ◌==◌, ◌&&◌, map};
 ghost use Rattle.std.specs.List.{flat_map};
 ghost use Rattle.upd_text.specs.Outcome.{Does};
 ghost use Rattle.upd_compile.specs.Progress.{after_events};
-ghost use Rattle.upd_compile.specs.Walk.{call_events, card_events, walk};
+ghost use Rattle.upd_compile.specs.Walk.{card_events, walk};
 
 use crate::indexed::Indexed;
 use crate::progress::Progress;
@@ -54,7 +54,7 @@ fn meet(
     progress: &mut Progress,
 ) -> Result<(), FaultKind>
     ensures { Does result progress.new
-        (after_events source.now.idents (card_events (call_events deep source.now) card.now) progress.old) }
+        (after_events source.now.idents (card_events deep source.now card.now) progress.old) }
 {
     if !is_call(card.text) {
         return progress.line(source.idents(), card);
