@@ -28,7 +28,7 @@ fn read_fault(error: &io::Error) -> Fault
 {
     match error.kind() {
         ErrorKind::OutOfMemory => Fault::from(AllocError),
-        _ => FaultKind::Read.at_line(0),
+        _ => FaultKind::Read.without_line(),
     }
 }
 
@@ -37,7 +37,7 @@ pub(crate) fn write_out<W: Write>(output: &mut W, bytes: &[u8]) -> Result<(), Fa
     ensures ok { OnOk result (Appends (W.contents output.old) (W.contents output.new) bytes.now) }
     ensures err { IfErr result (λ fault. fault ≡ write_failed) }
 {
-    write_through(output, bytes).map_err(|_| FaultKind::Write.at_line(0))
+    write_through(output, bytes).map_err(|_| FaultKind::Write.without_line())
 }
 
 /// Writes all bytes and flushes.

@@ -27,5 +27,5 @@ pub fn trial(alloc: Global, mode: Mode, run: &[u8]) -> Result<CompileFile, Fault
 pub(crate) fn read_mode(word: &str) -> Result<Mode, Fault>
     ensures { result ≡ at_line 0 (need BadMode (mode_named word.now)) }
 {
-    Mode::read(word).ok_or(FaultKind::BadMode.at_line(0))
+    Mode::read(word).ok_or(FaultKind::BadMode.without_line())
 }

@@ -70,6 +70,6 @@ fn written(alloc: Global, source: &Indexed, decks: &[&ActiveDeck]) -> Result<Com
     let mut progress = Progress::new(alloc);
     match walk_all(source, decks, MAX_DEPTH, &mut progress) {
         Ok(()) => Ok(progress.finish()),
-        Err(kind) => Err(kind.at_line(0)),
+        Err(kind) => Err(kind.without_line()),
     }
 }

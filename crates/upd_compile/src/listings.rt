@@ -23,7 +23,7 @@ use upd_text::{CardRef, Fault, FaultKind, Name};
 pub fn list_deck(alloc: Global, library: &Library, name: &Name) -> Result<Vec<u8>, Fault>
     ensures { GivesAt (λ text. text.items) result (deck_listing name.now library.now) }
 {
-    let deck = listed_deck(library, name).ok_or(FaultKind::DeckUnknown.at_line(0))?;
+    let deck = listed_deck(library, name).ok_or(FaultKind::DeckUnknown.without_line())?;
     deck_text(alloc, library, deck, library.cards_of(deck))
 }
 
@@ -31,7 +31,7 @@ pub fn list_deck(alloc: Global, library: &Library, name: &Name) -> Result<Vec<u8
 pub fn list_card(alloc: Global, library: &Library, card: CardRef) -> Result<Vec<u8>, Fault>
     ensures { GivesAt (λ text. text.items) result (card_listing card library.now) }
 {
-    let unknown = FaultKind::CardUnknown.at_line(0);
+    let unknown = FaultKind::CardUnknown.without_line();
     let place = library.card_at(card).ok_or(unknown)?;
     let card = library.card(place).ok_or(unknown)?;
     card_text(alloc, library, place.deck, card)

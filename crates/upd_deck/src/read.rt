@@ -19,11 +19,11 @@ pub fn read_run(alloc: Global, bytes: &[u8]) -> Result<Run<'_>, Fault>
     ensures reading { GivesAt (λ run. run) result (reading bytes.now) }
 {
     if bytes.len() > MAX_RUN_BYTES {
-        return Err(FaultKind::RunLong.at_line(0));
+        return Err(FaultKind::RunLong.without_line());
     }
     let cut: Vec<CutLine<'_>> = cut_lines(bytes).collect(alloc)?;
     if cut.len() > MAX_RUN_LINES {
-        return Err(FaultKind::TooManyLines.at_line(0));
+        return Err(FaultKind::TooManyLines.without_line());
     }
     let lines = read_lines(alloc, &cut)?;
     Ok(Run { lines })

@@ -8,38 +8,71 @@ use thiserror::Error;
 /// Why a call was refused.
 #[derive(Clone, Copy, Debug, PartialEq, Eq)]
 pub enum FaultKind {
+    /// The run has more than 65,536 bytes.
     RunLong = 1,
+    /// The run has more than 2,000 lines.
     TooManyLines,
+    /// A byte that no line may have: other than 0x20 to 0x7E and the tab.
     BadByte,
+    /// A line of more than 80 bytes without its trailing blanks.
     LineLong,
+    /// A field that is no name, pair or range of names.
     BadName,
+    /// A field that is no card reference.
     BadCard,
+    /// A wrong number of fields, an empty field, a second field of `*COMDECK` other than `NOPROP`.
     BadField,
+    /// A correction or yank with no set in hand.
     NoIdent,
+    /// Text with no place to go.
     TextNowhere,
+    /// A new ident whose name a held ident has.
     NameTaken,
+    /// No held ident of that name.
     IdentUnknown,
+    /// No held deck of that name.
     DeckUnknown,
+    /// No such card in the library.
     CardUnknown,
+    /// A range that runs backwards, or over two decks.
     RangeOrder,
+    /// A deck's first card or own ident where it may not be named.
     DeckCard,
+    /// Text that would go into `YANK$$$`.
     YankText,
+    /// A yank of an ident that isn't older than its set.
     YankSelf,
+    /// `YANK$$$` as a name where it may not stand.
     Reserved,
+    /// A limit of the library would be passed.
     Full,
+    /// A call of what is no held common deck.
     CallUnknown,
+    /// A call at depth 9.
     CallDepth,
+    /// A compile file of more than 10,000 lines, or one that follows more than 10,000 calls.
     CompileLong,
+    /// The site isn't 1 to 8 of `A-Z` and `0-9`.
     BadSite,
+    /// The number isn't 1 to 999,999,999.
     BadNumber,
+    /// The mode isn't `full`, `quick` or `normal`.
     BadMode,
+    /// A run of a known number with another mode or other bytes.
     RunChanged,
+    /// A run whose number is at or below the site's settled mark.
     Settled,
+    /// Want of memory; the call can be made again.
     NoMemory,
+    /// The store failed, or the file is no library of the present schema.
     Store,
+    /// A malformed frame or request, no route, or a method that the route doesn't have.
     BadFrame,
+    /// The input ended inside a frame or request.
     CutFrame,
+    /// The reader, an accept or a bind failed.
     Read,
+    /// The writer failed or took nothing.
     Write,
 }
 
@@ -51,6 +84,7 @@ impl FaultKind {
         self as u32
     }
 
+    /// The word by which replies name it.
     pub fn name(self) -> &'static str
         ensures { result.now ≡ fault_name self }
     {
@@ -91,7 +125,7 @@ impl FaultKind {
         }
     }
 
-    /// The refusal at a line of a run. Want of memory has no line.
+    /// The refusal at a line of a run, counted from 1. Want of memory has no line.
     pub fn at_line(self, number: u32) -> Fault
         ensures { result ≡ fault_at self number }
     {
@@ -99,6 +133,13 @@ impl FaultKind {
             FaultKind::NoMemory => Fault::from(AllocError),
             kind => Fault { kind, at: number },
         }
+    }
+
+    /// The refusal where no line is to blame: it is at 0.
+    pub fn without_line(self) -> Fault
+        ensures { result ≡ fault_at self 0 }
+    {
+        self.at_line(0)
     }
 }
 

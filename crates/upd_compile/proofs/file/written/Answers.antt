@@ -20,5 +20,5 @@ pub returns-in-Err : goal.returns-in-Err
 returns-in-Err c =
     let a = c.args.source.now in
     let events : List Event = flat_map (walk MAX_DEPTH a) (map (λ d. d.now) c.args.decks.now) in
-    let P : Result FileView Fault → Type 0 = FailsAt c.at_line.result in
+    let P : Result FileView Fault → Type 0 = FailsAt c.without_line.result in
     subst P (sym (written-is a.idents events)) (search rules)
