@@ -46,7 +46,7 @@ trimmed_is text n inked =
     rw long (take-append_seam text (blanks n))
 
 -- each line is a text and blanks
-ends_nil : EndsInked []
+pub ends_nil : EndsInked []
 ends_nil [] e = cc
 ends_nil (x ∷ xs) e = cc
 
@@ -58,7 +58,7 @@ ends_more : (b c : ℕ) (cs : List ℕ) → EndsInked (c ∷ cs) → EndsInked (
 ends_more b c cs h [] e = cc
 ends_more b c cs h (x ∷ xs) e = h xs cc
 
-abbrev EndSplit : List ℕ → Type 0
+abbrev pub EndSplit : List ℕ → Type 0
 EndSplit line = (text : List ℕ) × (n : ℕ) × (line ≡ text ++ blanks n) × EndsInked text
 
 end_first : (b : ℕ) (bs : List ℕ) (t : Bool) → is_blank b ≡ t → EndSplit bs → EndSplit (b ∷ bs)
@@ -66,27 +66,27 @@ end_first b bs true h ([], n, e, inked) = ([], suc n, cc (eqb-true b 32 h, e), e
 end_first b bs false h ([], n, e, inked) = (b ∷ [], n, ap (λ l. b ∷ l) e, ends_one b h)
 end_first b bs t h (c ∷ cs, n, e, inked) = (b ∷ c ∷ cs, n, ap (λ l. b ∷ l) e, ends_more b c cs inked)
 
-end_split : (line : List ℕ) → EndSplit line
+pub end_split : (line : List ℕ) → EndSplit line
 end_split [] = ([], 0, refl, ends_nil)
 end_split (b ∷ bs) = end_first b bs (is_blank b) refl (end_split bs)
 
 -- ---- the text of a line
 
-allowed_read : (b : ℕ) → IsAllowed b → is_allowed b ≡ true
+pub allowed_read : (b : ℕ) → IsAllowed b → is_allowed b ≡ true
 allowed_read b h = ⊎_elim (λ r. or_left _ (eqb b 9) (and_from _ _ (le-leb 32 b r.0) (le-leb b 126 r.1))) (λ e. or_right _ (eqb b 9) (eq-eqb b 9 e)) h
 
-allowed_back : (b : ℕ) → is_allowed b ≡ true → IsAllowed b
+pub allowed_back : (b : ℕ) → is_allowed b ≡ true → IsAllowed b
 allowed_back b h =
     ⊎_elim (λ r. let both = and_parts (leb 32 b) (leb b 126) r in inl (leb-true 32 b both.0, leb-true b 126 both.1)) (λ e. inr (eqb-true b 9 e)) (or_cases (leb 32 b && leb b 126) (eqb b 9) h)
 
-allowed_blanks : (n : ℕ) → AllByRecursion (λ b. is_allowed b ≡ true) (blanks n)
+pub allowed_blanks : (n : ℕ) → AllByRecursion (λ b. is_allowed b ≡ true) (blanks n)
 allowed_blanks zero = tt
 allowed_blanks (suc n) = (refl, allowed_blanks n)
 
 long_or_text : List ℕ → Result (List ℕ) FaultKind
 long_or_text line = refuse_if (ltb MAX_LINE_BYTES (length (trimmed line))) fault.LineLong >>= (λ _. Ok (trimmed line))
 
-text_read : (text line : List ℕ) → IsTextOf text line → text_of line ≡ Ok text
+pub text_read : (text line : List ℕ) → IsTextOf text line → text_of line ≡ Ok text
 unfolding long_or_text
 text_read text line (Trimmed _ n allowed short inked) =
     let all : list_all is_allowed (text ++ blanks n) ≡ true = all_to is_allowed (text ++ blanks n) (all_append (λ b. is_allowed b ≡ true) text (blanks n) (all_weaker IsAllowed (λ b. is_allowed b ≡ true) allowed_read text allowed) (allowed_blanks n)) in
@@ -95,11 +95,11 @@ text_read text line (Trimmed _ n allowed short inked) =
     ∙ refuse_read (ltb MAX_LINE_BYTES (length (trimmed (text ++ blanks n)))) fault.LineLong (λ _. done (trimmed (text ++ blanks n))) (ap (λ l. ltb MAX_LINE_BYTES (length l)) same ∙ le-ltb MAX_LINE_BYTES (length text) short)
     ∙ ap Ok same
 
-all_front : (P : ℕ → Type 0) (xs ys : List ℕ) → AllByRecursion P (xs ++ ys) → AllByRecursion P xs
+pub all_front : (P : ℕ → Type 0) (xs ys : List ℕ) → AllByRecursion P (xs ++ ys) → AllByRecursion P xs
 all_front P [] ys h = tt
 all_front P (x ∷ xs) ys h = (h.0, all_front P xs ys h.1)
 
-text_back : (line text : List ℕ) → text_of line ≡ Ok text → IsTextOf text line
+pub text_back : (line text : List ℕ) → text_of line ≡ Ok text → IsTextOf text line
 unfolding long_or_text
 text_back line text e =
     let allowed = refuse_back (not (list_all is_allowed line)) fault.BadByte (λ _. long_or_text line) text e in
@@ -113,10 +113,10 @@ text_back line text e =
 
 -- ---- comments
 
-comment_read : (text : List ℕ) → IsComment text → is_comment text ≡ true
+pub comment_read : (text : List ℕ) → IsComment text → is_comment text ≡ true
 comment_read text (Slashed rest) = refl
 
-comment_back : (text : List ℕ) → is_comment text ≡ true → IsComment text
+pub comment_back : (text : List ℕ) → is_comment text ≡ true → IsComment text
 comment_back [] e = absurd (false≢true e)
 comment_back (b ∷ []) e = absurd (false≢true (sym (and_right (eqb b 42) false refl) ∙ e))
 comment_back (b ∷ c ∷ cs) e =

@@ -191,14 +191,14 @@ lines_back number start piece (next ∷ pieces) lines few e =
 
 -- ---- the limits of a run
 
-gate_read : {B : Type 0} (bad : Bool) (kind : FaultKind) (next : Bool → Result B Fault) → bad ≡ false → (at_line 0 (refuse_if bad kind) >>= next) ≡ next false
+pub gate_read : {B : Type 0} (bad : Bool) (kind : FaultKind) (next : Bool → Result B Fault) → bad ≡ false → (at_line 0 (refuse_if bad kind) >>= next) ≡ next false
 gate_read bad kind next e = ap (λ b. at_line 0 (refuse_if b kind) >>= next) e
 
 gate_back : {B : Type 0} (bad : Bool) (kind : FaultKind) (next : Bool → Result B Fault) (y : B) → (at_line 0 (refuse_if bad kind) >>= next) ≡ Ok y → (bad ≡ false) × (next false ≡ Ok y)
 gate_back true kind next y e = absurd cc
 gate_back false kind next y e = (refl, e)
 
-abbrev counted : List ℕ → Result (List LineView) Fault
+abbrev pub counted : List ℕ → Result (List LineView) Fault
 counted bytes = at_line 0 (refuse_if (ltb MAX_RUN_LINES (length (cut bytes))) fault.TooManyLines) >>= (λ _. each said_at (cut bytes))
 
 run_read : (bytes : List ℕ) (lines : List LineView) → Reads bytes lines → reading bytes ≡ Ok lines

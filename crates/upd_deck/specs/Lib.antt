@@ -3,3 +3,4 @@ pub mod Items
 pub mod LineFields
 pub mod Reading
 pub mod Order
+pub mod Refusals

@@ -1,18 +1,24 @@
 //! The grammar of a run, as laws: what is read is what is spelled.
 
-ghost use Rattle.std.specs.Prelude.{◌≡◌, ◌↔◌, ℕ, ◌<◌, length, List, IsTrue, Some, Ok};
+ghost use Rattle.std.specs.Prelude.{◌≡◌, ◌↔◌, ℕ, ◌<◌, length, List, IsTrue, Some, Ok, Err};
 ghost use Rattle.std.specs.List.{AllByRecursion};
+ghost use Rattle.upd_text.specs.declared.fault.Fault.{Fault};
 ghost use Rattle.upd_text.specs.Lines.{called, fields, is_call, is_starred, word};
 ghost use Rattle.upd_deck.specs.declared.word.Word.TheVariants as words;
 ghost use Rattle.upd_deck.specs.Grammar.{IsStarLine, Reads, Says, StandsIn};
 ghost use Rattle.upd_deck.specs.Items.{Call, ItemView, LineView};
 ghost use Rattle.upd_deck.specs.Reading.{meaning, reading};
+ghost use Rattle.upd_deck.specs.Refusals.{RunFails};
 
-/// A line that is spelled so is read so, a line that is read without an empty field is spelled so, and hence a line has one reading.
+/// A line that is spelled so is read so, a line that is read without an empty field is spelled so, and hence a line has
+/// one reading.
 pub fn fields_are_as_spelled()
-    ensures read { (line w : List ℕ) (fs : List (List ℕ)) → IsStarLine line w fs → (word line ≡ w) × (fields line ≡ fs) }
-    ensures spelled { (line : List ℕ) → IsTrue (is_starred line) → AllByRecursion (λ f. 0 < length f) (fields line) → IsStarLine line (word line) (fields line) }
-    ensures once { (line v w : List ℕ) (es fs : List (List ℕ)) → IsStarLine line v es → IsStarLine line w fs → (v ≡ w) × (es ≡ fs) }
+    ensures read { (line w : List ℕ) (fs : List (List ℕ)) → IsStarLine line w fs
+        → (word line ≡ w) × (fields line ≡ fs) }
+    ensures spelled { (line : List ℕ) → IsTrue (is_starred line) → AllByRecursion (λ f. 0 < length f) (fields line)
+        → IsStarLine line (word line) (fields line) }
+    ensures once { (line v w : List ℕ) (es fs : List (List ℕ)) → IsStarLine line v es → IsStarLine line w fs
+        → (v ≡ w) × (es ≡ fs) }
 {}
 
 /// A run reads as lines exactly where its bytes are spelled so.
@@ -20,14 +26,25 @@ pub fn runs_are_as_spelled()
     ensures { (bytes : List ℕ) (lines : List LineView) → Reads bytes lines ↔ (reading bytes ≡ Ok lines) }
 {}
 
-/// Each line that is read stands in the run where its span says, at the line of its number.
-pub fn lines_stand_in_their_run()
-    ensures { (bytes : List ℕ) (lines : List LineView) → reading bytes ≡ Ok lines → AllByRecursion (StandsIn bytes) lines }
+/// A run is refused exactly for the first of what is wrong with it: its limits, then its first faulty line; in a line
+/// its bytes, its length, its fields as a whole, and then the leftmost field that isn't what the word wants.
+pub fn runs_are_refused_in_order()
+    ensures { (bytes : List ℕ) (fault : Fault) → RunFails bytes fault ↔ (reading bytes ≡ Err fault) }
 {}
 
-/// A line is read as a call exactly where the walk of a compile file takes it for one, and it is the name that was read which is called.
+/// Each line that is read stands in the run where its span says, at the line of its number.
+pub fn lines_stand_in_their_run()
+    ensures { (bytes : List ℕ) (lines : List LineView) → reading bytes ≡ Ok lines
+        → AllByRecursion (StandsIn bytes) lines }
+{}
+
+/// A line is read as a call exactly where the walk of a compile file takes it for one, and the name that was read is the
+/// one that is called.
 pub fn calls_are_what_is_called()
-    ensures words { (text : List ℕ) → IsTrue (is_call text) ↔ (IsTrue (is_starred text) × (meaning (word text) ≡ Some words.Call)) }
-    ensures read { (text name : List ℕ) → Says text (Call name) → IsTrue (is_call text) × (called text ≡ name) }
-    ensures said { (text : List ℕ) (item : ItemView) → Says text item → IsTrue (is_call text) → item ≡ Call (called text) }
+    ensures words { (text : List ℕ)
+        → IsTrue (is_call text) ↔ (IsTrue (is_starred text) × (meaning (word text) ≡ Some words.Call)) }
+    ensures read { (text name : List ℕ) → Says text (Call name)
+        → IsTrue (is_call text) × (called text ≡ name) }
+    ensures said { (text : List ℕ) (item : ItemView) → Says text item → IsTrue (is_call text)
+        → item ≡ Call (called text) }
 {}
