@@ -7,3 +7,5 @@ pub mod CountLaws
 pub mod ApartLemmas
 pub mod FoundLemmas
 pub mod LiveLemmas
+pub mod FlatLemmas
+pub mod CountedLemmas

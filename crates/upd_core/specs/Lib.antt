@@ -2,6 +2,9 @@ pub mod First
 pub mod Library
 pub mod Status
 pub mod Targets
+pub mod TargetCounts
+pub mod Reach
+pub mod Counted
 pub mod Limits
 pub mod Counts
 pub mod Edits

@@ -5,6 +5,7 @@
 
 pub mod actives;
 pub mod card;
+pub mod counted;
 mod counts;
 pub mod deck;
 pub mod edits;
@@ -14,15 +15,20 @@ pub mod library;
 mod limits;
 pub mod live;
 pub mod sound_laws;
+pub mod states;
 pub mod status_laws;
 pub mod target;
+pub mod target_counts;
 mod targets;
 
 pub use actives::{ActiveCard, ActiveDeck, Actives};
 pub use card::{Card, Entry};
+pub use counted::{Counted, CountedCard};
 pub use deck::Deck;
 pub use ident::{Ident, Kind, Serial};
 pub use library::{Library, Place, Rest};
 pub use live::Live;
+pub use states::States;
 pub use target::Target;
+pub use target_counts::TargetCounts;
 pub use upd_text::{CardRef, Fault, FaultKind, Name};

@@ -1,0 +1,42 @@
+-- A library whose histories are counted as they are read.
+use Rattle.std.specs.Prelude.{ℕ, ◌+◌, ◌-◌, ◌^◌, min, List, ◌++◌, map, Option}
+use Rattle.std.specs.Option.{option_and_then}
+use Rattle.std.specs.List.{flat_map}
+use Rattle.upd_core.specs.declared.ident.Ident.{Ident}
+use Rattle.upd_text.specs.declared.card_ref.CardRef.{CardRef}
+use Rattle.upd_core.specs.Library.{CardView, LibraryView, place_of, card_in, ref_of}
+
+-- A library, and how many histories of it have been read.
+pub record CountedView : Type 0 where
+  pub library : LibraryView
+  pub reads : ℕ
+
+-- A card with its reference and the age of its deck.
+pub record CountedCardView : Type 0 where
+  pub card : CardRef
+  pub deck : ℕ
+  pub view : CardView
+
+-- one read more, up to the last value
+abbrev pub one_more : CountedView → CountedView
+one_more c = record c { reads = min (c.reads + 1) (2 ^ 64 - 1) }
+
+-- a card of deck d
+abbrev pub counted_card : List Ident → ℕ → CardView → CountedCardView
+counted_card idents d c = record { card = ref_of idents c; deck = d; view = c }
+
+-- the cards of `YANK$$$`
+abbrev pub yanks_of : LibraryView → List CountedCardView
+yanks_of l = map (counted_card l.idents 0) l.yanks
+
+-- the cards of the other decks, by deck and place
+abbrev pub others_of : LibraryView → List CountedCardView
+others_of l = flat_map (λ d. map (counted_card l.idents d.ident) d.cards) l.decks
+
+-- all cards, by deck (`YANK$$$` first) and place
+abbrev pub counted_cards : LibraryView → List CountedCardView
+counted_cards l = yanks_of l ++ others_of l
+
+-- the card that a reference names
+abbrev pub card_named : CardRef → LibraryView → Option CardView
+card_named card l = option_and_then (λ p. card_in p l) (place_of card l)

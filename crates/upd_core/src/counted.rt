@@ -1,0 +1,289 @@
+//! A library whose histories are counted as they are read: what tells how many cards have been looked at.
+
+ghost use Rattle.std.specs.Prelude.{◌≡◌, ◌++◌, map, is_some, if◌then◌else◌, IfOk, OnOk};
+ghost use Rattle.std.specs.List.{list_any, filter, flat_map};
+ghost use Rattle.std.specs.Option.{option_map, option_and_then};
+ghost use Rattle.std.specs.Result.{IsOkUnless};
+ghost use Rattle.upd_text.specs.Faults.{fault_at};
+ghost use Rattle.upd_text.specs.declared.fault.FaultKind.TheVariants.{NoMemory};
+ghost use Rattle.upd_core.specs.Counted.{one_more, counted_card, yanks_of, others_of, card_named};
+ghost use Rattle.upd_core.specs.Library.{ident_of, place_of, ref_of};
+ghost use Rattle.upd_core.specs.Reach.{has_entry_of, covers, covered, is_retaken, is_reached};
+ghost use Rattle.upd_core.specs.TargetCounts.{count_in};
+
+use crate::card::{Card, Entry};
+use crate::deck::Deck;
+use crate::ident::{Ident, Serial, name_at};
+use crate::library::{Library, Place};
+use crate::target::Target;
+use crate::target_counts::TargetCounts;
+use std::alloc::{AllocError, Global};
+use std::marker::Model;
+use upd_text::{CardRef, Fault, Name};
+
+/// A library that hands out histories one by one and counts them.
+#[derive(Drop)]
+pub struct Counted<'a> {
+    library: &'a Library,
+    reads: u64,
+}
+
+impl<'a> Model for Counted<'a> {
+    ghost use Rattle.upd_core.specs.Counted.{CountedView};
+
+    ghost Value = { CountedView };
+
+    ghost view = { λ c. record { library = c.library.now; reads = c.reads } };
+}
+
+/// A card of a counted library: its reference, its deck and its targets are known, its history is read through the `Counted`.
+#[derive(Drop)]
+pub struct CountedCard<'a> {
+    reference: CardRef,
+    deck: Serial,
+    card: &'a Card,
+}
+
+impl<'a> Model for CountedCard<'a> {
+    ghost use Rattle.upd_core.specs.Counted.{CountedCardView};
+
+    ghost Value = { CountedCardView };
+
+    ghost view = { λ c. record { card = c.reference; deck = c.deck; view = c.card.now } };
+}
+
+impl<'a> CountedCard<'a> {
+    pub fn reference(&self) -> CardRef
+        ensures { result ≡ self.now.card }
+    {
+        self.reference
+    }
+
+    /// The age of its deck, 0 for `YANK$$$`.
+    pub fn deck(&self) -> Serial
+        ensures { result ≡ self.now.deck }
+    {
+        self.deck
+    }
+
+    /// What it takes out of use, if it is a yank card.
+    pub fn targets(&self) -> &'a [Target]
+        ensures { result.now ≡ self.now.view.targets }
+    {
+        let card = self.card;
+        &card.targets
+    }
+
+    /// Whether a target covers it whose count is 0 before or now, and not both. It looks at the idents of its entries alone.
+    pub fn is_reached(&self, before: &TargetCounts, now: &TargetCounts) -> bool
+        ensures { result ≡ is_reached (count_in before.now) (count_in now.now) self.now.deck self.now.view }
+    {
+        let card = self.card;
+        has_retaken(before, now, self.deck, &card.history)
+            || TargetCounts::is_flipped(before, now, Target::Deck(self.deck))
+    }
+}
+
+fn has_retaken(before: &TargetCounts, now: &TargetCounts, deck: Serial, history: &[Entry]) -> bool
+    ensures { result ≡ list_any (is_retaken (count_in before.now) (count_in now.now) deck) history.now }
+{
+    for entry in history {
+        if TargetCounts::is_flipped(before, now, Target::Set(entry.ident))
+            || TargetCounts::is_flipped(before, now, Target::SetIn(entry.ident, deck))
+        {
+            return true;
+        }
+    }
+    false
+}
+
+impl<'a> Counted<'a> {
+    /// A library of which no history has been read.
+    pub fn new(library: &'a Library) -> Counted<'a>
+        ensures { result ≡ record { library = library.now; reads = 0 } }
+    {
+        Counted { library, reads: 0 }
+    }
+
+    /// How many histories have been read, up to the last value.
+    pub fn reads(&self) -> u64
+        ensures { result ≡ self.now.reads }
+    {
+        self.reads
+    }
+
+    /// The age of the held ident of a name.
+    pub fn ident_of(&self, name: &Name) -> Option<Serial>
+        ensures { result ≡ ident_of name.now self.now.library }
+    {
+        let library = self.library;
+        library.ident_of(name)
+    }
+
+    /// Where the card stands that a reference names.
+    pub fn place(&self, card: CardRef) -> Option<Place>
+        ensures { result ≡ place_of card self.now.library }
+    {
+        let library = self.library;
+        library.card_at(card)
+    }
+
+    /// The targets of the card that a reference names.
+    pub fn targets(&self, card: CardRef) -> Option<&'a [Target]>
+        ensures { option_map (λ targets. targets.now) result ≡ option_map (λ c. c.targets) (card_named card self.now.library) }
+    {
+        let library = self.library;
+        let place = library.card_at(card)?;
+        let card = library.card(place)?;
+        Some(&card.targets)
+    }
+
+    /// The history of the card that a reference names: one read more where the card is there.
+    pub fn history(&mut self, card: CardRef) -> Option<&'a [Entry]>
+        ensures found { option_map (λ history. history.now) result ≡ option_map (λ c. c.history) (card_named card self.old.library) }
+        ensures reads { self.new ≡ (if is_some result then one_more self.old else self.old) }
+    {
+        let library = self.library;
+        let place = library.card_at(card)?;
+        let card = library.card(place)?;
+        self.count_read();
+        Some(&card.history)
+    }
+
+    /// The history of a card that this library showed: one read more.
+    pub fn history_of(&mut self, card: &CountedCard<'a>) -> &'a [Entry]
+        ensures history { result.now ≡ card.now.view.history }
+        ensures reads { self.new ≡ one_more self.old }
+    {
+        self.count_read();
+        let card = card.card;
+        &card.history
+    }
+
+    fn count_read(&mut self)
+        ensures { self.new ≡ one_more self.old }
+    {
+        self.reads = self.reads.saturating_add(1);
+    }
+
+    /// The cards that a target covers, by deck (`YANK$$$` first) and place; memory alone can fail.
+    pub fn covered(&self, alloc: Global, target: Target) -> Result<Vec<CardRef>, Fault>
+        ensures ok { IfOk result (λ cards. cards.items ≡ covered target self.now.library) }
+        ensures err { IsOkUnless result (fault_at NoMemory 0) }
+    {
+        let library = self.library;
+        let mut found = Vec::new(alloc);
+        add_covered(&mut found, library.idents(), 0, library.yanks(), target)?;
+        add_covered_of(&mut found, library.idents(), library.decks(), target)?;
+        Ok(found)
+    }
+
+    /// The cards of `YANK$$$`.
+    pub fn yanks(&self, alloc: Global) -> Result<Vec<CountedCard<'a>>, AllocError>
+        ensures { IfOk result (λ cards. cards.items ≡ yanks_of self.now.library) }
+    {
+        let library = self.library;
+        let mut found = Vec::with_capacity(alloc, library.yanks().len())?;
+        add_cards(&mut found, library.idents(), 0, library.yanks())?;
+        Ok(found)
+    }
+
+    /// The cards of the other decks, by deck and place.
+    pub fn others(&self, alloc: Global) -> Result<Vec<CountedCard<'a>>, AllocError>
+        ensures { IfOk result (λ cards. cards.items ≡ others_of self.now.library) }
+    {
+        let library = self.library;
+        let mut found = Vec::new(alloc);
+        add_cards_of(&mut found, library.idents(), library.decks())?;
+        Ok(found)
+    }
+}
+
+fn add_cards_of<'a>(
+    found: &mut Vec<CountedCard<'a>>,
+    idents: &[Ident],
+    decks: &'a [Deck],
+) -> Result<(), AllocError>
+    ensures { OnOk result (found.new.items ≡ found.old.items ++ flat_map (λ d. map (counted_card idents.now d.ident) d.cards) decks.now) }
+{
+    for deck in decks {
+        add_cards(found, idents, deck.ident, &deck.cards)?;
+    }
+    Ok(())
+}
+
+fn add_cards<'a>(
+    found: &mut Vec<CountedCard<'a>>,
+    idents: &[Ident],
+    deck: Serial,
+    cards: &'a [Card],
+) -> Result<(), AllocError>
+    ensures { OnOk result (found.new.items ≡ found.old.items ++ map (counted_card idents.now deck) cards.now) }
+{
+    for card in cards {
+        found.push(CountedCard {
+            reference: card_ref(idents, card),
+            deck,
+            card,
+        })?;
+    }
+    Ok(())
+}
+
+fn add_covered_of(
+    found: &mut Vec<CardRef>,
+    idents: &[Ident],
+    decks: &[Deck],
+    target: Target,
+) -> Result<(), AllocError>
+    ensures { OnOk result (found.new.items
+        ≡ found.old.items ++ flat_map (λ d. map (ref_of idents.now) (filter (λ c. covers d.ident c target) d.cards)) decks.now) }
+{
+    for deck in decks {
+        add_covered(found, idents, deck.ident, &deck.cards, target)?;
+    }
+    Ok(())
+}
+
+fn add_covered(
+    found: &mut Vec<CardRef>,
+    idents: &[Ident],
+    deck: Serial,
+    cards: &[Card],
+    target: Target,
+) -> Result<(), AllocError>
+    ensures { OnOk result (found.new.items ≡ found.old.items ++ map (ref_of idents.now) (filter (λ c. covers deck c target) cards.now)) }
+{
+    for card in cards {
+        if covers(deck, card, target) {
+            found.push(card_ref(idents, card))?;
+        }
+    }
+    Ok(())
+}
+
+fn covers(deck: Serial, card: &Card, target: Target) -> bool
+    ensures { result ≡ covers deck card.now target }
+{
+    match target {
+        Target::Set(ident) => has_entry_of(ident, card),
+        Target::SetIn(ident, place) => has_entry_of(ident, card) && place == deck,
+        Target::Deck(place) => place == deck,
+    }
+}
+
+fn has_entry_of(ident: Serial, card: &Card) -> bool
+    ensures { result ≡ has_entry_of ident card.now }
+{
+    card.history.iter().any(|entry| entry.ident == ident)
+}
+
+/// The card as directives name it.
+fn card_ref(idents: &[Ident], card: &Card) -> CardRef
+    ensures { result ≡ ref_of idents.now card.now }
+{
+    CardRef {
+        name: name_at(idents, card.ident).unwrap_or(Name::none()),
+        number: card.number,
+    }
+}

@@ -1,0 +1,83 @@
+//! How many live yank cards have each target: what tells whether an ident is taken while yank cards come and go.
+
+ghost use Rattle.std.specs.Prelude.{◌≡◌, ◌<◌, ◌+◌, ◌^◌, [], if◌then◌else◌, length, count_by, IfOk, OnOk};
+ghost use Rattle.upd_core.specs.declared.target.Target.{Target};
+ghost use Rattle.upd_core.specs.Reach.{is_flipped};
+ghost use Rattle.upd_core.specs.TargetCounts.{count_in};
+ghost use Rattle.upd_core.specs.Targets.{is_same};
+
+use crate::target::Target;
+use std::alloc::{AllocError, Global};
+use std::collections::BTreeMap;
+use std::marker::Model;
+
+/// A count for each target; a target that isn't there has count 0.
+#[derive(Drop)]
+pub struct TargetCounts {
+    counts: BTreeMap<Target, u32>,
+}
+
+impl Model for TargetCounts {
+    ghost use Rattle.std.specs.Prelude.{List, ℕ};
+    ghost use Rattle.upd_core.specs.declared.target.Target.{Target};
+
+    ghost Value = { List (Target × ℕ) };
+
+    ghost view = { λ c. c.counts.entries };
+}
+
+impl TargetCounts {
+    /// No target has a count.
+    pub fn new(alloc: Global) -> TargetCounts
+        ensures { result ≡ [] }
+    {
+        TargetCounts {
+            counts: BTreeMap::new(alloc),
+        }
+    }
+
+    /// A copy; memory alone can fail.
+    pub fn copy(&self) -> Result<TargetCounts, AllocError>
+        ensures { IfOk result (λ copy. copy ≡ self.now) }
+    {
+        let counts = self.counts.clone()?;
+        Ok(TargetCounts { counts })
+    }
+
+    /// The count of a target.
+    pub fn of(&self, target: Target) -> u32
+        ensures { result ≡ count_in self.now target }
+    {
+        match self.counts.get(&target) {
+            Some(count) => *count,
+            None => 0,
+        }
+    }
+
+    /// Sets the count of a target; memory alone can fail.
+    pub fn put(&mut self, target: Target, count: u32) -> Result<(), AllocError>
+        ensures { OnOk result ((t : Target) → count_in self.new t ≡ (if is_same target t then count else count_in self.old t)) }
+    {
+        self.counts.insert(target, count)?;
+        Ok(())
+    }
+
+    /// One more for each of these targets; memory alone can fail.
+    pub fn raise(&mut self, targets: &[Target]) -> Result<(), AllocError>
+        ensures { OnOk result ((t : Target) → count_in self.old t + length targets.now < 2 ^ 32 →
+            count_in self.new t ≡ count_in self.old t + count_by (is_same t) targets.now) }
+    {
+        for target in targets {
+            let count = self.of(*target).saturating_add(1);
+            self.put(*target, count)?;
+        }
+        Ok(())
+    }
+
+    /// Whether the count of a target is 0 in one of these and not in the other.
+    pub fn is_flipped(before: &TargetCounts, now: &TargetCounts, target: Target) -> bool
+        ensures { result ≡ is_flipped (count_in before.now) (count_in now.now) target }
+    {
+        (before.of(target) == 0) != (now.of(target) == 0)
+    }
+}
