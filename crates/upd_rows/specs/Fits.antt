@@ -4,10 +4,10 @@ use Rattle.std.specs.List.{AllByRecursion}
 use Rattle.upd_change.specs.Rows.{Rows}
 use Rattle.upd_change.specs.Changes.{ChangeView, IdentNew, IdentPurged, CardNew, CardGone, CardsMoved, EntryNew, EntriesGone, TargetNew, TargetsGone, StatusNow, CountNow, done}
 
--- a place that is moved by a signed distance is a place again: not before the first, and a number of 32 bits
+-- a place that is moved by a signed distance is a place again: not before the first; before and after it is a number of 32 bits
 abbrev pub CanMove : ℤ → ℕ → Type 0
 CanMove (pos n) p = p + n < 2 ^ 32
-CanMove (negsuc n) p = n + 1 ≤ p
+CanMove (negsuc n) p = (n + 1 ≤ p) × (p < 2 ^ 32)
 
 -- a change moves no card where no card can stand
 abbrev pub Fits : ChangeView → Rows → Type 0
