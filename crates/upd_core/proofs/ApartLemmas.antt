@@ -1,10 +1,10 @@
 -- Elements at their indices, and lists whose elements differ.
-use Rattle.std.proofs.Common.{◌≡◌, ℕ, zero, suc, ◌+◌, ◌-◌, ◌≤◌, Bool, true, false, List, [], ◌∷◌, ◌++◌, length, map, slice_get, Some, refl, sym, ap, ◌∙◌}
+use Rattle.std.proofs.Common.{◌≡◌, ℕ, zero, suc, ◌+◌, ◌-◌, ◌<◌, ◌≤◌, Bool, true, false, List, [], ◌∷◌, ◌++◌, length, map, slice_get, Some, refl, sym, ap, ◌∙◌}
 use Rattle.std.proofs.Common.{subst, arith}
 use Rattle.std.proofs.lemmas.Option.{same_Some, slice_get_read, slice_get_within, get_or_from_slice_get}
 use Rattle.std.specs.List.{find, AllByRecursion, Contains}
 use Rattle.upd_core.specs.First.{index_from}
-use Rattle.upd_core.specs.Sound.{AreApart}
+use Rattle.upd_core.specs.Sound.{AreApart, AreRising}
 
 -- ---- elements at indices
 
@@ -72,6 +72,15 @@ apart_same f (w ∷ xs) zero (suc k) x y apart d e same = absurd (
 apart_same f (w ∷ xs) (suc j) zero x y apart d e same = absurd (
     all_at (λ z. f w ≡ f z → ⊥) xs j x (all_mapped (λ v. f w ≡ v → ⊥) f xs apart.0) d (subst (λ z. f z ≡ f x) (sym (same_Some w y e)) (sym same)))
 apart_same f (w ∷ xs) (suc j) (suc k) x y apart d e same = apart_same f xs j k x y apart.1 d e same
+
+-- rising numbers differ
+pub rising_apart : (ns : List ℕ) → AreRising ns → AreApart ns
+rising_apart [] rising = tt
+rising_apart (n ∷ ns) rising = (others ns rising.0, rising_apart ns rising.1)
+  where
+    others : (ms : List ℕ) → AllByRecursion (λ m. n < m) ms → AllByRecursion (λ m. n ≡ m → ⊥) ms
+    others [] all = tt
+    others (m ∷ ms) all = ((λ same. omega (arith, all.0)), others ms all.1)
 
 -- ---- what a search finds
 

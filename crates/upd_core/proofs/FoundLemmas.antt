@@ -18,7 +18,7 @@ use Rattle.upd_core.specs.Library.{place_of, ref_of}
 use Rattle.upd_core.specs.Sound.{AreApart, AreAgedFrom, IsOfHeld, IsSound, all_cards, is_held, key_of}
 use Rattle.upd_core.specs.Status.{is_active, live_targets, status_of}
 use Rattle.upd_core.proofs.ApartLemmas.{contained_at, at_contained, all_at, all_by_index, all_of_contained, all_mapped, apart_front, apart_back}
-use Rattle.upd_core.proofs.ApartLemmas.{apart_across, apart_same, find_first, find_later, find_only, index_found}
+use Rattle.upd_core.proofs.ApartLemmas.{apart_across, apart_same, find_first, find_later, find_only, index_found, rising_apart}
 
 -- ---- held idents and their names
 
@@ -207,6 +207,9 @@ cards_of_deck l j d apart e =
     (find_only (λ (d : DeckView). d.ident) (is_deck d.ident) (all_decks l) j d apart e
     ((Decides-eqb d.ident d.ident).1 refl) (λ b is. (Decides-eqb b.ident d.ident).0 is))
 
+pub deck_ages_apart : (l : LibraryView) → IsSound l → AreApart (map (λ d. d.ident) (all_decks l))
+deck_ages_apart l sound = rising_apart (map (λ d. d.ident) (all_decks l)) sound.deck_ages
+
 -- ---- each card is found under its own reference
 
 card_held : (l : LibraryView) (c : CardView) → IsSound l → Contains (all_cards l) c → is_held l.idents c.ident ≡ true
@@ -223,7 +226,7 @@ pub card_at : (l : LibraryView) (d : DeckView) (i : ℕ) (c : CardView) → IsSo
     → card_in (record { deck = d.ident; index = i }) l ≡ Some c
 card_at l d i c sound is e =
     let at = contained_at (all_decks l) d is in
-    ap (λ cards. slice_get cards i) (cards_of_deck l at.0 d sound.deck_ages at.1) ∙ e
+    ap (λ cards. slice_get cards i) (cards_of_deck l at.0 d (deck_ages_apart l sound) at.1) ∙ e
 
 pub status_at : (l : LibraryView) (d : DeckView) (c : CardView) → IsSound l → Contains (all_decks l) d → Contains d.cards c
     → status_of (ref_of l.idents c) l ≡ Some (is_active (live_targets l) d.ident c)
@@ -276,7 +279,7 @@ card_of_place l card p sound e = go (held_named card.name l.idents) refl
         let named = named_at 1 card.name l.idents i sound.ages f in
         let at = place_found (all_decks l) i.age card.number p (rw f at e) in
         let cards : cards_of p.deck l ≡ at.deck.cards =
-        subst (λ d. cards_of d l ≡ at.deck.cards) at.age (cards_of_deck l at.index at.deck sound.deck_ages at.found) in
+        subst (λ d. cards_of d l ≡ at.deck.cards) at.age (cards_of_deck l at.index at.deck (deck_ages_apart l sound) at.found) in
         (at.card, ap (λ cards. slice_get cards p.index) cards ∙ at.stands, same_ref i at.card named at.is)
       where
         same_ref : (i : Ident) (c : CardView) → IsAt 1 i.age l.idents i × (i.name ≡ card.name) → is_card i.age card.number c ≡ true → ref_of l.idents c ≡ card

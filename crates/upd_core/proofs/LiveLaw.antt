@@ -13,8 +13,8 @@ use Rattle.upd_core.specs.Status.{takes, is_taken, ends_on, is_good, targets_of,
 -- older targets take no younger ident
 takes_none : (age z d : ℕ) → age ≤ z → (more : List Target) → AllByRecursion (TakesOlder age) more → list_any (takes z d) more ≡ false
 takes_none age z d young [] older = refl
-takes_none age z d young (Set a ∷ more) older = rw (ne_eqb a z (λ e. omega (arith, older.0))) (takes_none age z d young more older.1)
-takes_none age z d young (SetIn a e ∷ more) older = rw (ne_eqb a z (λ e. omega (arith, older.0.0))) (takes_none age z d young more older.1)
+takes_none age z d young (Set a ∷ more) older = rw (ne_eqb a z (λ e. omega (arith, older.0.1))) (takes_none age z d young more older.1)
+takes_none age z d young (SetIn a e ∷ more) older = rw (ne_eqb a z (λ e. omega (arith, older.0.0.1))) (takes_none age z d young more older.1)
 takes_none age z d young (Deck e ∷ more) older = takes_none age z d young more older.1
 
 -- an ident that none of the first targets takes is taken by the others or not at all

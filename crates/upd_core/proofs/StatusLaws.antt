@@ -12,6 +12,7 @@ use Rattle.upd_core.specs.First.{index_from}
 use Rattle.upd_core.specs.Library.{DeckView, LibraryView, all_decks, held_named, is_card, place_in, place_of}
 use Rattle.upd_core.specs.Sound.{AreApart, IsSound}
 use Rattle.upd_core.specs.Status.{ends_on, stays_on, liveness, live_of, live_yank, yank_at}
+use Rattle.upd_core.proofs.ApartLemmas.{rising_apart}
 
 -- the last entry decides
 ends_on-push : (es : List Entry) (e : Entry) → ends_on (es ++ e ∷ []) ≡ e.active
@@ -62,5 +63,5 @@ pub live_yank-place_of : (l : LibraryView) (card : CardRef) → IsSound l → li
 live_yank-place_of l card sound = found (held_named card.name l.idents) refl
   where
     found : (o : Option Ident) → held_named card.name l.idents ≡ o → live_yank card (live_of l) ≡ option_and_then (yank_at l) (place_of card l)
-    found (Some i) is = rw is (live_yank-at l i.age card.number sound.deck_ages)
+    found (Some i) is = rw is (live_yank-at l i.age card.number (rising_apart (map (λ d. d.ident) (all_decks l)) sound.deck_ages))
     found None is = rw is refl

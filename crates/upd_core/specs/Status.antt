@@ -93,12 +93,16 @@ live_yank card v =
 abbrev pub yank_at : LibraryView → Place → Option Bool
 yank_at l place = if place.deck == 0 then slice_get (liveness l.yanks) place.index else None
 
+-- an older age; `YANK$$$` itself, which has age 0, is none
+abbrev pub IsOlder : ℕ → ℕ → Type 0
+IsOlder age z = (0 < z) × (z < age)
+
 -- The order of age in `YANK$$$`: targets are older than their card, entries at least as young as the card, and the entries of every later
 -- card as well.
 abbrev pub TakesOlder : ℕ → Target → Type 0
-TakesOlder age (Set z) = z < age
-TakesOlder age (SetIn z d) = (z < age) × (d < age)
-TakesOlder age (Deck d) = d < age
+TakesOlder age (Set z) = IsOlder age z
+TakesOlder age (SetIn z d) = IsOlder age z × IsOlder age d
+TakesOlder age (Deck d) = IsOlder age d
 
 -- the entries of a card are of an age or younger
 abbrev pub HasEntriesFrom : ℕ → CardView → Type 0

@@ -1,5 +1,5 @@
 -- What each edit does to the cards of a library.
-use Rattle.std.proofs.Common.{◌≡◌, ℕ, zero, suc, ◌+◌, ◌-◌, ◌<◌, ◌≤◌, Bool, true, false, not, List, [], ◌∷◌, ◌++◌, map, length, take, drop, inl, inr, refl, sym, ap, ◌∙◌, subst, arith, append_assoc}
+use Rattle.std.proofs.Common.{◌≡◌, ℕ, zero, suc, ◌+◌, ◌-◌, ◌<◌, ◌≤◌, Bool, true, false, not, ◌||◌, List, [], ◌∷◌, ◌++◌, map, length, take, drop, inl, inr, refl, sym, ap, ◌∙◌, subst, arith, append_assoc}
 use Rattle.std.proofs.lemmas.Bool.{ne_eqb}
 use Rattle.std.proofs.lemmas.List.{take-append-drop}
 use Rattle.std.specs.Prelude.{Some, ◌==◌, ◌⊎◌, insert, IsTrue}
@@ -7,13 +7,13 @@ use Rattle.std.specs.Option.{option_map_or}
 use Rattle.std.specs.List.{list_any, find, filter, flat_map, AllByRecursion, AllZip}
 use Rattle.upd_core.specs.declared.card.Entry.{Entry}
 use Rattle.upd_core.specs.declared.ident.Ident.{Ident}
-use Rattle.upd_core.specs.Edits.{unheld, entered, without_entries, without_idents, deck_without, decks_without, with_card, with_deck, with_yank, with_entries}
+use Rattle.upd_core.specs.Edits.{unheld, entered, without_entries, without_idents, deck_without, decks_without, purged, with_card, with_deck, with_yank, with_entries}
 use Rattle.upd_core.specs.First.{at_first}
 use Rattle.upd_core.specs.Library.{CardView, DeckView, LibraryView, all_decks, cards_of, is_deck, with_cards}
-use Rattle.upd_core.specs.Sound.{is_held, BeginsWithItsOwn, IsOfHeld, key_of, all_cards}
-use Rattle.upd_laws.specs.Soundness.{stands}
-use Rattle.upd_laws.proofs.SoundLists.{same_number, is_same_number, other_number, HasMore, more_front, IsPart, none, fewer, kept, part_append, part_without, zip_same, at_first_any, at_first_find, at_first_more, at_first_zip}
+use Rattle.upd_core.specs.Sound.{is_held, stands, BeginsOn, BeginsWithItsOwn, HasNoTargets, IsOfHeld, key_of, all_cards}
+use Rattle.upd_laws.proofs.SoundLists.{or_cases, or_left, or_right, same_number, is_same_number, other_number, all_append, all_each, all_flat, HasMore, more_front, IsPart, none, fewer, kept, part_append, part_without, zip_same, at_first_all, at_first_any, at_first_find, at_first_more, at_first_zip}
 use Rattle.upd_laws.proofs.SoundIdents.{held_still}
+use Rattle.upd_core.proofs.ApartLemmas.{all_front, all_back}
 
 -- the cards of decks
 abbrev pub flat : List DeckView → List CardView
@@ -64,6 +64,28 @@ yanks_kept P age change l after before = go (age == 0) refl
 pub standing_with : (age : ℕ) (change : List CardView → List CardView) (l : LibraryView) → stands age (with_cards age change l) ≡ stands age l
 standing_with age change l = ap (list_any (is_deck age)) (decks_with age change l) ∙ at_first_any (is_deck age) (changed change) (all_decks l) (λ d. refl)
 
+-- whether a deck stands is told by the ages
+pub standing_by_ages : (d : ℕ) (ds es : List DeckView) → map (λ (e : DeckView). e.ident) ds ≡ map (λ (e : DeckView). e.ident) es
+    → list_any (is_deck d) ds ≡ list_any (is_deck d) es
+standing_by_ages d ds es same = by_ages ds ∙ ap (list_any (λ a. a == d)) same ∙ sym (by_ages es)
+  where
+    by_ages : (ds : List DeckView) → list_any (is_deck d) ds ≡ list_any (λ a. a == d) (map (λ (e : DeckView). e.ident) ds)
+    by_ages [] = refl
+    by_ages (e ∷ ds) = ap (λ b. is_deck d e || b) (by_ages ds)
+
+-- a deck that isn't gone stands after a purge
+pub standing_still : (gone : ℕ → Bool) (d : ℕ) (ds : List DeckView) → gone d ≡ false → list_any (is_deck d) ds ≡ true
+    → list_any (is_deck d) (decks_without gone ds) ≡ true
+standing_still gone d [] stays e = absurd (cc)
+standing_still gone d (x ∷ ds) stays e = go (gone x.ident) refl (or_cases (is_deck d x) (list_any (is_deck d) ds) e) (standing_still gone d ds stays)
+  where
+    go : (b : Bool) → gone x.ident ≡ b → (is_deck d x ≡ true) ⊎ (list_any (is_deck d) ds ≡ true)
+        → (list_any (is_deck d) ds ≡ true → list_any (is_deck d) (decks_without gone ds) ≡ true) → list_any (is_deck d) (decks_without gone (x ∷ ds)) ≡ true
+    go true f (inl g) rest = let same = ap gone (same_number x.ident d g) in absurd (cc)
+    go true f (inr g) rest = rw f (rest g)
+    go false f (inl g) rest = rw f (or_left (is_deck d x) (list_any (is_deck d) (decks_without gone ds)) g)
+    go false f (inr g) rest = rw f (or_right (is_deck d x) (list_any (is_deck d) (decks_without gone ds)) (rest g))
+
 find_standing : {A : Type 0} (test : A → Bool) (xs : List A) → list_any test xs ≡ true → (x : A) × (find test xs ≡ Some x)
 find_standing test [] e = absurd (cc)
 find_standing test (x ∷ xs) e = go (test x) refl (find_standing test xs)
@@ -93,7 +115,7 @@ standing age l n h = go (all_decks l) h
 
 -- ---- a new card
 
-insert_more : (c : CardView) (cards : List CardView) (n : ℕ) → HasMore c cards (insert cards n c)
+pub insert_more : (c : CardView) (cards : List CardView) (n : ℕ) → HasMore c cards (insert cards n c)
 insert_more c cards n = record { front = take n cards; back = drop n cards; was = sym (take-append-drop n cards); is = refl }
 
 pub more_with_card : (d behind : ℕ) (c : CardView) (l : LibraryView) → stands d l ≡ true → HasMore c (all_cards l) (all_cards (with_card d behind c l))
@@ -135,11 +157,12 @@ zip_with_entries d from to e l h =
 
 -- ---- a purge
 
-pub all_without : (P : CardView → Type 0) (gone : ℕ → Bool) (cards : List CardView) → ((c : CardView) → gone c.ident ≡ false → P c → P (without_entries gone c)) → AllByRecursion P cards → AllByRecursion P (without_idents gone cards)
-all_without P gone [] k all = tt
-all_without P gone (c ∷ cards) k all = go (gone c.ident) refl (all_without P gone cards k all.1)
+pub all_without : (P Q : CardView → Type 0) (gone : ℕ → Bool) (cards : List CardView)
+    → ((c : CardView) → gone c.ident ≡ false → P c → Q (without_entries gone c)) → AllByRecursion P cards → AllByRecursion Q (without_idents gone cards)
+all_without P Q gone [] k all = tt
+all_without P Q gone (c ∷ cards) k all = go (gone c.ident) refl (all_without P Q gone cards k all.1)
   where
-    go : (b : Bool) → gone c.ident ≡ b → AllByRecursion P (without_idents gone cards) → AllByRecursion P (without_idents gone (c ∷ cards))
+    go : (b : Bool) → gone c.ident ≡ b → AllByRecursion Q (without_idents gone cards) → AllByRecursion Q (without_idents gone (c ∷ cards))
     go true e rest = rw e rest
     go false e rest = rw e (k c e all.0, rest)
 
@@ -175,25 +198,60 @@ all_decks_without P Q gone (d ∷ ds) k all = go (gone d.ident) refl (all_decks_
     go true e rest = rw e rest
     go false e rest = rw e (k d e all.0, rest)
 
--- cards are of held idents after a purge, too
-pub held_without : (gone : ℕ → Bool) (idents : List Ident) (cards : List CardView) → AllByRecursion (IsOfHeld idents) cards → AllByRecursion (IsOfHeld (map (unheld gone) idents)) (without_idents gone cards)
-held_without gone idents [] all = tt
-held_without gone idents (c ∷ cards) all = go (gone c.ident) refl (held_without gone idents cards all.1)
-  where
-    After : CardView → Type 0
-    After = IsOfHeld (map (unheld gone) idents)
+-- what a purge keeps of each card
+pub all_purged : (P Q : CardView → Type 0) (gone : ℕ → Bool) (l : LibraryView) → ((c : CardView) → gone c.ident ≡ false → P c → Q (without_entries gone c))
+    → AllByRecursion P (all_cards l) → AllByRecursion Q (all_cards (purged gone l))
+all_purged P Q gone l k all =
+    all_append Q (without_idents gone l.yanks) (flat (decks_without gone l.decks))
+    (all_without P Q gone l.yanks k (all_front P l.yanks (flat l.decks) all))
+    (all_flat Q (λ (d : DeckView). d.cards) (decks_without gone l.decks)
+    (all_decks_without (λ (d : DeckView). AllByRecursion P d.cards) _ gone l.decks (λ d e h. all_without P Q gone d.cards k h)
+    (all_each P (λ (d : DeckView). d.cards) l.decks (all_back P l.yanks (flat l.decks) all))))
 
-    entries : (es : List Entry) → AllByRecursion (λ e. IsTrue (is_held idents e.ident)) es → AllByRecursion (λ e. IsTrue (is_held (map (unheld gone) idents) e.ident)) (filter (λ e. not (gone e.ident)) es)
+-- the same in one deck
+pub all_purged_in : (P : CardView → Type 0) (d : ℕ) (gone : ℕ → Bool) (l : LibraryView)
+    → ((c : CardView) → gone c.ident ≡ false → P c → P (without_entries gone c)) → AllByRecursion P (all_cards l)
+    → AllByRecursion P (all_cards (with_cards d (without_idents gone) l))
+all_purged_in P d gone l k all =
+    subst (λ ds. AllByRecursion P (flat ds)) (sym (decks_with d (without_idents gone) l))
+    (all_flat P (λ (e : DeckView). e.cards) _
+    (at_first_all (is_deck d) (changed (without_idents gone)) (λ e. AllByRecursion P e.cards) (all_decks l) (λ e f h. all_without P P gone e.cards k h)
+    (all_each P (λ (e : DeckView). e.cards) (all_decks l) all)))
+
+-- a deck's cards still have no targets
+pub plain_without : (gone : ℕ → Bool) (d : DeckView) → HasNoTargets d → HasNoTargets (record d { cards = without_idents gone d.cards })
+plain_without gone d all = all_without (λ (c : CardView). c.targets ≡ []) (λ c. c.targets ≡ []) gone d.cards (λ c e h. h) all
+
+-- a card is of held idents after a purge, too
+pub held_without : (gone : ℕ → Bool) (idents : List Ident) (c : CardView) → gone c.ident ≡ false → IsOfHeld idents c
+    → IsOfHeld (map (unheld gone) idents) (without_entries gone c)
+held_without gone idents c stays held = (held_still gone idents c.ident stays held.0, entries c.history held.1)
+  where
+    entries : (es : List Entry) → AllByRecursion (λ e. IsTrue (is_held idents e.ident)) es
+        → AllByRecursion (λ e. IsTrue (is_held (map (unheld gone) idents) e.ident)) (filter (λ e. not (gone e.ident)) es)
     entries [] held = tt
     entries (e ∷ es) held = one (gone e.ident) refl (entries es held.1)
       where
-        one : (b : Bool) → gone e.ident ≡ b → AllByRecursion (λ e. IsTrue (is_held (map (unheld gone) idents) e.ident)) (filter (λ e. not (gone e.ident)) es) → AllByRecursion (λ e. IsTrue (is_held (map (unheld gone) idents) e.ident)) (filter (λ e. not (gone e.ident)) (e ∷ es))
+        one : (b : Bool) → gone e.ident ≡ b → AllByRecursion (λ e. IsTrue (is_held (map (unheld gone) idents) e.ident)) (filter (λ e. not (gone e.ident)) es)
+            → AllByRecursion (λ e. IsTrue (is_held (map (unheld gone) idents) e.ident)) (filter (λ e. not (gone e.ident)) (e ∷ es))
         one true f rest = rw f rest
         one false f rest = rw f (held_still gone idents e.ident f held.0, rest)
 
-    go : (b : Bool) → gone c.ident ≡ b → AllByRecursion After (without_idents gone cards) → AllByRecursion After (without_idents gone (c ∷ cards))
-    go true e rest = rw e rest
-    go false e rest = rw e ((held_still gone idents c.ident e all.0.0, entries c.history all.0.1), rest)
+-- a history begins with its card's ident as long as the card stays, and with entries behind it
+pub begins_without : (gone : ℕ → Bool) (c : CardView) → gone c.ident ≡ false → BeginsOn c → BeginsOn (without_entries gone c)
+begins_without gone c stays begins = go c.history begins
+  where
+    go : (es : List Entry) → BeginsOn (record c { history = es }) → BeginsOn (record c { history = filter (λ e. not (gone e.ident)) es })
+    go [] begins = absurd begins
+    go (e ∷ es) begins = let f : gone e.ident ≡ false = ap gone begins.0 ∙ stays in rw f begins
+
+pub begins_entered : (e : Entry) (x y : CardView) → IsEntered e x y → BeginsOn x → BeginsOn y
+begins_entered e x y (inl same) begins = subst BeginsOn (sym same) begins
+begins_entered e x y (inr same) begins = subst BeginsOn (sym same) (go x.history begins)
+  where
+    go : (es : List Entry) → BeginsOn (record x { history = es }) → BeginsOn (record x { history = es ++ e ∷ [] })
+    go [] begins = absurd begins
+    go (f ∷ es) begins = begins
 
 -- the first card of a deck stays where its ident does
 pub first_without : (gone : ℕ → Bool) (d : DeckView) → gone d.ident ≡ false → BeginsWithItsOwn d → BeginsWithItsOwn (record d { cards = without_idents gone d.cards })

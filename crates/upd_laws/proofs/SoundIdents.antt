@@ -4,12 +4,12 @@ use Rattle.std.proofs.lemmas.List.Elements.{filter-append}
 use Rattle.std.proofs.lemmas.Slice.Eq.{bytes_eq-Decides}
 use Rattle.std.specs.Prelude.{Option, Some, None, is_some, ◌==◌, ◌⊎◌}
 use Rattle.std.specs.Str.{bytes_eq}
-use Rattle.std.specs.List.{filter, AllByRecursion}
+use Rattle.std.specs.List.{filter, find, AllByRecursion}
 use Rattle.upd_core.specs.declared.ident.Ident.{Ident}
 use Rattle.upd_core.specs.Edits.{unheld}
 use Rattle.upd_core.specs.Library.{held_named, is_deck_kind}
 use Rattle.upd_core.specs.Sound.{AreApart, AreAgedFrom, is_held, is_held_deck, Continues}
-use Rattle.upd_laws.proofs.SoundLists.{and_left, and_right, both, or_cases, same_number, is_same_number, apart_end, all_map, IsPart, none, fewer, kept, any_front, any_last, any_mapped, any_weaker}
+use Rattle.upd_laws.proofs.SoundLists.{and_left, and_right, both, or_cases, or_left, or_right, same_number, is_same_number, apart_end, all_filter, all_map, all_weaker, IsPart, none, fewer, kept, any_end, any_front, any_last, any_mapped, any_weaker, find_none_end, find_none_mapped}
 
 -- ---- ages
 
@@ -51,6 +51,38 @@ held_deck_held idents z e = any_weaker _ _ idents (λ i f. go i f) e
     go i f =
         let deck = and_left (i.held && is_deck_kind i.kind) (i.age == z) f in
         both i.held (i.age == z) (and_left i.held (is_deck_kind i.kind) deck) (and_right (i.held && is_deck_kind i.kind) (i.age == z) f)
+
+-- a held deck of a directory with one ident more
+pub held_deck_end : (idents : List Ident) (i : Ident) (z : ℕ) → is_held_deck (idents ++ i ∷ []) z ≡ true
+    → (is_held_deck idents z ≡ true) ⊎ ((is_deck_kind i.kind ≡ true) × (i.age ≡ z))
+held_deck_end idents i z e = elim (any_end _ idents i e) [
+  | inl f ↦ inl f
+  | inr f ↦ inr (
+    and_right i.held (is_deck_kind i.kind) (and_left (i.held && is_deck_kind i.kind) (i.age == z) f),
+    same_number i.age z (and_right (i.held && is_deck_kind i.kind) (i.age == z) f),
+  )
+]
+
+-- a deck that is held after a purge was held, and isn't gone
+pub held_deck_was : (gone : ℕ → Bool) (idents : List Ident) (z : ℕ) → is_held_deck (map (unheld gone) idents) z ≡ true
+    → (is_held_deck idents z ≡ true) × (gone z ≡ false)
+held_deck_was gone [] z e = absurd (cc)
+held_deck_was gone (i ∷ idents) z e = go (or_cases _ (is_held_deck (map (unheld gone) idents) z) e) (held_deck_was gone idents z)
+  where
+    first : (h s d b : Bool) → ((h && not s) && d && b) ≡ true → ((h && d && b) ≡ true) × (s ≡ false) × (b ≡ true)
+    first true false true true e = (refl, refl, refl)
+    first true false true false e = absurd (cc)
+    first true false false b e = absurd (cc)
+    first true true d b e = absurd (cc)
+    first false s d b e = absurd (cc)
+
+    go : (((i.held && not (gone i.age)) && is_deck_kind i.kind && (i.age == z)) ≡ true) ⊎ (is_held_deck (map (unheld gone) idents) z ≡ true)
+        → (is_held_deck (map (unheld gone) idents) z ≡ true → (is_held_deck idents z ≡ true) × (gone z ≡ false))
+        → (is_held_deck (i ∷ idents) z ≡ true) × (gone z ≡ false)
+    go (inl f) rest =
+        let parts = first i.held (gone i.age) (is_deck_kind i.kind) (i.age == z) f in
+        (or_left _ (is_held_deck idents z) parts.0, subst (λ a. gone a ≡ false) (same_number i.age z parts.2) parts.1)
+    go (inr f) rest = let r = rest f in (or_right (i.held && is_deck_kind i.kind && (i.age == z)) (is_held_deck idents z) r.0, r.1)
 
 pub held_still : (gone : ℕ → Bool) (idents : List Ident) (z : ℕ) → gone z ≡ false → is_held idents z ≡ true → is_held (map (unheld gone) idents) z ≡ true
 held_still gone idents z stays e = any_mapped _ _ (unheld gone) idents (λ i f. go i f) e
@@ -109,6 +141,44 @@ names_unheld gone (i ∷ idents) = go i.held refl (gone i.age) refl (names_unhel
     go false f b g rest = rw f rest
     go true f true g rest = rw (f, g) (fewer rest)
     go true f false g rest = rw (f, g) (kept refl rest)
+
+-- no held ident takes a name that none has
+pub unnamed_end : (name : List ℕ) (idents : List Ident) (i : Ident) → held_named name idents ≡ None → bytes_eq i.name name ≡ false
+    → held_named name (idents ++ i ∷ []) ≡ None
+unnamed_end name idents i free other = find_none_end _ idents i free (go i.held)
+  where
+    go : (h : Bool) → (h && bytes_eq i.name name) ≡ false
+    go true = other
+    go false = refl
+
+pub unnamed_still : (gone : ℕ → Bool) (name : List ℕ) (idents : List Ident) → held_named name idents ≡ None
+    → held_named name (map (unheld gone) idents) ≡ None
+unnamed_still gone name idents free = find_none_mapped _ (unheld gone) idents (λ i e. go i.held (not (gone i.age)) (bytes_eq i.name name) e) free
+  where
+    go : (h s b : Bool) → (h && b) ≡ false → ((h && s) && b) ≡ false
+    go true true b e = e
+    go true false b e = refl
+    go false s b e = refl
+
+-- the idents of a directory that begins with age n are of this age or younger
+pub found_from : (n : ℕ) (test : Ident → Bool) (idents : List Ident) (i : Ident) → AreAgedFrom n idents → find test idents ≡ Some i → n ≤ i.age
+found_from n test [] i ages e = absurd (cc)
+found_from n test (j ∷ idents) i ages e = go (test j) refl (found_from (n + 1) test idents i ages.1)
+  where
+    go : (b : Bool) → test j ≡ b → (find test idents ≡ Some i → n + 1 ≤ i.age) → n ≤ i.age
+    go true f rest =
+        let found = rw f at e in
+        let same : j ≡ i = cc in
+        let age = ap (λ (k : Ident). k.age) same in
+        omega (arith, ages.0)
+    go false f rest = let later = rest (rw f at e) in omega arith
+
+pub all_from : (n : ℕ) (test : Ident → Bool) (idents : List Ident) → AreAgedFrom n idents → AllByRecursion (λ i. n ≤ i.age) (filter test idents)
+all_from n test idents ages = all_filter (λ (i : Ident). n ≤ i.age) test idents (go n idents ages)
+  where
+    go : (m : ℕ) (is : List Ident) → AreAgedFrom m is → AllByRecursion (λ (i : Ident). m ≤ i.age) is
+    go m [] ages = tt
+    go m (i ∷ is) ages = (omega (arith, ages.0), all_weaker (λ (j : Ident). m + 1 ≤ j.age) (λ j. m ≤ j.age) is (λ j h. omega arith) (go (m + 1) is ages.1))
 
 -- ---- how it goes on
 

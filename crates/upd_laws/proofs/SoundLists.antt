@@ -1,11 +1,12 @@
 -- Lists: facts of each element, lists whose elements differ, and lists with one element more or with some fewer.
-use Rattle.std.proofs.Common.{◌≡◌, ℕ, ◌+◌, Bool, true, false, cond, ◌&&◌, ◌||◌, List, [], ◌∷◌, ◌++◌, map, length, inl, inr, refl, sym, ap, ◌∙◌, subst, arith, append_assoc}
+use Rattle.std.proofs.Common.{◌≡◌, ℕ, ◌+◌, ◌<◌, Bool, true, false, cond, ◌&&◌, ◌||◌, List, [], ◌∷◌, ◌++◌, map, length, inl, inr, refl, sym, ap, ◌∙◌, subst, arith, append_assoc}
 use Rattle.std.proofs.lemmas.Bool.Decides.{Decides-eqb}
 use Rattle.std.proofs.lemmas.List.Sums.{sum_by-append, sum_by-cons}
-use Rattle.std.specs.Prelude.{Some, ◌==◌, ◌⊎◌, count_by}
+use Rattle.std.specs.Prelude.{Some, None, ◌==◌, ◌⊎◌, count_by}
 use Rattle.std.specs.List.{list_any, find, filter, flat_map, AllByRecursion, AllZip}
 use Rattle.upd_core.specs.First.{at_first}
-use Rattle.upd_core.specs.Sound.{AreApart}
+use Rattle.upd_core.specs.Sound.{AreApart, AreRising}
+use Rattle.upd_core.proofs.ApartLemmas.{all_front, all_back, all_mapped}
 
 -- ---- tests
 
@@ -57,25 +58,17 @@ pub all_append : {A : Type 0} (P : A → Type 0) (xs ys : List A) → AllByRecur
 all_append P [] ys a b = b
 all_append P (x ∷ xs) ys a b = (a.0, all_append P xs ys a.1 b)
 
-pub all_front : {A : Type 0} (P : A → Type 0) (xs ys : List A) → AllByRecursion P (xs ++ ys) → AllByRecursion P xs
-all_front P [] ys a = tt
-all_front P (x ∷ xs) ys a = (a.0, all_front P xs ys a.1)
-
-pub all_back : {A : Type 0} (P : A → Type 0) (xs ys : List A) → AllByRecursion P (xs ++ ys) → AllByRecursion P ys
-all_back P [] ys a = a
-all_back P (x ∷ xs) ys a = all_back P xs ys a.1
-
 pub all_weaker : {A : Type 0} (P Q : A → Type 0) (xs : List A) → ((x : A) → P x → Q x) → AllByRecursion P xs → AllByRecursion Q xs
 all_weaker P Q [] k a = tt
 all_weaker P Q (x ∷ xs) k a = (k x a.0, all_weaker P Q xs k a.1)
 
+pub all_both : {A : Type 0} (P Q : A → Type 0) (xs : List A) → AllByRecursion P xs → AllByRecursion Q xs → AllByRecursion (λ x. P x × Q x) xs
+all_both P Q [] a b = tt
+all_both P Q (x ∷ xs) a b = ((a.0, b.0), all_both P Q xs a.1 b.1)
+
 pub all_map : {A B : Type 0} (P : B → Type 0) (f : A → B) (xs : List A) → AllByRecursion (λ x. P (f x)) xs → AllByRecursion P (map f xs)
 all_map P f [] a = tt
 all_map P f (x ∷ xs) a = (a.0, all_map P f xs a.1)
-
-pub all_mapped : {A B : Type 0} (P : B → Type 0) (f : A → B) (xs : List A) → AllByRecursion P (map f xs) → AllByRecursion (λ x. P (f x)) xs
-all_mapped P f [] a = tt
-all_mapped P f (x ∷ xs) a = (a.0, all_mapped P f xs a.1)
 
 pub all_filter : {A : Type 0} (P : A → Type 0) (test : A → Bool) (xs : List A) → AllByRecursion P xs → AllByRecursion P (filter test xs)
 all_filter P test [] a = tt
@@ -107,6 +100,10 @@ all_each P f (x ∷ xs) a = (all_front P (f x) (flat_map f xs) a, all_each P f x
 pub apart_end : {A : Type 0} (x : A) (xs : List A) → AreApart xs → AllByRecursion (λ y. x ≡ y → ⊥) xs → AreApart (xs ++ x ∷ [])
 apart_end x [] apart new = (tt, tt)
 apart_end x (y ∷ xs) apart new = (all_append (λ z. y ≡ z → ⊥) xs (x ∷ []) apart.0 ((λ e. new.0 (sym e)), tt), apart_end x xs apart.1 new.1)
+
+pub rising_end : (n : ℕ) (ns : List ℕ) → AreRising ns → AllByRecursion (λ m. m < n) ns → AreRising (ns ++ n ∷ [])
+rising_end n [] rising below = (tt, tt)
+rising_end n (m ∷ ns) rising below = (all_append (λ k. m < k) ns (n ∷ []) rising.0 (below.0, tt), rising_end n ns rising.1 below.1)
 
 -- ---- one element more
 
@@ -172,6 +169,12 @@ pub part_apart : {A B : Type 0} (f : A → B) {xs ys : List A} → IsPart f xs y
 part_apart f none apart = tt
 part_apart f (fewer p) apart = part_apart f p apart.1
 part_apart f (kept {x} {y} {xs} {ys} e p) apart = (subst (λ v. AllByRecursion (λ w. v ≡ w → ⊥) (map f ys)) (sym e) (part_all f (λ w. f x ≡ w → ⊥) p apart.0), part_apart f p apart.1)
+
+pub part_rising : {A : Type 0} (f : A → ℕ) {xs ys : List A} → IsPart f xs ys → AreRising (map f xs) → AreRising (map f ys)
+part_rising f none rising = tt
+part_rising f (fewer p) rising = part_rising f p rising.1
+part_rising f (kept {x} {y} {xs} {ys} e p) rising =
+    (subst (λ v. AllByRecursion (λ w. v < w) (map f ys)) (sym e) (part_all f (λ w. f x < w) p rising.0), part_rising f p rising.1)
 
 pub part_same : {A B : Type 0} (f : A → B) (xs : List A) → IsPart f xs xs
 part_same f [] = none
@@ -296,6 +299,20 @@ pub any_last : {A : Type 0} (test : A → Bool) (xs : List A) (x : A) → test x
 any_last test [] x e = rw e refl
 any_last test (y ∷ xs) x e = or_right (test y) (list_any test (xs ++ x ∷ [])) (any_last test xs x e)
 
+-- one at the end, or one before it
+pub any_end : {A : Type 0} (test : A → Bool) (xs : List A) (x : A) → list_any test (xs ++ x ∷ []) ≡ true → (list_any test xs ≡ true) ⊎ (test x ≡ true)
+any_end test [] x e = or_cases_end (test x) e
+  where
+    or_cases_end : (b : Bool) → (b || false) ≡ true → (false ≡ true) ⊎ (b ≡ true)
+    or_cases_end true e = inr refl
+    or_cases_end false e = inl e
+any_end test (y ∷ xs) x e = go (or_cases (test y) (list_any test (xs ++ x ∷ [])) e) (any_end test xs x)
+  where
+    go : (test y ≡ true) ⊎ (list_any test (xs ++ x ∷ []) ≡ true) → (list_any test (xs ++ x ∷ []) ≡ true → (list_any test xs ≡ true) ⊎ (test x ≡ true))
+        → (list_any test (y ∷ xs) ≡ true) ⊎ (test x ≡ true)
+    go (inl f) rest = inl (or_left (test y) (list_any test xs) f)
+    go (inr f) rest = elim (rest f) [ inl g ↦ inl (or_right (test y) (list_any test xs) g) | inr g ↦ inr g ]
+
 pub any_mapped : {A : Type 0} (test after : A → Bool) (change : A → A) (xs : List A) → ((x : A) → test x ≡ true → after (change x) ≡ true) → list_any test xs ≡ true → list_any after (map change xs) ≡ true
 any_mapped test after change [] k e = absurd (cc)
 any_mapped test after change (x ∷ xs) k e = go (test x) refl (any_mapped test after change xs k)
@@ -311,6 +328,25 @@ any_weaker test weaker (x ∷ xs) k e = go (test x) refl (any_weaker test weaker
     go : (b : Bool) → test x ≡ b → (list_any test xs ≡ true → list_any weaker xs ≡ true) → list_any weaker (x ∷ xs) ≡ true
     go true f rest = or_left (weaker x) (list_any weaker xs) (k x f)
     go false f rest = or_right (weaker x) (list_any weaker xs) (rest (rw f at e))
+
+-- ---- no element that passes a test
+
+pub find_none_end : {A : Type 0} (test : A → Bool) (xs : List A) (x : A) → find test xs ≡ None → test x ≡ false → find test (xs ++ x ∷ []) ≡ None
+find_none_end test [] x e f = rw f refl
+find_none_end test (y ∷ xs) x e f = go (test y) refl (λ later. find_none_end test xs x later f)
+  where
+    go : (b : Bool) → test y ≡ b → (find test xs ≡ None → find test (xs ++ x ∷ []) ≡ None) → find test (y ∷ (xs ++ x ∷ [])) ≡ None
+    go true g rest = let found = rw g at e in absurd (cc)
+    go false g rest = rw g (rest (rw g at e))
+
+pub find_none_mapped : {A : Type 0} (test : A → Bool) (change : A → A) (xs : List A) → ((x : A) → test x ≡ false → test (change x) ≡ false)
+    → find test xs ≡ None → find test (map change xs) ≡ None
+find_none_mapped test change [] k e = refl
+find_none_mapped test change (y ∷ xs) k e = go (test y) refl (find_none_mapped test change xs k)
+  where
+    go : (b : Bool) → test y ≡ b → (find test xs ≡ None → find test (map change xs) ≡ None) → find test (map change (y ∷ xs)) ≡ None
+    go true g rest = let found = rw g at e in absurd (cc)
+    go false g rest = rw (k y g) (rest (rw g at e))
 
 pub find_passes : {A : Type 0} (test : A → Bool) (xs : List A) (x : A) → find test xs ≡ Some x → test x ≡ true
 find_passes test [] x e = absurd (cc)

@@ -59,5 +59,6 @@ next_entered z n e l m zip next = record {
 pub next_new : (z n : ℕ) (text : List ℕ) (targets : _) (l : LibraryView) → IsTrue (is_held l.idents z) → IsNext z n l → IsNew (new_card z n text targets) l
 next_new z n text targets l held next = record {
   held = (held, (held, tt));
+  begins = (refl, refl);
   key = all_weaker (λ (c : CardView). c.ident ≡ z → c.number < n) _ (all_cards l) (λ c h same. let a = ap (λ (p : ℕ × ℕ). p.0) same in let b = ap (λ (p : ℕ × ℕ). p.1) same in let k = h (sym a) in absurd (omega arith)) next.above;
 }

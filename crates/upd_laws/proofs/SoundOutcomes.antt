@@ -1,5 +1,5 @@
 -- What is known where a step goes through.
-use Rattle.std.proofs.Common.{◌≡◌, Bool, true, false, refl, subst}
+use Rattle.std.proofs.Common.{◌≡◌, Bool, true, false, refl, ap, subst}
 use Rattle.std.specs.Prelude.{Option, Some, None, Result, Ok, Err}
 use Rattle.upd_text.specs.declared.fault.FaultKind.{FaultKind}
 use Rattle.upd_core.specs.Library.{LibraryView}
@@ -14,6 +14,10 @@ through (Err e) f y P h k = absurd (cc)
 pub through_need : {A B : Type 0} (fault : FaultKind) (o : Option A) (f : A → Result B FaultKind) (y : B) (P : Type 0) → need fault o >>= f ≡ Ok y → ((x : A) → o ≡ Some x → f x ≡ Ok y → P) → P
 through_need fault (Some x) f y P h k = k x refl h
 through_need fault None f y P h k = absurd (cc)
+
+pub through_option : {A : Type 0} (fault : FaultKind) (o : Option A) (y : A) (P : Type 0) → need fault o ≡ Ok y → (o ≡ Some y → P) → P
+through_option fault (Some x) y P h k = k (let same : x ≡ y = cc in ap Some same)
+through_option fault None y P h k = absurd (cc)
 
 pub through_refusal : {B : Type 0} (bad : Bool) (fault : FaultKind) (f : Bool → Result B FaultKind) (y : B) (P : Type 0) → refuse_if bad fault >>= f ≡ Ok y → (bad ≡ false → f false ≡ Ok y → P) → P
 through_refusal false fault f y P h k = k refl h

@@ -40,9 +40,9 @@ done_sound (Insert card) text s t sound h = after_sound card s t sound h
 done_sound (Before card) text s t sound h = before_sound card s t sound h
 done_sound (Delete first last) text s t sound h = switched_sound false first last s t sound h
 done_sound (Restore first last) text s t sound h = switched_sound true first last s t sound h
-done_sound (Yank ranges) text s t sound h = yank_put_sound text (sets_yanked [] ranges) s t (λ z l found e. sets_are z l ranges [] found e (none_yanked z)) sound h
-done_sound (SelYank pairs) text s t sound h = yank_put_sound text (pairs_yanked [] pairs) s t (λ z l found e. pairs_are z l pairs [] found e (none_yanked z)) sound h
-done_sound (YankDeck names) text s t sound h = yank_put_sound text (decks_yanked [] names) s t (λ z l found e. decks_are z l names [] found e (none_yanked z)) sound h
+done_sound (Yank ranges) text s t sound h = yank_put_sound text (sets_yanked [] ranges) s t (λ z l found from e. sets_are z l ranges [] found from e (none_yanked z)) sound h
+done_sound (SelYank pairs) text s t sound h = yank_put_sound text (pairs_yanked [] pairs) s t (λ z l found from e. pairs_are z l pairs [] found from e (none_yanked z)) sound h
+done_sound (YankDeck names) text s t sound h = yank_put_sound text (decks_yanked [] names) s t (λ z l found from e. decks_are z l names [] found from e (none_yanked z)) sound h
 done_sound (Purge ranges) text s t sound h =
     through (idents_purged [] ranges s.library) _ t (IsSoundState t) h (λ ages e h1. holds_of IsSoundState _ t h1 (ended_sound (purged (is_among ages) s.library) (purged_sound (is_among ages) s.library sound.library)))
 done_sound (PurgeFrom name) text s t sound h =
@@ -99,7 +99,21 @@ pub run_within : (lines : List LineView) (l : LibraryView) (r : Reached) → is_
 run_within lines l r within h = reached_by (λ m. is_within_limits m ≡ true) lines l r (λ s e. steps_within lines (started l) s within e) h
 
 pub empty_sound : IsSound empty
-empty_sound = record { ages = tt; names = tt; decks = tt; deck_ages = (tt, tt); firsts = tt; cards = tt; keys = tt; yanks = tt; targets = tt }
+empty_sound = record {
+  ages = tt;
+  names = tt;
+  reserved = refl;
+  decks = tt;
+  deck_ages = (tt, tt);
+  firsts = tt;
+  standing = λ whole d held. absurd (cc);
+  cards = tt;
+  histories = tt;
+  keys = tt;
+  yanks = tt;
+  targets = tt;
+  plain = tt;
+}
 
 pub runs_sound : (runs : List (List LineView)) (l : LibraryView) → IsSound l → IsSound (after_runs runs l)
 runs_sound [] l s = s

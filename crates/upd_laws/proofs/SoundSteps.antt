@@ -17,7 +17,7 @@ use Rattle.upd_core.specs.declared.target.Target.{Target}
 use Rattle.upd_core.specs.Edits.{introduced, next_age, new_card, entered, with_deck, with_card, with_yank, with_entries, purged_in}
 use Rattle.upd_core.specs.Library.{CardView, DeckView, LibraryView, all_decks, cards_of, held_named, is_deck, is_deck_kind, place_of}
 use Rattle.upd_text.specs.Outcome.{refuse_if}
-use Rattle.upd_core.specs.Sound.{all_cards, is_held, is_held_deck, IsSound}
+use Rattle.upd_core.specs.Sound.{AreAgedFrom, all_cards, is_held, is_held_deck, stands, IsSound}
 use Rattle.upd_deck.specs.declared.item.IdentIn.{IdentIn}
 use Rattle.upd_apply.specs.declared.Hand.{Hand}
 use Rattle.upd_apply.specs.declared.state.Spot.{Spot}
@@ -25,20 +25,22 @@ use Rattle.upd_apply.specs.declared.state.Spot.TheVariants.{Nowhere, End, Inside
 use Rattle.upd_apply.specs.declared.state.State.{State}
 use Rattle.upd_apply.specs.Step.{new_name, set_begun, deck_begun, behind, is_first, placed_after, placed_before, switched, text_put, yank_put, ended, purged_in_all}
 use Rattle.upd_apply.specs.Yanks.{AgesIn, is_reserved, known_deck, known_ident, pairs_purged}
-use Rattle.upd_laws.specs.Soundness.{stands, IsNext, IsInHand, IsHandSound, IsAtEnd, IsSpotSound, IsSoundState}
+use Rattle.upd_laws.specs.Soundness.{IsNext, IsInHand, IsHandSound, IsAtEnd, IsSpotSound, IsSoundState}
 use Rattle.upd_laws.proofs.SoundOutcomes.{through, through_need, through_refusal, through_grown, holds_of}
-use Rattle.upd_laws.proofs.SoundLists.{same_number, is_same_number, other_number, any_last, all_append, all_weaker, all_front, HasMore, zip_all, zip_length}
+use Rattle.upd_laws.proofs.SoundLists.{same_number, is_same_number, other_number, any_last, all_append, all_weaker, HasMore, zip_all, zip_length}
 use Rattle.upd_laws.proofs.SoundIdents.{held_within, held_more, held_last, held_deck_last, held_deck_held, not_some}
 use Rattle.upd_laws.proofs.SoundCards.{IsEntered, entered_some, idents_with, yanks_with, yanks_kept, standing_with, cards_with, standing, more_with_card, more_with_yank, more_with_deck, zip_with_entries, flat}
 use Rattle.upd_laws.proofs.SoundYanks.{same_ident, AreYanked}
-use Rattle.upd_laws.proofs.SoundEdits.{none_beyond, introduced_sound, deck_sound, card_sound, yank_sound, entries_sound, purged_in_sound}
+use Rattle.upd_laws.proofs.SoundEdits.{none_beyond, introduced_sound, cards_below, deck_sound, card_sound, yank_sound, entries_sound, purged_in_sound}
 use Rattle.upd_laws.proofs.SoundNumbers.{next_first, next_own, next_other, next_entered, next_new}
 use Rattle.upd_laws.proofs.SoundPlaces.{place_within}
+use Rattle.upd_core.proofs.ApartLemmas.{all_front}
+use Rattle.upd_core.proofs.FoundLemmas.{deck_ages_apart}
 
 -- ---- new idents
 
-name_free : (name : List ℕ) (l : LibraryView) (b : Bool) → new_name name l ≡ Ok b → held_named name l.idents ≡ None
-name_free name l b h = through_refusal (is_reserved name) fault.Reserved _ b _ h (λ e h1. go (is_some (held_named name l.idents)) refl h1)
+name_free : (name : List ℕ) (l : LibraryView) (b : Bool) → new_name name l ≡ Ok b → (held_named name l.idents ≡ None) × (is_reserved name ≡ false)
+name_free name l b h = through_refusal (is_reserved name) fault.Reserved _ b _ h (λ e h1. (go (is_some (held_named name l.idents)) refl h1, e))
   where
     go : (taken : Bool) → is_some (held_named name l.idents) ≡ taken → refuse_if taken fault.NameTaken ≡ Ok b → held_named name l.idents ≡ None
     go true e h1 = absurd (cc)
@@ -60,9 +62,9 @@ set_sound name s t sound h =
     i : Ident
     i = record { name = name; age = next_age s.library; kind = kind.Set; noprop = false; held = true }
 
-    after : held_named name s.library.idents ≡ None → IsSoundState (record { library = l; hand = Some (record { ident = next_age s.library; next = 1 }); spot = Nowhere })
+    after : (held_named name s.library.idents ≡ None) × (is_reserved name ≡ false) → IsSoundState (record { library = l; hand = Some (record { ident = next_age s.library; next = 1 }); spot = Nowhere })
     after free = record {
-      library = introduced_sound name kind.Set false s.library sound.library free;
+      library = introduced_sound name s.library sound.library free.0 free.1;
       hand = record {
         held = held_last s.library.idents i refl;
         youngest = yanks_below s.library (next_age s.library) (omega arith) sound.library;
@@ -113,12 +115,6 @@ deck_begun_sound name sort noprop text s t deck sound h =
     held : is_held_deck l.idents a ≡ true
     held = held_deck_last s.library.idents i refl deck
 
-    cards_below : AllByRecursion (λ (b : CardView). b.ident < a) (all_cards s.library)
-    cards_below = all_weaker (λ (b : CardView). b.ident ≤ length s.library.idents) _ (all_cards s.library) (λ b h. omega arith) (none_beyond s.library sound.library)
-
-    decks_below : AllByRecursion (λ (e : DeckView). e.ident < a) s.library.decks
-    decks_below = all_weaker (λ (e : DeckView). IsTrue (is_held_deck s.library.idents e.ident)) _ s.library.decks (λ e h. let w = held_within 1 s.library.idents e.ident sound.library.ages (held_deck_held s.library.idents e.ident h) in omega arith) sound.library.decks
-
     in_hand_below : (h : Hand) → IsInHand h s.library → h.ident ≡ a → ⊥
     in_hand_below h in_hand same = let w = held_within 1 s.library.idents h.ident sound.library.ages in_hand.held in omega arith
 
@@ -129,14 +125,14 @@ deck_begun_sound name sort noprop text s t deck sound h =
       next = next_other h.ident h.next c s.library m (more_with_deck a c l) (λ same. in_hand_below h in_hand (sym same)) in_hand.next;
     }
 
-    after : held_named name s.library.idents ≡ None → IsSoundState (record s { library = m; spot = End a 2 })
+    after : (held_named name s.library.idents ≡ None) × (is_reserved name ≡ false) → IsSoundState (record s { library = m; spot = End a 2 })
     after free = record {
-      library = deck_sound a text l (introduced_sound name sort noprop s.library sound.library free) held (omega arith) decks_below cards_below;
+      library = deck_sound name sort noprop text s.library deck sound.library free.0 free.1;
       hand = hand_moved s.hand s.library m in_hand_after sound.hand;
       spot = record {
         held = held;
         standing = any_last (is_deck a) (all_decks l) d (is_same_number a a refl);
-        next = next_own a 1 c l m (more_with_deck a c l) refl refl (next_first a l (all_weaker (λ (b : CardView). b.ident < a) _ (all_cards l) (λ b h e. absurd (omega arith)) cards_below));
+        next = next_own a 1 c l m (more_with_deck a c l) refl refl (next_first a l (all_weaker (λ (b : CardView). b.ident < a) _ (all_cards l) (λ b h e. absurd (omega arith)) (cards_below s.library sound.library)));
         other = hand_is_not s.hand s.library a in_hand_below sound.hand;
       };
     }
@@ -154,7 +150,7 @@ after_sound card s t sound h =
     holds_of IsSoundState _ t h3 (record {
       library = sound.library;
       hand = sound.hand;
-      spot = inr (behind_within (length (cards_of p.deck s.library)) p.index (place_within card s.library p sound.library.deck_ages f));
+      spot = inr (behind_within (length (cards_of p.deck s.library)) p.index (place_within card s.library p (deck_ages_apart s.library sound.library) f));
     }))))
 
 pub before_sound : (card : CardRef) (s t : State) → IsSoundState s → placed_before card s ≡ Ok t → IsSoundState t
@@ -163,7 +159,7 @@ before_sound card s t sound h =
     through_need fault.CardUnknown (place_of card s.library) _ t (IsSoundState t) h1 (λ p f h2.
     through_refusal (p.deck == 0) fault.YankText _ t (IsSoundState t) h2 (λ g h3.
     through_refusal (is_first p) fault.DeckCard _ t (IsSoundState t) h3 (λ k h4.
-    let within = place_within card s.library p sound.library.deck_ages f in
+    let within = place_within card s.library p (deck_ages_apart s.library sound.library) f in
     holds_of IsSoundState _ t h4 (record {
       library = sound.library;
       hand = sound.hand;
@@ -200,7 +196,7 @@ switched_sound active first last s t sound h =
     holds_of IsSoundState _ t h6 (after hand p q e
     (same_number p.deck q.deck (not_or (p.deck == q.deck) (nat_lt q.index p.index) k))
     (in_order p q (or_not (p.deck == q.deck) (nat_lt q.index p.index) k))
-    (place_within last s.library q sound.library.deck_ages g))))))))
+    (place_within last s.library q (deck_ages_apart s.library sound.library) g))))))))
   where
     in_order : (p q : Place) → nat_lt q.index p.index ≡ false → p.index ≤ q.index
     in_order p q e = grind (arith, nat_tests)
@@ -279,7 +275,7 @@ end_sound text d n s t sound at h = through_grown m _ t (IsSoundState t) h (λ h
 
     after : IsSoundState (record s { library = m; spot = End d (n + 1) })
     after = record {
-      library = card_sound d 0 c l sound.library at.standing positive (next_new d n text [] l (held_deck_held l.idents d at.held) at.next) (inl refl);
+      library = card_sound d 0 c l sound.library at.standing positive (next_new d n text [] l (held_deck_held l.idents d at.held) at.next) refl (inl refl);
       hand = hand_apart s.hand d l m in_hand_after at.other sound.hand;
       spot = record {
         held = subst (λ idents. IsTrue (is_held_deck idents d)) (sym (idents_with d change l)) at.held;
@@ -310,7 +306,7 @@ inside_sound text d after s t sound spot place h =
         let was : IsInHand hand l = subst (λ o. IsHandSound o l) e sound.hand in
         let more = more_with_card d after c l stands_there in
         record {
-          library = card_sound d after c l sound.library stands_there other (next_new hand.ident hand.next text [] l was.held was.next) (inr inside);
+          library = card_sound d after c l sound.library stands_there other (next_new hand.ident hand.next text [] l was.held was.next) refl (inr inside);
           hand = hand_card d after c l hand (hand.next + 1) other was (next_own hand.ident hand.next c l m more refl refl was.next);
           spot = subst (λ spot. IsSpotSound spot (Some (record { ident = hand.ident; next = hand.next + 1 })) m) (sym spot) (inr longer);
         }
@@ -341,13 +337,13 @@ put_sound text s t sound h = text_sound text s t s.spot refl sound h
 
 -- ---- yanks
 
-pub yank_put_sound : (text : List ℕ) (targets : ℕ → LibraryView → Result (List Target) FaultKind) (s t : State) → ((z : ℕ) (l : LibraryView) (found : List Target) → targets z l ≡ Ok found → AreYanked z found)
+pub yank_put_sound : (text : List ℕ) (targets : ℕ → LibraryView → Result (List Target) FaultKind) (s t : State) → ((z : ℕ) (l : LibraryView) (found : List Target) → AreAgedFrom 1 l.idents → targets z l ≡ Ok found → AreYanked z found)
     → IsSoundState s → yank_put text targets s ≡ Ok t → IsSoundState t
 yank_put_sound text targets s t are sound h =
     through_need fault.NoIdent s.hand _ t (IsSoundState t) h (λ hand e h1.
     through (targets hand.ident s.library) _ t (IsSoundState t) h1 (λ found f h2.
     through_grown (with_yank (new_card hand.ident hand.next text found) s.library) _ t (IsSoundState t) h2 (λ h3.
-    holds_of IsSoundState _ t h3 (put hand found (subst (λ o. IsHandSound o s.library) e sound.hand) (are hand.ident s.library found f)))))
+    holds_of IsSoundState _ t h3 (put hand found (subst (λ o. IsHandSound o s.library) e sound.hand) (are hand.ident s.library found sound.library.ages f)))))
   where
     l : LibraryView
     l = s.library

@@ -1,7 +1,8 @@
 -- `YANK$$$` stays in order of age, and the targets of a yank are older than it and differ.
 use Rattle.std.proofs.Common.{◌≡◌, ℕ, ◌<◌, ◌≤◌, Bool, true, false, not, ◌&&◌, ◌||◌, List, [], ◌∷◌, ◌++◌, inl, inr, refl, sym, ap, subst, arith}
 use Rattle.std.proofs.lemmas.Bool.Decides.{nat_tests}
-use Rattle.std.specs.Prelude.{◌==◌, nat_le, Ok}
+use Rattle.std.specs.Prelude.{if◌then◌else◌, Option, Some, None, ◌==◌, nat_le, Ok}
+use Rattle.std.specs.Option.{option_map, option_and_then}
 use Rattle.std.specs.List.{list_any, AllByRecursion, AllZip}
 use Rattle.upd_core.specs.declared.card.Entry.{Entry}
 use Rattle.upd_text.specs.declared.fault.FaultKind.TheVariants as fault
@@ -9,15 +10,16 @@ use Rattle.upd_core.specs.declared.ident.Ident.{Ident}
 use Rattle.upd_core.specs.declared.target.Target.{Target}
 use Rattle.upd_core.specs.declared.target.Target.TheVariants.{Set, SetIn, Deck}
 use Rattle.upd_core.specs.Edits.{new_card, without_entries, without_idents}
-use Rattle.upd_core.specs.Library.{CardView, LibraryView}
-use Rattle.upd_core.specs.Sound.{AreApart}
-use Rattle.upd_core.specs.Status.{TakesOlder, HasEntriesFrom, IsAged}
+use Rattle.upd_core.specs.Library.{CardView, LibraryView, deck_of, held_named, ident_of, is_deck_kind}
+use Rattle.upd_core.specs.Sound.{AreApart, AreAgedFrom}
+use Rattle.upd_core.specs.Status.{IsOlder, TakesOlder, HasEntriesFrom, IsAged}
 use Rattle.upd_deck.specs.declared.item.NameRange.{NameRange}
 use Rattle.upd_deck.specs.declared.item.IdentIn.{IdentIn}
-use Rattle.upd_apply.specs.Yanks.{Ages, is_in, idents_in, known_ident, known_deck, ages_by, is_target, with_target, with_sets, sets_yanked, pairs_yanked, decks_yanked}
-use Rattle.upd_laws.proofs.SoundLists.{and_right, both, or_none_left, or_none_right, is_same_number, all_append, all_filter, all_map, all_pass, apart_end, zip_all}
+use Rattle.upd_apply.specs.Yanks.{Ages, is_in, is_reserved, idents_in, known_ident, known_deck, ages_by, is_target, with_target, with_sets, sets_yanked, pairs_yanked, decks_yanked}
+use Rattle.upd_laws.proofs.SoundLists.{and_right, both, or_none_left, or_none_right, is_same_number, all_append, all_both, all_filter, all_map, all_pass, apart_end, zip_all}
 use Rattle.upd_laws.proofs.SoundCards.{IsEntered, all_without}
-use Rattle.upd_laws.proofs.SoundOutcomes.{through, through_refusal, holds_of}
+use Rattle.upd_laws.proofs.SoundIdents.{all_from, found_from}
+use Rattle.upd_laws.proofs.SoundOutcomes.{through, through_option, through_refusal, holds_of}
 
 -- ---- order of age
 
@@ -60,7 +62,7 @@ aged_without gone (y ∷ ys) aged = go (gone y.ident) refl (aged_without gone ys
 
     go : (b : Bool) → gone y.ident ≡ b → IsAged (without_idents gone ys) → IsAged (without_idents gone (y ∷ ys))
     go true e rest = rw e rest
-    go false e rest = rw e (aged.0, (fewer y aged.1.0, all_without (HasEntriesFrom y.ident) gone ys (λ c f from. fewer c from) aged.1.1), rest)
+    go false e rest = rw e (aged.0, (fewer y aged.1.0, all_without (HasEntriesFrom y.ident) (HasEntriesFrom y.ident) gone ys (λ c f from. fewer c from) aged.1.1), rest)
 
 -- ---- targets
 
@@ -88,36 +90,66 @@ target_found z found t older were = go (list_any (is_target t) found) refl
     go true e = rw e were
     go false e = rw e (record { older = all_append (TakesOlder z) found (t ∷ []) were.older (older, tt); apart = apart_end t found were.apart (not_among t found e) })
 
-sets_found : (z : ℕ) (ages : List ℕ) (found : List Target) → AllByRecursion (λ a. a < z) ages → AreYanked z found → AreYanked z (with_sets found ages)
+sets_found : (z : ℕ) (ages : List ℕ) (found : List Target) → AllByRecursion (IsOlder z) ages → AreYanked z found → AreYanked z (with_sets found ages)
 sets_found z [] found older were = were
 sets_found z (a ∷ ages) found older were = sets_found z ages (with_target found (Set a)) older.1 (target_found z found (Set a) older.0 were)
 
-older_in : (ages : Ages) (z : ℕ) (l : LibraryView) → nat_le z ages.to ≡ false → AllByRecursion (λ a. a < z) (idents_in ages l)
-older_in ages z l e = all_map (λ a. a < z) (λ (i : Ident). i.age) _ (all_pass (λ (i : Ident). i.age < z) _ l.idents (λ i f. go i f))
+older_in : (ages : Ages) (z : ℕ) (l : LibraryView) → AreAgedFrom 1 l.idents → nat_le z ages.to ≡ false → AllByRecursion (IsOlder z) (idents_in ages l)
+older_in ages z l from e =
+    all_map (IsOlder z) (λ (i : Ident). i.age) _ (all_both (λ (i : Ident). 0 < i.age) (λ (i : Ident). i.age < z) _
+    (all_from 1 _ l.idents from) (all_pass (λ (i : Ident). i.age < z) _ l.idents (λ i f. go i f)))
   where
     go : (i : Ident) → (i.held && is_in ages i.age) ≡ true → i.age < z
     go i f = let below = and_right (nat_le ages.from i.age) (nat_le i.age ages.to) (and_right i.held (is_in ages i.age) f) in grind (arith, nat_tests)
 
-pub sets_are : (z : ℕ) (l : LibraryView) (ranges : List NameRange) (found t : List Target) → sets_yanked found ranges z l ≡ Ok t → AreYanked z found → AreYanked z t
-sets_are z l [] found t h were = holds_of (AreYanked z) found t h were
-sets_are z l (range ∷ ranges) found t h were =
+ident_positive : (name : List ℕ) (l : LibraryView) (z : ℕ) → AreAgedFrom 1 l.idents → known_ident name l ≡ Ok z → 0 < z
+ident_positive name l z from h =
+    through_refusal (is_reserved name) fault.Reserved _ z (0 < z) h (λ e h1.
+    through_option fault.IdentUnknown (ident_of name l) z (0 < z) h1 (λ f. go (held_named name l.idents) refl f))
+  where
+    go : (o : Option Ident) → held_named name l.idents ≡ o → option_map (λ (i : Ident). i.age) o ≡ Some z → 0 < z
+    go None e f = absurd (cc)
+    go (Some i) e f = let same : i.age ≡ z = cc in let low = found_from 1 _ l.idents i from e in omega arith
+
+deck_positive : (name : List ℕ) (l : LibraryView) (d : ℕ) → AreAgedFrom 1 l.idents → known_deck name l ≡ Ok d → 0 < d
+deck_positive name l d from h =
+    through_refusal (is_reserved name) fault.Reserved _ d (0 < d) h (λ e h1.
+    through_option fault.DeckUnknown (deck_of name l) d (0 < d) h1 (λ f. go (held_named name l.idents) refl f))
+  where
+    age_in : Bool → ℕ → Option ℕ
+    age_in b a = if b then Some a else None
+
+    aged : (b : Bool) (a : ℕ) → age_in b a ≡ Some d → a ≡ d
+    aged true a e = cc
+    aged false a e = absurd (cc)
+
+    go : (o : Option Ident) → held_named name l.idents ≡ o → option_and_then (λ (i : Ident). if is_deck_kind i.kind then Some i.age else None) o ≡ Some d → 0 < d
+    go None e f = absurd (cc)
+    go (Some i) e f = let same = aged (is_deck_kind i.kind) i.age f in let low = found_from 1 _ l.idents i from e in omega arith
+
+pub sets_are : (z : ℕ) (l : LibraryView) (ranges : List NameRange) (found t : List Target) → AreAgedFrom 1 l.idents → sets_yanked found ranges z l ≡ Ok t → AreYanked z found → AreYanked z t
+sets_are z l [] found t from h were = holds_of (AreYanked z) found t h were
+sets_are z l (range ∷ ranges) found t from h were =
     through (ages_by known_ident range l) _ t (AreYanked z t) h (λ ages e h1.
     through_refusal (nat_le z ages.to) fault.YankSelf _ t (AreYanked z t) h1 (λ f h2.
-    sets_are z l ranges (with_sets found (idents_in ages l)) t h2 (sets_found z (idents_in ages l) found (older_in ages z l f) were)))
+    sets_are z l ranges (with_sets found (idents_in ages l)) t from h2 (sets_found z (idents_in ages l) found (older_in ages z l from f) were)))
 
-pub pairs_are : (z : ℕ) (l : LibraryView) (pairs : List IdentIn) (found t : List Target) → pairs_yanked found pairs z l ≡ Ok t → AreYanked z found → AreYanked z t
-pairs_are z l [] found t h were = holds_of (AreYanked z) found t h were
-pairs_are z l (pair ∷ pairs) found t h were =
+pub pairs_are : (z : ℕ) (l : LibraryView) (pairs : List IdentIn) (found t : List Target) → AreAgedFrom 1 l.idents → pairs_yanked found pairs z l ≡ Ok t → AreYanked z found → AreYanked z t
+pairs_are z l [] found t from h were = holds_of (AreYanked z) found t h were
+pairs_are z l (pair ∷ pairs) found t from h were =
     through (known_deck pair.deck l) _ t (AreYanked z t) h (λ d e h1.
     through (known_ident pair.ident l) _ t (AreYanked z t) h1 (λ y g h2.
     through_refusal (nat_le z d || nat_le z y) fault.YankSelf _ t (AreYanked z t) h2 (λ f h3.
     let left = or_none_left (nat_le z d) (nat_le z y) f in
     let right = or_none_right (nat_le z d) (nat_le z y) f in
-    pairs_are z l pairs (with_target found (SetIn y d)) t h3 (target_found z found (SetIn y d) (grind (arith, nat_tests), grind (arith, nat_tests)) were))))
+    let deck : IsOlder z d = (deck_positive pair.deck l d from e, grind (arith, nat_tests)) in
+    let ident : IsOlder z y = (ident_positive pair.ident l y from g, grind (arith, nat_tests)) in
+    pairs_are z l pairs (with_target found (SetIn y d)) t from h3 (target_found z found (SetIn y d) (ident, deck) were))))
 
-pub decks_are : (z : ℕ) (l : LibraryView) (names : List (List ℕ)) (found t : List Target) → decks_yanked found names z l ≡ Ok t → AreYanked z found → AreYanked z t
-decks_are z l [] found t h were = holds_of (AreYanked z) found t h were
-decks_are z l (name ∷ names) found t h were =
+pub decks_are : (z : ℕ) (l : LibraryView) (names : List (List ℕ)) (found t : List Target) → AreAgedFrom 1 l.idents → decks_yanked found names z l ≡ Ok t → AreYanked z found → AreYanked z t
+decks_are z l [] found t from h were = holds_of (AreYanked z) found t h were
+decks_are z l (name ∷ names) found t from h were =
     through (known_deck name l) _ t (AreYanked z t) h (λ d e h1.
     through_refusal (nat_le z d) fault.YankSelf _ t (AreYanked z t) h1 (λ f h2.
-    decks_are z l names (with_target found (Deck d)) t h2 (target_found z found (Deck d) (grind (arith, nat_tests)) were)))
+    let deck : IsOlder z d = (deck_positive name l d from e, grind (arith, nat_tests)) in
+    decks_are z l names (with_target found (Deck d)) t from h2 (target_found z found (Deck d) deck were)))

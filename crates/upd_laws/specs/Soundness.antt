@@ -1,10 +1,10 @@
 -- What holds of every library that runs can reach, and of every state on the way.
-use Rattle.std.specs.Prelude.{◌≡◌, ℕ, ◌+◌, ◌<◌, ◌≤◌, ◌==◌, Bool, ◌⊎◌, IsTrue, List, [], ◌∷◌, length, count_by, Option, Some, None, Result, Ok, Err}
+use Rattle.std.specs.Prelude.{◌≡◌, ℕ, ◌+◌, ◌<◌, ◌≤◌, ◌==◌, ◌⊎◌, IsTrue, List, [], ◌∷◌, length, count_by, Option, Some, None, Result, Ok, Err}
 use Rattle.std.specs.Option.{IfSome}
-use Rattle.std.specs.List.{list_any, AllByRecursion}
+use Rattle.std.specs.List.{AllByRecursion}
 use Rattle.upd_text.specs.declared.fault.Fault.{Fault}
-use Rattle.upd_core.specs.Library.{LibraryView, all_decks, cards_of, is_deck}
-use Rattle.upd_core.specs.Sound.{IsSound, all_cards, is_held, is_held_deck}
+use Rattle.upd_core.specs.Library.{LibraryView, cards_of}
+use Rattle.upd_core.specs.Sound.{IsSound, all_cards, is_held, is_held_deck, stands}
 use Rattle.upd_deck.specs.Items.{LineView}
 use Rattle.upd_apply.specs.declared.Hand.{Hand}
 use Rattle.upd_apply.specs.declared.state.Spot.{Spot}
@@ -17,10 +17,6 @@ use Rattle.upd_apply.specs.Applying.{Reached, applied}
 -- how many cards of an ident a library holds
 abbrev pub count_of : ℕ → LibraryView → ℕ
 count_of ident l = count_by (λ c. c.ident == ident) (all_cards l)
-
--- whether a deck stands in a library
-abbrev pub stands : ℕ → LibraryView → Bool
-stands d l = list_any (is_deck d) (all_decks l)
 
 -- The next number of an ident is one more than the number of its cards, and none of these has it or a higher one.
 pub record IsNext (ident n : ℕ) (l : LibraryView) : Type 0 where
