@@ -9,5 +9,5 @@ pub mod GrammarLines
 pub mod GrammarRuns
 pub mod GrammarSpans
 pub mod CallLaws
-pub mod RefusalLaws
+pub mod RefusalFields
 pub mod RefusalRuns

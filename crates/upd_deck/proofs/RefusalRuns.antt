@@ -17,7 +17,7 @@ use Rattle.upd_deck.proofs.GrammarNames.{all_of, all_to, done}
 use Rattle.upd_deck.proofs.GrammarParts.{all_weaker, all_append}
 use Rattle.upd_deck.proofs.GrammarLines.{trimmed_is, end_split, allowed_read, allowed_back, allowed_blanks, text_read, text_back, comment_read, comment_back, cut_line, all_front}
 use Rattle.upd_deck.proofs.GrammarSays.{word_read, word_back, means_read, means_back}
-use Rattle.upd_deck.proofs.RefusalLaws.{ok_not_err, err_same, and_no, made_err, fields_refused, fields_back}
+use Rattle.upd_deck.proofs.RefusalFields.{ok_not_err, err_same, and_no, made_err, fields_refused, fields_back}
 use Rattle.upd_deck.proofs.GrammarRuns.{gate_read, counted}
 
 -- ---- bytes

@@ -11,15 +11,49 @@ use Rattle.upd_deck.specs.declared.word.Word.TheVariants as words
 use Rattle.upd_deck.specs.Items.{ItemView, LineView, Text, Call, Ident, Deck, CommonDeck, Insert, Before, Delete, Restore, Yank, SelYank, YankDeck, Purge, PurgeFrom, SelPurge, PurDeck, Compile}
 use Rattle.upd_deck.specs.Reading.{spelled, spellings, is_feed}
 
--- ---- words and fields
+-- ---- bytes
+
+-- ` `
+abbrev pub blank : ℕ
+blank = 32
+
+-- `,`
+abbrev pub comma : ℕ
+comma = 44
+
+-- `.`
+abbrev pub point : ℕ
+point = 46
+
+-- `*`
+abbrev pub star : ℕ
+star = 42
+
+-- `/`
+abbrev pub slash : ℕ
+slash = 47
+
+-- the tab, which is no blank
+abbrev pub tab : ℕ
+tab = 9
+
+-- CR
+abbrev pub carriage_return : ℕ
+carriage_return = 13
+
+-- LF
+abbrev pub line_feed : ℕ
+line_feed = 10
 
 -- so many blanks
 abbrev pub blanks : ℕ → List ℕ
-blanks n = replicate n 32
+blanks n = replicate n blank
+
+-- ---- words and fields
 
 -- a byte that is neither a blank nor a comma
 abbrev pub IsInk : ℕ → Type 0
-IsInk b = (b ≢ 32) × (b ≢ 44)
+IsInk b = (b ≢ blank) × (b ≢ comma)
 
 -- a field: at least one byte, none of them a blank or a comma
 abbrev pub IsField : List ℕ → Type 0
@@ -27,7 +61,7 @@ IsField field = (0 < length field) × AllByRecursion IsInk field
 
 -- what stands between two fields: a comma, with or without blanks on either side
 pub data IsSeparator : List ℕ → Type 0 where
-  Comma : (m n : ℕ) → IsSeparator (blanks m ++ 44 ∷ blanks n)
+  Comma : (m n : ℕ) → IsSeparator (blanks m ++ comma ∷ blanks n)
 
 -- what stands between the word and the fields: blanks with at most one comma among them
 pub data IsLead : List ℕ → Type 0 where
@@ -52,9 +86,9 @@ pub data AreFields : List ℕ → List (List ℕ) → Type 0 where
 
 -- A line of a star, a word and a lead, and fields or none. The word ends at the first blank or comma, or with the line.
 pub data IsStarLine : List ℕ → List ℕ → List (List ℕ) → Type 0 where
-  Bare : (word lead : List ℕ) → AllByRecursion IsInk word → IsLead lead → IsStarLine (42 ∷ word ++ lead) word []
+  Bare : (word lead : List ℕ) → AllByRecursion IsInk word → IsLead lead → IsStarLine (star ∷ word ++ lead) word []
   Fields : (word lead text : List ℕ) (fields : List (List ℕ)) → AllByRecursion IsInk word → IsLead lead → 0 < length lead → AreFields text fields
-      → IsStarLine (42 ∷ word ++ lead ++ text) word fields
+      → IsStarLine (star ∷ word ++ lead ++ text) word fields
 
 -- ---- what fields say
 
@@ -68,12 +102,12 @@ pub data IsCard : List ℕ → CardRef → Type 0 where
 
 -- a range: two names with a point between, or a lone name, which stands for the range from it to itself
 pub data IsRange : List ℕ → NameRange → Type 0 where
-  Two : (a b : List ℕ) → IsName a → IsName b → IsRange (a ++ 46 ∷ b) (record { first = a; last = b })
+  Two : (a b : List ℕ) → IsName a → IsName b → IsRange (a ++ point ∷ b) (record { first = a; last = b })
   Lone : (a : List ℕ) → IsName a → IsRange a (record { first = a; last = a })
 
 -- an ident in a deck: two names with a point between
 pub data IsPair : List ℕ → IdentIn → Type 0 where
-  Pair : (d z : List ℕ) → IsName d → IsName z → IsPair (d ++ 46 ∷ z) (record { deck = d; ident = z })
+  Pair : (d z : List ℕ) → IsName d → IsName z → IsPair (d ++ point ∷ z) (record { deck = d; ident = z })
 
 -- the fields that each word takes, and what it says with them
 pub data Takes : Word → List (List ℕ) → ItemView → Type 0 where
@@ -102,11 +136,11 @@ pub data Takes : Word → List (List ℕ) → ItemView → Type 0 where
 -- what ends a word: a blank, a comma or the line's end
 abbrev pub EndsWord : List ℕ → Type 0
 EndsWord [] = Unit {0}
-EndsWord (b ∷ bs) = (b ≡ 32) ⊎ (b ≡ 44)
+EndsWord (b ∷ bs) = (b ≡ blank) ⊎ (b ≡ comma)
 
 -- a line with a star and this word
 pub data HasWord : List ℕ → List ℕ → Type 0 where
-  Starred : (word rest : List ℕ) → AllByRecursion IsInk word → EndsWord rest → HasWord (42 ∷ word ++ rest) word
+  Starred : (word rest : List ℕ) → AllByRecursion IsInk word → EndsWord rest → HasWord (star ∷ word ++ rest) word
 
 -- the table of the profile has this spelling of the word
 abbrev pub Means : List ℕ → Word → Type 0
@@ -122,11 +156,11 @@ pub data Says : List ℕ → ItemView → Type 0 where
 
 -- the bytes of a line: 0x20 to 0x7E and tab
 abbrev pub IsAllowed : ℕ → Type 0
-IsAllowed b = ((32 ≤ b) × (b ≤ 126)) ⊎ (b ≡ 9)
+IsAllowed b = ((32 ≤ b) × (b ≤ 126)) ⊎ (b ≡ tab)
 
 -- no blank stands at the end
 abbrev pub EndsInked : List ℕ → Type 0
-EndsInked text = (front : List ℕ) → text ≢ front ++ 32 ∷ []
+EndsInked text = (front : List ℕ) → text ≢ front ++ blank ∷ []
 
 -- a line is its text, at most 80 allowed bytes with no blank at the end, and blanks behind it
 pub data IsTextOf : List ℕ → List ℕ → Type 0 where
@@ -134,7 +168,7 @@ pub data IsTextOf : List ℕ → List ℕ → Type 0 where
 
 -- a star and a slash, whatever follows
 pub data IsComment : List ℕ → Type 0 where
-  Slashed : (rest : List ℕ) → IsComment (42 ∷ 47 ∷ rest)
+  Slashed : (rest : List ℕ) → IsComment (star ∷ slash ∷ rest)
 
 -- what is said by the line of a number that begins at a place
 abbrev pub line_view : ℕ → ℕ → List ℕ → ItemView → LineView
@@ -148,8 +182,8 @@ pub data IsLine : ℕ → ℕ → List ℕ → List LineView → Type 0 where
 
 -- what ends a line: LF, or CR and LF
 pub data IsLineEnd : List ℕ → Type 0 where
-  Feed : IsLineEnd (10 ∷ [])
-  ReturnFeed : IsLineEnd (13 ∷ 10 ∷ [])
+  Feed : IsLineEnd (line_feed ∷ [])
+  ReturnFeed : IsLineEnd (carriage_return ∷ line_feed ∷ [])
 
 -- What the lines of a run say from the line of a number on, which begins at a place. The last line may lack its end.
 pub data AreLines : ℕ → ℕ → List ℕ → List LineView → Type 0 where

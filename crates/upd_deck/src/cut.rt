@@ -1,3 +1,5 @@
+//! A run is cut into its lines: what stands before each LF, and what stands behind the last.
+
 ghost use Rattle.std.specs.Prelude.{◌≡◌, ℕ, ◌+◌, ◌-◌, ◌<◌, ◌≤◌, ◌∷◌, length};
 ghost use Rattle.std.specs.List.{slice_split};
 ghost use Rattle.std.specs.Str.Lines.{strip_carriage_return};
@@ -13,7 +15,7 @@ use upd_text::line::split_once;
 pub(crate) struct CutLine<'a> {
     /// From 1.
     pub(crate) number: u32,
-    /// Where it begins in the run.
+    /// Where it begins in the run, in bytes.
     pub(crate) start: usize,
     pub(crate) bytes: &'a [u8],
 }
@@ -48,7 +50,9 @@ impl<'a> Model for CutLines<'a> {
 
     ghost view = { λ l. cut_from l.number l.start (slice_split is_feed l.rest.now) };
 
-    ghost invariant = { λ l. (l.number + length l.rest.now ≤ MAX_RUN_BYTES + 1) × (l.start + length l.rest.now ≤ MAX_RUN_BYTES) };
+    // Each line takes a byte of the rest at least, so numbers and places stay as small as the run.
+    ghost invariant = { λ l. (l.number + length l.rest.now ≤ MAX_RUN_BYTES + 1)
+        × (l.start + length l.rest.now ≤ MAX_RUN_BYTES) };
 }
 
 /// Cuts a run into lines.
@@ -89,7 +93,7 @@ impl<'a> Iterator for CutLines<'a> {
     }
 }
 
-// The first line of some bytes, and what stands behind it.
+/// The first line of some bytes, and what stands behind its LF.
 fn first_line(bytes: &[u8]) -> (&[u8], &[u8])
     requires { 0 < length bytes.now }
     ensures line { (number start : ℕ) → cut_from number start (slice_split is_feed bytes.now)
@@ -100,10 +104,12 @@ fn first_line(bytes: &[u8]) -> (&[u8], &[u8])
 {
     match split_once(bytes, b'\n') {
         Some((piece, after)) => (without_return(piece), after),
+        // The last line has no LF, and so a CR at its end is one of its bytes.
         None => (bytes, &[]),
     }
 }
 
+/// A line without the CR that stood directly before its LF.
 fn without_return(line: &[u8]) -> &[u8]
     ensures { result.now ≡ strip_carriage_return line.now }
 {

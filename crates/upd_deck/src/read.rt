@@ -1,3 +1,5 @@
+//! Reads a run as a whole: its limits, and then its lines in order.
+
 ghost use Rattle.std.specs.Prelude.{◌≡◌, ℕ, ◌≤◌, List, length, IfOk};
 ghost use Rattle.std.specs.List.{AllByRecursion, list_all};
 ghost use Rattle.std.specs.Option.{option_to_list};
@@ -14,7 +16,8 @@ use upd_text::limits::{MAX_LINE_BYTES, MAX_RUN_BYTES, MAX_RUN_LINES};
 use upd_text::line::is_comment;
 use upd_text::{Fault, FaultKind};
 
-/// Reads a run as a whole. The first faulty line decides; its fault is at its number.
+/// Reads a run as a whole. A run that passes a limit is refused at 0; otherwise the first faulty line decides, and the
+/// fault is at its number.
 pub fn read_run(alloc: Global, bytes: &[u8]) -> Result<Run<'_>, Fault>
     ensures reading { GivesAt (λ run. run) result (reading bytes.now) }
 {
@@ -29,6 +32,7 @@ pub fn read_run(alloc: Global, bytes: &[u8]) -> Result<Run<'_>, Fault>
     Ok(Run { lines })
 }
 
+/// What the lines of a run say, or the fault of the first faulty one.
 fn read_lines<'a>(alloc: Global, cut: &[CutLine<'a>]) -> Result<Vec<Line<'a>>, Fault>
     ensures lines { GivesAt (λ lines. lines.items) result (each said_at cut.now) }
     ensures few { IfOk result (λ lines. length lines.items ≤ length cut.now) }
@@ -42,6 +46,7 @@ fn read_lines<'a>(alloc: Global, cut: &[CutLine<'a>]) -> Result<Vec<Line<'a>>, F
     Ok(lines)
 }
 
+/// What a line says, or its fault at its number.
 fn read_line<'a>(alloc: Global, line: &CutLine<'a>) -> Result<Option<Line<'a>>, Fault>
     ensures { GivesAt option_to_list result (said_at line.now) }
 {
@@ -49,7 +54,7 @@ fn read_line<'a>(alloc: Global, line: &CutLine<'a>) -> Result<Option<Line<'a>>, 
     said(alloc, line).map_err(|kind| kind.at_line(number))
 }
 
-// What a line says; nothing where it is a comment.
+/// What a line says; nothing where it is a comment.
 fn said<'a>(alloc: Global, line: &CutLine<'a>) -> Result<Option<Line<'a>>, FaultKind>
     ensures { Gives option_to_list result (said line.now) }
 {
@@ -70,6 +75,7 @@ fn said<'a>(alloc: Global, line: &CutLine<'a>) -> Result<Option<Line<'a>>, Fault
     }))
 }
 
+/// The text of a line: its bytes are tested first, and then its length without trailing blanks.
 fn text_of(line: &[u8]) -> Result<&[u8], FaultKind>
     ensures text { Gives (λ text. text.now) result (text_of line.now) }
     ensures within { IfOk result (λ text. length text.now ≤ length line.now) }
@@ -84,19 +90,21 @@ fn text_of(line: &[u8]) -> Result<&[u8], FaultKind>
     Ok(text)
 }
 
+/// Whether a line may have each of its bytes.
 fn all_allowed(line: &[u8]) -> bool
     ensures { result ≡ list_all is_allowed line.now }
 {
     line.iter().all(|&byte| is_allowed(byte))
 }
 
+/// Whether a line may have the byte: 0x20 to 0x7E and the tab.
 fn is_allowed(byte: u8) -> bool
     ensures { result ≡ is_allowed byte }
 {
     matches!(byte, 0x20..=0x7E | b'\t')
 }
 
-// A line without its trailing blanks.
+/// A line without its trailing blanks.
 fn trimmed(line: &[u8]) -> &[u8]
     ensures trimmed { result.now ≡ trimmed line.now }
     ensures within { length result.now ≤ length line.now }

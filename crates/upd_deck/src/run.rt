@@ -1,3 +1,5 @@
+//! A run that was read: its lines, and where each stands.
+
 ghost use Rattle.std.specs.Prelude.{◌≡◌, ◌≤◌, length};
 ghost use Rattle.upd_text.specs.declared.limits.TheConstants.{MAX_RUN_LINES};
 
@@ -51,6 +53,7 @@ impl<'a> Model for Run<'a> {
 }
 
 impl<'a> Run<'a> {
+    /// The lines in order.
     pub fn lines(&self) -> &[Line<'a>]
         ensures lines { result.now ≡ self.now }
         ensures few { length self.now ≤ MAX_RUN_LINES }

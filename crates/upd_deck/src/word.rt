@@ -1,3 +1,5 @@
+//! The words that begin directives and calls.
+
 ghost use Rattle.std.specs.Prelude.{◌≡◌, map};
 ghost use Rattle.upd_deck.specs.Reading.{meaning, meaning_in, spelled};
 
@@ -21,6 +23,7 @@ pub enum Word {
     Compile,
 }
 
+/// Each word as it is written, in full and short; no text stands twice.
 const SPELLINGS: [(&[u8], Word); 25] = [
     (b"IDENT", Word::Ident),
     (b"ID", Word::Ident),
@@ -58,6 +61,7 @@ impl Word {
     }
 }
 
+/// What the text means by the first spelling that it is.
 fn meaning_in(spellings: &[(&[u8], Word)], text: &[u8]) -> Option<Word>
     ensures { result ≡ meaning_in (map (λ s. spelled s.0.now s.1) spellings.now) text.now }
 {
