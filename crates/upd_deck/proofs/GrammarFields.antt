@@ -22,15 +22,22 @@ read_remark f _ h (Remark n (b ∷ bs) some ink) =
     let first = first_piece bs in
     let piece : List ℕ = blanks n ++ b ∷ first.0 in
     let blank : Begins is_blank piece = begins_more is_blank (blanks n) (b ∷ first.0) (rw length-replicate some) (begins_blanks n) in
-    let split = split_onto (blanks n) (b ∷ bs) (b ∷ first.0) first.1 (blanks_no_comma n) (split_onto (b ∷ []) bs first.0 first.1 (ink_no_comma b ink, tt) first.2) in
+    let split =
+    split_onto (blanks n) (b ∷ bs) (b ∷ first.0) first.1 (blanks_no_comma n) (split_onto (b ∷ []) bs first.0 first.1 (ink_no_comma b ink, tt) first.2) in
     rw (split_onto f (blanks n ++ b ∷ bs) piece first.1 (field_no_comma f h) split)
     (fields_last (f ++ piece) first.1 b first.0 (remark_is f piece h blank ∙ blanks_gone n (b ∷ first.0) ∙ ink_stays (b ∷ first.0) ink)
     ∙ ap (λ g. g ∷ []) (field_is f piece h blank))
 
-read_next : (f text : List ℕ) (m n : ℕ) → IsField f → fields_of (slice_split is_comma (f ++ (blanks m ++ 44 ∷ blanks n) ++ text)) ≡ f ∷ fields_of (slice_split is_comma text)
+read_next : (f text : List ℕ) (m n : ℕ) → IsField f
+    → fields_of (slice_split is_comma (f ++ (blanks m ++ 44 ∷ blanks n) ++ text)) ≡ f ∷ fields_of (slice_split is_comma text)
 read_next f text m n h =
     let pieces : List (List ℕ) = slice_split is_comma (blanks n ++ text) in
-    rw (append_assoc f (blanks m ++ 44 ∷ blanks n) text, append_assoc (blanks m) (44 ∷ blanks n) text, split_onto f (blanks m ++ 44 ∷ (blanks n ++ text)) (blanks m) pieces (field_no_comma f h) (split_at_comma (blanks m) (blanks n ++ text) (blanks_no_comma m)))
+    rw (
+      append_assoc f (blanks m ++ 44 ∷ blanks n) text,
+      append_assoc (blanks m) (44 ∷ blanks n) text,
+      split_onto f (blanks m ++ 44 ∷ (blanks n ++ text))
+          (blanks m) pieces (field_no_comma f h) (split_at_comma (blanks m) (blanks n ++ text) (blanks_no_comma m)),
+    )
     (fields_more (f ++ blanks m) pieces (remark_is f (blanks m) h (begins_blanks m) ∙ blanks_only m)
     ∙ ap (λ g. g ∷ fields_of pieces) (field_is f (blanks m) h (begins_blanks m)) ∙ ap (λ gs. f ∷ gs) (blanks_before n text))
 
@@ -63,8 +70,11 @@ unfolding fields_by
 read line v fs (Bare w lead ink l) =
     let ends : AllByRecursion (λ b. ends_word b ≡ false) w = all_weaker IsInk (λ b. ends_word b ≡ false) ink_no_end w ink in
     let rest = from_end ends_word w lead ends (begin_lead lead l) in
-    let gone = lead_gone lead [] l tt in
-    (up_to_end ends_word w lead ends (begin_lead lead l), ap (λ t. fields_by (after_blanks (after_comma (after_blanks t)))) (rest ∙ sym (append-nil lead)) ∙ ap fields_by gone)
+    let gone = lead_gone lead [] l tt in (
+      up_to_end ends_word w lead ends (begin_lead lead l),
+      ap (λ t. fields_by (after_blanks (after_comma (after_blanks t)))) (rest ∙ sym (append-nil lead))
+          ∙ ap fields_by gone,
+    )
 read line v fs (Fields w lead text gs ink l some more) =
     let ends : AllByRecursion (λ b. ends_word b ≡ false) w = all_weaker IsInk (λ b. ends_word b ≡ false) ink_no_end w ink in
     let begins : Begins ends_word (lead ++ text) = begins_more ends_word lead text some (begin_lead lead l) in
@@ -82,7 +92,8 @@ blanks_split : (text : List ℕ) → (n : ℕ) × (text ≡ blanks n ++ after_bl
 blanks_split [] = (0, refl)
 blanks_split (b ∷ bs) = by_blank (is_blank b) refl (blanks_split bs)
   where
-    by_blank : (t : Bool) → is_blank b ≡ t → (n : ℕ) × (bs ≡ blanks n ++ after_blanks bs) → (n : ℕ) × (b ∷ bs ≡ blanks n ++ cond (not t) (b ∷ bs) (after_blanks bs))
+    by_blank : (t : Bool) → is_blank b ≡ t → (n : ℕ) × (bs ≡ blanks n ++ after_blanks bs)
+        → (n : ℕ) × (b ∷ bs ≡ blanks n ++ cond (not t) (b ∷ bs) (after_blanks bs))
     by_blank true e rest = (suc rest.0, cc (eqb-true b 32 e, rest.1))
     by_blank false e rest = (0, refl)
 
@@ -98,7 +109,9 @@ blanks_first : (front rest : List ℕ) → 0 < length (after_blanks front) → a
 blanks_first [] rest some = absurd (omega arith)
 blanks_first (b ∷ bs) rest some = by_blank (is_blank b) (blanks_first bs rest) some
   where
-    by_blank : (t : Bool) → (0 < length (after_blanks bs) → after_blanks (bs ++ rest) ≡ after_blanks bs ++ rest) → 0 < length (cond (not t) (b ∷ bs) (after_blanks bs)) → cond (not t) (b ∷ (bs ++ rest)) (after_blanks (bs ++ rest)) ≡ cond (not t) (b ∷ bs) (after_blanks bs) ++ rest
+    by_blank : (t : Bool) → (0 < length (after_blanks bs) → after_blanks (bs ++ rest) ≡ after_blanks bs ++ rest)
+        → 0 < length (cond (not t) (b ∷ bs) (after_blanks bs))
+        → cond (not t) (b ∷ (bs ++ rest)) (after_blanks (bs ++ rest)) ≡ cond (not t) (b ∷ bs) (after_blanks bs) ++ rest
     by_blank true ih some = ih some
     by_blank false ih some = refl
 
@@ -118,7 +131,8 @@ lead_of text =
     let lead = by_first (after_blanks text) (from_begins not_blank text) split.0 in
     (lead.0, lead.1, split.1 ∙ lead.2)
   where
-    by_comma : (n b : ℕ) (bs : List ℕ) (t : Bool) → not_blank b ≡ true → is_comma b ≡ t → (lead : List ℕ) × IsLead lead × (blanks n ++ b ∷ bs ≡ lead ++ after_blanks (cond t bs (b ∷ bs)))
+    by_comma : (n b : ℕ) (bs : List ℕ) (t : Bool) → not_blank b ≡ true → is_comma b ≡ t
+        → (lead : List ℕ) × IsLead lead × (blanks n ++ b ∷ bs ≡ lead ++ after_blanks (cond t bs (b ∷ bs)))
     by_comma n b bs true h e =
         let split = blanks_split bs in (
           blanks n ++ 44 ∷ blanks split.0,
@@ -135,7 +149,9 @@ lead_of text =
 
 no_commas : (text : List ℕ) → AllByRecursion HasNoComma (slice_split is_comma text)
 no_commas [] = (tt, tt)
-no_commas (b ∷ bs) = cond_both (is_comma b) ([] ∷ slice_split is_comma bs) (onto_first b (slice_split is_comma bs)) (AllByRecursion HasNoComma) (λ e. (tt, no_commas bs)) (λ e. onto b (slice_split is_comma bs) e (no_commas bs))
+no_commas (b ∷ bs) =
+    cond_both (is_comma b) ([] ∷ slice_split is_comma bs) (onto_first b (slice_split is_comma bs)) (AllByRecursion HasNoComma) (λ e. (tt, no_commas bs))
+    (λ e. onto b (slice_split is_comma bs) e (no_commas bs))
   where
     onto : (b : ℕ) (pieces : List (List ℕ)) → is_comma b ≡ false → AllByRecursion HasNoComma pieces → AllByRecursion HasNoComma (onto_first b pieces)
     onto b [] e h = ((e, tt), tt)
@@ -161,7 +177,8 @@ is_field : (piece : List ℕ) → HasNoComma piece → 0 < length (field piece) 
 is_field piece h some = (
   some,
   all_weaker (λ b. (is_blank b ≡ false) × (is_comma b ≡ false)) IsInk no_blank_or_comma (field piece)
-      (all_both (λ b. is_blank b ≡ false) (λ b. is_comma b ≡ false) (field piece) (up_to_all is_blank (after_blanks piece)) (no_comma_before is_blank (after_blanks piece) (no_comma_after not_blank piece h))),
+      (all_both (λ b. is_blank b ≡ false) (λ b. is_comma b ≡ false) (field piece) (up_to_all is_blank (after_blanks piece))
+      (no_comma_before is_blank (after_blanks piece) (no_comma_after not_blank piece h))),
 )
 
 inked_after : (text : List ℕ) → HasNoComma text → BeginsInked (after_blanks text)
@@ -182,13 +199,15 @@ parts_is piece = sym (both_parts is_blank (after_blanks piece))
 some_parts : (piece : List ℕ) → 0 < length (field piece) → 0 < length (after_blanks piece)
 some_parts piece some = rw (parts_is piece, length-append) (omega arith)
 
-spelled_last : (piece rest : List ℕ) → HasNoComma piece → 0 < length (field piece) → IsRemark (behind piece ++ rest) → AreFields (after_blanks (piece ++ rest)) (field piece ∷ [])
+spelled_last : (piece rest : List ℕ) → HasNoComma piece → 0 < length (field piece) → IsRemark (behind piece ++ rest)
+    → AreFields (after_blanks (piece ++ rest)) (field piece ∷ [])
 spelled_last piece rest h some r =
     let same : after_blanks (piece ++ rest) ≡ field piece ++ (behind piece ++ rest) =
     blanks_first piece rest (some_parts piece some) ∙ ap (λ l. l ++ rest) (parts_is piece) ∙ append_assoc (field piece) (behind piece) rest in
     subst (λ l. AreFields l (field piece ∷ [])) (sym same) (Last (field piece) (behind piece ++ rest) (is_field piece h some) r)
 
-spelled_next : (piece text : List ℕ) (fs : List (List ℕ)) → HasNoComma piece → 0 < length (field piece) → remark piece ≡ [] → AreFields (after_blanks text) fs → AreFields (after_blanks (piece ++ 44 ∷ text)) (field piece ∷ fs)
+spelled_next : (piece text : List ℕ) (fs : List (List ℕ)) → HasNoComma piece → 0 < length (field piece) → remark piece ≡ [] → AreFields (after_blanks text) fs
+    → AreFields (after_blanks (piece ++ 44 ∷ text)) (field piece ∷ fs)
 unfolding behind
 spelled_next piece text fs h some none more =
     let f : List ℕ = field piece in
@@ -218,19 +237,25 @@ remark_before piece text b bs h e =
     let some : 0 < length (remark piece) = rw e (omega arith) in
     let j = blanks_split (behind piece) in
     let long : 0 < length (behind piece) = omega (arith, ap length j.1, length-append (blanks j.0) (after_blanks (behind piece))) in
-    let ink : BeginsInked (b ∷ bs) = subst BeginsInked e (inked_after (behind piece) (no_comma_after is_blank (after_blanks piece) (no_comma_after not_blank piece h))) in
+    let ink : BeginsInked (b ∷ bs) =
+    subst BeginsInked e (inked_after (behind piece) (no_comma_after is_blank (after_blanks piece) (no_comma_after not_blank piece h))) in
     remark_of (behind piece ++ 44 ∷ text) (begins_more is_blank (behind piece) (44 ∷ text) long (from_begins is_blank (after_blanks piece)))
     (subst BeginsInked (sym (blanks_first (behind piece) (44 ∷ text) some ∙ ap (λ l. l ++ 44 ∷ text) e)) ink)
 
 remark_last : (piece : List ℕ) → HasNoComma piece → IsRemark (behind piece)
 unfolding behind
-remark_last piece h = remark_of (behind piece) (from_begins is_blank (after_blanks piece)) (inked_after (behind piece) (no_comma_after is_blank (after_blanks piece) (no_comma_after not_blank piece h)))
+remark_last piece h =
+    remark_of (behind piece) (from_begins is_blank (after_blanks piece))
+    (inked_after (behind piece) (no_comma_after is_blank (after_blanks piece) (no_comma_after not_blank piece h)))
 
 spelled_alone : (piece : List ℕ) → HasNoComma piece → 0 < length (field piece) → AreFields (after_blanks piece) (field piece ∷ [])
 spelled_alone piece h some =
-    subst (λ l. AreFields (after_blanks l) (field piece ∷ [])) (append-nil piece) (spelled_last piece [] h some (subst IsRemark (sym (append-nil (behind piece))) (remark_last piece h)))
+    subst (λ l. AreFields (after_blanks l) (field piece ∷ [])) (append-nil piece)
+    (spelled_last piece [] h some (subst IsRemark (sym (append-nil (behind piece))) (remark_last piece h)))
 
-spelled_pieces : (piece : List ℕ) (pieces : List (List ℕ)) → AllByRecursion HasNoComma (piece ∷ pieces) → AllByRecursion (λ f. 0 < length f) (fields_of (piece ∷ pieces)) → AreFields (after_blanks (join_with_byte 44 (piece ∷ pieces))) (fields_of (piece ∷ pieces))
+spelled_pieces : (piece : List ℕ) (pieces : List (List ℕ)) → AllByRecursion HasNoComma (piece ∷ pieces)
+    → AllByRecursion (λ f. 0 < length f) (fields_of (piece ∷ pieces))
+    → AreFields (after_blanks (join_with_byte 44 (piece ∷ pieces))) (fields_of (piece ∷ pieces))
 spelled_pieces piece [] h some =
     let alone = spelled_alone piece h.0 (first_some piece [] some) in
     cond_both (eqb (length (remark piece)) 0) (field piece ∷ []) (field piece ∷ []) (AreFields (after_blanks piece)) (λ _. alone) (λ _. alone)
@@ -239,17 +264,21 @@ spelled_pieces piece (next ∷ pieces) h some = by_remark (remark piece) refl (s
     text : List ℕ
     text = join_with_byte 44 (next ∷ pieces)
 
-    by_remark : (r : List ℕ) → remark piece ≡ r → (AllByRecursion (λ f. 0 < length f) (fields_of (next ∷ pieces)) → AreFields (after_blanks text) (fields_of (next ∷ pieces))) → AreFields (after_blanks (piece ++ 44 ∷ text)) (fields_of (piece ∷ next ∷ pieces))
+    by_remark : (r : List ℕ) → remark piece ≡ r
+        → (AllByRecursion (λ f. 0 < length f) (fields_of (next ∷ pieces)) → AreFields (after_blanks text) (fields_of (next ∷ pieces)))
+        → AreFields (after_blanks (piece ++ 44 ∷ text)) (fields_of (piece ∷ next ∷ pieces))
     by_remark [] e ih =
         let more = fields_more piece (next ∷ pieces) e in
         subst (AreFields (after_blanks (piece ++ 44 ∷ text))) (sym more)
-        (spelled_next piece text (fields_of (next ∷ pieces)) h.0 (first_some piece (next ∷ pieces) some) e (ih (subst (AllByRecursion (λ f. 0 < length f)) more some).1))
+        (spelled_next piece text (fields_of (next ∷ pieces)) h.0 (first_some piece (next ∷ pieces) some) e
+        (ih (subst (AllByRecursion (λ f. 0 < length f)) more some).1))
     by_remark (b ∷ bs) e ih =
         subst (AreFields (after_blanks (piece ++ 44 ∷ text))) (sym (fields_last piece (next ∷ pieces) b bs e))
         (spelled_last piece (44 ∷ text) h.0 (first_some piece (next ∷ pieces) some) (remark_before piece text b bs h.0 e))
 
 -- a text behind a lead whose fields aren't empty
-spelled_text : (text : List ℕ) → after_blanks text ≡ text → AllByRecursion (λ f. 0 < length f) (fields_of (slice_split is_comma text)) → AreFields text (fields_of (slice_split is_comma text))
+spelled_text : (text : List ℕ) → after_blanks text ≡ text → AllByRecursion (λ f. 0 < length f) (fields_of (slice_split is_comma text))
+    → AreFields text (fields_of (slice_split is_comma text))
 spelled_text text same some =
     let first = first_piece text in
     let commas = subst (AllByRecursion HasNoComma) first.2 (no_commas text) in
@@ -258,7 +287,8 @@ spelled_text text same some =
     subst (λ l. AreFields l (fields_of (slice_split is_comma text))) (ap after_blanks (join_with_byte-slice_split 44 text) ∙ same) pieces
 
 -- the parts of a line, and that the lead isn't empty where fields follow
-spelled_line : (line w lead text : List ℕ) → w ++ (lead ++ text) ≡ line → AllByRecursion IsInk w → IsLead lead → after_blanks text ≡ text → Begins ends_word (lead ++ text) → AllByRecursion (λ f. 0 < length f) (fields_by text) → IsStarLine (42 ∷ line) w (fields_by text)
+spelled_line : (line w lead text : List ℕ) → w ++ (lead ++ text) ≡ line → AllByRecursion IsInk w → IsLead lead → after_blanks text ≡ text
+    → Begins ends_word (lead ++ text) → AllByRecursion (λ f. 0 < length f) (fields_by text) → IsStarLine (42 ∷ line) w (fields_by text)
 unfolding fields_by
 spelled_line line w lead [] parts ink l same ends some =
     subst (λ t. IsStarLine (42 ∷ t) w []) (ap (λ t. w ++ t) (sym (append-nil lead)) ∙ parts) (Bare w lead ink l)
@@ -267,7 +297,8 @@ spelled_line line w lead (c ∷ cs) parts ink l same ends some =
     let fs : List (List ℕ) = fields_of (slice_split is_comma (c ∷ cs)) in
     let are : AreFields (c ∷ cs) fs = spelled_text (c ∷ cs) same (subst (AllByRecursion (λ f. 0 < length f)) by some) in
     let long : 0 < length lead = long_lead lead ends (ink_no_end c (begin_fields (c ∷ cs) fs are).0) in
-    subst (IsStarLine (42 ∷ line) w) (sym by) (subst (λ t. IsStarLine (42 ∷ t) w fs) (append_assoc w lead (c ∷ cs) ∙ parts) (Fields w lead (c ∷ cs) fs ink l long are))
+    subst (IsStarLine (42 ∷ line) w) (sym by) (subst (λ t. IsStarLine (42 ∷ t) w fs) (append_assoc w lead (c ∷ cs)
+    ∙ parts) (Fields w lead (c ∷ cs) fs ink l long are))
   where
     long_lead : (lead : List ℕ) → Begins ends_word (lead ++ c ∷ cs) → ends_word c ≡ false → 0 < length lead
     long_lead [] ends ink = absurd (false≢true (sym ink ∙ ends))
@@ -282,7 +313,9 @@ spelled (b ∷ bs) star some =
     let text : List ℕ = after_blanks (after_comma (after_blanks rest)) in
     let lead = lead_of rest in
     let ink : AllByRecursion IsInk w = all_weaker (λ b. ends_word b ≡ false) IsInk no_end_ink w (up_to_all ends_word bs) in
-    let line = spelled_line bs w lead.0 text (ap (λ t. w ++ t) (sym lead.2) ∙ both_parts ends_word bs) ink lead.1 (after_again (after_comma (after_blanks rest))) (subst (Begins ends_word) lead.2 (from_begins ends_word bs)) some in
+    let line =
+    spelled_line bs w lead.0 text (ap (λ t. w ++ t) (sym lead.2) ∙ both_parts ends_word bs) ink lead.1 (after_again (after_comma (after_blanks rest)))
+    (subst (Begins ends_word) lead.2 (from_begins ends_word bs)) some in
     subst (λ c. IsStarLine (c ∷ bs) w (fields_by text)) (sym (eqb-true b 42 star)) line
 
 pub once : (line v w : List ℕ) (es fs : List (List ℕ)) → IsStarLine line v es → IsStarLine line w fs → (v ≡ w) × (es ≡ fs)

@@ -39,7 +39,8 @@ no_empty : (fs : List (List ℕ)) → AllByRecursion (λ f. 0 < length f) fs →
 no_empty [] h = refl
 no_empty (f ∷ fs) h = rw (ne_eqb (length f) 0 (λ e. omega (arith, h.0)), no_empty fs h.1) refl
 
-all_filled : {A : Type 0} (R : List ℕ → A → Type 0) → ((f : List ℕ) (x : A) → R f x → 0 < length f) → (fs : List (List ℕ)) (xs : List A) → AllZip R fs xs → AllByRecursion (λ f. 0 < length f) fs
+all_filled : {A : Type 0} (R : List ℕ → A → Type 0) → ((f : List ℕ) (x : A) → R f x → 0 < length f) → (fs : List (List ℕ)) (xs : List A) → AllZip R fs xs
+    → AllByRecursion (λ f. 0 < length f) fs
 all_filled R filled [] [] h = tt
 all_filled R filled [] (x ∷ xs) h = absurd h
 all_filled R filled (f ∷ fs) [] h = absurd h
@@ -51,10 +52,13 @@ has_byte : (f : List ℕ) → 0 < length f → eqb (length f) 0 ≡ false
 has_byte f h = ne_eqb (length f) 0 (λ e. omega arith)
 
 -- one field or more, none of them empty
-many_filled : (fs : List (List ℕ)) → 0 < length fs → AllByRecursion (λ f. 0 < length f) fs → (leb 1 (length fs) && not (list_any (λ f. eqb (length f) 0) fs) && true) ≡ true
+many_filled : (fs : List (List ℕ)) → 0 < length fs → AllByRecursion (λ f. 0 < length f) fs
+    → (leb 1 (length fs) && not (list_any (λ f. eqb (length f) 0) fs) && true) ≡ true
 many_filled fs some filled = and_from _ _ (and_from _ _ (le-leb 1 (length fs) some) (not_from_false _ (no_empty fs filled))) refl
 
-each_item : {A : Type 0} (R : List ℕ → A → Type 0) (reads : List ℕ → Result A FaultKind) (make : List A → ItemView) → ((f : List ℕ) (x : A) → R f x → reads f ≡ Ok x) → (fs : List (List ℕ)) (xs : List A) → AllZip R fs xs → (each_in reads fs >>= (λ ys. Ok (make ys))) ≡ Ok (make xs)
+each_item : {A : Type 0} (R : List ℕ → A → Type 0) (reads : List ℕ → Result A FaultKind) (make : List A → ItemView)
+    → ((f : List ℕ) (x : A) → R f x → reads f ≡ Ok x) → (fs : List (List ℕ)) (xs : List A) → AllZip R fs xs
+    → (each_in reads fs >>= (λ ys. Ok (make ys))) ≡ Ok (make xs)
 each_item R reads make one fs xs h = rw (each_read R reads one fs xs h) refl
 
 -- a name is read as itself
@@ -112,35 +116,53 @@ takes_read w fs item (TakesMarked a h) = (rw (has_byte a (name_filled a h)) refl
 takes_read w fs item (TakesInsert f c h) = (rw (has_byte f (card_filled f c h)) refl, rw (card_read f c h) refl)
 takes_read w fs item (TakesBefore f c h) = (rw (has_byte f (card_filled f c h)) refl, rw (card_read f c h) refl)
 takes_read w fs item (TakesDelete f c h) = (rw (has_byte f (card_filled f c h)) refl, rw (card_read f c h) refl)
-takes_read w fs item (TakesDeletes f g c d h k) = (rw (has_byte f (card_filled f c h), has_byte g (card_filled g d k)) refl, rw (card_read f c h, card_read g d k) refl)
+takes_read w fs item (TakesDeletes f g c d h k) =
+    (rw (has_byte f (card_filled f c h), has_byte g (card_filled g d k)) refl, rw (card_read f c h, card_read g d k) refl)
 takes_read w fs item (TakesRestore f c h) = (rw (has_byte f (card_filled f c h)) refl, rw (card_read f c h) refl)
-takes_read w fs item (TakesRestores f g c d h k) = (rw (has_byte f (card_filled f c h), has_byte g (card_filled g d k)) refl, rw (card_read f c h, card_read g d k) refl)
-takes_read w fs item (TakesYank gs rs some h) = (many_filled gs some (all_filled IsRange range_filled gs rs h), each_item IsRange range_in Yank range_read gs rs h)
-takes_read w fs item (TakesSelYank gs ps some h) = (many_filled gs some (all_filled IsPair pair_filled gs ps h), each_item IsPair ident_in SelYank ident_read gs ps h)
-takes_read w fs item (TakesYankDeck gs some h) = (many_filled gs some (all_filled IsSameName (λ f a k. name_filled f k.0) gs gs (zip_names gs h)), each_item IsSameName name_in YankDeck same_name_read gs gs (zip_names gs h))
-takes_read w fs item (TakesPurge gs rs some h) = (many_filled gs some (all_filled IsRange range_filled gs rs h), rw (not_from_name gs rs h) (each_item IsRange range_in Purge range_read gs rs h))
+takes_read w fs item (TakesRestores f g c d h k) =
+    (rw (has_byte f (card_filled f c h), has_byte g (card_filled g d k)) refl, rw (card_read f c h, card_read g d k) refl)
+takes_read w fs item (TakesYank gs rs some h) =
+    (many_filled gs some (all_filled IsRange range_filled gs rs h), each_item IsRange range_in Yank range_read gs rs h)
+takes_read w fs item (TakesSelYank gs ps some h) =
+    (many_filled gs some (all_filled IsPair pair_filled gs ps h), each_item IsPair ident_in SelYank ident_read gs ps h)
+takes_read w fs item (TakesYankDeck gs some h) = (
+  many_filled gs some (all_filled IsSameName (λ f a k. name_filled f k.0) gs gs (zip_names gs h)),
+  each_item IsSameName name_in YankDeck same_name_read gs gs
+      (zip_names gs h),
+)
+takes_read w fs item (TakesPurge gs rs some h) =
+    (many_filled gs some (all_filled IsRange range_filled gs rs h), rw (not_from_name gs rs h) (each_item IsRange range_in Purge range_read gs rs h))
 takes_read w fs item (TakesPurgeFrom a h) = (rw (has_byte a (name_filled a h)) refl, rw h refl)
-takes_read w fs item (TakesSelPurge gs ps some h) = (many_filled gs some (all_filled IsPair pair_filled gs ps h), each_item IsPair ident_in SelPurge ident_read gs ps h)
-takes_read w fs item (TakesPurDeck gs rs some h) = (many_filled gs some (all_filled IsRange range_filled gs rs h), each_item IsRange range_in PurDeck range_read gs rs h)
-takes_read w fs item (TakesCompile gs rs some h) = (many_filled gs some (all_filled IsRange range_filled gs rs h), each_item IsRange range_in Compile range_read gs rs h)
+takes_read w fs item (TakesSelPurge gs ps some h) =
+    (many_filled gs some (all_filled IsPair pair_filled gs ps h), each_item IsPair ident_in SelPurge ident_read gs ps h)
+takes_read w fs item (TakesPurDeck gs rs some h) =
+    (many_filled gs some (all_filled IsRange range_filled gs rs h), each_item IsRange range_in PurDeck range_read gs rs h)
+takes_read w fs item (TakesCompile gs rs some h) =
+    (many_filled gs some (all_filled IsRange range_filled gs rs h), each_item IsRange range_in Compile range_read gs rs h)
 
 -- ---- what is read is what the word takes
 
 counted : (x y z : Bool) → (x && y && z) ≡ true → x ≡ true
 counted x y z e = (and_parts x y (and_parts (x && y) z e).0).0
 
-name_taken : (w : Word) (make : List ℕ → ItemView) → ((a : List ℕ) → IsName a → Takes w (a ∷ []) (make a)) → (fs : List (List ℕ)) (item : ItemView) → eqb (length fs) 1 ≡ true → (name_in (first_field fs) >>= (λ a. Ok (make a))) ≡ Ok item → Takes w fs item
+name_taken : (w : Word) (make : List ℕ → ItemView) → ((a : List ℕ) → IsName a → Takes w (a ∷ []) (make a)) → (fs : List (List ℕ)) (item : ItemView)
+    → eqb (length fs) 1 ≡ true → (name_in (first_field fs) >>= (λ a. Ok (make a))) ≡ Ok item → Takes w fs item
 name_taken w make row fs item one e =
     let step = step_back (name_in (first_field fs)) (λ a. Ok (make a)) item e in
     let name = name_back (first_field fs) step.0 step.1 in
-    subst (Takes w fs) (ap make name.1 ∙ ok_same _ _ step.2) (subst (λ l. Takes w l (make (first_field fs))) (sym (one_field fs one)) (row (first_field fs) name.0))
+    subst (Takes w fs) (ap make name.1
+    ∙ ok_same _ _ step.2) (subst (λ l. Takes w l (make (first_field fs))) (sym (one_field fs one)) (row (first_field fs) name.0))
 
-card_taken : (w : Word) (make : CardRef → ItemView) → ((f : List ℕ) (c : CardRef) → IsCard f c → Takes w (f ∷ []) (make c)) → (fs : List (List ℕ)) (item : ItemView) → eqb (length fs) 1 ≡ true → (card_ref_in (first_field fs) >>= (λ c. Ok (make c))) ≡ Ok item → Takes w fs item
+card_taken : (w : Word) (make : CardRef → ItemView) → ((f : List ℕ) (c : CardRef) → IsCard f c → Takes w (f ∷ []) (make c))
+    → (fs : List (List ℕ)) (item : ItemView) → eqb (length fs) 1 ≡ true → (card_ref_in (first_field fs) >>= (λ c. Ok (make c))) ≡ Ok item → Takes w fs item
 card_taken w make row fs item one e =
     let step = step_back (card_ref_in (first_field fs)) (λ c. Ok (make c)) item e in
-    subst (Takes w fs) (ok_same _ _ step.2) (subst (λ l. Takes w l (make step.0)) (sym (one_field fs one)) (row (first_field fs) step.0 (card_back (first_field fs) step.0 step.1)))
+    subst (Takes w fs) (ok_same _ _ step.2)
+    (subst (λ l. Takes w l (make step.0)) (sym (one_field fs one)) (row (first_field fs) step.0 (card_back (first_field fs) step.0 step.1)))
 
-cards_taken : (w : Word) (make : CardRef → CardRef → ItemView) → ((f : List ℕ) (c : CardRef) → IsCard f c → Takes w (f ∷ []) (make c c)) → ((f g : List ℕ) (c d : CardRef) → IsCard f c → IsCard g d → Takes w (f ∷ g ∷ []) (make c d)) → (fs : List (List ℕ)) (item : ItemView) → (eqb (length fs) 1 || eqb (length fs) 2) ≡ true → two_cards_in fs make ≡ Ok item → Takes w fs item
+cards_taken : (w : Word) (make : CardRef → CardRef → ItemView) → ((f : List ℕ) (c : CardRef) → IsCard f c → Takes w (f ∷ []) (make c c))
+    → ((f g : List ℕ) (c d : CardRef) → IsCard f c → IsCard g d → Takes w (f ∷ g ∷ []) (make c d)) → (fs : List (List ℕ)) (item : ItemView)
+    → (eqb (length fs) 1 || eqb (length fs) 2) ≡ true → two_cards_in fs make ≡ Ok item → Takes w fs item
 cards_taken w make one two fs item count e = ⊎_elim (λ h. by_one h) (λ h. by_two h) (or_cases _ _ count)
   where
     f : List ℕ
@@ -160,12 +182,18 @@ cards_taken w make one two fs item count e = ⊎_elim (λ h. by_one h) (λ h. by
         let alone = one_field fs h in
         let same : f ≡ g = sym (ap last_of_two alone) in
         let card : first.0 ≡ second.0 = ok_same _ _ (sym first.1 ∙ ap card_ref_in same ∙ second.1) in
-        subst (Takes w fs) (ap (make first.0) card ∙ ok_same _ _ second.2) (subst (λ l. Takes w l (make first.0 first.0)) (sym alone) (one f first.0 (card_back f first.0 first.1)))
+        subst (Takes w fs) (ap (make first.0) card ∙ ok_same _ _ second.2)
+        (subst (λ l. Takes w l (make first.0 first.0)) (sym alone) (one f first.0 (card_back f first.0 first.1)))
 
     by_two : eqb (length fs) 2 ≡ true → Takes w fs item
-    by_two h = subst (Takes w fs) (ok_same _ _ second.2) (subst (λ l. Takes w l (make first.0 second.0)) (sym (two_fields fs h)) (two f g first.0 second.0 (card_back f first.0 first.1) (card_back g second.0 second.1)))
+    by_two h =
+        subst (Takes w fs) (ok_same _ _ second.2)
+        (subst (λ l. Takes w l (make first.0 second.0)) (sym (two_fields fs h))
+        (two f g first.0 second.0 (card_back f first.0 first.1) (card_back g second.0 second.1)))
 
-each_taken : {A : Type 0} (w : Word) (R : List ℕ → A → Type 0) (reads : List ℕ → Result A FaultKind) (make : List A → ItemView) → ((f : List ℕ) (x : A) → reads f ≡ Ok x → R f x) → ((fs : List (List ℕ)) (xs : List A) → 0 < length fs → AllZip R fs xs → Takes w fs (make xs)) → (fs : List (List ℕ)) (item : ItemView) → leb 1 (length fs) ≡ true → (each_in reads fs >>= (λ xs. Ok (make xs))) ≡ Ok item → Takes w fs item
+each_taken : {A : Type 0} (w : Word) (R : List ℕ → A → Type 0) (reads : List ℕ → Result A FaultKind) (make : List A → ItemView)
+    → ((f : List ℕ) (x : A) → reads f ≡ Ok x → R f x) → ((fs : List (List ℕ)) (xs : List A) → 0 < length fs → AllZip R fs xs → Takes w fs (make xs))
+    → (fs : List (List ℕ)) (item : ItemView) → leb 1 (length fs) ≡ true → (each_in reads fs >>= (λ xs. Ok (make xs))) ≡ Ok item → Takes w fs item
 each_taken w R reads make back row fs item some e =
     let step = step_back (each_in reads fs) (λ xs. Ok (make xs)) item e in
     subst (Takes w fs) (ok_same _ _ step.2) (row fs step.0 (leb-true 1 (length fs) some) (each_back R reads back fs step.0 step.1))
@@ -179,7 +207,8 @@ names_of_zip (f ∷ fs) (g ∷ gs) h = let rest = names_of_zip fs gs h.1 in ((h.
 yank_decks : (fs gs : List (List ℕ)) → 0 < length fs → AllZip IsSameName fs gs → Takes words.YankDeck fs (YankDeck gs)
 yank_decks fs gs some h = let names = names_of_zip fs gs h in subst (λ l. Takes words.YankDeck fs (YankDeck l)) names.1 (TakesYankDeck fs some names.0)
 
-common_taken : (fs : List (List ℕ)) (item : ItemView) → are_its_fields words.CommonDeck fs ≡ true → item_with words.CommonDeck fs ≡ Ok item → Takes words.CommonDeck fs item
+common_taken : (fs : List (List ℕ)) (item : ItemView) → are_its_fields words.CommonDeck fs ≡ true → item_with words.CommonDeck fs ≡ Ok item
+    → Takes words.CommonDeck fs item
 common_taken fs item a e = ⊎_elim by_one by_two (or_cases (eqb (length fs) 1) (eqb (length fs) 2) (counted _ _ _ a))
   where
     f : List ℕ
@@ -205,15 +234,21 @@ common_taken fs item a e = ⊎_elim by_one by_two (or_cases (eqb (length fs) 1) 
         let two = two_fields fs h in
         let right = (and_parts _ (eqb (length fs) 1 || bytes_eq (last_of_two fs) (codes "NOPROP")) a).1 in
         let no_one : eqb (length fs) 1 ≡ false = ne_eqb (length fs) 1 (λ one. omega (arith, one, eqb-true (length fs) 2 h)) in
-        let mark : last_of_two fs ≡ codes "NOPROP" = (bytes_eq-Decides (last_of_two fs) (codes "NOPROP")).0 (sym (ap (λ t. t || bytes_eq (last_of_two fs) (codes "NOPROP")) no_one) ∙ right) in
+        let mark : last_of_two fs ≡ codes "NOPROP" =
+        (bytes_eq-Decides (last_of_two fs) (codes "NOPROP")).0 (sym (ap (λ t. t || bytes_eq (last_of_two fs) (codes "NOPROP")) no_one) ∙ right) in
         let marked : CommonDeck f true ≡ item = ap (CommonDeck f) (sym h) ∙ same in
-        subst (Takes words.CommonDeck fs) marked (subst (λ l. Takes words.CommonDeck l (CommonDeck f true)) (sym (two ∙ ap (λ g. f ∷ g ∷ []) mark)) (TakesMarked f name.0))
+        subst (Takes words.CommonDeck fs) marked (subst (λ l. Takes words.CommonDeck l (CommonDeck f true)) (sym (two
+        ∙ ap (λ g. f ∷ g ∷ []) mark)) (TakesMarked f name.0))
 
 purge_taken : (fs : List (List ℕ)) (item : ItemView) → leb 1 (length fs) ≡ true → item_with words.Purge fs ≡ Ok item → Takes words.Purge fs item
 purge_taken fs item some e = by_test (is_from_name fs) refl e
   where
-    by_test : (t : Bool) → is_from_name fs ≡ t → cond t (Ok (PurgeFrom (first_field fs))) (each_in range_in fs >>= (λ rs. Ok (Purge rs))) ≡ Ok item → Takes words.Purge fs item
-    by_test true h e = let from = from_name fs h in subst (Takes words.Purge fs) (ok_same _ _ e) (subst (λ l. Takes words.Purge l (PurgeFrom (first_field fs))) (sym from.1) (TakesPurgeFrom (first_field fs) from.0))
+    by_test : (t : Bool) → is_from_name fs ≡ t → cond t (Ok (PurgeFrom (first_field fs))) (each_in range_in fs >>= (λ rs. Ok (Purge rs))) ≡ Ok item
+        → Takes words.Purge fs item
+    by_test true h e =
+        let from =
+        from_name fs h in subst (Takes words.Purge fs) (ok_same _ _ e)
+        (subst (λ l. Takes words.Purge l (PurgeFrom (first_field fs))) (sym from.1) (TakesPurgeFrom (first_field fs) from.0))
     by_test false h e = each_taken words.Purge IsRange range_in Purge range_back TakesPurge fs item some e
 
 pub takes_back : (w : Word) (fs : List (List ℕ)) (item : ItemView) → are_its_fields w fs ≡ true → item_with w fs ≡ Ok item → Takes w fs item

@@ -10,8 +10,8 @@ use Rattle.upd_text.specs.declared.fault.FaultKind.TheVariants as fault
 use Rattle.upd_text.specs.declared.limits.TheConstants.{MAX_RUN_LINES, MAX_LINE_BYTES}
 use Rattle.upd_text.specs.Lines.{is_blank, is_comment}
 use Rattle.upd_text.specs.Outcome.{◌>>=◌, refuse_if}
-use Rattle.upd_deck.specs.Items.{LineView}
-use Rattle.upd_deck.specs.Grammar.{blanks, IsAllowed, EndsInked, IsTextOf, Trimmed, IsComment, Slashed, line_view, IsLine, Comment, Line}
+use Rattle.upd_deck.specs.Items.{LineView, line_view}
+use Rattle.upd_deck.specs.Grammar.{blanks, IsAllowed, EndsInked, IsTextOf, Trimmed, IsComment, Slashed, IsLine, Comment, Line}
 use Rattle.upd_deck.specs.Reading.{item_of, trimmed, is_allowed, text_of, CutLine, said}
 use Rattle.upd_deck.proofs.GrammarParts.{all_weaker, all_append}
 use Rattle.upd_deck.proofs.GrammarNames.{done, step_back, ok_same, all_of, all_to}
@@ -23,7 +23,9 @@ last_inked : (text : List ℕ) → EndsInked text → 0 < length text → is_bla
 last_inked text inked some = ne_eqb (get_or text (length text - 1) 0) 32 (λ e. inked (take (length text - 1) text) (whole e))
   where
     whole : get_or text (length text - 1) 0 ≡ 32 → text ≡ take (length text - 1) text ++ 32 ∷ []
-    whole e = sym (take_all (length text - 1 + 1) text (omega arith)) ∙ take_more text (length text - 1) 0 (omega arith) ∙ ap (λ b. take (length text - 1) text ++ b ∷ []) e
+    whole e =
+        sym (take_all (length text - 1 + 1) text (omega arith)) ∙ take_more text (length text - 1) 0 (omega arith)
+        ∙ ap (λ b. take (length text - 1) text ++ b ∷ []) e
 
 long_blanks : (n : ℕ) → length (blanks n) ≡ n
 long_blanks n = length-replicate n (let b : ℕ = 32 in b)
@@ -42,7 +44,8 @@ blanks_counted text n inked =
 
 pub trimmed_is : (text : List ℕ) (n : ℕ) → EndsInked text → trimmed (text ++ blanks n) ≡ text
 trimmed_is text n inked =
-    let long : length (text ++ blanks n) - suffix_len is_blank (text ++ blanks n) ≡ length text = omega (arith, blanks_counted text n inked, length-append text (blanks n), long_blanks n) in
+    let long : length (text ++ blanks n) - suffix_len is_blank (text ++ blanks n) ≡ length text =
+    omega (arith, blanks_counted text n inked, length-append text (blanks n), long_blanks n) in
     rw long (take-append_seam text (blanks n))
 
 -- each line is a text and blanks
@@ -77,7 +80,8 @@ allowed_read b h = ⊎_elim (λ r. or_left _ (eqb b 9) (and_from _ _ (le-leb 32 
 
 pub allowed_back : (b : ℕ) → is_allowed b ≡ true → IsAllowed b
 allowed_back b h =
-    ⊎_elim (λ r. let both = and_parts (leb 32 b) (leb b 126) r in inl (leb-true 32 b both.0, leb-true b 126 both.1)) (λ e. inr (eqb-true b 9 e)) (or_cases (leb 32 b && leb b 126) (eqb b 9) h)
+    ⊎_elim (λ r. let both = and_parts (leb 32 b) (leb b 126) r in inl (leb-true 32 b both.0, leb-true b 126 both.1)) (λ e. inr (eqb-true b 9 e))
+    (or_cases (leb 32 b && leb b 126) (eqb b 9) h)
 
 pub allowed_blanks : (n : ℕ) → AllByRecursion (λ b. is_allowed b ≡ true) (blanks n)
 allowed_blanks zero = tt
@@ -89,10 +93,13 @@ long_or_text line = refuse_if (ltb MAX_LINE_BYTES (length (trimmed line))) fault
 pub text_read : (text line : List ℕ) → IsTextOf text line → text_of line ≡ Ok text
 unfolding long_or_text
 text_read text line (Trimmed _ n allowed short inked) =
-    let all : list_all is_allowed (text ++ blanks n) ≡ true = all_to is_allowed (text ++ blanks n) (all_append (λ b. is_allowed b ≡ true) text (blanks n) (all_weaker IsAllowed (λ b. is_allowed b ≡ true) allowed_read text allowed) (allowed_blanks n)) in
+    let all : list_all is_allowed (text ++ blanks n) ≡ true =
+    all_to is_allowed (text ++ blanks n) (all_append (λ b. is_allowed b ≡ true) text (blanks n)
+    (all_weaker IsAllowed (λ b. is_allowed b ≡ true) allowed_read text allowed) (allowed_blanks n)) in
     let same = trimmed_is text n inked in
     refuse_read (not (list_all is_allowed (text ++ blanks n))) fault.BadByte (λ _. long_or_text (text ++ blanks n)) (ap not all)
-    ∙ refuse_read (ltb MAX_LINE_BYTES (length (trimmed (text ++ blanks n)))) fault.LineLong (λ _. done (trimmed (text ++ blanks n))) (ap (λ l. ltb MAX_LINE_BYTES (length l)) same ∙ le-ltb MAX_LINE_BYTES (length text) short)
+    ∙ refuse_read (ltb MAX_LINE_BYTES (length (trimmed (text ++ blanks n)))) fault.LineLong (λ _. done (trimmed (text ++ blanks n)))
+    (ap (λ l. ltb MAX_LINE_BYTES (length l)) same ∙ le-ltb MAX_LINE_BYTES (length text) short)
     ∙ ap Ok same
 
 pub all_front : (P : ℕ → Type 0) (xs ys : List ℕ) → AllByRecursion P (xs ++ ys) → AllByRecursion P xs
@@ -108,7 +115,8 @@ text_back line text e =
     let same : split.0 ≡ text = sym (ap trimmed split.2 ∙ trimmed_is split.0 split.1 split.3) ∙ ok_same _ _ short.1 in
     let all = all_of is_allowed (split.0 ++ blanks split.1) (ap (list_all is_allowed) (sym split.2) ∙ not-false (list_all is_allowed line) allowed.0) in
     let front = all_weaker (λ b. is_allowed b ≡ true) IsAllowed allowed_back split.0 (all_front (λ b. is_allowed b ≡ true) split.0 (blanks split.1) all) in
-    let fits : length split.0 ≤ MAX_LINE_BYTES = ltb-false MAX_LINE_BYTES (length split.0) (ap (λ l. ltb MAX_LINE_BYTES (length l)) (same ∙ sym (ok_same _ _ short.1)) ∙ short.0) in
+    let fits : length split.0 ≤ MAX_LINE_BYTES =
+    ltb-false MAX_LINE_BYTES (length split.0) (ap (λ l. ltb MAX_LINE_BYTES (length l)) (same ∙ sym (ok_same _ _ short.1)) ∙ short.0) in
     subst (λ l. IsTextOf l line) same (subst (IsTextOf split.0) (sym split.2) (Trimmed split.0 split.1 front fits split.3))
 
 -- ---- comments
@@ -131,23 +139,31 @@ cut_line number start line = record { number = number; start = start; bytes = li
 abbrev said_by : ℕ → ℕ → List ℕ → Result (List LineView) FaultKind
 said_by number start text = cond (is_comment text) (Ok []) (item_of text >>= (λ item. Ok (line_view number start text item ∷ [])))
 
-pub line_read : (number start : ℕ) (line : List ℕ) (lines : List LineView) → IsLine number start line lines → (number ≤ MAX_RUN_LINES) × (said (cut_line number start line) ≡ Ok lines)
-line_read number start line lines (Comment _ _ _ text few is comment) =
-    (few, ap (λ r. r >>= said_by number start) (text_read text line is) ∙ ap (λ t. cond t (done []) (item_of text >>= (λ item. Ok (line_view number start text item ∷ [])))) (comment_read text comment))
+pub line_read : (number start : ℕ) (line : List ℕ) (lines : List LineView) → IsLine number start line lines
+    → (number ≤ MAX_RUN_LINES) × (said (cut_line number start line) ≡ Ok lines)
+line_read number start line lines (Comment _ _ _ text few is comment) = (
+  few,
+  ap (λ r. r >>= said_by number start) (text_read text line is)
+      ∙ ap (λ t. cond t (done []) (item_of text >>= (λ item. Ok (line_view number start text item ∷ [])))) (comment_read text comment),
+)
 line_read number start line lines (Line _ _ _ text item few is no_comment says) =
     let plain : is_comment text ≡ false = false_from_ne_true (is_comment text) (λ e. no_comment (comment_back text e)) in (
       few,
-      ap (λ r. r >>= said_by number start) (text_read text line is) ∙ ap (λ t. cond t (done []) (item_of text >>= (λ item. Ok (line_view number start text item ∷ [])))) plain
+      ap (λ r. r >>= said_by number start) (text_read text line is)
+          ∙ ap (λ t. cond t (done []) (item_of text >>= (λ item. Ok (line_view number start text item ∷ [])))) plain
           ∙ ap (λ r. r >>= (λ item. done (line_view number start text item ∷ []))) (says_read text item says),
     )
 
-pub line_back : (number start : ℕ) (line : List ℕ) (lines : List LineView) → number ≤ MAX_RUN_LINES → said (cut_line number start line) ≡ Ok lines → IsLine number start line lines
+pub line_back : (number start : ℕ) (line : List ℕ) (lines : List LineView) → number ≤ MAX_RUN_LINES → said (cut_line number start line) ≡ Ok lines
+    → IsLine number start line lines
 line_back number start line lines few e =
     let step = step_back (text_of line) (said_by number start) lines e in
     by_comment step.0 (text_back line step.0 step.1) (is_comment step.0) refl step.2
   where
-    by_comment : (text : List ℕ) → IsTextOf text line → (t : Bool) → is_comment text ≡ t → cond t (Ok []) (item_of text >>= (λ item. Ok (line_view number start text item ∷ []))) ≡ Ok lines → IsLine number start line lines
+    by_comment : (text : List ℕ) → IsTextOf text line → (t : Bool) → is_comment text ≡ t
+        → cond t (Ok []) (item_of text >>= (λ item. Ok (line_view number start text item ∷ []))) ≡ Ok lines → IsLine number start line lines
     by_comment text is true h e = subst (IsLine number start line) (ok_same _ _ e) (Comment number start line text few is (comment_back text h))
     by_comment text is false h e =
         let item = step_back (item_of text) (λ item. done (line_view number start text item ∷ [])) lines e in
-        subst (IsLine number start line) (ok_same _ _ item.2) (Line number start line text item.0 few is (λ c. both_ways (is_comment text) h (comment_read text c)) (says_back text item.0 item.1))
+        subst (IsLine number start line) (ok_same _ _ item.2)
+        (Line number start line text item.0 few is (λ c. both_ways (is_comment text) h (comment_read text c)) (says_back text item.0 item.1))

@@ -88,7 +88,8 @@ cut_at_point : (f : List ℕ) → list_any is_point f ≡ true → (a : List ℕ
 cut_at_point [] h = absurd (false≢true h)
 cut_at_point (x ∷ xs) h = by_point (is_point x) refl (cut_at_point xs) h
   where
-    by_point : (t : Bool) → is_point x ≡ t → (list_any is_point xs ≡ true → (a : List ℕ) × (b : List ℕ) × (xs ≡ a ++ 46 ∷ b) × HasNoPoint a) → (t || list_any is_point xs) ≡ true → (a : List ℕ) × (b : List ℕ) × (x ∷ xs ≡ a ++ 46 ∷ b) × HasNoPoint a
+    by_point : (t : Bool) → is_point x ≡ t → (list_any is_point xs ≡ true → (a : List ℕ) × (b : List ℕ) × (xs ≡ a ++ 46 ∷ b) × HasNoPoint a)
+        → (t || list_any is_point xs) ≡ true → (a : List ℕ) × (b : List ℕ) × (x ∷ xs ≡ a ++ 46 ∷ b) × HasNoPoint a
     by_point true e ih h = ([], xs, ap (λ c. c ∷ xs) (eqb-true x 46 e), tt)
     by_point false e ih h = let rest = ih h in (x ∷ rest.0, rest.1, ap (λ l. x ∷ l) rest.2, (e, rest.3))
 
@@ -109,7 +110,8 @@ name_back f a e = by_name (is_name f) refl e
 
 -- ---- two names
 
-pair_read : {R : Type 0} (make : List ℕ → List ℕ → R) (a b : List ℕ) → IsName a → IsName b → (name_in (before_first is_point (a ++ 46 ∷ b)) >>= (λ x. name_in (after_first is_point (a ++ 46 ∷ b)) >>= (λ y. Ok (make x y)))) ≡ Ok (make a b)
+pair_read : {R : Type 0} (make : List ℕ → List ℕ → R) (a b : List ℕ) → IsName a → IsName b
+    → (name_in (before_first is_point (a ++ 46 ∷ b)) >>= (λ x. name_in (after_first is_point (a ++ 46 ∷ b)) >>= (λ y. Ok (make x y)))) ≡ Ok (make a b)
 pair_read make a b g h =
     let none = name_no_point a g in
     rw (before_point a b none, after_point a b none, name_read a g, name_read b h) refl
@@ -123,16 +125,28 @@ point_back : (f : List ℕ) → (after_first is_point f ≡ [] → ⊥) → f �
 point_back f h = by_point (list_any is_point f) refl
   where
     by_point : (t : Bool) → list_any is_point f ≡ t → f ≡ before_first is_point f ++ 46 ∷ after_first is_point f
-    by_point true e = let cut = cut_at_point f e in subst (λ g. g ≡ before_first is_point g ++ 46 ∷ after_first is_point g) (sym cut.2) (rw (before_point cut.0 cut.1 cut.3, after_point cut.0 cut.1 cut.3) refl)
+    by_point true e =
+        let cut =
+        cut_at_point f e in subst (λ g. g ≡ before_first is_point g ++ 46 ∷ after_first is_point g) (sym cut.2)
+        (rw (before_point cut.0 cut.1 cut.3, after_point cut.0 cut.1 cut.3) refl)
     by_point false e = absurd (h (after_none f (no_point_from f e)))
 
-pair_back : {R : Type 0} (make : List ℕ → List ℕ → R) (f : List ℕ) (r : R) → (name_in (before_first is_point f) >>= (λ x. name_in (after_first is_point f) >>= (λ y. Ok (make x y)))) ≡ Ok r → (a : List ℕ) × (b : List ℕ) × IsName a × IsName b × (f ≡ a ++ 46 ∷ b) × (make a b ≡ r)
+pair_back : {R : Type 0} (make : List ℕ → List ℕ → R) (f : List ℕ) (r : R)
+    → (name_in (before_first is_point f) >>= (λ x. name_in (after_first is_point f) >>= (λ y. Ok (make x y)))) ≡ Ok r
+    → (a : List ℕ) × (b : List ℕ) × IsName a × IsName b × (f ≡ a ++ 46 ∷ b) × (make a b ≡ r)
 pair_back make f r e =
     let first = step_back (name_in (before_first is_point f)) (λ x. name_in (after_first is_point f) >>= (λ y. Ok (make x y))) r e in
     let second = step_back (name_in (after_first is_point f)) (λ y. Ok (make first.0 y)) r first.2 in
     let a = name_back (before_first is_point f) first.0 first.1 in
-    let b = name_back (after_first is_point f) second.0 second.1 in
-    (before_first is_point f, after_first is_point f, a.0, b.0, point_back f (λ none. false≢true (subst (λ l. is_name l ≡ true) none b.0)), ap (λ x. make x (after_first is_point f)) a.1 ∙ ap (make first.0) b.1 ∙ ok_same _ _ second.2)
+    let b = name_back (after_first is_point f) second.0 second.1 in (
+      before_first is_point f,
+      after_first is_point f,
+      a.0,
+      b.0,
+      point_back f (λ none. false≢true (subst (λ l. is_name l ≡ true) none b.0)),
+      ap
+          (λ x. make x (after_first is_point f)) a.1 ∙ ap (make first.0) b.1 ∙ ok_same _ _ second.2,
+    )
 
 pub ident_read : (f : List ℕ) (p : IdentIn) → IsPair f p → ident_in f ≡ Ok p
 ident_read f p (Pair d z g h) = pair_read (λ x y. record { deck = x; ident = y }) d z g h
@@ -170,7 +184,9 @@ number_read : (n : ℕ) → 0 < n → n < 10 ^ 6 → is_card_number (decimal n) 
 number_read n some small =
     let wide = number_small n small in
     let ds : List ℕ = decimal n in
-    let length_in : is_between 1 6 (length ds) ≡ true = and_from (leb 1 (length ds)) (leb (length ds) 6) (le-leb 1 (length ds) (decimal_nonempty n wide)) (le-leb (length ds) 6 (length-decimal-le 6 n (omega arith) small wide)) in
+    let length_in : is_between 1 6 (length ds) ≡ true =
+    and_from (leb 1 (length ds)) (leb (length ds) 6) (le-leb 1 (length ds) (decimal_nonempty n wide))
+    (le-leb (length ds) 6 (length-decimal-le 6 n (omega arith) small wide)) in
     let first = first_decimal n some wide in
     and_from _ _ (and_from _ _ length_in (digits_decimal own n wide)) (not_from_false _ (ne_eqb (get_or ds 0 0) 48 (λ e. omega arith)))
 
@@ -181,7 +197,8 @@ number_back ds h =
     let between = and_parts (leb 1 (length ds)) (leb (length ds) 6) two.0 in
     let no_zero : get_or ds 0 0 ≡ 48 → ⊥ = eqb-false (get_or ds 0 0) 48 (not-true (eqb (get_or ds 0 0) 48) three.1) in
     let small : number_behind 0 ds < 10 ^ 6 = digits_value_short own ds 6 two.1 (leb-true (length ds) 6 between.1) in
-    let same : decimal (number_behind 0 ds) ≡ ds = decimal-digits_value own ds two.1 (leb-true 1 (length ds) between.0) (λ e. absurd (no_zero e)) (number_small _ small) in
+    let same : decimal (number_behind 0 ds) ≡ ds =
+    decimal-digits_value own ds two.1 (leb-true 1 (length ds) between.0) (λ e. absurd (no_zero e)) (number_small _ small) in
     (by_zero (number_behind 0 ds) same no_zero, small, same)
   where
     by_zero : (n : ℕ) → decimal n ≡ ds → (get_or ds 0 0 ≡ 48 → ⊥) → 0 < n
@@ -192,7 +209,14 @@ pub card_read : (f : List ℕ) (c : CardRef) → IsCard f c → card_ref_in f �
 card_read f d (Card c name some small) =
     let none = name_no_point c.name name in
     let ds : List ℕ = decimal c.number in
-    rw (before_point c.name ds none, after_point c.name ds none, name, number_read c.number some small, digits_value-decimal own c.number (number_small c.number small)) refl
+    rw (
+      before_point c.name ds none,
+      after_point c.name ds none,
+      name,
+      number_read c.number some small,
+      digits_value-decimal own c.number
+          (number_small c.number small),
+    ) refl
 
 pub card_back : (f : List ℕ) (c : CardRef) → card_ref_in f ≡ Ok c → IsCard f c
 card_back f c e = by_test (is_name (before_first is_point f) && is_card_number (after_first is_point f)) refl e
@@ -211,7 +235,8 @@ card_back f c e = by_test (is_name (before_first is_point f) && is_card_number (
     by_test true h e =
         let both = and_parts (is_name a) (is_card_number ds) h in
         let number = number_back ds both.1 in
-        let same : f ≡ card_text card = point_back f (λ none. false≢true (subst (λ l. is_card_number l ≡ true) none both.1)) ∙ ap (λ l. a ++ 46 ∷ l) (sym number.2) in
+        let same : f ≡ card_text card =
+        point_back f (λ none. false≢true (subst (λ l. is_card_number l ≡ true) none both.1)) ∙ ap (λ l. a ++ 46 ∷ l) (sym number.2) in
         subst (IsCard f) (ok_same _ _ e) (subst (λ g. IsCard g card) (sym same) (Card card both.0 number.0 number.1))
 
 -- ---- one after another

@@ -102,7 +102,8 @@ pub split_at_comma : (front rest : List ℕ) → HasNoComma front → slice_spli
 split_at_comma [] rest h = refl
 split_at_comma (b ∷ bs) rest h = rw (h.0, split_at_comma bs rest h.1) refl
 
-pub split_onto : (front text piece : List ℕ) (pieces : List (List ℕ)) → HasNoComma front → slice_split is_comma text ≡ piece ∷ pieces → slice_split is_comma (front ++ text) ≡ (front ++ piece) ∷ pieces
+pub split_onto : (front text piece : List ℕ) (pieces : List (List ℕ)) → HasNoComma front → slice_split is_comma text ≡ piece ∷ pieces
+    → slice_split is_comma (front ++ text) ≡ (front ++ piece) ∷ pieces
 split_onto [] text piece pieces h e = e
 split_onto (b ∷ bs) text piece pieces h e = rw (h.0, split_onto bs text piece pieces h.1 e) refl
 
@@ -111,7 +112,8 @@ pub first_piece : (text : List ℕ) → (piece : List ℕ) × (pieces : List (Li
 first_piece [] = ([], [], refl)
 first_piece (b ∷ bs) = by_comma (is_comma b) (first_piece bs)
   where
-    by_comma : (t : Bool) → (piece : List ℕ) × (pieces : List (List ℕ)) × (slice_split is_comma bs ≡ piece ∷ pieces) → (piece : List ℕ) × (pieces : List (List ℕ)) × (cond t ([] ∷ slice_split is_comma bs) (onto_first b (slice_split is_comma bs)) ≡ piece ∷ pieces)
+    by_comma : (t : Bool) → (piece : List ℕ) × (pieces : List (List ℕ)) × (slice_split is_comma bs ≡ piece ∷ pieces)
+        → (piece : List ℕ) × (pieces : List (List ℕ)) × (cond t ([] ∷ slice_split is_comma bs) (onto_first b (slice_split is_comma bs)) ≡ piece ∷ pieces)
     by_comma true first = ([], slice_split is_comma bs, refl)
     by_comma false (piece, pieces, e) = (b ∷ piece, pieces, ap (onto_first b) e)
 
@@ -122,10 +124,12 @@ begins_field [] rest h = absurd (omega (arith, h.0))
 begins_field (b ∷ bs) rest h = h.1.0
 
 pub field_is : (f rest : List ℕ) → IsField f → Begins is_blank rest → field (f ++ rest) ≡ f
-field_is f rest h e = rw (ink_stays (f ++ rest) (begins_field f rest h)) (up_to_end is_blank f rest (all_weaker IsInk (λ b. is_blank b ≡ false) ink_no_blank f h.1) e)
+field_is f rest h e =
+    rw (ink_stays (f ++ rest) (begins_field f rest h)) (up_to_end is_blank f rest (all_weaker IsInk (λ b. is_blank b ≡ false) ink_no_blank f h.1) e)
 
 pub remark_is : (f rest : List ℕ) → IsField f → Begins is_blank rest → remark (f ++ rest) ≡ after_blanks rest
-remark_is f rest h e = rw (ink_stays (f ++ rest) (begins_field f rest h), from_end is_blank f rest (all_weaker IsInk (λ b. is_blank b ≡ false) ink_no_blank f h.1) e) refl
+remark_is f rest h e =
+    rw (ink_stays (f ++ rest) (begins_field f rest h), from_end is_blank f rest (all_weaker IsInk (λ b. is_blank b ≡ false) ink_no_blank f h.1) e) refl
 
 pub begins_blanks : (n : ℕ) → Begins is_blank (blanks n)
 begins_blanks zero = tt
@@ -150,4 +154,6 @@ fields_last piece pieces b bs e =
 pub blanks_before : (n : ℕ) (text : List ℕ) → fields_of (slice_split is_comma (blanks n ++ text)) ≡ fields_of (slice_split is_comma text)
 blanks_before n text =
     let first = first_piece text in
-    rw (split_onto (blanks n) text first.0 first.1 (blanks_no_comma n) first.2, first.2) (ap (λ p. cond (eqb (length (after_blanks (from_first is_blank p))) 0) (up_to is_blank p ∷ fields_of first.1) (up_to is_blank p ∷ [])) (blanks_gone n first.0))
+    rw (split_onto (blanks n) text first.0 first.1 (blanks_no_comma n) first.2, first.2)
+    (ap (λ p. cond (eqb (length (after_blanks (from_first is_blank p))) 0) (up_to is_blank p ∷ fields_of first.1) (up_to is_blank p ∷ []))
+    (blanks_gone n first.0))

@@ -27,7 +27,8 @@ IsPlain b = (eqb b 10 ≡ false) × (eqb b 13 ≡ false)
 
 allowed_plain : (b : ℕ) → IsAllowed b → IsPlain b
 unfolding IsPlain
-allowed_plain b h = (ne_eqb b 10 (λ e. ⊎_elim (λ r. omega (arith, r.0)) (λ n. omega arith) h), ne_eqb b 13 (λ e. ⊎_elim (λ r. omega (arith, r.0)) (λ n. omega arith) h))
+allowed_plain b h =
+    (ne_eqb b 10 (λ e. ⊎_elim (λ r. omega (arith, r.0)) (λ n. omega arith) h), ne_eqb b 13 (λ e. ⊎_elim (λ r. omega (arith, r.0)) (λ n. omega arith) h))
 
 blanks_plain : (n : ℕ) → AllByRecursion IsPlain (blanks n)
 unfolding IsPlain
@@ -35,7 +36,8 @@ blanks_plain zero = tt
 blanks_plain (suc n) = ((refl, refl), blanks_plain n)
 
 text_plain : (text line : List ℕ) → IsTextOf text line → AllByRecursion IsPlain line
-text_plain text line (Trimmed _ n allowed short inked) = all_append IsPlain text (blanks n) (all_weaker IsAllowed IsPlain allowed_plain text allowed) (blanks_plain n)
+text_plain text line (Trimmed _ n allowed short inked) =
+    all_append IsPlain text (blanks n) (all_weaker IsAllowed IsPlain allowed_plain text allowed) (blanks_plain n)
 
 pub line_plain : (number start : ℕ) (line : List ℕ) (lines : List LineView) → IsLine number start line lines → AllByRecursion IsPlain line
 line_plain number start line lines (Comment _ _ _ text few is comment) = text_plain text line is
@@ -53,7 +55,8 @@ first_piece : (text : List ℕ) → (piece : List ℕ) × (pieces : List (List �
 first_piece [] = ([], [], refl)
 first_piece (b ∷ bs) = by_feed (is_feed b) (first_piece bs)
   where
-    by_feed : (t : Bool) → (piece : List ℕ) × (pieces : List (List ℕ)) × (slice_split is_feed bs ≡ piece ∷ pieces) → (piece : List ℕ) × (pieces : List (List ℕ)) × (cond t ([] ∷ slice_split is_feed bs) (onto_first b (slice_split is_feed bs)) ≡ piece ∷ pieces)
+    by_feed : (t : Bool) → (piece : List ℕ) × (pieces : List (List ℕ)) × (slice_split is_feed bs ≡ piece ∷ pieces)
+        → (piece : List ℕ) × (pieces : List (List ℕ)) × (cond t ([] ∷ slice_split is_feed bs) (onto_first b (slice_split is_feed bs)) ≡ piece ∷ pieces)
     by_feed true first = ([], slice_split is_feed bs, refl)
     by_feed false (piece, pieces, e) = (b ∷ piece, pieces, ap (onto_first b) e)
 
@@ -78,9 +81,12 @@ strip_split (b ∷ bs) = by_return (eqb (get_or (b ∷ bs) (length (b ∷ bs) - 
     piece : List ℕ
     piece = b ∷ bs
 
-    by_return : (t : Bool) → eqb (get_or piece (length piece - 1) 0) 13 ≡ t → (cond t (take (length piece - 1) piece) piece ≡ piece) ⊎ (piece ≡ cond t (take (length piece - 1) piece) piece ++ 13 ∷ [])
+    by_return : (t : Bool) → eqb (get_or piece (length piece - 1) 0) 13 ≡ t
+        → (cond t (take (length piece - 1) piece) piece ≡ piece) ⊎ (piece ≡ cond t (take (length piece - 1) piece) piece ++ 13 ∷ [])
     by_return false e = inl refl
-    by_return true e = inr (sym (take_all (length piece - 1 + 1) piece (omega arith)) ∙ take_more piece (length piece - 1) 0 (omega arith) ∙ ap (λ c. take (length piece - 1) piece ++ c ∷ []) (eqb-true (get_or piece (length piece - 1) 0) 13 e))
+    by_return true e =
+        inr (sym (take_all (length piece - 1 + 1) piece (omega arith)) ∙ take_more piece (length piece - 1) 0 (omega arith)
+        ∙ ap (λ c. take (length piece - 1) piece ++ c ∷ []) (eqb-true (get_or piece (length piece - 1) 0) 13 e))
 
 -- ---- what is spelled so is read so
 
@@ -95,10 +101,13 @@ plain_return line h = all_weaker IsPlain (λ b. eqb b 13 ≡ false) (λ b k. k.1
 cut_last : (number start : ℕ) (line : List ℕ) → 0 < length line → cut_from number start (line ∷ []) ≡ cut_line number start line ∷ []
 cut_last number start line some = cond-false (eqb (length line) 0) [] (cut_line number start line ∷ []) (ne_eqb (length line) 0 (λ e. omega arith))
 
-cut_next : (number start : ℕ) (line piece rest : List ℕ) → strip_carriage_return piece ≡ line → AllByRecursion (λ b. eqb b 10 ≡ false) piece → cut_from number start (slice_split is_feed (piece ++ 10 ∷ rest)) ≡ cut_line number start line ∷ cut_from (number + 1) (start + length piece + 1) (slice_split is_feed rest)
+cut_next : (number start : ℕ) (line piece rest : List ℕ) → strip_carriage_return piece ≡ line → AllByRecursion (λ b. eqb b 10 ≡ false) piece
+    → cut_from number start (slice_split is_feed (piece ++ 10 ∷ rest))
+    ≡ cut_line number start line ∷ cut_from (number + 1) (start + length piece + 1) (slice_split is_feed rest)
 cut_next number start line piece rest strip plain =
     let first = first_piece rest in
-    rw (split_at_feed piece rest plain, first.2) (ap (λ l. cut_line number start l ∷ cut_from (number + 1) (start + length piece + 1) (first.0 ∷ first.1)) strip)
+    rw (split_at_feed piece rest plain, first.2)
+    (ap (λ l. cut_line number start l ∷ cut_from (number + 1) (start + length piece + 1) (first.0 ∷ first.1)) strip)
 
 -- a line that was read, and what the lines behind it say
 next_read : (number start : ℕ) (line : List ℕ) (more later : List LineView) (cuts all : List CutLine) → all ≡ cut_line number start line ∷ cuts
@@ -191,10 +200,12 @@ lines_back number start piece (next ∷ pieces) lines few e =
 
 -- ---- the limits of a run
 
-pub gate_read : {B : Type 0} (bad : Bool) (kind : FaultKind) (next : Bool → Result B Fault) → bad ≡ false → (at_line 0 (refuse_if bad kind) >>= next) ≡ next false
+pub gate_read : {B : Type 0} (bad : Bool) (kind : FaultKind) (next : Bool → Result B Fault) → bad ≡ false
+    → (at_line 0 (refuse_if bad kind) >>= next) ≡ next false
 gate_read bad kind next e = ap (λ b. at_line 0 (refuse_if b kind) >>= next) e
 
-gate_back : {B : Type 0} (bad : Bool) (kind : FaultKind) (next : Bool → Result B Fault) (y : B) → (at_line 0 (refuse_if bad kind) >>= next) ≡ Ok y → (bad ≡ false) × (next false ≡ Ok y)
+gate_back : {B : Type 0} (bad : Bool) (kind : FaultKind) (next : Bool → Result B Fault) (y : B) → (at_line 0 (refuse_if bad kind) >>= next) ≡ Ok y
+    → (bad ≡ false) × (next false ≡ Ok y)
 gate_back true kind next y e = absurd cc
 gate_back false kind next y e = (refl, e)
 
@@ -205,7 +216,8 @@ run_read : (bytes : List ℕ) (lines : List LineView) → Reads bytes lines → 
 run_read bytes lines h =
     let read = lines_read 1 0 bytes lines h.spelled (omega arith) in
     gate_read (ltb MAX_RUN_BYTES (length bytes)) fault.RunLong (λ _. counted bytes) (le-ltb MAX_RUN_BYTES (length bytes) h.short)
-    ∙ gate_read (ltb MAX_RUN_LINES (length (cut bytes))) fault.TooManyLines (λ _. each said_at (cut bytes)) (le-ltb MAX_RUN_LINES (length (cut bytes)) (omega (arith, read.1)))
+    ∙ gate_read (ltb MAX_RUN_LINES (length (cut bytes))) fault.TooManyLines (λ _. each said_at (cut bytes))
+    (le-ltb MAX_RUN_LINES (length (cut bytes)) (omega (arith, read.1)))
     ∙ read.0
 
 pub run_back : (bytes : List ℕ) (lines : List LineView) → reading bytes ≡ Ok lines → Reads bytes lines

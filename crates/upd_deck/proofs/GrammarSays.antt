@@ -37,7 +37,8 @@ in_table : (ss : List Spelling) (w : List ℕ) (word : Word) → meaning_by ss w
 in_table [] w word e = absurd cc
 in_table (s ∷ ss) w word e = by_test (bytes_eq w s.text) refl e (in_table ss w word)
   where
-    by_test : (t : Bool) → bytes_eq w s.text ≡ t → option_map (λ s. s.means) (cond t (Some s) (find (λ s. bytes_eq w s.text) ss)) ≡ Some word → (meaning_by ss w ≡ Some word → Contains ss (spelled w word)) → Contains (s ∷ ss) (spelled w word)
+    by_test : (t : Bool) → bytes_eq w s.text ≡ t → option_map (λ s. s.means) (cond t (Some s) (find (λ s. bytes_eq w s.text) ss)) ≡ Some word
+        → (meaning_by ss w ≡ Some word → Contains ss (spelled w word)) → Contains (s ∷ ss) (spelled w word)
     by_test true h e ih = (0, omega arith, same_spelling s w word (same_text w s.text h) cc)
     by_test false h e ih = let rest = ih e in (suc rest.0, omega (arith, rest.1), rest.2)
 
@@ -59,7 +60,8 @@ from_table (s ∷ ss) w word a (zero, lt, e) =
 from_table (s ∷ ss) w word a (suc k, lt, e) =
     let both = and_parts (not (list_any (λ t. bytes_eq s.text t.text) ss)) (are_apart ss) a in
     let rest : Contains ss (spelled w word) = (k, omega arith, e) in
-    let not_here : bytes_eq w s.text ≡ false = false_from_ne_true (bytes_eq w s.text) (λ h. both_ways (list_any (λ t. bytes_eq s.text t.text) ss) (not-true _ both.0)
+    let not_here : bytes_eq w s.text ≡ false =
+    false_from_ne_true (bytes_eq w s.text) (λ h. both_ways (list_any (λ t. bytes_eq s.text t.text) ss) (not-true _ both.0)
     (any_in ss (λ t. bytes_eq s.text t.text) (spelled w word) rest (ap (λ v. bytes_eq s.text v) (same_text w s.text h) ∙ text_same s.text))) in
     rw not_here (from_table ss w word both.1 rest)
 
@@ -78,7 +80,8 @@ ends_back [] h = tt
 ends_back (b ∷ bs) h = ⊎_elim (λ e. inl (eqb-true b 32 e)) (λ e. inr (eqb-true b 44 e)) (or_cases (is_blank b) (is_comma b) h)
 
 pub word_read : (text w : List ℕ) → HasWord text w → (is_starred text ≡ true) × (word text ≡ w)
-word_read text v (Starred w rest ink ends) = (refl, up_to_end ends_word w rest (all_weaker IsInk (λ b. ends_word b ≡ false) ink_no_end w ink) (ends_read rest ends))
+word_read text v (Starred w rest ink ends) =
+    (refl, up_to_end ends_word w rest (all_weaker IsInk (λ b. ends_word b ≡ false) ink_no_end w ink) (ends_read rest ends))
 
 pub word_back : (text : List ℕ) → is_starred text ≡ true → HasWord text (word text)
 word_back [] star = absurd (false≢true star)
@@ -93,16 +96,19 @@ pub star_starred : (text w : List ℕ) (fs : List (List ℕ)) → IsStarLine tex
 star_starred text v fs (Bare w lead ink l) = refl
 star_starred text v fs (Fields w lead rest gs ink l some more) = refl
 
-pub refuse_back : {B : Type 0} (bad : Bool) (kind : FaultKind) (next : Bool → Result B FaultKind) (y : B) → (refuse_if bad kind >>= next) ≡ Ok y → (bad ≡ false) × (next false ≡ Ok y)
+pub refuse_back : {B : Type 0} (bad : Bool) (kind : FaultKind) (next : Bool → Result B FaultKind) (y : B) → (refuse_if bad kind >>= next) ≡ Ok y
+    → (bad ≡ false) × (next false ≡ Ok y)
 refuse_back true kind next y e = absurd cc
 refuse_back false kind next y e = (refl, e)
 
 pub refuse_read : {B : Type 0} (bad : Bool) (kind : FaultKind) (next : Bool → Result B FaultKind) → bad ≡ false → (refuse_if bad kind >>= next) ≡ next false
 refuse_read bad kind next e = ap (λ b. refuse_if b kind >>= next) e
 
-item_read : (text w : List ℕ) (known : Word) (fs : List (List ℕ)) (item : ItemView) → is_starred text ≡ true → word text ≡ w → fields text ≡ fs → meaning w ≡ Some known → are_its_fields known fs ≡ true → item_with known fs ≡ Ok item → item_of text ≡ Ok item
+item_read : (text w : List ℕ) (known : Word) (fs : List (List ℕ)) (item : ItemView) → is_starred text ≡ true → word text ≡ w → fields text ≡ fs
+    → meaning w ≡ Some known → are_its_fields known fs ≡ true → item_with known fs ≡ Ok item → item_of text ≡ Ok item
 item_read text w known fs item star e f m a i =
-    ap (λ t. cond t (item_by (meaning (word text)) (fields text)) (done Text)) star ∙ ap (λ k. item_by k (fields text)) (ap meaning e ∙ m) ∙ ap (item_by (Some known)) f
+    ap (λ t. cond t (item_by (meaning (word text)) (fields text)) (done Text)) star ∙ ap (λ k. item_by k (fields text)) (ap meaning e ∙ m)
+    ∙ ap (item_by (Some known)) f
     ∙ refuse_read (not (are_its_fields known fs)) fault.BadField (λ _. item_with known fs) (ap not a) ∙ i
 
 pub says_read : (text : List ℕ) (item : ItemView) → Says text item → item_of text ≡ Ok item
@@ -133,13 +139,16 @@ its_fields_filled known fs a = filled_back fs (not-true _ (and_parts _ _ (and_pa
 pub says_back : (text : List ℕ) (item : ItemView) → item_of text ≡ Ok item → Says text item
 says_back text item e = by_star (is_starred text) refl (meaning (word text)) refl e
   where
-    by_star : (t : Bool) → is_starred text ≡ t → (m : Option Word) → meaning (word text) ≡ m → cond t (item_by m (fields text)) (Ok Text) ≡ Ok item → Says text item
+    by_star : (t : Bool) → is_starred text ≡ t → (m : Option Word) → meaning (word text) ≡ m → cond t (item_by m (fields text)) (Ok Text) ≡ Ok item
+        → Says text item
     by_star false star m means e = subst (Says text) (ok_same _ _ e) (Other text (λ w known has _. both_ways (is_starred text) star (word_read text w has).0))
-    by_star true star None means e = subst (Says text) (ok_same _ _ e) (Other text (λ w known has k. known_none (sym means ∙ ap meaning (word_read text w has).1 ∙ means_read w known k)))
+    by_star true star None means e =
+        subst (Says text) (ok_same _ _ e) (Other text (λ w known has k. known_none (sym means ∙ ap meaning (word_read text w has).1 ∙ means_read w known k)))
       where
         known_none : {known : Word} → None ≡ Some known → ⊥
         known_none e = cc
     by_star true star (Some known) means e =
         let step = refuse_back (not (are_its_fields known (fields text))) fault.BadField (λ _. item_with known (fields text)) item e in
         let taken = not-false (are_its_fields known (fields text)) step.0 in
-        Directive text (word text) known (fields text) item (star_spelled text star (its_fields_filled known (fields text) taken)) (means_back (word text) known means) (takes_back known (fields text) item taken step.1)
+        Directive text (word text) known (fields text) item (star_spelled text star (its_fields_filled known (fields text) taken))
+        (means_back (word text) known means) (takes_back known (fields text) item taken step.1)

@@ -25,7 +25,8 @@ unfolding feeds
 feeds_end end Feed = refl
 feeds_end end ReturnFeed = refl
 
-line_stands : (number start : ℕ) (line : List ℕ) (lines : List LineView) → IsLine number start line lines → (front behind : List ℕ) → start ≡ length front → number ≡ feeds front + 1 → AllByRecursion (StandsIn (front ++ (line ++ behind))) lines
+line_stands : (number start : ℕ) (line : List ℕ) (lines : List LineView) → IsLine number start line lines → (front behind : List ℕ) → start ≡ length front
+    → number ≡ feeds front + 1 → AllByRecursion (StandsIn (front ++ (line ++ behind))) lines
 unfolding feeds
 line_stands number start line lines (Comment _ _ _ text few is comment) front behind begin count = tt
 line_stands number start line lines (Line _ _ _ text item few (Trimmed _ n allowed short inked) no_comment says) front behind begin count = (
@@ -40,15 +41,27 @@ line_stands number start line lines (Line _ _ _ text item few (Trimmed _ n allow
   tt,
 )
 
-lines_stand : (number start : ℕ) (bytes : List ℕ) (lines : List LineView) → AreLines number start bytes lines → (front : List ℕ) → start ≡ length front → number ≡ feeds front + 1 → AllByRecursion (StandsIn (front ++ bytes)) lines
+lines_stand : (number start : ℕ) (bytes : List ℕ) (lines : List LineView) → AreLines number start bytes lines → (front : List ℕ) → start ≡ length front
+    → number ≡ feeds front + 1 → AllByRecursion (StandsIn (front ++ bytes)) lines
 lines_stand number start bytes lines (NoMore _ _) front begin count = tt
 lines_stand number start bytes lines (LastLine _ _ _ _ some is) front begin count =
     subst (λ l. AllByRecursion (StandsIn (front ++ l)) lines) (append-nil bytes) (line_stands number start bytes lines is front [] begin count)
 lines_stand number start bytes lines (NextLine _ _ line end rest more later is ends behind) front begin count =
-    let first = subst (λ l. AllByRecursion (StandsIn (front ++ l)) more) (sym (append_assoc line end rest)) (line_stands number start line more is front (end ++ rest) begin count) in
+    let first =
+    subst (λ l. AllByRecursion (StandsIn (front ++ l)) more) (sym (append_assoc line end rest))
+    (line_stands number start line more is front (end ++ rest) begin count) in
     let place : start + length line + length end ≡ length (front ++ (line ++ end)) = omega (arith, length-append front (line ++ end), length-append line end) in
-    let next : number + 1 ≡ feeds (front ++ (line ++ end)) + 1 = omega (arith, feeds_append front (line ++ end), feeds_append line end, feeds_none line (plain_feed line (line_plain number start line more is)), feeds_end end ends) in
-    let others = subst (λ l. AllByRecursion (StandsIn l) later) (append_assoc front (line ++ end) rest) (lines_stand (number + 1) (start + length line + length end) rest later behind (front ++ (line ++ end)) place next) in
+    let next : number + 1 ≡ feeds (front ++ (line ++ end)) + 1 =
+    omega (
+      arith,
+      feeds_append front (line ++ end),
+      feeds_append line end,
+      feeds_none line (plain_feed line (line_plain number start line more is)),
+      feeds_end end ends,
+    ) in
+    let others =
+    subst (λ l. AllByRecursion (StandsIn l) later) (append_assoc front (line ++ end) rest)
+    (lines_stand (number + 1) (start + length line + length end) rest later behind (front ++ (line ++ end)) place next) in
     all_append (StandsIn (front ++ (line ++ end ++ rest))) more later first others
 
 pub stand : (bytes : List ℕ) (lines : List LineView) → reading bytes ≡ Ok lines → AllByRecursion (StandsIn bytes) lines

@@ -11,7 +11,7 @@ use Rattle.upd_text.specs.declared.fault.FaultKind.TheVariants as fault
 use Rattle.upd_text.specs.declared.limits.TheConstants.{MAX_RUN_BYTES, MAX_RUN_LINES, MAX_LINE_BYTES}
 use Rattle.upd_text.specs.Lines.{is_blank, is_comment}
 use Rattle.upd_text.specs.Outcome.{◌>>=◌, at_line, each, refuse_if}
-use Rattle.upd_deck.specs.Items.{ItemView, LineView}
+use Rattle.upd_deck.specs.Items.{ItemView, LineView, line_view}
 use Rattle.upd_deck.specs.Order.{FollowFrom}
 use Rattle.upd_deck.specs.Reading.{CutLine, cut, cut_from, is_allowed, is_feed, item_of, reading, said, said_at, trimmed}
 use Rattle.upd_deck.proofs.GrammarNames.{step_back, ok_same}
@@ -30,14 +30,17 @@ IsSaid line [] = Unit {0}
 IsSaid line (x ∷ more) = (more ≡ []) × IsOf line x
 
 said_of : (line : CutLine) (more : List LineView) → said line ≡ Ok more → IsSaid line more
-said_of line more e = of_tail (is_comment (trimmed line.bytes)) (item_of (trimmed line.bytes)) (of_text (not (list_all is_allowed line.bytes)) (nat_lt MAX_LINE_BYTES (length (trimmed line.bytes))) e)
+said_of line more e =
+    of_tail (is_comment (trimmed line.bytes)) (item_of (trimmed line.bytes))
+    (of_text (not (list_all is_allowed line.bytes)) (nat_lt MAX_LINE_BYTES (length (trimmed line.bytes))) e)
   where
     tail : Bool → Result ItemView FaultKind → Result (List LineView) FaultKind
     tail comment item =
-        if comment then Ok [] else (item >>= (λ i. Ok (record { number = line.number; span = record { start = line.start; end = line.start + length (trimmed line.bytes) }; text = trimmed line.bytes; item = i } ∷ [])))
+        if comment then Ok [] else (item >>= (λ i. Ok (line_view line.number line.start (trimmed line.bytes) i ∷ [])))
 
     of_text : (bad long : Bool)
-        → ((refuse_if bad fault.BadByte >>= (λ _. refuse_if long fault.LineLong >>= (λ _. Ok (trimmed line.bytes)))) >>= (λ text. if is_comment text then Ok [] else (item_of text >>= (λ i. Ok (record { number = line.number; span = record { start = line.start; end = line.start + length text }; text = text; item = i } ∷ []))))) ≡ Ok more
+        → ((refuse_if bad fault.BadByte >>= (λ _. refuse_if long fault.LineLong >>= (λ _. Ok (trimmed line.bytes))))
+        >>= (λ text. if is_comment text then Ok [] else (item_of text >>= (λ i. Ok (line_view line.number line.start text i ∷ []))))) ≡ Ok more
         → tail (is_comment (trimmed line.bytes)) (item_of (trimmed line.bytes)) ≡ Ok more
     of_text true long e = cc
     of_text false true e = cc
@@ -47,7 +50,7 @@ said_of line more e = of_tail (is_comment (trimmed line.bytes)) (item_of (trimme
     of_tail true item e = let same : [] ≡ more = cc in subst (IsSaid line) same tt
     of_tail false (Err kind) e = cc
     of_tail false (Ok i) e =
-        let x : LineView = record { number = line.number; span = record { start = line.start; end = line.start + length (trimmed line.bytes) }; text = trimmed line.bytes; item = i } in
+        let x : LineView = line_view line.number line.start (trimmed line.bytes) i in
         let same : x ∷ [] ≡ more = cc in
         subst (IsSaid line) same (refl, record { number = refl; start = refl; end = refl; text = refl })
 
@@ -73,7 +76,8 @@ read_all Q none silent speaks (line ∷ lines) out e = of (said line) (said_of l
         subst (Q (line ∷ lines)) (ap (λ m. x ∷ m ++ rest.0) (sym said.0) ∙ ok_same _ _ rest.2) (speaks line x lines rest.0 said.1 (later rest.0 rest.1))
 
 -- what holds of lines that were read, if no limit is passed
-if_read : (bytes : List ℕ) (P : List LineView → Type 0) → ((out : List LineView) → nat_lt MAX_RUN_LINES (length (cut bytes)) ≡ false → each said_at (cut bytes) ≡ Ok out → P out) → IfOk (reading bytes) P
+if_read : (bytes : List ℕ) (P : List LineView → Type 0)
+    → ((out : List LineView) → nat_lt MAX_RUN_LINES (length (cut bytes)) ≡ false → each said_at (cut bytes) ≡ Ok out → P out) → IfOk (reading bytes) P
 if_read bytes P holds = of (nat_lt MAX_RUN_BYTES (length bytes)) (nat_lt MAX_RUN_LINES (length (cut bytes))) (each said_at (cut bytes)) holds
   where
     of : (long many : Bool) (r : Result (List LineView) Fault) → ((out : List LineView) → many ≡ false → r ≡ Ok out → P out)
@@ -101,7 +105,8 @@ abbrev IsCutFrom : ℕ → ℕ → List CutLine → Type 0
 IsCutFrom number place [] = Unit {0}
 IsCutFrom number place (line ∷ lines) = (number ≤ line.number) × (place ≤ line.start) × IsCutFrom (line.number + 1) (line.start + length line.bytes) lines
 
-IsCutFrom-earlier : (number place number' place' : ℕ) (lines : List CutLine) → number ≤ number' → place ≤ place' → IsCutFrom number' place' lines → IsCutFrom number place lines
+IsCutFrom-earlier : (number place number' place' : ℕ) (lines : List CutLine) → number ≤ number' → place ≤ place' → IsCutFrom number' place' lines
+    → IsCutFrom number place lines
 IsCutFrom-earlier number place number' place' [] n p from = tt
 IsCutFrom-earlier number place number' place' (line ∷ lines) n p from = (omega (arith, from.0), omega (arith, from.1), from.2)
 
@@ -113,16 +118,19 @@ cut_from_follows number start (piece ∷ []) =
 cut_from_follows number start (piece ∷ next ∷ pieces) = (
   omega arith,
   omega arith,
-  IsCutFrom-earlier (number + 1) (start + length (strip_carriage_return piece)) (number + 1) (start + length piece + 1) (cut_from (number + 1) (start + length piece + 1) (next ∷ pieces))
+  IsCutFrom-earlier (number + 1) (start + length (strip_carriage_return piece)) (number + 1) (start + length piece + 1)
+      (cut_from (number + 1) (start + length piece + 1) (next ∷ pieces))
       (omega arith) (omega (arith, length-strip-le piece)) (cut_from_follows (number + 1) (start + length piece + 1) (next ∷ pieces)),
 )
 
 -- the numbers of so many lines
-cut_from_is_below : (most number start : ℕ) (pieces : List (List ℕ)) → number + length (cut_from number start pieces) ≤ most → AllByRecursion (λ line. line.number < most) (cut_from number start pieces)
+cut_from_is_below : (most number start : ℕ) (pieces : List (List ℕ)) → number + length (cut_from number start pieces) ≤ most
+    → AllByRecursion (λ line. line.number < most) (cut_from number start pieces)
 cut_from_is_below most number start [] few = tt
 cut_from_is_below most number start (piece ∷ []) few =
     let line : CutLine = record { number = number; start = start; bytes = piece } in
-    cond_both (length piece == 0) [] (line ∷ []) (λ lines. number + length lines ≤ most → AllByRecursion (λ line. line.number < most) lines) (λ _ _. tt) (λ _ h. (omega (arith, h), tt)) few
+    cond_both (length piece == 0) [] (line ∷ []) (λ lines. number + length lines ≤ most → AllByRecursion (λ line. line.number < most) lines) (λ _ _. tt)
+    (λ _ h. (omega (arith, h), tt)) few
 cut_from_is_below most number start (piece ∷ next ∷ pieces) few =
     (omega (arith, few), cut_from_is_below most (number + 1) (start + length piece + 1) (next ∷ pieces) (omega (arith, few)))
 
@@ -136,22 +144,28 @@ length-trimmed-le line = omega (arith, simp length-append at (ap length (trim_ag
 
 pub lines_follow : (bytes : List ℕ) → IfOk (reading bytes) (FollowFrom 1 0)
 lines_follow bytes = if_read bytes (FollowFrom 1 0) (λ out few e.
-    let r = read_all (λ lines out. (number place : ℕ) → IsCutFrom number place lines → FollowFrom number place out) (λ number place from. tt) silent speaks (cut bytes) out e in
+    let r =
+    read_all (λ lines out. (number place : ℕ) → IsCutFrom number place lines → FollowFrom number place out) (λ number place from. tt) silent speaks
+    (cut bytes) out e in
     r 1 0 (cut_from_follows 1 0 (slice_split is_feed bytes)))
   where
     silent : (line : CutLine) (lines : List CutLine) (out : List LineView) → ((number place : ℕ) → IsCutFrom number place lines → FollowFrom number place out)
         → (number place : ℕ) → IsCutFrom number place (line ∷ lines) → FollowFrom number place out
     silent line lines out later number place from =
-        later number place (IsCutFrom-earlier number place (line.number + 1) (line.start + length line.bytes) lines (omega (arith, from.0)) (omega (arith, from.1)) from.2)
+        later number place
+        (IsCutFrom-earlier number place (line.number + 1) (line.start + length line.bytes) lines (omega (arith, from.0)) (omega (arith, from.1)) from.2)
 
-    speaks : (line : CutLine) (x : LineView) (lines : List CutLine) (out : List LineView) → IsOf line x → ((number place : ℕ) → IsCutFrom number place lines → FollowFrom number place out)
+    speaks : (line : CutLine) (x : LineView) (lines : List CutLine) (out : List LineView) → IsOf line x
+        → ((number place : ℕ) → IsCutFrom number place lines → FollowFrom number place out)
         → (number place : ℕ) → IsCutFrom number place (line ∷ lines) → FollowFrom number place (x ∷ out)
     speaks line x lines out of later number place from =
         let short : length x.text ≤ length line.bytes = omega (arith, ap length of.text, length-trimmed-le line.bytes) in (
           omega (arith, from.0, of.number),
           omega (arith, from.1, of.start),
           omega (arith, of.start, of.end),
-          later (x.number + 1) x.span.end (IsCutFrom-earlier (x.number + 1) x.span.end (line.number + 1) (line.start + length line.bytes) lines (omega (arith, of.number)) (omega (arith, of.end, short)) from.2),
+          later (x.number + 1) x.span.end
+              (IsCutFrom-earlier (x.number + 1) x.span.end (line.number + 1) (line.start + length line.bytes) lines
+              (omega (arith, of.number)) (omega (arith, of.end, short)) from.2),
         )
 
 pub numbers_are_few : (bytes : List ℕ) → IfOk (reading bytes) (AllByRecursion (λ line. line.number ≤ MAX_RUN_LINES))

@@ -9,8 +9,8 @@ use Rattle.upd_text.specs.declared.limits.TheConstants.{MAX_RUN_BYTES, MAX_RUN_L
 use Rattle.upd_text.specs.Lines.{is_comment, is_starred, word, fields}
 use Rattle.upd_text.specs.Outcome.{◌>>=◌, refuse_if, at_line, each}
 use Rattle.upd_deck.specs.declared.word.Word.{Word}
-use Rattle.upd_deck.specs.Items.{LineView, Text}
-use Rattle.upd_deck.specs.Grammar.{blanks, IsAllowed, IsTextOf, line_view}
+use Rattle.upd_deck.specs.Items.{LineView, line_view, Text}
+use Rattle.upd_deck.specs.Grammar.{blanks, IsAllowed, IsTextOf}
 use Rattle.upd_deck.specs.Reading.{meaning, item_by, item_of, trimmed, is_allowed, text_of, CutLine, cut, said, said_at, reading}
 use Rattle.upd_deck.specs.Refusals.{LineFails, Byte, Long, Fields, IsFaultless, fault_of, RunFails, ManyBytes, ManyLines, FirstFaulty}
 use Rattle.upd_deck.proofs.GrammarNames.{all_of, all_to, done}

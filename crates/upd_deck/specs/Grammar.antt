@@ -8,7 +8,7 @@ use Rattle.upd_deck.specs.declared.item.NameRange.{NameRange}
 use Rattle.upd_deck.specs.declared.item.IdentIn.{IdentIn}
 use Rattle.upd_deck.specs.declared.word.Word.{Word}
 use Rattle.upd_deck.specs.declared.word.Word.TheVariants as words
-use Rattle.upd_deck.specs.Items.{ItemView, LineView, Text, Call, Ident, Deck, CommonDeck, Insert, Before, Delete, Restore, Yank, SelYank, YankDeck, Purge, PurgeFrom, SelPurge, PurDeck, Compile}
+use Rattle.upd_deck.specs.Items.{ItemView, LineView, line_view, Text, Call, Ident, Deck, CommonDeck, Insert, Before, Delete, Restore, Yank, SelYank, YankDeck, Purge, PurgeFrom, SelPurge, PurDeck, Compile}
 use Rattle.upd_deck.specs.Reading.{spelled, spellings, is_feed}
 
 -- ---- bytes
@@ -169,10 +169,6 @@ pub data IsTextOf : List ℕ → List ℕ → Type 0 where
 -- a star and a slash, whatever follows
 pub data IsComment : List ℕ → Type 0 where
   Slashed : (rest : List ℕ) → IsComment (star ∷ slash ∷ rest)
-
--- what is said by the line of a number that begins at a place
-abbrev pub line_view : ℕ → ℕ → List ℕ → ItemView → LineView
-line_view number start text item = record { number = number; span = record { start = start; end = start + length text }; text = text; item = item }
 
 -- one of the 2,000 lines that a run may have: a comment, or what its text says
 pub data IsLine : ℕ → ℕ → List ℕ → List LineView → Type 0 where

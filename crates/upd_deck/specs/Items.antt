@@ -1,5 +1,5 @@
 -- What the lines of a run say.
-use Rattle.std.specs.Prelude.{ℕ, Bool, List}
+use Rattle.std.specs.Prelude.{ℕ, ◌+◌, Bool, List, length}
 use Rattle.upd_text.specs.declared.card_ref.CardRef.{CardRef}
 use Rattle.upd_deck.specs.declared.item.NameRange.{NameRange}
 use Rattle.upd_deck.specs.declared.item.IdentIn.{IdentIn}
@@ -31,3 +31,7 @@ pub record LineView : Type 0 where
   pub span : Span
   pub text : List ℕ
   pub item : ItemView
+
+-- the line of a number whose text begins at a place of the run, and what it says
+abbrev pub line_view : ℕ → ℕ → List ℕ → ItemView → LineView
+line_view number start text item = record { number = number; span = record { start = start; end = start + length text }; text = text; item = item }

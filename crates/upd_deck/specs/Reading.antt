@@ -16,7 +16,7 @@ use Rattle.upd_deck.specs.declared.item.NameRange.{NameRange}
 use Rattle.upd_deck.specs.declared.item.IdentIn.{IdentIn}
 use Rattle.upd_deck.specs.declared.word.Word.{Word}
 use Rattle.upd_deck.specs.declared.word.Word.TheVariants as words
-use Rattle.upd_deck.specs.Items.{ItemView, LineView, Text, Call, Ident, Deck, CommonDeck, Insert, Before, Delete, Restore, Yank, SelYank, YankDeck, Purge, PurgeFrom, SelPurge, PurDeck, Compile}
+use Rattle.upd_deck.specs.Items.{ItemView, LineView, line_view, Text, Call, Ident, Deck, CommonDeck, Insert, Before, Delete, Restore, Yank, SelYank, YankDeck, Purge, PurgeFrom, SelPurge, PurDeck, Compile}
 
 -- ---- words
 
@@ -217,7 +217,7 @@ said line = do
   text ← text_of line.bytes
   if is_comment text then Ok [] else (do
     item ← item_of text
-    Ok (record { number = line.number; span = record { start = line.start; end = line.start + length text }; text = text; item = item } ∷ []))
+    Ok (line_view line.number line.start text item ∷ []))
 
 -- what a line of a run says, or its fault at its number
 abbrev pub said_at : CutLine → Result (List LineView) Fault

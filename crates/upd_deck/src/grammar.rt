@@ -38,8 +38,8 @@ pub fn lines_stand_in_their_run()
         → AllByRecursion (StandsIn bytes) lines }
 {}
 
-/// A line is read as a call exactly where the walk of a compile file takes it for one, and the name that was read is the
-/// one that is called.
+/// A line is read as a call exactly where the walk of a compile file takes it for one, and the name that was read is
+/// the one that is called.
 pub fn calls_are_what_is_called()
     ensures words { (text : List ℕ) → IsTrue (is_call text)
         ↔ (IsTrue (is_starred text) × (meaning (word text) ≡ Some words.Call)) }
