@@ -6,6 +6,7 @@ pub mod FirstLaws
 pub mod CountLaws
 pub mod ApartLemmas
 pub mod FoundLemmas
+pub mod YankLemmas
 pub mod LiveLemmas
 pub mod FlatLemmas
 pub mod CountedLemmas

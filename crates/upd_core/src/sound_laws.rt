@@ -1,12 +1,12 @@
-//! Where cards stand in a sound library.
-ghost use Rattle.std.specs.Prelude.{◌≡◌, ℕ, IsTrue, map, slice_get, Some};
+//! Where cards stand in a sound library, and what their status is.
+ghost use Rattle.std.specs.Prelude.{◌≡◌, ℕ, Bool, IsTrue, map, slice_get, Some};
 ghost use Rattle.std.specs.List.{Contains};
 ghost use Rattle.upd_text.specs.declared.card_ref.CardRef.{CardRef};
 ghost use Rattle.upd_core.specs.declared.library.Place.{Place};
 ghost use Rattle.upd_core.specs.Library.{CardView, DeckView, LibraryView, all_decks, card_in, ident_of, name_of};
 ghost use Rattle.upd_core.specs.Library.{place_of, ref_of};
 ghost use Rattle.upd_core.specs.Sound.{AreApart, IsSound, all_cards, is_held};
-ghost use Rattle.upd_core.specs.Status.{is_active, live_targets, status_of};
+ghost use Rattle.upd_core.specs.Status.{is_active, is_good, live_of, live_targets, live_yank, liveness, status_of};
 
 /// A held ident has a name, under which it is found.
 pub fn held_idents_are_found()
@@ -32,4 +32,14 @@ pub fn references_find_no_other_card()
     ensures one { (l : LibraryView) (b c : CardView) → IsSound l → Contains (all_cards l) b → Contains (all_cards l) c
         → ref_of l.idents b ≡ ref_of l.idents c → b ≡ c }
     ensures apart { (l : LibraryView) → IsSound l → AreApart (map (ref_of l.idents) (all_cards l)) }
+{}
+
+/// A yank card is active where it is good, since no target names `YANK$$$`; and it is live there, so its status says
+/// whether it is live.
+pub fn yank_cards_are_active_where_live()
+    ensures good { (l : LibraryView) (c : CardView) → IsSound l
+        → is_active (live_targets l) 0 c ≡ is_good (live_targets l) 0 c }
+    ensures marks { (l : LibraryView) → IsSound l → liveness l.yanks ≡ map (is_active (live_targets l) 0) l.yanks }
+    ensures status { (l : LibraryView) (card : CardRef) (live : Bool) → IsSound l → live_yank card (live_of l) ≡ Some live
+        → status_of card l ≡ Some live }
 {}
