@@ -1,2 +1,4 @@
 pub mod Filtered
+pub mod OnceLemmas
+pub mod TargetLemmas
 pub mod TouchedLaws

@@ -6,11 +6,11 @@ use Rattle.upd_text.specs.declared.card_ref.CardRef.{CardRef}
 use Rattle.upd_text.specs.declared.fault.Fault.{Fault}
 use Rattle.upd_core.specs.Library.{CardView, LibraryView, all_decks, cards_of, ref_of, is_card}
 use Rattle.upd_text.specs.Outcome.{◌>>=◌, at_line}
-use Rattle.upd_deck.specs.Items.{ItemView, LineView, Compile}
+use Rattle.upd_deck.specs.Items.{LineView}
 use Rattle.upd_apply.specs.declared.state.Spot.TheVariants.{Nowhere}
 use Rattle.upd_apply.specs.declared.state.State.{State}
 use Rattle.upd_apply.specs.Step.{step}
-use Rattle.upd_apply.specs.Yanks.{Ages, ranges_named, decks_in_any}
+use Rattle.upd_apply.specs.Compile.{named_decks}
 
 -- a run begins with no set in hand and no place of text
 abbrev pub started : LibraryView → State
@@ -22,24 +22,6 @@ stepped [] s = Ok s
 stepped (line ∷ lines) s = do
   t ← at_line line.number (step line s)
   stepped lines t
-
--- the ranges of decks that a line names to compile
-abbrev pub ranges_of : List Ages → ItemView → LibraryView → Result (List Ages) Rattle.upd_text.specs.declared.fault.FaultKind.FaultKind
-ranges_of found (Compile ranges) l = ranges_named found ranges l
-ranges_of found _ l = Ok found
-
--- those of all lines, against the library after the run
-abbrev pub named_by : List Ages → List LineView → LibraryView → Result (List Ages) Fault
-named_by found [] l = Ok found
-named_by found (line ∷ lines) l = do
-  more ← at_line line.number (ranges_of found line.item l)
-  named_by more lines l
-
--- the decks that all lines name to compile, by age
-abbrev pub named_decks : List LineView → LibraryView → Result (List ℕ) Fault
-named_decks lines l = do
-  ranges ← named_by [] lines l
-  Ok (decks_in_any ranges l)
 
 -- What a run leaves: the library, the idents that it introduced by age, and the decks that it names to compile by age.
 pub record Reached : Type 0 where

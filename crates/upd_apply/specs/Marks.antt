@@ -3,7 +3,7 @@ use Rattle.std.specs.Prelude.{◌≡◌, ℕ, Bool, false, List, slice_index_or}
 use Rattle.std.specs.List.{list_any}
 use Rattle.upd_core.specs.declared.target.Target.{Target}
 use Rattle.upd_core.specs.declared.target.Target.TheVariants.{Set}
-use Rattle.upd_apply.specs.Yanks.{is_target}
+use Rattle.upd_core.specs.Targets.{is_same}
 
 -- whether an age is marked: beyond the marks none is
 abbrev pub is_marked : List Bool → ℕ → Bool
@@ -11,4 +11,4 @@ is_marked marks z = slice_index_or marks z false
 
 -- just the sets among the targets are marked
 abbrev pub AreMarked : List Bool → List Target → Type 0
-AreMarked marks found = (z : ℕ) → is_marked marks z ≡ list_any (is_target (Set z)) found
+AreMarked marks found = (z : ℕ) → is_marked marks z ≡ list_any (λ t. is_same t (Set z)) found

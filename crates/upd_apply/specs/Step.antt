@@ -15,7 +15,9 @@ use Rattle.upd_deck.specs.Items.{ItemView, LineView, Text, Call, Ident, Deck, Co
 use Rattle.upd_apply.specs.declared.state.Spot.{Spot}
 use Rattle.upd_apply.specs.declared.state.Spot.TheVariants.{Nowhere, End, Inside}
 use Rattle.upd_apply.specs.declared.state.State.{State}
-use Rattle.upd_apply.specs.Yanks.{is_reserved, known_ident, sets_yanked, pairs_yanked, decks_yanked, idents_purged, decks_purged, AgesIn, pairs_purged}
+use Rattle.upd_apply.specs.Names.{is_reserved, known_ident}
+use Rattle.upd_apply.specs.Yanks.{sets_yanked, pairs_yanked, decks_yanked}
+use Rattle.upd_apply.specs.Purges.{AgesIn, idents_purged, decks_purged, pairs_purged}
 
 -- a library that has grown, if no limit is passed
 abbrev pub grown : LibraryView → Result LibraryView FaultKind
@@ -117,13 +119,13 @@ done (Insert card) text s = placed_after card s
 done (Before card) text s = placed_before card s
 done (Delete first last) text s = switched false first last s
 done (Restore first last) text s = switched true first last s
-done (Yank ranges) text s = yank_put text (sets_yanked [] ranges) s
-done (SelYank pairs) text s = yank_put text (pairs_yanked [] pairs) s
-done (YankDeck names) text s = yank_put text (decks_yanked [] names) s
-done (Purge ranges) text s = idents_purged [] ranges s.library >>= (λ ages. Ok (ended (purged (is_among ages) s.library)))
+done (Yank ranges) text s = yank_put text (sets_yanked ranges) s
+done (SelYank pairs) text s = yank_put text (pairs_yanked pairs) s
+done (YankDeck names) text s = yank_put text (decks_yanked names) s
+done (Purge ranges) text s = idents_purged ranges s.library >>= (λ ages. Ok (ended (purged (is_among ages) s.library)))
 done (PurgeFrom name) text s = known_ident name s.library >>= (λ age. Ok (ended (purged_back age s.library)))
-done (SelPurge pairs) text s = pairs_purged [] pairs s.library >>= (λ ages. Ok (ended (purged_in_all ages s.library)))
-done (PurDeck ranges) text s = decks_purged [] ranges s.library >>= (λ ages. Ok (ended (purged (is_among ages) s.library)))
+done (SelPurge pairs) text s = pairs_purged pairs s.library >>= (λ ages. Ok (ended (purged_in_all ages s.library)))
+done (PurDeck ranges) text s = decks_purged ranges s.library >>= (λ ages. Ok (ended (purged (is_among ages) s.library)))
 done (Compile ranges) text s = Ok s
 
 -- what a line does

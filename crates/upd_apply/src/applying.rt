@@ -1,18 +1,19 @@
+//! Whole runs, and purging back.
 ghost use Rattle.std.specs.Prelude.{◌≡◌, ◌+◌, ◌^◌, ◌<◌, ◌≤◌, [], map, drop, length, Ok, IfErr, IfOk, OnErr, OnOk};
 ghost use Rattle.upd_core.specs.Edits.{purged_back};
 ghost use Rattle.upd_core.specs.Sound.{AreApart, all_cards, key_of};
 ghost use Rattle.upd_text.specs.Outcome.{DoesAt, FailsAt, GivesAt, at_line};
-ghost use Rattle.upd_apply.specs.Applying.{applied, brought, named_by, named_decks, ranges_of, stepped, touched};
+ghost use Rattle.upd_apply.specs.Applying.{applied, brought, stepped, touched};
+ghost use Rattle.upd_apply.specs.Compile.{named_decks};
 ghost use Rattle.upd_apply.specs.Numbers.{next_most};
 ghost use Rattle.upd_apply.specs.Step.{step};
 
-use crate::names::AgeRange;
-use crate::purges::{add_ranges, decks_in_any};
+use crate::compile::named_decks;
 use crate::state::State;
 use crate::touched::touched;
 use std::alloc::{AllocError, Global};
 use upd_core::{Ident, Library, Serial};
-use upd_deck::{Item, Line, Run};
+use upd_deck::{Line, Run};
 use upd_text::{CardRef, Fault};
 
 /// What a run left besides the library.
@@ -53,8 +54,7 @@ fn compared(
     ensures compile { GivesAt (λ a. a.compile.items) result (named_decks lines.now after.now) }
     ensures touched { AreApart (map key_of (all_cards before.now)) → IfOk result (λ a. a.touched.items ≡ touched before.now after.now) }
 {
-    let ranges = named_by(alloc, after, lines)?;
-    let compile = decks_in_any(alloc, after, &ranges)?;
+    let compile = named_decks(alloc, after, lines)?;
     let idents = ages_from(alloc, after.idents(), before.idents().len())?;
     let touched = touched(before, after)?;
     Ok(Applied {
@@ -90,27 +90,6 @@ fn take_step(state: &mut State, line: &Line) -> Result<(), Fault>
         Ok(()) => Ok(()),
         Err(kind) => Err(kind.at_line(line.number)),
     }
-}
-
-fn named_by(alloc: Global, library: &Library, lines: &[Line]) -> Result<Vec<AgeRange>, Fault>
-    ensures { GivesAt (λ ranges. ranges.items) result (named_by [] lines.now library.now) }
-{
-    let mut found = Vec::new(alloc);
-    for line in lines {
-        add_named(library, &mut found, line)?;
-    }
-    Ok(found)
-}
-
-fn add_named(library: &Library, found: &mut Vec<AgeRange>, line: &Line) -> Result<(), Fault>
-    ensures { DoesAt result found.new.items (at_line line.now.number (ranges_of found.old.items line.now.item library.now)) }
-{
-    if let Item::Compile(ranges) = &line.item {
-        if let Err(kind) = add_ranges(library, found, ranges) {
-            return Err(kind.at_line(line.number));
-        }
-    }
-    Ok(())
 }
 
 /// The ages of idents from an index on.

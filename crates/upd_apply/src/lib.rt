@@ -2,6 +2,7 @@
 #![tactic(auto)]
 
 pub mod applying;
+mod compile;
 mod names;
 mod purges;
 pub mod state;

@@ -1,6 +1,7 @@
+//! Names and ranges of names, looked up in a library.
 ghost use Rattle.std.specs.Prelude.{◌≡◌, false, MatchResult};
 ghost use Rattle.upd_apply.specs.Step.{new_name};
-ghost use Rattle.upd_apply.specs.Yanks.{ages_by, is_in, is_reserved, known_deck, known_ident};
+ghost use Rattle.upd_apply.specs.Names.{ages_by, is_in, is_reserved, known_deck, known_ident};
 
 use std::marker::Model;
 use upd_core::{Library, Serial};
@@ -15,7 +16,7 @@ pub struct AgeRange {
 }
 
 impl Model for AgeRange {
-    ghost use Rattle.upd_apply.specs.Yanks.{Ages};
+    ghost use Rattle.upd_apply.specs.Names.{Ages};
 
     ghost Value = { Ages };
 

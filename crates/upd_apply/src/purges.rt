@@ -1,15 +1,17 @@
-ghost use Rattle.std.specs.Prelude.{◌≡◌, ◌&&◌, ◌+◌, ◌≤◌, [], ◌++◌, map, IfOk, OnOk};
-ghost use Rattle.std.specs.List.{filter, list_any};
+//! The purges: `*PURGE`, `*SELPURGE`, `*PURDECK`, and the idents that they name.
+ghost use Rattle.std.specs.Prelude.{◌≡◌, ◌&&◌, ◌+◌, ◌≤◌, [], ◌++◌, map, OnOk};
+ghost use Rattle.std.specs.List.{filter};
 ghost use Rattle.upd_core.specs.Library.{is_deck_kind};
 ghost use Rattle.upd_text.specs.Outcome.{Does, Gives};
 ghost use Rattle.upd_deck.specs.Items.{PurDeck, Purge, PurgeFrom, SelPurge};
 ghost use Rattle.upd_apply.specs.Numbers.{next_most};
 ghost use Rattle.upd_apply.specs.Step.{done, ended, purged_in_all};
-ghost use Rattle.upd_apply.specs.Yanks.{decks_in_any, decks_purged, idents_purged, is_in, pairs_purged, ranges_named};
+ghost use Rattle.upd_apply.specs.Names.{is_in};
+ghost use Rattle.upd_apply.specs.Purges.{decks_purged, idents_purged, pairs_purged};
 
 use crate::names::{AgeRange, deck_ages, ident_ages, known_deck, known_ident};
 use crate::state::{Spot, State};
-use std::alloc::{AllocError, Global};
+use std::alloc::AllocError;
 use std::marker::Model;
 use upd_core::{Ident, Library, Serial};
 use upd_deck::{IdentIn, NameRange};
@@ -23,7 +25,7 @@ pub struct AgePair {
 }
 
 impl Model for AgePair {
-    ghost use Rattle.upd_apply.specs.Yanks.{AgesIn};
+    ghost use Rattle.upd_apply.specs.Purges.{AgesIn};
 
     ghost Value = { AgesIn };
 
@@ -99,7 +101,7 @@ pub(crate) fn idents_purged(
     library: &Library,
     ranges: &[NameRange],
 ) -> Result<Vec<Serial>, FaultKind>
-    ensures { Gives (λ found. found.items) result (idents_purged [] ranges.now library.now) }
+    ensures { Gives (λ found. found.items) result (idents_purged ranges.now library.now) }
 {
     let mut found = Vec::new(library.allocator());
     for range in ranges {
@@ -114,7 +116,7 @@ pub(crate) fn decks_purged(
     library: &Library,
     ranges: &[NameRange],
 ) -> Result<Vec<Serial>, FaultKind>
-    ensures { Gives (λ found. found.items) result (decks_purged [] ranges.now library.now) }
+    ensures { Gives (λ found. found.items) result (decks_purged ranges.now library.now) }
 {
     let mut found = Vec::new(library.allocator());
     for range in ranges {
@@ -126,7 +128,7 @@ pub(crate) fn decks_purged(
 
 /// The idents in decks that `*SELPURGE` names.
 pub(crate) fn pairs_purged(library: &Library, pairs: &[IdentIn]) -> Result<Vec<AgePair>, FaultKind>
-    ensures { Gives (λ found. found.items) result (pairs_purged [] pairs.now library.now) }
+    ensures { Gives (λ found. found.items) result (pairs_purged pairs.now library.now) }
 {
     let mut found = Vec::new(library.allocator());
     for pair in pairs {
@@ -138,61 +140,6 @@ pub(crate) fn pairs_purged(library: &Library, pairs: &[IdentIn]) -> Result<Vec<A
         found.push(AgePair { deck, ident })?;
     }
     Ok(found)
-}
-
-/// Adds the ranges of decks that a line names to compile.
-pub(crate) fn add_ranges(
-    library: &Library,
-    found: &mut Vec<AgeRange>,
-    ranges: &[NameRange],
-) -> Result<(), FaultKind>
-    ensures { Does result found.new.items (ranges_named found.old.items ranges.now library.now) }
-{
-    for range in ranges {
-        let ages = deck_ages(library, range)?;
-        found.push(ages)?;
-    }
-    Ok(())
-}
-
-/// The ages of the held decks in any of these ranges.
-pub(crate) fn decks_in_any(
-    alloc: Global,
-    library: &Library,
-    ranges: &[AgeRange],
-) -> Result<Vec<Serial>, AllocError>
-    ensures { IfOk result (λ found. found.items ≡ decks_in_any ranges.now library.now) }
-{
-    held_decks_in_any(alloc, library.idents(), ranges)
-}
-
-fn held_decks_in_any(
-    alloc: Global,
-    idents: &[Ident],
-    ranges: &[AgeRange],
-) -> Result<Vec<Serial>, AllocError>
-    ensures { IfOk result (λ found. found.items
-        ≡ map (λ i. i.age) (filter (λ i. i.held && is_deck_kind i.kind && list_any (λ r. is_in r i.age) ranges.now) idents.now)) }
-{
-    let mut found = Vec::new(alloc);
-    for ident in idents {
-        if is_deck_in_any(ident, ranges) {
-            found.push(ident.age)?;
-        }
-    }
-    Ok(found)
-}
-
-fn is_deck_in_any(ident: &Ident, ranges: &[AgeRange]) -> bool
-    ensures { result ≡ (ident.now.held && is_deck_kind ident.now.kind && list_any (λ r. is_in r ident.now.age) ranges.now) }
-{
-    ident.held && ident.kind.is_deck() && is_in_any(ranges, ident.age)
-}
-
-fn is_in_any(ranges: &[AgeRange], age: Serial) -> bool
-    ensures { result ≡ list_any (λ r. is_in r age) ranges.now }
-{
-    ranges.iter().any(|range| range.has(age))
 }
 
 fn add_idents(found: &mut Vec<Serial>, idents: &[Ident], ages: AgeRange) -> Result<(), AllocError>

@@ -1,11 +1,14 @@
-ghost use Rattle.std.specs.Prelude.{◌≡◌, ◌+◌, ◌^◌, ◌<◌, ◌≤◌, ◌&&◌, ◌||◌, ◌==◌, ℕ, [], map, Ok, Some, OnOk};
-ghost use Rattle.std.specs.List.{filter, list_any};
+//! The yanks: `*YANK`, `*SELYANK`, `*YANKDECK`, and the targets that they fix.
+ghost use Rattle.std.specs.Prelude.{◌≡◌, ◌+◌, ◌^◌, ◌<◌, ◌≤◌, ◌&&◌, ◌||◌, ◌==◌, ℕ, [], ◌∷◌, ◌++◌, map, Ok, Some, OnOk};
+ghost use Rattle.std.specs.List.{filter};
 ghost use Rattle.upd_text.specs.Outcome.{Does, Gives};
 ghost use Rattle.upd_core.specs.declared.target.Target.TheVariants.{Set};
 ghost use Rattle.upd_apply.specs.Marks.{AreMarked, is_marked};
 ghost use Rattle.upd_apply.specs.Numbers.{next_most};
 ghost use Rattle.upd_apply.specs.Step.{yank_put};
-ghost use Rattle.upd_apply.specs.Yanks.{decks_yanked, is_in, is_target, pairs_yanked, sets_yanked, with_sets, with_target};
+ghost use Rattle.upd_apply.specs.Names.{is_in};
+ghost use Rattle.upd_core.specs.Targets.{is_same};
+ghost use Rattle.upd_apply.specs.Yanks.{decks_yanked, once, pairs_yanked, sets_yanked};
 
 use crate::names::{AgeRange, ident_ages, known_deck, known_ident};
 use crate::state::{Hand, Spot, State, check_limits};
@@ -18,7 +21,7 @@ impl State {
     /// `*YANK`
     pub(crate) fn yank_sets(&mut self, text: &[u8], ranges: &[NameRange]) -> Result<(), FaultKind>
         requires { next_most self.old + 1 < 2 ^ 32 }
-        ensures does { Does result self.new (yank_put text.now (sets_yanked [] ranges.now) self.old) }
+        ensures does { Does result self.new (yank_put text.now (sets_yanked ranges.now) self.old) }
         ensures number { OnOk result (next_most self.new ≤ next_most self.old + 1) }
     {
         let hand = self.hand.ok_or(FaultKind::NoIdent)?;
@@ -29,7 +32,7 @@ impl State {
     /// `*SELYANK`
     pub(crate) fn yank_pairs(&mut self, text: &[u8], pairs: &[IdentIn]) -> Result<(), FaultKind>
         requires { next_most self.old + 1 < 2 ^ 32 }
-        ensures does { Does result self.new (yank_put text.now (pairs_yanked [] pairs.now) self.old) }
+        ensures does { Does result self.new (yank_put text.now (pairs_yanked pairs.now) self.old) }
         ensures number { OnOk result (next_most self.new ≤ next_most self.old + 1) }
     {
         let hand = self.hand.ok_or(FaultKind::NoIdent)?;
@@ -40,7 +43,7 @@ impl State {
     /// `*YANKDECK`
     pub(crate) fn yank_decks(&mut self, text: &[u8], names: &[Name]) -> Result<(), FaultKind>
         requires { next_most self.old + 1 < 2 ^ 32 }
-        ensures does { Does result self.new (yank_put text.now (decks_yanked [] names.now) self.old) }
+        ensures does { Does result self.new (yank_put text.now (decks_yanked names.now) self.old) }
         ensures number { OnOk result (next_most self.new ≤ next_most self.old + 1) }
     {
         let hand = self.hand.ok_or(FaultKind::NoIdent)?;
@@ -74,7 +77,7 @@ pub(crate) fn sets_yanked(
     set: Serial,
     ranges: &[NameRange],
 ) -> Result<Vec<Target>, FaultKind>
-    ensures { Gives (λ found. found.items) result (sets_yanked [] ranges.now set library.now) }
+    ensures { Gives (λ found. found.items) result (sets_yanked ranges.now set library.now) }
 {
     let mut found = Vec::new(library.allocator());
     let mut marks = Vec::new(library.allocator());
@@ -94,7 +97,7 @@ pub(crate) fn pairs_yanked(
     set: Serial,
     pairs: &[IdentIn],
 ) -> Result<Vec<Target>, FaultKind>
-    ensures { Gives (λ found. found.items) result (pairs_yanked [] pairs.now set library.now) }
+    ensures { Gives (λ found. found.items) result (pairs_yanked pairs.now set library.now) }
 {
     let mut found = Vec::new(library.allocator());
     for pair in pairs {
@@ -114,7 +117,7 @@ pub(crate) fn decks_yanked(
     set: Serial,
     names: &[Name],
 ) -> Result<Vec<Target>, FaultKind>
-    ensures { Gives (λ found. found.items) result (decks_yanked [] names.now set library.now) }
+    ensures { Gives (λ found. found.items) result (decks_yanked names.now set library.now) }
 {
     let mut found = Vec::new(library.allocator());
     for name in names {
@@ -127,16 +130,17 @@ pub(crate) fn decks_yanked(
     Ok(found)
 }
 
-/// Adds the sets of a range. The marks tell by age which sets are there.
+/// Adds the sets of a range that aren't there yet. The marks tell by age which sets are there, so that none is looked for.
 fn add_sets(
     found: &mut Vec<Target>,
     marks: &mut Vec<bool>,
     idents: &[Ident],
     ages: AgeRange,
 ) -> Result<(), AllocError>
-    requires { AreMarked marks.old.items found.old.items }
+    requires marked { AreMarked marks.old.items found.old.items }
+    requires apart { once is_same found.old.items ≡ found.old.items }
     ensures sets { OnOk result (found.new.items
-        ≡ with_sets found.old.items (map (λ i. i.age) (filter (λ i. i.held && is_in ages i.age) idents.now))) }
+        ≡ once is_same (found.old.items ++ map Set (map (λ i. i.age) (filter (λ i. i.held && is_in ages i.age) idents.now)))) }
     ensures marked { OnOk result (AreMarked marks.new.items found.new.items) }
 {
     for ident in idents {
@@ -147,9 +151,11 @@ fn add_sets(
     Ok(())
 }
 
+/// Adds a set that isn't there yet.
 fn add_set(found: &mut Vec<Target>, marks: &mut Vec<bool>, age: Serial) -> Result<(), AllocError>
-    requires { AreMarked marks.old.items found.old.items }
-    ensures sets { OnOk result (found.new.items ≡ with_target found.old.items (Set age)) }
+    requires marked { AreMarked marks.old.items found.old.items }
+    requires apart { once is_same found.old.items ≡ found.old.items }
+    ensures set { OnOk result (found.new.items ≡ once is_same (found.old.items ++ Set age ∷ [])) }
     ensures marked { OnOk result (AreMarked marks.new.items found.new.items) }
 {
     if !is_marked(marks, age) {
@@ -177,23 +183,13 @@ fn mark(marks: &mut Vec<bool>, age: Serial) -> Result<(), AllocError>
     Ok(())
 }
 
+/// Adds a target that isn't there yet.
 fn add_target(found: &mut Vec<Target>, target: Target) -> Result<(), AllocError>
-    ensures { OnOk result (found.new.items ≡ with_target found.old.items target) }
+    requires { once is_same found.old.items ≡ found.old.items }
+    ensures { OnOk result (found.new.items ≡ once is_same (found.old.items ++ target ∷ [])) }
 {
-    if !is_among(found, target) {
+    if !found.contains(&target) {
         found.push(target)?;
     }
     Ok(())
-}
-
-fn is_among(found: &[Target], target: Target) -> bool
-    ensures { result ≡ list_any (is_target target) found.now }
-{
-    found.iter().any(|other| is_target(target, *other))
-}
-
-fn is_target(target: Target, other: Target) -> bool
-    ensures { result ≡ is_target target other }
-{
-    target == other
 }

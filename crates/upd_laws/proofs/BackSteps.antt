@@ -22,7 +22,8 @@ use Rattle.upd_apply.specs.declared.state.Hand.{Hand}
 use Rattle.upd_apply.specs.declared.state.Spot.{Spot}
 use Rattle.upd_apply.specs.declared.state.Spot.TheVariants.{Nowhere, End, Inside}
 use Rattle.upd_apply.specs.declared.state.State.{State}
-use Rattle.upd_apply.specs.Applying.{Reached, started, stepped, applied, named_decks}
+use Rattle.upd_apply.specs.Applying.{Reached, started, stepped, applied}
+use Rattle.upd_apply.specs.Compile.{named_decks}
 use Rattle.upd_apply.specs.Step.{grown, new_name, set_begun, deck_begun, placed_after, placed_before, switched, text_put, yank_put, is_first, done, step}
 use Rattle.upd_apply.specs.Yanks.{sets_yanked, pairs_yanked, decks_yanked}
 use Rattle.upd_laws.specs.PurgingBack.{is_purge, purges_nothing, all_applied}
@@ -166,9 +167,9 @@ done_next x (Insert card) text s r no_purge = placed_after_next x card s r
 done_next x (Before card) text s r no_purge = placed_before_next x card s r
 done_next x (Delete first last) text s r no_purge = switched_next x false first last s r
 done_next x (Restore first last) text s r no_purge = switched_next x true first last s r
-done_next x (Yank ranges) text s r no_purge = yank_put_next x text (sets_yanked [] ranges) s r
-done_next x (SelYank pairs) text s r no_purge = yank_put_next x text (pairs_yanked [] pairs) s r
-done_next x (YankDeck names) text s r no_purge = yank_put_next x text (decks_yanked [] names) s r
+done_next x (Yank ranges) text s r no_purge = yank_put_next x text (sets_yanked ranges) s r
+done_next x (SelYank pairs) text s r no_purge = yank_put_next x text (pairs_yanked pairs) s r
+done_next x (YankDeck names) text s r no_purge = yank_put_next x text (decks_yanked names) s r
 done_next x (Purge ranges) text s r no_purge = cc
 done_next x (PurgeFrom name) text s r no_purge = cc
 done_next x (SelPurge pairs) text s r no_purge = cc

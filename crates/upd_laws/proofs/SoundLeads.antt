@@ -17,7 +17,9 @@ use Rattle.upd_apply.specs.declared.state.Spot.{Spot}
 use Rattle.upd_apply.specs.declared.state.Spot.TheVariants.{Nowhere, End, Inside}
 use Rattle.upd_apply.specs.declared.state.State.{State}
 use Rattle.upd_apply.specs.Step.{done, step, new_name, deck_begun, is_first, switched, text_put, yank_put, purged_in_all}
-use Rattle.upd_apply.specs.Yanks.{AgesIn, known_ident, sets_yanked, pairs_yanked, decks_yanked, idents_purged, decks_purged, pairs_purged}
+use Rattle.upd_apply.specs.Names.{known_ident}
+use Rattle.upd_apply.specs.Yanks.{sets_yanked, pairs_yanked, decks_yanked}
+use Rattle.upd_apply.specs.Purges.{AgesIn, idents_purged, decks_purged, pairs_purged}
 use Rattle.upd_laws.proofs.SoundOutcomes.{through, through_need, through_refusal, through_limits, holds_of}
 use Rattle.upd_laws.proofs.SoundIdents.{continues_more, continues_same, continues_unheld, continues_on}
 use Rattle.upd_laws.proofs.SoundCards.{idents_with}
@@ -91,13 +93,13 @@ done_leads Q (Before card) text s t leads h =
     through_refusal (is_first p) fault.DeckCard _ t (Q t.library) h3 (λ k h4. holds_of (λ (x : State). Q x.library) _ t h4 leads.stays))))
 done_leads Q (Delete first last) text s t leads h = switched_leads Q false first last s t leads h
 done_leads Q (Restore first last) text s t leads h = switched_leads Q true first last s t leads h
-done_leads Q (Yank ranges) text s t leads h = yank_leads Q text (sets_yanked [] ranges) s t leads h
-done_leads Q (SelYank pairs) text s t leads h = yank_leads Q text (pairs_yanked [] pairs) s t leads h
-done_leads Q (YankDeck names) text s t leads h = yank_leads Q text (decks_yanked [] names) s t leads h
-done_leads Q (Purge ranges) text s t leads h = through (idents_purged [] ranges s.library) _ t (Q t.library) h (λ ages e h1. holds_of (λ (x : State). Q x.library) _ t h1 (leads.purges (is_among ages)))
+done_leads Q (Yank ranges) text s t leads h = yank_leads Q text (sets_yanked ranges) s t leads h
+done_leads Q (SelYank pairs) text s t leads h = yank_leads Q text (pairs_yanked pairs) s t leads h
+done_leads Q (YankDeck names) text s t leads h = yank_leads Q text (decks_yanked names) s t leads h
+done_leads Q (Purge ranges) text s t leads h = through (idents_purged ranges s.library) _ t (Q t.library) h (λ ages e h1. holds_of (λ (x : State). Q x.library) _ t h1 (leads.purges (is_among ages)))
 done_leads Q (PurgeFrom name) text s t leads h = through (known_ident name s.library) _ t (Q t.library) h (λ age e h1. holds_of (λ (x : State). Q x.library) _ t h1 (leads.purges (nat_le age)))
-done_leads Q (SelPurge pairs) text s t leads h = through (pairs_purged [] pairs s.library) _ t (Q t.library) h (λ ages e h1. holds_of (λ (x : State). Q x.library) _ t h1 (leads.parts ages))
-done_leads Q (PurDeck ranges) text s t leads h = through (decks_purged [] ranges s.library) _ t (Q t.library) h (λ ages e h1. holds_of (λ (x : State). Q x.library) _ t h1 (leads.purges (is_among ages)))
+done_leads Q (SelPurge pairs) text s t leads h = through (pairs_purged pairs s.library) _ t (Q t.library) h (λ ages e h1. holds_of (λ (x : State). Q x.library) _ t h1 (leads.parts ages))
+done_leads Q (PurDeck ranges) text s t leads h = through (decks_purged ranges s.library) _ t (Q t.library) h (λ ages e h1. holds_of (λ (x : State). Q x.library) _ t h1 (leads.purges (is_among ages)))
 done_leads Q (Compile ranges) text s t leads h = holds_of (λ (x : State). Q x.library) s t h leads.stays
 
 -- ---- the directory

@@ -13,22 +13,21 @@ use Rattle.upd_deck.specs.Items.{ItemView, LineView, Text, Call, Ident, Deck, Co
 use Rattle.upd_apply.specs.declared.Hand.{Hand}
 use Rattle.upd_apply.specs.declared.state.Spot.TheVariants.{End}
 use Rattle.upd_apply.specs.declared.state.State.{State}
-use Rattle.upd_apply.specs.Applying.{Reached, applied, started, stepped, named_decks}
+use Rattle.upd_apply.specs.Applying.{Reached, applied, started, stepped}
+use Rattle.upd_apply.specs.Compile.{named_decks}
 use Rattle.upd_apply.specs.Step.{done, step, purged_in_all}
-use Rattle.upd_apply.specs.Yanks.{known_ident, sets_yanked, pairs_yanked, decks_yanked, idents_purged, decks_purged, pairs_purged}
+use Rattle.upd_apply.specs.Names.{known_ident}
+use Rattle.upd_apply.specs.Yanks.{sets_yanked, pairs_yanked, decks_yanked}
+use Rattle.upd_apply.specs.Purges.{idents_purged, decks_purged, pairs_purged}
 use Rattle.upd_laws.specs.Soundness.{count_of, IsInHand, IsHandSound, IsAtEnd, IsSpotSound, IsSoundState, after_run, after_runs}
 use Rattle.upd_laws.proofs.SoundOutcomes.{through, holds_of}
 use Rattle.upd_laws.proofs.SoundIdents.{continues_same, continues_on}
-use Rattle.upd_laws.proofs.SoundYanks.{AreYanked, sets_are, pairs_are, decks_are}
+use Rattle.upd_laws.proofs.SoundYanks.{sets_are, pairs_are, decks_are}
 use Rattle.upd_laws.proofs.SoundEdits.{purged_sound}
 use Rattle.upd_laws.proofs.SoundLeads.{step_goes, step_within}
 use Rattle.upd_laws.proofs.SoundSteps.{set_sound, deck_begun_sound, after_sound, before_sound, switched_sound, put_sound, yank_put_sound, others_found, purged_in_all_sound, ended_sound}
 
 -- ---- a line
-
--- no targets yet
-none_yanked : (z : ℕ) → AreYanked z []
-none_yanked z = record { older = tt; apart = tt }
 
 done_sound : (item : ItemView) (text : List ℕ) (s t : State) → IsSoundState s → done item text s ≡ Ok t → IsSoundState t
 done_sound Text text s t sound h = put_sound text s t sound h
@@ -40,18 +39,18 @@ done_sound (Insert card) text s t sound h = after_sound card s t sound h
 done_sound (Before card) text s t sound h = before_sound card s t sound h
 done_sound (Delete first last) text s t sound h = switched_sound false first last s t sound h
 done_sound (Restore first last) text s t sound h = switched_sound true first last s t sound h
-done_sound (Yank ranges) text s t sound h = yank_put_sound text (sets_yanked [] ranges) s t (λ z l found from e. sets_are z l ranges [] found from e (none_yanked z)) sound h
-done_sound (SelYank pairs) text s t sound h = yank_put_sound text (pairs_yanked [] pairs) s t (λ z l found from e. pairs_are z l pairs [] found from e (none_yanked z)) sound h
-done_sound (YankDeck names) text s t sound h = yank_put_sound text (decks_yanked [] names) s t (λ z l found from e. decks_are z l names [] found from e (none_yanked z)) sound h
+done_sound (Yank ranges) text s t sound h = yank_put_sound text (sets_yanked ranges) s t (λ z l found from e. sets_are z l ranges found from e) sound h
+done_sound (SelYank pairs) text s t sound h = yank_put_sound text (pairs_yanked pairs) s t (λ z l found from e. pairs_are z l pairs found from e) sound h
+done_sound (YankDeck names) text s t sound h = yank_put_sound text (decks_yanked names) s t (λ z l found from e. decks_are z l names found from e) sound h
 done_sound (Purge ranges) text s t sound h =
-    through (idents_purged [] ranges s.library) _ t (IsSoundState t) h (λ ages e h1. holds_of IsSoundState _ t h1 (ended_sound (purged (is_among ages) s.library) (purged_sound (is_among ages) s.library sound.library)))
+    through (idents_purged ranges s.library) _ t (IsSoundState t) h (λ ages e h1. holds_of IsSoundState _ t h1 (ended_sound (purged (is_among ages) s.library) (purged_sound (is_among ages) s.library sound.library)))
 done_sound (PurgeFrom name) text s t sound h =
     through (known_ident name s.library) _ t (IsSoundState t) h (λ age e h1. holds_of IsSoundState _ t h1 (ended_sound (purged_back age s.library) (purged_sound (nat_le age) s.library sound.library)))
 done_sound (SelPurge pairs) text s t sound h =
-    through (pairs_purged [] pairs s.library) _ t (IsSoundState t) h (λ ages e h1.
-    holds_of IsSoundState _ t h1 (ended_sound (purged_in_all ages s.library) (purged_in_all_sound ages s.library (others_found pairs s.library [] ages e tt) sound.library)))
+    through (pairs_purged pairs s.library) _ t (IsSoundState t) h (λ ages e h1.
+    holds_of IsSoundState _ t h1 (ended_sound (purged_in_all ages s.library) (purged_in_all_sound ages s.library (others_found pairs s.library ages e) sound.library)))
 done_sound (PurDeck ranges) text s t sound h =
-    through (decks_purged [] ranges s.library) _ t (IsSoundState t) h (λ ages e h1. holds_of IsSoundState _ t h1 (ended_sound (purged (is_among ages) s.library) (purged_sound (is_among ages) s.library sound.library)))
+    through (decks_purged ranges s.library) _ t (IsSoundState t) h (λ ages e h1. holds_of IsSoundState _ t h1 (ended_sound (purged (is_among ages) s.library) (purged_sound (is_among ages) s.library sound.library)))
 done_sound (Compile ranges) text s t sound h = holds_of IsSoundState s t h sound
 
 pub step_sound : (line : LineView) (s t : State) → IsSoundState s → step line s ≡ Ok t → IsSoundState t

@@ -24,9 +24,10 @@ use Rattle.upd_apply.specs.declared.state.Spot.{Spot}
 use Rattle.upd_apply.specs.declared.state.Spot.TheVariants.{Nowhere, End, Inside}
 use Rattle.upd_apply.specs.declared.state.State.{State}
 use Rattle.upd_apply.specs.Step.{new_name, set_begun, deck_begun, behind, is_first, placed_after, placed_before, switched, text_put, yank_put, ended, purged_in_all}
-use Rattle.upd_apply.specs.Yanks.{AgesIn, is_reserved, known_deck, known_ident, pairs_purged}
+use Rattle.upd_apply.specs.Names.{is_reserved, known_deck, known_ident}
+use Rattle.upd_apply.specs.Purges.{AgesIn, pair_ages, pairs_purged}
 use Rattle.upd_laws.specs.Soundness.{IsNext, IsInHand, IsHandSound, IsAtEnd, IsSpotSound, IsSoundState}
-use Rattle.upd_laws.proofs.SoundOutcomes.{through, through_need, through_refusal, through_grown, holds_of}
+use Rattle.upd_laws.proofs.SoundOutcomes.{each_all, through, through_need, through_refusal, through_grown, holds_of}
 use Rattle.upd_laws.proofs.SoundLists.{same_number, is_same_number, other_number, any_last, all_append, all_weaker, HasMore, zip_all, zip_length}
 use Rattle.upd_laws.proofs.SoundIdents.{held_within, held_more, held_last, held_deck_last, held_deck_held, not_some}
 use Rattle.upd_laws.proofs.SoundCards.{IsEntered, entered_some, idents_with, yanks_with, yanks_kept, standing_with, cards_with, standing, more_with_card, more_with_yank, more_with_deck, zip_with_entries, flat}
@@ -366,13 +367,14 @@ yank_put_sound text targets s t are sound h =
 abbrev pub AreOthers : List AgesIn → Type 0
 AreOthers ages = AllByRecursion (λ a. a.ident ≡ a.deck → ⊥) ages
 
-pub others_found : (pairs : List IdentIn) (l : LibraryView) (found ages : List AgesIn) → pairs_purged found pairs l ≡ Ok ages → AreOthers found → AreOthers ages
-others_found [] l found ages h were = holds_of AreOthers found ages h were
-others_found (pair ∷ pairs) l found ages h were =
-    through (known_deck pair.deck l) _ ages (AreOthers ages) h (λ d e h1.
-    through (known_ident pair.ident l) _ ages (AreOthers ages) h1 (λ z f h2.
-    through_refusal (z == d) fault.DeckCard _ ages (AreOthers ages) h2 (λ g h3.
-    others_found pairs l (found ++ record { deck = d; ident = z } ∷ []) ages h3 (all_append (λ (a : AgesIn). a.ident ≡ a.deck → ⊥) found _ were (other_number z d g, tt)))))
+pub others_found : (pairs : List IdentIn) (l : LibraryView) (ages : List AgesIn) → pairs_purged pairs l ≡ Ok ages → AreOthers ages
+others_found pairs l ages h = each_all (λ (a : AgesIn). a.ident ≡ a.deck → ⊥) (pair_ages l) pairs ages one h
+  where
+    one : (pair : IdentIn) (found : List AgesIn) → pair_ages l pair ≡ Ok found → AreOthers found
+    one pair found h =
+        through (known_deck pair.deck l) _ found (AreOthers found) h (λ d e h1.
+        through (known_ident pair.ident l) _ found (AreOthers found) h1 (λ z f h2.
+        through_refusal (z == d) fault.DeckCard _ found (AreOthers found) h2 (λ g h3. holds_of AreOthers _ found h3 (other_number z d g, tt))))
 
 pub purged_in_all_sound : (ages : List AgesIn) (l : LibraryView) → AreOthers ages → IsSound l → IsSound (purged_in_all ages l)
 purged_in_all_sound [] l others s = s

@@ -1,9 +1,9 @@
 -- `YANK$$$` stays in order of age, and the targets of a yank are older than it and differ.
 use Rattle.std.proofs.Common.{◌≡◌, ℕ, ◌<◌, ◌≤◌, Bool, true, false, not, ◌&&◌, ◌||◌, List, [], ◌∷◌, ◌++◌, inl, inr, refl, sym, ap, subst, arith}
 use Rattle.std.proofs.lemmas.Bool.Decides.{nat_tests}
-use Rattle.std.specs.Prelude.{if◌then◌else◌, Option, Some, None, ◌==◌, nat_le, Ok}
+use Rattle.std.specs.Prelude.{if◌then◌else◌, Option, Some, None, ◌==◌, nat_le, Result, Ok}
 use Rattle.std.specs.Option.{option_map, option_and_then}
-use Rattle.std.specs.List.{list_any, AllByRecursion, AllZip}
+use Rattle.std.specs.List.{filter, AllByRecursion, AllZip}
 use Rattle.upd_core.specs.declared.card.Entry.{Entry}
 use Rattle.upd_text.specs.declared.fault.FaultKind.TheVariants as fault
 use Rattle.upd_core.specs.declared.ident.Ident.{Ident}
@@ -15,11 +15,15 @@ use Rattle.upd_core.specs.Sound.{AreApart, AreAgedFrom}
 use Rattle.upd_core.specs.Status.{IsOlder, TakesOlder, HasEntriesFrom, IsAged}
 use Rattle.upd_deck.specs.declared.item.NameRange.{NameRange}
 use Rattle.upd_deck.specs.declared.item.IdentIn.{IdentIn}
-use Rattle.upd_apply.specs.Yanks.{Ages, is_in, is_reserved, idents_in, known_ident, known_deck, ages_by, is_target, with_target, with_sets, sets_yanked, pairs_yanked, decks_yanked}
-use Rattle.upd_laws.proofs.SoundLists.{and_right, both, or_none_left, or_none_right, is_same_number, all_append, all_both, all_filter, all_map, all_pass, apart_end, zip_all}
+use Rattle.upd_core.specs.Targets.{is_same}
+use Rattle.upd_text.specs.declared.fault.FaultKind.{FaultKind}
+use Rattle.upd_text.specs.Outcome.{each}
+use Rattle.upd_apply.specs.Names.{Ages, ages_by, idents_in, is_in, is_reserved, known_deck, known_ident}
+use Rattle.upd_apply.specs.Yanks.{deck_targets, decks_yanked, once, pair_targets, pairs_yanked, range_targets, sets_yanked, yanked}
+use Rattle.upd_laws.proofs.SoundLists.{and_right, both, or_none_left, or_none_right, is_same_number, all_append, all_both, all_filter, all_map, all_pass, zip_all}
 use Rattle.upd_laws.proofs.SoundCards.{IsEntered, all_without}
 use Rattle.upd_laws.proofs.SoundIdents.{all_from, found_from}
-use Rattle.upd_laws.proofs.SoundOutcomes.{through, through_option, through_refusal, holds_of}
+use Rattle.upd_laws.proofs.SoundOutcomes.{each_all, through, through_option, through_refusal, holds_of}
 
 -- ---- order of age
 
@@ -71,28 +75,41 @@ pub record AreYanked (z : ℕ) (found : List Target) : Type 0 where
   pub older : AllByRecursion (TakesOlder z) found
   pub apart : AreApart found
 
-is_target_itself : (t : Target) → is_target t t ≡ true
-is_target_itself (Set a) = is_same_number a a refl
-is_target_itself (SetIn a d) = both (a == a) (d == d) (is_same_number a a refl) (is_same_number d d refl)
-is_target_itself (Deck d) = is_same_number d d refl
+is_same_itself : (t : Target) → is_same t t ≡ true
+is_same_itself (Set a) = is_same_number a a refl
+is_same_itself (SetIn a d) = both (a == a) (d == d) (is_same_number a a refl) (is_same_number d d refl)
+is_same_itself (Deck d) = is_same_number d d refl
 
-not_among : (t : Target) (found : List Target) → list_any (is_target t) found ≡ false → AllByRecursion (λ u. t ≡ u → ⊥) found
-not_among t [] e = tt
-not_among t (u ∷ found) e = (
-  (λ same. let f : is_target t u ≡ true = subst (λ v. is_target t v ≡ true) same (is_target_itself t) in let g = or_none_left (is_target t u) (list_any (is_target t) found) e in absurd (cc)),
-  not_among t found (or_none_right (is_target t u) (list_any (is_target t) found) e),
-)
+-- a target that the test tells from t isn't t
+other_target : (t u : Target) → not (is_same t u) ≡ true → t ≡ u → ⊥
+other_target t u other same = let itself : is_same t u ≡ true = subst (λ v. is_same t v ≡ true) same (is_same_itself t) in absurd (let bad = rw itself at other in cc)
 
-target_found : (z : ℕ) (found : List Target) (t : Target) → TakesOlder z t → AreYanked z found → AreYanked z (with_target found t)
-target_found z found t older were = go (list_any (is_target t) found) refl
+apart_filter : {A : Type 0} (test : A → Bool) (xs : List A) → AreApart xs → AreApart (filter test xs)
+apart_filter test [] apart = tt
+apart_filter test (x ∷ xs) apart = of (test x) (apart_filter test xs apart.1)
   where
-    go : (b : Bool) → list_any (is_target t) found ≡ b → AreYanked z (with_target found t)
-    go true e = rw e were
-    go false e = rw e (record { older = all_append (TakesOlder z) found (t ∷ []) were.older (older, tt); apart = apart_end t found were.apart (not_among t found e) })
+    of : (b : Bool) → AreApart (filter test xs) → AreApart (if b then x ∷ filter test xs else filter test xs)
+    of true rest = (all_filter (λ y. x ≡ y → ⊥) test xs apart.0, rest)
+    of false rest = rest
 
-sets_found : (z : ℕ) (ages : List ℕ) (found : List Target) → AllByRecursion (IsOlder z) ages → AreYanked z found → AreYanked z (with_sets found ages)
-sets_found z [] found older were = were
-sets_found z (a ∷ ages) found older were = sets_found z ages (with_target found (Set a)) older.1 (target_found z found (Set a) older.0 were)
+once_apart : (found : List Target) → AreApart (once is_same found)
+once_apart [] = tt
+once_apart (t ∷ found) =
+    (all_pass (λ u. t ≡ u → ⊥) _ (once is_same found) (other_target t), apart_filter (λ u. not (is_same t u)) (once is_same found) (once_apart found))
+
+all_once : (P : Target → Type 0) (found : List Target) → AllByRecursion P found → AllByRecursion P (once is_same found)
+all_once P [] all = tt
+all_once P (t ∷ found) all = (all.0, all_filter P (λ u. not (is_same t u)) (once is_same found) (all_once P found all.1))
+
+-- what holds of the targets of each field holds of those of the yank, which differ
+yanked_are : {A : Type 0} (z : ℕ) (targets : A → Result (List Target) FaultKind) (fields : List A) (t : List Target)
+    → ((field : A) (found : List Target) → targets field ≡ Ok found → AllByRecursion (TakesOlder z) found) → yanked targets fields ≡ Ok t → AreYanked z t
+yanked_are z targets fields t older h =
+    through (each targets fields) _ t (AreYanked z t) h (λ found e h1.
+    holds_of (AreYanked z) _ t h1 (record {
+      older = all_once (TakesOlder z) found (each_all (TakesOlder z) targets fields found older e);
+      apart = once_apart found;
+    }))
 
 older_in : (ages : Ages) (z : ℕ) (l : LibraryView) → AreAgedFrom 1 l.idents → nat_le z ages.to ≡ false → AllByRecursion (IsOlder z) (idents_in ages l)
 older_in ages z l from e =
@@ -127,29 +144,35 @@ deck_positive name l d from h =
     go None e f = absurd (cc)
     go (Some i) e f = let same = aged (is_deck_kind i.kind) i.age f in let low = found_from 1 _ l.idents i from e in omega arith
 
-pub sets_are : (z : ℕ) (l : LibraryView) (ranges : List NameRange) (found t : List Target) → AreAgedFrom 1 l.idents → sets_yanked found ranges z l ≡ Ok t → AreYanked z found → AreYanked z t
-sets_are z l [] found t from h were = holds_of (AreYanked z) found t h were
-sets_are z l (range ∷ ranges) found t from h were =
-    through (ages_by known_ident range l) _ t (AreYanked z t) h (λ ages e h1.
-    through_refusal (nat_le z ages.to) fault.YankSelf _ t (AreYanked z t) h1 (λ f h2.
-    sets_are z l ranges (with_sets found (idents_in ages l)) t from h2 (sets_found z (idents_in ages l) found (older_in ages z l from f) were)))
+pub sets_are : (z : ℕ) (l : LibraryView) (ranges : List NameRange) (t : List Target) → AreAgedFrom 1 l.idents → sets_yanked ranges z l ≡ Ok t → AreYanked z t
+sets_are z l ranges t from h = yanked_are z (range_targets z l) ranges t one h
+  where
+    one : (range : NameRange) (found : List Target) → range_targets z l range ≡ Ok found → AllByRecursion (TakesOlder z) found
+    one range found h =
+        through (ages_by known_ident range l) _ found (AllByRecursion (TakesOlder z) found) h (λ ages e h1.
+        through_refusal (nat_le z ages.to) fault.YankSelf _ found (AllByRecursion (TakesOlder z) found) h1 (λ f h2.
+        holds_of (AllByRecursion (TakesOlder z)) _ found h2 (all_map (TakesOlder z) Set (idents_in ages l) (older_in ages z l from f))))
 
-pub pairs_are : (z : ℕ) (l : LibraryView) (pairs : List IdentIn) (found t : List Target) → AreAgedFrom 1 l.idents → pairs_yanked found pairs z l ≡ Ok t → AreYanked z found → AreYanked z t
-pairs_are z l [] found t from h were = holds_of (AreYanked z) found t h were
-pairs_are z l (pair ∷ pairs) found t from h were =
-    through (known_deck pair.deck l) _ t (AreYanked z t) h (λ d e h1.
-    through (known_ident pair.ident l) _ t (AreYanked z t) h1 (λ y g h2.
-    through_refusal (nat_le z d || nat_le z y) fault.YankSelf _ t (AreYanked z t) h2 (λ f h3.
-    let left = or_none_left (nat_le z d) (nat_le z y) f in
-    let right = or_none_right (nat_le z d) (nat_le z y) f in
-    let deck : IsOlder z d = (deck_positive pair.deck l d from e, grind (arith, nat_tests)) in
-    let ident : IsOlder z y = (ident_positive pair.ident l y from g, grind (arith, nat_tests)) in
-    pairs_are z l pairs (with_target found (SetIn y d)) t from h3 (target_found z found (SetIn y d) (ident, deck) were))))
+pub pairs_are : (z : ℕ) (l : LibraryView) (pairs : List IdentIn) (t : List Target) → AreAgedFrom 1 l.idents → pairs_yanked pairs z l ≡ Ok t → AreYanked z t
+pairs_are z l pairs t from h = yanked_are z (pair_targets z l) pairs t one h
+  where
+    one : (pair : IdentIn) (found : List Target) → pair_targets z l pair ≡ Ok found → AllByRecursion (TakesOlder z) found
+    one pair found h =
+        through (known_deck pair.deck l) _ found (AllByRecursion (TakesOlder z) found) h (λ d e h1.
+        through (known_ident pair.ident l) _ found (AllByRecursion (TakesOlder z) found) h1 (λ y g h2.
+        through_refusal (nat_le z d || nat_le z y) fault.YankSelf _ found (AllByRecursion (TakesOlder z) found) h2 (λ f h3.
+        let left = or_none_left (nat_le z d) (nat_le z y) f in
+        let right = or_none_right (nat_le z d) (nat_le z y) f in
+        let deck : IsOlder z d = (deck_positive pair.deck l d from e, grind (arith, nat_tests)) in
+        let ident : IsOlder z y = (ident_positive pair.ident l y from g, grind (arith, nat_tests)) in
+        holds_of (AllByRecursion (TakesOlder z)) _ found h3 ((ident, deck), tt))))
 
-pub decks_are : (z : ℕ) (l : LibraryView) (names : List (List ℕ)) (found t : List Target) → AreAgedFrom 1 l.idents → decks_yanked found names z l ≡ Ok t → AreYanked z found → AreYanked z t
-decks_are z l [] found t from h were = holds_of (AreYanked z) found t h were
-decks_are z l (name ∷ names) found t from h were =
-    through (known_deck name l) _ t (AreYanked z t) h (λ d e h1.
-    through_refusal (nat_le z d) fault.YankSelf _ t (AreYanked z t) h1 (λ f h2.
-    let deck : IsOlder z d = (deck_positive name l d from e, grind (arith, nat_tests)) in
-    decks_are z l names (with_target found (Deck d)) t from h2 (target_found z found (Deck d) deck were)))
+pub decks_are : (z : ℕ) (l : LibraryView) (names : List (List ℕ)) (t : List Target) → AreAgedFrom 1 l.idents → decks_yanked names z l ≡ Ok t → AreYanked z t
+decks_are z l names t from h = yanked_are z (deck_targets z l) names t one h
+  where
+    one : (name : List ℕ) (found : List Target) → deck_targets z l name ≡ Ok found → AllByRecursion (TakesOlder z) found
+    one name found h =
+        through (known_deck name l) _ found (AllByRecursion (TakesOlder z) found) h (λ d e h1.
+        through_refusal (nat_le z d) fault.YankSelf _ found (AllByRecursion (TakesOlder z) found) h1 (λ f h2.
+        let deck : IsOlder z d = (deck_positive name l d from e, grind (arith, nat_tests)) in
+        holds_of (AllByRecursion (TakesOlder z)) _ found h2 (deck, tt)))

@@ -1,5 +1,6 @@
 -- A loop that looks at each element: what it has found stands in front of what the rest gives, unless one is refused.
-use Rattle.std.proofs.Common.{◌≡◌, List, [], ◌∷◌, ◌++◌, Result, Ok, Err, refl, ap, sym, ◌∙◌, append_assoc, append-nil}
+use Rattle.std.proofs.Common.{◌≡◌, ℕ, ◌+◌, ◌<◌, List, [], ◌∷◌, ◌++◌, length, drop, get_or, Result, Ok, Err, refl, ap, sym, ◌∙◌, append_assoc, append-nil}
+use Rattle.std.proofs.lemmas.List.{drop_more}
 use Rattle.upd_text.specs.Outcome.{◌>>=◌, each}
 
 -- what was found, and behind it what the rest gives; the first refusal of the rest
@@ -34,3 +35,21 @@ each_behind-each f found (x ∷ xs) = more_each f found xs (f x) (λ more. each_
 -- a loop begins with nothing found
 pub each_behind-none : {A B E : Type 0} (f : A → Result (List B) E) (xs : List A) → each_behind f [] xs ≡ each f xs
 each_behind-none f xs = each_behind-each f [] xs ∙ none_in_front (each f xs)
+
+-- ---- the turns of a loop over xs, at the element x
+
+-- it gives more
+pub each_more : {A B E : Type 0} (f : A → Result (List B) E) (xs : List A) (i : ℕ) (x : A) (found now more : List B) (whole : Result (List B) E)
+    → i < length xs → x ≡ get_or xs i x → f x ≡ Ok more → now ≡ found ++ more
+    → each_behind f found (drop i xs) ≡ whole → each_behind f now (drop (i + 1) xs) ≡ whole
+each_more f xs i x found now more whole within read gives is so_far =
+    ap (λ ys. each_behind f ys (drop (i + 1) xs)) is
+    ∙ sym (ap (λ r. r >>= (λ more. each_behind f (found ++ more) (drop (i + 1) xs))) gives)
+    ∙ sym (ap (each_behind f found) (drop_more xs i x within ∙ ap (λ y. y ∷ drop (i + 1) xs) (sym read))) ∙ so_far
+
+-- it is refused
+pub each_refused : {A B E : Type 0} (f : A → Result (List B) E) (xs : List A) (i : ℕ) (x : A) (found : List B) (e : E) (whole : Result (List B) E)
+    → i < length xs → x ≡ get_or xs i x → f x ≡ Err e → each_behind f found (drop i xs) ≡ whole → whole ≡ Err e
+each_refused f xs i x found e whole within read gives so_far =
+    sym so_far ∙ ap (each_behind f found) (drop_more xs i x within ∙ ap (λ y. y ∷ drop (i + 1) xs) (sym read))
+    ∙ ap (λ r. r >>= (λ more. each_behind f (found ++ more) (drop (i + 1) xs))) gives

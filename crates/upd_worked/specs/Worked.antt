@@ -14,7 +14,7 @@ use Rattle.upd_text.specs.Outcome.{◌>>=◌}
 use Rattle.upd_core.specs.Status.{live_cards}
 use Rattle.upd_deck.specs.Reading.{reading}
 use Rattle.upd_apply.specs.Applying.{Reached, applied}
-use Rattle.upd_apply.specs.Yanks.{is_target}
+use Rattle.upd_core.specs.Targets.{is_same}
 use Rattle.upd_compile.specs.declared.mode.Mode.{Mode}
 use Rattle.upd_compile.specs.declared.mode.Mode.TheVariants.{Full}
 use Rattle.upd_compile.specs.Chosen.{changed, chosen}
@@ -98,4 +98,4 @@ card name number = record { name = name; number = number }
 
 -- how many live yank cards have a target
 abbrev pub live_count : Target → LibraryView → ℕ
-live_count t l = count_by (λ y. list_any (is_target t) y.targets) (live_cards l.yanks)
+live_count t l = count_by (λ y. list_any (is_same t) y.targets) (live_cards l.yanks)

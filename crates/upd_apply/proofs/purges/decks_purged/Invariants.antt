@@ -1,6 +1,7 @@
-use Rattle.std.proofs.Common.{◌≡◌, [], drop}
-use Rattle.upd_apply.specs.Yanks.{decks_purged}
+use Rattle.std.proofs.Common.{◌≡◌, drop}
+use Rattle.upd_text.proofs.EachLemmas.{each_behind}
+use Rattle.upd_apply.specs.Purges.{range_decks, decks_purged}
 use Rattle.upd_apply.proofs.purges.decks_purged.Given as goal
 
 abbrev pub invariant-loop-range : goal.invariant-loop-range
-invariant-loop-range l = decks_purged l.found.items (drop l.range-index l.ranges) l.library ≡ decks_purged [] l.ranges l.library
+invariant-loop-range l = each_behind (range_decks l.library) l.found.items (drop l.range-index l.ranges) ≡ decks_purged l.ranges l.library

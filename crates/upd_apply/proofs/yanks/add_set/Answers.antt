@@ -1,6 +1,16 @@
-use Rattle.std.proofs.Common.{arith}
+use Rattle.std.proofs.Common.{◌≡◌, arith}
 use Rattle.std.proofs.lemmas.Grind.{common_steps}
+use Rattle.upd_core.specs.declared.target.Target.TheVariants.{Set}
+use Rattle.upd_core.specs.Targets.{is_same}
+use Rattle.upd_apply.proofs.OnceLemmas.{one_more}
+use Rattle.upd_apply.proofs.TargetLemmas.{same_target}
 use Rattle.upd_apply.proofs.yanks.add_set.Goals as goal
+
+pub returns-in_ok-push-clause-set : goal.returns-in_ok-push-clause-set
+returns-in_ok-push-clause-set c = one_more is_same same_target _ _ (Set c.args.age) c.requires.apart (grind (arith, common_steps, c.requires.marked c.args.age))
 
 pub returns-in_ok-push-clause-marked : goal.returns-in_ok-push-clause-marked
 returns-in_ok-push-clause-marked c = grind (arith, common_steps)
+
+pub returns-else-not-is_marked-clause-set : goal.returns-else-not-is_marked-clause-set
+returns-else-not-is_marked-clause-set c = one_more is_same same_target _ _ (Set c.args.age) c.requires.apart (grind (arith, common_steps, c.requires.marked c.args.age))

@@ -1,6 +1,11 @@
-use Rattle.std.proofs.Common.{◌≡◌, [], drop}
-use Rattle.upd_apply.specs.Yanks.{decks_yanked}
+use Rattle.std.proofs.Common.{◌≡◌, ◌++◌, drop, Ok}
+use Rattle.upd_text.specs.Outcome.{◌>>=◌, each}
+use Rattle.upd_core.specs.Targets.{is_same}
+use Rattle.upd_apply.specs.Yanks.{deck_targets, decks_yanked, once}
 use Rattle.upd_apply.proofs.yanks.decks_yanked.Given as goal
 
 abbrev pub invariant-loop-name : goal.invariant-loop-name
-invariant-loop-name l = decks_yanked l.found.items (drop l.name-index l.names) l.set l.library ≡ decks_yanked [] l.names l.set l.library
+invariant-loop-name l = record {
+  named : each (deck_targets l.set l.library) (drop l.name-index l.names) >>= (λ more. Ok (once is_same (l.found.items ++ more))) ≡ decks_yanked l.names l.set l.library;
+  apart : once is_same l.found.items ≡ l.found.items;
+}

@@ -1,6 +1,11 @@
-use Rattle.std.proofs.Common.{◌≡◌, [], drop}
-use Rattle.upd_apply.specs.Yanks.{pairs_yanked}
+use Rattle.std.proofs.Common.{◌≡◌, ◌++◌, drop, Ok}
+use Rattle.upd_text.specs.Outcome.{◌>>=◌, each}
+use Rattle.upd_core.specs.Targets.{is_same}
+use Rattle.upd_apply.specs.Yanks.{once, pair_targets, pairs_yanked}
 use Rattle.upd_apply.proofs.yanks.pairs_yanked.Given as goal
 
 abbrev pub invariant-loop-pair : goal.invariant-loop-pair
-invariant-loop-pair l = pairs_yanked l.found.items (drop l.pair-index l.pairs) l.set l.library ≡ pairs_yanked [] l.pairs l.set l.library
+invariant-loop-pair l = record {
+  named : each (pair_targets l.set l.library) (drop l.pair-index l.pairs) >>= (λ more. Ok (once is_same (l.found.items ++ more))) ≡ pairs_yanked l.pairs l.set l.library;
+  apart : once is_same l.found.items ≡ l.found.items;
+}

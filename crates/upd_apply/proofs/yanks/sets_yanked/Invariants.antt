@@ -1,8 +1,13 @@
-use Rattle.std.proofs.Common.{◌≡◌, [], drop}
+use Rattle.std.proofs.Common.{◌≡◌, ◌++◌, drop, Ok}
+use Rattle.upd_text.specs.Outcome.{◌>>=◌, each}
 use Rattle.upd_apply.specs.Marks.{AreMarked}
-use Rattle.upd_apply.specs.Yanks.{sets_yanked}
+use Rattle.upd_core.specs.Targets.{is_same}
+use Rattle.upd_apply.specs.Yanks.{once, range_targets, sets_yanked}
 use Rattle.upd_apply.proofs.yanks.sets_yanked.Given as goal
 
 abbrev pub invariant-loop-range : goal.invariant-loop-range
-invariant-loop-range l =
-    (sets_yanked l.found.items (drop l.range-index l.ranges) l.set l.library ≡ sets_yanked [] l.ranges l.set l.library) × AreMarked l.marks.items l.found.items
+invariant-loop-range l = record {
+  named : each (range_targets l.set l.library) (drop l.range-index l.ranges) >>= (λ more. Ok (once is_same (l.found.items ++ more))) ≡ sets_yanked l.ranges l.set l.library;
+  apart : once is_same l.found.items ≡ l.found.items;
+  marked : AreMarked l.marks.items l.found.items;
+}

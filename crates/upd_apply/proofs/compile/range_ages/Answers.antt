@@ -1,0 +1,23 @@
+use Rattle.std.proofs.Common.{◌≡◌, [], ◌∷◌, ap, sym, ◌∙◌, arith, Ok, Err}
+use Rattle.std.proofs.lemmas.Grind.{common_steps}
+use Rattle.upd_text.specs.Outcome.{◌>>=◌}
+use Rattle.upd_text.proofs.EachLemmas.{each_behind-none, each_more, each_refused}
+use Rattle.upd_apply.specs.Compile.{range_ages}
+use Rattle.upd_apply.proofs.compile.range_ages.Goals as goal
+
+pub loop-range-init : goal.loop-range-init
+loop-range-init c = rw c.new-found.ensures.items (each_behind-none (range_ages c.args.library.now) c.args.ranges.now)
+
+pub returns-in_err-ages : goal.returns-in_err-ages
+returns-in_err-ages c =
+    let refused : range_ages c.args.library.now c.range-item.result ≡ Err c.in_err-ages.field-0.0 =
+    ap (λ r. r >>= (λ ages. Ok (ages ∷ []))) (sym c.deck_ages.ensures ∙ c.in_err-ages.was) in
+    let whole = each_refused (range_ages c.args.library.now) c.args.ranges.now c.loop-range.range-index c.range-item.result _ _ _ c.loop-range-test.true c.range-item.is refused c.loop-range.invariant in
+    grind (arith, common_steps, whole)
+
+pub loop-range-preserved : goal.loop-range-preserved
+loop-range-preserved c =
+    let gives : range_ages c.args.library.now c.range-item.result ≡ Ok (c.in_ok-ages.ages ∷ []) =
+    ap (λ r. r >>= (λ ages. Ok (ages ∷ []))) (sym c.deck_ages.ensures ∙ c.in_ok-ages.was) in
+    each_more (range_ages c.args.library.now) c.args.ranges.now c.loop-range.range-index c.range-item.result _ _ _ _ c.loop-range-test.true c.range-item.is gives
+    (cc (c.in_ok-push.ensures.items)) c.loop-range.invariant

@@ -1,0 +1,9 @@
+use Rattle.std.proofs.Common.{◌≡◌, drop}
+use Rattle.upd_text.proofs.EachLemmas.{each_behind}
+use Rattle.upd_text.specs.Outcome.{at_line}
+use Rattle.upd_apply.specs.Compile.{line_ranges, ranges_named}
+use Rattle.upd_apply.proofs.compile.ranges_named.Given as goal
+
+abbrev pub invariant-loop-line : goal.invariant-loop-line
+invariant-loop-line l =
+    each_behind (λ line. at_line line.number (line_ranges l.library line.item)) l.found.items (drop l.line-index l.lines) ≡ ranges_named l.lines l.library
