@@ -7,10 +7,10 @@ use Rattle.std.proofs.lemmas.List.Sums.{sum_by-cons, sum_by-append, sum_by-take-
 use Rattle.upd_core.specs.declared.card.Entry.{Entry}
 use Rattle.upd_core.specs.declared.counts.Counts.{Counts}
 use Rattle.upd_core.specs.Counts.{capped, AreOf}
-use Rattle.upd_core.specs.Edits.{entered}
+use Rattle.upd_core.specs.Edits.{entered, entered_range}
 use Rattle.upd_core.specs.First.{at_first}
 use Rattle.upd_core.specs.Library.{CardView, DeckView, LibraryView, is_deck}
-use Rattle.upd_core.specs.Parts.{entered_range, entered_count, entered_in, inserted_in}
+use Rattle.upd_core.specs.Parts.{entered_count, entered_in, inserted_in}
 
 -- where the first element that passes is changed, a sum gains what that element gains
 pub sum_by-at_first : {A : Type 0} (test : A → Bool) (change : A → A) (f gain : A → ℕ) (xs : List A) → ((x : A) → f (change x) ≡ f x + gain x) → sum_by f (at_first test change xs) ≡ sum_by f xs + option_map_or gain (find test xs) 0

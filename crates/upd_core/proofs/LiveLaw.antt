@@ -11,15 +11,15 @@ use Rattle.upd_core.proofs.LiveLemmas.{live_before, good_before, bad_before}
 use Rattle.upd_core.specs.Status.{takes, is_taken, ends_on, is_good, targets_of, live_cards, TakesOlder, HasEntriesFrom, IsAged, AreLive}
 
 -- older targets take no younger ident
-takes_none : (age z d : ℕ) → age ≤ z → (more : List Target) → AllByRecursion (TakesOlder age) more → list_any (takes z d) more ≡ false
+takes_none : (age z d : ℕ) → age ≤ z → (more : List Target) → AllByRecursion (TakesOlder age) more → list_any (takes d z) more ≡ false
 takes_none age z d young [] older = refl
 takes_none age z d young (Set a ∷ more) older = rw (ne_eqb a z (λ e. omega (arith, older.0.1))) (takes_none age z d young more older.1)
 takes_none age z d young (SetIn a e ∷ more) older = rw (ne_eqb a z (λ e. omega (arith, older.0.0.1))) (takes_none age z d young more older.1)
 takes_none age z d young (Deck e ∷ more) older = takes_none age z d young more older.1
 
 -- an ident that none of the first targets takes is taken by the others or not at all
-taken_behind : (z d : ℕ) (first others : List Target) → list_any (takes z d) first ≡ false → is_taken (first ++ others) d z ≡ is_taken others d z
-taken_behind z d first others none = list_any-append (takes z d) first others ∙ ap (λ b. b || is_taken others d z) none
+taken_behind : (z d : ℕ) (first others : List Target) → list_any (takes d z) first ≡ false → is_taken (first ++ others) d z ≡ is_taken others d z
+taken_behind z d first others none = list_any-append (takes d z) first others ∙ ap (λ b. b || is_taken others d z) none
 
 filter_same : {A : Type 0} (p q : A → Bool) (xs : List A) → AllByRecursion (λ x. p x ≡ q x) xs → filter p xs ≡ filter q xs
 filter_same p q [] same = refl

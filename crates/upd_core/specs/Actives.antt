@@ -1,20 +1,22 @@
 -- The active cards of a library: all that a compile file is made of.
-use Rattle.std.specs.Prelude.{ℕ, List, map}
+use Rattle.std.specs.Prelude.{List, map}
 use Rattle.std.specs.List.{filter}
 use Rattle.upd_core.specs.declared.ident.Ident.{Ident}
 use Rattle.upd_core.specs.declared.target.Target.{Target}
 use Rattle.upd_core.specs.Library.{CardView, DeckView, LibraryView}
 use Rattle.upd_core.specs.Status.{is_active, live_targets}
+use Rattle.upd_text.specs.Units.{Bytes, Number}
+use Rattle.upd_core.specs.Ages.{Age}
 
 -- A card without its past.
 pub record ActiveCardView : Type 0 where
-  pub ident : ℕ
-  pub number : ℕ
-  pub text : List ℕ
+  pub ident : Age
+  pub number : Number
+  pub text : Bytes
 
 -- The active cards of a deck in order.
 pub record ActiveDeckView : Type 0 where
-  pub ident : ℕ
+  pub ident : Age
   pub cards : List ActiveCardView
 
 -- The directory, and the active cards of each deck other than `YANK$$$`, by age.

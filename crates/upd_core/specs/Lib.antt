@@ -1,3 +1,4 @@
+pub mod Ages
 pub mod First
 pub mod Library
 pub mod Status

@@ -5,12 +5,13 @@ use Rattle.std.specs.declared.cmp.Ordering.{Ordering}
 use Rattle.upd_core.specs.contracts.target.TargetOrd.TheImpl as derived
 use Rattle.upd_core.specs.declared.target.Target.{Target}
 use Rattle.upd_core.specs.declared.target.Target.TheVariants.{Set, SetIn, Deck}
+use Rattle.upd_core.specs.Ages.{Age}
 
 -- What tells a target: its kind (0 a set, 1 a set in a deck, 2 a deck) and its ages, 0 for the second where there is one.
 pub record TargetKey : Type 0 where
   pub kind : ℕ
-  pub age : ℕ
-  pub deck : ℕ
+  pub age : Age
+  pub deck : Age
 
 -- the key of a target
 abbrev pub target_key : Target → TargetKey

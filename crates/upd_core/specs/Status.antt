@@ -1,5 +1,5 @@
 -- Which idents are taken, and which cards are good, live and active.
-use Rattle.std.specs.Prelude.{◌≡◌, ℕ, ◌<◌, ◌≤◌, ◌==◌, Bool, false, not, ◌&&◌, if◌then◌else◌, List, [], ◌∷◌, slice_get, Option, None}
+use Rattle.std.specs.Prelude.{◌≡◌, ◌<◌, ◌≤◌, ◌==◌, Bool, false, not, ◌&&◌, if◌then◌else◌, List, [], ◌∷◌, slice_get, Option, None}
 use Rattle.std.specs.Option.{option_map, option_and_then}
 use Rattle.std.specs.List.{list_any, filter, flat_map, AllByRecursion}
 use Rattle.upd_core.specs.declared.card.Entry.{Entry}
@@ -10,22 +10,23 @@ use Rattle.upd_core.specs.declared.target.Target.{Target}
 use Rattle.upd_core.specs.declared.target.Target.TheVariants.{Set, SetIn, Deck}
 use Rattle.upd_core.specs.First.{index_from}
 use Rattle.upd_core.specs.Library.{CardView, LibraryView, held_named, is_card, place_of, card_in}
+use Rattle.upd_core.specs.Ages.{Age}
 
--- whether a target takes ident z in deck d
-abbrev pub takes : ℕ → ℕ → Target → Bool
-takes z d (Set a) = a == z
-takes z d (SetIn a e) = (a == z) && (e == d)
-takes z d (Deck e) = false
+-- whether a target takes in deck d the ident z
+abbrev pub takes : Age → Age → Target → Bool
+takes d z (Set a) = a == z
+takes d z (SetIn a e) = (a == z) && (e == d)
+takes d z (Deck e) = false
 
 -- whether a target takes all cards of deck d
-abbrev pub takes_deck : ℕ → Target → Bool
+abbrev pub takes_deck : Age → Target → Bool
 takes_deck d (Set a) = false
 takes_deck d (SetIn a e) = false
 takes_deck d (Deck e) = e == d
 
 -- an ident is taken in a deck while a live target takes it there
-abbrev pub is_taken : List Target → ℕ → ℕ → Bool
-is_taken live d z = list_any (takes z d) live
+abbrev pub is_taken : List Target → Age → Age → Bool
+is_taken live d z = list_any (takes d z) live
 
 -- whether there is a last entry and it switches on
 abbrev pub ends_on : List Entry → Bool
@@ -34,11 +35,11 @@ ends_on (e ∷ []) = e.active
 ends_on (e ∷ f ∷ es) = ends_on (f ∷ es)
 
 -- a history with the entries of taken idents left out ends with one that switches on
-abbrev pub stays_on : (ℕ → Bool) → List Entry → Bool
+abbrev pub stays_on : (Age → Bool) → List Entry → Bool
 stays_on taken history = ends_on (filter (λ e. not (taken e.ident)) history)
 
 -- a card of deck d is good where its history stays on
-abbrev pub is_good : List Target → ℕ → CardView → Bool
+abbrev pub is_good : List Target → Age → CardView → Bool
 is_good live d c = stays_on (is_taken live d) c.history
 
 -- the targets of cards in order
@@ -66,7 +67,7 @@ abbrev pub live_targets : LibraryView → List Target
 live_targets l = targets_of (live_cards l.yanks)
 
 -- a card of deck d is active where it is good and no live target takes the deck
-abbrev pub is_active : List Target → ℕ → CardView → Bool
+abbrev pub is_active : List Target → Age → CardView → Bool
 is_active live d c = is_good live d c && not (list_any (takes_deck d) live)
 
 -- whether the card that a reference names is active, if there is one
@@ -94,18 +95,18 @@ abbrev pub yank_at : LibraryView → Place → Option Bool
 yank_at l place = if place.deck == 0 then slice_get (liveness l.yanks) place.index else None
 
 -- an older age; `YANK$$$` itself, which has age 0, is none
-abbrev pub IsOlder : ℕ → ℕ → Type 0
+abbrev pub IsOlder : Age → Age → Type 0
 IsOlder age z = (0 < z) × (z < age)
 
 -- The order of age in `YANK$$$`: targets are older than their card, entries at least as young as the card, and the entries of every later
 -- card as well.
-abbrev pub TakesOlder : ℕ → Target → Type 0
+abbrev pub TakesOlder : Age → Target → Type 0
 TakesOlder age (Set z) = IsOlder age z
 TakesOlder age (SetIn z d) = IsOlder age z × IsOlder age d
 TakesOlder age (Deck d) = IsOlder age d
 
 -- the entries of a card are of an age or younger
-abbrev pub HasEntriesFrom : ℕ → CardView → Type 0
+abbrev pub HasEntriesFrom : Age → CardView → Type 0
 HasEntriesFrom age c = AllByRecursion (λ e. age ≤ e.ident) c.history
 
 -- yank cards in order of age

@@ -1,7 +1,7 @@
 ghost use Rattle.std.specs.Prelude.{◌≡◌, ◌==◌, ◌-◌, ◌+◌, ◌<◌, ◌≤◌, [], ◌∷◌, ◌++◌, length, map, take, drop, insert, find, is_some, IfOk, IfSome, OnOk, OnErr};
 ghost use Rattle.std.specs.Option.{option_map_or};
-ghost use Rattle.upd_core.specs.Parts.{entered_count, entered_range, entered_in, inserted_in};
-ghost use Rattle.upd_core.specs.Edits.{introduced, new_card, with_deck, with_card, with_yank, entered, with_entries, without_idents, purged, purged_in, purged_back, is_among};
+ghost use Rattle.upd_core.specs.Parts.{entered_count, entered_in, inserted_in};
+ghost use Rattle.upd_core.specs.Edits.{introduced, new_card, with_deck, with_card, with_yank, entered, entered_range, with_entries, without_idents, purged, purged_in, purged_back, is_among};
 ghost use Rattle.upd_core.specs.First.{index_from, at_first};
 ghost use Rattle.upd_core.specs.Gone.{is_gone};
 ghost use Rattle.upd_core.specs.Library.{is_deck};

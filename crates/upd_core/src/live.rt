@@ -43,7 +43,7 @@ impl<'a> Live<'a> {
     pub fn is_taken(&self, deck: Serial, ident: Serial) -> bool
         ensures { result ≡ is_taken self.now.targets deck ident }
     {
-        self.targets.takes(ident, deck)
+        self.targets.takes(deck, ident)
     }
 
     /// Whether a card of a deck is good. It doesn't look whether the card stands there.
@@ -71,7 +71,7 @@ pub(crate) fn stays_on(targets: &Targets, deck: Serial, history: &[Entry]) -> bo
     ensures { result ≡ stays_on (is_taken targets.now deck) history.now }
 {
     for i in (0..history.len()).rev() {
-        if !targets.takes(history[i].ident, deck) {
+        if !targets.takes(deck, history[i].ident) {
             return history[i].active;
         }
     }

@@ -21,8 +21,8 @@ pub enum Target {
 
 impl Target {
     /// Whether it takes an ident in a deck.
-    pub(crate) fn takes(self, ident: Serial, deck: Serial) -> bool
-        ensures { result ≡ takes ident deck self }
+    pub(crate) fn takes(self, deck: Serial, ident: Serial) -> bool
+        ensures { result ≡ takes deck ident self }
     {
         match self {
             Target::Set(taken) => taken == ident,

@@ -59,7 +59,7 @@ impl Targets {
     }
 
     /// Whether one of them takes an ident in a deck.
-    pub(crate) fn takes(&self, ident: Serial, deck: Serial) -> bool
+    pub(crate) fn takes(&self, deck: Serial, ident: Serial) -> bool
         ensures { result ≡ is_taken self.now deck ident }
     {
         self.index.contains(&Target::Set(ident)) || self.index.contains(&Target::SetIn(ident, deck))

@@ -1,8 +1,9 @@
 -- The refusals: their numbers and names.
-use Rattle.std.specs.Prelude.{ℕ, List, codes}
+use Rattle.std.specs.Prelude.{ℕ, codes}
 use Rattle.upd_text.specs.declared.fault.Fault.{Fault}
 use Rattle.upd_text.specs.declared.fault.FaultKind.{FaultKind}
 use Rattle.upd_text.specs.declared.fault.FaultKind.TheVariants.{RunLong, TooManyLines, BadByte, LineLong, BadName, BadCard, BadField, NoIdent, TextNowhere, NameTaken, IdentUnknown, DeckUnknown, CardUnknown, RangeOrder, DeckCard, YankText, YankSelf, Reserved, Full, CallUnknown, CallDepth, CompileLong, BadSite, BadNumber, BadMode, RunChanged, Settled, NoMemory, Store, BadFrame, CutFrame, Read, Write}
+use Rattle.upd_text.specs.Units.{Bytes}
 
 -- the number of a refusal
 abbrev pub fault_number : FaultKind → ℕ
@@ -41,7 +42,7 @@ fault_number Read = 32
 fault_number Write = 33
 
 -- the name of a refusal
-abbrev pub fault_name : FaultKind → List ℕ
+abbrev pub fault_name : FaultKind → Bytes
 fault_name RunLong = codes "RunLong"
 fault_name TooManyLines = codes "TooManyLines"
 fault_name BadByte = codes "BadByte"

@@ -1,3 +1,4 @@
+pub mod Units
 pub mod Names
 pub mod NameFields
 pub mod Lines

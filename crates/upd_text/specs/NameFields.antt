@@ -1,11 +1,12 @@
 -- How a `Name` keeps its bytes: at the front of an array, with zeros behind.
-use Rattle.std.specs.Prelude.{◌≡◌, ℕ, ◌-◌, ◌≤◌, List, ◌++◌, length, take, drop, replicate}
+use Rattle.std.specs.Prelude.{◌≡◌, ℕ, ◌-◌, ◌≤◌, ◌++◌, length, take, drop, replicate}
 use Rattle.std.proofs.Common.{arith}
 use Rattle.std.proofs.lemmas.Grind.{common_steps}
 use Rattle.upd_text.specs.declared.name.Name.TheInside.{Inside}
+use Rattle.upd_text.specs.Units.{Bytes}
 
 -- the bytes of the name
-abbrev pub shown : Inside → List ℕ
+abbrev pub shown : Inside → Bytes
 shown n = take n.len n.bytes
 
 -- nine bytes, of which those behind the name are zeros
@@ -15,10 +16,10 @@ pub record IsPadded (n : Inside) : Type 0 where
   pub padding : drop n.len n.bytes ≡ replicate (9 - n.len) 0
 
 -- the fields of a name with these bytes
-abbrev pub fields : List ℕ → Inside
+abbrev pub fields : Bytes → Inside
 fields name = record { bytes = name ++ replicate (9 - length name) 0; len = length name }
 
-same_inside : (bs cs : List ℕ) (m n : ℕ) → bs ≡ cs → m ≡ n → (let a : Inside = record { bytes = bs; len = m } in a) ≡ record { bytes = cs; len = n }
+same_inside : (bs cs : Bytes) (m n : ℕ) → bs ≡ cs → m ≡ n → (let a : Inside = record { bytes = bs; len = m } in a) ≡ record { bytes = cs; len = n }
 same_inside bs cs m n e f i = record { bytes = e i; len = f i }
 
 -- a name gives its fields back

@@ -1,8 +1,9 @@
 -- Outcomes with refusals: the first refusal decides, and what was asked before it did nothing.
-use Rattle.std.specs.Prelude.{◌≡◌, ℕ, Bool, if◌then◌else◌, List, [], ◌∷◌, ◌++◌, Option, Some, None, Result, Ok, Err}
+use Rattle.std.specs.Prelude.{◌≡◌, Bool, if◌then◌else◌, List, [], ◌∷◌, ◌++◌, Option, Some, None, Result, Ok, Err}
 use Rattle.upd_text.specs.declared.fault.Fault.{Fault}
 use Rattle.upd_text.specs.declared.fault.FaultKind.{FaultKind}
 use Rattle.upd_text.specs.declared.fault.FaultKind.TheVariants.{NoMemory}
+use Rattle.upd_text.specs.Units.{LineNumber}
 
 -- what comes behind an outcome is asked only where that is Ok
 infixl 10 ◌>>=◌
@@ -20,7 +21,7 @@ abbrev pub refuse_if : Bool → FaultKind → Result Bool FaultKind
 refuse_if bad fault = if bad then Err fault else Ok bad
 
 -- a refusal with the line that it stands at
-abbrev pub at_line : {A : Type 0} → ℕ → Result A FaultKind → Result A Fault
+abbrev pub at_line : {A : Type 0} → LineNumber → Result A FaultKind → Result A Fault
 at_line n (Ok x) = Ok x
 at_line n (Err kind) = Err (record { kind = kind; at = n })
 
