@@ -23,13 +23,11 @@ module _ {S : Type 0} {Image : Type 0} (is_honest is_open : S → Type 0) (image
     pub crash : is_honest new → (i : Image) → may_leave new i → may_leave old i
     pub counts : failures old ≤ failures new
 
-  -- An image shows what a write makes of the tables of another.
-  abbrev pub Follows : (Rows → Rows → Type 0) → Image → Image → Type 0
-  Follows write before after = (rows : Rows) → shows before rows → (later : Rows) × shows after later × write rows later
-
-  -- A call that tries to write: a crash leaves nothing that it could not leave before, but for the write itself on what the store kept.
-  pub record Tries (write : Rows → Rows → Type 0) (old new : S) : Type 0 where
+  -- A call that tries to write: a crash leaves nothing that it could not leave before, but for what the write makes of the tables that the
+  -- store kept, where these are fit for it.
+  pub record Tries (fits : Rows → Type 0) (write : Rows → Rows) (old new : S) : Type 0 where
     pub honest : is_honest new → is_honest old
     pub was_open : is_honest new → is_open new → is_open old
-    pub crash : is_honest new → (i : Image) → may_leave new i → may_leave old i ⊎ (is_open old × Follows write (image old) i)
+    pub crash : is_honest new → (i : Image) → may_leave new i
+        → may_leave old i ⊎ (is_open old × ((rows : Rows) → shows (image old) rows → fits rows → shows i (write rows)))
     pub counts : failures old ≤ failures new

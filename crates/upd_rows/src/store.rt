@@ -17,8 +17,8 @@ use upd_text::Fault;
 
 /// Tables of rows that are changed by commits, each of which is all or nothing, also where the machine stops.
 ///
-/// Each call but `failures` can answer NoMemory, at 0, or Store. Nothing is changed then. A failure may shut the store: from then on each call
-/// answers Store, and what it keeps is found when it is opened again.
+/// Each call but `failures` can answer NoMemory, at 0, or Store. Nothing is changed then. A failure may shut the store:
+/// from then on each call answers Store, and what it keeps is found when it is opened again.
 pub trait RowStore {
     // What is in the file, or in what stands for one.
     ghost Image: { Type 0 };
@@ -83,18 +83,17 @@ pub trait RowStore {
         ensures failed { IfErr result (λ e. e.kind ≡ Store → MoreFailures (failures_of self.old) (failures_of self.new)) }
         ensures cause { IfErr result (λ e. e.kind ≡ Store → caused self.old self.new) };
 
-    /// Carries out row changes and keeps the run that brought them, in one transaction.
+    /// Carries out row changes and keeps the run that brought them, in one transaction. The changes have to fit the tables: no
+    /// clause says what others leave.
     fn commit(&mut self, alloc: Global, changes: &[Change], run: RunRow) -> Result<(), Fault>
         requires new_key { is_honest self.old → is_open self.old → (rows : Rows) → shows (image self.old) rows
             → run_at run.site run.number rows ≡ None }
-        requires fits { is_honest self.old → is_open self.old → (rows : Rows) → shows (image self.old) rows
-            → AllFit (map change_seen changes.now) rows }
         ensures done { is_honest self.new → OnOk result ((rows : Rows) → shows (image self.old) rows
-            → shows (image self.new) (committed (map change_seen changes.now) run rows)) }
+            → AllFit (map change_seen changes.now) rows → shows (image self.new) (committed (map change_seen changes.now) run rows)) }
         ensures open { is_honest self.new → OnOk result (is_open self.new) }
         ensures undone { is_honest self.new → is_open self.new → OnErr result (image self.new ≡ image self.old) }
         ensures crash { Tries is_honest is_open image shows may_leave failures_of
-            (λ before after. after ≡ committed (map change_seen changes.now) run before) self.old self.new }
+            (AllFit (map change_seen changes.now)) (committed (map change_seen changes.now) run) self.old self.new }
         ensures lost { IfErr result IsLost }
         ensures failed { IfErr result (λ e. e.kind ≡ Store → MoreFailures (failures_of self.old) (failures_of self.new)) }
         ensures cause { IfErr result (λ e. e.kind ≡ Store → caused self.old self.new) };
@@ -106,7 +105,7 @@ pub trait RowStore {
         ensures open { is_honest self.new → OnOk result (is_open self.new) }
         ensures undone { is_honest self.new → is_open self.new → OnErr result (image self.new ≡ image self.old) }
         ensures crash { Tries is_honest is_open image shows may_leave failures_of
-            (λ before after. after ≡ settled_to site.now number before) self.old self.new }
+            (λ _. Unit {0}) (settled_to site.now number) self.old self.new }
         ensures lost { IfErr result IsLost }
         ensures failed { IfErr result (λ e. e.kind ≡ Store → MoreFailures (failures_of self.old) (failures_of self.new)) }
         ensures cause { IfErr result (λ e. e.kind ≡ Store → caused self.old self.new) };
