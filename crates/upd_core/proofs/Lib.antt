@@ -10,3 +10,4 @@ pub mod YankLemmas
 pub mod LiveLemmas
 pub mod FlatLemmas
 pub mod CountedLemmas
+mod EnterLemmas

@@ -14,6 +14,10 @@ inserted_in age behind c decks = at_first (is_deck age) (λ d. record d { cards 
 abbrev pub entered_count : ℕ → ℕ → List CardView → ℕ
 entered_count from to cards = length (drop from (take (to + 1) cards))
 
+-- a card without its last entry
+abbrev pub without_last : CardView → CardView
+without_last c = record c { history = take (length c.history - 1) c.history }
+
 -- decks with the entry in the first one of an age
 abbrev pub entered_in : Age → ℕ → ℕ → Entry → List DeckView → List DeckView
 entered_in age from to e decks = at_first (is_deck age) (λ d. record d { cards = entered_range from to e d.cards }) decks

@@ -1,6 +1,6 @@
 ghost use Rattle.std.specs.Prelude.{◌≡◌, ◌==◌, ◌-◌, ◌+◌, ◌<◌, ◌≤◌, [], ◌∷◌, ◌++◌, length, map, take, drop, insert, find, is_some, IfOk, IfSome, OnOk, OnErr};
 ghost use Rattle.std.specs.Option.{option_map_or};
-ghost use Rattle.upd_core.specs.Parts.{entered_count, entered_in, inserted_in};
+ghost use Rattle.upd_core.specs.Parts.{entered_count, entered_in, inserted_in, without_last};
 ghost use Rattle.upd_core.specs.Edits.{introduced, new_card, with_deck, with_card, with_yank, entered, entered_range, with_entries, without_idents, purged, purged_in, purged_back, is_among};
 ghost use Rattle.upd_core.specs.First.{index_from, at_first};
 ghost use Rattle.upd_core.specs.Gone.{is_gone};
@@ -58,8 +58,7 @@ impl Deck {
     }
 }
 
-/// Each edit that takes memory fails for want of it alone. The library is then as it was, but for `enter`, after which some of the cards
-/// have the entry: work on a copy.
+/// Each edit that takes memory fails for want of it alone, and then the library is as it was.
 impl Library {
     /// The allocator of its vectors.
     pub fn allocator(&self) -> Global {
@@ -133,7 +132,8 @@ impl Library {
         entry: Entry,
     ) -> Result<(), AllocError>
         requires { from ≤ to }
-        ensures { OnOk result (self.new ≡ with_entries deck from to entry self.old) }
+        ensures ok { OnOk result (self.new ≡ with_entries deck from to entry self.old) }
+        ensures err { OnErr result (self.new ≡ self.old) }
     {
         if deck == 0 {
             self.enter_yanks(from, to, entry)?;
@@ -145,18 +145,12 @@ impl Library {
 
     fn enter_yanks(&mut self, from: usize, to: usize, entry: Entry) -> Result<(), AllocError>
         requires { from ≤ to }
-        ensures { OnOk result (self.new ≡ record self.old { yanks = entered_range from to entry self.old.yanks }) }
+        ensures ok { OnOk result (self.new ≡ record self.old { yanks = entered_range from to entry self.old.yanks }) }
+        ensures err { OnErr result (self.new ≡ self.old) }
     {
-        match enter_range(&mut self.yanks, from, to, entry) {
-            Ok(count) => {
-                self.counts.entries = self.counts.entries.saturating_add(count);
-                Ok(())
-            }
-            Err(error) => {
-                self.counts = Counts::of(&self.idents, &self.decks, &self.yanks, self.rest);
-                Err(error)
-            }
-        }
+        let count = enter_range(&mut self.yanks, from, to, entry)?;
+        self.counts.entries = self.counts.entries.saturating_add(count);
+        Ok(())
     }
 
     fn enter_deck(
@@ -167,18 +161,12 @@ impl Library {
         entry: Entry,
     ) -> Result<(), AllocError>
         requires { from ≤ to }
-        ensures { OnOk result (self.new ≡ record self.old { decks = entered_in deck from to entry self.old.decks }) }
+        ensures ok { OnOk result (self.new ≡ record self.old { decks = entered_in deck from to entry self.old.decks }) }
+        ensures err { OnErr result (self.new ≡ self.old) }
     {
-        match enter_in(&mut self.decks, deck, from, to, entry) {
-            Ok(count) => {
-                self.counts.entries = self.counts.entries.saturating_add(count);
-                Ok(())
-            }
-            Err(error) => {
-                self.counts = Counts::of(&self.idents, &self.decks, &self.yanks, self.rest);
-                Err(error)
-            }
-        }
+        let count = enter_in(&mut self.decks, deck, from, to, entry)?;
+        self.counts.entries = self.counts.entries.saturating_add(count);
+        Ok(())
     }
 
     /// Purges the idents of these ages.
@@ -262,11 +250,40 @@ fn insert_in(
     }
 }
 
-fn enter_each(cards: &mut [Card], entry: Entry) -> Result<(), AllocError>
-    ensures { OnOk result (cards.new ≡ map (entered entry) cards.old) }
+fn enter_one(card: &mut Card, entry: Entry) -> Result<(), AllocError>
+    ensures ok { OnOk result (card.new ≡ entered entry card.old) }
+    ensures err { OnErr result (card.new ≡ card.old) }
+{
+    card.history.push(entry)?;
+    Ok(())
+}
+
+fn drop_last(history: &mut Vec<Entry>)
+    ensures { history.new.items ≡ take (length history.old.items - 1) history.old.items }
+{
+    let kept = history.len().saturating_sub(1);
+    history.truncate(kept);
+}
+
+/// Takes the last entry off each card.
+fn leave_each(cards: &mut [Card])
+    ensures { cards.new ≡ map without_last cards.old }
 {
     for card in cards.iter_mut() {
-        card.history.push(entry)?;
+        drop_last(&mut card.history);
+    }
+}
+
+/// Where memory runs out, the cards that have the entry lose it again.
+fn enter_each(cards: &mut [Card], entry: Entry) -> Result<(), AllocError>
+    ensures ok { OnOk result (cards.new ≡ map (entered entry) cards.old) }
+    ensures err { OnErr result (cards.new ≡ cards.old) }
+{
+    for i in 0..cards.len() {
+        if let Err(error) = enter_one(&mut cards[i], entry) {
+            leave_each(&mut cards[..i]);
+            return Err(error);
+        }
     }
     Ok(())
 }
@@ -276,6 +293,7 @@ fn enter_some(cards: &mut [Card], from: usize, to: usize, entry: Entry) -> Resul
     requires { from ≤ to }
     ensures count { IfOk result (λ count. count ≡ entered_count from to cards.old) }
     ensures ok { OnOk result (cards.new ≡ entered_range from to entry cards.old) }
+    ensures err { OnErr result (cards.new ≡ cards.old) }
 {
     if to < cards.len() {
         enter_each(&mut cards[from..to + 1], entry)?;
@@ -297,6 +315,7 @@ fn enter_range(
     requires { from ≤ to }
     ensures count { IfOk result (λ count. count ≡ entered_count from to cards.old.items) }
     ensures ok { OnOk result (cards.new.items ≡ entered_range from to entry cards.old.items) }
+    ensures err { OnErr result (cards.new.items ≡ cards.old.items) }
 {
     enter_some(cards, from, to, entry)
 }
@@ -312,6 +331,7 @@ fn enter_in(
     requires { from ≤ to }
     ensures count { IfOk result (λ count. count ≡ option_map_or (λ d. entered_count from to d.cards) (find (is_deck age) decks.old.items) 0) }
     ensures ok { OnOk result (decks.new.items ≡ entered_in age from to entry decks.old.items) }
+    ensures err { OnErr result (decks.new.items ≡ decks.old.items) }
 {
     if let Some(i) = deck_index(decks, age) {
         let deck = &mut decks[i];
