@@ -38,6 +38,24 @@ with_common = codes "*COMDECK C\nCEE\n*DECK A\n*CALL C\n*DECK B\nBEE\n"
 abbrev pub with_noprop : List ℕ
 with_noprop = codes "*COMDECK C,NOPROP\nCEE\n*DECK A\n*CALL C\n*DECK B\nBEE\n"
 
+-- deck A calls common deck D, and this one calls C
+abbrev pub called_by_two : List ℕ
+called_by_two = codes "*COMDECK C\nCEE\n*COMDECK D\n*CALL C\nDEE\n*DECK A\n*CALL D\n*DECK B\nBEE\n"
+
+-- the same where the one in the middle passes no change on
+abbrev pub noprop_between : List ℕ
+noprop_between = codes "*COMDECK C\nCEE\n*COMDECK D,NOPROP\n*CALL C\nDEE\n*DECK A\n*CALL D\n*DECK B\nBEE\n"
+
+-- set Y yanks set X in both decks, and the whole of deck B
+abbrev pub yanked_in_decks : List (List ℕ)
+yanked_in_decks = in_two_decks ++ codes "*IDENT Y\n*SELYANK A.X,B.X\n*YANKDECK B\n" ∷ []
+
+-- a common deck that a set has grown, and the deck that calls it
+abbrev pub grown_common : List (List ℕ)
+grown_common = with_common ∷ codes "*IDENT X\n*INSERT C.2\nMORE\n" ∷ []
+
 -- common decks C1 to C7, each with a call of the next, and deck A with a call of C1
 abbrev pub chained : List ℕ
-chained = codes "*COMDECK C1\n*CALL C2\n*COMDECK C2\n*CALL C3\n*COMDECK C3\n*CALL C4\n*COMDECK C4\n*CALL C5\n*COMDECK C5\n*CALL C6\n*COMDECK C6\n*CALL C7\n*COMDECK C7\n*CALL C8\n*DECK A\n*CALL C1\n"
+chained =
+    codes "*COMDECK C1\n*CALL C2\n*COMDECK C2\n*CALL C3\n*COMDECK C3\n*CALL C4\n*COMDECK C4\n*CALL C5\n"
+    ++ codes "*COMDECK C5\n*CALL C6\n*COMDECK C6\n*CALL C7\n*COMDECK C7\n*CALL C8\n*DECK A\n*CALL C1\n"

@@ -20,10 +20,12 @@ pub fn compile_lines()
 /// Where text goes.
 pub fn insertions()
     // A later insertion at the same place stands nearer to the card.
-    ensures nearer { active_after (deck_a ∷ codes "*IDENT X\n*INSERT A.2\nXX\n" ∷ codes "*IDENT Y\n*INSERT A.2\nYY\n" ∷ [])
+    ensures nearer { active_after (deck_a ∷ codes "*IDENT X\n*INSERT A.2\nXX\n" ∷ codes "*IDENT Y\n*INSERT A.2\nYY\n"
+        ∷ [])
         ≡ Ok (codes "A.2 Y.1 X.1 A.3 A.4 ") }
     // Several texts stand in the order given, before a card too.
-    ensures before { active_after (deck_a ∷ codes "*IDENT X\n*BEFORE A.3\nXX\nXY\n" ∷ []) ≡ Ok (codes "A.2 X.1 X.2 A.3 A.4 ") }
+    ensures before { active_after (deck_a ∷ codes "*IDENT X\n*BEFORE A.3\nXX\nXY\n" ∷ [])
+        ≡ Ok (codes "A.2 X.1 X.2 A.3 A.4 ") }
     // Text may go behind a deck's first card.
     ensures top { active_after (deck_a ∷ codes "*DECK B\nBEE\n" ∷ codes "*IDENT X\n*INSERT A.1\nTOP\n" ∷ [])
         ≡ Ok (codes "X.1 A.2 A.3 A.4 B.2 ") }
@@ -31,14 +33,20 @@ pub fn insertions()
     ensures replaced { active_after (deck_a ∷ codes "*ID X cleanup\n*D A.2 , A.3 old lines\n*/ note\nNEW\n*FOO\n" ∷ [])
         ≡ Ok (codes "X.1 X.2 A.4 ") }
     // A deleted card may be restored, and inactive cards may be named.
-    ensures restored { active_after (deck_a ∷ codes "*IDENT X\n*DELETE A.2,A.3\n" ∷ codes "*IDENT Y\n*RESTORE A.3\nNEW\n" ∷ [])
+    ensures restored { active_after (deck_a ∷ codes "*IDENT X\n*DELETE A.2,A.3\n"
+        ∷ codes "*IDENT Y\n*RESTORE A.3\nNEW\n" ∷ [])
         ≡ Ok (codes "A.3 Y.1 A.4 ") }
 {}
 
 /// Corrections that are refused.
 pub fn refusals()
     ensures backwards { after (deck_a ∷ codes "*IDENT X\n*DELETE A.4,A.2\n" ∷ []) ≡ refused RangeOrder 2 }
-    ensures two_decks { after (deck_a ∷ codes "*DECK B\nBEE\n" ∷ codes "*IDENT X\n*DELETE A.2,B.2\n" ∷ []) ≡ refused RangeOrder 2 }
+    ensures two_decks { after (deck_a ∷ codes "*DECK B\nBEE\n" ∷ codes "*IDENT X\n*DELETE A.2,B.2\n" ∷ [])
+        ≡ refused RangeOrder 2 }
+    // A range that holds a deck's first card, too, is refused for its order.
+    ensures backwards_to_first { after (deck_a ∷ codes "*IDENT X\n*DELETE A.2,A.1\n" ∷ []) ≡ refused RangeOrder 2 }
+    ensures two_decks_from_first { after (deck_a ∷ codes "*DECK B\nBEE\n" ∷ codes "*IDENT X\n*DELETE A.1,B.2\n" ∷ [])
+        ≡ refused RangeOrder 2 }
     ensures first_card { after (deck_a ∷ codes "*IDENT X\n*DELETE A.1\n" ∷ []) ≡ refused DeckCard 2 }
     ensures before_first { after (deck_a ∷ codes "*IDENT X\n*BEFORE A.1\n" ∷ []) ≡ refused DeckCard 2 }
     ensures no_set { after (deck_a ∷ codes "*DELETE A.2\n" ∷ []) ≡ refused NoIdent 1 }

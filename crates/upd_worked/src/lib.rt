@@ -1,7 +1,8 @@
-//! Worked examples: theorems by which the definitions of the other crates are held against what the rules say of small libraries.
+//! Worked examples: theorems by which the definitions of the other crates are held against what the rules say of small
+//! libraries.
 //!
-//! Each function has an empty body, and each clause of it is one example, which computes from the texts of the runs. In the clauses deck A is
-//! the deck of three lines that `deck_a` brings.
+//! Each function has an empty body, and each clause of it is one example, which computes from the texts of the runs. In
+//! the clauses deck A is the deck of three lines that `deck_a` brings.
 #![tactic(auto)]
 
 pub mod commons;

@@ -11,16 +11,21 @@ pub fn purges()
     ensures purged { active_after (yanked ++ codes "*PURGE X\n" ∷ []) ≡ Ok (codes "A.2 A.3 A.4 ") }
     ensures history { told (yanked ++ codes "*PURGE X\n" ∷ []) (card_listing (card (codes "A") 2))
         ≡ Ok (codes "CARD A.2\nDECK A\nTEXT ONE\nSTATUS active\nENTRY A on\n") }
-    ensures unyanked { active_after (yanked ++ codes "*PURGE X\n" ∷ codes "*IDENT W\n*DELETE Y.1\n" ∷ []) ≡ Ok (codes "A.2 A.3 A.4 ") }
+    ensures unyanked { active_after (yanked ++ codes "*PURGE X\n" ∷ codes "*IDENT W\n*DELETE Y.1\n" ∷ [])
+        ≡ Ok (codes "A.2 A.3 A.4 ") }
     ensures name_again { asked (yanked ++ codes "*PURGE X\n" ∷ codes "*IDENT X\n" ∷ []) ident_listing
         ≡ Ok (codes "1 A deck held\n2 X set purged\n3 Y set held\n4 X set held\n") }
     // In one deck the set's cards and entries go, and it stays held.
-    ensures in_a_deck { active_after (in_two_decks ++ codes "*IDENT Y\n*SELYANK A.X\n" ∷ codes "*SELPURGE B.X\n" ∷ []) ≡ Ok (codes "A.2 A.3 A.4 B.2 ") }
-    ensures in_a_deck_unyanked { active_after (in_two_decks ++ codes "*IDENT Y\n*SELYANK A.X\n" ∷ codes "*SELPURGE B.X\n" ∷ codes "*IDENT W\n*DELETE Y.1\n" ∷ [])
+    ensures in_a_deck { active_after (in_two_decks ++ codes "*IDENT Y\n*SELYANK A.X\n" ∷ codes "*SELPURGE B.X\n" ∷ [])
+        ≡ Ok (codes "A.2 A.3 A.4 B.2 ") }
+    ensures in_a_deck_unyanked { active_after (in_two_decks ++ codes "*IDENT Y\n*SELYANK A.X\n"
+        ∷ codes "*SELPURGE B.X\n" ∷ codes "*IDENT W\n*DELETE Y.1\n" ∷ [])
         ≡ Ok (codes "A.2 X.1 A.3 A.4 B.2 ") }
     // A purged deck goes with all its cards.
-    ensures deck { active_after (in_two_decks ++ codes "*IDENT Y\n*YANKDECK A\n" ∷ codes "*PURDECK A\n" ∷ []) ≡ Ok (codes "B.2 X.2 ") }
-    ensures deck_gone { after (in_two_decks ++ codes "*PURDECK A\n" ∷ codes "*IDENT V\n*DELETE A.2\n" ∷ []) ≡ refused CardUnknown 2 }
+    ensures deck { active_after (in_two_decks ++ codes "*IDENT Y\n*YANKDECK A\n" ∷ codes "*PURDECK A\n" ∷ [])
+        ≡ Ok (codes "B.2 X.2 ") }
+    ensures deck_gone { after (in_two_decks ++ codes "*PURDECK A\n" ∷ codes "*IDENT V\n*DELETE A.2\n" ∷ [])
+        ≡ refused CardUnknown 2 }
 {}
 
 /// A purge of an ident and all younger ones leads back to before it.
@@ -37,14 +42,17 @@ pub fn purging_back()
 
 /// A purged name may be introduced again; yanks keep to the ident that they meant.
 pub fn names_again()
-    ensures active { active_after (yanked ++ codes "*PURGE X\n" ∷ codes "*IDENT X\n*DELETE A.3\n" ∷ []) ≡ Ok (codes "A.2 A.4 ") }
+    ensures active { active_after (yanked ++ codes "*PURGE X\n" ∷ codes "*IDENT X\n*DELETE A.3\n" ∷ [])
+        ≡ Ok (codes "A.2 A.4 ") }
     ensures directory { asked (yanked ++ codes "*PURGE X\n" ∷ codes "*IDENT X\n*DELETE A.3\n" ∷ []) ident_listing
         ≡ Ok (codes "1 A deck held\n2 X set purged\n3 Y set held\n4 X set held\n") }
     ensures marked { asked (yanked ++ codes "*PURGE X\n" ∷ codes "*IDENT X\n*DELETE A.3\n" ∷ []) yank_listing
         ≡ Ok (codes "live Y.1 *YANK X\n set X purged\n") }
-    ensures yanked_again { active_after (yanked ++ codes "*PURGE X\n" ∷ codes "*IDENT X\n*DELETE A.3\n" ∷ codes "*IDENT Z\n*YANK X\n" ∷ [])
+    ensures yanked_again { active_after (yanked ++ codes "*PURGE X\n" ∷ codes "*IDENT X\n*DELETE A.3\n"
+        ∷ codes "*IDENT Z\n*YANK X\n" ∷ [])
         ≡ Ok (codes "A.2 A.3 A.4 ") }
-    ensures both { asked (yanked ++ codes "*PURGE X\n" ∷ codes "*IDENT X\n*DELETE A.3\n" ∷ codes "*IDENT Z\n*YANK X\n" ∷ []) yank_listing
+    ensures both { asked (yanked ++ codes "*PURGE X\n" ∷ codes "*IDENT X\n*DELETE A.3\n" ∷ codes "*IDENT Z\n*YANK X\n"
+        ∷ []) yank_listing
         ≡ Ok (codes "live Y.1 *YANK X\n set X purged\nlive Z.1 *YANK X\n set X\n") }
     // In one run.
     ensures at_once { told (inserted ++ codes "*PURGE X\n*IDENT X\n*INSERT A.4\nEND\n" ∷ []) (deck_listing (codes "A"))

@@ -10,6 +10,14 @@ pub returns-clause-two_decks : goal.returns-clause-two_decks
 unfolding digits
 returns-clause-two_decks c = refl
 
+pub returns-clause-backwards_to_first : goal.returns-clause-backwards_to_first
+unfolding digits
+returns-clause-backwards_to_first c = refl
+
+pub returns-clause-two_decks_from_first : goal.returns-clause-two_decks_from_first
+unfolding digits
+returns-clause-two_decks_from_first c = refl
+
 pub returns-clause-first_card : goal.returns-clause-first_card
 unfolding digits
 returns-clause-first_card c = refl

@@ -10,6 +10,14 @@ pub returns-clause-range_to_itself : goal.returns-clause-range_to_itself
 unfolding digits
 returns-clause-range_to_itself c = refl
 
+pub returns-clause-backwards : goal.returns-clause-backwards
+unfolding digits
+returns-clause-backwards c = refl
+
+pub returns-clause-second : goal.returns-clause-second
+unfolding digits
+returns-clause-second c = refl
+
 pub returns-clause-directory : goal.returns-clause-directory
 unfolding digits
 returns-clause-directory c = refl
