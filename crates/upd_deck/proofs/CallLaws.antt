@@ -10,7 +10,7 @@ use Rattle.upd_deck.specs.declared.word.Word.TheVariants as words
 use Rattle.upd_deck.specs.Items.{ItemView, Call}
 use Rattle.upd_deck.specs.Grammar.{Takes, TakesCall, Says, Directive, Other}
 use Rattle.upd_deck.specs.Reading.{Spelling, spelled, spellings, meaning}
-use Rattle.upd_deck.proofs.GrammarFields.{read}
+use Rattle.upd_deck.proofs.GrammarFields.{star_line_read}
 use Rattle.upd_deck.proofs.GrammarSays.{means_read, means_back, word_back, star_starred}
 
 -- ---- the words of a call
@@ -46,7 +46,7 @@ call_words text = (there, back)
 
 pub call_read : (text name : List ℕ) → Says text (Call name) → IsTrue (is_call text) × (called text ≡ name)
 call_read text name (Directive _ w known fs _ star means (TakesCall a h)) =
-    let is = read text w (a ∷ []) star in
+    let is = star_line_read text w (a ∷ []) star in
     let call = (call_words text).1 (star_starred text w (a ∷ []) star, ap meaning is.0 ∙ means_read w words.Call means) in
     (call, rw is.1 refl)
 
@@ -58,7 +58,7 @@ call_said text item (Other _ none) call =
     let words_of = (call_words text).0 call in
     absurd (none (word text) words.Call (word_back text words_of.0) (means_back (word text) words.Call words_of.1))
 call_said text item (Directive _ w known fs _ star means takes) call =
-    let is = read text w fs star in
+    let is = star_line_read text w fs star in
     let same : known ≡ words.Call = some_same known words.Call (sym (means_read w known means) ∙ ap meaning (sym is.0) ∙ ((call_words text).0 call).1) in
     let taken = call_taken fs item (subst (λ v. Takes v fs item) same takes) in
     taken.2 ∙ ap Call (sym (rw (is.1 ∙ taken.1) refl))

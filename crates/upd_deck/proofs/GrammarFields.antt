@@ -19,7 +19,7 @@ read_remark f _ h (Remark n [] some ink) =
     rw (split_onto f (blanks n ++ []) (blanks n ++ []) [] (field_no_comma f h) (split_onto (blanks n) [] [] [] (blanks_no_comma n) refl))
     (fields_more (f ++ (blanks n ++ [])) [] (remark_is f (blanks n ++ []) h blank ∙ blanks_gone n []) ∙ ap (λ g. g ∷ []) (field_is f (blanks n ++ []) h blank))
 read_remark f _ h (Remark n (b ∷ bs) some ink) =
-    let first = first_piece bs in
+    let first = first_piece is_comma bs in
     let piece : List ℕ = blanks n ++ b ∷ first.0 in
     let blank : Begins is_blank piece = begins_more is_blank (blanks n) (b ∷ first.0) (rw length-replicate some) (begins_blanks n) in
     let split =
@@ -65,9 +65,9 @@ fields_by_some : (text : List ℕ) → 0 < length text → fields_by text ≡ fi
 unfolding fields_by
 fields_by_some text some = cond-false (eqb (length text) 0) [] (fields_of (slice_split is_comma text)) (ne_eqb (length text) 0 (λ e. omega arith))
 
-pub read : (line w : List ℕ) (fs : List (List ℕ)) → IsStarLine line w fs → (word line ≡ w) × (fields line ≡ fs)
+pub star_line_read : (line w : List ℕ) (fs : List (List ℕ)) → IsStarLine line w fs → (word line ≡ w) × (fields line ≡ fs)
 unfolding fields_by
-read line v fs (Bare w lead ink l) =
+star_line_read line v fs (Bare w lead ink l) =
     let ends : AllByRecursion (λ b. ends_word b ≡ false) w = all_weaker IsInk (λ b. ends_word b ≡ false) ink_no_end w ink in
     let rest = from_end ends_word w lead ends (begin_lead lead l) in
     let gone = lead_gone lead [] l tt in (
@@ -75,7 +75,7 @@ read line v fs (Bare w lead ink l) =
       ap (λ t. fields_by (after_blanks (after_comma (after_blanks t)))) (rest ∙ sym (append-nil lead))
           ∙ ap fields_by gone,
     )
-read line v fs (Fields w lead text gs ink l some more) =
+star_line_read line v fs (Fields w lead text gs ink l some more) =
     let ends : AllByRecursion (λ b. ends_word b ≡ false) w = all_weaker IsInk (λ b. ends_word b ≡ false) ink_no_end w ink in
     let begins : Begins ends_word (lead ++ text) = begins_more ends_word lead text some (begin_lead lead l) in
     let begin = begin_fields text gs more in
@@ -280,7 +280,7 @@ spelled_pieces piece (next ∷ pieces) h some = by_remark (remark piece) refl (s
 spelled_text : (text : List ℕ) → after_blanks text ≡ text → AllByRecursion (λ f. 0 < length f) (fields_of (slice_split is_comma text))
     → AreFields text (fields_of (slice_split is_comma text))
 spelled_text text same some =
-    let first = first_piece text in
+    let first = first_piece is_comma text in
     let commas = subst (AllByRecursion HasNoComma) first.2 (no_commas text) in
     let nonempty = subst (λ l. AllByRecursion (λ f. 0 < length f) (fields_of l)) first.2 some in
     let pieces = subst (λ l. AreFields (after_blanks (join_with_byte 44 l)) (fields_of l)) (sym first.2) (spelled_pieces first.0 first.1 commas nonempty) in
@@ -304,10 +304,10 @@ spelled_line line w lead (c ∷ cs) parts ink l same ends some =
     long_lead [] ends ink = absurd (false≢true (sym ink ∙ ends))
     long_lead (x ∷ xs) ends ink = omega arith
 
-pub spelled : (line : List ℕ) → IsTrue (is_starred line) → AllByRecursion (λ f. 0 < length f) (fields line) → IsStarLine line (word line) (fields line)
+pub star_line_back : (line : List ℕ) → IsTrue (is_starred line) → AllByRecursion (λ f. 0 < length f) (fields line) → IsStarLine line (word line) (fields line)
 unfolding fields_by
-spelled [] star some = absurd (false≢true star)
-spelled (b ∷ bs) star some =
+star_line_back [] star some = absurd (false≢true star)
+star_line_back (b ∷ bs) star some =
     let w : List ℕ = up_to ends_word bs in
     let rest : List ℕ = from_first ends_word bs in
     let text : List ℕ = after_blanks (after_comma (after_blanks rest)) in
@@ -318,8 +318,8 @@ spelled (b ∷ bs) star some =
     (subst (Begins ends_word) lead.2 (from_begins ends_word bs)) some in
     subst (λ c. IsStarLine (c ∷ bs) w (fields_by text)) (sym (eqb-true b 42 star)) line
 
-pub once : (line v w : List ℕ) (es fs : List (List ℕ)) → IsStarLine line v es → IsStarLine line w fs → (v ≡ w) × (es ≡ fs)
-once line v w es fs g h =
-    let a = read line v es g in
-    let b = read line w fs h in
+pub star_line_once : (line v w : List ℕ) (es fs : List (List ℕ)) → IsStarLine line v es → IsStarLine line w fs → (v ≡ w) × (es ≡ fs)
+star_line_once line v w es fs g h =
+    let a = star_line_read line v es g in
+    let b = star_line_read line w fs h in
     (sym a.0 ∙ b.0, sym a.1 ∙ b.1)

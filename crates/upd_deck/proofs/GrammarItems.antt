@@ -142,8 +142,8 @@ takes_read w fs item (TakesCompile gs rs some h) =
 
 -- ---- what is read is what the word takes
 
-counted : (x y z : Bool) → (x && y && z) ≡ true → x ≡ true
-counted x y z e = (and_parts x y (and_parts (x && y) z e).0).0
+right_count : (x y z : Bool) → (x && y && z) ≡ true → x ≡ true
+right_count x y z e = (and_parts x y (and_parts (x && y) z e).0).0
 
 name_taken : (w : Word) (make : List ℕ → ItemView) → ((a : List ℕ) → IsName a → Takes w (a ∷ []) (make a)) → (fs : List (List ℕ)) (item : ItemView)
     → eqb (length fs) 1 ≡ true → (name_in (first_field fs) >>= (λ a. Ok (make a))) ≡ Ok item → Takes w fs item
@@ -209,7 +209,7 @@ yank_decks fs gs some h = let names = names_of_zip fs gs h in subst (λ l. Takes
 
 common_taken : (fs : List (List ℕ)) (item : ItemView) → are_its_fields words.CommonDeck fs ≡ true → item_with words.CommonDeck fs ≡ Ok item
     → Takes words.CommonDeck fs item
-common_taken fs item a e = ⊎_elim by_one by_two (or_cases (eqb (length fs) 1) (eqb (length fs) 2) (counted _ _ _ a))
+common_taken fs item a e = ⊎_elim by_one by_two (or_cases (eqb (length fs) 1) (eqb (length fs) 2) (right_count _ _ _ a))
   where
     f : List ℕ
     f = first_field fs
@@ -252,18 +252,18 @@ purge_taken fs item some e = by_test (is_from_name fs) refl e
     by_test false h e = each_taken words.Purge IsRange range_in Purge range_back TakesPurge fs item some e
 
 pub takes_back : (w : Word) (fs : List (List ℕ)) (item : ItemView) → are_its_fields w fs ≡ true → item_with w fs ≡ Ok item → Takes w fs item
-takes_back words.Call fs item a e = name_taken words.Call Call TakesCall fs item (counted _ _ _ a) e
-takes_back words.Ident fs item a e = name_taken words.Ident Ident TakesIdent fs item (counted _ _ _ a) e
-takes_back words.Deck fs item a e = name_taken words.Deck Deck TakesDeck fs item (counted _ _ _ a) e
+takes_back words.Call fs item a e = name_taken words.Call Call TakesCall fs item (right_count _ _ _ a) e
+takes_back words.Ident fs item a e = name_taken words.Ident Ident TakesIdent fs item (right_count _ _ _ a) e
+takes_back words.Deck fs item a e = name_taken words.Deck Deck TakesDeck fs item (right_count _ _ _ a) e
 takes_back words.CommonDeck fs item a e = common_taken fs item a e
-takes_back words.Insert fs item a e = card_taken words.Insert Insert TakesInsert fs item (counted _ _ _ a) e
-takes_back words.Before fs item a e = card_taken words.Before Before TakesBefore fs item (counted _ _ _ a) e
-takes_back words.Delete fs item a e = cards_taken words.Delete Delete TakesDelete TakesDeletes fs item (counted _ _ _ a) e
-takes_back words.Restore fs item a e = cards_taken words.Restore Restore TakesRestore TakesRestores fs item (counted _ _ _ a) e
-takes_back words.Yank fs item a e = each_taken words.Yank IsRange range_in Yank range_back TakesYank fs item (counted _ _ _ a) e
-takes_back words.SelYank fs item a e = each_taken words.SelYank IsPair ident_in SelYank ident_back TakesSelYank fs item (counted _ _ _ a) e
-takes_back words.YankDeck fs item a e = each_taken words.YankDeck IsSameName name_in YankDeck name_back yank_decks fs item (counted _ _ _ a) e
-takes_back words.Purge fs item a e = purge_taken fs item (counted _ _ _ a) e
-takes_back words.SelPurge fs item a e = each_taken words.SelPurge IsPair ident_in SelPurge ident_back TakesSelPurge fs item (counted _ _ _ a) e
-takes_back words.PurDeck fs item a e = each_taken words.PurDeck IsRange range_in PurDeck range_back TakesPurDeck fs item (counted _ _ _ a) e
-takes_back words.Compile fs item a e = each_taken words.Compile IsRange range_in Compile range_back TakesCompile fs item (counted _ _ _ a) e
+takes_back words.Insert fs item a e = card_taken words.Insert Insert TakesInsert fs item (right_count _ _ _ a) e
+takes_back words.Before fs item a e = card_taken words.Before Before TakesBefore fs item (right_count _ _ _ a) e
+takes_back words.Delete fs item a e = cards_taken words.Delete Delete TakesDelete TakesDeletes fs item (right_count _ _ _ a) e
+takes_back words.Restore fs item a e = cards_taken words.Restore Restore TakesRestore TakesRestores fs item (right_count _ _ _ a) e
+takes_back words.Yank fs item a e = each_taken words.Yank IsRange range_in Yank range_back TakesYank fs item (right_count _ _ _ a) e
+takes_back words.SelYank fs item a e = each_taken words.SelYank IsPair ident_in SelYank ident_back TakesSelYank fs item (right_count _ _ _ a) e
+takes_back words.YankDeck fs item a e = each_taken words.YankDeck IsSameName name_in YankDeck name_back yank_decks fs item (right_count _ _ _ a) e
+takes_back words.Purge fs item a e = purge_taken fs item (right_count _ _ _ a) e
+takes_back words.SelPurge fs item a e = each_taken words.SelPurge IsPair ident_in SelPurge ident_back TakesSelPurge fs item (right_count _ _ _ a) e
+takes_back words.PurDeck fs item a e = each_taken words.PurDeck IsRange range_in PurDeck range_back TakesPurDeck fs item (right_count _ _ _ a) e
+takes_back words.Compile fs item a e = each_taken words.Compile IsRange range_in Compile range_back TakesCompile fs item (right_count _ _ _ a) e

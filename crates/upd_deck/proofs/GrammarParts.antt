@@ -107,15 +107,15 @@ pub split_onto : (front text piece : List ℕ) (pieces : List (List ℕ)) → Ha
 split_onto [] text piece pieces h e = e
 split_onto (b ∷ bs) text piece pieces h e = rw (h.0, split_onto bs text piece pieces h.1 e) refl
 
--- the first piece and the others; the first begins as the text does
-pub first_piece : (text : List ℕ) → (piece : List ℕ) × (pieces : List (List ℕ)) × (slice_split is_comma text ≡ piece ∷ pieces)
-first_piece [] = ([], [], refl)
-first_piece (b ∷ bs) = by_comma (is_comma b) (first_piece bs)
+-- the first piece and the others
+pub first_piece : (at : ℕ → Bool) (text : List ℕ) → (piece : List ℕ) × (pieces : List (List ℕ)) × (slice_split at text ≡ piece ∷ pieces)
+first_piece at [] = ([], [], refl)
+first_piece at (b ∷ bs) = by_test (at b) (first_piece at bs)
   where
-    by_comma : (t : Bool) → (piece : List ℕ) × (pieces : List (List ℕ)) × (slice_split is_comma bs ≡ piece ∷ pieces)
-        → (piece : List ℕ) × (pieces : List (List ℕ)) × (cond t ([] ∷ slice_split is_comma bs) (onto_first b (slice_split is_comma bs)) ≡ piece ∷ pieces)
-    by_comma true first = ([], slice_split is_comma bs, refl)
-    by_comma false (piece, pieces, e) = (b ∷ piece, pieces, ap (onto_first b) e)
+    by_test : (t : Bool) → (piece : List ℕ) × (pieces : List (List ℕ)) × (slice_split at bs ≡ piece ∷ pieces)
+        → (piece : List ℕ) × (pieces : List (List ℕ)) × (cond t ([] ∷ slice_split at bs) (onto_first b (slice_split at bs)) ≡ piece ∷ pieces)
+    by_test true first = ([], slice_split at bs, refl)
+    by_test false (piece, pieces, e) = (b ∷ piece, pieces, ap (onto_first b) e)
 
 -- ---- the field of a piece
 
@@ -153,7 +153,7 @@ fields_last piece pieces b bs e =
 -- blanks before a field are nothing
 pub blanks_before : (n : ℕ) (text : List ℕ) → fields_of (slice_split is_comma (blanks n ++ text)) ≡ fields_of (slice_split is_comma text)
 blanks_before n text =
-    let first = first_piece text in
+    let first = first_piece is_comma text in
     rw (split_onto (blanks n) text first.0 first.1 (blanks_no_comma n) first.2, first.2)
     (ap (λ p. cond (eqb (length (after_blanks (from_first is_blank p))) 0) (up_to is_blank p ∷ fields_of first.1) (up_to is_blank p ∷ []))
     (blanks_gone n first.0))

@@ -5,7 +5,7 @@ use Rattle.std.proofs.lemmas.Bool.{ne_eqb, eqb-true, le-ltb, ltb-false, cond-fal
 use Rattle.std.proofs.lemmas.List.{take_more, take_all}
 use Rattle.std.proofs.lemmas.List.Elements.{All-from_recursion}
 use Rattle.std.proofs.lemmas.List.Splits.{join_with_byte-slice_split}
-use Rattle.std.specs.List.{AllByRecursion, slice_split, onto_first, join_with_byte}
+use Rattle.std.specs.List.{AllByRecursion, slice_split, join_with_byte}
 use Rattle.std.specs.Str.Lines.{strip_carriage_return}
 use Rattle.upd_text.specs.declared.fault.Fault.{Fault}
 use Rattle.upd_text.specs.declared.fault.FaultKind.{FaultKind}
@@ -15,7 +15,7 @@ use Rattle.upd_text.specs.Outcome.{◌>>=◌, refuse_if, at_line, each}
 use Rattle.upd_deck.specs.Items.{LineView}
 use Rattle.upd_deck.specs.Grammar.{blanks, IsAllowed, IsTextOf, Trimmed, IsLine, Comment, Line, Feed, ReturnFeed, AreLines, NoMore, LastLine, NextLine, Reads}
 use Rattle.upd_deck.specs.Reading.{CutLine, cut_from, is_feed, cut, said, said_at, reading}
-use Rattle.upd_deck.proofs.GrammarParts.{all_weaker, all_append}
+use Rattle.upd_deck.proofs.GrammarParts.{all_weaker, all_append, first_piece}
 use Rattle.upd_deck.proofs.GrammarNames.{step_back, ok_same}
 use Rattle.upd_deck.proofs.GrammarLines.{line_read, line_back, cut_line}
 
@@ -50,15 +50,6 @@ split_whole (b ∷ bs) h = rw (h.0, split_whole bs h.1) refl
 split_at_feed : (line rest : List ℕ) → AllByRecursion (λ b. eqb b 10 ≡ false) line → slice_split is_feed (line ++ 10 ∷ rest) ≡ line ∷ slice_split is_feed rest
 split_at_feed [] rest h = refl
 split_at_feed (b ∷ bs) rest h = rw (h.0, split_at_feed bs rest h.1) refl
-
-first_piece : (text : List ℕ) → (piece : List ℕ) × (pieces : List (List ℕ)) × (slice_split is_feed text ≡ piece ∷ pieces)
-first_piece [] = ([], [], refl)
-first_piece (b ∷ bs) = by_feed (is_feed b) (first_piece bs)
-  where
-    by_feed : (t : Bool) → (piece : List ℕ) × (pieces : List (List ℕ)) × (slice_split is_feed bs ≡ piece ∷ pieces)
-        → (piece : List ℕ) × (pieces : List (List ℕ)) × (cond t ([] ∷ slice_split is_feed bs) (onto_first b (slice_split is_feed bs)) ≡ piece ∷ pieces)
-    by_feed true first = ([], slice_split is_feed bs, refl)
-    by_feed false (piece, pieces, e) = (b ∷ piece, pieces, ap (onto_first b) e)
 
 -- ---- the CR before an LF
 
@@ -105,7 +96,7 @@ cut_next : (number start : ℕ) (line piece rest : List ℕ) → strip_carriage_
     → cut_from number start (slice_split is_feed (piece ++ 10 ∷ rest))
     ≡ cut_line number start line ∷ cut_from (number + 1) (start + length piece + 1) (slice_split is_feed rest)
 cut_next number start line piece rest strip plain =
-    let first = first_piece rest in
+    let first = first_piece is_feed rest in
     rw (split_at_feed piece rest plain, first.2)
     (ap (λ l. cut_line number start l ∷ cut_from (number + 1) (start + length piece + 1) (first.0 ∷ first.1)) strip)
 
@@ -209,22 +200,22 @@ gate_back : {B : Type 0} (bad : Bool) (kind : FaultKind) (next : Bool → Result
 gate_back true kind next y e = absurd cc
 gate_back false kind next y e = (refl, e)
 
-abbrev pub counted : List ℕ → Result (List LineView) Fault
-counted bytes = at_line 0 (refuse_if (ltb MAX_RUN_LINES (length (cut bytes))) fault.TooManyLines) >>= (λ _. each said_at (cut bytes))
+abbrev pub reading_of_lines : List ℕ → Result (List LineView) Fault
+reading_of_lines bytes = at_line 0 (refuse_if (ltb MAX_RUN_LINES (length (cut bytes))) fault.TooManyLines) >>= (λ _. each said_at (cut bytes))
 
 run_read : (bytes : List ℕ) (lines : List LineView) → Reads bytes lines → reading bytes ≡ Ok lines
 run_read bytes lines h =
     let read = lines_read 1 0 bytes lines h.spelled (omega arith) in
-    gate_read (ltb MAX_RUN_BYTES (length bytes)) fault.RunLong (λ _. counted bytes) (le-ltb MAX_RUN_BYTES (length bytes) h.short)
+    gate_read (ltb MAX_RUN_BYTES (length bytes)) fault.RunLong (λ _. reading_of_lines bytes) (le-ltb MAX_RUN_BYTES (length bytes) h.short)
     ∙ gate_read (ltb MAX_RUN_LINES (length (cut bytes))) fault.TooManyLines (λ _. each said_at (cut bytes))
     (le-ltb MAX_RUN_LINES (length (cut bytes)) (omega (arith, read.1)))
     ∙ read.0
 
 pub run_back : (bytes : List ℕ) (lines : List LineView) → reading bytes ≡ Ok lines → Reads bytes lines
 run_back bytes lines e =
-    let short = gate_back (ltb MAX_RUN_BYTES (length bytes)) fault.RunLong (λ _. counted bytes) lines e in
+    let short = gate_back (ltb MAX_RUN_BYTES (length bytes)) fault.RunLong (λ _. reading_of_lines bytes) lines e in
     let few = gate_back (ltb MAX_RUN_LINES (length (cut bytes))) fault.TooManyLines (λ _. each said_at (cut bytes)) lines short.1 in
-    let first = first_piece bytes in
+    let first = first_piece is_feed bytes in
     let cuts : cut bytes ≡ cut_from 1 0 (first.0 ∷ first.1) = ap (cut_from 1 0) first.2 in
     let rest = lines_back 1 0 first.0 first.1 lines (omega (arith, ltb-false MAX_RUN_LINES (length (cut bytes)) few.0, ap length cuts))
     (sym (ap (each said_at) cuts) ∙ few.1) in

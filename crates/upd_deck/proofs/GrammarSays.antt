@@ -14,7 +14,7 @@ use Rattle.upd_deck.specs.Items.{ItemView, Text}
 use Rattle.upd_deck.specs.Grammar.{IsInk, IsStarLine, Bare, Fields, EndsWord, HasWord, Starred, Means, Says, Directive, Other}
 use Rattle.upd_deck.specs.Reading.{Spelling, spelled, spellings, meaning, are_its_fields, item_with, item_by, item_of}
 use Rattle.upd_deck.proofs.GrammarParts.{all_weaker, Begins, up_to_end, both_parts, up_to_all, from_begins, ink_no_end, no_end_ink}
-use Rattle.upd_deck.proofs.GrammarFields.{read, spelled as star_spelled}
+use Rattle.upd_deck.proofs.GrammarFields.{star_line_read, star_line_back}
 use Rattle.upd_deck.proofs.GrammarNames.{done, ok_same}
 use Rattle.upd_deck.proofs.GrammarItems.{takes_read, takes_back}
 
@@ -113,7 +113,7 @@ item_read text w known fs item star e f m a i =
 
 pub says_read : (text : List ℕ) (item : ItemView) → Says text item → item_of text ≡ Ok item
 says_read text item (Directive _ w known fs _ star means takes) =
-    let is = read text w fs star in
+    let is = star_line_read text w fs star in
     let taken = takes_read known fs item takes in
     item_read text w known fs item (star_starred text w fs star) is.0 is.1 (means_read w known means) taken.0 taken.1
 says_read text item (Other _ none) = by_star (is_starred text) refl (meaning (word text)) refl
@@ -150,5 +150,5 @@ says_back text item e = by_star (is_starred text) refl (meaning (word text)) ref
     by_star true star (Some known) means e =
         let step = refuse_back (not (are_its_fields known (fields text))) fault.BadField (λ _. item_with known (fields text)) item e in
         let taken = not-false (are_its_fields known (fields text)) step.0 in
-        Directive text (word text) known (fields text) item (star_spelled text star (its_fields_filled known (fields text) taken))
+        Directive text (word text) known (fields text) item (star_line_back text star (its_fields_filled known (fields text) taken))
         (means_back (word text) known means) (takes_back known (fields text) item taken step.1)

@@ -331,9 +331,9 @@ its_fields w fs placed = by_test (are_its_fields w fs) refl
     by_test true e = refl
     by_test false e = absurd (placed (misplaced_back w fs e))
 
-pub fields_refused : (w : Word) (fs : List (List ℕ)) (k : FaultKind) → FieldsFail w fs k → item_by (Some w) fs ≡ Err k
-fields_refused w fs k (Whole _ _ misplaced) = ap (λ t. refuse_if (not t) fault.BadField >>= (λ _. item_with w fs)) (misplaced_read w fs misplaced)
-fields_refused w fs k (Leftmost _ _ front behind f placed star parts wanted bad) =
+pub fields_fail_read : (w : Word) (fs : List (List ℕ)) (k : FaultKind) → FieldsFail w fs k → item_by (Some w) fs ≡ Err k
+fields_fail_read w fs k (Whole _ _ misplaced) = ap (λ t. refuse_if (not t) fault.BadField >>= (λ _. item_with w fs)) (misplaced_read w fs misplaced)
+fields_fail_read w fs k (Leftmost _ _ front behind f placed star parts wanted bad) =
     let its = its_fields w fs placed in
     ap (λ t. refuse_if (not t) fault.BadField >>= (λ _. item_with w fs)) its ∙ by_item its (item_with w fs) refl
   where
@@ -346,8 +346,8 @@ fields_refused w fs k (Leftmost _ _ front behind f placed star parts wanted bad)
 no_star : (w : Word) (fs : List (List ℕ)) (k : FaultKind) → item_with w fs ≡ Err k → ¬ (EndsInStar w fs)
 no_star w fs k e (FromName a h) = ok_not_err (item_with w fs) (PurgeFrom a) k (takes_read w fs (PurgeFrom a) (TakesPurgeFrom a h)).1 e
 
-pub fields_back : (w : Word) (fs : List (List ℕ)) (k : FaultKind) → item_by (Some w) fs ≡ Err k → FieldsFail w fs k
-fields_back w fs k e = by_test (are_its_fields w fs) refl e
+pub fields_fail_back : (w : Word) (fs : List (List ℕ)) (k : FaultKind) → item_by (Some w) fs ≡ Err k → FieldsFail w fs k
+fields_fail_back w fs k e = by_test (are_its_fields w fs) refl e
   where
     by_wanted : are_its_fields w fs ≡ true → item_with w fs ≡ Err k → AllByRecursion (IsWanted w) fs ⊎ Unwanted (IsWanted w) fs → FieldsFail w fs k
     by_wanted its e (inl all) = absurd (wanted_read w fs (and_parts _ _ (and_parts _ _ its).0).0 all k e)

@@ -1,5 +1,6 @@
 -- A run is refused with a fault exactly where the order of refusals gives that fault.
-use Rattle.std.proofs.Common.{◌≡◌, ◌↔◌, ℕ, zero, suc, ◌≤◌, Bool, true, false, cond, ltb, not, ◌&&◌, List, [], ◌∷◌, ◌++◌, length, refl, sym, ap, ◌∙◌, subst, Option, Some, None, Result, Ok, Err, arith}
+use Rattle.std.proofs.Common.{◌≡◌, ◌↔◌, ℕ, zero, suc, ◌≤◌, Bool, true, false, cond, ltb, not, ◌&&◌, List, [], ◌∷◌, ◌++◌, length, refl, sym, ap, ◌∙◌, subst}
+use Rattle.std.proofs.Common.{Option, Some, None, Result, Ok, Err, arith}
 use Rattle.std.proofs.lemmas.Bool.{both_ways, false_from_ne_true, false≢true, ltb-true, ltb-false, lt-ltb, le-ltb}
 use Rattle.std.specs.List.{AllByRecursion, Contains, list_all}
 use Rattle.upd_text.specs.declared.fault.Fault.{Fault}
@@ -15,10 +16,11 @@ use Rattle.upd_deck.specs.Reading.{meaning, item_by, item_of, trimmed, is_allowe
 use Rattle.upd_deck.specs.Refusals.{LineFails, Byte, Long, Fields, IsFaultless, fault_of, RunFails, ManyBytes, ManyLines, FirstFaulty}
 use Rattle.upd_deck.proofs.GrammarNames.{all_of, all_to, done}
 use Rattle.upd_deck.proofs.GrammarParts.{all_weaker, all_append}
-use Rattle.upd_deck.proofs.GrammarLines.{trimmed_is, end_split, allowed_read, allowed_back, allowed_blanks, text_read, text_back, comment_read, comment_back, cut_line, all_front}
+use Rattle.upd_deck.proofs.GrammarLines.{trimmed_is, end_split, allowed_read, allowed_back, allowed_blanks, text_read, text_back, comment_read, comment_back}
+use Rattle.upd_deck.proofs.GrammarLines.{cut_line, all_front}
 use Rattle.upd_deck.proofs.GrammarSays.{word_read, word_back, means_read, means_back}
-use Rattle.upd_deck.proofs.RefusalFields.{ok_not_err, err_same, and_no, made_err, fields_refused, fields_back}
-use Rattle.upd_deck.proofs.GrammarRuns.{gate_read, counted}
+use Rattle.upd_deck.proofs.RefusalFields.{ok_not_err, err_same, and_no, made_err, fields_fail_read, fields_fail_back}
+use Rattle.upd_deck.proofs.GrammarRuns.{gate_read, reading_of_lines}
 
 -- ---- bytes
 
@@ -66,23 +68,23 @@ item_refused text line k number start is plain e =
     ∙ ap (λ t. cond t (Ok []) (item_of text >>= (λ item. Ok (line_view number start text item ∷ [])))) plain
     ∙ ap (λ r. r >>= (λ item. Ok (line_view number start text item ∷ []))) e
 
-pub line_refused : (number start : ℕ) (line : List ℕ) (k : FaultKind) → LineFails line k → said (cut_line number start line) ≡ Err k
-line_refused number start line k (Byte _ byte stands bad) =
+pub line_fails_read : (number start : ℕ) (line : List ℕ) (k : FaultKind) → LineFails line k → said (cut_line number start line) ≡ Err k
+line_fails_read number start line k (Byte _ byte stands bad) =
     let not_allowed : is_allowed byte ≡ false = false_from_ne_true (is_allowed byte) (λ e. bad (allowed_back byte e)) in
     text_refused line k number start (byte_refused line (not_all is_allowed line byte stands not_allowed))
-line_refused number start line k (Long text n allowed inked long) =
+line_fails_read number start line k (Long text n allowed inked long) =
     let all : list_all is_allowed (text ++ blanks n) ≡ true =
     all_to is_allowed (text ++ blanks n) (all_append (λ b. is_allowed b ≡ true) text (blanks n)
     (all_weaker IsAllowed (λ b. is_allowed b ≡ true) allowed_read text allowed) (allowed_blanks n)) in
     text_refused line k number start
     (long_refused (text ++ blanks n) all (ap (λ l. ltb MAX_LINE_BYTES (length l)) (trimmed_is text n inked) ∙ lt-ltb MAX_LINE_BYTES (length text) long))
-line_refused number start line k (Fields _ text w known _ is no_comment has means fail) =
+line_fails_read number start line k (Fields _ text w known _ is no_comment has means fail) =
     let plain : is_comment text ≡ false = false_from_ne_true (is_comment text) (λ e. no_comment (comment_back text e)) in
     let starred = word_read text w has in
     item_refused text line k number start is plain
     (ap (λ t. cond t (item_by (meaning (word text)) (fields text)) (done Text)) starred.0
     ∙ ap (λ m. item_by m (fields text)) (ap meaning starred.1 ∙ means_read w known means)
-    ∙ fields_refused known (fields text) k fail)
+    ∙ fields_fail_read known (fields text) k fail)
 
 item_back : (text line : List ℕ) (k : FaultKind) → IsTextOf text line → is_comment text ≡ false → item_of text ≡ Err k → LineFails line k
 item_back text line k is plain e = by_star (is_starred text) refl (meaning (word text)) refl e
@@ -93,7 +95,7 @@ item_back text line k is plain e = by_star (is_starred text) refl (meaning (word
     by_star true star None means e = absurd cc
     by_star true star (Some known) means e =
         Fields line text (word text) known k is (λ c. both_ways (is_comment text) plain (comment_read text c)) (word_back text star)
-        (means_back (word text) known means) (fields_back known (fields text) k e)
+        (means_back (word text) known means) (fields_fail_back known (fields text) k e)
 
 text_accepted : (line : List ℕ) → list_all is_allowed line ≡ true → ltb MAX_LINE_BYTES (length (trimmed line)) ≡ false → text_of line ≡ Ok (trimmed line)
 unfolding length_asked
@@ -125,9 +127,9 @@ text_said_back number start text line k is e = by_comment (is_comment text) refl
     by_comment true comment e = absurd cc
     by_comment false plain e = item_back text line k is plain (made_err (item_of text) (λ item. line_view number start text item ∷ []) k e)
 
-pub line_back : (number start : ℕ) (line : List ℕ) (k : FaultKind) → said (cut_line number start line) ≡ Err k → LineFails line k
+pub line_fails_back : (number start : ℕ) (line : List ℕ) (k : FaultKind) → said (cut_line number start line) ≡ Err k → LineFails line k
 unfolding said_of_text
-line_back number start line k e = by_allowed (list_all is_allowed line) refl
+line_fails_back number start line k e = by_allowed (list_all is_allowed line) refl
   where
     refused_as : (kind : FaultKind) → text_of line ≡ Err kind → LineFails line kind → LineFails line k
     refused_as kind refused fails = subst (LineFails line) (err_same kind k (sym (text_refused line kind number start refused) ∙ e)) fails
@@ -157,9 +159,9 @@ each_refused : {A B E : Type 0} (f : A → Result (List B) E) (front behind : Li
 each_refused f [] behind x e all h = rw h refl
 each_refused f (y ∷ front) behind x e all h = rw (all.0.1, each_refused f front behind x e all.1 h) refl
 
-each_back : {A B E : Type 0} (f : A → Result (List B) E) (xs : List A) (e : E) → each f xs ≡ Err e → FirstRefused f xs e
-each_back f [] e h = absurd cc
-each_back {A = A} {B = B} {E = E} f (x ∷ xs) e h = by_first (f x) refl h (each_back f xs e)
+first_refused : {A B E : Type 0} (f : A → Result (List B) E) (xs : List A) (e : E) → each f xs ≡ Err e → FirstRefused f xs e
+first_refused f [] e h = absurd cc
+first_refused {A = A} {B = B} {E = E} f (x ∷ xs) e h = by_first (f x) refl h (first_refused f xs e)
   where
     by_first : (r : Result (List B) E) → f x ≡ r → (r >>= (λ found. each f xs >>= (λ more. Ok (found ++ more)))) ≡ Err e
         → (each f xs ≡ Err e → FirstRefused f xs e) → FirstRefused f (x ∷ xs) e
@@ -179,43 +181,44 @@ accepted line faultless = by_said (said line) refl
   where
     by_said : (r : Result (List LineView) FaultKind) → said line ≡ r → IsAccepted said_at line
     by_said (Ok found) e = (found, ap (at_line line.number) e)
-    by_said (Err k) e = absurd (faultless k (line_back line.number line.start line.bytes k e))
+    by_said (Err k) e = absurd (faultless k (line_fails_back line.number line.start line.bytes k e))
 
 faultless : (line : CutLine) → IsAccepted said_at line → IsFaultless line
 faultless line h k fails =
-    ok_not_err (said_at line) h.0 (fault_of k line.number) h.1 (ap (at_line line.number) (line_refused line.number line.start line.bytes k fails))
+    ok_not_err (said_at line) h.0 (fault_of k line.number) h.1 (ap (at_line line.number) (line_fails_read line.number line.start line.bytes k fails))
 
-pub run_refused : (bytes : List ℕ) (e : Fault) → RunFails bytes e → reading bytes ≡ Err e
-run_refused bytes e (ManyBytes _ many) =
-    ap (λ t. at_line 0 (refuse_if t fault.RunLong) >>= (λ _. counted bytes)) (lt-ltb MAX_RUN_BYTES (length bytes) many)
-run_refused bytes e (ManyLines _ short many) =
-    gate_read (ltb MAX_RUN_BYTES (length bytes)) fault.RunLong (λ _. counted bytes) (le-ltb MAX_RUN_BYTES (length bytes) short)
+pub run_fails_read : (bytes : List ℕ) (e : Fault) → RunFails bytes e → reading bytes ≡ Err e
+run_fails_read bytes e (ManyBytes _ many) =
+    ap (λ t. at_line 0 (refuse_if t fault.RunLong) >>= (λ _. reading_of_lines bytes)) (lt-ltb MAX_RUN_BYTES (length bytes) many)
+run_fails_read bytes e (ManyLines _ short many) =
+    gate_read (ltb MAX_RUN_BYTES (length bytes)) fault.RunLong (λ _. reading_of_lines bytes) (le-ltb MAX_RUN_BYTES (length bytes) short)
     ∙ ap (λ t. at_line 0 (refuse_if t fault.TooManyLines) >>= (λ _. each said_at (cut bytes))) (lt-ltb MAX_RUN_LINES (length (cut bytes)) many)
-run_refused bytes e (FirstFaulty _ front behind line k short few parts before fails) =
-    let here : said_at line ≡ Err (fault_of k line.number) = ap (at_line line.number) (line_refused line.number line.start line.bytes k fails) in
-    gate_read (ltb MAX_RUN_BYTES (length bytes)) fault.RunLong (λ _. counted bytes) (le-ltb MAX_RUN_BYTES (length bytes) short)
+run_fails_read bytes e (FirstFaulty _ front behind line k short few parts before fails) =
+    let here : said_at line ≡ Err (fault_of k line.number) = ap (at_line line.number) (line_fails_read line.number line.start line.bytes k fails) in
+    gate_read (ltb MAX_RUN_BYTES (length bytes)) fault.RunLong (λ _. reading_of_lines bytes) (le-ltb MAX_RUN_BYTES (length bytes) short)
     ∙ gate_read (ltb MAX_RUN_LINES (length (cut bytes))) fault.TooManyLines (λ _. each said_at (cut bytes)) (le-ltb MAX_RUN_LINES (length (cut bytes)) few)
     ∙ ap (each said_at) parts
     ∙ each_refused said_at front behind line (fault_of k line.number) (all_weaker IsFaultless (IsAccepted said_at) accepted front before) here
 
-pub run_back : (bytes : List ℕ) (e : Fault) → reading bytes ≡ Err e → RunFails bytes e
-run_back bytes e h = by_bytes (ltb MAX_RUN_BYTES (length bytes)) refl h
+pub run_fails_back : (bytes : List ℕ) (e : Fault) → reading bytes ≡ Err e → RunFails bytes e
+run_fails_back bytes e h = by_bytes (ltb MAX_RUN_BYTES (length bytes)) refl h
   where
     by_line : length bytes ≤ MAX_RUN_BYTES → length (cut bytes) ≤ MAX_RUN_LINES → FirstRefused said_at (cut bytes) e → RunFails bytes e
     by_line short few (front, line, behind, parts, before, refused) =
         let fault = at_line_err (said line) line.number e refused in
         subst (RunFails bytes) fault.2
         (FirstFaulty bytes front behind line fault.0 short few parts (all_weaker (IsAccepted said_at) IsFaultless faultless front before)
-        (line_back line.number line.start line.bytes fault.0 fault.1))
+        (line_fails_back line.number line.start line.bytes fault.0 fault.1))
 
     by_lines : (t : Bool) → length bytes ≤ MAX_RUN_BYTES → ltb MAX_RUN_LINES (length (cut bytes)) ≡ t
         → (at_line 0 (refuse_if t fault.TooManyLines) >>= (λ _. each said_at (cut bytes))) ≡ Err e → RunFails bytes e
     by_lines true short many h = subst (RunFails bytes) (err_same _ _ h) (ManyLines bytes short (ltb-true MAX_RUN_LINES (length (cut bytes)) many))
-    by_lines false short few h = by_line short (ltb-false MAX_RUN_LINES (length (cut bytes)) few) (each_back said_at (cut bytes) e h)
+    by_lines false short few h = by_line short (ltb-false MAX_RUN_LINES (length (cut bytes)) few) (first_refused said_at (cut bytes) e h)
 
-    by_bytes : (t : Bool) → ltb MAX_RUN_BYTES (length bytes) ≡ t → (at_line 0 (refuse_if t fault.RunLong) >>= (λ _. counted bytes)) ≡ Err e → RunFails bytes e
+    by_bytes : (t : Bool) → ltb MAX_RUN_BYTES (length bytes) ≡ t → (at_line 0 (refuse_if t fault.RunLong) >>= (λ _. reading_of_lines bytes)) ≡ Err e →
+        RunFails bytes e
     by_bytes true long h = subst (RunFails bytes) (err_same _ _ h) (ManyBytes bytes (ltb-true MAX_RUN_BYTES (length bytes) long))
     by_bytes false short h = by_lines (ltb MAX_RUN_LINES (length (cut bytes))) (ltb-false MAX_RUN_BYTES (length bytes) short) refl h
 
 pub run_fails : (bytes : List ℕ) (e : Fault) → RunFails bytes e ↔ (reading bytes ≡ Err e)
-run_fails bytes e = (run_refused bytes e, run_back bytes e)
+run_fails bytes e = (run_fails_read bytes e, run_fails_back bytes e)
