@@ -1,4 +1,5 @@
 pub mod Filtered
 pub mod OnceLemmas
+pub mod StepLemmas
 pub mod TargetLemmas
 pub mod TouchedLaws

@@ -1,8 +1,6 @@
 -- Targets that are the same by `==` are equal.
-use Rattle.std.proofs.Common.{◌≡◌, Bool, true, rules, arith}
-use Rattle.std.proofs.lemmas.Bool.Decides.{nat_tests}
+use Rattle.std.proofs.Common.{◌≡◌, true, rules}
 use Rattle.upd_core.specs.declared.target.Target.{Target}
-use Rattle.upd_core.specs.declared.target.Target.TheVariants.{Set, SetIn, Deck}
 use Rattle.upd_core.specs.Targets.{is_same}
 
 pub same_target : (t u : Target) → is_same t u ≡ true → t ≡ u

@@ -1,5 +1,5 @@
 //! Whole runs, and purging back.
-ghost use Rattle.std.specs.Prelude.{◌≡◌, ◌+◌, ◌^◌, ◌<◌, ◌≤◌, [], map, drop, length, Ok, IfErr, IfOk, OnErr, OnOk};
+ghost use Rattle.std.specs.Prelude.{◌≡◌, ◌+◌, ◌^◌, ◌<◌, map, drop, length, Ok, IfErr, IfOk, OnErr};
 ghost use Rattle.upd_core.specs.Edits.{purged_back};
 ghost use Rattle.upd_core.specs.Sound.{AreApart, all_cards, key_of};
 ghost use Rattle.upd_text.specs.Outcome.{DoesAt, FailsAt, GivesAt, at_line};
@@ -83,8 +83,7 @@ fn take_steps(state: &mut State, lines: &[Line]) -> Result<(), Fault>
 
 fn take_step(state: &mut State, line: &Line) -> Result<(), Fault>
     requires { next_most state.old + 1 < 2 ^ 32 }
-    ensures does { DoesAt result state.new (at_line line.now.number (step line.now state.old)) }
-    ensures number { OnOk result (next_most state.new ≤ next_most state.old + 1) }
+    ensures { DoesAt result state.new (at_line line.now.number (step line.now state.old)) }
 {
     match state.step(line) {
         Ok(()) => Ok(()),

@@ -1,10 +1,9 @@
 //! The purges: `*PURGE`, `*SELPURGE`, `*PURDECK`, and the idents that they name.
-ghost use Rattle.std.specs.Prelude.{◌≡◌, ◌&&◌, ◌+◌, ◌≤◌, [], ◌++◌, map, OnOk};
+ghost use Rattle.std.specs.Prelude.{◌≡◌, ◌&&◌, [], ◌++◌, map, OnOk};
 ghost use Rattle.std.specs.List.{filter};
 ghost use Rattle.upd_core.specs.Library.{is_deck_kind};
 ghost use Rattle.upd_text.specs.Outcome.{Does, Gives};
 ghost use Rattle.upd_deck.specs.Items.{PurDeck, Purge, PurgeFrom, SelPurge};
-ghost use Rattle.upd_apply.specs.Numbers.{next_most};
 ghost use Rattle.upd_apply.specs.Step.{done, ended, purged_in_all};
 ghost use Rattle.upd_apply.specs.Names.{is_in};
 ghost use Rattle.upd_apply.specs.Purges.{decks_purged, idents_purged, pairs_purged};
@@ -38,8 +37,7 @@ impl Model for AgePair {
 impl State {
     /// `*PURGE`
     pub(crate) fn purge_idents(&mut self, ranges: &[NameRange]) -> Result<(), FaultKind>
-        ensures does { Does result self.new (done (Purge ranges.now) [] self.old) }
-        ensures number { OnOk result (next_most self.new ≤ next_most self.old + 1) }
+        ensures { Does result self.new (done (Purge ranges.now) [] self.old) }
     {
         let ages = idents_purged(&self.library, ranges)?;
         self.library.purge(&ages)?;
@@ -49,8 +47,7 @@ impl State {
 
     /// `*PURGE` with a star
     pub(crate) fn purge_from(&mut self, name: &Name) -> Result<(), FaultKind>
-        ensures does { Does result self.new (done (PurgeFrom name.now) [] self.old) }
-        ensures number { OnOk result (next_most self.new ≤ next_most self.old + 1) }
+        ensures { Does result self.new (done (PurgeFrom name.now) [] self.old) }
     {
         let age = known_ident(&self.library, name)?;
         self.library.purge_from(age);
@@ -60,8 +57,7 @@ impl State {
 
     /// `*SELPURGE`
     pub(crate) fn purge_pairs(&mut self, pairs: &[IdentIn]) -> Result<(), FaultKind>
-        ensures does { Does result self.new (done (SelPurge pairs.now) [] self.old) }
-        ensures number { OnOk result (next_most self.new ≤ next_most self.old + 1) }
+        ensures { Does result self.new (done (SelPurge pairs.now) [] self.old) }
     {
         let ages = pairs_purged(&self.library, pairs)?;
         purge_in_all(&mut self.library, &ages);
@@ -71,8 +67,7 @@ impl State {
 
     /// `*PURDECK`
     pub(crate) fn purge_decks(&mut self, ranges: &[NameRange]) -> Result<(), FaultKind>
-        ensures does { Does result self.new (done (PurDeck ranges.now) [] self.old) }
-        ensures number { OnOk result (next_most self.new ≤ next_most self.old + 1) }
+        ensures { Does result self.new (done (PurDeck ranges.now) [] self.old) }
     {
         let ages = decks_purged(&self.library, ranges)?;
         self.library.purge(&ages)?;

@@ -1,4 +1,5 @@
-ghost use Rattle.std.specs.Prelude.{◌≡◌, ◌+◌, ◌^◌, ◌<◌, ◌≤◌, [], length, Some, MatchResult, OnOk};
+//! A run under way: the set in hand and the place of text, and what idents, decks, corrections and text do to it.
+ghost use Rattle.std.specs.Prelude.{◌≡◌, ◌+◌, ◌^◌, ◌<◌, ◌≤◌, [], length, Some, MatchResult};
 ghost use Rattle.upd_core.specs.Edits.{new_card, next_age};
 ghost use Rattle.upd_core.specs.Library.{place_of};
 ghost use Rattle.upd_text.specs.Outcome.{Does, need};
@@ -53,8 +54,7 @@ impl State {
 
     /// `*IDENT`
     pub(crate) fn begin_set(&mut self, name: &Name) -> Result<(), FaultKind>
-        ensures does { Does result self.new (set_begun name.now self.old) }
-        ensures number { OnOk result (next_most self.new ≤ next_most self.old + 1) }
+        ensures { Does result self.new (set_begun name.now self.old) }
     {
         new_name(&self.library, name)?;
         let ident = next_age(&self.library)?;
@@ -73,8 +73,7 @@ impl State {
         noprop: bool,
         text: &[u8],
     ) -> Result<(), FaultKind>
-        ensures does { Does result self.new (deck_begun name.now kind noprop text.now self.old) }
-        ensures number { OnOk result (next_most self.new ≤ next_most self.old + 1) }
+        ensures { Does result self.new (deck_begun name.now kind noprop text.now self.old) }
     {
         new_name(&self.library, name)?;
         let age = next_age(&self.library)?;
@@ -88,8 +87,7 @@ impl State {
 
     /// `*INSERT`
     pub(crate) fn place_after(&mut self, card: &CardRef) -> Result<(), FaultKind>
-        ensures does { Does result self.new (placed_after card.now self.old) }
-        ensures number { OnOk result (next_most self.new ≤ next_most self.old + 1) }
+        ensures { Does result self.new (placed_after card.now self.old) }
     {
         self.hand.ok_or(FaultKind::NoIdent)?;
         let place = known_card(&self.library, card)?;
@@ -105,8 +103,7 @@ impl State {
 
     /// `*BEFORE`
     pub(crate) fn place_before(&mut self, card: &CardRef) -> Result<(), FaultKind>
-        ensures does { Does result self.new (placed_before card.now self.old) }
-        ensures number { OnOk result (next_most self.new ≤ next_most self.old + 1) }
+        ensures { Does result self.new (placed_before card.now self.old) }
     {
         self.hand.ok_or(FaultKind::NoIdent)?;
         let place = known_card(&self.library, card)?;
@@ -130,8 +127,7 @@ impl State {
         first: &CardRef,
         last: &CardRef,
     ) -> Result<(), FaultKind>
-        ensures does { Does result self.new (switched active first.now last.now self.old) }
-        ensures number { OnOk result (next_most self.new ≤ next_most self.old + 1) }
+        ensures { Does result self.new (switched active first.now last.now self.old) }
     {
         let hand = self.hand.ok_or(FaultKind::NoIdent)?;
         let from = known_card(&self.library, first)?;
@@ -159,8 +155,7 @@ impl State {
     /// Text and calls
     pub(crate) fn put_text(&mut self, text: &[u8]) -> Result<(), FaultKind>
         requires { next_most self.old + 1 < 2 ^ 32 }
-        ensures does { Does result self.new (text_put text.now self.old.spot self.old) }
-        ensures number { OnOk result (next_most self.new ≤ next_most self.old + 1) }
+        ensures { Does result self.new (text_put text.now self.old.spot self.old) }
     {
         match self.spot {
             Spot::Nowhere => Err(FaultKind::TextNowhere),
@@ -172,8 +167,7 @@ impl State {
     fn put_at_end(&mut self, deck: Serial, next: u32, text: &[u8]) -> Result<(), FaultKind>
         requires spot { self.old.spot ≡ End deck next }
         requires number { next_most self.old + 1 < 2 ^ 32 }
-        ensures does { Does result self.new (text_put text.now self.old.spot self.old) }
-        ensures number { OnOk result (next_most self.new ≤ next_most self.old + 1) }
+        ensures { Does result self.new (text_put text.now self.old.spot self.old) }
     {
         let card = new_card(&self.library, deck, next, text)?;
         self.library.insert_card(deck, 0, card)?;
@@ -188,8 +182,7 @@ impl State {
     fn put_inside(&mut self, deck: Serial, behind: usize, text: &[u8]) -> Result<(), FaultKind>
         requires spot { self.old.spot ≡ Inside deck behind }
         requires number { next_most self.old + 1 < 2 ^ 32 }
-        ensures does { Does result self.new (text_put text.now self.old.spot self.old) }
-        ensures number { OnOk result (next_most self.new ≤ next_most self.old + 1) }
+        ensures { Does result self.new (text_put text.now self.old.spot self.old) }
     {
         let Hand { ident, next } = self.hand.ok_or(FaultKind::TextNowhere)?;
         if deck == 0 {

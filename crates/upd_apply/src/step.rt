@@ -1,5 +1,8 @@
-ghost use Rattle.std.specs.Prelude.{◌+◌, ◌^◌, ◌<◌, ◌≤◌, OnOk};
+//! What a line does, by what it says.
+ghost use Rattle.std.specs.Prelude.{◌≡◌, ◌+◌, ◌^◌, ◌<◌, ◌≤◌, Ok};
+ghost use Rattle.upd_deck.specs.Items.{LineView};
 ghost use Rattle.upd_text.specs.Outcome.{Does};
+ghost use Rattle.upd_apply.specs.declared.state.State.{State};
 ghost use Rattle.upd_apply.specs.Numbers.{next_most};
 ghost use Rattle.upd_apply.specs.Step.{step};
 
@@ -12,8 +15,7 @@ impl State {
     /// What a line does, or why it is refused. After a refusal the state is of no use.
     pub(crate) fn step(&mut self, line: &Line) -> Result<(), FaultKind>
         requires { next_most self.old + 1 < 2 ^ 32 }
-        ensures does { Does result self.new (step line.now self.old) }
-        ensures number { OnOk result (next_most self.new ≤ next_most self.old + 1) }
+        ensures { Does result self.new (step line.now self.old) }
     {
         let text = line.text;
         match &line.item {
@@ -38,3 +40,8 @@ impl State {
         }
     }
 }
+
+/// A line raises the next number by one at most, so a run never passes what a number holds.
+pub fn numbers_rise_by_one()
+    ensures { (line : LineView) (s t : State) → step line s ≡ Ok t → next_most t ≤ next_most s + 1 }
+{}

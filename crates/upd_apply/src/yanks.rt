@@ -1,5 +1,5 @@
 //! The yanks: `*YANK`, `*SELYANK`, `*YANKDECK`, and the targets that they fix.
-ghost use Rattle.std.specs.Prelude.{◌≡◌, ◌+◌, ◌^◌, ◌<◌, ◌≤◌, ◌&&◌, ◌||◌, ◌==◌, ℕ, [], ◌∷◌, ◌++◌, map, Ok, Some, OnOk};
+ghost use Rattle.std.specs.Prelude.{◌≡◌, ◌+◌, ◌^◌, ◌<◌, ◌&&◌, ◌||◌, ◌==◌, ℕ, [], ◌∷◌, ◌++◌, map, Ok, Some, OnOk};
 ghost use Rattle.std.specs.List.{filter};
 ghost use Rattle.upd_text.specs.Outcome.{Does, Gives};
 ghost use Rattle.upd_core.specs.declared.target.Target.TheVariants.{Set};
@@ -21,8 +21,7 @@ impl State {
     /// `*YANK`
     pub(crate) fn yank_sets(&mut self, text: &[u8], ranges: &[NameRange]) -> Result<(), FaultKind>
         requires { next_most self.old + 1 < 2 ^ 32 }
-        ensures does { Does result self.new (yank_put text.now (sets_yanked ranges.now) self.old) }
-        ensures number { OnOk result (next_most self.new ≤ next_most self.old + 1) }
+        ensures { Does result self.new (yank_put text.now (sets_yanked ranges.now) self.old) }
     {
         let hand = self.hand.ok_or(FaultKind::NoIdent)?;
         let targets = sets_yanked(&self.library, hand.ident, ranges)?;
@@ -32,8 +31,7 @@ impl State {
     /// `*SELYANK`
     pub(crate) fn yank_pairs(&mut self, text: &[u8], pairs: &[IdentIn]) -> Result<(), FaultKind>
         requires { next_most self.old + 1 < 2 ^ 32 }
-        ensures does { Does result self.new (yank_put text.now (pairs_yanked pairs.now) self.old) }
-        ensures number { OnOk result (next_most self.new ≤ next_most self.old + 1) }
+        ensures { Does result self.new (yank_put text.now (pairs_yanked pairs.now) self.old) }
     {
         let hand = self.hand.ok_or(FaultKind::NoIdent)?;
         let targets = pairs_yanked(&self.library, hand.ident, pairs)?;
@@ -43,8 +41,7 @@ impl State {
     /// `*YANKDECK`
     pub(crate) fn yank_decks(&mut self, text: &[u8], names: &[Name]) -> Result<(), FaultKind>
         requires { next_most self.old + 1 < 2 ^ 32 }
-        ensures does { Does result self.new (yank_put text.now (decks_yanked names.now) self.old) }
-        ensures number { OnOk result (next_most self.new ≤ next_most self.old + 1) }
+        ensures { Does result self.new (yank_put text.now (decks_yanked names.now) self.old) }
     {
         let hand = self.hand.ok_or(FaultKind::NoIdent)?;
         let targets = decks_yanked(&self.library, hand.ident, names)?;
@@ -55,8 +52,7 @@ impl State {
     fn put_yank(&mut self, hand: Hand, text: &[u8], targets: Vec<Target>) -> Result<(), FaultKind>
         requires hand { self.old.hand ≡ Some hand }
         requires number { hand.next + 1 < 2 ^ 32 }
-        ensures does { Does result self.new (yank_put text.now (λ _ _. Ok targets.items) self.old) }
-        ensures number { OnOk result (next_most self.new ≤ next_most self.old + 1) }
+        ensures { Does result self.new (yank_put text.now (λ _ _. Ok targets.items) self.old) }
     {
         let Hand { ident, next } = hand;
         let card = Card::new(self.library.allocator(), ident, next, text, targets)?;

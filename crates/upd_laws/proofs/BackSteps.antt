@@ -1,6 +1,6 @@
 -- One line that purges nothing: the library only grows, by idents from x on, and what is in hand is one of these.
 use Rattle.std.proofs.Common.{◌≡◌, ℕ, ◌≤◌, Bool, true, false, not, ◌||◌, ltb, List, [], ◌∷◌, length, Option, Some, None, Result, Ok, Err, refl, arith, ltb-false}
-use Rattle.std.specs.Prelude.{◌==◌, IsTrue, if◌then◌else◌}
+use Rattle.std.specs.Prelude.{◌==◌, IsTrue}
 use Rattle.std.specs.List.{list_all}
 use Rattle.std.specs.Result.{IfOk}
 use Rattle.std.proofs.lemmas.Bool.{or_parts, and_parts, not-true}
@@ -15,7 +15,7 @@ use Rattle.upd_core.specs.declared.ident.Kind.TheVariants as kind
 use Rattle.upd_core.specs.declared.target.Target.{Target}
 use Rattle.upd_core.specs.Edits.{introduced, next_age, new_card, with_deck, with_card, with_yank, with_entries}
 use Rattle.upd_core.specs.Library.{DeckView, LibraryView, place_of}
-use Rattle.upd_core.specs.Limits.{is_within_limits}
+use Rattle.upd_text.proofs.OutcomeLemmas.{after_any, after_need, after_refusal}
 use Rattle.upd_text.specs.Outcome.{◌>>=◌, need, refuse_if, at_line}
 use Rattle.upd_deck.specs.Items.{ItemView, LineView, Text, Call, Ident, Deck, CommonDeck, Insert, Before, Delete, Restore, Yank, SelYank, YankDeck, Purge, PurgeFrom, SelPurge, PurDeck, Compile}
 use Rattle.upd_apply.specs.declared.state.Hand.{Hand}
@@ -24,33 +24,11 @@ use Rattle.upd_apply.specs.declared.state.Spot.TheVariants.{Nowhere, End, Inside
 use Rattle.upd_apply.specs.declared.state.State.{State}
 use Rattle.upd_apply.specs.Applying.{Reached, started, stepped, applied}
 use Rattle.upd_apply.specs.Compile.{named_decks}
-use Rattle.upd_apply.specs.Step.{grown, new_name, set_begun, deck_begun, placed_after, placed_before, switched, text_put, yank_put, is_first, done, step}
+use Rattle.upd_apply.specs.Step.{new_name, set_begun, deck_begun, placed_after, placed_before, switched, text_put, yank_put, is_first, done, step}
 use Rattle.upd_apply.specs.Yanks.{sets_yanked, pairs_yanked, decks_yanked}
+use Rattle.upd_apply.proofs.StepLemmas.{after_grown}
 use Rattle.upd_laws.specs.PurgingBack.{is_purge, purges_nothing, all_applied}
 use Rattle.upd_laws.proofs.BackLibraries.{Within, Grows, grows, grows_twice, no_fewer, grows_card, grows_entries, grows_yank, grows_ident, grows_deck, length-introduced, idents-with_card, idents-with_entries}
-
--- ---- refusals
-
-after_refusal : {B : Type 0} (P : B → Type 0) (bad : Bool) (kind : FaultKind) (f : Bool → Result B FaultKind) → (bad ≡ false → IfOk (f bad) P)
-    → IfOk (refuse_if bad kind >>= f) P
-after_refusal P true kind f h = tt
-after_refusal P false kind f h = h refl
-
-after_need : {A B : Type 0} (P : B → Type 0) (kind : FaultKind) (o : Option A) (f : A → Result B FaultKind) → ((a : A) → o ≡ Some a → IfOk (f a) P)
-    → IfOk (need kind o >>= f) P
-after_need P kind None f h = tt
-after_need P kind (Some a) f h = h a refl
-
-after_any : {A B E : Type 0} (P : B → Type 0) (r : Result A E) (f : A → Result B E) → ((a : A) → IfOk (f a) P) → IfOk (r >>= f) P
-after_any P (Ok a) f h = h a
-after_any P (Err e) f h = tt
-
-after_grown : {B : Type 0} (P : B → Type 0) (l : LibraryView) (f : LibraryView → Result B FaultKind) → IfOk (f l) P → IfOk (grown l >>= f) P
-after_grown P l f h = within (is_within_limits l)
-  where
-    within : (b : Bool) → IfOk ((if b then Ok l else Err fault.Full) >>= f) P
-    within true = h
-    within false = tt
 
 -- ---- states
 

@@ -1,4 +1,4 @@
-use Rattle.std.proofs.Common.{◌≡◌, arith}
+use Rattle.std.proofs.Common.{arith}
 use Rattle.std.proofs.lemmas.Grind.{common_steps}
 use Rattle.upd_core.specs.declared.target.Target.TheVariants.{Set}
 use Rattle.upd_core.specs.Targets.{is_same}

@@ -1,0 +1,20 @@
+-- What holds behind an outcome that goes through.
+use Rattle.std.proofs.Common.{◌≡◌, Bool, true, false, refl}
+use Rattle.std.specs.Prelude.{Option, Some, None, Result, Ok, Err}
+use Rattle.std.specs.Result.{IfOk}
+use Rattle.upd_text.specs.declared.fault.FaultKind.{FaultKind}
+use Rattle.upd_text.specs.Outcome.{◌>>=◌, need, refuse_if}
+
+pub after_any : {A B E : Type 0} (P : B → Type 0) (r : Result A E) (f : A → Result B E) → ((a : A) → IfOk (f a) P) → IfOk (r >>= f) P
+after_any P (Ok a) f h = h a
+after_any P (Err e) f h = tt
+
+pub after_need : {A B : Type 0} (P : B → Type 0) (kind : FaultKind) (o : Option A) (f : A → Result B FaultKind)
+    → ((a : A) → o ≡ Some a → IfOk (f a) P) → IfOk (need kind o >>= f) P
+after_need P kind None f h = tt
+after_need P kind (Some a) f h = h a refl
+
+pub after_refusal : {B : Type 0} (P : B → Type 0) (bad : Bool) (kind : FaultKind) (f : Bool → Result B FaultKind)
+    → (bad ≡ false → IfOk (f bad) P) → IfOk (refuse_if bad kind >>= f) P
+after_refusal P true kind f h = tt
+after_refusal P false kind f h = h refl
