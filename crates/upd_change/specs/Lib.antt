@@ -1,2 +1,4 @@
 pub mod Rows
 pub mod Changes
+pub mod Fates
+pub mod Told

@@ -2,6 +2,7 @@
 #![tactic(auto)]
 
 pub mod change;
+mod fates;
 pub mod run_row;
 
 pub use change::Change;

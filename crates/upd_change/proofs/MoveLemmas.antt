@@ -1,0 +1,245 @@
+-- The moves bring the cards that stay to the places where they are to stand.
+use Rattle.std.proofs.Common.{◌≡◌, ℕ, ◌+◌, ◌-◌, ◌<◌, ◌≤◌, Bool, true, false, cond, List, [], ◌∷◌, ◌++◌, map, refl, ap, sym, ◌∙◌, arith}
+use Rattle.std.proofs.lemmas.List.{map-append}
+use Rattle.std.specs.Prelude.{nat_lt, nat_le, ◌==◌, ◌&&◌, pos, negsuc}
+use Rattle.std.specs.List.{flat_map, AllByRecursion}
+use Rattle.std.proofs.lemmas.Bool.{ltb-true}
+use Rattle.std.proofs.lemmas.Bool.Decides.{Decides-eqb, nat_tests}
+use Rattle.upd_core.specs.declared.ident.Ident.{Ident}
+use Rattle.upd_core.specs.Library.{CardView, ref_of}
+use Rattle.upd_core.specs.Sound.{AreApart}
+use Rattle.upd_change.specs.Rows.{CardRow}
+use Rattle.upd_change.specs.Changes.{ChangeView, CardsMoved, moved_row, shifted}
+use Rattle.upd_change.specs.Fates.{FateView, DeckFatesView, Kept, Gone, New, card_before, deck_before, standing}
+use Rattle.upd_change.specs.Told.{moves, move_to, way}
+use Rattle.upd_change.proofs.EffectLemmas.{on_cards, act, all_acts, acts_append}
+use Rattle.upd_change.proofs.GoneLemmas.{kept_from}
+
+-- the row of a card that stays, where it is to stand
+abbrev pub kept_row : List Ident → ℕ → ℕ → CardView → CardRow
+kept_row idents d p c = record { card = ref_of idents c; deck = d; pos = p; body = c.text }
+
+-- the rows of a deck's cards that stay, at the places where they are to stand
+abbrev pub kept_to : List Ident → ℕ → ℕ → List FateView → List CardRow
+kept_to idents d p [] = []
+kept_to idents d p (Kept was is ∷ fates) = kept_row idents d p was ∷ kept_to idents d (p + 1) fates
+kept_to idents d p (Gone was ∷ fates) = kept_to idents d p fates
+kept_to idents d p (New is ∷ fates) = kept_to idents d (p + 1) fates
+
+-- ---- moves go over joined lists
+
+abbrev pub IsMove : ChangeView → Type 0
+IsMove c = (xs ys : List CardRow) → act (on_cards c) (xs ++ ys) ≡ act (on_cards c) xs ++ act (on_cards c) ys
+
+pub moves_joined : (cs : List ChangeView) (xs ys : List CardRow) → AllByRecursion IsMove cs → all_acts on_cards cs (xs ++ ys) ≡ all_acts on_cards cs xs ++ all_acts on_cards cs ys
+moves_joined [] xs ys are = refl
+moves_joined (c ∷ cs) xs ys are = ap (all_acts on_cards cs) (are.0 xs ys) ∙ moves_joined cs (act (on_cards c) xs) (act (on_cards c) ys) are.1
+
+all_joined : {A : Type 0} (P : A → Type 0) (xs ys : List A) → AllByRecursion P xs → AllByRecursion P ys → AllByRecursion P (xs ++ ys)
+all_joined P [] ys a b = b
+all_joined P (x ∷ xs) ys a b = (a.0, all_joined P xs ys a.1 b)
+
+move_is : (d w p : ℕ) → AllByRecursion IsMove (move_to d w p)
+move_is d w p = go (w == p)
+  where
+    go : (b : Bool) → AllByRecursion IsMove (cond b [] (CardsMoved d w (way w p) ∷ []))
+    go true = tt
+    go false = (λ xs ys. map-append (moved_row d w (way w p)) xs ys, tt)
+
+pub moves_are : (d w p : ℕ) (fates : List FateView) → AllByRecursion IsMove (moves d w p fates)
+moves_are d w p [] = tt
+moves_are d w p (Kept c e ∷ fates) = all_joined IsMove (move_to d w p) (moves d (p + 1) (p + 1) fates) (move_is d w p) (moves_are d (p + 1) (p + 1) fates)
+moves_are d w p (Gone c ∷ fates) = moves_are d (w + 1) p fates
+moves_are d w p (New e ∷ fates) = moves_are d w (p + 1) fates
+
+-- ---- one move
+
+way_is : (w p v q : ℕ) → w ≤ v → v + p ≡ q + w → shifted (way w p) v ≡ q
+way_is w p v q behind e = go (nat_lt p w) refl
+  where
+    go : (b : Bool) → nat_lt p w ≡ b → shifted (cond b (negsuc (w - p - 1)) (pos (p - w))) v ≡ q
+    go true is = let less : p < w = ltb-true p w is in omega arith
+    go false is = let more : w ≤ p = grind (arith, nat_tests) in omega arith
+
+le_test : (w v : ℕ) → w ≤ v → nat_le w v ≡ true
+le_test w v h = grind (arith, nat_tests)
+
+lt_test : (w v : ℕ) → v < w → nat_le w v ≡ false
+lt_test w v h = grind (arith, nat_tests)
+
+eq_test : (d : ℕ) → (d == d) ≡ true
+eq_test d = (Decides-eqb d d).1 refl
+
+ne_test : (a d : ℕ) → (a ≡ d → ⊥) → (a == d) ≡ false
+ne_test a d differ = go (a == d) refl
+  where
+    go : (b : Bool) → (a == d) ≡ b → b ≡ false
+    go true is = absurd (differ ((Decides-eqb a d).0 is))
+    go false is = refl
+
+shift : (idents : List Ident) (d w p v q : ℕ) (fates : List FateView) → w ≤ v → v + p ≡ q + w
+    → map (moved_row d w (way w p)) (kept_from idents d v fates) ≡ kept_from idents d q fates
+shift idents d w p v q [] behind e = refl
+shift idents d w p v q (Kept c x ∷ fates) behind e =
+    rw (eq_test d, le_test w v behind, way_is w p v q behind e)
+    (ap (λ t. record { card = ref_of idents c; deck = d; pos = q; body = c.text } ∷ t) (shift idents d w p (v + 1) (q + 1) fates (omega arith) (omega arith)))
+shift idents d w p v q (Gone c ∷ fates) behind e = shift idents d w p (v + 1) (q + 1) fates (omega arith) (omega arith)
+shift idents d w p v q (New x ∷ fates) behind e = shift idents d w p v q fates behind e
+
+move_does : (idents : List Ident) (d w p : ℕ) (fates : List FateView) → all_acts on_cards (move_to d w p) (kept_from idents d w fates) ≡ kept_from idents d p fates
+move_does idents d w p fates = go (w == p) refl
+  where
+    go : (b : Bool) → (w == p) ≡ b → all_acts on_cards (cond b [] (CardsMoved d w (way w p) ∷ [])) (kept_from idents d w fates) ≡ kept_from idents d p fates
+    go true is = let same : w ≡ p = (Decides-eqb w p).0 is in ap (λ n. kept_from idents d n fates) same
+    go false is = shift idents d w p w p fates (omega arith) (omega arith)
+
+-- ---- rows that moves leave alone
+
+-- rows of other decks, and rows in front of what moves
+abbrev pub IsFixed : ℕ → ℕ → ℕ → CardRow → Type 0
+IsFixed d w p r = r.deck ≡ d → (r.pos < w) × (r.pos < p)
+
+fixed_row : (d w p : ℕ) (r : CardRow) → IsFixed d w p r → moved_row d w (way w p) r ≡ r
+fixed_row d w p r fixed = go (r.deck == d) refl (nat_le w r.pos) refl
+  where
+    go : (a : Bool) → (r.deck == d) ≡ a → (b : Bool) → nat_le w r.pos ≡ b → cond (a && b) (record r { pos = shifted (way w p) r.pos }) r ≡ r
+    go true is true le = let f = fixed ((Decides-eqb r.deck d).0 is) in absurd (no (lt_test w r.pos f.0))
+      where
+        no : nat_le w r.pos ≡ false → ⊥
+        no e = cc
+    go true is false le = refl
+    go false is b le = refl
+
+fixed_rows : (d w p : ℕ) (rows : List CardRow) → AllByRecursion (IsFixed d w p) rows → map (moved_row d w (way w p)) rows ≡ rows
+fixed_rows d w p [] fixed = refl
+fixed_rows d w p (r ∷ rows) fixed = rw (fixed_row d w p r fixed.0) (ap (λ t. r ∷ t) (fixed_rows d w p rows fixed.1))
+
+weaker : (d w p v q : ℕ) (rows : List CardRow) → ((n : ℕ) → n < w → n < p → (n < v) × (n < q)) → AllByRecursion (IsFixed d w p) rows → AllByRecursion (IsFixed d v q) rows
+weaker d w p v q [] h fixed = tt
+weaker d w p v q (r ∷ rows) h fixed = (λ e. let f = fixed.0 e in h r.pos f.0 f.1, weaker d w p v q rows h fixed.1)
+
+pub moves_fix : (d w p : ℕ) (fates : List FateView) (rows : List CardRow) → AllByRecursion (IsFixed d w p) rows → all_acts on_cards (moves d w p fates) rows ≡ rows
+moves_fix d w p [] rows fixed = refl
+moves_fix d w p (Kept c e ∷ fates) rows fixed =
+    acts_append on_cards (move_to d w p) (moves d (p + 1) (p + 1) fates) rows ∙ ap (all_acts on_cards (moves d (p + 1) (p + 1) fates)) (go (w == p))
+    ∙ moves_fix d (p + 1) (p + 1) fates rows (weaker d w p (p + 1) (p + 1) rows (λ n a b. (omega arith, omega arith)) fixed)
+  where
+    go : (b : Bool) → all_acts on_cards (cond b [] (CardsMoved d w (way w p) ∷ [])) rows ≡ rows
+    go true = refl
+    go false = fixed_rows d w p rows fixed
+moves_fix d w p (Gone c ∷ fates) rows fixed = moves_fix d (w + 1) p fates rows (weaker d w p (w + 1) p rows (λ n a b. (omega arith, b)) fixed)
+moves_fix d w p (New e ∷ fates) rows fixed = moves_fix d w (p + 1) fates rows (weaker d w p w (p + 1) rows (λ n a b. (a, omega arith)) fixed)
+
+-- ---- the moves of a deck
+
+pub moves_do : (idents : List Ident) (d w p : ℕ) (fates : List FateView) → all_acts on_cards (moves d w p fates) (kept_from idents d w fates) ≡ kept_to idents d p fates
+moves_do idents d w p [] = refl
+moves_do idents d w p (Kept c e ∷ fates) =
+    acts_append on_cards (move_to d w p) (moves d (p + 1) (p + 1) fates) (kept_from idents d w (Kept c e ∷ fates))
+    ∙ ap (all_acts on_cards (moves d (p + 1) (p + 1) fates)) (move_does idents d w p (Kept c e ∷ fates))
+    ∙ moves_joined (moves d (p + 1) (p + 1) fates) (kept_row idents d p c ∷ []) (kept_from idents d (p + 1) fates) (moves_are d (p + 1) (p + 1) fates)
+    ∙ ap (λ t. t ++ all_acts on_cards (moves d (p + 1) (p + 1) fates) (kept_from idents d (p + 1) fates))
+        (moves_fix d (p + 1) (p + 1) fates (kept_row idents d p c ∷ []) (λ _. (omega arith, omega arith), tt))
+    ∙ ap (λ t. kept_row idents d p c ∷ t) (moves_do idents d (p + 1) (p + 1) fates)
+moves_do idents d w p (Gone c ∷ fates) = moves_do idents d (w + 1) p fates
+moves_do idents d w p (New e ∷ fates) = moves_do idents d w (p + 1) fates
+
+-- ---- the moves of all decks, where no two decks that had cards have one age
+
+abbrev pub ages_before : List DeckFatesView → List ℕ
+ages_before ks = map (λ d. d.ident) (standing (map deck_before ks))
+
+-- where a deck had no cards nothing is kept
+none_from : (idents : List Ident) (d w : ℕ) (fates : List FateView) → flat_map card_before fates ≡ [] → kept_from idents d w fates ≡ []
+none_from idents d w [] e = refl
+none_from idents d w (Kept c x ∷ fates) e = absurd (cc)
+none_from idents d w (Gone c ∷ fates) e = absurd (cc)
+none_from idents d w (New x ∷ fates) e = none_from idents d w fates e
+
+none_to : (idents : List Ident) (d p : ℕ) (fates : List FateView) → flat_map card_before fates ≡ [] → kept_to idents d p fates ≡ []
+none_to idents d p [] e = refl
+none_to idents d p (Kept c x ∷ fates) e = absurd (cc)
+none_to idents d p (Gone c ∷ fates) e = absurd (cc)
+none_to idents d p (New x ∷ fates) e = none_to idents d (p + 1) fates e
+
+none_moves : (d w p : ℕ) (fates : List FateView) → flat_map card_before fates ≡ [] → moves d w p fates ≡ []
+none_moves d w p [] e = refl
+none_moves d w p (Kept c x ∷ fates) e = absurd (cc)
+none_moves d w p (Gone c ∷ fates) e = absurd (cc)
+none_moves d w p (New x ∷ fates) e = none_moves d w (p + 1) fates e
+
+elsewhere_from : (idents : List Ident) (d a w p v : ℕ) (fates : List FateView) → (d ≡ a → ⊥) → AllByRecursion (IsFixed d w p) (kept_from idents a v fates)
+elsewhere_from idents d a w p v [] differ = tt
+elsewhere_from idents d a w p v (Kept c x ∷ fates) differ = (λ e. absurd (differ (sym e)), elsewhere_from idents d a w p (v + 1) fates differ)
+elsewhere_from idents d a w p v (Gone c ∷ fates) differ = elsewhere_from idents d a w p (v + 1) fates differ
+elsewhere_from idents d a w p v (New x ∷ fates) differ = elsewhere_from idents d a w p v fates differ
+
+elsewhere_to : (idents : List Ident) (d a w p v : ℕ) (fates : List FateView) → (d ≡ a → ⊥) → AllByRecursion (IsFixed d w p) (kept_to idents a v fates)
+elsewhere_to idents d a w p v [] differ = tt
+elsewhere_to idents d a w p v (Kept c x ∷ fates) differ = (λ e. absurd (differ (sym e)), elsewhere_to idents d a w p (v + 1) fates differ)
+elsewhere_to idents d a w p v (Gone c ∷ fates) differ = elsewhere_to idents d a w p v fates differ
+elsewhere_to idents d a w p v (New x ∷ fates) differ = elsewhere_to idents d a w p (v + 1) fates differ
+
+-- the rows that stay of all decks, before the moves and after them, and the moves
+abbrev pub all_from : List Ident → List DeckFatesView → List CardRow
+all_from idents ks = flat_map (λ k. kept_from idents k.deck 0 k.fates) ks
+
+abbrev pub all_to : List Ident → List DeckFatesView → List CardRow
+all_to idents ks = flat_map (λ k. kept_to idents k.deck 0 k.fates) ks
+
+abbrev pub all_moves : List DeckFatesView → List ChangeView
+all_moves ks = flat_map (λ k. moves k.deck 0 0 k.fates) ks
+
+-- the decks that had cards, where the first one had these
+abbrev ages_with : DeckFatesView → List CardView → List DeckFatesView → List ℕ
+ages_with k cards ks = map (λ d. d.ident) (standing (record { ident = k.deck; cards = cards } ∷ map deck_before ks))
+
+all_moves_are : (ks : List DeckFatesView) → AllByRecursion IsMove (all_moves ks)
+all_moves_are [] = tt
+all_moves_are (k ∷ ks) = all_joined IsMove (moves k.deck 0 0 k.fates) (all_moves ks) (moves_are k.deck 0 0 k.fates) (all_moves_are ks)
+
+-- the rows of other decks stay under the moves of one
+others_stay : (idents : List Ident) (d : ℕ) (ks : List DeckFatesView) → AllByRecursion (λ a. d ≡ a → ⊥) (ages_before ks)
+    → AllByRecursion (IsFixed d 0 0) (all_from idents ks)
+others_stay idents d [] apart = tt
+others_stay idents d (k ∷ ks) apart = go (flat_map card_before k.fates) refl apart (others_stay idents d ks)
+  where
+    go : (cards : List CardView) → flat_map card_before k.fates ≡ cards → AllByRecursion (λ a. d ≡ a → ⊥) (ages_with k cards ks)
+        → (AllByRecursion (λ a. d ≡ a → ⊥) (ages_before ks) → AllByRecursion (IsFixed d 0 0) (all_from idents ks))
+        → AllByRecursion (IsFixed d 0 0) (kept_from idents k.deck 0 k.fates ++ all_from idents ks)
+    go [] none apart later = rw (none_from idents k.deck 0 k.fates none) (later apart)
+    go (c ∷ cs) some apart later =
+        all_joined (IsFixed d 0 0) (kept_from idents k.deck 0 k.fates) (all_from idents ks) (elsewhere_from idents d k.deck 0 0 0 k.fates apart.0) (later apart.1)
+
+-- the rows of one deck stay under the moves of others
+under_others : (idents : List Ident) (d p : ℕ) (fates : List FateView) (ks : List DeckFatesView) → AllByRecursion (λ a. d ≡ a → ⊥) (ages_before ks)
+    → all_acts on_cards (all_moves ks) (kept_to idents d p fates) ≡ kept_to idents d p fates
+under_others idents d p fates [] apart = refl
+under_others idents d p fates (k ∷ ks) apart =
+    acts_append on_cards (moves k.deck 0 0 k.fates) (all_moves ks) (kept_to idents d p fates)
+    ∙ go (flat_map card_before k.fates) refl apart (under_others idents d p fates ks)
+  where
+    go : (cards : List CardView) → flat_map card_before k.fates ≡ cards → AllByRecursion (λ a. d ≡ a → ⊥) (ages_with k cards ks)
+        → (AllByRecursion (λ a. d ≡ a → ⊥) (ages_before ks) → all_acts on_cards (all_moves ks) (kept_to idents d p fates) ≡ kept_to idents d p fates)
+        → all_acts on_cards (all_moves ks) (all_acts on_cards (moves k.deck 0 0 k.fates) (kept_to idents d p fates)) ≡ kept_to idents d p fates
+    go [] none apart later = rw (none_moves k.deck 0 0 k.fates none) (later apart)
+    go (c ∷ cs) some apart later =
+        rw (moves_fix k.deck 0 0 k.fates (kept_to idents d p fates) (elsewhere_to idents k.deck d 0 0 p fates (λ e. apart.0 (sym e)))) (later apart.1)
+
+pub all_moves_do : (idents : List Ident) (ks : List DeckFatesView) → AreApart (ages_before ks) → all_acts on_cards (all_moves ks) (all_from idents ks) ≡ all_to idents ks
+all_moves_do idents [] apart = refl
+all_moves_do idents (k ∷ ks) apart =
+    acts_append on_cards (moves k.deck 0 0 k.fates) (all_moves ks) (all_from idents (k ∷ ks))
+    ∙ go (flat_map card_before k.fates) refl apart (all_moves_do idents ks)
+  where
+    go : (cards : List CardView) → flat_map card_before k.fates ≡ cards → AreApart (ages_with k cards ks)
+        → (AreApart (ages_before ks) → all_acts on_cards (all_moves ks) (all_from idents ks) ≡ all_to idents ks)
+        → all_acts on_cards (all_moves ks) (all_acts on_cards (moves k.deck 0 0 k.fates) (kept_from idents k.deck 0 k.fates ++ all_from idents ks)) ≡ all_to idents (k ∷ ks)
+    go [] none apart later = rw (none_moves k.deck 0 0 k.fates none, none_from idents k.deck 0 k.fates none, none_to idents k.deck 0 k.fates none) (later apart)
+    go (c ∷ cs) some apart later =
+        ap (all_acts on_cards (all_moves ks)) (moves_joined (moves k.deck 0 0 k.fates) (kept_from idents k.deck 0 k.fates) (all_from idents ks) (moves_are k.deck 0 0 k.fates)
+            ∙ ap (λ t. t ++ all_acts on_cards (moves k.deck 0 0 k.fates) (all_from idents ks)) (moves_do idents k.deck 0 0 k.fates)
+            ∙ ap (λ t. kept_to idents k.deck 0 k.fates ++ t) (moves_fix k.deck 0 0 k.fates (all_from idents ks) (others_stay idents k.deck ks apart.0)))
+        ∙ moves_joined (all_moves ks) (kept_to idents k.deck 0 k.fates) (all_from idents ks) (all_moves_are ks)
+        ∙ ap (λ t. t ++ all_acts on_cards (all_moves ks) (all_from idents ks)) (under_others idents k.deck 0 k.fates ks apart.0)
+        ∙ ap (λ t. kept_to idents k.deck 0 k.fates ++ t) (later apart.1)
