@@ -77,7 +77,7 @@ cards_brought idents d p (Gone c ∷ fates) xs = cards_brought idents d p fates 
 cards_brought idents d p (New e ∷ fates) xs =
     acts_append on_cards (entries_new (ref_of idents e) 0 e.history ++ targets_new (ref_of idents e) 0 e.targets) (brought idents d (p + 1) fates) (xs ++ kept_row idents d p e ∷ [])
     ∙ ap (all_acts on_cards (brought idents d (p + 1) fates)) (idle_acts on_cards (entries_new (ref_of idents e) 0 e.history ++ targets_new (ref_of idents e) 0 e.targets) (xs ++ kept_row idents d p e ∷ [])
-        (idle_append on_cards _ _ (entries_idle_cards (ref_of idents e) 0 e.history) (targets_idle_cards (ref_of idents e) 0 e.targets)))
+    (idle_append on_cards _ _ (entries_idle_cards (ref_of idents e) 0 e.history) (targets_idle_cards (ref_of idents e) 0 e.targets)))
     ∙ cards_brought idents d (p + 1) fates (xs ++ kept_row idents d p e ∷ [])
     ∙ append_assoc xs (kept_row idents d p e ∷ []) (come_cards idents d (p + 1) fates)
 
@@ -100,7 +100,7 @@ entries_brought idents d p (Gone c ∷ fates) xs = entries_brought idents d p fa
 entries_brought idents d p (New e ∷ fates) xs =
     acts_append on_entries (entries_new (ref_of idents e) 0 e.history ++ targets_new (ref_of idents e) 0 e.targets) (brought idents d (p + 1) fates) xs
     ∙ ap (all_acts on_entries (brought idents d (p + 1) fates)) (acts_append on_entries (entries_new (ref_of idents e) 0 e.history) (targets_new (ref_of idents e) 0 e.targets) xs
-        ∙ idle_acts on_entries (targets_new (ref_of idents e) 0 e.targets) _ (targets_idle_entries (ref_of idents e) 0 e.targets) ∙ entries_come (ref_of idents e) 0 e.history xs)
+    ∙ idle_acts on_entries (targets_new (ref_of idents e) 0 e.targets) _ (targets_idle_entries (ref_of idents e) 0 e.targets) ∙ entries_come (ref_of idents e) 0 e.history xs)
     ∙ entries_brought idents d (p + 1) fates (xs ++ come_entries idents (New e))
     ∙ append_assoc xs (come_entries idents (New e)) (flat_map (come_entries idents) fates)
 
@@ -118,8 +118,8 @@ targets_brought idents d p (Gone c ∷ fates) xs = targets_brought idents d p fa
 targets_brought idents d p (New e ∷ fates) xs =
     acts_append on_targets (entries_new (ref_of idents e) 0 e.history ++ targets_new (ref_of idents e) 0 e.targets) (brought idents d (p + 1) fates) xs
     ∙ ap (all_acts on_targets (brought idents d (p + 1) fates)) (acts_append on_targets (entries_new (ref_of idents e) 0 e.history) (targets_new (ref_of idents e) 0 e.targets) xs
-        ∙ ap (all_acts on_targets (targets_new (ref_of idents e) 0 e.targets)) (idle_acts on_targets (entries_new (ref_of idents e) 0 e.history) xs (entries_idle_targets (ref_of idents e) 0 e.history))
-        ∙ targets_come (ref_of idents e) 0 e.targets xs)
+    ∙ ap (all_acts on_targets (targets_new (ref_of idents e) 0 e.targets)) (idle_acts on_targets (entries_new (ref_of idents e) 0 e.history) xs (entries_idle_targets (ref_of idents e) 0 e.history))
+    ∙ targets_come (ref_of idents e) 0 e.targets xs)
     ∙ targets_brought idents d (p + 1) fates (xs ++ come_targets idents (New e))
     ∙ append_assoc xs (come_targets idents (New e)) (flat_map (come_targets idents) fates)
 

@@ -5,3 +5,6 @@ pub mod MoveLemmas
 pub mod ComeLemmas
 pub mod IdentLemmas
 pub mod ToldLemmas
+pub mod FateLemmas
+pub mod LoopLemmas
+pub mod LeadLemmas

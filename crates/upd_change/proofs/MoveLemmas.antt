@@ -139,7 +139,7 @@ moves_do idents d w p (Kept c e ∷ fates) =
     ∙ ap (all_acts on_cards (moves d (p + 1) (p + 1) fates)) (move_does idents d w p (Kept c e ∷ fates))
     ∙ moves_joined (moves d (p + 1) (p + 1) fates) (kept_row idents d p c ∷ []) (kept_from idents d (p + 1) fates) (moves_are d (p + 1) (p + 1) fates)
     ∙ ap (λ t. t ++ all_acts on_cards (moves d (p + 1) (p + 1) fates) (kept_from idents d (p + 1) fates))
-        (moves_fix d (p + 1) (p + 1) fates (kept_row idents d p c ∷ []) (λ _. (omega arith, omega arith), tt))
+    (moves_fix d (p + 1) (p + 1) fates (kept_row idents d p c ∷ []) (λ _. (omega arith, omega arith), tt))
     ∙ ap (λ t. kept_row idents d p c ∷ t) (moves_do idents d (p + 1) (p + 1) fates)
 moves_do idents d w p (Gone c ∷ fates) = moves_do idents d (w + 1) p fates
 moves_do idents d w p (New e ∷ fates) = moves_do idents d w (p + 1) fates
@@ -238,8 +238,8 @@ all_moves_do idents (k ∷ ks) apart =
     go [] none apart later = rw (none_moves k.deck 0 0 k.fates none, none_from idents k.deck 0 k.fates none, none_to idents k.deck 0 k.fates none) (later apart)
     go (c ∷ cs) some apart later =
         ap (all_acts on_cards (all_moves ks)) (moves_joined (moves k.deck 0 0 k.fates) (kept_from idents k.deck 0 k.fates) (all_from idents ks) (moves_are k.deck 0 0 k.fates)
-            ∙ ap (λ t. t ++ all_acts on_cards (moves k.deck 0 0 k.fates) (all_from idents ks)) (moves_do idents k.deck 0 0 k.fates)
-            ∙ ap (λ t. kept_to idents k.deck 0 k.fates ++ t) (moves_fix k.deck 0 0 k.fates (all_from idents ks) (others_stay idents k.deck ks apart.0)))
+        ∙ ap (λ t. t ++ all_acts on_cards (moves k.deck 0 0 k.fates) (all_from idents ks)) (moves_do idents k.deck 0 0 k.fates)
+        ∙ ap (λ t. kept_to idents k.deck 0 k.fates ++ t) (moves_fix k.deck 0 0 k.fates (all_from idents ks) (others_stay idents k.deck ks apart.0)))
         ∙ moves_joined (all_moves ks) (kept_to idents k.deck 0 k.fates) (all_from idents ks) (all_moves_are ks)
         ∙ ap (λ t. t ++ all_acts on_cards (all_moves ks) (all_from idents ks)) (under_others idents k.deck 0 k.fates ks apart.0)
         ∙ ap (λ t. kept_to idents k.deck 0 k.fates ++ t) (later apart.1)

@@ -10,7 +10,7 @@ use Rattle.upd_core.specs.declared.ident.Ident.{Ident}
 use Rattle.upd_core.specs.declared.target.Target.{Target}
 use Rattle.upd_core.specs.Library.{CardView, DeckView, LibraryView, all_decks, ref_of}
 use Rattle.upd_core.specs.Sound.{AreApart, Continues, IsSound, all_cards}
-use Rattle.upd_core.proofs.ApartLemmas.{all_front, all_back}
+use Rattle.upd_core.proofs.ApartLemmas.{all_front, all_back, rising_apart}
 use Rattle.upd_core.proofs.FoundLemmas.{refs_apart}
 use Rattle.upd_change.specs.Rows.{CardRow, EntryRow, TargetRow, Rows, IsSame, Shows, rows_of, card_rows, entry_rows, target_rows}
 use Rattle.upd_change.specs.Changes.{ChangeView, IdentNew, IdentPurged, CardsMoved, EntriesGone, TargetsGone, CardGone, done_all}
@@ -79,9 +79,11 @@ brought_idle idents d p (Kept c x ∷ fates) = idle_append on_idents (grown iden
     one false = entries_new_idle (ref_of idents c) 0 x.history
 brought_idle idents d p (Gone c ∷ fates) = brought_idle idents d p fates
 brought_idle idents d p (New x ∷ fates) =
-    idle_append on_idents (card_new idents d p x) (brought idents d (p + 1) fates)
-    (refl, idle_append on_idents (entries_new (ref_of idents x) 0 x.history) (targets_new (ref_of idents x) 0 x.targets)
-        (entries_new_idle (ref_of idents x) 0 x.history) (targets_new_idle (ref_of idents x) 0 x.targets))
+    idle_append on_idents (card_new idents d p x) (brought idents d (p + 1) fates) (
+      refl,
+      idle_append on_idents (entries_new (ref_of idents x) 0 x.history) (targets_new (ref_of idents x) 0 x.targets)
+          (entries_new_idle (ref_of idents x) 0 x.history) (targets_new_idle (ref_of idents x) 0 x.targets),
+    )
     (brought_idle idents d (p + 1) fates)
 
 -- ---- told changes, a table at a time
@@ -105,30 +107,30 @@ module _ (idents : List Ident) (ks : List DeckFatesView) where
   cards_idle xs = idle_acts on_idents (cards_told idents ks) xs
       (idle_append on_idents all_gone (all_moves ks ++ all_brought) (idle_flat on_idents (λ k. flat_map (gone_of idents) k.fates) (λ k. idle_flat on_idents (gone_of idents) (gone_idle idents) k.fates) ks)
       (idle_append on_idents (all_moves ks) all_brought (idle_flat on_idents (λ k. moves k.deck 0 0 k.fates) (λ k. moves_idle on_idents (λ d f by. refl) k.deck 0 0 k.fates) ks)
-          (idle_flat on_idents (λ k. brought idents k.deck 0 k.fates) (λ k. brought_idle idents k.deck 0 k.fates) ks)))
+      (idle_flat on_idents (λ k. brought idents k.deck 0 k.fates) (λ k. brought_idle idents k.deck 0 k.fates) ks)))
 
   cards_acted : (xs : List CardRow) → all_acts on_cards (cards_told idents ks) xs
       ≡ all_acts on_cards (all_moves ks) (without card_of (keys card_goes) xs) ++ flat_map (λ k. come_cards idents k.deck 0 k.fates) ks
   cards_acted xs = phases on_cards xs ∙ all_cards_brought idents ks (all_acts on_cards (all_moves ks) (all_acts on_cards all_gone xs))
       ∙ ap (λ t. all_acts on_cards (all_moves ks) t ++ flat_map (λ k. come_cards idents k.deck 0 k.fates) ks)
-          (acts_without on_cards card_of (λ k. flat_map (gone_of idents) k.fates) (λ k. flat_map (key_of idents card_goes) k.fates)
-              (λ k ys. acts_without on_cards card_of (gone_of idents) (key_of idents card_goes) (cards_gone idents) k.fates ys) ks xs)
+      (acts_without on_cards card_of (λ k. flat_map (gone_of idents) k.fates) (λ k. flat_map (key_of idents card_goes) k.fates)
+      (λ k ys. acts_without on_cards card_of (gone_of idents) (key_of idents card_goes) (cards_gone idents) k.fates ys) ks xs)
 
   entries_acted : (xs : List EntryRow) → all_acts on_entries (cards_told idents ks) xs
       ≡ without entry_of (keys entries_go) xs ++ flat_map (λ k. flat_map (come_entries idents) k.fates) ks
   entries_acted xs = phases on_entries xs ∙ all_entries_brought idents ks (all_acts on_entries (all_moves ks) (all_acts on_entries all_gone xs))
       ∙ ap (λ t. t ++ flat_map (λ k. flat_map (come_entries idents) k.fates) ks)
-          (idle_acts on_entries (all_moves ks) _ (idle_flat on_entries (λ k. moves k.deck 0 0 k.fates) (λ k. moves_idle on_entries (λ d f by. refl) k.deck 0 0 k.fates) ks)
-          ∙ acts_without on_entries entry_of (λ k. flat_map (gone_of idents) k.fates) (λ k. flat_map (key_of idents entries_go) k.fates)
-              (λ k ys. acts_without on_entries entry_of (gone_of idents) (key_of idents entries_go) (entries_gone idents) k.fates ys) ks xs)
+      (idle_acts on_entries (all_moves ks) _ (idle_flat on_entries (λ k. moves k.deck 0 0 k.fates) (λ k. moves_idle on_entries (λ d f by. refl) k.deck 0 0 k.fates) ks)
+      ∙ acts_without on_entries entry_of (λ k. flat_map (gone_of idents) k.fates) (λ k. flat_map (key_of idents entries_go) k.fates)
+      (λ k ys. acts_without on_entries entry_of (gone_of idents) (key_of idents entries_go) (entries_gone idents) k.fates ys) ks xs)
 
   targets_acted : (xs : List TargetRow) → all_acts on_targets (cards_told idents ks) xs
       ≡ without target_of (keys targets_go) xs ++ flat_map (λ k. flat_map (come_targets idents) k.fates) ks
   targets_acted xs = phases on_targets xs ∙ all_targets_brought idents ks (all_acts on_targets (all_moves ks) (all_acts on_targets all_gone xs))
       ∙ ap (λ t. t ++ flat_map (λ k. flat_map (come_targets idents) k.fates) ks)
-          (idle_acts on_targets (all_moves ks) _ (idle_flat on_targets (λ k. moves k.deck 0 0 k.fates) (λ k. moves_idle on_targets (λ d f by. refl) k.deck 0 0 k.fates) ks)
-          ∙ acts_without on_targets target_of (λ k. flat_map (gone_of idents) k.fates) (λ k. flat_map (key_of idents targets_go) k.fates)
-              (λ k ys. acts_without on_targets target_of (gone_of idents) (key_of idents targets_go) (targets_gone idents) k.fates ys) ks xs)
+      (idle_acts on_targets (all_moves ks) _ (idle_flat on_targets (λ k. moves k.deck 0 0 k.fates) (λ k. moves_idle on_targets (λ d f by. refl) k.deck 0 0 k.fates) ks)
+      ∙ acts_without on_targets target_of (λ k. flat_map (gone_of idents) k.fates) (λ k. flat_map (key_of idents targets_go) k.fates)
+      (λ k ys. acts_without on_targets target_of (gone_of idents) (key_of idents targets_go) (targets_gone idents) k.fates ys) ks xs)
 
 -- ---- lists of lists
 
@@ -207,15 +209,15 @@ apart_filter f test (x ∷ xs) apart = go (test x) (all_kept_of (λ y. f x ≡ y
 
 -- ---- the law
 
-module _ (old new : LibraryView) (ks : List DeckFatesView) (sound : IsSound old) (goes : Continues old.idents new.idents) (lead : Lead old new ks) where
+module _ (old new : LibraryView) (ks : List DeckFatesView) (sound : IsSound old) (goes : Continues old.idents new.idents) (lead : Lead (all_decks old) (all_decks new) ks) where
   abbrev fates : List FateView
   fates = flat_map (λ k. k.fates) ks
 
   before_is : flat_map card_before fates ≡ all_cards old
-  before_is = flat_twice card_before (λ k. k.fates) ks ∙ same_standing (λ d. d.cards) (λ d. refl) deck_before ks (all_decks old) lead.before
+  before_is = flat_twice card_before (λ k. k.fates) ks ∙ same_standing (λ d. d.cards) (λ d. refl) deck_before ks (all_decks old) lead.olds
 
   after_is : flat_map card_after fates ≡ all_cards new
-  after_is = flat_twice card_after (λ k. k.fates) ks ∙ same_standing (λ d. d.cards) (λ d. refl) deck_after ks (all_decks new) lead.after
+  after_is = flat_twice card_after (λ k. k.fates) ks ∙ same_standing (λ d. d.cards) (λ d. refl) deck_after ks (all_decks new) lead.news
 
   stay : AllByRecursion (λ c. ref_of new.idents c ≡ ref_of old.idents c) (all_cards old)
   stay = refs_stay old new.idents sound goes (all_cards old) sound.cards
@@ -231,7 +233,7 @@ module _ (old new : LibraryView) (ks : List DeckFatesView) (sound : IsSound old)
   all_kept = all_flat IsKept (λ k. k.fates) ks lead.kept
 
   ages_apart : AreApart (ages_before ks)
-  ages_apart = subst (λ ds. AreApart (map (λ d. d.ident) ds)) (sym lead.before) (apart_filter (λ d. d.ident) has_cards (all_decks old) sound.deck_ages)
+  ages_apart = subst (λ ds. AreApart (map (λ d. d.ident) ds)) (sym lead.olds) (apart_filter (λ d. d.ident) has_cards (all_decks old) (rising_apart (map (λ d. d.ident) (all_decks old)) sound.deck_ages))
 
   -- what is told of the directory leaves the other tables alone
   past_idents : {A : Type 0} (e : ChangeView → Effect A) (xs : List A) → AreIdle e (idents_told old.idents new.idents)
@@ -248,20 +250,20 @@ module _ (old new : LibraryView) (ks : List DeckFatesView) (sound : IsSound old)
   old_cards : (rows_of old).cards ≡ flat_map (λ k. card_rows new.idents k.deck 0 (flat_map card_before k.fates)) ks
   old_cards =
       deck_rows_agree old.idents new.idents (all_decks old) stay
-      ∙ sym (same_standing (λ d. card_rows new.idents d.ident 0 d.cards) (λ d. refl) deck_before ks (all_decks old) lead.before)
+      ∙ sym (same_standing (λ d. card_rows new.idents d.ident 0 d.cards) (λ d. refl) deck_before ks (all_decks old) lead.olds)
 
   cards_are : IsSame (all_acts on_cards (told old.idents new.idents ks) (rows_of old).cards) (rows_of new).cards
   cards_are =
       same_trans (same_of _ _ (
-          past_idents on_cards (rows_of old).cards (idents_idle on_cards (λ i. refl) (λ z. refl) old.idents new.idents)
-          ∙ ap (all_acts on_cards (cards_told new.idents ks)) old_cards
-          ∙ cards_acted new.idents ks (flat_map (λ k. card_rows new.idents k.deck 0 (flat_map card_before k.fates)) ks)
-          ∙ ap (λ t. all_acts on_cards (all_moves ks) t ++ flat_map (λ k. come_cards new.idents k.deck 0 k.fates) ks)
-              (cards_left new.idents (keys new.idents ks card_goes) ks (all_split (Fits new.idents card_goes (keys new.idents ks card_goes)) (λ k. k.fates) ks (fit card_goes)))
-          ∙ ap (λ t. t ++ flat_map (λ k. come_cards new.idents k.deck 0 k.fates) ks) (all_moves_do new.idents ks ages_apart)))
+      past_idents on_cards (rows_of old).cards (idents_idle on_cards (λ i. refl) (λ z. refl) old.idents new.idents)
+      ∙ ap (all_acts on_cards (cards_told new.idents ks)) old_cards
+      ∙ cards_acted new.idents ks (flat_map (λ k. card_rows new.idents k.deck 0 (flat_map card_before k.fates)) ks)
+      ∙ ap (λ t. all_acts on_cards (all_moves ks) t ++ flat_map (λ k. come_cards new.idents k.deck 0 k.fates) ks)
+      (cards_left new.idents (keys new.idents ks card_goes) ks (all_split (Fits new.idents card_goes (keys new.idents ks card_goes)) (λ k. k.fates) ks (fit card_goes)))
+      ∙ ap (λ t. t ++ flat_map (λ k. come_cards new.idents k.deck 0 k.fates) ks) (all_moves_do new.idents ks ages_apart)))
       (same_trans (same_woven (λ k. AllByRecursion IsKept k.fates) (λ k. kept_to new.idents k.deck 0 k.fates) (λ k. come_cards new.idents k.deck 0 k.fates)
-          (λ k. card_rows new.idents k.deck 0 (flat_map card_after k.fates)) (cards_woven new.idents) ks lead.kept)
-          (same_of _ _ (same_standing (λ d. card_rows new.idents d.ident 0 d.cards) (λ d. refl) deck_after ks (all_decks new) lead.after)))
+      (λ k. card_rows new.idents k.deck 0 (flat_map card_after k.fates)) (cards_woven new.idents) ks lead.kept)
+      (same_of _ _ (same_standing (λ d. card_rows new.idents d.ident 0 d.cards) (λ d. refl) deck_after ks (all_decks new) lead.news)))
 
   -- entries and targets: rows of a card, whatever its place
   module _ {A : Type 0} (e : ChangeView → Effect A) (card : A → CardRef) (row : CardRef → CardView → List A) (mark : FateView → Bool) (come : FateView → List A)
@@ -269,18 +271,18 @@ module _ (old new : LibraryView) (ks : List DeckFatesView) (sound : IsSound old)
       (idle : AreIdle e (idents_told old.idents new.idents))
       (acted : (xs : List A) → all_acts e (cards_told new.idents ks) xs ≡ without card (keys new.idents ks mark) xs ++ flat_map (λ k. flat_map come k.fates) ks)
       (woven : (f : FateView) → IsKept f
-          → IsSame (staying mark (λ c. row (ref_of new.idents c) c) f ++ come f) (flat_map (λ c. row (ref_of new.idents c) c) (card_after f))) where
+      → IsSame (staying mark (λ c. row (ref_of new.idents c) c) f ++ come f) (flat_map (λ c. row (ref_of new.idents c) c) (card_after f))) where
     rows_are : IsSame (all_acts e (told old.idents new.idents ks) (flat_map (λ c. row (ref_of old.idents c) c) (all_cards old)))
         (flat_map (λ c. row (ref_of new.idents c) c) (all_cards new))
     rows_are =
         same_trans (same_of _ _ (
-            past_idents e (flat_map (λ c. row (ref_of old.idents c) c) (all_cards old)) idle
-            ∙ ap (all_acts e (cards_told new.idents ks)) (rows_agree row old.idents new.idents (all_cards old) stay ∙ ap (flat_map (λ c. row (ref_of new.idents c) c)) (sym before_is))
-            ∙ acted (flat_map (λ c. row (ref_of new.idents c) c) (flat_map card_before fates))
-            ∙ ap (λ t. t ++ flat_map (λ k. flat_map come k.fates) ks) (rows_left card new.idents (λ c. row (ref_of new.idents c) c) mark (keys new.idents ks mark) own fates (fit mark))
-            ∙ ap (λ t. flat_map (staying mark (λ c. row (ref_of new.idents c) c)) fates ++ t) (sym (flat_twice come (λ k. k.fates) ks))))
+        past_idents e (flat_map (λ c. row (ref_of old.idents c) c) (all_cards old)) idle
+        ∙ ap (all_acts e (cards_told new.idents ks)) (rows_agree row old.idents new.idents (all_cards old) stay ∙ ap (flat_map (λ c. row (ref_of new.idents c) c)) (sym before_is))
+        ∙ acted (flat_map (λ c. row (ref_of new.idents c) c) (flat_map card_before fates))
+        ∙ ap (λ t. t ++ flat_map (λ k. flat_map come k.fates) ks) (rows_left card new.idents (λ c. row (ref_of new.idents c) c) mark (keys new.idents ks mark) own fates (fit mark))
+        ∙ ap (λ t. flat_map (staying mark (λ c. row (ref_of new.idents c) c)) fates ++ t) (sym (flat_twice come (λ k. k.fates) ks))))
         (same_trans (same_woven IsKept (staying mark (λ c. row (ref_of new.idents c) c)) come (λ f. flat_map (λ c. row (ref_of new.idents c) c) (card_after f)) woven fates all_kept)
-            (same_of _ _ (sym (flat_twice (λ c. row (ref_of new.idents c) c) card_after fates) ∙ ap (flat_map (λ c. row (ref_of new.idents c) c)) after_is)))
+        (same_of _ _ (sym (flat_twice (λ c. row (ref_of new.idents c) c) card_after fates) ∙ ap (flat_map (λ c. row (ref_of new.idents c) c)) after_is)))
 
   pub told_shows : (rows : Rows) → Shows rows old → Shows (done_all (told old.idents new.idents ks) rows) new
   told_shows rows shows = record {
@@ -290,10 +292,10 @@ module _ (old new : LibraryView) (ks : List DeckFatesView) (sound : IsSound old)
         (same_trans (acts_same on_cards (told old.idents new.idents ks) shows.cards) cards_are);
     entries = same_trans (same_of _ _ (entries_after (told old.idents new.idents ks) rows))
         (same_trans (acts_same on_entries (told old.idents new.idents ks) shows.entries)
-            (rows_are on_entries entry_of (λ r c. entry_rows r 0 c.history) entries_go (come_entries new.idents) (entries_are_of new.idents)
-                (idents_idle on_entries (λ i. refl) (λ z. refl) old.idents new.idents) (entries_acted new.idents ks) (entries_woven new.idents)));
+        (rows_are on_entries entry_of (λ r c. entry_rows r 0 c.history) entries_go (come_entries new.idents) (entries_are_of new.idents)
+        (idents_idle on_entries (λ i. refl) (λ z. refl) old.idents new.idents) (entries_acted new.idents ks) (entries_woven new.idents)));
     targets = same_trans (same_of _ _ (targets_after (told old.idents new.idents ks) rows))
         (same_trans (acts_same on_targets (told old.idents new.idents ks) shows.targets)
-            (rows_are on_targets target_of (λ r c. target_rows r 0 c.targets) targets_go (come_targets new.idents) (targets_are_of new.idents)
-                (idents_idle on_targets (λ i. refl) (λ z. refl) old.idents new.idents) (targets_acted new.idents ks) (targets_woven new.idents)));
+        (rows_are on_targets target_of (λ r c. target_rows r 0 c.targets) targets_go (come_targets new.idents) (targets_are_of new.idents)
+        (idents_idle on_targets (λ i. refl) (λ z. refl) old.idents new.idents) (targets_acted new.idents ks) (targets_woven new.idents)));
   }

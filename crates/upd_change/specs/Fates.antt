@@ -1,7 +1,7 @@
 -- What became of the cards of a library, deck by deck.
 use Rattle.std.specs.Prelude.{◌≡◌, ℕ, Bool, true, List, [], ◌∷◌, map}
 use Rattle.std.specs.List.{list_any, filter, flat_map, AllByRecursion}
-use Rattle.upd_core.specs.Library.{CardView, DeckView, LibraryView, all_decks}
+use Rattle.upd_core.specs.Library.{CardView, DeckView}
 use Rattle.upd_change.specs.declared.fates.Fate.{Fate}
 use Rattle.upd_change.specs.declared.fates.Fate.TheVariants as seen
 
@@ -55,8 +55,20 @@ has_cards d = list_any (λ c. true) d.cards
 abbrev pub standing : List DeckView → List DeckView
 standing decks = filter has_cards decks
 
--- Fates lead from one library to another: the cards before, in order, are those of the one, the cards after are those of the other.
-pub record Lead (old new : LibraryView) (decks : List DeckFatesView) : Type 0 where
-  pub before : standing (map deck_before decks) ≡ standing (all_decks old)
-  pub after : standing (map deck_after decks) ≡ standing (all_decks new)
+-- Fates are those of cards: in order, the cards before are these, and the cards after are those.
+pub record AreFates (before after : List CardView) (fates : List FateView) : Type 0 where
+  pub olds : flat_map card_before fates ≡ before
+  pub news : flat_map card_after fates ≡ after
+  pub kept : AllByRecursion IsKept fates
+
+-- Fates lead from decks to decks, those without cards aside.
+pub record Lead (before after : List DeckView) (decks : List DeckFatesView) : Type 0 where
+  pub olds : standing (map deck_before decks) ≡ standing before
+  pub news : standing (map deck_after decks) ≡ standing after
   pub kept : AllByRecursion (λ k. AllByRecursion IsKept k.fates) decks
+
+-- a fate of the next card before or of the next card after, or of both where these are one
+abbrev pub IsNextOf : CardView → CardView → FateView → Type 0
+IsNextOf was is (Kept c d) = (c ≡ was) × (d ≡ is) × IsKept (Kept c d)
+IsNextOf was is (Gone c) = c ≡ was
+IsNextOf was is (New d) = d ≡ is

@@ -2,8 +2,12 @@
 #![tactic(auto)]
 
 pub mod change;
+mod decks;
+pub mod difference;
 mod fates;
 pub mod run_row;
+mod told;
 
 pub use change::Change;
+pub use difference::changes;
 pub use run_row::RunRow;

@@ -1,0 +1,26 @@
+-- Steps of the loops that tell fates.
+use Rattle.std.proofs.Common.{◌≡◌, ℕ, ◌+◌, ◌<◌, Bool, true, false, List, [], ◌∷◌, map, length, drop, get_or, refl, ap, sym, ◌∙◌, arith}
+use Rattle.std.specs.Prelude.{◌&&◌}
+use Rattle.std.proofs.lemmas.List.{drop_more}
+use Rattle.upd_core.specs.declared.card.Entry.{Entry}
+use Rattle.upd_core.specs.declared.ident.Ident.{Ident}
+use Rattle.upd_change.specs.declared.fates.Fate.{Fate}
+use Rattle.upd_change.specs.Fates.{fate_seen}
+use Rattle.upd_change.specs.Told.{begins, idents_told, same_entry}
+
+-- the fates from an index on
+pub next_fates : (xs : List Fate) (i : ℕ) (x : Fate) → i < length xs → x ≡ get_or xs i x → map fate_seen (drop i xs) ≡ fate_seen x ∷ map fate_seen (drop (i + 1) xs)
+next_fates xs i x within is = ap (map fate_seen) (drop_more xs i x within) ∙ ap (λ y. fate_seen y ∷ map fate_seen (drop (i + 1) xs)) (sym is)
+
+pub no_idents_more : (old : List Ident) → idents_told old [] ≡ []
+no_idents_more [] = refl
+no_idents_more (i ∷ old) = refl
+
+and_none : (a b : Bool) → b ≡ false → (a && b) ≡ false
+and_none true b e = e
+and_none false b e = refl
+
+pub too_short : (es fs : List Entry) → length fs < length es → begins es fs ≡ false
+too_short [] fs short = absurd (omega arith)
+too_short (e ∷ es) [] short = refl
+too_short (e ∷ es) (f ∷ fs) short = and_none (same_entry e f) (begins es fs) (too_short es fs (omega arith))
