@@ -16,3 +16,5 @@ pub mod SoundPlaces
 pub mod SoundRuns
 pub mod SoundSteps
 pub mod SoundYanks
+pub mod ReadLineLemmas
+pub mod ReadRunLemmas

@@ -58,7 +58,7 @@ step_sound line s t sound h = done_sound line.item line.text s t sound h
 
 -- ---- runs
 
-line_is : (n : ℕ) (r : Result State FaultKind) (x : State) → at_line n r ≡ Ok x → r ≡ Ok x
+pub line_is : (n : ℕ) (r : Result State FaultKind) (x : State) → at_line n r ≡ Ok x → r ≡ Ok x
 line_is n (Ok y) x e = holds_of (λ z. ◌≡◌ {A = Result State FaultKind} (Ok y) (Ok z)) y x e refl
 line_is n (Err kind) x e = absurd (cc)
 
@@ -83,7 +83,7 @@ pub started_sound : (l : LibraryView) → IsSound l → IsSoundState (started l)
 started_sound l s = record { library = s; hand = tt; spot = tt }
 
 -- what holds of the library of each state that lines reach holds of what a run leaves
-reached_by : (P : LibraryView → Type 0) (lines : List LineView) (l : LibraryView) (r : Reached) → ((s : State) → stepped lines (started l) ≡ Ok s → P s.library) → applied lines l ≡ Ok r → P r.library
+pub reached_by : (P : LibraryView → Type 0) (lines : List LineView) (l : LibraryView) (r : Reached) → ((s : State) → stepped lines (started l) ≡ Ok s → P s.library) → applied lines l ≡ Ok r → P r.library
 reached_by P lines l r k h =
     through (stepped lines (started l)) _ r (P r.library) h (λ s e h1.
     through (named_decks lines s.library) _ r (P r.library) h1 (λ decks f h2. holds_of (λ (r : Reached). P r.library) _ r h2 (k s e)))

@@ -1,2 +1,3 @@
 pub mod PurgingBack
 pub mod Soundness
+pub mod ReadRuns

@@ -5,4 +5,5 @@
 
 pub mod numbers;
 pub mod purging_back;
+pub mod read_runs;
 pub mod soundness;

@@ -1,0 +1,26 @@
+-- What names and cards are like in a library that runs have made as they were read.
+use Rattle.std.specs.Prelude.{◌≡◌, ℕ, ◌<◌, ◌≤◌, IsTrue, List, length, Ok}
+use Rattle.std.specs.List.{list_all, AllByRecursion}
+use Rattle.upd_text.specs.declared.limits.TheConstants.{MAX_LINE_BYTES, MAX_RUN_LINES}
+use Rattle.upd_text.specs.Names.{is_name}
+use Rattle.upd_core.specs.Library.{CardView, LibraryView}
+use Rattle.upd_core.specs.Sound.{all_cards}
+use Rattle.upd_deck.specs.Items.{LineView}
+use Rattle.upd_deck.specs.Reading.{is_allowed, reading}
+
+-- the lines are the reading of some bytes
+abbrev pub WereRead : List LineView → Type 0
+WereRead lines = (bytes : List ℕ) × (reading bytes ≡ Ok lines)
+
+-- a text as a line has it: at most 80 bytes, all of them allowed
+abbrev pub IsLineText : List ℕ → Type 0
+IsLineText text = (length text ≤ MAX_LINE_BYTES) × IsTrue (list_all is_allowed text)
+
+-- a card as a run brings it: its text is a line's, and its number is 1 to 2,000, since a set or a new deck takes cards in one run alone
+abbrev pub IsOfRun : CardView → Type 0
+IsOfRun c = IsLineText c.text × (0 < c.number) × (c.number ≤ MAX_RUN_LINES)
+
+-- What holds of the directory and the cards.
+pub record IsMadeByRuns (l : LibraryView) : Type 0 where
+  pub names : AllByRecursion (λ i. IsTrue (is_name i.name)) l.idents
+  pub cards : AllByRecursion IsOfRun (all_cards l)
