@@ -16,7 +16,8 @@ entered_left e [] = refl
 entered_left e (c ∷ cs) = rw (pushed_left c.history e, entered_left e cs) refl
 
 -- where the next card x gets no entry, those that have it lose it again
-pub all_left : (e : Entry) (first cards : List CardView) (i : ℕ) (d x y : CardView) → i < length first → cards ≡ map (entered e) (take i first) ++ drop i first →
+pub all_left : (e : Entry) (first cards : List CardView) (i : ℕ) (d x y : CardView) → i < length first →
+    cards ≡ map (entered e) (take i first) ++ drop i first →
     x ≡ get_or cards i d → y ≡ x → map without_last (take i (set cards i y)) ++ drop i (set cards i y) ≡ first
 all_left e first cards i d x y within so_far read same =
     let kept : set cards i y ≡ cards = ap (set cards i) (same ∙ read) ∙ set-get_or cards i d in

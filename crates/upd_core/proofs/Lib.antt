@@ -1,9 +1,9 @@
 pub mod StatusLaws
 pub mod TargetLaws
-pub mod LiveLaw
-pub mod InPlace
-pub mod FirstLaws
-pub mod CountLaws
+pub mod WellFoundedLemmas
+pub mod InPlaceLemmas
+pub mod FirstLemmas
+pub mod CountLemmas
 pub mod ApartLemmas
 pub mod FoundLemmas
 pub mod YankLemmas

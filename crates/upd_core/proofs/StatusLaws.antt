@@ -1,5 +1,6 @@
 -- Facts about histories and live cards.
-use Rattle.std.proofs.Common.{◌≡◌, ℕ, ◌+◌, ◌-◌, ◌<◌, ◌≤◌, ◌==◌, Bool, true, false, not, if◌then◌else◌, List, [], ◌∷◌, ◌++◌, length, take, get_or, slice_get, map, Option, Some, None, refl, sym, ap, ◌∙◌, append-nil, arith}
+use Rattle.std.proofs.Common.{◌≡◌, ℕ, ◌+◌, ◌-◌, ◌<◌, ◌≤◌, ◌==◌, Bool, true, false, not, if◌then◌else◌, List, [], ◌∷◌, ◌++◌, length, take, get_or, slice_get}
+use Rattle.std.proofs.Common.{map, Option, Some, None, refl, sym, ap, ◌∙◌, append-nil, arith}
 use Rattle.std.specs.List.{filter}
 use Rattle.std.specs.Option.{option_and_then}
 use Rattle.std.proofs.lemmas.Bool.Decides.{nat_tests}
@@ -24,7 +25,8 @@ ends_on-push (c ∷ d ∷ es) e = ends_on-push (d ∷ es) e
 pub stays_on-push : (taken : ℕ → Bool) (es : List Entry) (e : Entry) → stays_on taken (es ++ e ∷ []) ≡ (if taken e.ident then stays_on taken es else e.active)
 stays_on-push taken es e =
     rw (filter-append (λ (e : Entry). not (taken e.ident)) es (e ∷ [])) (
-    elim (taken e.ident) as (λ b. ends_on (filter (λ (e : Entry). not (taken e.ident)) es ++ (if not b then e ∷ [] else [])) ≡ (if b then stays_on taken es else e.active))
+    elim (taken e.ident) as (λ b. ends_on (filter (λ (e : Entry). not (taken e.ident)) es ++ (if not b then e ∷ [] else [])) ≡
+    (if b then stays_on taken es else e.active))
     [ true ↦ rw append-nil refl | false ↦ ends_on-push (filter (λ (d : Entry). not (taken d.ident)) es) e ])
 
 -- the same of the front of a history
@@ -42,7 +44,8 @@ is_other n apart = grind (arith, nat_tests)
 yank_at-place_in : (l : LibraryView) (ds : List DeckView) (ident number : ℕ) → AreApart (map (λ d. d.ident) (record { ident = 0; cards = l.yanks } ∷ ds)) →
     option_and_then (yank_at l) (place_in ds ident number) ≡ None
 yank_at-place_in l [] ident number apart = refl
-yank_at-place_in l (d ∷ ds) ident number apart = found (index_from (is_card ident number) 0 d.cards) refl (yank_at-place_in l ds ident number (apart.0.1, apart.1.1))
+yank_at-place_in l (d ∷ ds) ident number apart = found (index_from (is_card ident number) 0 d.cards) refl
+    (yank_at-place_in l ds ident number (apart.0.1, apart.1.1))
   where
     found : (o : Option ℕ) → index_from (is_card ident number) 0 d.cards ≡ o → option_and_then (yank_at l) (place_in ds ident number) ≡ None →
         option_and_then (yank_at l) (place_in (d ∷ ds) ident number) ≡ None
@@ -50,11 +53,13 @@ yank_at-place_in l (d ∷ ds) ident number apart = found (index_from (is_card id
     found None is later = rw is later
 
 live_yank-at : (l : LibraryView) (ident number : ℕ) → AreApart (map (λ d. d.ident) (all_decks l)) →
-    option_and_then (slice_get (liveness l.yanks)) (index_from (is_card ident number) 0 l.yanks) ≡ option_and_then (yank_at l) (place_in (all_decks l) ident number)
+    option_and_then (slice_get (liveness l.yanks)) (index_from (is_card ident number) 0 l.yanks) ≡
+    option_and_then (yank_at l) (place_in (all_decks l) ident number)
 live_yank-at l ident number apart = found (index_from (is_card ident number) 0 l.yanks) refl (yank_at-place_in l l.decks ident number apart)
   where
     found : (o : Option ℕ) → index_from (is_card ident number) 0 l.yanks ≡ o → option_and_then (yank_at l) (place_in l.decks ident number) ≡ None →
-        option_and_then (slice_get (liveness l.yanks)) (index_from (is_card ident number) 0 l.yanks) ≡ option_and_then (yank_at l) (place_in (all_decks l) ident number)
+        option_and_then (slice_get (liveness l.yanks)) (index_from (is_card ident number) 0 l.yanks) ≡
+        option_and_then (yank_at l) (place_in (all_decks l) ident number)
     found (Some i) is later = rw is refl
     found None is later = rw is (sym later)
 

@@ -15,7 +15,7 @@ use Rattle.upd_core.specs.Library.{CardView, LibraryView, card_in, place_of}
 use Rattle.upd_core.specs.Sound.{IsSound}
 use Rattle.upd_core.specs.Status.{takes_deck, is_good, targets_of, marked, liveness, live_cards, live_targets, is_active, status_of, live_of, live_yank}
 use Rattle.upd_core.specs.Status.{yank_at, TakesOlder, IsAged}
-use Rattle.upd_core.proofs.LiveLaw.{all_good_same}
+use Rattle.upd_core.proofs.WellFoundedLemmas.{all_good_same}
 use Rattle.upd_core.proofs.LiveLemmas.{good_before, bad_before}
 use Rattle.upd_core.proofs.StatusLaws.{live_yank-place_of}
 

@@ -1,4 +1,4 @@
-pub mod CardRefLaws
+pub mod CardRefLemmas
 pub mod SplitLemmas
 pub mod EachLemmas
 pub mod OrderLemmas

@@ -1,5 +1,6 @@
 -- What a list is cut into at the first element that passes a test.
-use Rattle.std.proofs.Common.{◌≡◌, ℕ, ◌+◌, ◌-◌, suc, Bool, true, false, cond, not, nat_lt, ◌||◌, List, [], ◌∷◌, length, take, drop, Option, Some, None, IfNone, is_some, position, sym, ap, ◌∙◌, refl, arith}
+use Rattle.std.proofs.Common.{◌≡◌, ℕ, ◌+◌, ◌-◌, suc, Bool, true, false, cond, not, nat_lt, ◌||◌, List, [], ◌∷◌, length, take, drop, Option, Some, None, IfNone}
+use Rattle.std.proofs.Common.{is_some, position, sym, ap, ◌∙◌, refl, arith}
 use Rattle.std.specs.List.{list_any, position_or_len, slice_split, onto_first}
 use Rattle.std.proofs.lemmas.Bool.Decides.{nat_tests}
 use Rattle.std.proofs.lemmas.List.Splits.{slice_split_first}

@@ -3,18 +3,20 @@ use Rattle.std.specs.Option.{option_map_or}
 use Rattle.upd_core.specs.Library.{DeckView, is_deck}
 use Rattle.upd_core.specs.Parts.{entered_count}
 use Rattle.upd_core.specs.Edits.{entered_range}
-use Rattle.upd_core.proofs.FirstLaws.{at_first_found, at_first_none, find_found, find_missed}
+use Rattle.upd_core.proofs.FirstLemmas.{at_first_found, at_first_none, find_found, find_missed}
 use Rattle.upd_core.proofs.edits.enter_in.Goals as goal
 
 pub returns-in_ok-count-clause-ok : goal.returns-in_ok-count-clause-ok
 returns-in_ok-count-clause-ok c =
     let change : DeckView → DeckView = λ d. record d { cards = entered_range c.args.from c.args.to c.args.entry d.cards } in
-    at_first_found (is_deck c.args.age) change c.args.decks.now.items c.in-Some.i _ _ _ (rw c.deref.ensures.value at c.in-Some.ensures.first) (c.deck.view_is ∙ c.index_mut-deck.ensures.value) (rw c.in_ok-count.ensures.ok)
+    at_first_found (is_deck c.args.age) change c.args.decks.now.items c.in-Some.i _ _ _ (rw c.deref.ensures.value at c.in-Some.ensures.first)
+    (c.deck.view_is ∙ c.index_mut-deck.ensures.value) (rw c.in_ok-count.ensures.ok)
 
 pub returns-in_ok-count-clause-count : goal.returns-in_ok-count-clause-count
 returns-in_ok-count-clause-count c =
     let gain : DeckView → ℕ = λ d. entered_count c.args.from c.args.to d.cards in
-    let found = find_found (is_deck c.args.age) c.args.decks.now.items c.in-Some.i _ _ (rw c.deref.ensures.value at c.in-Some.ensures.first) (c.deck.view_is ∙ c.index_mut-deck.ensures.value) in
+    let found = find_found (is_deck c.args.age) c.args.decks.now.items c.in-Some.i _ _ (rw c.deref.ensures.value at c.in-Some.ensures.first)
+    (c.deck.view_is ∙ c.index_mut-deck.ensures.value) in
     c.in_ok-count.ensures.count ∙ sym (ap (λ o. option_map_or gain o 0) found)
 
 pub returns-in_default-clause-ok : goal.returns-in_default-clause-ok

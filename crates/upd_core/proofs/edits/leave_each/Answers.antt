@@ -1,5 +1,5 @@
 use Rattle.upd_core.specs.Parts.{without_last}
-use Rattle.upd_core.proofs.InPlace.{map_over_more}
+use Rattle.upd_core.proofs.InPlaceLemmas.{map_over_more}
 use Rattle.upd_core.proofs.edits.leave_each.Goals as goal
 
 pub loop-card-preserved : goal.loop-card-preserved

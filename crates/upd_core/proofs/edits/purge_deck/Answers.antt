@@ -1,13 +1,14 @@
 use Rattle.std.proofs.Common.{◌∙◌, ◌==◌}
 use Rattle.upd_core.specs.Edits.{without_idents}
 use Rattle.upd_core.specs.Library.{DeckView, is_deck}
-use Rattle.upd_core.proofs.FirstLaws.{at_first_found, at_first_none}
+use Rattle.upd_core.proofs.FirstLemmas.{at_first_found, at_first_none}
 use Rattle.upd_core.proofs.edits.purge_deck.Goals as goal
 
 pub returns-in-Some : goal.returns-in-Some
 returns-in-Some c =
     let change : DeckView → DeckView = λ d. record d { cards = without_idents (λ x. x == c.args.ident) d.cards } in
-    at_first_found (is_deck c.args.age) change c.args.decks.now.items c.in-Some.i _ _ _ (rw c.deref.ensures.value at c.in-Some.ensures.first) (c.deck.view_is ∙ c.index_mut-deck.ensures.value) (rw c.purge_cards.ensures)
+    at_first_found (is_deck c.args.age) change c.args.decks.now.items c.in-Some.i _ _ _ (rw c.deref.ensures.value at c.in-Some.ensures.first)
+    (c.deck.view_is ∙ c.index_mut-deck.ensures.value) (rw c.purge_cards.ensures)
 
 pub returns-in_default : goal.returns-in_default
 returns-in_default c = at_first_none (is_deck c.args.age) _ c.args.decks.now.items (rw c.deref.ensures.value at c.in_default.ensures.first)

@@ -1,7 +1,7 @@
 use Rattle.std.proofs.Common.{refl}
 use Rattle.upd_core.specs.Edits.{unheld}
 use Rattle.upd_core.specs.Gone.{is_gone}
-use Rattle.upd_core.proofs.InPlace.{map_over_more}
+use Rattle.upd_core.proofs.InPlaceLemmas.{map_over_more}
 use Rattle.upd_core.proofs.gone.unhold.Goals as goal
 
 pub loop-ident-preserved : goal.loop-ident-preserved

@@ -6,10 +6,12 @@ use Rattle.upd_core.proofs.live.stays_on.Goals as goal
 
 pub returns-then-not-takes : goal.returns-then-not-takes
 returns-then-not-takes c =
-    let last = stays_on-take (is_taken c.args.targets.now c.args.deck) c.args.history.now c.loop-i.i (record { ident = 0; active = false }) (omega arith) (omega arith) in
+    let last = stays_on-take (is_taken c.args.targets.now c.args.deck) c.args.history.now c.loop-i.i (record { ident = 0; active = false }) (omega arith)
+    (omega arith) in
     grind (arith, common_steps)
 
 pub loop-i-preserved : goal.loop-i-preserved
 loop-i-preserved c =
-    let last = stays_on-take (is_taken c.args.targets.now c.args.deck) c.args.history.now c.loop-i.i (record { ident = 0; active = false }) (omega arith) (omega arith) in
+    let last = stays_on-take (is_taken c.args.targets.now c.args.deck) c.args.history.now c.loop-i.i (record { ident = 0; active = false }) (omega arith)
+    (omega arith) in
     grind (arith, common_steps)

@@ -1,4 +1,4 @@
-use Rattle.upd_core.proofs.LiveLaw.{solves, only}
+use Rattle.upd_core.proofs.WellFoundedLemmas.{solves, only}
 use Rattle.upd_core.proofs.status_laws.liveness_is_well_founded.Goals as goal
 
 pub returns-clause-solves : goal.returns-clause-solves

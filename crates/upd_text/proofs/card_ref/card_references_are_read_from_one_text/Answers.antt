@@ -1,4 +1,4 @@
-use Rattle.upd_text.proofs.CardRefLaws.{card_text-card_of, card_of_is_reference, card_of-card_text}
+use Rattle.upd_text.proofs.CardRefLemmas.{card_text-card_of, card_of_is_reference, card_of-card_text}
 use Rattle.upd_text.proofs.card_ref.card_references_are_read_from_one_text.Goals as goal
 
 pub returns-clause-written : goal.returns-clause-written

@@ -1,5 +1,6 @@
 -- A card reference has one text.
-use Rattle.std.proofs.Common.{◌≡◌, ℕ, ◌+◌, ◌<◌, ◌≤◌, ◌^◌, ◌==◌, nat_le, zero, suc, Bool, true, false, cond, not, ◌&&◌, List, [], ◌∷◌, ◌++◌, length, take, drop, get_or, decimal, Some, None, IfSome, sym, ap, ◌∙◌, subst, refl, arith, rules, lit<}
+use Rattle.std.proofs.Common.{◌≡◌, ℕ, ◌+◌, ◌<◌, ◌≤◌, ◌^◌, ◌==◌, nat_le, zero, suc, Bool, true, false, cond, not, ◌&&◌, List, [], ◌∷◌, ◌++◌, length, take, drop}
+use Rattle.std.proofs.Common.{get_or, decimal, Some, None, IfSome, sym, ap, ◌∙◌, subst, refl, arith, rules, lit<}
 use Rattle.std.specs.List.{list_all, position_or_len, before_first, after_first}
 use Rattle.std.proofs.lemmas.Bool.{eqb-true, false≢true, and_parts, and_from, cond_both, cond-true}
 use Rattle.std.proofs.lemmas.Bool.Decides.{nat_tests}
@@ -72,13 +73,15 @@ no_point : (name : List ℕ) (ds : List ℕ) → list_all is_name_byte name ≡ 
 no_point [] ds ok = refl
 no_point (b ∷ name) ds ok = more (is_name_byte b) (list_all is_name_byte name) (is_point b) _ (length name) ok (not_point b) (no_point name ds)
   where
-    more : (here later point : Bool) (at n : ℕ) → (here && later) ≡ true → (here ≡ true → point ≡ false) → (later ≡ true → at ≡ n) → cond (not point) (1 + at) 0 ≡ suc n
+    more : (here later point : Bool) (at n : ℕ) → (here && later) ≡ true → (here ≡ true → point ≡ false) → (later ≡ true → at ≡ n) →
+        cond (not point) (1 + at) 0 ≡ suc n
     more here later point at n ok first rest = grind (arith, nat_tests)
 
 -- the digits of a number
 is_card_number-decimal : (n : ℕ) → 0 < n → n < 10 ^ 6 → is_card_number (decimal n) ≡ true
 is_card_number-decimal n low high =
-    of (length (decimal n)) (get_or (decimal n) 0 0) (list_all is_digit (decimal n)) (decimal_nonempty n fits) (length-decimal-le 6 n (lit< tt) high fits) (digits_decimal own n fits) (first_decimal n low fits)
+    of (length (decimal n)) (get_or (decimal n) 0 0) (list_all is_digit (decimal n)) (decimal_nonempty n fits) (length-decimal-le 6 n (lit< tt) high fits)
+    (digits_decimal own n fits) (first_decimal n low fits)
   where
     fits : n < 2 ^ 64
     fits = omega (arith, high)
@@ -88,18 +91,25 @@ is_card_number-decimal n low high =
 
 -- what is known of a field that is read
 if_read : (field : List ℕ) (P : CardRef → Type 0)
-    → (is_name (before_first is_point field) ≡ true → is_card_number (after_first is_point field) ≡ true → P (record { name = before_first is_point field; number = number_behind 0 (after_first is_point field) }))
+    → (is_name (before_first is_point field) ≡ true → is_card_number (after_first is_point field) ≡ true →
+    P (record { name = before_first is_point field; number = number_behind 0 (after_first is_point field) }))
     → IfSome (card_of field) P
 if_read field P holds =
-    cond_both (is_name (before_first is_point field) && is_card_number (after_first is_point field)) (Some (record { name = before_first is_point field; number = number_behind 0 (after_first is_point field) })) None (λ o. IfSome o P)
+    cond_both (is_name (before_first is_point field) && is_card_number (after_first is_point field))
+    (Some (record { name = before_first is_point field; number = number_behind 0 (after_first is_point field) })) None (λ o. IfSome o P)
     (λ ok. holds (and_parts _ _ ok).0 (and_parts _ _ ok).1)
     (λ _. tt)
 
 pub card_text-card_of : (field : List ℕ) → IfSome (card_of field) (λ card. field ≡ card_text card)
-card_text-card_of field = if_read field (λ card. field ≡ card_text card) (λ name number. rw decimal-number (sym (parts_again field (number_facts (after_first is_point field) number).some)))
+card_text-card_of field = if_read field (λ card. field ≡ card_text card)
+    (λ name number. rw decimal-number (sym (parts_again field (number_facts (after_first is_point field) number).some)))
 
 pub card_of_is_reference : (field : List ℕ) → IfSome (card_of field) IsReference
-card_of_is_reference field = if_read field IsReference (λ name number. (name, (number_is_within (after_first is_point field) number).0, (number_is_within (after_first is_point field) number).1))
+card_of_is_reference field = if_read field IsReference (λ name number. (
+  name,
+  (number_is_within (after_first is_point field) number).0,
+  (number_is_within (after_first is_point field) number).1,
+))
 
 name_bytes : (name : List ℕ) → is_name name ≡ true → list_all is_name_byte name ≡ true
 name_bytes name ok = (and_parts _ _ (and_parts _ _ ok).0).1
