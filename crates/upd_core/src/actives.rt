@@ -1,3 +1,5 @@
+//! The active cards of a library, without their past.
+
 ghost use Rattle.std.specs.Prelude.{◌≡◌, IfOk, map};
 ghost use Rattle.std.specs.List.{filter};
 ghost use Rattle.upd_core.specs.Actives.{without_past, active_deck};

@@ -1,3 +1,5 @@
+//! Cards and the entries of their histories.
+
 ghost use Rattle.std.specs.Prelude.{◌≡◌, IfOk};
 
 use crate::ident::Serial;
@@ -31,7 +33,13 @@ impl Model for Card {
 
     ghost Value = { CardView };
 
-    ghost view = { λ c. record { ident = c.ident; number = c.number; text = c.text.items; history = c.history.items; targets = c.targets.items } };
+    ghost view = { λ c. record {
+      ident = c.ident;
+      number = c.number;
+      text = c.text.items;
+      history = c.history.items;
+      targets = c.targets.items;
+    } };
 }
 
 impl Card {

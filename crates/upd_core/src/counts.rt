@@ -1,3 +1,5 @@
+//! How much a library holds, counted once and kept by each edit.
+
 ghost use Rattle.std.specs.Prelude.{◌≡◌, ◌+◌, length, sum_by, count_by};
 ghost use Rattle.upd_core.specs.Counts.{capped, AreOf};
 
@@ -73,12 +75,14 @@ impl Counts {
     }
 }
 
+/// The idents that are held.
 fn held_count(idents: &[Ident]) -> usize
     ensures { result ≡ capped (count_by (λ i. i.held) idents.now) }
 {
     idents.iter().filter(|ident| ident.held).count()
 }
 
+/// The cards of decks.
 fn card_count(decks: &[Deck]) -> usize
     ensures { result ≡ capped (sum_by (λ d. length d.cards) decks.now) }
 {
@@ -89,6 +93,7 @@ fn card_count(decks: &[Deck]) -> usize
     count
 }
 
+/// The entries of cards.
 fn entry_count(cards: &[Card]) -> usize
     ensures { result ≡ capped (sum_by (λ c. length c.history) cards.now) }
 {
@@ -99,6 +104,7 @@ fn entry_count(cards: &[Card]) -> usize
     count
 }
 
+/// The entries of the cards of decks.
 fn deck_entry_count(decks: &[Deck]) -> usize
     ensures { result ≡ capped (sum_by (λ d. sum_by (λ c. length c.history) d.cards) decks.now) }
 {
@@ -109,6 +115,7 @@ fn deck_entry_count(decks: &[Deck]) -> usize
     count
 }
 
+/// The targets of yank cards.
 fn target_count(cards: &[Card]) -> usize
     ensures { result ≡ capped (sum_by (λ c. length c.targets) cards.now) }
 {

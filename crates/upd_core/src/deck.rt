@@ -1,3 +1,5 @@
+//! Decks, and where a card stands in them.
+
 ghost use Rattle.std.specs.Prelude.{◌≡◌, ◌<◌, length, find, IfSome, IfOk};
 ghost use Rattle.std.specs.Option.{option_copied};
 ghost use Rattle.upd_core.specs.First.{index_from};

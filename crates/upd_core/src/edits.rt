@@ -1,7 +1,11 @@
-ghost use Rattle.std.specs.Prelude.{◌≡◌, ◌==◌, ◌-◌, ◌+◌, ◌<◌, ◌≤◌, [], ◌∷◌, ◌++◌, length, map, take, drop, insert, find, is_some, IfOk, IfSome, OnOk, OnErr};
+//! The edits of a library. Its look-ups stand in `library`.
+
+ghost use Rattle.std.specs.Prelude.{◌≡◌, ◌==◌, ◌-◌, ◌+◌, ◌<◌, ◌≤◌, [], ◌∷◌, ◌++◌, length, map, take, drop, insert};
+ghost use Rattle.std.specs.Prelude.{find, is_some, IfOk, IfSome, OnOk, OnErr};
 ghost use Rattle.std.specs.Option.{option_map_or};
 ghost use Rattle.upd_core.specs.Parts.{entered_count, entered_in, inserted_in, without_last};
-ghost use Rattle.upd_core.specs.Edits.{introduced, new_card, with_deck, with_card, with_yank, entered, entered_range, with_entries, without_idents, purged, purged_in, purged_back, is_among};
+ghost use Rattle.upd_core.specs.Edits.{introduced, new_card, with_deck, with_card, with_yank, entered, entered_range};
+ghost use Rattle.upd_core.specs.Edits.{with_entries, without_idents, purged, purged_in, purged_back, is_among};
 ghost use Rattle.upd_core.specs.First.{index_from, at_first};
 ghost use Rattle.upd_core.specs.Gone.{is_gone};
 ghost use Rattle.upd_core.specs.Library.{is_deck};
@@ -94,7 +98,8 @@ impl Library {
         Ok(())
     }
 
-    /// A card in the deck of an age, 0 for `YANK$$$`, with so many of its cards behind it. Where there is no such deck it is dropped.
+    /// A card in the deck of an age, 0 for `YANK$$$`, with so many of its cards behind it. Where there is no such deck
+    /// it is dropped.
     pub fn insert_card(&mut self, deck: Serial, behind: usize, card: Card) -> Result<(), AllocError>
         ensures ok { OnOk result (self.new ≡ with_card deck behind card self.old) }
         ensures err { OnErr result (self.new ≡ self.old) }
@@ -221,6 +226,7 @@ fn deck_index(decks: &[Deck], age: Serial) -> Option<usize>
     None
 }
 
+/// Puts a card where so many cards stand behind it, or in front of all where there are fewer.
 fn insert_behind(cards: &mut Vec<Card>, behind: usize, card: Card) -> Result<(), AllocError>
     ensures ok { OnOk result (cards.new.items ≡ insert cards.old.items (length cards.old.items - behind) card) }
     ensures err { OnErr result (cards.new.items ≡ cards.old.items) }
@@ -230,7 +236,7 @@ fn insert_behind(cards: &mut Vec<Card>, behind: usize, card: Card) -> Result<(),
     Ok(())
 }
 
-/// Whether there is such a deck.
+/// The same in the deck of an age; whether there is such a deck.
 fn insert_in(
     decks: &mut Vec<Deck>,
     age: Serial,
@@ -250,6 +256,7 @@ fn insert_in(
     }
 }
 
+/// Puts an entry on a card.
 fn enter_one(card: &mut Card, entry: Entry) -> Result<(), AllocError>
     ensures ok { OnOk result (card.new ≡ entered entry card.old) }
     ensures err { OnErr result (card.new ≡ card.old) }
@@ -258,6 +265,7 @@ fn enter_one(card: &mut Card, entry: Entry) -> Result<(), AllocError>
     Ok(())
 }
 
+/// Takes the last entry out of a history.
 fn drop_last(history: &mut Vec<Entry>)
     ensures { history.new.items ≡ take (length history.old.items - 1) history.old.items }
 {
@@ -274,7 +282,7 @@ fn leave_each(cards: &mut [Card])
     }
 }
 
-/// Where memory runs out, the cards that have the entry lose it again.
+/// Puts an entry on each card. Where memory runs out, those that have it lose it again.
 fn enter_each(cards: &mut [Card], entry: Entry) -> Result<(), AllocError>
     ensures ok { OnOk result (cards.new ≡ map (entered entry) cards.old) }
     ensures err { OnErr result (cards.new ≡ cards.old) }
@@ -288,7 +296,7 @@ fn enter_each(cards: &mut [Card], entry: Entry) -> Result<(), AllocError>
     Ok(())
 }
 
-/// How many cards have the entry.
+/// Puts an entry on the cards from one index to another, as far as there are cards; how many these are.
 fn enter_some(cards: &mut [Card], from: usize, to: usize, entry: Entry) -> Result<usize, AllocError>
     requires { from ≤ to }
     ensures count { IfOk result (λ count. count ≡ entered_count from to cards.old) }
@@ -306,6 +314,7 @@ fn enter_some(cards: &mut [Card], from: usize, to: usize, entry: Entry) -> Resul
     }
 }
 
+/// The same of cards that are kept as a deck keeps them.
 fn enter_range(
     cards: &mut Vec<Card>,
     from: usize,
@@ -320,7 +329,7 @@ fn enter_range(
     enter_some(cards, from, to, entry)
 }
 
-/// How many cards have the entry.
+/// The same in the deck of an age; no card has it where there is no such deck.
 fn enter_in(
     decks: &mut Vec<Deck>,
     age: Serial,
@@ -329,7 +338,8 @@ fn enter_in(
     entry: Entry,
 ) -> Result<usize, AllocError>
     requires { from ≤ to }
-    ensures count { IfOk result (λ count. count ≡ option_map_or (λ d. entered_count from to d.cards) (find (is_deck age) decks.old.items) 0) }
+    ensures count { IfOk result
+        (λ count. count ≡ option_map_or (λ d. entered_count from to d.cards) (find (is_deck age) decks.old.items) 0) }
     ensures ok { OnOk result (decks.new.items ≡ entered_in age from to entry decks.old.items) }
     ensures err { OnErr result (decks.new.items ≡ decks.old.items) }
 {
@@ -342,8 +352,10 @@ fn enter_in(
     }
 }
 
+/// Purges an ident in the deck of an age.
 fn purge_deck(decks: &mut Vec<Deck>, age: Serial, ident: Serial)
-    ensures { decks.new.items ≡ at_first (is_deck age) (λ d. record d { cards = without_idents (λ x. x == ident) d.cards }) decks.old.items }
+    ensures { decks.new.items
+        ≡ at_first (is_deck age) (λ d. record d { cards = without_idents (λ x. x == ident) d.cards }) decks.old.items }
 {
     if let Some(i) = deck_index(decks, age) {
         let deck = &mut decks[i];

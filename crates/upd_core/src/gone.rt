@@ -1,3 +1,5 @@
+//! Purges: what goes with the idents that a purge takes.
+
 ghost use Rattle.std.specs.Prelude.{◌≡◌, ℕ, ◌<◌, not, map, slice_index, EachIndex, IfOk};
 ghost use Rattle.std.specs.List.{filter};
 ghost use Rattle.upd_core.specs.Edits.{unheld, without_entries, without_idents, deck_without, decks_without, is_among};
@@ -39,6 +41,7 @@ impl Gone {
     }
 }
 
+/// Beyond the marks no age is marked.
 fn is_marked(marks: &[bool], age: Serial) -> bool
     ensures { result ≡ is_marked marks.now age }
 {
@@ -46,6 +49,7 @@ fn is_marked(marks: &[bool], age: Serial) -> bool
     age < marks.len() && marks[age]
 }
 
+/// A mark for each age up to the greatest of these.
 fn marks(alloc: Global, ages: &[Serial]) -> Result<Vec<bool>, AllocError>
     ensures { IfOk result (λ marks. (z : ℕ) → is_marked marks.items z ≡ is_among ages.now z) }
 {
@@ -66,6 +70,7 @@ fn after_all(ages: &[Serial]) -> usize
     }
 }
 
+/// An ident once the purge is done.
 fn unheld(ident: Ident, gone: &Gone) -> Ident
     ensures { result ≡ unheld (is_gone gone.now) ident }
 {
@@ -89,6 +94,7 @@ fn purge_history(history: &mut Vec<Entry>, gone: &Gone)
     history.retain(|entry| !gone.covers(entry.ident));
 }
 
+/// The same for the history of each card.
 fn purge_histories(cards: &mut [Card], gone: &Gone)
     ensures { cards.new ≡ map (without_entries (is_gone gone.now)) cards.old }
 {
@@ -97,6 +103,7 @@ fn purge_histories(cards: &mut [Card], gone: &Gone)
     }
 }
 
+/// Takes the cards of these idents away.
 fn drop_cards(cards: &mut Vec<Card>, gone: &Gone)
     ensures { cards.new.items ≡ filter (λ c. not (is_gone gone.now c.ident)) cards.old.items }
 {
@@ -111,6 +118,7 @@ pub(crate) fn purge_cards(cards: &mut Vec<Card>, gone: &Gone)
     purge_histories(cards, gone);
 }
 
+/// Takes the cards and the entries of these idents out of each deck.
 fn purge_each(decks: &mut [Deck], gone: &Gone)
     ensures { decks.new ≡ map (deck_without (is_gone gone.now)) decks.old }
 {
@@ -119,6 +127,7 @@ fn purge_each(decks: &mut [Deck], gone: &Gone)
     }
 }
 
+/// Takes the decks of these idents away, with all their cards.
 fn drop_decks(decks: &mut Vec<Deck>, gone: &Gone)
     ensures { decks.new.items ≡ filter (λ d. not (is_gone gone.now d.ident)) decks.old.items }
 {

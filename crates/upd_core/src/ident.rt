@@ -1,3 +1,5 @@
+//! Idents and the directory.
+
 ghost use Rattle.std.specs.Prelude.{◌≡◌};
 ghost use Rattle.std.specs.Option.{option_copied};
 ghost use Rattle.upd_core.specs.Library.{held_named, is_deck_kind, is_common, name_at};
@@ -10,12 +12,16 @@ pub type Serial = u32;
 /// What an ident stands for.
 #[derive(Clone, Copy, Debug, PartialEq, Eq)]
 pub enum Kind {
+    /// A correction set.
     Set,
+    /// A deck that isn't common.
     Deck,
+    /// A common deck, whose cards stand where it is called.
     Common,
 }
 
-/// A correction set or a deck in the directory. Its age is its identity: a purged name may be introduced again, with a new age.
+/// A correction set or a deck in the directory. Its age is its identity: a purged name may be introduced again, with a
+/// new age.
 #[derive(Clone, Copy, Debug)]
 pub struct Ident {
     pub name: Name,
@@ -38,6 +44,7 @@ impl Kind {
         }
     }
 
+    /// Whether it is a common deck.
     pub fn is_common(self) -> bool
         ensures { result ≡ is_common self }
     {

@@ -1,6 +1,8 @@
-//! The program library: idents, decks of numbered cards, correction histories and yank cards, and what each of them means.
+//! The program library: idents, decks of numbered cards, correction histories and yank cards, and what each of them
+//! means.
 //!
-//! The rules are in `docs/rules.md`. A library changes only by the few edits of `edits`, each of which is what its definition says.
+//! The rules are in `docs/rules.md`. A library changes only by the few edits of `edits`, each of which is what its
+//! definition says.
 #![tactic(auto)]
 
 pub mod actives;

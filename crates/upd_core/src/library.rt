@@ -1,3 +1,5 @@
+//! The library and its look-ups. What changes it stands in `edits`, its limits in `limits`.
+
 ghost use Rattle.std.specs.Prelude.{◌≡◌, IfOk};
 ghost use Rattle.std.specs.Option.{option_copied};
 ghost use Rattle.std.specs.Result.{IsOkUnless};
@@ -48,9 +50,19 @@ impl Model for Library {
 
     ghost Value = { LibraryView };
 
-    ghost view = { λ l. record { idents = l.idents.items; decks = l.decks.items; yanks = l.yanks.items; rest = l.rest } };
+    ghost view = { λ l. record {
+      idents = l.idents.items;
+      decks = l.decks.items;
+      yanks = l.yanks.items;
+      rest = l.rest;
+    } };
 
-    ghost invariant = { λ l. AreOf (record { idents = l.idents.items; decks = l.decks.items; yanks = l.yanks.items; rest = l.rest }) l.counts };
+    ghost invariant = { λ l. AreOf (record {
+      idents = l.idents.items;
+      decks = l.decks.items;
+      yanks = l.yanks.items;
+      rest = l.rest;
+    }) l.counts };
 }
 
 impl Library {

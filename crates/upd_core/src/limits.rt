@@ -1,3 +1,5 @@
+//! The limits of a library.
+
 ghost use Rattle.std.specs.Prelude.{◌≡◌};
 ghost use Rattle.upd_core.specs.Limits.{is_within_limits};
 

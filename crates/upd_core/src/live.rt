@@ -1,6 +1,9 @@
+//! Which yank cards are live, and which cards are good and active under them.
+
 ghost use Rattle.std.specs.Prelude.{◌≡◌, IfOk};
 ghost use Rattle.std.specs.Option.{option_and_then};
-ghost use Rattle.upd_core.specs.Status.{stays_on, is_taken, is_good, is_active, targets_of, live_cards, liveness, live_of, live_yank, yank_at};
+ghost use Rattle.upd_core.specs.Status.{stays_on, is_taken, is_good, is_active, targets_of, live_cards, liveness};
+ghost use Rattle.upd_core.specs.Status.{live_of, live_yank, yank_at};
 ghost use Rattle.upd_core.specs.Library.{LibraryView, place_of};
 ghost use Rattle.upd_core.specs.Sound.{IsSound};
 
@@ -26,7 +29,12 @@ impl<'a> Model for Live<'a> {
 
     ghost Value = { LiveView };
 
-    ghost view = { λ l. record { idents = l.idents.now; yanks = l.yanks.now; live = l.live.items; targets = l.targets } };
+    ghost view = { λ l. record {
+      idents = l.idents.now;
+      yanks = l.yanks.now;
+      live = l.live.items;
+      targets = l.targets;
+    } };
 }
 
 impl<'a> Live<'a> {
@@ -63,7 +71,8 @@ impl<'a> Live<'a> {
 
 /// In a sound library a reference finds whether the yank card is live that stands at its place.
 pub fn references_find_their_yank_cards()
-    ensures { (l : LibraryView) (card : CardRef) → IsSound l → live_yank card (live_of l) ≡ option_and_then (yank_at l) (place_of card l) }
+    ensures { (l : LibraryView) (card : CardRef) → IsSound l
+        → live_yank card (live_of l) ≡ option_and_then (yank_at l) (place_of card l) }
 {}
 
 /// Whether a history stays on in a deck.
@@ -92,9 +101,12 @@ pub(crate) fn is_active(targets: &Targets, deck: Serial, card: &Card) -> bool
     is_good(targets, deck, card) && !targets.takes_deck(deck)
 }
 
-/// Goes through yank cards from the last to the first: whether each is live, and the targets of the live ones.
+/// Whether each yank card is live, and the targets of the live ones. It goes from the last card to the first: only
+/// younger
+/// cards can take what switched a card, so all that judges a card is known when it is met.
 pub(crate) fn swept(alloc: Global, yanks: &[Card]) -> Result<(Vec<bool>, Targets), AllocError>
-    ensures { IfOk result (λ found. (found.0.items ≡ liveness yanks.now) × (found.1 ≡ targets_of (live_cards yanks.now))) }
+    ensures live { IfOk result (λ found. found.0.items ≡ liveness yanks.now) }
+    ensures targets { IfOk result (λ found. found.1 ≡ targets_of (live_cards yanks.now)) }
 {
     let mut live = vec![in alloc; false; yanks.len()]?;
     let mut targets = Targets::new(alloc);

@@ -1,3 +1,5 @@
+//! The targets of live cards, in a form that answers fast what they take.
+
 ghost use Rattle.std.specs.Prelude.{◌≡◌, [], ◌∷◌, ◌++◌, OnOk};
 ghost use Rattle.std.specs.List.{list_any};
 ghost use Rattle.upd_core.specs.Status.{takes_deck, is_taken};
@@ -8,7 +10,8 @@ use std::alloc::{AllocError, Global};
 use std::collections::HashSet;
 use std::marker::Model;
 
-/// The targets of live cards, with an index. Cards come from the last to the first, so what came last stands first.
+/// The targets of live cards, with an index by which one is found. Cards come from the last to the first, so what came
+/// last stands first.
 #[derive(Drop)]
 pub(crate) struct Targets {
     /// From the last to the first.
@@ -30,6 +33,7 @@ impl Model for Targets {
 }
 
 impl Targets {
+    /// No targets. It takes no memory.
     pub(crate) fn new(alloc: Global) -> Targets
         ensures { result ≡ [] }
     {
@@ -49,6 +53,7 @@ impl Targets {
         Ok(())
     }
 
+    /// Room is made first: where memory runs out, the index has no target that the list doesn't have.
     fn push_front(&mut self, target: Target) -> Result<(), AllocError>
         ensures { OnOk result (self.new ≡ target ∷ self.old) }
     {

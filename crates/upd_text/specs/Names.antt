@@ -1,5 +1,6 @@
 -- Names and card references, as they are spelled.
-use Rattle.std.specs.Prelude.{ℕ, ◌+◌, ◌-◌, ◌*◌, ◌^◌, ◌<◌, ◌==◌, nat_le, IsTrue, Bool, not, ◌&&◌, ◌||◌, if◌then◌else◌, [], ◌∷◌, ◌++◌, length, slice_index, codes, decimal, Option, Some, None}
+use Rattle.std.specs.Prelude.{ℕ, ◌+◌, ◌-◌, ◌*◌, ◌^◌, ◌<◌, ◌==◌, nat_le, IsTrue, Bool, not, ◌&&◌, ◌||◌, if◌then◌else◌, [], ◌∷◌, ◌++◌, length, slice_index, codes}
+use Rattle.std.specs.Prelude.{decimal, Option, Some, None}
 use Rattle.std.specs.Str.{bytes_eq}
 use Rattle.std.specs.List.{list_any, list_all, before_first, after_first}
 use Rattle.upd_text.specs.declared.limits.TheConstants.{MAX_NAME_BYTES, MAX_NUMBER_DIGITS}

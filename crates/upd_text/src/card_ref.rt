@@ -1,3 +1,5 @@
+//! Card references: how they are read, written and ordered.
+
 ghost use Rattle.std.specs.Prelude.{◌≡◌, ◌↔◌, ℕ, List, if◌then◌else◌, Option, Some, None, IfSome, IsTrue};
 ghost use Rattle.std.specs.List.{list_all};
 ghost use Rattle.std.specs.Ordering.{is_eq};
@@ -39,6 +41,7 @@ impl fmt::Display for CardRef {
     }
 }
 
+/// The number that digits spell, where they are a card's number.
 fn read_number(digits: &[u8]) -> Option<u32>
     ensures { result ≡ (if is_card_number digits.now then Some (number_behind 0 digits.now) else None) }
 {
@@ -64,6 +67,7 @@ fn all_digits(text: &[u8]) -> bool
     text.iter().all(|byte| byte.is_ascii_digit())
 }
 
+/// The number that digits spell. It fits: there are 6 of them at most.
 fn value_of(digits: &[u8]) -> u32
     requires { IsTrue (is_card_number digits.now) }
     ensures { result ≡ number_behind 0 digits.now }
@@ -82,7 +86,8 @@ pub fn card_references_are_read_from_one_text()
     ensures read_back { (card : CardRef) → IsReference card → card_of (card_text card) ≡ Some card }
 {}
 
-/// References are ordered by the bytes of their names, then by their numbers, and are equal by this order exactly where they are the same.
+/// References are ordered by the bytes of their names, then by their numbers, and are equal by this order exactly where
+/// they are the same.
 pub fn card_references_are_ordered_by_name()
     ensures order { (a b : CardRef) → card_order a b ≡ by_name a b }
     ensures equality { (a b : CardRef) → is_same a b ≡ is_eq (card_order a b) }

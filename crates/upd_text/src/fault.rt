@@ -1,3 +1,5 @@
+//! Refusals: the 33 kinds, and where a refusal was met.
+
 ghost use Rattle.std.specs.Prelude.{◌≡◌};
 ghost use Rattle.upd_text.specs.Faults.{fault_at, fault_name, fault_number};
 ghost use Rattle.upd_text.specs.declared.fault.FaultKind.TheVariants.{NoMemory};

@@ -1,10 +1,13 @@
 //! How a line is cut into its word and its fields.
 //!
-//! Words and fields are parts of the line that they were read from. Nothing here tests which bytes a line has or how long it is.
+//! Words and fields are parts of the line that they were read from. Nothing here tests which bytes a line has or how
+//! long it is.
 
-ghost use Rattle.std.specs.Prelude.{◌≡◌, ◌+◌, ◌≤◌, ◌==◌, [], ◌∷◌, length, map, take, drop, position, is_some, IfNone, IfSome, IfOk};
+ghost use Rattle.std.specs.Prelude.{◌≡◌, ◌+◌, ◌≤◌, ◌==◌, [], ◌∷◌, length, map, take, drop, position, is_some, IfNone};
+ghost use Rattle.std.specs.Prelude.{IfSome, IfOk};
 ghost use Rattle.std.specs.List.{list_any, slice_split, before_first, after_first};
-ghost use Rattle.upd_text.specs.Lines.{after_blanks, after_comma, body, called, ends_word, field, fields, from_first, is_blank, is_call, is_comment, is_starred, remark, up_to, word};
+ghost use Rattle.upd_text.specs.Lines.{after_blanks, after_comma, body, called, ends_word, field, fields, from_first};
+ghost use Rattle.upd_text.specs.Lines.{is_blank, is_call, is_comment, is_starred, remark, up_to, word};
 
 use std::alloc::{AllocError, Global};
 
@@ -80,11 +83,11 @@ pub fn split_once(text: &[u8], at: u8) -> Option<(&[u8], &[u8])>
     ensures whole { IfNone result (slice_split (λ b. b == at) text.now ≡ text.now ∷ []) }
     ensures lengths { IfSome result (λ parts. length parts.0.now + 1 + length parts.1.now ≡ length text.now) }
 {
-    let place = first_place(text, at)?;
-    Some((&text[..place], &text[place + 1..]))
+    let index = first_index(text, at)?;
+    Some((&text[..index], &text[index + 1..]))
 }
 
-fn first_place(text: &[u8], at: u8) -> Option<usize>
+fn first_index(text: &[u8], at: u8) -> Option<usize>
     ensures { result ≡ position (λ b. b == at) text.now }
 {
     text.iter().position(|&byte| byte == at)
@@ -99,7 +102,7 @@ fn behind_star(line: &[u8]) -> &[u8]
     }
 }
 
-// What stands behind the word, its blanks and a comma.
+/// What stands behind the word, its blanks and a comma.
 fn body(line: &[u8]) -> &[u8]
     ensures { result.now ≡ body line.now }
 {
@@ -108,7 +111,7 @@ fn body(line: &[u8]) -> &[u8]
     after_blanks(after_comma(after_blanks(lead)))
 }
 
-// The field between two commas, and what stands behind it.
+/// The field between two commas, and what stands behind it.
 fn split_field(piece: &[u8]) -> (&[u8], &[u8])
     ensures field { result.0.now ≡ field piece.now }
     ensures behind { after_blanks result.1.now ≡ remark piece.now }
@@ -129,37 +132,37 @@ fn after_comma(text: &[u8]) -> &[u8]
 fn after_blanks(text: &[u8]) -> &[u8]
     ensures { result.now ≡ after_blanks text.now }
 {
-    for (place, &byte) in text.iter().enumerate() {
+    for (index, &byte) in text.iter().enumerate() {
         if byte != b' ' {
-            return &text[place..];
+            return &text[index..];
         }
     }
     &[]
 }
 
-// The place of the first blank, or the length.
+/// The index of the first blank, or the length.
 fn first_blank(text: &[u8]) -> usize
     ensures within { result ≤ length text.now }
     ensures before { take result text.now ≡ up_to is_blank text.now }
     ensures behind { drop result text.now ≡ from_first is_blank text.now }
 {
-    for (place, &byte) in text.iter().enumerate() {
+    for (index, &byte) in text.iter().enumerate() {
         if byte == b' ' {
-            return place;
+            return index;
         }
     }
     text.len()
 }
 
-// The place of the first blank or comma, or the length.
+/// The index of the first blank or comma, or the length.
 fn end_of_word(text: &[u8]) -> usize
     ensures within { result ≤ length text.now }
     ensures before { take result text.now ≡ up_to ends_word text.now }
     ensures behind { drop result text.now ≡ from_first ends_word text.now }
 {
-    for (place, &byte) in text.iter().enumerate() {
+    for (index, &byte) in text.iter().enumerate() {
         if byte == b' ' || byte == b',' {
-            return place;
+            return index;
         }
     }
     text.len()

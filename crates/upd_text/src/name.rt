@@ -1,3 +1,5 @@
+//! Names of idents.
+
 ghost use Rattle.std.specs.Prelude.{◌≡◌, [], ◌≤◌, ◌↔◌, length, Some, IfSome, IsSome, IsTrue};
 ghost use Rattle.std.specs.Cmp.{partial_order_from_own_ties};
 ghost use Rattle.std.specs.Cmp.Lexicographic.{slice_cmp};
@@ -13,7 +15,9 @@ use std::cmp::Ordering;
 use std::marker::Model;
 use std::{fmt, str};
 
-/// A name of an ident: 1 to 9 of `A-Z 0-9 + - * / ( ) $ =`, and not `*` alone.
+/// A name of an ident: 1 to 9 of `A-Z 0-9 + - * / ( ) $ =`, and not `*` alone, as `read` makes them; or no bytes, as
+/// `none` makes,
+/// where an ident isn't listed.
 #[derive(Clone, Copy, Debug)]
 pub struct Name {
     bytes: [u8; 9],
@@ -56,7 +60,7 @@ impl Name {
         Name::of(b"YANK$$$")
     }
 
-    /// No bytes: what stands for the name of an ident that isn't listed. No field is read as it.
+    /// What stands for the name of an ident that isn't listed: it has no bytes, so it is equal to no name that is read.
     pub fn none() -> Name
         ensures { result ≡ [] }
     {
@@ -75,6 +79,7 @@ impl Name {
         }
     }
 
+    /// Its bytes, as it is spelled.
     pub fn as_bytes(&self) -> &[u8]
         ensures { result.now ≡ self.now }
     {
@@ -82,6 +87,7 @@ impl Name {
     }
 }
 
+/// Whether a text is spelled as a name is.
 fn is_name(text: &[u8]) -> bool
     ensures { result ≡ is_name text.now }
 {
