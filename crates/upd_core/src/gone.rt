@@ -3,7 +3,7 @@
 ghost use Rattle.std.specs.Prelude.{◌≡◌, ℕ, ◌<◌, not, map, slice_index, EachIndex, IfOk};
 ghost use Rattle.std.specs.List.{filter};
 ghost use Rattle.upd_core.specs.Edits.{unheld, without_entries, without_idents, deck_without, decks_without, is_among};
-ghost use Rattle.upd_core.specs.Gone.{is_marked, is_gone};
+ghost use Rattle.upd_core.specs.Gone.{has_mark, is_gone};
 
 use crate::card::{Card, Entry};
 use crate::deck::Deck;
@@ -36,14 +36,14 @@ impl Gone {
         match self {
             Gone::Only(gone) => age == *gone,
             Gone::From(oldest) => *oldest <= age,
-            Gone::Marked(marks) => is_marked(marks, age),
+            Gone::Marked(marks) => has_mark(marks, age),
         }
     }
 }
 
-/// Beyond the marks no age is marked.
-fn is_marked(marks: &[bool], age: Serial) -> bool
-    ensures { result ≡ is_marked marks.now age }
+/// Whether an age has a mark: beyond the marks none has.
+fn has_mark(marks: &[bool], age: Serial) -> bool
+    ensures { result ≡ has_mark marks.now age }
 {
     let age = age as usize;
     age < marks.len() && marks[age]
@@ -51,7 +51,7 @@ fn is_marked(marks: &[bool], age: Serial) -> bool
 
 /// A mark for each age up to the greatest of these.
 fn marks(alloc: Global, ages: &[Serial]) -> Result<Vec<bool>, AllocError>
-    ensures { IfOk result (λ marks. (z : ℕ) → is_marked marks.items z ≡ is_among ages.now z) }
+    ensures { IfOk result (λ marks. (z : ℕ) → has_mark marks.items z ≡ is_among ages.now z) }
 {
     let mut marks = vec![in alloc; false; after_all(ages)]?;
     for age in ages {

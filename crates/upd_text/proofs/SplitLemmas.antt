@@ -6,7 +6,7 @@ use Rattle.std.proofs.lemmas.Bool.Decides.{nat_tests}
 use Rattle.std.proofs.lemmas.List.Splits.{slice_split_first}
 use Rattle.std.proofs.lemmas.Grind.{common_steps}
 
--- a place is found where some element passes
+-- an element is found where some passes
 is_some-position : {A : Type 0} (test : A → Bool) (xs : List A) → is_some (position test xs) ≡ list_any test xs
 is_some-position test [] = refl
 is_some-position test (x ∷ xs) = more (test x) (position_or_len test xs) (length xs) (list_any test xs) (is_some-position test xs)
