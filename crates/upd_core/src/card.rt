@@ -1,6 +1,7 @@
 //! Cards and the entries of their histories.
 
 ghost use Rattle.std.specs.Prelude.{◌≡◌, IfOk};
+ghost use Rattle.upd_core.specs.Edits.{new_card};
 
 use crate::ident::Serial;
 use crate::target::Target;
@@ -43,6 +44,33 @@ impl Model for Card {
 }
 
 impl Card {
+    /// A new card: its history is its own ident, on.
+    pub fn new(
+        alloc: Global,
+        ident: Serial,
+        number: u32,
+        text: &[u8],
+        targets: Vec<Target>,
+    ) -> Result<Card, AllocError>
+        ensures { IfOk result (λ card. card ≡ new_card ident number text.now targets.items) }
+    {
+        let text = Vec::from_slice(alloc, text)?;
+        let history = Vec::from_slice(
+            alloc,
+            &[Entry {
+                ident,
+                active: true,
+            }],
+        )?;
+        Ok(Card {
+            ident,
+            number,
+            text,
+            history,
+            targets,
+        })
+    }
+
     /// A copy; memory alone can fail.
     pub(crate) fn copy(&self) -> Result<Card, AllocError>
         ensures { IfOk result (λ copy. copy ≡ self.now) }

@@ -1,7 +1,8 @@
 //! Decks, and where a card stands in them.
 
-ghost use Rattle.std.specs.Prelude.{◌≡◌, ◌<◌, length, find, IfSome, IfOk};
+ghost use Rattle.std.specs.Prelude.{◌≡◌, [], ◌∷◌, ◌<◌, length, find, IfSome, IfOk};
 ghost use Rattle.std.specs.Option.{option_copied};
+ghost use Rattle.upd_core.specs.Edits.{new_card};
 ghost use Rattle.upd_core.specs.First.{index_from};
 ghost use Rattle.upd_core.specs.Library.{is_card, is_deck, place_in};
 
@@ -28,6 +29,16 @@ impl Model for Deck {
 }
 
 impl Deck {
+    /// A new deck: its first card has this text.
+    pub fn new(alloc: Global, ident: Serial, text: &[u8]) -> Result<Deck, AllocError>
+        ensures { IfOk result (λ deck. deck ≡ record { ident = ident; cards = new_card ident 1 text.now [] ∷ [] }) }
+    {
+        let first = Card::new(alloc, ident, 1, text, Vec::new(alloc))?;
+        let mut cards = Vec::new(alloc);
+        cards.push(first)?;
+        Ok(Deck { ident, cards })
+    }
+
     /// A copy; memory alone can fail.
     pub(crate) fn copy(&self) -> Result<Deck, AllocError>
         ensures { IfOk result (λ copy. copy ≡ self.now) }

@@ -1,10 +1,10 @@
 //! The edits of a library. Its look-ups stand in `library`.
 
-ghost use Rattle.std.specs.Prelude.{◌≡◌, ◌==◌, ◌-◌, ◌+◌, ◌<◌, ◌≤◌, [], ◌∷◌, ◌++◌, length, map, take, drop, insert};
+ghost use Rattle.std.specs.Prelude.{◌≡◌, ◌==◌, ◌-◌, ◌+◌, ◌<◌, ◌≤◌, length, map, take, insert};
 ghost use Rattle.std.specs.Prelude.{find, is_some, IfOk, IfSome, OnOk, OnErr};
 ghost use Rattle.std.specs.Option.{option_map_or};
 ghost use Rattle.upd_core.specs.Parts.{entered_count, entered_in, inserted_in, without_last};
-ghost use Rattle.upd_core.specs.Edits.{introduced, new_card, with_deck, with_card, with_yank, entered, entered_range};
+ghost use Rattle.upd_core.specs.Edits.{introduced, with_deck, with_card, with_yank, entered, entered_range};
 ghost use Rattle.upd_core.specs.Edits.{with_entries, without_idents, purged, purged_in, purged_back, is_among};
 ghost use Rattle.upd_core.specs.First.{index_from, at_first};
 ghost use Rattle.upd_core.specs.Gone.{is_gone};
@@ -16,51 +16,9 @@ use crate::deck::Deck;
 use crate::gone::{Gone, purge_cards, purge_decks, unhold};
 use crate::ident::{Ident, Kind, Serial};
 use crate::library::Library;
-use crate::target::Target;
 use std::alloc::{AllocError, Global};
 use upd_text::Name;
 use upd_text::limits::MAX_INTRODUCED;
-
-impl Card {
-    /// A new card: its history is its own ident, on.
-    pub fn new(
-        alloc: Global,
-        ident: Serial,
-        number: u32,
-        text: &[u8],
-        targets: Vec<Target>,
-    ) -> Result<Card, AllocError>
-        ensures { IfOk result (λ card. card ≡ new_card ident number text.now targets.items) }
-    {
-        let text = Vec::from_slice(alloc, text)?;
-        let history = Vec::from_slice(
-            alloc,
-            &[Entry {
-                ident,
-                active: true,
-            }],
-        )?;
-        Ok(Card {
-            ident,
-            number,
-            text,
-            history,
-            targets,
-        })
-    }
-}
-
-impl Deck {
-    /// A new deck: its first card has this text.
-    pub fn new(alloc: Global, ident: Serial, text: &[u8]) -> Result<Deck, AllocError>
-        ensures { IfOk result (λ deck. deck ≡ record { ident = ident; cards = new_card ident 1 text.now [] ∷ [] }) }
-    {
-        let first = Card::new(alloc, ident, 1, text, Vec::new(alloc))?;
-        let mut cards = Vec::new(alloc);
-        cards.push(first)?;
-        Ok(Deck { ident, cards })
-    }
-}
 
 /// Each edit that takes memory fails for want of it alone, and then the library is as it was.
 impl Library {

@@ -28,7 +28,7 @@ impl Target {
     {
         match self {
             Target::Set(taken) => taken == ident,
-            Target::SetIn(taken, place) => taken == ident && place == deck,
+            Target::SetIn(taken, within) => taken == ident && within == deck,
             Target::Deck(_) => false,
         }
     }
