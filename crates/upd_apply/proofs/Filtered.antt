@@ -3,12 +3,16 @@ use Rattle.std.proofs.Common.{◌≡◌, ℕ, ◌+◌, ◌<◌, Bool, true, fals
 use Rattle.std.specs.List.{filter, flat_map}
 use Rattle.std.proofs.lemmas.List.{drop_more}
 
-one_more : {X Y : Type 0} (f : X → Y) (test : X → Bool) (x : X) (xs : List X) (found now : List Y) (b : Bool) → b ≡ test x → now ≡ (if b then found ++ f x ∷ [] else found) → now ++ map f (filter test xs) ≡ found ++ map f (if b then x ∷ filter test xs else filter test xs)
+one_more : {X Y : Type 0} (f : X → Y) (test : X → Bool) (x : X) (xs : List X) (found now : List Y) (b : Bool)
+    → b ≡ test x → now ≡ (if b then found ++ f x ∷ [] else found)
+    → now ++ map f (filter test xs) ≡ found ++ map f (if b then x ∷ filter test xs else filter test xs)
 one_more f test x xs found now true e is = ap (λ t. t ++ map f (filter test xs)) is ∙ append_assoc found (f x ∷ []) (map f (filter test xs))
 one_more f test x xs found now false e is = ap (λ t. t ++ map f (filter test xs)) is
 
 -- the step of the loop at an element x, where b is what the test says
-pub filter_more : {X Y : Type 0} (f : X → Y) (test : X → Bool) (xs : List X) (i : ℕ) (x : X) (found now whole : List Y) (b : Bool) → i < length xs → x ≡ get_or xs i x → b ≡ test x → now ≡ (if b then found ++ f x ∷ [] else found) → found ++ map f (filter test (drop i xs)) ≡ whole → now ++ map f (filter test (drop (i + 1) xs)) ≡ whole
+pub filter_more : {X Y : Type 0} (f : X → Y) (test : X → Bool) (xs : List X) (i : ℕ) (x : X) (found now whole : List Y)
+    (b : Bool) → i < length xs → x ≡ get_or xs i x → b ≡ test x → now ≡ (if b then found ++ f x ∷ [] else found)
+    → found ++ map f (filter test (drop i xs)) ≡ whole → now ++ map f (filter test (drop (i + 1) xs)) ≡ whole
 filter_more f test xs i x found now whole b within read says is so_far =
     let next : drop i xs ≡ x ∷ drop (i + 1) xs = drop_more xs i x within ∙ ap (λ t. t ∷ drop (i + 1) xs) (sym read) in
     one_more f test x (drop (i + 1) xs) found now b says is
@@ -16,7 +20,9 @@ filter_more f test xs i x found now whole b within read says is so_far =
     ∙ sym (ap (λ t. found ++ map f (filter test t)) next) ∙ so_far
 
 -- the step of a loop that adds what f makes of the element x
-pub flat_more : {X Y : Type 0} (f : X → List Y) (xs : List X) (i : ℕ) (d x : X) (found now whole : List Y) → i < length xs → x ≡ get_or xs i d → now ≡ found ++ f x → found ++ flat_map f (drop i xs) ≡ whole → now ++ flat_map f (drop (i + 1) xs) ≡ whole
+pub flat_more : {X Y : Type 0} (f : X → List Y) (xs : List X) (i : ℕ) (d x : X) (found now whole : List Y) → i < length xs
+    → x ≡ get_or xs i d → now ≡ found ++ f x → found ++ flat_map f (drop i xs) ≡ whole → now ++ flat_map f (drop (i + 1) xs) ≡ whole
 flat_more f xs i d x found now whole within read is so_far =
     let next : drop i xs ≡ x ∷ drop (i + 1) xs = drop_more xs i d within ∙ ap (λ t. t ∷ drop (i + 1) xs) (sym read) in
-    ap (λ t. t ++ flat_map f (drop (i + 1) xs)) is ∙ append_assoc found (f x) (flat_map f (drop (i + 1) xs)) ∙ sym (ap (λ t. found ++ flat_map f t) next) ∙ so_far
+    ap (λ t. t ++ flat_map f (drop (i + 1) xs)) is ∙ append_assoc found (f x) (flat_map f (drop (i + 1) xs))
+    ∙ sym (ap (λ t. found ++ flat_map f t) next) ∙ so_far

@@ -1,5 +1,6 @@
 -- A list with each element once, as a loop finds it: an element comes to the end unless it is there.
-use Rattle.std.proofs.Common.{◌≡◌, ℕ, ◌+◌, ◌<◌, map, length, drop, get_or, Bool, true, false, not, ◌&&◌, ◌||◌, if◌then◌else◌, List, [], ◌∷◌, ◌++◌, Result, Ok, Err, refl, ap, sym, ◌∙◌, subst, append_assoc, append-nil}
+use Rattle.std.proofs.Common.{◌≡◌, ℕ, ◌+◌, ◌<◌, map, length, drop, get_or, Bool, true, false, not, ◌&&◌, ◌||◌, if◌then◌else◌, List, [], ◌∷◌, ◌++◌}
+use Rattle.std.proofs.Common.{Result, Ok, Err, refl, ap, sym, ◌∙◌, subst, append_assoc, append-nil}
 use Rattle.std.specs.List.{filter, list_any}
 use Rattle.std.proofs.lemmas.List.{drop_more}
 use Rattle.std.proofs.lemmas.List.Folds.{list_any-append}
@@ -66,11 +67,16 @@ all_once {A} same equal found (y ∷ ys) = of (list_any (λ x. same x y) found) 
   where
     of : (b : Bool) → list_any (λ x. same x y) found ≡ b → ((now : List A) → with_all same now ys ≡ now ++ filter (unlike same now) (once same ys))
         → with_all same (if b then found else found ++ y ∷ []) ys
-        ≡ found ++ (if not b then y ∷ filter (unlike same found) (filter (λ z. not (same y z)) (once same ys)) else filter (unlike same found) (filter (λ z. not (same y z)) (once same ys)))
-    of true e rest = rest found ∙ ap (λ zs. found ++ zs) (sym (filter_twice (unlike same found) (λ z. not (same y z)) (unlike same found) (once same ys) (λ z. found_before same equal found y z e)))
+        ≡ found ++ (if not b then y ∷ filter (unlike same found) (filter (λ z. not (same y z)) (once same ys))
+        else filter (unlike same found) (filter (λ z. not (same y z)) (once same ys)))
+    of true e rest =
+        rest found
+        ∙ ap (λ zs. found ++ zs) (sym (filter_twice (unlike same found) (λ z. not (same y z)) (unlike same found) (once same ys)
+        (λ z. found_before same equal found y z e)))
     of false e rest =
         rest (found ++ y ∷ []) ∙ append_assoc found (y ∷ []) (filter (unlike same (found ++ y ∷ [])) (once same ys))
-        ∙ ap (λ zs. found ++ y ∷ zs) (sym (filter_twice (unlike same found) (λ z. not (same y z)) (unlike same (found ++ y ∷ [])) (once same ys) (λ z. found_now same found y z)))
+        ∙ ap (λ zs. found ++ y ∷ zs) (sym (filter_twice (unlike same found) (λ z. not (same y z)) (unlike same (found ++ y ∷ [])) (once same ys)
+        (found_now same found y)))
 
 from_none : {A : Type 0} (same : A → A → Bool) → AreEqual same → (ys : List A) → with_all same [] ys ≡ once same ys
 from_none same equal ys = all_once same equal [] ys ∙ filter_all (once same ys)
@@ -155,5 +161,6 @@ filter_once {X} {Y} {A} same equal f g test xs i x found now whole b within read
     of : (d : Bool) → now ≡ (if d then once same (found ++ f (g x) ∷ []) else found)
         → once same (now ++ map f (map g (filter test (drop (i + 1) xs))))
         ≡ once same (found ++ map f (map g (if d then x ∷ filter test (drop (i + 1) xs) else filter test (drop (i + 1) xs))))
-    of true e = goes_on same equal found (f (g x) ∷ []) now (map f (map g (filter test (drop (i + 1) xs)))) e (once_once same equal now (found ++ f (g x) ∷ []) e)
+    of true e =
+        goes_on same equal found (f (g x) ∷ []) now (map f (map g (filter test (drop (i + 1) xs)))) e (once_once same equal now (found ++ f (g x) ∷ []) e)
     of false e = ap (λ ys. once same (ys ++ map f (map g (filter test (drop (i + 1) xs))))) e

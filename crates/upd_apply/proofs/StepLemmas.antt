@@ -13,14 +13,15 @@ use Rattle.upd_core.specs.declared.target.Target.{Target}
 use Rattle.upd_core.specs.Edits.{introduced, next_age, new_card, with_card, with_deck, with_entries, with_yank}
 use Rattle.upd_core.specs.Library.{LibraryView, place_of}
 use Rattle.upd_core.specs.Limits.{is_within_limits}
-use Rattle.upd_deck.specs.Items.{ItemView, LineView, Text, Call, Ident, Deck, CommonDeck, Insert, Before, Delete, Restore, Yank, SelYank, YankDeck, Purge, PurgeFrom, SelPurge, PurDeck, Compile}
+use Rattle.upd_deck.specs.Items.{ItemView, LineView, Text, Call, Ident, Deck, CommonDeck, Insert, Before, Delete, Restore, Yank, SelYank, YankDeck}
+use Rattle.upd_deck.specs.Items.{Purge, PurgeFrom, SelPurge, PurDeck, Compile}
 use Rattle.upd_apply.specs.declared.state.Spot.{Spot}
 use Rattle.upd_apply.specs.declared.state.Spot.TheVariants.{Nowhere, End, Inside}
 use Rattle.upd_apply.specs.declared.state.State.{State}
 use Rattle.upd_apply.specs.Names.{known_ident}
 use Rattle.upd_apply.specs.Numbers.{next_most}
 use Rattle.upd_apply.specs.Purges.{decks_purged, idents_purged, pairs_purged}
-use Rattle.upd_apply.specs.Step.{deck_begun, done, grown, is_first, new_name, placed_after, placed_before, set_begun, step, switched, text_put, yank_put}
+use Rattle.upd_apply.specs.Step.{deck_begun, done, grown, is_deck_card, new_name, placed_after, placed_before, set_begun, step, switched, text_put, yank_put}
 use Rattle.upd_apply.specs.Yanks.{decks_yanked, pairs_yanked, sets_yanked}
 
 pub after_grown : {B : Type 0} (P : B → Type 0) (l : LibraryView) (f : LibraryView → Result B FaultKind) → IfOk (f l) P → IfOk (grown l >>= f) P
@@ -50,14 +51,14 @@ after_rises card s =
 before_rises : (card : CardRef) (s : State) → IfOk (placed_before card s) (Rises s)
 before_rises card s =
     after_any _ (need fault.NoIdent s.hand) _ (λ _. after_any _ (need fault.CardUnknown (place_of card s.library)) _ (λ p.
-    after_any _ (refuse_if (p.deck == 0) fault.YankText) _ (λ _. after_any _ (refuse_if (is_first p) fault.DeckCard) _ (λ _. omega arith))))
+    after_any _ (refuse_if (p.deck == 0) fault.YankText) _ (λ _. after_any _ (refuse_if (is_deck_card p) fault.DeckCard) _ (λ _. omega arith))))
 
 switched_rises : (active : Bool) (first last : CardRef) (s : State) → IfOk (switched active first last s) (Rises s)
 switched_rises active first last s =
     after_any _ (need fault.NoIdent s.hand) _ (λ hand. after_any _ (need fault.CardUnknown (place_of first s.library)) _ (λ p.
     after_any _ (need fault.CardUnknown (place_of last s.library)) _ (λ q.
     after_any _ (refuse_if (not (p.deck == q.deck) || nat_lt q.index p.index) fault.RangeOrder) _ (λ _.
-    after_any _ (refuse_if (is_first p) fault.DeckCard) _ (λ _.
+    after_any _ (refuse_if (is_deck_card p) fault.DeckCard) _ (λ _.
     after_grown _ (with_entries p.deck p.index q.index (record { ident = hand.ident; active = active }) s.library) _ (omega arith))))))
 
 text_rises : (text : List ℕ) (spot : Spot) (s : State) → s.spot ≡ spot → IfOk (text_put text spot s) (Rises s)

@@ -5,10 +5,10 @@ use Rattle.upd_core.specs.declared.target.Target.{Target}
 use Rattle.upd_core.specs.declared.target.Target.TheVariants.{Set}
 use Rattle.upd_core.specs.Targets.{is_same}
 
--- whether an age is marked: beyond the marks none is
-abbrev pub is_marked : List Bool → ℕ → Bool
-is_marked marks z = slice_index_or marks z false
+-- whether the set of an age is marked: beyond the marks none is
+abbrev pub has_set : List Bool → ℕ → Bool
+has_set marks z = slice_index_or marks z false
 
 -- just the sets among the targets are marked
 abbrev pub AreMarked : List Bool → List Target → Type 0
-AreMarked marks found = (z : ℕ) → is_marked marks z ≡ list_any (λ t. is_same t (Set z)) found
+AreMarked marks found = (z : ℕ) → has_set marks z ≡ list_any (λ t. is_same t (Set z)) found

@@ -1,5 +1,6 @@
 -- What a line does to the library, the set in hand and the place of text; its refusals in order, Full last.
-use Rattle.std.specs.Prelude.{ℕ, ◌+◌, ◌-◌, ◌==◌, nat_lt, Bool, true, false, not, ◌&&◌, ◌||◌, if◌then◌else◌, List, [], ◌∷◌, length, Some, None, is_some, Result, Ok, Err}
+use Rattle.std.specs.Prelude.{ℕ, ◌+◌, ◌-◌, ◌==◌, nat_lt, Bool, true, false, not, ◌&&◌, ◌||◌, if◌then◌else◌, List, [], ◌∷◌, length, Some, None, is_some}
+use Rattle.std.specs.Prelude.{Result, Ok, Err}
 use Rattle.upd_text.specs.declared.card_ref.CardRef.{CardRef}
 use Rattle.upd_text.specs.declared.fault.FaultKind.{FaultKind}
 use Rattle.upd_text.specs.declared.fault.FaultKind.TheVariants as fault
@@ -11,7 +12,8 @@ use Rattle.upd_core.specs.Edits.{introduced, next_age, new_card, with_deck, with
 use Rattle.upd_core.specs.Library.{LibraryView, place_of, cards_of, held_named}
 use Rattle.upd_core.specs.Limits.{is_within_limits}
 use Rattle.upd_text.specs.Outcome.{◌>>=◌, need, refuse_if}
-use Rattle.upd_deck.specs.Items.{ItemView, LineView, Text, Call, Ident, Deck, CommonDeck, Insert, Before, Delete, Restore, Yank, SelYank, YankDeck, Purge, PurgeFrom, SelPurge, PurDeck, Compile}
+use Rattle.upd_deck.specs.Items.{ItemView, LineView, Text, Call, Ident, Deck, CommonDeck, Insert, Before, Delete, Restore, Yank, SelYank, YankDeck}
+use Rattle.upd_deck.specs.Items.{Purge, PurgeFrom, SelPurge, PurDeck, Compile}
 use Rattle.upd_apply.specs.declared.state.Spot.{Spot}
 use Rattle.upd_apply.specs.declared.state.Spot.TheVariants.{Nowhere, End, Inside}
 use Rattle.upd_apply.specs.declared.state.State.{State}
@@ -48,8 +50,8 @@ abbrev pub behind : Place → LibraryView → ℕ
 behind p l = length (cards_of p.deck l) - (p.index + 1)
 
 -- whether a place is that of a deck's first card
-abbrev pub is_first : Place → Bool
-is_first p = not (p.deck == 0) && (p.index == 0)
+abbrev pub is_deck_card : Place → Bool
+is_deck_card p = not (p.deck == 0) && (p.index == 0)
 
 -- `*INSERT`: text goes behind the card
 abbrev pub placed_after : CardRef → State → Result State FaultKind
@@ -65,7 +67,7 @@ placed_before card s = do
   _ ← need fault.NoIdent s.hand
   p ← need fault.CardUnknown (place_of card s.library)
   _ ← refuse_if (p.deck == 0) fault.YankText
-  _ ← refuse_if (is_first p) fault.DeckCard
+  _ ← refuse_if (is_deck_card p) fault.DeckCard
   Ok (record s { spot = Inside p.deck (behind p s.library + 1) })
 
 -- `*DELETE` and `*RESTORE`: an entry of the set in hand on each card of the range; text goes behind the last card
@@ -75,7 +77,7 @@ switched active first last s = do
   p ← need fault.CardUnknown (place_of first s.library)
   q ← need fault.CardUnknown (place_of last s.library)
   _ ← refuse_if (not (p.deck == q.deck) || nat_lt q.index p.index) fault.RangeOrder
-  _ ← refuse_if (is_first p) fault.DeckCard
+  _ ← refuse_if (is_deck_card p) fault.DeckCard
   l ← grown (with_entries p.deck p.index q.index (record { ident = hand.ident; active = active }) s.library)
   Ok (record s { library = l; spot = Inside q.deck (behind q s.library) })
 

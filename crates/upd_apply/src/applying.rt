@@ -32,19 +32,20 @@ pub struct Applied {
 pub fn apply(alloc: Global, library: &mut Library, run: &Run) -> Result<Applied, Fault>
     ensures ok { IfOk result (λ a. applied run.now library.old
         ≡ Ok (record { library = library.new; idents = a.idents.items; compile = a.compile.items })) }
-    ensures touched { AreApart (map key_of (all_cards library.old)) → IfOk result (λ a. a.touched.items ≡ touched library.old library.new) }
+    ensures touched { AreApart (map key_of (all_cards library.old))
+        → IfOk result (λ a. a.touched.items ≡ touched library.old library.new) }
     ensures refused { IfErr result (λ fault. FailsAt fault (applied run.now library.old)) }
     ensures err { OnErr result (library.new ≡ library.old) }
 {
     let mut state = State::new(library.copy()?);
     take_steps(&mut state, run.lines())?;
-    let applied = compared(alloc, library, &state.library, run.lines())?;
+    let applied = outcome(alloc, library, &state.library, run.lines())?;
     *library = state.library;
     Ok(applied)
 }
 
 /// What a run left besides the library, from the library before and after it.
-fn compared(
+fn outcome(
     alloc: Global,
     before: &Library,
     after: &Library,
@@ -52,7 +53,8 @@ fn compared(
 ) -> Result<Applied, Fault>
     ensures idents { IfOk result (λ a. a.idents.items ≡ brought before.now after.now) }
     ensures compile { GivesAt (λ a. a.compile.items) result (named_decks lines.now after.now) }
-    ensures touched { AreApart (map key_of (all_cards before.now)) → IfOk result (λ a. a.touched.items ≡ touched before.now after.now) }
+    ensures touched { AreApart (map key_of (all_cards before.now))
+        → IfOk result (λ a. a.touched.items ≡ touched before.now after.now) }
 {
     let compile = named_decks(alloc, after, lines)?;
     let idents = ages_from(alloc, after.idents(), before.idents().len())?;
@@ -71,6 +73,7 @@ pub fn purge_back(library: &mut Library, age: Serial)
     library.purge_from(age);
 }
 
+/// Takes the lines one after the other, up to the first refusal.
 fn take_steps(state: &mut State, lines: &[Line]) -> Result<(), Fault>
     requires { next_most state.old + length lines.now < 2 ^ 32 }
     ensures { DoesAt result state.new (stepped lines.now state.old) }
@@ -81,6 +84,7 @@ fn take_steps(state: &mut State, lines: &[Line]) -> Result<(), Fault>
     Ok(())
 }
 
+/// What a line does; a refusal is at its line.
 fn take_step(state: &mut State, line: &Line) -> Result<(), Fault>
     requires { next_most state.old + 1 < 2 ^ 32 }
     ensures { DoesAt result state.new (at_line line.now.number (step line.now state.old)) }

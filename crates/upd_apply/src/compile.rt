@@ -74,7 +74,8 @@ fn decks_in_any(
     ranges: &[AgeRange],
 ) -> Result<Vec<Serial>, AllocError>
     ensures { IfOk result (λ found. found.items
-        ≡ map (λ i. i.age) (filter (λ i. i.held && is_deck_kind i.kind && list_any (λ r. is_in r i.age) ranges.now) idents.now)) }
+        ≡ map (λ i. i.age)
+        (filter (λ i. i.held && is_deck_kind i.kind && list_any (λ r. is_in r i.age) ranges.now) idents.now)) }
 {
     let mut found = Vec::new(alloc);
     for ident in idents {
@@ -85,12 +86,15 @@ fn decks_in_any(
     Ok(found)
 }
 
+/// Whether an ident is a held deck in any of these ranges.
 fn is_deck_in_any(ident: &Ident, ranges: &[AgeRange]) -> bool
-    ensures { result ≡ (ident.now.held && is_deck_kind ident.now.kind && list_any (λ r. is_in r ident.now.age) ranges.now) }
+    ensures { result
+        ≡ (ident.now.held && is_deck_kind ident.now.kind && list_any (λ r. is_in r ident.now.age) ranges.now) }
 {
     ident.held && ident.kind.is_deck() && is_in_any(ranges, ident.age)
 }
 
+/// Whether an age lies in any of these ranges.
 fn is_in_any(ranges: &[AgeRange], age: Serial) -> bool
     ensures { result ≡ list_any (λ r. is_in r age) ranges.now }
 {

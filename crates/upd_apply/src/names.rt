@@ -26,6 +26,7 @@ impl Model for AgeRange {
 }
 
 impl AgeRange {
+    /// Whether an age lies in the range.
     pub(crate) fn has(&self, age: Serial) -> bool
         ensures { result ≡ is_in self.now age }
     {
@@ -33,6 +34,7 @@ impl AgeRange {
     }
 }
 
+/// Whether a name is that of the deck of yank cards.
 fn is_reserved(name: &Name) -> bool
     ensures { result ≡ is_reserved name.now }
 {
@@ -41,7 +43,9 @@ fn is_reserved(name: &Name) -> bool
 
 /// Whether a new ident may have this name; else Reserved or NameTaken.
 pub(crate) fn new_name(library: &Library, name: &Name) -> Result<(), FaultKind>
-    ensures { MatchResult result (λ _. new_name name.now library.now ≡ Ok false) (λ e. new_name name.now library.now ≡ Err e) }
+    ensures { MatchResult result
+        (λ _. new_name name.now library.now ≡ Ok false)
+        (λ e. new_name name.now library.now ≡ Err e) }
 {
     if is_reserved(name) {
         return Err(FaultKind::Reserved);

@@ -33,9 +33,9 @@ impl Model for AgePair {
     ghost inverse = { λ a. record { deck = a.deck; ident = a.ident } };
 }
 
-/// A purge ends the set in hand and the place of text.
+/// Purges take no set in hand, and leave none.
 impl State {
-    /// `*PURGE`
+    /// `*PURGE` of names and ranges.
     pub(crate) fn purge_idents(&mut self, ranges: &[NameRange]) -> Result<(), FaultKind>
         ensures { Does result self.new (done (Purge ranges.now) [] self.old) }
     {
@@ -45,7 +45,7 @@ impl State {
         Ok(())
     }
 
-    /// `*PURGE` with a star
+    /// `*PURGE` of an ident and all younger ones.
     pub(crate) fn purge_from(&mut self, name: &Name) -> Result<(), FaultKind>
         ensures { Does result self.new (done (PurgeFrom name.now) [] self.old) }
     {
@@ -55,7 +55,7 @@ impl State {
         Ok(())
     }
 
-    /// `*SELPURGE`
+    /// `*SELPURGE`: idents from decks.
     pub(crate) fn purge_pairs(&mut self, pairs: &[IdentIn]) -> Result<(), FaultKind>
         ensures { Does result self.new (done (SelPurge pairs.now) [] self.old) }
     {
@@ -65,7 +65,7 @@ impl State {
         Ok(())
     }
 
-    /// `*PURDECK`
+    /// `*PURDECK`: decks with their cards.
     pub(crate) fn purge_decks(&mut self, ranges: &[NameRange]) -> Result<(), FaultKind>
         ensures { Does result self.new (done (PurDeck ranges.now) [] self.old) }
     {
@@ -75,6 +75,7 @@ impl State {
         Ok(())
     }
 
+    /// A purge leaves no set in hand and no place of text.
     fn end(&mut self)
         ensures { self.new ≡ ended self.old.library }
     {
@@ -83,6 +84,7 @@ impl State {
     }
 }
 
+/// Purges idents from decks, one after the other.
 fn purge_in_all(library: &mut Library, pairs: &[AgePair])
     ensures { library.new ≡ purged_in_all pairs.now library.old }
 {
@@ -137,6 +139,7 @@ pub(crate) fn pairs_purged(library: &Library, pairs: &[IdentIn]) -> Result<Vec<A
     Ok(found)
 }
 
+/// Adds the ages of the held idents in a range.
 fn add_idents(found: &mut Vec<Serial>, idents: &[Ident], ages: AgeRange) -> Result<(), AllocError>
     ensures { OnOk result (found.new.items
         ≡ found.old.items ++ map (λ i. i.age) (filter (λ i. i.held && is_in ages i.age) idents.now)) }
@@ -149,9 +152,11 @@ fn add_idents(found: &mut Vec<Serial>, idents: &[Ident], ages: AgeRange) -> Resu
     Ok(())
 }
 
+/// Adds the ages of the held decks in a range.
 fn add_decks(found: &mut Vec<Serial>, idents: &[Ident], ages: AgeRange) -> Result<(), AllocError>
     ensures { OnOk result (found.new.items
-        ≡ found.old.items ++ map (λ i. i.age) (filter (λ i. i.held && is_deck_kind i.kind && is_in ages i.age) idents.now)) }
+        ≡ found.old.items
+        ++ map (λ i. i.age) (filter (λ i. i.held && is_deck_kind i.kind && is_in ages i.age) idents.now)) }
 {
     for ident in idents {
         if ident.held && ident.kind.is_deck() && ages.has(ident.age) {

@@ -7,7 +7,8 @@ ghost use Rattle.upd_text.specs.declared.fault.FaultKind.TheVariants as fault;
 ghost use Rattle.upd_apply.specs.Applying.{started};
 ghost use Rattle.upd_apply.specs.declared.state.Spot.TheVariants.{End, Inside};
 ghost use Rattle.upd_apply.specs.Numbers.{next_most};
-ghost use Rattle.upd_apply.specs.Step.{behind, deck_begun, grown, is_first, placed_after, placed_before, set_begun, switched, text_put};
+ghost use Rattle.upd_apply.specs.Step.{behind, deck_begun, grown, is_deck_card, placed_after, placed_before, set_begun};
+ghost use Rattle.upd_apply.specs.Step.{switched, text_put};
 
 use crate::names::new_name;
 use upd_core::{Card, Deck, Entry, Kind, Library, Place, Serial};
@@ -27,7 +28,8 @@ pub enum Spot {
     Nowhere,
     /// The end of a deck that this run brought, and the number that its next card gets.
     End { deck: Serial, next: u32 },
-    /// Inside a deck, with so many of its cards behind. Text does not move the spot: the next text goes behind this one.
+    /// Inside a deck, with so many of its cards behind. Text does not move the spot: the next text goes behind this one,
+    /// and as many cards stand behind that.
     Inside { deck: Serial, behind: usize },
 }
 
@@ -52,7 +54,7 @@ impl State {
         }
     }
 
-    /// `*IDENT`
+    /// `*IDENT`: a new set is in hand.
     pub(crate) fn begin_set(&mut self, name: &Name) -> Result<(), FaultKind>
         ensures { Does result self.new (set_begun name.now self.old) }
     {
@@ -65,7 +67,7 @@ impl State {
         Ok(())
     }
 
-    /// `*DECK` and `*COMDECK`
+    /// `*DECK` and `*COMDECK`: a new deck, whose first card is the line.
     pub(crate) fn begin_deck(
         &mut self,
         name: &Name,
@@ -85,7 +87,7 @@ impl State {
         Ok(())
     }
 
-    /// `*INSERT`
+    /// `*INSERT`: text goes behind a card.
     pub(crate) fn place_after(&mut self, card: &CardRef) -> Result<(), FaultKind>
         ensures { Does result self.new (placed_after card.now self.old) }
     {
@@ -101,7 +103,7 @@ impl State {
         Ok(())
     }
 
-    /// `*BEFORE`
+    /// `*BEFORE`: text goes before a card.
     pub(crate) fn place_before(&mut self, card: &CardRef) -> Result<(), FaultKind>
         ensures { Does result self.new (placed_before card.now self.old) }
     {
@@ -110,7 +112,7 @@ impl State {
         if place.deck == 0 {
             return Err(FaultKind::YankText);
         }
-        if is_first(place) {
+        if is_deck_card(place) {
             return Err(FaultKind::DeckCard);
         }
         self.spot = Spot::Inside {
@@ -120,7 +122,7 @@ impl State {
         Ok(())
     }
 
-    /// `*DELETE` and `*RESTORE`
+    /// `*DELETE` and `*RESTORE`: an entry on each card of a range; text goes behind the last.
     pub(crate) fn switch(
         &mut self,
         active: bool,
@@ -135,7 +137,7 @@ impl State {
         if from.deck != to.deck || to.index < from.index {
             return Err(FaultKind::RangeOrder);
         }
-        if is_first(from) {
+        if is_deck_card(from) {
             return Err(FaultKind::DeckCard);
         }
         let behind = behind(&self.library, to);
@@ -152,7 +154,7 @@ impl State {
         Ok(())
     }
 
-    /// Text and calls
+    /// Text and calls: a card at the place of text.
     pub(crate) fn put_text(&mut self, text: &[u8]) -> Result<(), FaultKind>
         requires { next_most self.old + 1 < 2 ^ 32 }
         ensures { Does result self.new (text_put text.now self.old.spot self.old) }
@@ -164,6 +166,7 @@ impl State {
         }
     }
 
+    /// Text at the end of a deck that this run brought: it takes the deck's next number.
     fn put_at_end(&mut self, deck: Serial, next: u32, text: &[u8]) -> Result<(), FaultKind>
         requires spot { self.old.spot ≡ End deck next }
         requires number { next_most self.old + 1 < 2 ^ 32 }
@@ -179,6 +182,7 @@ impl State {
         Ok(())
     }
 
+    /// Text inside a deck: it takes the next number of the set in hand.
     fn put_inside(&mut self, deck: Serial, behind: usize, text: &[u8]) -> Result<(), FaultKind>
         requires spot { self.old.spot ≡ Inside deck behind }
         requires number { next_most self.old + 1 < 2 ^ 32 }
@@ -258,8 +262,9 @@ fn behind(library: &Library, place: Place) -> usize
         .saturating_sub(1)
 }
 
-fn is_first(place: Place) -> bool
-    ensures { result ≡ is_first place }
+/// Whether a place is that of a deck's first card.
+fn is_deck_card(place: Place) -> bool
+    ensures { result ≡ is_deck_card place }
 {
     place.deck != 0 && place.index == 0
 }

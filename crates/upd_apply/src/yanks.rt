@@ -3,7 +3,7 @@ ghost use Rattle.std.specs.Prelude.{◌≡◌, ◌+◌, ◌^◌, ◌<◌, ◌&&�
 ghost use Rattle.std.specs.List.{filter};
 ghost use Rattle.upd_text.specs.Outcome.{Does, Gives};
 ghost use Rattle.upd_core.specs.declared.target.Target.TheVariants.{Set};
-ghost use Rattle.upd_apply.specs.Marks.{AreMarked, is_marked};
+ghost use Rattle.upd_apply.specs.Marks.{AreMarked, has_set};
 ghost use Rattle.upd_apply.specs.Numbers.{next_most};
 ghost use Rattle.upd_apply.specs.Step.{yank_put};
 ghost use Rattle.upd_apply.specs.Names.{is_in};
@@ -18,7 +18,7 @@ use upd_deck::{IdentIn, NameRange};
 use upd_text::{FaultKind, Name};
 
 impl State {
-    /// `*YANK`
+    /// `*YANK` of names and ranges.
     pub(crate) fn yank_sets(&mut self, text: &[u8], ranges: &[NameRange]) -> Result<(), FaultKind>
         requires { next_most self.old + 1 < 2 ^ 32 }
         ensures { Does result self.new (yank_put text.now (sets_yanked ranges.now) self.old) }
@@ -28,7 +28,7 @@ impl State {
         self.put_yank(hand, text, targets)
     }
 
-    /// `*SELYANK`
+    /// `*SELYANK`: idents in decks.
     pub(crate) fn yank_pairs(&mut self, text: &[u8], pairs: &[IdentIn]) -> Result<(), FaultKind>
         requires { next_most self.old + 1 < 2 ^ 32 }
         ensures { Does result self.new (yank_put text.now (pairs_yanked pairs.now) self.old) }
@@ -38,7 +38,7 @@ impl State {
         self.put_yank(hand, text, targets)
     }
 
-    /// `*YANKDECK`
+    /// `*YANKDECK`: whole decks.
     pub(crate) fn yank_decks(&mut self, text: &[u8], names: &[Name]) -> Result<(), FaultKind>
         requires { next_most self.old + 1 < 2 ^ 32 }
         ensures { Does result self.new (yank_put text.now (decks_yanked names.now) self.old) }
@@ -126,7 +126,8 @@ pub(crate) fn decks_yanked(
     Ok(found)
 }
 
-/// Adds the sets of a range that aren't there yet. The marks tell by age which sets are there, so that none is looked for.
+/// Adds the sets of a range that aren't there yet. The marks tell which are: a range may name every ident, and a search
+/// for each would go over all that was found.
 fn add_sets(
     found: &mut Vec<Target>,
     marks: &mut Vec<bool>,
@@ -136,7 +137,8 @@ fn add_sets(
     requires marked { AreMarked marks.old.items found.old.items }
     requires apart { once is_same found.old.items ≡ found.old.items }
     ensures sets { OnOk result (found.new.items
-        ≡ once is_same (found.old.items ++ map Set (map (λ i. i.age) (filter (λ i. i.held && is_in ages i.age) idents.now)))) }
+        ≡ once is_same (found.old.items
+        ++ map Set (map (λ i. i.age) (filter (λ i. i.held && is_in ages i.age) idents.now)))) }
     ensures marked { OnOk result (AreMarked marks.new.items found.new.items) }
 {
     for ident in idents {
@@ -154,22 +156,24 @@ fn add_set(found: &mut Vec<Target>, marks: &mut Vec<bool>, age: Serial) -> Resul
     ensures set { OnOk result (found.new.items ≡ once is_same (found.old.items ++ Set age ∷ [])) }
     ensures marked { OnOk result (AreMarked marks.new.items found.new.items) }
 {
-    if !is_marked(marks, age) {
+    if !has_set(marks, age) {
         mark(marks, age)?;
         found.push(Target::Set(age))?;
     }
     Ok(())
 }
 
-fn is_marked(marks: &[bool], age: Serial) -> bool
-    ensures { result ≡ is_marked marks.now age }
+/// Whether the set of an age is marked.
+fn has_set(marks: &[bool], age: Serial) -> bool
+    ensures { result ≡ has_set marks.now age }
 {
     let age = age as usize;
     age < marks.len() && marks[age]
 }
 
+/// Marks the set of an age.
 fn mark(marks: &mut Vec<bool>, age: Serial) -> Result<(), AllocError>
-    ensures { OnOk result ((z : ℕ) → is_marked marks.new.items z ≡ (is_marked marks.old.items z || (z == age))) }
+    ensures { OnOk result ((z : ℕ) → has_set marks.new.items z ≡ (has_set marks.old.items z || (z == age))) }
 {
     let age = age as usize;
     if marks.len() <= age {

@@ -24,7 +24,7 @@ use Rattle.upd_apply.specs.declared.state.Spot.TheVariants.{Nowhere, End, Inside
 use Rattle.upd_apply.specs.declared.state.State.{State}
 use Rattle.upd_apply.specs.Applying.{Reached, started, stepped, applied}
 use Rattle.upd_apply.specs.Compile.{named_decks}
-use Rattle.upd_apply.specs.Step.{new_name, set_begun, deck_begun, placed_after, placed_before, switched, text_put, yank_put, is_first, done, step}
+use Rattle.upd_apply.specs.Step.{new_name, set_begun, deck_begun, placed_after, placed_before, switched, text_put, yank_put, is_deck_card, done, step}
 use Rattle.upd_apply.specs.Yanks.{sets_yanked, pairs_yanked, decks_yanked}
 use Rattle.upd_apply.proofs.StepLemmas.{after_grown}
 use Rattle.upd_laws.specs.PurgingBack.{is_purge, purges_nothing, all_applied}
@@ -89,7 +89,7 @@ placed_after_next x card s r =
 placed_before_next : (x : ℕ) (card : CardRef) (s : State) → Ready x s → IfOk (placed_before card s) (Next x s)
 placed_before_next x card s r =
     after_any _ (need fault.NoIdent s.hand) _ (λ _. after_any _ (need fault.CardUnknown (place_of card s.library)) _ (λ p.
-    after_any _ (refuse_if (p.deck == 0) fault.YankText) _ (λ _. after_any _ (refuse_if (is_first p) fault.DeckCard) _ (λ _. record {
+    after_any _ (refuse_if (p.deck == 0) fault.YankText) _ (λ _. after_any _ (refuse_if (is_deck_card p) fault.DeckCard) _ (λ _. record {
       library = grows x s.library;
       ready = record { from = r.from; hand = r.hand; spot = tt };
     }))))
@@ -105,7 +105,7 @@ switched_next x active first last s r =
     after_need _ fault.NoIdent s.hand _ (λ hand held.
     after_any _ (need fault.CardUnknown (place_of first s.library)) _ (λ p. after_any _ (need fault.CardUnknown (place_of last s.library)) _ (λ q.
     after_refusal _ (not (p.deck == q.deck) || ltb q.index p.index) fault.RangeOrder _ (λ right.
-    after_any _ (refuse_if (is_first p) fault.DeckCard) _ (λ _.
+    after_any _ (refuse_if (is_deck_card p) fault.DeckCard) _ (λ _.
     let e : Entry = record { ident = hand.ident; active = active } in
     let l = with_entries p.deck p.index q.index e s.library in
     let ordered : p.index ≤ q.index = ltb-false q.index p.index (or_parts (not (p.deck == q.deck)) _ right).1 in

@@ -27,7 +27,7 @@ use Rattle.upd_apply.specs.declared.state.Spot.{Spot}
 use Rattle.upd_apply.specs.declared.state.Spot.TheVariants.{Nowhere, End, Inside}
 use Rattle.upd_apply.specs.declared.state.State.{State}
 use Rattle.upd_apply.specs.Applying.{Reached, applied, started, stepped}
-use Rattle.upd_apply.specs.Step.{done, step, new_name, set_begun, deck_begun, is_first, placed_after, placed_before, switched, text_put, yank_put, ended}
+use Rattle.upd_apply.specs.Step.{done, step, new_name, set_begun, deck_begun, is_deck_card, placed_after, placed_before, switched, text_put, yank_put, ended}
 use Rattle.upd_apply.specs.Step.{purged_in_all}
 use Rattle.upd_apply.specs.Purges.{AgesIn}
 use Rattle.upd_apply.specs.Yanks.{sets_yanked, pairs_yanked, decks_yanked}
@@ -219,7 +219,7 @@ before_made k card s t made h =
     through_need fault.NoIdent s.hand _ t (IsMade (k + 1) t) h (λ hand e h1.
     through_need fault.CardUnknown (place_of card s.library) _ t (IsMade (k + 1) t) h1 (λ p f h2.
     through_refusal (p.deck == 0) fault.YankText _ t (IsMade (k + 1) t) h2 (λ g h3.
-    through_refusal (is_first p) fault.DeckCard _ t (IsMade (k + 1) t) h3 (λ n h4.
+    through_refusal (is_deck_card p) fault.DeckCard _ t (IsMade (k + 1) t) h3 (λ n h4.
     holds_of (IsMade (k + 1)) _ t h4 (record { library = made.library; hand = more_hand k s.hand made.hand; spot = tt })))))
 
 switched_made : (k : ℕ) (active : Bool) (first last : CardRef) (s t : State) → IsMade k s → switched active first last s ≡ Ok t → IsMade (k + 1) t
@@ -228,7 +228,7 @@ switched_made k active first last s t made h =
     through_need fault.CardUnknown (place_of first s.library) _ t (IsMade (k + 1) t) h1 (λ p f h2.
     through_need fault.CardUnknown (place_of last s.library) _ t (IsMade (k + 1) t) h2 (λ q g h3.
     through_refusal (not (p.deck == q.deck) || nat_lt q.index p.index) fault.RangeOrder _ t (IsMade (k + 1) t) h3 (λ n h4.
-    through_refusal (is_first p) fault.DeckCard _ t (IsMade (k + 1) t) h4 (λ m h5.
+    through_refusal (is_deck_card p) fault.DeckCard _ t (IsMade (k + 1) t) h4 (λ m h5.
     let entry : Entry = record { ident = hand.ident; active = active } in
     through_grown (with_entries p.deck p.index q.index entry s.library) _ t (IsMade (k + 1) t) h5 (λ h6.
     holds_of (IsMade (k + 1)) _ t h6 (record {

@@ -16,7 +16,7 @@ use Rattle.upd_deck.specs.Items.{ItemView, LineView, Text, Call, Ident, Deck, Co
 use Rattle.upd_apply.specs.declared.state.Spot.{Spot}
 use Rattle.upd_apply.specs.declared.state.Spot.TheVariants.{Nowhere, End, Inside}
 use Rattle.upd_apply.specs.declared.state.State.{State}
-use Rattle.upd_apply.specs.Step.{done, step, new_name, deck_begun, is_first, switched, text_put, yank_put, purged_in_all}
+use Rattle.upd_apply.specs.Step.{done, step, new_name, deck_begun, is_deck_card, switched, text_put, yank_put, purged_in_all}
 use Rattle.upd_apply.specs.Names.{known_ident}
 use Rattle.upd_apply.specs.Yanks.{sets_yanked, pairs_yanked, decks_yanked}
 use Rattle.upd_apply.specs.Purges.{AgesIn, idents_purged, decks_purged, pairs_purged}
@@ -69,7 +69,7 @@ switched_leads Q active first last s t leads h =
     through_need fault.CardUnknown (place_of first s.library) _ t (Q t.library) h1 (λ p f h2.
     through_need fault.CardUnknown (place_of last s.library) _ t (Q t.library) h2 (λ q g h3.
     through_refusal (not (p.deck == q.deck) || nat_lt q.index p.index) fault.RangeOrder _ t (Q t.library) h3 (λ k h4.
-    through_refusal (is_first p) fault.DeckCard _ t (Q t.library) h4 (λ n h5.
+    through_refusal (is_deck_card p) fault.DeckCard _ t (Q t.library) h4 (λ n h5.
     through_limits (with_entries p.deck p.index q.index (record { ident = hand.ident; active = active }) s.library) _ t (Q t.library) h5 (λ within h6.
     holds_of (λ (x : State). Q x.library) _ t h6 (leads.grows (with_entries p.deck p.index q.index (record { ident = hand.ident; active = active }) s.library) within (entries_go p.deck p.index q.index (record { ident = hand.ident; active = active }) s.library))))))))
 
@@ -90,7 +90,7 @@ done_leads Q (Before card) text s t leads h =
     through_need fault.NoIdent s.hand _ t (Q t.library) h (λ hand e h1.
     through_need fault.CardUnknown (place_of card s.library) _ t (Q t.library) h1 (λ p f h2.
     through_refusal (p.deck == 0) fault.YankText _ t (Q t.library) h2 (λ g h3.
-    through_refusal (is_first p) fault.DeckCard _ t (Q t.library) h3 (λ k h4. holds_of (λ (x : State). Q x.library) _ t h4 leads.stays))))
+    through_refusal (is_deck_card p) fault.DeckCard _ t (Q t.library) h3 (λ k h4. holds_of (λ (x : State). Q x.library) _ t h4 leads.stays))))
 done_leads Q (Delete first last) text s t leads h = switched_leads Q false first last s t leads h
 done_leads Q (Restore first last) text s t leads h = switched_leads Q true first last s t leads h
 done_leads Q (Yank ranges) text s t leads h = yank_leads Q text (sets_yanked ranges) s t leads h

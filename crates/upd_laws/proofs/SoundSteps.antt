@@ -23,7 +23,7 @@ use Rattle.upd_apply.specs.declared.Hand.{Hand}
 use Rattle.upd_apply.specs.declared.state.Spot.{Spot}
 use Rattle.upd_apply.specs.declared.state.Spot.TheVariants.{Nowhere, End, Inside}
 use Rattle.upd_apply.specs.declared.state.State.{State}
-use Rattle.upd_apply.specs.Step.{new_name, set_begun, deck_begun, behind, is_first, placed_after, placed_before, switched, text_put, yank_put, ended, purged_in_all}
+use Rattle.upd_apply.specs.Step.{new_name, set_begun, deck_begun, behind, is_deck_card, placed_after, placed_before, switched, text_put, yank_put, ended, purged_in_all}
 use Rattle.upd_apply.specs.Names.{is_reserved, known_deck, known_ident}
 use Rattle.upd_apply.specs.Purges.{AgesIn, pair_ages, pairs_purged}
 use Rattle.upd_laws.specs.Soundness.{IsNext, IsInHand, IsHandSound, IsAtEnd, IsSpotSound, IsSoundState}
@@ -159,7 +159,7 @@ before_sound card s t sound h =
     through_need fault.NoIdent s.hand _ t (IsSoundState t) h (λ hand e h1.
     through_need fault.CardUnknown (place_of card s.library) _ t (IsSoundState t) h1 (λ p f h2.
     through_refusal (p.deck == 0) fault.YankText _ t (IsSoundState t) h2 (λ g h3.
-    through_refusal (is_first p) fault.DeckCard _ t (IsSoundState t) h3 (λ k h4.
+    through_refusal (is_deck_card p) fault.DeckCard _ t (IsSoundState t) h3 (λ k h4.
     let within = place_within card s.library p (deck_ages_apart s.library sound.library) f in
     holds_of IsSoundState _ t h4 (record {
       library = sound.library;
@@ -167,7 +167,7 @@ before_sound card s t sound h =
       spot = inr (up (length (cards_of p.deck s.library)) p.index within (later p g k));
     })))))
   where
-    later : (p : Place) → (p.deck == 0) ≡ false → is_first p ≡ false → 0 < p.index
+    later : (p : Place) → (p.deck == 0) ≡ false → is_deck_card p ≡ false → 0 < p.index
     later p g k = let first : (p.index == 0) ≡ false = rw g at k in let other = other_number p.index 0 first in absurd_zero p.index other
       where
         absurd_zero : (n : ℕ) → (n ≡ 0 → ⊥) → 0 < n
@@ -192,7 +192,7 @@ switched_sound active first last s t sound h =
     through_need fault.CardUnknown (place_of first s.library) _ t (IsSoundState t) h1 (λ p f h2.
     through_need fault.CardUnknown (place_of last s.library) _ t (IsSoundState t) h2 (λ q g h3.
     through_refusal (not (p.deck == q.deck) || nat_lt q.index p.index) fault.RangeOrder _ t (IsSoundState t) h3 (λ k h4.
-    through_refusal (is_first p) fault.DeckCard _ t (IsSoundState t) h4 (λ n h5.
+    through_refusal (is_deck_card p) fault.DeckCard _ t (IsSoundState t) h4 (λ n h5.
     through_grown (with_entries p.deck p.index q.index (record { ident = hand.ident; active = active }) s.library) _ t (IsSoundState t) h5 (λ h6.
     holds_of IsSoundState _ t h6 (after hand p q e
     (same_number p.deck q.deck (not_or (p.deck == q.deck) (nat_lt q.index p.index) k))

@@ -12,5 +12,6 @@ returns-in_ok-push-clause-set c = one_more is_same same_target _ _ (Set c.args.a
 pub returns-in_ok-push-clause-marked : goal.returns-in_ok-push-clause-marked
 returns-in_ok-push-clause-marked c = grind (arith, common_steps)
 
-pub returns-else-not-is_marked-clause-set : goal.returns-else-not-is_marked-clause-set
-returns-else-not-is_marked-clause-set c = one_more is_same same_target _ _ (Set c.args.age) c.requires.apart (grind (arith, common_steps, c.requires.marked c.args.age))
+pub returns-else-not-has_set-clause-set : goal.returns-else-not-has_set-clause-set
+returns-else-not-has_set-clause-set c =
+    one_more is_same same_target _ _ (Set c.args.age) c.requires.apart (grind (arith, common_steps, c.requires.marked c.args.age))

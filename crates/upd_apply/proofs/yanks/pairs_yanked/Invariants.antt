@@ -6,6 +6,7 @@ use Rattle.upd_apply.proofs.yanks.pairs_yanked.Given as goal
 
 abbrev pub invariant-loop-pair : goal.invariant-loop-pair
 invariant-loop-pair l = record {
-  named : each (pair_targets l.set l.library) (drop l.pair-index l.pairs) >>= (λ more. Ok (once is_same (l.found.items ++ more))) ≡ pairs_yanked l.pairs l.set l.library;
+  named : each (pair_targets l.set l.library) (drop l.pair-index l.pairs) >>= (λ more. Ok (once is_same (l.found.items ++ more)))
+      ≡ pairs_yanked l.pairs l.set l.library;
   apart : once is_same l.found.items ≡ l.found.items;
 }

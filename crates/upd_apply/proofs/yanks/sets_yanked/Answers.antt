@@ -12,20 +12,24 @@ use Rattle.upd_apply.proofs.yanks.sets_yanked.Goals as goal
 pub returns-in_err-ages : goal.returns-in_err-ages
 returns-in_err-ages c =
     let refused : range_targets c.args.set c.args.library.now c.range-item.result ≡ Err c.in_err-ages.field-0.0 = grind (arith, common_steps) in
-    let whole = once_refused is_same (range_targets c.args.set c.args.library.now) c.args.ranges.now c.loop-range.range-index c.range-item.result _ _ _ c.loop-range-test.true c.range-item.is refused c.loop-range.invariant.named in
+    let whole = once_refused is_same (range_targets c.args.set c.args.library.now) c.args.ranges.now c.loop-range.range-index c.range-item.result _ _ _
+    c.loop-range-test.true c.range-item.is refused c.loop-range.invariant.named in
     grind (arith, common_steps, whole)
 
 pub returns-then-set-ages : goal.returns-then-set-ages
 returns-then-set-ages c =
     let refused : range_targets c.args.set c.args.library.now c.range-item.result ≡ Err YankSelf = grind (arith, common_steps) in
-    once_refused is_same (range_targets c.args.set c.args.library.now) c.args.ranges.now c.loop-range.range-index c.range-item.result _ _ _ c.loop-range-test.true c.range-item.is refused c.loop-range.invariant.named
+    once_refused is_same (range_targets c.args.set c.args.library.now) c.args.ranges.now c.loop-range.range-index c.range-item.result _ _ _
+    c.loop-range-test.true c.range-item.is refused c.loop-range.invariant.named
 
 pub loop-range-preserved : goal.loop-range-preserved
 loop-range-preserved c =
-    let gives : range_targets c.args.set c.args.library.now c.range-item.result ≡ Ok (map Set (idents_in c.in_ok-ages.ages c.args.library.now)) = grind (arith, common_steps) in
+    let gives : range_targets c.args.set c.args.library.now c.range-item.result ≡ Ok (map Set (idents_in c.in_ok-ages.ages c.args.library.now)) =
+    grind (arith, common_steps) in
     let now = rw c.idents.ensures at c.in_ok-add_sets.ensures.sets in
     record {
-      named = once_more is_same same_target (range_targets c.args.set c.args.library.now) c.args.ranges.now c.loop-range.range-index c.range-item.result _ _ _ _ c.loop-range-test.true c.range-item.is gives now c.loop-range.invariant.named;
+      named = once_more is_same same_target (range_targets c.args.set c.args.library.now) c.args.ranges.now c.loop-range.range-index c.range-item.result _ _ _ _
+          c.loop-range-test.true c.range-item.is gives now c.loop-range.invariant.named;
       apart = once_once is_same same_target _ _ now;
       marked = c.in_ok-add_sets.ensures.marked;
     }
