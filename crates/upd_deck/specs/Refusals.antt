@@ -41,7 +41,7 @@ IsWanted words.SelPurge field = (pair : IdentIn) × IsPair field pair
 IsWanted words.PurDeck field = (range : NameRange) × IsRange field range
 IsWanted words.Compile field = (range : NameRange) × IsRange field range
 
--- the fault of a field that isn't what its word wants
+-- The fault of a field that isn't what its word wants. A word wants the same of each field, so it has one such fault, whichever field is bad.
 abbrev pub field_fault : Word → FaultKind
 field_fault words.Insert = fault.BadCard
 field_fault words.Before = fault.BadCard
