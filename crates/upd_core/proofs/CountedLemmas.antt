@@ -1,9 +1,8 @@
 -- Counts of targets: equal targets, and one more target counted.
-use Rattle.std.proofs.Common.{◌≡◌, ℕ, ◌+◌, ◌<◌, min, Bool, true, false, ◌&&◌, if◌then◌else◌, List, take, length, get_or, count_by, cond, Some, Option, unwrap_or, refl, ap, sym, ◌∙◌, arith}
+use Rattle.std.proofs.Common.{◌≡◌, ℕ, ◌+◌, ◌<◌, ◌≤◌, min, Bool, true, false, ◌&&◌, if◌then◌else◌, List, take, length, get_or, count_by, cond, Some, Option, unwrap_or, refl, ap, sym, ◌∙◌, arith}
 use Rattle.std.specs.Prelude.{◌==◌}
 use Rattle.std.proofs.lemmas.Bool.Decides.{nat_tests, Decides-eqb}
-use Rattle.std.proofs.lemmas.List.Sums.{count_by_more_yes, count_by_more_no, count_by-le-length}
-use Rattle.std.proofs.lemmas.List.{length-take}
+use Rattle.std.proofs.lemmas.List.Sums.{count_by_more_yes, count_by_more_no, sum_by-take-drop}
 use Rattle.std.specs.BTreeMap as tree
 use Rattle.std.specs.BTreeMap.{BTreeMap, is_at}
 use Rattle.std.specs.Map.{lookup}
@@ -77,12 +76,12 @@ put_count m n k v t is =
 
 -- the count of t once x, the next of some targets, is counted too
 pub raised_more : (f g : Target → ℕ) (t x d : Target) (ts : List Target) (i start count : ℕ) → i < length ts → x ≡ get_or ts i d →
-    f t ≡ start + count_by (is_same t) (take i ts) → start + length ts < 4294967296 → count ≡ min (f x + 1) 4294967295 →
+    f t ≡ start + count_by (is_same t) (take i ts) → start + count_by (is_same t) ts < 4294967296 → count ≡ min (f x + 1) 4294967295 →
     g t ≡ (if is_same x t then count else f t) → g t ≡ start + count_by (is_same t) (take (i + 1) ts)
 raised_more f g t x d ts i start count within read so_far fits raised is = go (is_same x t) refl is
   where
-    short : count_by (is_same t) (take i ts) < length ts
-    short = omega (arith, count_by-le-length (is_same t) (take i ts), length-take i ts)
+    short : count_by (is_same t) (take (i + 1) ts) ≤ count_by (is_same t) ts
+    short = omega (arith, sum_by-take-drop (λ u. if is_same t u then 1 else 0) ts (i + 1))
 
     go : (b : Bool) → is_same x t ≡ b → g t ≡ (if b then count else f t) → g t ≡ start + count_by (is_same t) (take (i + 1) ts)
     go true e is =

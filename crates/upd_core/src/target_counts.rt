@@ -1,6 +1,6 @@
 //! How many live yank cards have each target: what tells whether an ident is taken while yank cards come and go.
 
-ghost use Rattle.std.specs.Prelude.{◌≡◌, ◌<◌, ◌+◌, ◌^◌, [], if◌then◌else◌, length, count_by, IfOk, OnOk};
+ghost use Rattle.std.specs.Prelude.{◌≡◌, ◌<◌, ◌+◌, ◌^◌, [], if◌then◌else◌, count_by, IfOk, OnOk};
 ghost use Rattle.upd_core.specs.declared.target.Target.{Target};
 ghost use Rattle.upd_core.specs.Reach.{is_flipped};
 ghost use Rattle.upd_core.specs.TargetCounts.{count_in};
@@ -62,9 +62,9 @@ impl TargetCounts {
         Ok(())
     }
 
-    /// One more for each of these targets; memory alone can fail.
+    /// One more for each of these targets; memory alone can fail. A count stays at `u32::MAX`.
     pub fn raise(&mut self, targets: &[Target]) -> Result<(), AllocError>
-        ensures { OnOk result ((t : Target) → count_in self.old t + length targets.now < 2 ^ 32 →
+        ensures { OnOk result ((t : Target) → count_in self.old t + count_by (is_same t) targets.now < 2 ^ 32 →
             count_in self.new t ≡ count_in self.old t + count_by (is_same t) targets.now) }
     {
         for target in targets {

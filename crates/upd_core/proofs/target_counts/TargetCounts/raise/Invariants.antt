@@ -1,9 +1,9 @@
-use Rattle.std.proofs.Common.{◌≡◌, ◌+◌, ◌^◌, ◌<◌, length, take, count_by}
+use Rattle.std.proofs.Common.{◌≡◌, ◌+◌, ◌^◌, ◌<◌, take, count_by}
 use Rattle.upd_core.specs.declared.target.Target.{Target}
 use Rattle.upd_core.specs.TargetCounts.{count_in}
 use Rattle.upd_core.specs.Targets.{is_same}
 use Rattle.upd_core.proofs.target_counts.TargetCounts.raise.Given as goal
 
 abbrev pub invariant-loop-target : goal.invariant-loop-target
-invariant-loop-target l = (t : Target) → count_in l.initial.self t + length l.targets < 2 ^ 32 →
+invariant-loop-target l = (t : Target) → count_in l.initial.self t + count_by (is_same t) l.targets < 2 ^ 32 →
     count_in l.self t ≡ count_in l.initial.self t + count_by (is_same t) (take l.target-index l.targets)
