@@ -1,0 +1,36 @@
+-- What a settling leaves, put together from its steps.
+use Rattle.std.proofs.Common.{◌≡◌, ℕ, Bool, if◌then◌else◌, List, [], ◌++◌, Option, None, ap, ◌∙◌}
+use Rattle.std.specs.List.{list_any}
+use Rattle.std.specs.Map.{update_all}
+use Rattle.std.specs.Option.{option_or}
+use Rattle.upd_core.specs.Counted.{CountedCardView, others_of, yanks_of}
+use Rattle.upd_core.specs.declared.target.Target.{Target}
+use Rattle.upd_core.specs.Library.{LibraryView}
+use Rattle.upd_core.specs.TargetCounts.{count_on}
+use Rattle.upd_change.specs.Rows.{same_ref}
+use Rattle.upd_text.specs.declared.card_ref.CardRef.{CardRef}
+use Rattle.upd_yank.specs.Cascade.{found_of_all, found_others, found_yanks, settled, stay}
+use Rattle.upd_yank.specs.Right.{kept_status}
+
+pub left_found : (touched was : CountedCardView → Bool) (before : Target → ℕ) (l : LibraryView) (ys os : List CountedCardView) (counts : Target → ℕ)
+    (found now : List (CardRef × Bool)) →
+    ys ≡ yanks_of l → os ≡ others_of l → found ≡ found_yanks touched was before ys → ((t : Target) → counts t ≡ count_on (settled touched was before ys) t) →
+    now ≡ found ++ found_others touched before counts os → now ≡ found_of_all touched was before l
+left_found touched was before l ys os counts found now yanks others front known is =
+    let all : found ≡ found_yanks touched was before (yanks_of l) = front ∙ ap (found_yanks touched was before) yanks in
+    let settled_counts : (t : Target) → counts t ≡ count_on (settled touched was before (yanks_of l)) t = λ t. known t
+    ∙ ap (λ k. count_on (settled touched was before k) t) yanks in
+    is ∙ (λ i. all i ++ found_others touched before (λ t. settled_counts t i) (others i))
+
+pub left_statuses : (known : CardRef → Option Bool) (l : LibraryView) (ys os : List CountedCardView) (empty first second last found : List (CardRef × Bool)) →
+    ys ≡ yanks_of l → os ≡ others_of l → empty ≡ [] →
+    ((r : CardRef) → kept_status first r ≡ (if list_any (λ k. same_ref k.card r) ys then option_or (known r) (kept_status empty r) else kept_status empty r)) →
+    ((r : CardRef) → kept_status second r ≡ (if list_any (λ k. same_ref k.card r) os then option_or (known r) (kept_status first r) else kept_status first r)) →
+    ((r : CardRef) → kept_status last r ≡ update_all same_ref (kept_status second) found r) →
+    (r : CardRef) → kept_status last r ≡ update_all same_ref (stay known (others_of l) (stay known (yanks_of l) (λ _. None))) found r
+left_statuses known l ys os empty first second last found yanks others none one two put r =
+    let start : (r : CardRef) → kept_status empty r ≡ None = λ r. ap (λ e. kept_status e r) none in
+    let of_yanks : (r : CardRef) → kept_status first r ≡ stay known (yanks_of l) (λ _. None) r = λ r. one r ∙ (λ i. stay known (yanks i) (λ q. start q i) r) in
+    let of_others : (r : CardRef) → kept_status second r ≡ stay known (others_of l) (stay known (yanks_of l) (λ _. None)) r = λ r. two r
+    ∙ (λ i. stay known (others i) (λ q. of_yanks q i) r) in
+    put r ∙ (λ i. update_all same_ref (λ q. of_others q i) found r)

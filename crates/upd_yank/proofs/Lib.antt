@@ -1,0 +1,11 @@
+pub mod FlipLemmas
+pub mod SettleLemmas
+pub mod RefLemmas
+pub mod TurnLemmas
+pub mod FindLemmas
+pub mod KeptLemmas
+pub mod WorkLemmas
+pub mod StateLemmas
+pub mod RightLemmas
+pub mod LeftLemmas
+pub mod RowLemmas

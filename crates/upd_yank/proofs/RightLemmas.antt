@@ -1,0 +1,299 @@
+-- A settling leaves the statuses and counts of the library after a run, and looks at no more cards than it must.
+use Rattle.std.proofs.Common.{◌≡◌, ℕ, zero, suc, ◌<◌, ◌≤◌, ◌^◌, slice_get, Bool, true, false, ◌||◌, List, [], ◌∷◌, ◌++◌, map, length, Option, Some, None}
+use Rattle.std.proofs.Common.{unwrap_or, refl, ap, sym, ◌∙◌, subst, arith, length-append}
+use Rattle.std.specs.List.{list_any, filter, AllByRecursion}
+use Rattle.std.specs.Map.{update_all}
+use Rattle.std.proofs.lemmas.List.{length-map}
+use Rattle.std.proofs.lemmas.Option.{same_Some}
+use Rattle.upd_core.proofs.ApartLemmas.{all_by_index}
+use Rattle.upd_yank.proofs.RefLemmas.{ref_same}
+use Rattle.std.proofs.lemmas.List.Elements.{filter-append}
+use Rattle.upd_core.specs.Counted.{CountedCardView, counted_card, counted_cards, others_of, yanks_of}
+use Rattle.upd_core.specs.declared.target.Target.{Target}
+use Rattle.upd_core.specs.Library.{CardView, LibraryView}
+use Rattle.upd_core.specs.Reach.{is_reached}
+use Rattle.upd_core.specs.Sound.{IsSound}
+use Rattle.upd_core.specs.Status.{IsAged, is_active, live_cards, live_targets, status_of}
+use Rattle.upd_core.specs.TargetCounts.{count_in, count_on, live_count}
+use Rattle.upd_apply.specs.Applying.{touched}
+use Rattle.upd_change.specs.Rows.{same_ref}
+use Rattle.upd_text.specs.declared.card_ref.CardRef.{CardRef}
+use Rattle.upd_yank.proofs.FlipLemmas.{or_none, same_active, status_is}
+use Rattle.upd_yank.proofs.KeptLemmas.{untouched_status}
+use Rattle.upd_yank.proofs.SettleLemmas.{settled_is}
+use Rattle.upd_yank.proofs.StateLemmas.{HadStatus, all_counted, put_all, stay_right, statuses_are}
+use Rattle.upd_yank.proofs.WorkLemmas.{Agrees, HasStatus, IsListed, all_agree, all_both, all_listed_back, all_listed_others, all_map, found_back, length_back}
+use Rattle.upd_yank.proofs.WorkLemmas.{listed_back, listed_front, right_back, right_others, takes_no_yanks, yanks_found}
+use Rattle.upd_yank.specs.Affected.{affected, altered, is_other, is_touched}
+use Rattle.upd_yank.specs.Cascade.{AreYanks, IsKept, TakesNoYanks, found_of, found_of_all, found_others, found_yanks, is_active_by, is_due, settled, stay}
+use Rattle.upd_yank.specs.Cascade.{views}
+use Rattle.upd_yank.specs.Right.{AreCountable, CacheView, IsRight, IsRunBetween, kept_status, was_active}
+
+-- ---- the cards of `YANK$$$`
+
+pub views_are : (l : LibraryView) → views (yanks_of l) ≡ l.yanks
+views_are l = go l.yanks
+  where
+    go : (ys : List CardView) → views (map (counted_card l.idents 0) ys) ≡ ys
+    go [] = refl
+    go (y ∷ ys) = ap (λ x. y ∷ x) (go ys)
+
+are_yanks : (l : LibraryView) → AreYanks (yanks_of l)
+are_yanks l = go l.yanks
+  where
+    go : (ys : List CardView) → AreYanks (map (counted_card l.idents 0) ys)
+    go [] = tt
+    go (y ∷ ys) = (refl, go ys)
+
+split_front : {A : Type 0} (P : A → Type 0) (xs ys : List A) → AllByRecursion P (xs ++ ys) → AllByRecursion P xs
+split_front P [] ys all = tt
+split_front P (x ∷ xs) ys all = (all.0, split_front P xs ys all.1)
+
+split_back : {A : Type 0} (P : A → Type 0) (xs ys : List A) → AllByRecursion P (xs ++ ys) → AllByRecursion P ys
+split_back P [] ys all = all
+split_back P (x ∷ xs) ys all = split_back P xs ys all.1
+
+-- ---- the cascade on a sound library
+
+-- what the cascade knows of a library: kept statuses are those before, and cards that aren't due had theirs
+pub record IsKnown (touched was : CountedCardView → Bool) (before : Target → ℕ) (known : CardRef → Option Bool) (l : LibraryView) : Type 0 where
+  pub sound : IsSound l
+  pub kept : AllByRecursion (IsKept touched was before) (counted_cards l)
+  pub had : AllByRecursion (HadStatus l (is_due touched before (live_count l)) known) (counted_cards l)
+
+pub live_is : (touched was : CountedCardView → Bool) (before : Target → ℕ) (known : CardRef → Option Bool) (l : LibraryView) →
+    IsKnown touched was before known l →
+    settled touched was before (yanks_of l) ≡ live_cards l.yanks
+live_is touched was before known l is =
+    let yanks = views_are l in
+    settled_is touched was before (yanks_of l) (are_yanks l) (subst TakesNoYanks (sym yanks) (takes_no_yanks l.yanks is.sound.yanks))
+    (split_front (IsKept touched was before) (yanks_of l) (others_of l) is.kept)
+    ∙ ap live_cards yanks
+
+-- what is found, by the counts of the library
+pub found_is : (touched was : CountedCardView → Bool) (before : Target → ℕ) (known : CardRef → Option Bool) (l : LibraryView) →
+    IsKnown touched was before known l →
+    found_yanks touched was before (yanks_of l) ++ found_others touched before (count_on (settled touched was before (yanks_of l))) (others_of l)
+    ≡ found_back touched before (live_count l) (yanks_of l) ++ found_others touched before (live_count l) (others_of l)
+found_is touched was before known l is =
+    let yanks = views_are l in
+    let agrees : AllByRecursion (Agrees (live_count l) (count_on (live_cards (views (yanks_of l))))) (views (yanks_of l)) =
+    subst (λ ys. AllByRecursion (Agrees (live_count l) (count_on (live_cards ys))) ys) (sym yanks) (all_agree (live_count l) l.yanks) in
+    let aged : IsAged (views (yanks_of l)) = subst IsAged (sym yanks) is.sound.yanks in
+    let front = yanks_found touched was before (live_count l) (yanks_of l) (are_yanks l) aged
+    (split_front (IsKept touched was before) (yanks_of l) (others_of l) is.kept) agrees in
+    λ i. front i ++ found_others touched before (count_on (live_is touched was before known l is i)) (others_of l)
+
+pub found_count : (touched : CountedCardView → Bool) (before now : Target → ℕ) (l : LibraryView) →
+    length (found_back touched before now (yanks_of l) ++ found_others touched before now (others_of l))
+    ≡ length (filter (is_due touched before now) (counted_cards l))
+found_count touched before now l =
+    let due = is_due touched before now in
+    let whole = ap length (filter-append due (yanks_of l) (others_of l)) in
+    omega (
+      arith,
+      length-append (found_back touched before now (yanks_of l)) (found_others touched before now (others_of l)),
+      length_back touched before now
+          (yanks_of l),
+      length-map {B = CardRef × Bool} (filter due (others_of l)) (found_of now),
+      whole,
+      length-append (filter due (yanks_of l))
+          (filter due (others_of l)),
+    )
+
+pub statuses_right : (touched was : CountedCardView → Bool) (before : Target → ℕ) (known : CardRef → Option Bool) (l : LibraryView) (r : CardRef) →
+    IsKnown touched was before known l →
+    update_all same_ref (stay known (others_of l) (stay known (yanks_of l) (λ _. None)))
+    (found_back touched before (live_count l) (yanks_of l) ++ found_others touched before (live_count l) (others_of l)) r ≡ status_of r l
+statuses_right touched was before known l r is =
+    let now = live_count l in
+    let due = is_due touched before now in
+    let back = found_back touched before now (yanks_of l) in
+    let others = found_others touched before now (others_of l) in
+    let has = statuses_are l is.sound in
+    let right = all_both (λ p. status_of p.0 l ≡ Some p.1) back others
+    (right_back touched before now l (yanks_of l) (split_front (HasStatus l now) (yanks_of l) (others_of l) has))
+    (right_others touched before now l (others_of l) (split_back (HasStatus l now) (yanks_of l) (others_of l) has)) in
+    let listed = all_both (IsListed due (back ++ others)) (yanks_of l) (others_of l)
+    (all_map (IsListed due back) (IsListed due (back ++ others)) (yanks_of l) (λ k h. listed_front due back others k h)
+    (all_listed_back touched before now (yanks_of l)))
+    (all_map (IsListed due others) (IsListed due (back ++ others)) (others_of l) (λ k h. listed_back due back others k h)
+    (all_listed_others touched before now (others_of l))) in
+    put_all l (back ++ others) (stay known (others_of l) (stay known (yanks_of l) (λ _. None))) r right
+    (λ none. stay_right l due known now (back ++ others) r is.sound has is.had listed none)
+
+-- ---- after a run
+
+-- the counts before are those of the library before
+before_is : (old new : LibraryView) (cache : CacheView) (run : List CardRef) → IsRunBetween old new cache run → count_in cache.counts ≡ live_count old
+before_is old new cache run between = λ i t. between.right.count t i
+
+untouched_was : (old new : LibraryView) (cache : CacheView) (run : List CardRef) → IsRunBetween old new cache run →
+    AllByRecursion (λ k. is_touched run k ≡ false → status_of k.card old ≡ Some (is_active_by (count_in cache.counts) k.deck k.view)) (counted_cards new)
+untouched_was old new cache run between =
+    all_counted (λ k. is_touched run k ≡ false → status_of k.card old ≡ Some (is_active_by (count_in cache.counts) k.deck k.view)) new
+    (λ d c in_decks in_cards. λ none. untouched_status old new d c between.before between.goes_on in_decks in_cards (rw between.touched at none)
+    ∙ sym (ap (λ (n : Target → ℕ). Some (is_active_by n d.ident c)) (before_is old new cache run between)))
+
+pub known_between : (old new : LibraryView) (cache : CacheView) (run : List CardRef) → IsRunBetween old new cache run →
+    IsKnown (is_touched run) (was_active cache.states) (count_in cache.counts) (kept_status cache.states) new
+known_between old new cache run between = record {
+  sound = between.after;
+  kept = all_map Was (IsKept (is_touched run) (was_active cache.states) before) (counted_cards new)
+      (λ k h. record { status = λ none. ap (λ o. unwrap_or o false) (between.right.status k.card ∙ h none) }) was;
+  had = both (counted_cards new) was (statuses_are new between.after);
+}
+  where
+    before : Target → ℕ
+    before = count_in cache.counts
+
+    Was : CountedCardView → Type 0
+    Was k = is_touched run k ≡ false → status_of k.card old ≡ Some (is_active_by before k.deck k.view)
+
+    was : AllByRecursion Was (counted_cards new)
+    was = untouched_was old new cache run between
+
+    both : (ks : List CountedCardView) → AllByRecursion Was ks → AllByRecursion (HasStatus new (live_count new)) ks →
+        AllByRecursion (HadStatus new (is_due (is_touched run) before (live_count new)) (kept_status cache.states)) ks
+    both [] w has = tt
+    both (k ∷ ks) w has = (
+      (λ undue. let parts = or_none (is_touched run k) (is_reached before (live_count new) k.deck k.view) undue in
+          between.right.status k.card ∙ w.0 parts.0 ∙ ap Some (same_active before (live_count new) k.deck k.view parts.1) ∙ sym has.0),
+      both ks w.1 has.1,
+    )
+
+-- each card that is new or differs in status is looked at
+least : (old new : LibraryView) (before : Target → ℕ) (run : List CardRef) (ks : List CountedCardView) →
+    AllByRecursion (λ k. is_touched run k ≡ false → status_of k.card old ≡ Some (is_active_by before k.deck k.view)) ks →
+    length (filter (λ k. is_other (is_active (live_targets new) k.deck k.view) (status_of k.card old)) ks) ≤ length
+    (filter (is_due (is_touched run) before (live_count new)) ks)
+least old new before run [] was = omega arith
+least old new before run (k ∷ ks) was = go (is_due (is_touched run) before (live_count new) k) refl
+    (is_other (is_active (live_targets new) k.deck k.view) (status_of k.card old)) refl (least old new before run ks was.1)
+  where
+    rest : List CountedCardView
+    rest = filter (λ k. is_other (is_active (live_targets new) k.deck k.view) (status_of k.card old)) ks
+
+    same_not : (b : Bool) → is_other b (Some b) ≡ false
+    same_not true = refl
+    same_not false = refl
+
+    go : (d : Bool) → is_due (is_touched run) before (live_count new) k ≡ d → (o : Bool) →
+        is_other (is_active (live_targets new) k.deck k.view) (status_of k.card old) ≡ o →
+        length rest ≤ length (filter (is_due (is_touched run) before (live_count new)) ks) →
+        length (filter (λ k. is_other (is_active (live_targets new) k.deck k.view) (status_of k.card old)) (k ∷ ks)) ≤ length
+        (filter (is_due (is_touched run) before (live_count new)) (k ∷ ks))
+    go true e true f later = rw (e, f) (omega arith)
+    go true e false f later = rw (e, f) (omega arith)
+    go false e false f later = rw (e, f) later
+    go false e true f later =
+        let parts = or_none (is_touched run k) (is_reached before (live_count new) k.deck k.view) e in
+        let status = was.0 parts.0 ∙ ap Some (same_active before (live_count new) k.deck k.view parts.1
+        ∙ sym (status_is (live_cards new.yanks) k.deck k.view)) in
+        absurd (let q = sym f ∙ ap (is_other (is_active (live_targets new) k.deck k.view)) status ∙ same_not (is_active (live_targets new) k.deck k.view) in cc)
+
+pub least_work : (old new : LibraryView) (cache : CacheView) (run : List CardRef) → IsRunBetween old new cache run →
+    length (altered old new) ≤ length (affected run old new)
+least_work old new cache run between =
+    let fewer = least old new (count_in cache.counts) run (counted_cards new) (untouched_was old new cache run between) in
+    rw (before_is old new cache run between) at fewer
+
+-- ---- what a settling is
+
+-- yank cards of a sound library are countable
+pub countable : (l : LibraryView) → IsSound l → length l.yanks < 2 ^ 32 → AreCountable l.yanks
+countable l sound few = record { few = few; apart = sound.targets }
+
+-- what the code has left is right of the library
+pub left_right : (run was : CountedCardView → Bool) (before : Target → ℕ) (known : CardRef → Option Bool) (l : LibraryView) (found : List (CardRef × Bool))
+    (cache : CacheView) →
+    IsKnown run was before known l → found ≡ found_of_all run was before l →
+    ((t : Target) → count_in cache.counts t ≡ count_on (settled run was before (yanks_of l)) t) →
+    ((r : CardRef) → kept_status cache.states r ≡ update_all same_ref (stay known (others_of l) (stay known (yanks_of l) (λ _. None))) found r) →
+    IsRight l cache
+left_right run was before known l found cache is found_all counts statuses = record {
+  status = λ r. statuses r ∙ ap (λ f. update_all same_ref (stay known (others_of l) (stay known (yanks_of l) (λ _. None))) f r) (found_all
+      ∙ found_is run was before known l is)
+      ∙ statuses_right run was before known l r is;
+  count = λ t. counts t ∙ ap (λ cards. count_on cards t) (live_is run was before known l is);
+}
+
+-- as many cards are looked at as are affected
+pub left_work : (old new : LibraryView) (cache : CacheView) (run : List CardRef) (found : List (CardRef × Bool)) → IsRunBetween old new cache run →
+    found ≡ found_of_all (is_touched run) (was_active cache.states) (count_in cache.counts) new → length found ≡ length (affected run old new)
+left_work old new cache run found between found_all =
+    let known = known_between old new cache run between in
+    ap length (found_all ∙ found_is (is_touched run) (was_active cache.states) (count_in cache.counts) (kept_status cache.states) new known)
+    ∙ found_count (is_touched run) (count_in cache.counts) (live_count new) new
+    ∙ ap (λ (n : Target → ℕ). length (filter (is_due (is_touched run) n (live_count new)) (counted_cards new))) (before_is old new cache run between)
+
+-- where each card is touched, nothing needs to be known
+pub known_anew : (run was : CountedCardView → Bool) (before : Target → ℕ) (known : CardRef → Option Bool) (l : LibraryView) → IsSound l →
+    AllByRecursion (λ k. run k ≡ true) (counted_cards l) → IsKnown run was before known l
+known_anew run was before known l sound all = record {
+  sound = sound;
+  kept = all_map (λ k. run k ≡ true) (IsKept run was before) (counted_cards l) (λ k h. record { status = λ none. absurd (let q = sym h ∙ none in cc) }) all;
+  had = all_map (λ k. run k ≡ true) (HadStatus l (is_due run before (live_count l)) known) (counted_cards l)
+      (λ k h. λ none. absurd (let q = sym h ∙ (or_none (run k) (is_reached before (live_count l) k.deck k.view) none).0 in cc)) all;
+}
+
+-- the same of a set of the touched cards
+pub settled_right : (old new : LibraryView) (cache left : CacheView) (run set : List CardRef) (found : List (CardRef × Bool)) → IsRunBetween old new cache run →
+    ((r : CardRef) → list_any (same_ref r) set ≡ list_any (same_ref r) run) →
+    (AreCountable new.yanks → (t : Target) → count_in left.counts t ≡ count_on (settled (is_touched set) (was_active cache.states) (count_in cache.counts)
+    (yanks_of new)) t) →
+    (AreCountable new.yanks → found ≡ found_of_all (is_touched set) (was_active cache.states) (count_in cache.counts) new) →
+    ((r : CardRef) → kept_status left.states r
+    ≡ update_all same_ref (stay (kept_status cache.states) (others_of new) (stay (kept_status cache.states) (yanks_of new) (λ _. None))) found r) →
+    IsRight new left × (length found ≡ length (affected run old new))
+settled_right old new cache left run set found between same counts found_all statuses =
+    let fits = countable new between.after between.few in
+    let touched_same : is_touched set ≡ is_touched run = λ i k. same k.card i in
+    let was = was_active cache.states in
+    let before = count_in cache.counts in
+    let all : found ≡ found_of_all (is_touched run) was before new = found_all fits
+    ∙ ap (λ (test : CountedCardView → Bool). found_of_all test was before new) touched_same in (
+      left_right (is_touched run) was before (kept_status cache.states) new found left (known_between old new cache run between) all
+          (λ t. counts fits t ∙ ap (λ (test : CountedCardView → Bool). count_on (settled test was before (yanks_of new)) t) touched_same) statuses,
+      left_work old new cache run found between all,
+    )
+
+-- each card of a library is among its own
+any_of : {A : Type 0} (test : A → Bool) (xs : List A) (k : ℕ) (x : A) → slice_get xs k ≡ Some x → test x ≡ true → list_any test xs ≡ true
+any_of test [] k x at is = absurd (cc)
+any_of test (y ∷ xs) zero x at is = ap (λ b. b || list_any test xs) (ap test (same_Some y x at) ∙ is)
+any_of test (y ∷ xs) (suc k) x at is = or_later (test y) (list_any test xs) (any_of test xs k x at is)
+  where
+    or_later : (a b : Bool) → b ≡ true → (a || b) ≡ true
+    or_later true b e = refl
+    or_later false b e = e
+
+pub all_touched : (l : LibraryView) (none first set : List CardRef) (ys os : List CountedCardView) → ys ≡ yanks_of l → os ≡ others_of l →
+    ((r : CardRef) → list_any (same_ref r) first ≡ (list_any (same_ref r) none || list_any (λ k. same_ref r k.card) ys)) →
+    ((r : CardRef) → list_any (same_ref r) set ≡ (list_any (same_ref r) first || list_any (λ k. same_ref r k.card) os)) →
+    AllByRecursion (λ k. is_touched set k ≡ true) (counted_cards l)
+all_touched l none first set ys os yanks others one two =
+    all_both (λ k. is_touched set k ≡ true) (yanks_of l) (others_of l)
+    (all_by_index (yanks_of l) (λ i k at. two k.card ∙ ap (λ b. b || list_any (λ x. same_ref k.card x.card) os) (one k.card
+    ∙ later (list_any (same_ref k.card) none) (list_any (λ x. same_ref k.card x.card) ys)
+    (ap (list_any (λ x. same_ref k.card x.card)) yanks ∙ any_of (λ x. same_ref k.card x.card) (yanks_of l) i k at (ref_same k.card)))))
+    (all_by_index (others_of l) (λ i k at. two k.card ∙ later (list_any (same_ref k.card) first) (list_any (λ x. same_ref k.card x.card) os)
+    (ap (list_any (λ x. same_ref k.card x.card)) others ∙ any_of (λ x. same_ref k.card x.card) (others_of l) i k at (ref_same k.card))))
+  where
+    later : (a b : Bool) → b ≡ true → (a || b) ≡ true
+    later true b e = refl
+    later false b e = e
+
+-- a library from nothing
+pub built_right : (l : LibraryView) (set : List CardRef) (states : List (CardRef × Bool)) (counts : List (Target × ℕ)) (found : List (CardRef × Bool))
+    (left : CacheView) → IsSound l → length l.yanks < 2 ^ 32 →
+    AllByRecursion (λ k. is_touched set k ≡ true) (counted_cards l) →
+    (AreCountable l.yanks → (t : Target) → count_in left.counts t ≡ count_on (settled (is_touched set) (was_active states) (count_in counts) (yanks_of l)) t) →
+    (AreCountable l.yanks → found ≡ found_of_all (is_touched set) (was_active states) (count_in counts) l) →
+    ((r : CardRef) → kept_status left.states r ≡ update_all same_ref (stay (kept_status states) (others_of l)
+    (stay (kept_status states) (yanks_of l) (λ _. None))) found r) → IsRight l left
+built_right l set states counts found left sound few all known_counts found_all statuses =
+    let fits = countable l sound few in
+    left_right (is_touched set) (was_active states) (count_in counts) (kept_status states) l found left
+    (known_anew (is_touched set) (was_active states) (count_in counts) (kept_status states) l sound all)
+    (found_all fits) (known_counts fits) statuses

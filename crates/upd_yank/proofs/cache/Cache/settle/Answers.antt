@@ -1,0 +1,35 @@
+use Rattle.std.proofs.Common.{ap, sym, ◌∙◌, subst, arith}
+use Rattle.std.specs.List.{list_any}
+use Rattle.upd_change.specs.Rows.{same_ref}
+use Rattle.upd_yank.proofs.RightLemmas.{least_work, settled_right}
+use Rattle.upd_yank.specs.Right.{CacheView, IsRunBetween}
+use Rattle.upd_yank.proofs.cache.Cache.settle.Goals as goal
+
+pub returns-clause-right : goal.returns-clause-right
+returns-clause-right c = λ old between.
+    let new = c.args.counted.now.library in
+    let run = c.args.applied.now.touched.items in
+    let cache : CacheView = record { states = c.self.inside.statuses; counts = c.self.inside.counts; work = c.self.inside.work } in
+    let left : CacheView = record { states = c.in_ok-left.left.statuses; counts = c.in_ok-left.left.found.counts; work = c.len.result } in
+    let known = subst (λ k. IsRunBetween old new k run) (sym c.self.view_is) between in
+    let same = λ (r : _). c.in_ok-touched.ensures r ∙ ap (list_any (same_ref r)) c.deref.ensures.value in
+    (settled_right old new cache left run c.in_ok-touched.touched c.in_ok-left.left.found.statuses.items known same
+    c.in_ok-left.ensures.counts c.in_ok-left.ensures.found c.in_ok-left.ensures.statuses).0
+
+pub returns-clause-work : goal.returns-clause-work
+returns-clause-work c = λ old between.
+    let new = c.args.counted.now.library in
+    let run = c.args.applied.now.touched.items in
+    let cache : CacheView = record { states = c.self.inside.statuses; counts = c.self.inside.counts; work = c.self.inside.work } in
+    let left : CacheView = record { states = c.in_ok-left.left.statuses; counts = c.in_ok-left.left.found.counts; work = c.len.result } in
+    let known = subst (λ k. IsRunBetween old new k run) (sym c.self.view_is) between in
+    let same = λ (r : _). c.in_ok-touched.ensures r ∙ ap (list_any (same_ref r)) c.deref.ensures.value in
+    let both = settled_right old new cache left run c.in_ok-touched.touched c.in_ok-left.left.found.statuses.items known same
+    c.in_ok-left.ensures.counts c.in_ok-left.ensures.found c.in_ok-left.ensures.statuses in
+    omega (arith, c.len.ensures, c.in_ok-left.left.found.statuses.ok.0, both.1)
+
+pub returns-clause-least : goal.returns-clause-least
+returns-clause-least c = λ old between.
+    let more = least_work old c.args.counted.now.library c.args.self.now c.args.applied.now.touched.items between in
+    let is = returns-clause-work c old between in
+    omega (arith, more, is)

@@ -1,0 +1,40 @@
+use Rattle.std.proofs.Common.{ap, sym, ◌∙◌, subst}
+use Rattle.std.specs.Map.{update_all}
+use Rattle.upd_change.specs.Rows.{same_ref}
+use Rattle.upd_core.specs.TargetCounts.{count_in, count_on}
+use Rattle.upd_yank.proofs.LeftLemmas.{left_found, left_statuses}
+use Rattle.upd_yank.proofs.RightLemmas.{views_are}
+use Rattle.upd_yank.specs.Affected.{is_touched}
+use Rattle.upd_yank.specs.Cascade.{settled, views}
+use Rattle.upd_yank.specs.Right.{AreCountable, kept_status, was_active}
+use Rattle.upd_yank.proofs.cascade.settling.Goals as goal
+
+pub returns-clause-counts : goal.returns-clause-counts
+returns-clause-counts c = λ countable t.
+    let b = c.args.before.now in
+    let l = c.args.counted.now.library in
+    let yanks = c.deref.ensures.value ∙ c.in_ok-yanks.ensures in
+    let fits = subst AreCountable (sym (ap views yanks ∙ views_are l)) countable in
+    ap (λ n. count_in n t) c.in_ok-judge_others.ensures.counts ∙ c.in_ok-found.ensures.counts fits t
+    ∙ ap (λ k. count_on (settled (is_touched b.touched.now) (was_active b.statuses.now) (count_in b.counts.now) k) t) yanks
+
+pub returns-clause-found : goal.returns-clause-found
+returns-clause-found c = λ countable.
+    let b = c.args.before.now in
+    let l = c.args.counted.now.library in
+    let yanks = c.deref.ensures.value ∙ c.in_ok-yanks.ensures in
+    let others = c.deref-2.ensures.value ∙ c.in_ok-others.ensures in
+    let fits = subst AreCountable (sym (ap views yanks ∙ views_are l)) countable in
+    left_found (is_touched b.touched.now) (was_active b.statuses.now) (count_in b.counts.now) l c.deref.result.now c.deref-2.result.now
+    (count_in c.in_ok-found.found.counts) _ _ yanks others
+    (c.in_ok-found.ensures.statuses fits) (c.in_ok-found.ensures.counts fits) c.in_ok-judge_others.ensures.statuses
+
+pub returns-clause-statuses : goal.returns-clause-statuses
+returns-clause-statuses c =
+    let l = c.args.counted.now.library in
+    let yanks = c.deref-3.ensures.value ∙ c.in_ok-yanks.ensures in
+    let others = c.deref-4.ensures.value ∙ c.in_ok-others.ensures in
+    left_statuses (kept_status c.args.before.now.statuses.now) l c.deref-3.result.now c.deref-4.result.now c.new-statuses.result c.keep.new.self
+    c.keep-2.new.self c.put_all.new.self
+    c.judge_others.new.found.statuses.items yanks others c.new-statuses.ensures c.in_ok-keep.ensures c.in_ok-keep-2.ensures
+    (λ r. c.in_ok-put_all.ensures r ∙ ap (λ found. update_all same_ref (kept_status c.keep-2.new.self) found r) c.deref-5.ensures.value)

@@ -1,0 +1,18 @@
+use Rattle.std.proofs.Common.{false, arith}
+use Rattle.std.proofs.lemmas.Grind.{common_steps}
+use Rattle.upd_core.proofs.StatusLaws.{stays_on-take}
+use Rattle.upd_core.specs.TargetCounts.{count_in}
+use Rattle.upd_yank.specs.Cascade.{is_taken_by}
+use Rattle.upd_yank.proofs.cascade.stays_on.Goals as goal
+
+pub returns-then-not-is_taken : goal.returns-then-not-is_taken
+returns-then-not-is_taken c =
+    let last = stays_on-take (is_taken_by (count_in c.args.counts.now) c.args.deck) c.args.history.now c.loop-i.i (record { ident = 0; active = false })
+    (omega arith) (omega arith) in
+    grind (arith, common_steps)
+
+pub loop-i-preserved : goal.loop-i-preserved
+loop-i-preserved c =
+    let last = stays_on-take (is_taken_by (count_in c.args.counts.now) c.args.deck) c.args.history.now c.loop-i.i (record { ident = 0; active = false })
+    (omega arith) (omega arith) in
+    grind (arith, common_steps)

@@ -1,0 +1,80 @@
+-- The cascade: what becomes of kept statuses when yank cards come, go and change.
+use Rattle.std.specs.Prelude.{◌≡◌, ℕ, ◌==◌, Bool, false, not, ◌&&◌, ◌||◌, if◌then◌else◌, List, [], ◌∷◌, ◌++◌, map, Option}
+use Rattle.std.specs.List.{list_any, filter, AllByRecursion}
+use Rattle.std.specs.Option.{option_or}
+use Rattle.upd_text.specs.declared.card_ref.CardRef.{CardRef}
+use Rattle.upd_core.specs.declared.target.Target.{Target}
+use Rattle.upd_core.specs.declared.target.Target.TheVariants.{Set, SetIn, Deck}
+use Rattle.upd_change.specs.Rows.{same_ref}
+use Rattle.upd_core.specs.Counted.{CountedCardView, others_of, yanks_of}
+use Rattle.upd_core.specs.Library.{CardView, LibraryView}
+use Rattle.upd_core.specs.Reach.{is_reached}
+use Rattle.upd_core.specs.Status.{stays_on}
+use Rattle.upd_core.specs.TargetCounts.{count_on, has_target}
+
+-- an ident is taken in deck d where a count says that a live card takes it
+abbrev pub is_taken_by : (Target → ℕ) → ℕ → ℕ → Bool
+is_taken_by counts d z = not (counts (Set z) == 0) || not (counts (SetIn z d) == 0)
+
+-- a card of deck d is active where its history stays on and no live card takes the deck
+abbrev pub is_active_by : (Target → ℕ) → ℕ → CardView → Bool
+is_active_by counts d c = stays_on (is_taken_by counts d) c.history && (counts (Deck d) == 0)
+
+-- a card is looked at where it is touched, or reached by what flipped
+abbrev pub is_due : (CountedCardView → Bool) → (Target → ℕ) → (Target → ℕ) → CountedCardView → Bool
+is_due touched before now k = touched k || is_reached before now k.deck k.view
+
+-- the status of a card: anew where it is looked at, else as it was
+abbrev pub status_now : (CountedCardView → Bool) → (CountedCardView → Bool) → (Target → ℕ) → (Target → ℕ) → CountedCardView → Bool
+status_now touched was before now k = if is_due touched before now k then is_active_by now k.deck k.view else was k
+
+-- The cards of `YANK$$$` that are live now: each is judged by the counts of the live ones behind it, which are younger.
+abbrev pub settled : (CountedCardView → Bool) → (CountedCardView → Bool) → (Target → ℕ) → List CountedCardView → List CardView
+settled touched was before [] = []
+settled touched was before (y ∷ ys) =
+    if status_now touched was before (count_on (settled touched was before ys)) y then y.view ∷ settled touched was before ys
+    else settled touched was before ys
+
+-- what is found of a card that is looked at
+abbrev pub found_of : (Target → ℕ) → CountedCardView → CardRef × Bool
+found_of now k = (k.card, is_active_by now k.deck k.view)
+
+-- what is found of the cards of `YANK$$$` that are looked at, from the youngest down
+abbrev pub found_yanks : (CountedCardView → Bool) → (CountedCardView → Bool) → (Target → ℕ) → List CountedCardView → List (CardRef × Bool)
+found_yanks touched was before [] = []
+found_yanks touched was before (y ∷ ys) =
+    found_yanks touched was before ys ++ found_here touched before (count_on (settled touched was before ys)) y
+  where
+    found_here : (CountedCardView → Bool) → (Target → ℕ) → (Target → ℕ) → CountedCardView → List (CardRef × Bool)
+    found_here touched before now y = if is_due touched before now y then found_of now y ∷ [] else []
+
+-- what is found of the other cards that are looked at, once the counts are settled
+abbrev pub found_others : (CountedCardView → Bool) → (Target → ℕ) → (Target → ℕ) → List CountedCardView → List (CardRef × Bool)
+found_others touched before now cards = map (found_of now) (filter (is_due touched before now) cards)
+
+-- what is found of all cards that are looked at
+abbrev pub found_of_all : (CountedCardView → Bool) → (CountedCardView → Bool) → (Target → ℕ) → LibraryView → List (CardRef × Bool)
+found_of_all touched was before l =
+    found_yanks touched was before (yanks_of l) ++ found_others touched before (count_on (settled touched was before (yanks_of l))) (others_of l)
+
+-- the statuses of these cards, as they were known, put to others
+abbrev pub stay : (CardRef → Option Bool) → List CountedCardView → (CardRef → Option Bool) → CardRef → Option Bool
+stay known ks had r = if list_any (λ k. same_ref k.card r) ks then option_or (known r) (had r) else had r
+
+-- ---- what the cascade stands on
+
+-- what is known of a card before: where it isn't touched, its kept status is that of its history by the counts before
+pub record IsKept (touched was : CountedCardView → Bool) (before : Target → ℕ) (k : CountedCardView) : Type 0 where
+  pub status : touched k ≡ false → was k ≡ is_active_by before k.deck k.view
+
+-- no card takes `YANK$$$` as a whole
+abbrev pub TakesNoYanks : List CardView → Type 0
+TakesNoYanks cards = AllByRecursion (λ c. has_target (Deck 0) c ≡ false) cards
+
+-- the cards themselves
+abbrev pub views : List CountedCardView → List CardView
+views ks = map (λ k. k.view) ks
+
+-- cards of `YANK$$$`
+abbrev pub AreYanks : List CountedCardView → Type 0
+AreYanks ks = AllByRecursion (λ k. k.deck ≡ 0) ks

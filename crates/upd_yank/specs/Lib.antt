@@ -1,0 +1,3 @@
+pub mod Cascade
+pub mod Right
+pub mod Affected

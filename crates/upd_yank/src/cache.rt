@@ -1,0 +1,137 @@
+//! The cache: kept statuses and counts, from nothing, from rows, or settled after a run.
+
+ghost use Rattle.std.specs.Prelude.{◌≡◌, ◌<◌, ◌≤◌, ◌^◌, length, IfOk, OnErr, OnOk};
+ghost use Rattle.std.specs.Result.{IsOkUnless};
+ghost use Rattle.upd_core.specs.Library.{LibraryView};
+ghost use Rattle.upd_core.specs.declared.target.Target.{Target};
+ghost use Rattle.upd_core.specs.Sound.{IsSound};
+ghost use Rattle.upd_core.specs.TargetCounts.{count_in};
+ghost use Rattle.upd_text.specs.Faults.{fault_at};
+ghost use Rattle.upd_text.specs.declared.fault.FaultKind.TheVariants.{NoMemory};
+ghost use Rattle.upd_yank.specs.Affected.{affected, altered};
+ghost use Rattle.upd_yank.specs.Right.{IsRight, IsRunBetween, ShowStates, kept_status, put_counts};
+
+use crate::cascade::{Before, settling};
+use crate::statuses::Statuses;
+use crate::touched::Touched;
+use std::alloc::{AllocError, Global};
+use std::marker::Model;
+use upd_apply::Applied;
+use upd_core::{CardRef, Counted, Fault, Library, States, Target, TargetCounts};
+
+/// The status of each card and the count of each target, kept from run to run.
+#[derive(Drop)]
+pub struct Cache {
+    alloc: Global,
+    statuses: Statuses,
+    counts: TargetCounts,
+    work: u64,
+}
+
+impl Model for Cache {
+    ghost use Rattle.upd_yank.specs.Right.{CacheView};
+
+    ghost Value = { CacheView };
+
+    ghost view = { λ c. record { states = c.statuses; counts = c.counts; work = c.work } };
+}
+
+impl Cache {
+    /// The cache of a library, from its histories; memory alone can fail.
+    pub fn build(alloc: Global, library: &Library) -> Result<Cache, Fault>
+        ensures right { IsSound library.now → length library.now.yanks < 2 ^ 32 → IfOk result (IsRight library.now) }
+        ensures work { IfOk result (λ cache. cache.work ≡ 0) }
+        ensures err { IsOkUnless result (fault_at NoMemory 0) }
+    {
+        let mut counted = Counted::new(library);
+        let mut touched = Touched::new(alloc);
+        touched.add_all(&counted.yanks(alloc)?)?;
+        touched.add_all(&counted.others(alloc)?)?;
+        let before = Before {
+            touched: &touched,
+            statuses: &Statuses::new(alloc),
+            counts: &TargetCounts::new(alloc),
+        };
+        let left = settling(alloc, &mut counted, &before)?;
+        Ok(Cache {
+            alloc,
+            statuses: left.statuses,
+            counts: left.found.counts,
+            work: 0,
+        })
+    }
+
+    /// The cache of rows as a store has them; where they show the statuses of a library, it is the cache of that
+    /// library. Memory alone can fail.
+    pub fn of_rows(alloc: Global, rows: &States) -> Result<Cache, Fault>
+        ensures right { (l : LibraryView) → ShowStates rows.now l → IfOk result (IsRight l) }
+        ensures work { IfOk result (λ cache. cache.work ≡ 0) }
+        ensures err { IsOkUnless result (fault_at NoMemory 0) }
+    {
+        let mut statuses = Statuses::new(alloc);
+        statuses.put_all(&rows.states)?;
+        let mut counts = TargetCounts::new(alloc);
+        put_counts(&mut counts, &rows.counts)?;
+        Ok(Cache {
+            alloc,
+            statuses,
+            counts,
+            work: 0,
+        })
+    }
+
+    /// Leads the cache from the library before a run to the one after it, of which this is a new `Counted`. Memory
+    /// alone can fail, and leaves the cache as it was.
+    pub fn settle(&mut self, counted: &mut Counted<'_>, applied: &Applied) -> Result<(), Fault>
+        ensures right { (old : LibraryView) → IsRunBetween old counted.old.library self.old applied.now.touched.items →
+            OnOk result (IsRight counted.old.library self.new) }
+        ensures work { (old : LibraryView) → IsRunBetween old counted.old.library self.old applied.now.touched.items →
+            OnOk result (self.new.work ≡ length (affected applied.now.touched.items old counted.old.library)) }
+        ensures least { (old : LibraryView) → IsRunBetween old counted.old.library self.old applied.now.touched.items →
+            OnOk result (length (altered old counted.old.library) ≤ self.new.work) }
+        ensures reads { counted.old.reads ≡ 0 → OnOk result (counted.new.reads ≡ self.new.work) }
+        ensures err { IsOkUnless result (fault_at NoMemory 0) × OnErr result (self.new ≡ self.old) }
+    {
+        let touched = Touched::of(self.alloc, &applied.touched)?;
+        let before = Before {
+            touched: &touched,
+            statuses: &self.statuses,
+            counts: &self.counts,
+        };
+        let left = settling(self.alloc, counted, &before)?;
+        self.work = left.found.statuses.len() as u64;
+        self.statuses = left.statuses;
+        self.counts = left.found.counts;
+        Ok(())
+    }
+
+    /// Whether a card is active, for a yank card live; none where there is no such card.
+    pub fn active(&self, card: CardRef) -> Option<bool>
+        ensures { result ≡ kept_status self.now.states card }
+    {
+        self.statuses.of(card)
+    }
+
+    /// How many live yank cards have a target.
+    pub fn count(&self, target: Target) -> u32
+        ensures { result ≡ count_in self.now.counts target }
+    {
+        self.counts.of(target)
+    }
+
+    /// How many cards the last settling looked at, 0 before one.
+    pub fn work(&self) -> u64
+        ensures { result ≡ self.now.work }
+    {
+        self.work
+    }
+}
+
+fn put_counts(counts: &mut TargetCounts, rows: &[(Target, u32)]) -> Result<(), AllocError>
+    ensures { OnOk result ((t : Target) → count_in counts.new t ≡ put_counts rows.now (count_in counts.old) t) }
+{
+    for (target, count) in rows {
+        counts.put(*target, *count)?;
+    }
+    Ok(())
+}

@@ -1,0 +1,217 @@
+//! The cascade: `YANK$$$` from the youngest card to the oldest, then the other cards. No card is looked at twice, and
+//! none that nothing reaches.
+
+ghost use Rattle.std.specs.Prelude.{◌≡◌, ℕ, ◌+◌, ◌<◌, ◌^◌, [], ◌∷◌, ◌++◌, if◌then◌else◌, length, count_by, None, OnOk};
+ghost use Rattle.std.specs.Prelude.{IfOk};
+ghost use Rattle.std.specs.Map.{update_all};
+ghost use Rattle.upd_core.specs.Counted.{one_more, others_of, yanks_of};
+ghost use Rattle.upd_core.specs.declared.target.Target.{Target};
+ghost use Rattle.upd_core.specs.Status.{stays_on};
+ghost use Rattle.upd_core.specs.TargetCounts.{count_in, count_on};
+ghost use Rattle.upd_core.specs.Targets.{is_same};
+ghost use Rattle.upd_yank.specs.Affected.{is_touched};
+ghost use Rattle.upd_yank.specs.Cascade.{found_of, found_others, found_yanks, is_active_by, is_due, is_taken_by};
+ghost use Rattle.upd_yank.specs.Cascade.{settled, status_now, views};
+ghost use Rattle.upd_yank.specs.Cascade.{found_of_all, stay};
+ghost use Rattle.upd_change.specs.Rows.{same_ref};
+ghost use Rattle.upd_text.specs.declared.card_ref.CardRef.{CardRef};
+ghost use Rattle.upd_yank.specs.Right.{AreCountable, kept_status, was_active};
+
+use crate::statuses::Statuses;
+use crate::touched::Touched;
+use std::alloc::{AllocError, Global};
+use upd_core::{CardRef, Counted, CountedCard, Entry, Serial, Target, TargetCounts};
+
+/// What is known before the cascade.
+#[derive(Drop)]
+pub(crate) struct Before<'a> {
+    pub(crate) touched: &'a Touched,
+    pub(crate) statuses: &'a Statuses,
+    pub(crate) counts: &'a TargetCounts,
+}
+
+/// What the cascade has found: the counts of the live yank cards, and the status of each card that was looked at.
+#[derive(Drop)]
+pub(crate) struct Found {
+    pub(crate) counts: TargetCounts,
+    pub(crate) statuses: Vec<(CardRef, bool)>,
+}
+
+/// Whether an ident is taken in a deck.
+fn is_taken(counts: &TargetCounts, deck: Serial, ident: Serial) -> bool
+    ensures { result ≡ is_taken_by (count_in counts.now) deck ident }
+{
+    counts.of(Target::Set(ident)) != 0 || counts.of(Target::SetIn(ident, deck)) != 0
+}
+
+/// Whether a history stays on in a deck.
+fn stays_on(counts: &TargetCounts, deck: Serial, history: &[Entry]) -> bool
+    ensures { result ≡ stays_on (is_taken_by (count_in counts.now) deck) history.now }
+{
+    for i in (0..history.len()).rev() {
+        if !is_taken(counts, deck, history[i].ident) {
+            return history[i].active;
+        }
+    }
+    false
+}
+
+/// Reads the history of a card: whether it is active by these counts.
+fn judge<'a>(counted: &mut Counted<'a>, counts: &TargetCounts, card: &CountedCard<'a>) -> bool
+    ensures active { result ≡ is_active_by (count_in counts.now) card.now.deck card.now.view }
+    ensures reads { counted.new ≡ one_more counted.old }
+{
+    let history = counted.history_of(card);
+    stays_on(counts, card.deck(), history) && counts.of(Target::Deck(card.deck())) == 0
+}
+
+/// Whether a card is to be looked at: it is touched, or what flipped reaches it.
+fn is_due(before: &Before, now: &TargetCounts, card: &CountedCard) -> bool
+    ensures { result ≡ is_due (is_touched before.now.touched.now) (count_in before.now.counts.now)
+        (count_in now.now) card.now }
+{
+    before.touched.has(card.reference()) || card.is_reached(before.counts, now)
+}
+
+/// The status of a card: anew if it is due, which is put to what is found, else as it was.
+fn look<'a>(
+    counted: &mut Counted<'a>,
+    before: &Before,
+    found: &mut Found,
+    card: &CountedCard<'a>,
+) -> Result<bool, AllocError>
+    ensures active { IfOk result (λ active. active
+        ≡ status_now (is_touched before.now.touched.now) (was_active before.now.statuses.now)
+        (count_in before.now.counts.now) (count_in found.old.counts) card.now) }
+    ensures counts { OnOk result (found.new.counts ≡ found.old.counts) }
+    ensures statuses { OnOk result (found.new.statuses.items ≡ found.old.statuses.items
+        ++ (if is_due (is_touched before.now.touched.now) (count_in before.now.counts.now)
+        (count_in found.old.counts) card.now
+        then found_of (count_in found.old.counts) card.now ∷ [] else [])) }
+    ensures reads { OnOk result (counted.new
+        ≡ (if is_due (is_touched before.now.touched.now) (count_in before.now.counts.now)
+        (count_in found.old.counts) card.now
+        then one_more counted.old else counted.old)) }
+{
+    if is_due(before, &found.counts, card) {
+        let active = judge(counted, &found.counts, card);
+        found.statuses.push((card.reference(), active))?;
+        Ok(active)
+    } else {
+        Ok(before.statuses.of(card.reference()).unwrap_or(false))
+    }
+}
+
+/// Looks at a card of `YANK$$$`; its targets are counted if it is live.
+fn turn<'a>(
+    counted: &mut Counted<'a>,
+    before: &Before,
+    found: &mut Found,
+    card: &CountedCard<'a>,
+) -> Result<(), AllocError>
+    ensures counts { OnOk result ((t : Target) → count_in found.old.counts t
+        + count_by (is_same t) card.now.view.targets < 2 ^ 32 →
+        count_in found.new.counts t ≡ count_in found.old.counts t
+        + (if status_now (is_touched before.now.touched.now) (was_active before.now.statuses.now)
+        (count_in before.now.counts.now) (count_in found.old.counts) card.now
+        then count_by (is_same t) card.now.view.targets else 0)) }
+    ensures statuses { OnOk result (found.new.statuses.items ≡ found.old.statuses.items
+        ++ (if is_due (is_touched before.now.touched.now) (count_in before.now.counts.now)
+        (count_in found.old.counts) card.now
+        then found_of (count_in found.old.counts) card.now ∷ [] else [])) }
+    ensures reads { OnOk result (counted.new
+        ≡ (if is_due (is_touched before.now.touched.now) (count_in before.now.counts.now)
+        (count_in found.old.counts) card.now
+        then one_more counted.old else counted.old)) }
+{
+    if look(counted, before, found, card)? {
+        found.counts.raise(card.targets())?;
+    }
+    Ok(())
+}
+
+/// Goes through `YANK$$$` from the youngest card to the oldest: what can take an entry of a card is younger than the
+/// card, so it is settled before the card is looked at.
+fn settle_yanks<'a>(
+    alloc: Global,
+    counted: &mut Counted<'a>,
+    before: &Before,
+    yanks: &[CountedCard<'a>],
+) -> Result<Found, AllocError>
+    ensures counts { AreCountable (views yanks.now) → IfOk result (λ found. (t : Target) → count_in found.counts t
+        ≡ count_on (settled (is_touched before.now.touched.now) (was_active before.now.statuses.now)
+        (count_in before.now.counts.now) yanks.now) t) }
+    ensures statuses { AreCountable (views yanks.now) → IfOk result (λ found. found.statuses.items
+        ≡ found_yanks (is_touched before.now.touched.now) (was_active before.now.statuses.now)
+        (count_in before.now.counts.now) yanks.now) }
+    ensures reads { counted.old.reads + length yanks.now < 2 ^ 64 →
+        IfOk result (λ found. counted.new.reads ≡ counted.old.reads + length found.statuses.items) }
+{
+    let mut found = Found {
+        counts: TargetCounts::new(alloc),
+        statuses: Vec::new(alloc),
+    };
+    for i in (0..yanks.len()).rev() {
+        turn(counted, before, &mut found, &yanks[i])?;
+    }
+    Ok(found)
+}
+
+/// Looks at each of these cards that is due, by the counts that are settled.
+fn judge_others<'a>(
+    counted: &mut Counted<'a>,
+    before: &Before,
+    found: &mut Found,
+    cards: &[CountedCard<'a>],
+) -> Result<(), AllocError>
+    ensures counts { OnOk result (found.new.counts ≡ found.old.counts) }
+    ensures statuses { OnOk result (found.new.statuses.items ≡ found.old.statuses.items
+        ++ found_others (is_touched before.now.touched.now) (count_in before.now.counts.now)
+        (count_in found.old.counts) cards.now) }
+    ensures reads { counted.old.reads + length cards.now < 2 ^ 64 → OnOk result (counted.new.reads
+        + length found.old.statuses.items
+        ≡ counted.old.reads + length found.new.statuses.items) }
+{
+    for card in cards {
+        look(counted, before, found, card)?;
+    }
+    Ok(())
+}
+
+/// What a settling leaves: statuses and counts, and what it found of the cards that it looked at.
+#[derive(Drop)]
+pub(crate) struct Settled {
+    pub(crate) statuses: Statuses,
+    pub(crate) found: Found,
+}
+
+/// The statuses of all cards and the counts of all targets, from what is known before. A card that is gone has
+/// none.
+pub(crate) fn settling<'a>(
+    alloc: Global,
+    counted: &mut Counted<'a>,
+    before: &Before,
+) -> Result<Settled, AllocError>
+    ensures counts { AreCountable counted.old.library.yanks → IfOk result (λ left. (t : Target) →
+        count_in left.found.counts t
+        ≡ count_on (settled (is_touched before.now.touched.now) (was_active before.now.statuses.now)
+        (count_in before.now.counts.now) (yanks_of counted.old.library)) t) }
+    ensures found { AreCountable counted.old.library.yanks → IfOk result (λ left. left.found.statuses.items
+        ≡ found_of_all (is_touched before.now.touched.now) (was_active before.now.statuses.now)
+        (count_in before.now.counts.now) counted.old.library) }
+    ensures statuses { IfOk result (λ left. (r : CardRef) → kept_status left.statuses r
+        ≡ update_all same_ref (stay (kept_status before.now.statuses.now) (others_of counted.old.library) (stay
+        (kept_status before.now.statuses.now) (yanks_of counted.old.library)
+        (λ _. None))) left.found.statuses.items r) }
+    ensures reads { counted.old.reads ≡ 0 → IfOk result (λ left. counted.new.reads ≡ length left.found.statuses.items) }
+{
+    let yanks = counted.yanks(alloc)?;
+    let others = counted.others(alloc)?;
+    let mut found = settle_yanks(alloc, counted, before, &yanks)?;
+    judge_others(counted, before, &mut found, &others)?;
+    let mut statuses = Statuses::new(alloc);
+    statuses.keep(before.statuses, &yanks)?;
+    statuses.keep(before.statuses, &others)?;
+    statuses.put_all(&found.statuses)?;
+    Ok(Settled { statuses, found })
+}

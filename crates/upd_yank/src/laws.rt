@@ -1,0 +1,30 @@
+//! What the cascade rests on.
+
+ghost use Rattle.std.specs.Prelude.{◌≡◌, ℕ, false, Some, List};
+ghost use Rattle.std.specs.List.{Contains};
+ghost use Rattle.upd_apply.specs.Applying.{touched};
+ghost use Rattle.upd_core.specs.declared.target.Target.{Target};
+ghost use Rattle.upd_core.specs.Counted.{counted_card};
+ghost use Rattle.upd_core.specs.Library.{CardView, DeckView, LibraryView, all_decks, ref_of};
+ghost use Rattle.upd_core.specs.Reach.{is_reached};
+ghost use Rattle.upd_core.specs.Sound.{Continues, IsSound};
+ghost use Rattle.upd_core.specs.Status.{is_active, status_of, targets_of};
+ghost use Rattle.upd_core.specs.TargetCounts.{count_on, live_count};
+ghost use Rattle.upd_yank.specs.Affected.{is_touched};
+ghost use Rattle.upd_yank.specs.Cascade.{is_active_by};
+
+/// A status is told by the counts of the live cards, and a card that nothing that flipped reaches keeps it.
+pub fn counts_tell_statuses()
+    ensures counts { (live : List CardView) (d : ℕ) (c : CardView) → is_active (targets_of live) d c
+        ≡ is_active_by (count_on live) d c }
+    ensures kept { (before now : Target → ℕ) (d : ℕ) (c : CardView) → is_reached before now d c ≡ false →
+        is_active_by before d c ≡ is_active_by now d c }
+{}
+
+/// A card that a run didn't touch was, before the run, what its history after the run says by the counts before it.
+pub fn untouched_cards_stood()
+    ensures { (old new : LibraryView) (d : DeckView) (c : CardView) → IsSound old → Continues old.idents new.idents →
+        Contains (all_decks new) d → Contains d.cards c → is_touched (touched old new)
+        (counted_card new.idents d.ident c) ≡ false →
+        status_of (ref_of new.idents c) old ≡ Some (is_active_by (live_count old) d.ident c) }
+{}

@@ -1,0 +1,11 @@
+//! Kept statuses: the status of each card and the count of each target, changed in place when a run yanks, purges or
+//! corrects.
+#![tactic(auto)]
+
+pub mod cache;
+mod cascade;
+pub mod laws;
+mod statuses;
+mod touched;
+
+pub use cache::Cache;

@@ -1,0 +1,87 @@
+//! Statuses by card.
+
+ghost use Rattle.std.specs.Prelude.{◌≡◌, [], Some, if◌then◌else◌, OnOk, IfOk};
+ghost use Rattle.std.specs.Map.{update_all};
+ghost use Rattle.std.specs.List.{list_any};
+ghost use Rattle.std.specs.Option.{option_or};
+ghost use Rattle.upd_change.specs.Rows.{same_ref};
+ghost use Rattle.upd_text.specs.declared.card_ref.CardRef.{CardRef};
+ghost use Rattle.upd_yank.specs.Right.{kept_status};
+
+use std::alloc::{AllocError, Global};
+use std::collections::BTreeMap;
+use std::marker::Model;
+use upd_core::{CardRef, CountedCard};
+
+/// Whether each card that it knows is active, for a yank card live.
+#[derive(Drop)]
+pub(crate) struct Statuses {
+    statuses: BTreeMap<CardRef, bool>,
+}
+
+impl Model for Statuses {
+    ghost use Rattle.std.specs.Prelude.{List, Bool};
+    ghost use Rattle.upd_text.specs.declared.card_ref.CardRef.{CardRef};
+
+    ghost Value = { List (CardRef × Bool) };
+
+    ghost view = { λ s. s.statuses.entries };
+}
+
+impl Statuses {
+    pub(crate) fn new(alloc: Global) -> Statuses
+        ensures { result ≡ [] }
+    {
+        Statuses {
+            statuses: BTreeMap::new(alloc),
+        }
+    }
+
+    /// The status of a card.
+    pub(crate) fn of(&self, card: CardRef) -> Option<bool>
+        ensures { result ≡ kept_status self.now card }
+    {
+        self.statuses.get(&card).copied()
+    }
+
+    /// Sets the status of a card; memory alone can fail.
+    pub(crate) fn put(&mut self, card: CardRef, active: bool) -> Result<(), AllocError>
+        ensures { OnOk result ((r : CardRef) → kept_status self.new r
+            ≡ (if same_ref card r then Some active else kept_status self.old r)) }
+    {
+        self.statuses.insert(card, active)?;
+        Ok(())
+    }
+
+    /// Sets these statuses, one after the other; memory alone can fail.
+    pub(crate) fn put_all(&mut self, found: &[(CardRef, bool)]) -> Result<(), AllocError>
+        ensures { OnOk result ((r : CardRef) → kept_status self.new r
+            ≡ update_all same_ref (kept_status self.old) found.now r) }
+    {
+        for (card, active) in found {
+            self.put(*card, *active)?;
+        }
+        Ok(())
+    }
+
+    /// Adds the statuses of these cards, as they are known elsewhere; memory alone can fail.
+    pub(crate) fn keep(&mut self, known: &Statuses, cards: &[CountedCard]) -> Result<(), AllocError>
+        ensures { OnOk result ((r : CardRef) → kept_status self.new r ≡ (if list_any (λ k. same_ref k.card r) cards.now
+            then option_or (kept_status known.now r) (kept_status self.old r) else kept_status self.old r)) }
+    {
+        for card in cards {
+            self.keep_one(known, card)?;
+        }
+        Ok(())
+    }
+
+    fn keep_one(&mut self, known: &Statuses, card: &CountedCard) -> Result<(), AllocError>
+        ensures { OnOk result ((r : CardRef) → kept_status self.new r ≡ (if same_ref card.now.card r
+            then option_or (kept_status known.now r) (kept_status self.old r) else kept_status self.old r)) }
+    {
+        match known.of(card.reference()) {
+            Some(active) => self.put(card.reference(), active),
+            None => Ok(()),
+        }
+    }
+}
