@@ -1,18 +1,32 @@
 -- A command that ended so, and is told so, has answered what is defined.
-use Rattle.std.proofs.Common.{inl, inr, ℕ, List, Option, Some, None, Result, Ok, Err, IfSome, sym, ◌∙◌, subst}
+use Rattle.std.proofs.Common.{◌≡◌, inl, inr, ℕ, List, [], Option, Some, None, Result, Ok, Err, IfSome, refl, ap, sym, ◌∙◌, subst}
+use Rattle.std.specs.Io.KnownBytes.{Appends}
+use Rattle.std.proofs.KnownBytes.{Appends-nil}
 use Rattle.upd_text.specs.declared.fault.Fault.{Fault}
+use Rattle.upd_text.specs.declared.fault.FaultKind.{FaultKind}
+use Rattle.upd_text.specs.declared.fault.FaultKind.TheVariants.{Write}
 use Rattle.upd_compile.specs.File.{FileView}
-use Rattle.upd_cli.specs.Command.{Answers, Ends, IsEnd, answer_to}
+use Rattle.upd_cli.specs.Command.{Answers, Ends, IsEnd, LeavesOutput, answer_to}
+use Rattle.upd_cli.specs.Status.{exit_status, fault_line, no_memory}
+use Rattle.upd_cli.proofs.StreamLaws.{front_all}
+
+-- nothing may be left by any fault
+pub nothing_left : (kind : FaultKind) (output output' : Option (List ℕ)) (bytes : List ℕ) → Appends output output' [] → LeavesOutput kind output output' bytes
+nothing_left Write output output' bytes nothing = ([], bytes, refl, nothing)
+nothing_left _ output output' bytes nothing = nothing
 
 answered : {U : Type 0} (ended : Result U Fault) (status : ℕ) (defined : Result FileView Fault) (output output' faults faults' : Option (List ℕ))
     → Ends ended output output' defined → IsEnd ended status faults faults' → Answers (answer_to defined) status output output' faults faults'
-answered (Ok u) status (Ok file) output output' faults faults' ends told = inr (told.0, ends, told.1)
+answered (Ok u) status (Ok file) output output' faults faults' ends told = inl (told.0, ends, told.1)
 answered (Ok u) status (Err fault) output output' faults faults' ends told = absurd ends
-answered (Err fault) status defined output output' faults faults' (inl failed) (inl three) = inl three
-answered (Err fault) status defined output output' faults faults' (inl failed) (inr told) = inl (told.0 ∙ failed)
-answered (Err fault) status defined output output' faults faults' (inr ends) told =
+answered (Err fault) status defined output output' faults faults' (inl refused) (inl told) =
     let IsAnswered : Result FileView Fault → Type 0 = λ d. Answers (answer_to d) status output output' faults faults' in
-    subst IsAnswered (sym ends.0) (elim told [ inl three ↦ inl three | inr line ↦ inr (line.0, ends.1, line.1) ])
+    subst IsAnswered (sym refused.0) (inl (told.0, refused.1, told.1))
+answered (Err fault) status defined output output' faults faults' (inl refused) (inr unsaid) =
+    inr (unsaid.0, (fault, nothing_left fault.kind output output' (answer_to defined).output refused.1, unsaid.1))
+answered (Err fault) status defined output output' faults faults' (inr failed) (inl told) =
+    inr (told.0 ∙ failed.0, (fault, failed.1, front_all faults faults' (fault_line fault) told.1))
+answered (Err fault) status defined output output' faults faults' (inr failed) (inr unsaid) = inr (unsaid.0, (fault, failed.1, unsaid.1))
 
 pub answered_of_known : {U : Type 0} (ended : Result U Fault) (status : ℕ) (known : Option (List ℕ)) (defined : List ℕ → Result FileView Fault)
     (output output' faults faults' : Option (List ℕ)) → IfSome known (λ bytes. Ends ended output output' (defined bytes))
@@ -20,3 +34,11 @@ pub answered_of_known : {U : Type 0} (ended : Result U Fault) (status : ℕ) (kn
 answered_of_known ended status None defined output output' faults faults' ends told = tt
 answered_of_known ended status (Some bytes) defined output output' faults faults' ends told =
     answered ended status (defined bytes) output output' faults faults' ends told
+
+-- before anything was read or written, memory was wanting
+pub answered_at_once : (known : Option (List ℕ)) (defined : List ℕ → Result FileView Fault) (fault : Fault) (status : ℕ) (output faults faults' : Option (List ℕ))
+    → fault ≡ no_memory → IsEnd {U = Unit {0}} (Err fault) status faults faults' → IfSome known (λ bytes. Answers (answer_to (defined bytes)) status output output faults faults')
+answered_at_once None defined fault status output faults faults' is told = tt
+answered_at_once (Some bytes) defined fault status output faults faults' is told =
+    answered {U = Unit {0}} (Err fault) status (defined bytes) output output faults faults'
+    (inr (ap (λ f. exit_status f.kind) is, nothing_left fault.kind output output (answer_to (defined bytes)).output (Appends-nil output))) told

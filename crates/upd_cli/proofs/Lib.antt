@@ -1,3 +1,4 @@
+pub mod StreamLaws
 pub mod TrialLaws
 pub mod CommandLaws
 pub mod WordLaws

@@ -5,8 +5,11 @@ use Rattle.clap.specs.Words.{IsAmong, Text}
 use Rattle.clap.specs.declared.error.kind.ErrorKind.{ErrorKind}
 use Rattle.clap.specs.declared.error.kind.ErrorKind.TheVariants.{DisplayHelp, DisplayVersion}
 use Rattle.upd_text.specs.declared.fault.Fault.{Fault}
+use Rattle.upd_text.specs.declared.fault.FaultKind.{FaultKind}
+use Rattle.upd_text.specs.declared.fault.FaultKind.TheVariants.{Write}
 use Rattle.upd_compile.specs.File.{FileView}
 use Rattle.upd_cli.specs.Status.{exit_status, fault_line}
+use Rattle.upd_cli.specs.Streams.{AppendsFront}
 use Rattle.upd_cli.specs.Words.{word_faults}
 
 -- What a command answers: its exit status, its output, and what it says on the fault stream.
@@ -20,10 +23,26 @@ abbrev pub answer_to : Result FileView Fault → Answer
 answer_to (Ok file) = record { status = 0; output = file.bytes; faults = [] }
 answer_to (Err fault) = record { status = exit_status fault.kind; output = []; faults = fault_line fault }
 
+-- A line went to the fault stream and the status is the one meant; or the write failed, and at most a beginning of the line is there.
+abbrev pub IsTold : ℕ → List ℕ → ℕ → Option (List ℕ) → Option (List ℕ) → Type 0
+IsTold meant line status faults faults' =
+    ((status ≡ meant) × Appends faults faults' line) ⊎ ((status ≡ 3) × AppendsFront faults faults' line)
+
+-- what is on the output after a fault: at most a beginning of what is defined where a write failed, and else nothing
+abbrev pub LeavesOutput : FaultKind → Option (List ℕ) → Option (List ℕ) → List ℕ → Type 0
+LeavesOutput Write output output' bytes = AppendsFront output output' bytes
+LeavesOutput _ output output' bytes = Appends output output' []
+
+-- A command failed by some fault, whose line, or a beginning of it, is all that stands on the fault stream.
+abbrev pub Fails : Answer → Option (List ℕ) → Option (List ℕ) → Option (List ℕ) → Option (List ℕ) → Type 0
+Fails answer output output' faults faults' =
+    (fault : Fault) × LeavesOutput fault.kind output output' answer.output × AppendsFront faults faults' (fault_line fault)
+
 -- The command ended with this answer, as far as output and fault stream tell what they hold; or memory, a read or a write failed.
 abbrev pub Answers : Answer → ℕ → Option (List ℕ) → Option (List ℕ) → Option (List ℕ) → Option (List ℕ) → Type 0
 Answers answer status output output' faults faults' =
-    (status ≡ 3) ⊎ ((status ≡ answer.status) × Appends output output' answer.output × Appends faults faults' answer.faults)
+    ((status ≡ answer.status) × Appends output output' answer.output × Appends faults faults' answer.faults)
+    ⊎ ((status ≡ 3) × Fails answer output output' faults faults')
 
 -- A compile file is the defined one, a refusal is the defined one; or memory or a read failed.
 abbrev pub GivesUnlessFailed : Result FileView Fault → Result FileView Fault → Type 0
@@ -33,12 +52,14 @@ GivesUnlessFailed (Err fault) defined = (exit_status fault.kind ≡ 3) ⊎ (defi
 -- A command wrote what is defined, or met the defined refusal; or memory, a read or a write failed.
 abbrev pub Ends : {U : Type 0} → Result U Fault → Option (List ℕ) → Option (List ℕ) → Result FileView Fault → Type 0
 Ends (Ok u) output output' defined = IsOkAnd defined (λ file. Appends output output' file.bytes)
-Ends (Err fault) output output' defined = (exit_status fault.kind ≡ 3) ⊎ ((defined ≡ Err fault) × Appends output output' [])
+Ends (Err fault) output output' defined =
+    ((defined ≡ Err fault) × Appends output output' [])
+    ⊎ ((exit_status fault.kind ≡ 3) × LeavesOutput fault.kind output output' (answer_to defined).output)
 
--- how a command that ended so is told: a fault by its line
+-- How a command that ended so is told: a fault by its line, of which at most a beginning stands there where the write failed.
 abbrev pub IsEnd : {U : Type 0} → Result U Fault → ℕ → Option (List ℕ) → Option (List ℕ) → Type 0
 IsEnd (Ok u) status faults faults' = (status ≡ 0) × Appends faults faults' []
-IsEnd (Err fault) status faults faults' = (status ≡ 3) ⊎ ((status ≡ exit_status fault.kind) × Appends faults faults' (fault_line fault))
+IsEnd (Err fault) status faults faults' = IsTold (exit_status fault.kind) (fault_line fault) status faults faults'
 
 -- the exit status of words that are not read: 0 for help or the version, and 2 for a mistake
 abbrev pub told_status : ErrorKind → ℕ

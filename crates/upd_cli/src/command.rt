@@ -1,9 +1,11 @@
 //! Carries out a command line over any input, output and fault stream.
-ghost use Rattle.std.specs.Prelude.{◌≡◌, ◌≢◌, ◌⊎◌, IfErr, IfSome, None, map, []};
+ghost use Rattle.std.specs.Prelude.{◌≡◌, ◌≢◌, ◌⊎◌, ◌+◌, IfErr, IfSome, None, map, []};
 ghost use Rattle.std.specs.IoError.{error_kind};
 ghost use Rattle.upd_compile.specs.Modes.{mode_named};
-ghost use Rattle.upd_cli.specs.Command.{Answers, Ends, GivesUnlessFailed, IsEnd, IsToldOf, answer_to};
-ghost use Rattle.upd_cli.specs.Status.{exit_status};
+ghost use Rattle.upd_cli.specs.Command.{Answers, Ends, GivesUnlessFailed, IsEnd, IsTold, IsToldOf, answer_to};
+ghost use Rattle.upd_cli.specs.Status.{exit_status, fault_line, no_memory, no_words_line};
+ghost use Rattle.upd_cli.specs.Streams.{TakesFront};
+ghost use Rattle.upd_text.specs.declared.limits.TheConstants.{MAX_RUN_BYTES};
 ghost use Rattle.upd_cli.specs.Trial.{trial_named};
 ghost use Rattle.upd_cli.specs.Words.{mode_word, word_faults};
 
@@ -31,6 +33,8 @@ pub fn run_command<S: AsStr, R: Read, W: Write, E: Write>(
         Answers (answer_to (trial_named (mode_word (map S.text words.entry.now)) bytes)) result
         (W.contents output.old) (W.contents output.new) (E.contents faults.old) (E.contents faults.new)) }
     ensures unread { word_faults (map S.text words.entry.now) ≢ [] → IsToldOf (map S.text words.entry.now) result }
+    // Of a run that is too long, no more is read than tells so.
+    ensures front { TakesFront (MAX_RUN_BYTES + 1) (R.remaining input.old) (R.remaining input.new) }
     ensures waits { (word_faults (map S.text words.entry.now) ≢ []) ⊎ (mode_named (mode_word (map S.text words.entry.now)) ≡ None)
         → input.new ≡ input.old }
     ensures silent { (result ≡ 1) ⊎ (result ≡ 2) → output.new ≡ output.old }
@@ -53,15 +57,20 @@ pub fn run_command<S: AsStr, R: Read, W: Write, E: Write>(
     }
 }
 
-/// The exit status where the words of the command line could not be had: 3 for want of memory, and else 2.
+/// The exit status where the words of the command line could not be had: 3 for want of memory, and else 2. A line on `faults` says so.
 pub fn report_words<E: Write>(error: &io::Error, faults: &mut E) -> u8
-    ensures memory { error_kind error.now ≡ ErrorKind.OutOfMemory → result ≡ 3 }
-    ensures other { error_kind error.now ≢ ErrorKind.OutOfMemory → (result ≡ 2) ⊎ (result ≡ 3) }
+    ensures memory { error_kind error.now ≡ ErrorKind.OutOfMemory
+        → IsTold 3 (fault_line no_memory) result (E.contents faults.old) (E.contents faults.new) }
+    ensures other { error_kind error.now ≢ ErrorKind.OutOfMemory
+        → IsTold 2 no_words_line result (E.contents faults.old) (E.contents faults.new) }
 {
     if error.kind() == ErrorKind::OutOfMemory {
         return finish(Err(Fault::from(AllocError)), faults);
     }
-    match writeln!(faults, "error: the words of the command line: {error}") {
+    match write_out(
+        faults,
+        b"error: the words of the command line can't be read as text\n",
+    ) {
         Ok(()) => UNREAD,
         Err(_) => FAILED,
     }
@@ -90,16 +99,18 @@ fn carry_out_trial<R: Read, W: Write>(
 ) -> Result<(), Fault>
     ensures ends { IfSome (R.remaining input.old) (λ bytes.
         Ends result (W.contents output.old) (W.contents output.new) (trial_named mode.now bytes)) }
+    ensures front { TakesFront (MAX_RUN_BYTES + 1) (R.remaining input.old) (R.remaining input.new) }
     ensures waits { mode_named mode.now ≡ None → input.new ≡ input.old }
     ensures silent { IfErr result (λ fault. exit_status fault.kind ≡ 1 → output.new ≡ output.old) }
 {
-    let file = try_input(alloc, mode, input)?;
+    let file = trial_of_input(alloc, mode, input)?;
     write_out(output, &file.bytes)
 }
 
 /// The compile file of the run on the input. The mode is looked at before the input is read.
-fn try_input<R: Read>(alloc: Global, mode: &str, input: &mut R) -> Result<CompileFile, Fault>
+fn trial_of_input<R: Read>(alloc: Global, mode: &str, input: &mut R) -> Result<CompileFile, Fault>
     ensures gives { IfSome (R.remaining input.old) (λ bytes. GivesUnlessFailed result (trial_named mode.now bytes)) }
+    ensures front { TakesFront (MAX_RUN_BYTES + 1) (R.remaining input.old) (R.remaining input.new) }
     ensures waits { mode_named mode.now ≡ None → input.new ≡ input.old }
 {
     let mode = read_mode(mode)?;

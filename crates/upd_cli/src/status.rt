@@ -2,7 +2,10 @@
 ghost use Rattle.std.specs.Prelude.{◌≡◌, OnOk};
 ghost use Rattle.std.specs.Io.KnownBytes.{Appends};
 ghost use Rattle.upd_cli.specs.Status.{exit_status, fault_line};
+ghost use Rattle.upd_cli.specs.Streams.{AppendsFront};
 
+use crate::streams::write_parts;
+use itoa::Buffer;
 use std::io;
 use std::io::Write;
 use upd_text::{Fault, FaultKind};
@@ -29,13 +32,20 @@ pub(crate) fn exit_status(kind: FaultKind) -> u8
     }
 }
 
-/// Writes the line of a fault, its `Display` behind the program's name, and flushes.
+/// Writes the line of a fault, its `Display` behind the program's name, and flushes. It takes no memory, which may just have been wanting.
 pub(crate) fn write_fault<E: Write>(faults: &mut E, fault: Fault) -> io::Result<()>
-    ensures { OnOk result (Appends (E.contents faults.old) (E.contents faults.new) (fault_line fault)) }
+    ensures ok { OnOk result (Appends (E.contents faults.old) (E.contents faults.new) (fault_line fault)) }
+    ensures front { AppendsFront (E.contents faults.old) (E.contents faults.new) (fault_line fault) }
 {
-    let name = fault.kind.name();
-    let number = fault.kind.number();
-    let at = fault.at;
-    writeln!(faults, "upd: {name} ({number}) at {at}")?;
-    faults.flush()
+    let (mut number, mut at) = (Buffer::new(), Buffer::new());
+    let parts: [&[u8]; 7] = [
+        b"upd: ",
+        fault.kind.name().as_bytes(),
+        b" (",
+        number.format(fault.kind.number()).as_bytes(),
+        b") at ",
+        at.format(fault.at).as_bytes(),
+        b"\n",
+    ];
+    write_parts(faults, &parts)
 }

@@ -1,7 +1,9 @@
-//! Reads a run from any reader, and writes to any writer.
-ghost use Rattle.std.specs.Prelude.{◌≡◌, ◌⊎◌, ◌+◌, IfErr, IfOk, IfSome, OnOk, take};
-ghost use Rattle.std.specs.Io.KnownBytes.{Appends};
+//! Reads a run from any reader, and writes to any writer. A call that was interrupted counts as failed, like any other.
+ghost use Rattle.std.specs.Prelude.{◌≡◌, ◌≤◌, ◌⊎◌, ◌+◌, [], IfErr, IfOk, IfSome, OnOk, length, take};
+ghost use Rattle.std.specs.Io.KnownBytes.{Appends, Consumes, IsAtEnd};
+ghost use Rattle.std.specs.List.{flat_map};
 ghost use Rattle.upd_cli.specs.Status.{no_memory, read_failed, write_failed};
+ghost use Rattle.upd_cli.specs.Streams.{AppendsFront, TakesFront};
 
 use std::alloc::{AllocError, Global};
 use std::io;
@@ -9,17 +11,42 @@ use std::io::{ErrorKind, Read, Write};
 use upd_text::limits::MAX_RUN_BYTES;
 use upd_text::{Fault, FaultKind};
 
-/// All bytes of an input, or the first `MAX_RUN_BYTES` and one more.
+/// All bytes of an input, or the first `MAX_RUN_BYTES` and one more, which tells that it is too long.
 pub(crate) fn read_input<R: Read>(alloc: Global, input: &mut R) -> Result<Vec<u8>, Fault>
     ensures ok { IfSome (R.remaining input.old) (λ all. IfOk result (λ bytes. bytes.items ≡ take (MAX_RUN_BYTES + 1) all)) }
+    ensures front { TakesFront (MAX_RUN_BYTES + 1) (R.remaining input.old) (R.remaining input.new) }
     ensures err { IfErr result (λ fault. (fault ≡ no_memory) ⊎ (fault ≡ read_failed)) }
 {
     let mut bytes = Vec::new(alloc);
-    let mut front = input.take(MAX_RUN_BYTES as u64 + 1);
-    match front.read_to_end(&mut bytes) {
-        Ok(_) => Ok(bytes),
-        Err(error) => Err(read_fault(&error)),
+    match read_front(input, MAX_RUN_BYTES + 1, &mut bytes) {
+        Ok(()) => Ok(bytes),
+        Err(fault) => Err(fault),
     }
+}
+
+/// Reads into an empty vector until so many bytes are there, or to the end of the input.
+fn read_front<R: Read>(input: &mut R, most: usize, bytes: &mut Vec<u8>) -> Result<(), Fault>
+    requires { bytes.old.items ≡ [] }
+    ensures ok { OnOk result (Consumes (R.remaining input.old) (R.remaining input.new) bytes.new.items) }
+    ensures end { OnOk result ((length bytes.new.items ≡ most) ⊎ ((length bytes.new.items ≤ most) × IsAtEnd (R.remaining input.new))) }
+    ensures front { TakesFront most (R.remaining input.old) (R.remaining input.new) }
+    ensures err { IfErr result (λ fault. (fault ≡ no_memory) ⊎ (fault ≡ read_failed)) }
+{
+    let mut chunk = [0u8; 4096];
+    'input: while bytes.len() < most {
+        let room = (most - bytes.len()).min(4096);
+        let part = &mut chunk[..room];
+        match input.read(part) {
+            Ok(0) => return Ok(()),
+            Ok(count) => {
+                if bytes.extend_from_slice(&part[..count]).is_err() {
+                    return Err(Fault::from(AllocError));
+                }
+            }
+            Err(error) => return Err(read_fault(&error)),
+        }
+    }
+    Ok(())
 }
 
 /// A failed read is Read, unless memory was wanting.
@@ -32,18 +59,41 @@ fn read_fault(error: &io::Error) -> Fault
     }
 }
 
-/// Writes all bytes and flushes. A failed write is Write, at 0.
+/// Writes all bytes and flushes. A failed write is Write, at 0, and leaves at most a beginning of them.
 pub(crate) fn write_out<W: Write>(output: &mut W, bytes: &[u8]) -> Result<(), Fault>
     ensures ok { OnOk result (Appends (W.contents output.old) (W.contents output.new) bytes.now) }
+    ensures front { AppendsFront (W.contents output.old) (W.contents output.new) bytes.now }
     ensures err { IfErr result (λ fault. fault ≡ write_failed) }
 {
-    write_through(output, bytes).map_err(|_| FaultKind::Write.without_line())
+    match write_parts(output, &[bytes]) {
+        Ok(()) => Ok(()),
+        Err(_) => Err(FaultKind::Write.without_line()),
+    }
 }
 
-/// Writes all bytes and flushes.
-pub(crate) fn write_through<W: Write>(output: &mut W, bytes: &[u8]) -> io::Result<()>
-    ensures { OnOk result (Appends (W.contents output.old) (W.contents output.new) bytes.now) }
+/// Writes all parts, one after the other, and flushes. An error leaves at most a beginning of them.
+pub(crate) fn write_parts<W: Write>(output: &mut W, parts: &[&[u8]]) -> io::Result<()>
+    ensures ok { OnOk result (Appends (W.contents output.old) (W.contents output.new) (flat_map (λ part. part.now) parts.now)) }
+    ensures front { AppendsFront (W.contents output.old) (W.contents output.new) (flat_map (λ part. part.now) parts.now) }
 {
-    output.write_all(bytes)?;
+    for part in parts {
+        write_part(output, part)?;
+    }
     output.flush()
+}
+
+/// Writes all bytes. An error leaves at most a beginning of them.
+fn write_part<W: Write>(output: &mut W, bytes: &[u8]) -> io::Result<()>
+    ensures ok { OnOk result (Appends (W.contents output.old) (W.contents output.new) bytes.now) }
+    ensures front { AppendsFront (W.contents output.old) (W.contents output.new) bytes.now }
+{
+    let mut rest = bytes;
+    'output: while !rest.is_empty() {
+        match output.write(rest) {
+            Ok(0) => return Err(io::Error::from(ErrorKind::WriteZero)),
+            Ok(count) => rest = &rest[count..],
+            Err(error) => return Err(error),
+        }
+    }
+    Ok(())
 }

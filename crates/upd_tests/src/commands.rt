@@ -312,7 +312,7 @@ fn words_that_are_no_command_line_are_told_on_the_fault_stream(rt: HostRuntime) 
 fn words_that_cannot_be_had(rt: HostRuntime) {
     let mut faults = Vec::new(rt.alloc());
     let status = report_words(&io::Error::from(ErrorKind::InvalidData), &mut faults);
-    let line = b"error: the words of the command line: invalid data\n";
+    let line = b"error: the words of the command line can't be read as text\n";
     assert!(rt; status == 2 && faults.as_slice() == line.as_slice());
     faults.clear();
     let status = report_words(&io::Error::from(ErrorKind::OutOfMemory), &mut faults);

@@ -2,9 +2,9 @@ use Rattle.std.proofs.Common.{rules, ℕ, List, IfSome, map, subst}
 use Rattle.clap.specs.Words.{Text}
 use Rattle.upd_cli.specs.Command.{Answers, answer_to}
 use Rattle.upd_cli.specs.Trial.{trial_named}
-use Rattle.upd_cli.specs.Words.{IsAsked}
+use Rattle.upd_cli.specs.Words.{IsAsked, mode_word}
 use Rattle.upd_cli.specs.declared.words.Request.TheVariants.{Trial}
-use Rattle.upd_cli.proofs.CommandLaws.{answered_of_known}
+use Rattle.upd_cli.proofs.CommandLaws.{answered_at_once, answered_of_known}
 use Rattle.upd_cli.proofs.command.run_command.Goals as goal
 
 pub returns-in-Ok-Trial-clause-trial : goal.returns-in-Ok-Trial-clause-trial
@@ -19,3 +19,8 @@ returns-in-Ok-Trial-clause-trial g c =
 
 pub returns-in-Ok-clause-silent : goal.returns-in-Ok-clause-silent
 returns-in-Ok-clause-silent g c = search rules
+
+pub returns-clause-trial : goal.returns-clause-trial
+returns-clause-trial g c = λ none.
+    answered_at_once (g.R.Read.remaining c.args.input.now) (trial_named (mode_word (map g.S.AsStr.text c.args.words.now))) c.in-Err.fault c.finish-in-Err.result
+    (g.W.Write.contents c.args.output.now) (g.E.Write.contents c.args.faults.now) (g.E.Write.contents c.finish-in-Err.new.faults) c.in-Err.ensures.err c.finish-in-Err.ensures.told
