@@ -21,17 +21,17 @@ pub record FileView : Type 0 where
 abbrev pub blanks : ℕ → List ℕ
 blanks n = replicate n 32
 
--- a text with blanks behind it, or before it, up to a width
-abbrev pub padded : ℕ → List ℕ → List ℕ
-padded width text = text ++ blanks (width - length text)
+-- a text from the left in so many places, with blanks behind it
+abbrev pub from_left : ℕ → List ℕ → List ℕ
+from_left width text = text ++ blanks (width - length text)
 
--- a text with blanks before it up to a width
-abbrev pub padded_left : ℕ → List ℕ → List ℕ
-padded_left width text = blanks (width - length text) ++ text
+-- a text from the right in so many places, with blanks before it
+abbrev pub from_right : ℕ → List ℕ → List ℕ
+from_right width text = blanks (width - length text) ++ text
 
 -- the line of a card: its text in 80 columns, a blank, its ident in 9, its number in 6, and LF
 abbrev pub card_line : List Ident → ActiveCardView → List ℕ
-card_line idents c = padded 80 c.text ++ 32 ∷ padded 9 (name_of idents c.ident) ++ padded_left 6 (decimal c.number) ++ 10 ∷ []
+card_line idents c = from_left 80 c.text ++ 32 ∷ from_left 9 (name_of idents c.ident) ++ from_right 6 (decimal c.number) ++ 10 ∷ []
 
 -- what an event is written as
 abbrev pub event_line : List Ident → Event → List ℕ

@@ -3,7 +3,7 @@ use Rattle.std.specs.Prelude.{ℕ, ◌-◌, ◌==◌, Bool, false, if◌then◌e
 use Rattle.std.specs.Option.{option_map_or}
 use Rattle.upd_core.specs.declared.ident.Ident.{Ident}
 
--- the ident of an age: it stands at its place in the directory
+-- the ident of an age: it stands at its position in the directory
 abbrev pub ident_at : List Ident → ℕ → Option Ident
 ident_at idents age = if age == 0 then None else slice_get idents (age - 1)
 

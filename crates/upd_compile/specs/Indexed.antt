@@ -3,9 +3,9 @@ use Rattle.std.specs.Prelude.{◌≡◌, ℕ, nat_eq, List}
 use Rattle.std.specs.HashMap as hash
 use Rattle.std.specs.Str.{bytes_eq}
 use Rattle.upd_compile.specs.declared.indexed.Indexed.TheInside.{Inside}
-use Rattle.upd_compile.specs.Places.{held_kind, place_aged}
+use Rattle.upd_compile.specs.Positions.{held_kind, position_aged}
 
 -- a look-up in the index finds what stands first in the lists
 pub record IsIndex (x : Inside) : Type 0 where
   pub names : (name : List ℕ) → hash.get_by (λ k. bytes_eq name k.now) x.names ≡ held_kind name x.actives.now.idents
-  pub places : (age : ℕ) → hash.get nat_eq x.places age ≡ place_aged age x.actives.now.decks
+  pub positions : (age : ℕ) → hash.get nat_eq x.positions age ≡ position_aged age x.actives.now.decks

@@ -3,7 +3,7 @@ pub mod Walk
 pub mod Chosen
 pub mod File
 pub mod Progress
-pub mod Places
+pub mod Positions
 pub mod Indexed
 pub mod Reach
 pub mod Listings

@@ -19,9 +19,9 @@ use Rattle.upd_core.specs.Status.{is_active, is_good, is_taken, live_targets}
 use Rattle.upd_compile.specs.Idents.{ident_at}
 
 -- a line: its words with a blank before each but the first, and LF
-abbrev pub spaced : List (List ℕ) → List ℕ
-spaced [] = 10 ∷ []
-spaced (w ∷ ws) = w ++ flat_map (λ x. 32 ∷ x) ws ++ 10 ∷ []
+abbrev pub line_of : List (List ℕ) → List ℕ
+line_of [] = 10 ∷ []
+line_of (w ∷ ws) = w ++ flat_map (λ x. 32 ∷ x) ws ++ 10 ∷ []
 
 -- a word that stands at the end of a line where something holds
 abbrev pub word_if : Bool → List ℕ → List (List ℕ)
@@ -43,11 +43,11 @@ listed_deck name l = if bytes_eq name yank_name then Some 0 else deck_of name l
 
 -- the head line of a deck of a name, by its ident; `YANK$$$` has none
 abbrev pub heading : List ℕ → Option Ident → List ℕ
-heading name None = spaced (codes "DECK" ∷ name ∷ [])
+heading name None = line_of (codes "DECK" ∷ name ∷ [])
 heading name (Some i) =
     if is_common i.kind
-    then spaced (codes "COMDECK" ∷ name ∷ word_if i.noprop (codes "NOPROP"))
-    else spaced (codes "DECK" ∷ name ∷ [])
+    then line_of (codes "COMDECK" ∷ name ∷ word_if i.noprop (codes "NOPROP"))
+    else line_of (codes "DECK" ∷ name ∷ [])
 
 -- the head line of a deck, by its kind and mark
 abbrev pub deck_heading : List Ident → ℕ → List ℕ
@@ -55,7 +55,7 @@ deck_heading idents age = heading (deck_name idents age) (ident_at idents age)
 
 -- the line of a card: whether it is active, its reference and its text
 abbrev pub deck_line : List Ident → List Target → ℕ → CardView → List ℕ
-deck_line idents live deck c = spaced ((if is_active live deck c then codes "A" else codes "I") ∷ card_name idents c ∷ c.text ∷ [])
+deck_line idents live deck c = line_of ((if is_active live deck c then codes "A" else codes "I") ∷ card_name idents c ∷ c.text ∷ [])
 
 -- a deck's head line and a line for each card
 abbrev pub deck_listing : List ℕ → LibraryView → Result (List ℕ) Fault
@@ -68,15 +68,15 @@ deck_listing name l = do
 -- the line of an entry: its ident, which way it switches, and whether the ident is taken
 abbrev pub entry_line : List Ident → List Target → ℕ → Entry → List ℕ
 entry_line idents live deck e =
-    spaced (codes "ENTRY" ∷ name_of idents e.ident ∷ (if e.active then codes "on" else codes "off")
+    line_of (codes "ENTRY" ∷ name_of idents e.ident ∷ (if e.active then codes "on" else codes "off")
     ∷ word_if (is_taken live deck e.ident) (codes "taken"))
 
 -- a card's reference, deck, text and status, and a line for each entry
 abbrev pub card_lines : List Ident → List Target → ℕ → CardView → List ℕ
 card_lines idents live deck c =
-    spaced (codes "CARD" ∷ card_name idents c ∷ []) ++ spaced (codes "DECK" ∷ deck_name idents deck ∷ [])
-    ++ spaced (codes "TEXT" ∷ c.text ∷ [])
-    ++ spaced (codes "STATUS" ∷ (if is_active live deck c then codes "active" else codes "inactive") ∷ [])
+    line_of (codes "CARD" ∷ card_name idents c ∷ []) ++ line_of (codes "DECK" ∷ deck_name idents deck ∷ [])
+    ++ line_of (codes "TEXT" ∷ c.text ∷ [])
+    ++ line_of (codes "STATUS" ∷ (if is_active live deck c then codes "active" else codes "inactive") ∷ [])
     ++ flat_map (entry_line idents live deck) c.history
 
 -- a card with its status and its history
@@ -96,7 +96,7 @@ kind_word kind.Common = codes "comdeck"
 
 -- the line of an ident: age, name, kind and state
 abbrev pub ident_line : Ident → List ℕ
-ident_line i = spaced (decimal i.age ∷ i.name ∷ kind_word i.kind ∷ (if i.held then codes "held" else codes "purged") ∷ [])
+ident_line i = line_of (decimal i.age ∷ i.name ∷ kind_word i.kind ∷ (if i.held then codes "held" else codes "purged") ∷ [])
 
 -- a line for each ident by age
 abbrev pub ident_listing : LibraryView → List ℕ
@@ -114,14 +114,14 @@ purged_mark idents ages = word_if (list_any (is_purged idents) ages) (codes "pur
 
 -- the line of a target, with a mark where an ident of it is purged
 abbrev pub target_line : List Ident → Target → List ℕ
-target_line idents (Set z) = 32 ∷ spaced (codes "set" ∷ name_of idents z ∷ purged_mark idents (z ∷ []))
-target_line idents (SetIn z d) = 32 ∷ spaced (codes "setin" ∷ name_of idents z ∷ name_of idents d ∷ purged_mark idents (z ∷ d ∷ []))
-target_line idents (Deck d) = 32 ∷ spaced (codes "deck" ∷ name_of idents d ∷ purged_mark idents (d ∷ []))
+target_line idents (Set z) = 32 ∷ line_of (codes "set" ∷ name_of idents z ∷ purged_mark idents (z ∷ []))
+target_line idents (SetIn z d) = 32 ∷ line_of (codes "setin" ∷ name_of idents z ∷ name_of idents d ∷ purged_mark idents (z ∷ d ∷ []))
+target_line idents (Deck d) = 32 ∷ line_of (codes "deck" ∷ name_of idents d ∷ purged_mark idents (d ∷ []))
 
 -- the line of a yank card, and one for each of its targets
 abbrev pub yank_lines : List Ident → List Target → CardView → List ℕ
 yank_lines idents live c =
-    spaced ((if is_good live 0 c then codes "live" else codes "dead") ∷ card_name idents c ∷ c.text ∷ [])
+    line_of ((if is_good live 0 c then codes "live" else codes "dead") ∷ card_name idents c ∷ c.text ∷ [])
     ++ flat_map (target_line idents) c.targets
 
 -- a line for each yank card in order, and one for each of its targets

@@ -26,14 +26,14 @@ abbrev pub text_cards : ActiveDeckView → List ActiveCardView
 text_cards d = filter (λ c. not ((c.ident == d.ident) && (c.number == 1))) d.cards
 
 -- a call that is followed gives what the text cards of its deck give
-abbrev pub followed : (ActiveCardView → List Event) → Option ActiveDeckView → List Event
-followed given None = Unknown ∷ []
-followed given (Some d) = Follow ∷ flat_map given (text_cards d)
+abbrev pub call_events : (ActiveCardView → List Event) → Option ActiveDeckView → List Event
+call_events given None = Unknown ∷ []
+call_events given (Some d) = Follow ∷ flat_map given (text_cards d)
 
 -- what a card gives where calls are followed so many levels deep
 abbrev pub card_events : ℕ → ActivesView → ActiveCardView → List Event
 card_events zero a c = if is_call c.text then Depth ∷ [] else Line c ∷ []
-card_events (suc levels) a c = if is_call c.text then followed (card_events levels a) (common_named (called c.text) a) else Line c ∷ []
+card_events (suc levels) a c = if is_call c.text then call_events (card_events levels a) (common_named (called c.text) a) else Line c ∷ []
 
 -- the walk through a deck: what its text cards give, one after the other
 abbrev pub walk : ℕ → ActivesView → ActiveDeckView → List Event

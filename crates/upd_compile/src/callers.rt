@@ -5,7 +5,7 @@ ghost use Rattle.upd_compile.specs.Reach.{AreCallers, FollowsMore, is_in};
 
 use std::alloc::{AllocError, Global};
 
-/// For each place the marked places that call it. Places past the end are left out.
+/// For each position the marked positions that call it. Positions past the end are left out.
 pub(crate) fn callers(
     alloc: Global,
     calls: &[Vec<usize>],
@@ -13,12 +13,13 @@ pub(crate) fn callers(
 ) -> Result<Vec<Vec<usize>>, AllocError>
     requires { length marks.now ≡ length calls.now }
     ensures { IfOk result
-        (λ callers. AreCallers (map (λ list. list.items) calls.now) marks.now (map (λ list. list.items) callers.items)) }
+        (λ callers. AreCallers (map (λ list. list.items) calls.now) marks.now
+        (map (λ list. list.items) callers.items)) }
 {
     let mut callers = empty_lists(alloc, calls.len())?;
-    for place in 0..calls.len() {
-        if marks[place] {
-            add_to_all(&mut callers, &calls[place], place)?;
+    for position in 0..calls.len() {
+        if marks[position] {
+            add_to_all(&mut callers, &calls[position], position)?;
         }
     }
     Ok(callers)
@@ -28,35 +29,35 @@ fn empty_lists(alloc: Global, count: usize) -> Result<Vec<Vec<usize>>, AllocErro
     ensures { IfOk result (λ lists. map (λ list. list.items) lists.items ≡ replicate count []) }
 {
     let mut lists = Vec::with_capacity(alloc, count)?;
-    for _place in 0..count {
+    for _position in 0..count {
         lists.push(Vec::new(alloc))?;
     }
     Ok(lists)
 }
 
-// Adds a caller to the lists of these places.
+/// Adds a caller to the lists of these positions.
 fn add_to_all(
     lists: &mut Vec<Vec<usize>>,
-    places: &[usize],
+    positions: &[usize],
     caller: usize,
 ) -> Result<(), AllocError>
     ensures { OnOk result
-        (FollowsMore (λ c d. is_in places.now c && (caller == d)) (map (λ list. list.items) lists.old.items)
+        (FollowsMore (λ c d. is_in positions.now c && (caller == d)) (map (λ list. list.items) lists.old.items)
         (map (λ list. list.items) lists.new.items)) }
 {
-    for place in places {
-        add_to(lists, *place, caller)?;
+    for position in positions {
+        add_to(lists, *position, caller)?;
     }
     Ok(())
 }
 
-fn add_to(lists: &mut Vec<Vec<usize>>, place: usize, caller: usize) -> Result<(), AllocError>
+fn add_to(lists: &mut Vec<Vec<usize>>, position: usize, caller: usize) -> Result<(), AllocError>
     ensures { OnOk result
-        (FollowsMore (λ c d. (place == c) && (caller == d)) (map (λ list. list.items) lists.old.items)
+        (FollowsMore (λ c d. (position == c) && (caller == d)) (map (λ list. list.items) lists.old.items)
         (map (λ list. list.items) lists.new.items)) }
 {
-    if place < lists.len() {
-        let list = &mut lists[place];
+    if position < lists.len() {
+        let list = &mut lists[position];
         list.push(caller)?;
     }
     Ok(())

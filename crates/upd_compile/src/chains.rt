@@ -1,66 +1,69 @@
+//! Chains of calls: which decks a change of a common deck reaches.
+
 ghost use Rattle.std.specs.Prelude.{◌≡◌, ◌&&◌, not, map, IfOk, IsTrue, ◌↔◌};
 ghost use Rattle.std.specs.List.{list_any, zip};
 ghost use Rattle.upd_core.specs.Actives.{ActiveDeckView, ActivesView};
 ghost use Rattle.upd_compile.specs.Chosen.{Chain, has_chain, is_changed, is_passed_on};
 ghost use Rattle.upd_compile.specs.Idents.{passes};
-ghost use Rattle.upd_compile.specs.Places.{called_place, called_places};
+ghost use Rattle.upd_compile.specs.Positions.{called_position, called_positions};
 ghost use Rattle.upd_compile.specs.Reach.{is_marked};
 
 use crate::callers::callers;
 use crate::idents::ident_at;
 use crate::indexed::Indexed;
 use crate::marks::{both, calls_marked};
-use crate::reach::reached;
+use crate::reach::reached_positions;
 use crate::walk::is_first;
 use std::alloc::{AllocError, Global};
 use upd_core::{ActiveCard, ActiveDeck, Ident, Serial};
 use upd_text::line::{called, is_call};
 
-/// A deck has a chain to a changed common deck where a path of calls leads there, and only there, however long the path is.
+/// A deck has a chain to a changed common deck where a path of calls leads there, and only there, however long it is.
 pub fn chains_are_paths()
     ensures { (before a : ActivesView) (d : ActiveDeckView) → IsTrue (has_chain before a d) ↔ Chain before a d }
 {}
 
-// The places of the held common decks that a deck calls.
-fn called_places(
+/// The positions of the held common decks that a deck calls.
+fn called_positions(
     alloc: Global,
     source: &Indexed,
     deck: &ActiveDeck,
 ) -> Result<Vec<usize>, AllocError>
-    ensures { IfOk result (λ places. places.items ≡ called_places source.now deck.now) }
+    ensures { IfOk result (λ positions. positions.items ≡ called_positions source.now deck.now) }
 {
     deck.cards
         .iter()
         .filter(|card| !is_first(card, deck.ident))
-        .filter_map(|card| called_place(source, card))
+        .filter_map(|card| called_position(source, card))
         .collect(alloc)
 }
 
-// The place of the held common deck that a card calls.
-fn called_place(source: &Indexed, card: &ActiveCard) -> Option<usize>
-    ensures { result ≡ called_place source.now card.now }
+/// The position of the held common deck that a card calls.
+fn called_position(source: &Indexed, card: &ActiveCard) -> Option<usize>
+    ensures { result ≡ called_position source.now card.now }
 {
     if is_call(card.text) {
-        source.place_named(called(card.text))
+        source.position_named(called(card.text))
     } else {
         None
     }
 }
 
-// The called places of each deck.
+/// The called positions of each deck.
 fn calls(alloc: Global, source: &Indexed) -> Result<Vec<Vec<usize>>, AllocError>
-    ensures { IfOk result (λ calls. map (λ list. list.items) calls.items ≡ map (called_places source.now) source.now.decks) }
+    ensures { IfOk result (λ calls. map (λ list. list.items) calls.items
+        ≡ map (called_positions source.now) source.now.decks) }
 {
     let decks = source.decks();
     let mut calls = Vec::with_capacity(alloc, decks.len())?;
     for deck in decks {
-        calls.push(called_places(alloc, source, deck)?)?;
+        calls.push(called_positions(alloc, source, deck)?)?;
     }
     Ok(calls)
 }
 
-// Whether a change of each deck is passed on to its callers.
-fn passed_on(alloc: Global, source: &Indexed) -> Result<Vec<bool>, AllocError>
+/// Whether a change of each deck is passed on to its callers.
+fn passing_marks(alloc: Global, source: &Indexed) -> Result<Vec<bool>, AllocError>
     ensures { IfOk result (λ marks. marks.items ≡ map (is_passed_on source.now) source.now.decks) }
 {
     source
@@ -90,9 +93,9 @@ pub(crate) fn chain_marks(
         → marks.items ≡ map (has_chain before source.now) source.now.decks) }
 {
     let calls = calls(alloc, source)?;
-    let passed = passed_on(alloc, source)?;
+    let passed = passing_marks(alloc, source)?;
     let callers = callers(alloc, &calls, &passed)?;
     let seeds = both(alloc, &passed, changed)?;
-    let marks = reached(alloc, &callers, seeds)?;
+    let marks = reached_positions(alloc, &callers, seeds)?;
     calls_marked(alloc, &calls, &marks)
 }

@@ -1,3 +1,5 @@
+//! Which decks a run changed.
+
 ghost use Rattle.std.specs.Prelude.{◌≡◌, map, IfOk};
 ghost use Rattle.std.specs.List.{filter};
 ghost use Rattle.std.specs.Result.{IsOkUnless};

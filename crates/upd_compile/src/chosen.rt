@@ -1,3 +1,5 @@
+//! Which decks a compile file holds.
+
 ghost use Rattle.std.specs.Prelude.{◌≡◌, ℕ, Bool, ◌&&◌, ◌||◌, not, nat_eq, map, replicate, true, length, IfOk};
 ghost use Rattle.std.specs.HashSet as bag;
 ghost use Rattle.std.specs.List.{filter, zip};
@@ -18,7 +20,7 @@ use std::collections::HashSet;
 use upd_core::{ActiveDeck, Actives, Ident, Serial};
 
 /// The decks of a compile file, in library order.
-pub(crate) fn chosen<'a, 'b>(
+pub(crate) fn chosen_decks<'a, 'b>(
     alloc: Global,
     mode: Mode,
     named: &[Serial],
@@ -28,11 +30,11 @@ pub(crate) fn chosen<'a, 'b>(
     ensures { IfOk result (λ decks. map (λ d. d.now) decks.items ≡ chosen mode named.now before.now after.now) }
 {
     let choices = choices(alloc, mode, named, before, after)?;
-    picked(alloc, after, &choices)
+    picked_decks(alloc, after, &choices)
 }
 
-// The marked decks that aren't common.
-fn picked<'a, 'b>(
+/// The marked decks that aren't common.
+fn picked_decks<'a, 'b>(
     alloc: Global,
     source: &Indexed<'a, 'b>,
     marks: &[bool],
@@ -60,7 +62,7 @@ fn is_picked(idents: &[Ident], deck: Serial, is_marked: bool) -> bool
     }
 }
 
-// Whether the mode chooses each deck, if it isn't common.
+/// Whether the mode chooses each deck, if it isn't common.
 fn choices(
     alloc: Global,
     mode: Mode,
@@ -78,7 +80,7 @@ fn choices(
     }
 }
 
-// Whether each deck is named, or changed, or has a chain to a changed common deck.
+/// Whether each deck is named, or changed, or has a chain to a changed common deck.
 fn normal_marks(
     alloc: Global,
     named: &[Serial],
@@ -100,7 +102,7 @@ fn all_marks(alloc: Global, decks: &[ActiveDeck]) -> Result<Vec<bool>, AllocErro
     decks.iter().map(|_| true).collect(alloc)
 }
 
-// Whether each deck is among the named ones.
+/// Whether each deck is among the named ones.
 fn named_marks(
     alloc: Global,
     named: &[Serial],

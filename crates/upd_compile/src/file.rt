@@ -1,10 +1,12 @@
+//! Compile files.
+
 ghost use Rattle.std.specs.Prelude.{◌≡◌, map};
 ghost use Rattle.std.specs.List.{flat_map};
 ghost use Rattle.upd_text.specs.Outcome.{GivesAt};
 ghost use Rattle.upd_compile.specs.File.{compile_file_of, file_of, written};
 ghost use Rattle.upd_compile.specs.Walk.{walk};
 
-use crate::chosen::chosen;
+use crate::chosen::chosen_decks;
 use crate::indexed::Indexed;
 use crate::mode::Mode;
 use crate::progress::Progress;
@@ -31,8 +33,8 @@ impl Model for CompileFile {
     ghost view = { λ f. record { bytes = f.bytes.items; lines = f.lines } };
 }
 
-/// The compile file of a library after a run. `before` is the library before that run, `named` are the ages of the decks that the run named
-/// for the file.
+/// The compile file of a library after a run. `before` is the library before that run, `named` are the ages of the
+/// decks that the run named for the file. CallUnknown, CallDepth or CompileLong, at 0, where the walk meets one first.
 pub fn compile_file(
     alloc: Global,
     after: &Library,
@@ -58,12 +60,16 @@ pub fn compile_active(
     ensures { GivesAt (λ f. f) result (file_of mode named.now before.now after.now) }
 {
     let source = Indexed::new(alloc, after)?;
-    let decks = chosen(alloc, mode, named, before, &source)?;
-    written(alloc, &source, &decks)
+    let decks = chosen_decks(alloc, mode, named, before, &source)?;
+    file_of_walks(alloc, &source, &decks)
 }
 
-// The walks through decks, one after the other.
-fn written(alloc: Global, source: &Indexed, decks: &[&ActiveDeck]) -> Result<CompileFile, Fault>
+/// The file of the walks through these decks, one after the other.
+fn file_of_walks(
+    alloc: Global,
+    source: &Indexed,
+    decks: &[&ActiveDeck],
+) -> Result<CompileFile, Fault>
     ensures { GivesAt (λ f. f) result
         (written source.now.idents (flat_map (walk MAX_DEPTH source.now) (map (λ d. d.now) decks.now))) }
 {

@@ -1,3 +1,5 @@
+//! Idents by their ages.
+
 ghost use Rattle.std.specs.Prelude.{◌≡◌};
 ghost use Rattle.std.specs.Option.{option_copied};
 ghost use Rattle.upd_core.specs.Library.{name_of};

@@ -1,8 +1,10 @@
+//! Active cards with an index of their idents and decks, so that a call and an age are looked up at once.
+
 ghost use Rattle.std.specs.Prelude.{◌≡◌, ℕ, List, nat_eq, IfOk};
 ghost use Rattle.std.specs.HashMap as hash;
 ghost use Rattle.std.specs.Option.{option_copied};
 ghost use Rattle.std.specs.Str.{bytes_eq};
-ghost use Rattle.upd_compile.specs.Places.{held_kind, place_aged, place_named};
+ghost use Rattle.upd_compile.specs.Positions.{held_kind, position_aged, position_named};
 ghost use Rattle.upd_compile.specs.Walk.{common_named, deck_aged};
 
 use std::alloc::{AllocError, Global};
@@ -15,7 +17,7 @@ use upd_core::{ActiveDeck, Actives, Ident, Kind, Serial};
 pub(crate) struct Indexed<'a, 'b> {
     actives: &'a Actives<'b>,
     names: HashMap<&'a [u8], (Kind, Serial)>,
-    places: HashMap<Serial, usize>,
+    positions: HashMap<Serial, usize>,
 }
 
 impl<'a, 'b> Model for Indexed<'a, 'b> {
@@ -38,11 +40,11 @@ impl<'a, 'b> Indexed<'a, 'b> {
         ensures { IfOk result (λ indexed. indexed ≡ actives.now) }
     {
         let names = held_names(alloc, actives.idents)?;
-        let places = deck_places(alloc, &actives.decks)?;
+        let positions = deck_positions(alloc, &actives.decks)?;
         Ok(Indexed {
             actives,
             names,
-            places,
+            positions,
         })
     }
 
@@ -62,20 +64,20 @@ impl<'a, 'b> Indexed<'a, 'b> {
         &actives.decks
     }
 
-    /// The place of the deck of an age.
-    pub(crate) fn place_aged(&self, age: Serial) -> Option<usize>
-        ensures { result ≡ place_aged age self.now.decks }
+    /// The position of the deck of an age.
+    pub(crate) fn position_aged(&self, age: Serial) -> Option<usize>
+        ensures { result ≡ position_aged age self.now.decks }
     {
-        self.places.get(&age).copied()
+        self.positions.get(&age).copied()
     }
 
-    /// The place of the held common deck of a name.
-    pub(crate) fn place_named(&self, name: &[u8]) -> Option<usize>
-        ensures { result ≡ place_named name.now self.now }
+    /// The position of the held common deck of a name.
+    pub(crate) fn position_named(&self, name: &[u8]) -> Option<usize>
+        ensures { result ≡ position_named name.now self.now }
     {
         let (kind, age) = *self.names.get(name)?;
         if kind.is_common() {
-            self.place_aged(age)
+            self.position_aged(age)
         } else {
             None
         }
@@ -85,27 +87,28 @@ impl<'a, 'b> Indexed<'a, 'b> {
     pub(crate) fn deck_aged(&self, age: Serial) -> Option<&'a ActiveDeck<'b>>
         ensures { option_copied result ≡ deck_aged age self.now }
     {
-        let place = self.place_aged(age)?;
+        let position = self.position_aged(age)?;
         let actives = self.actives;
-        actives.decks.get(place)
+        actives.decks.get(position)
     }
 
     /// The held common deck of a name.
     pub(crate) fn common_named(&self, name: &[u8]) -> Option<&'a ActiveDeck<'b>>
         ensures { option_copied result ≡ common_named name.now self.now }
     {
-        let place = self.place_named(name)?;
+        let position = self.position_named(name)?;
         let actives = self.actives;
-        actives.decks.get(place)
+        actives.decks.get(position)
     }
 }
 
-// The held ident of each name, the first of them in the directory.
+/// The held ident of each name, the first of them in the directory.
 fn held_names(alloc: Global, idents: &[Ident]) -> Result<HashMap<&[u8], (Kind, Serial)>, AllocError>
     ensures { IfOk result
         (λ names. (name : List ℕ) → hash.get_by (λ k. bytes_eq name k.now) names ≡ held_kind name idents.now) }
 {
     let mut names = HashMap::new(alloc);
+    // From the last to the first: an earlier entry takes the place of a later one, so that the first wins.
     for i in (0..idents.len()).rev() {
         let ident = &idents[i];
         if ident.held {
@@ -115,15 +118,16 @@ fn held_names(alloc: Global, idents: &[Ident]) -> Result<HashMap<&[u8], (Kind, S
     Ok(names)
 }
 
-// The place of the deck of each age, the first of them.
-fn deck_places(alloc: Global, decks: &[ActiveDeck]) -> Result<HashMap<Serial, usize>, AllocError>
+/// The position of the deck of each age, the first of them.
+fn deck_positions(alloc: Global, decks: &[ActiveDeck]) -> Result<HashMap<Serial, usize>, AllocError>
     ensures { IfOk result
-        (λ places. (age : ℕ) → hash.get nat_eq places age ≡ place_aged age decks.now) }
+        (λ positions. (age : ℕ) → hash.get nat_eq positions age ≡ position_aged age decks.now) }
 {
-    let mut places = HashMap::new(alloc);
+    let mut positions = HashMap::new(alloc);
+    // From the last to the first, as above.
     for i in (0..decks.len()).rev() {
         let deck = &decks[i];
-        places.insert(deck.ident, i)?;
+        positions.insert(deck.ident, i)?;
     }
-    Ok(places)
+    Ok(positions)
 }

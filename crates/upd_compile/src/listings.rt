@@ -9,7 +9,10 @@ ghost use Rattle.upd_text.specs.Faults.{fault_at};
 ghost use Rattle.upd_text.specs.Outcome.{GivesAt};
 ghost use Rattle.upd_core.specs.Sound.{AreAgedFrom, is_held};
 ghost use Rattle.upd_core.specs.Status.{is_active, live_targets};
-ghost use Rattle.upd_compile.specs.Listings.{card_lines, card_listing, card_name, deck_heading, deck_line, deck_listing, deck_name, entry_line, ident_line, ident_listing, is_purged, listed_deck, purged_mark, spaced, target_line, word_if, yank_lines, yank_listing};
+ghost use Rattle.upd_compile.specs.Listings.{deck_heading, deck_line, deck_listing, deck_name, listed_deck};
+ghost use Rattle.upd_compile.specs.Listings.{card_lines, card_listing, card_name, entry_line, line_of, word_if};
+ghost use Rattle.upd_compile.specs.Listings.{ident_line, ident_listing, is_purged, purged_mark};
+ghost use Rattle.upd_compile.specs.Listings.{target_line, yank_lines, yank_listing};
 
 use crate::idents::{ident_at, name_of};
 use crate::parts::push_parts;
@@ -18,8 +21,8 @@ use std::alloc::{AllocError, Global};
 use upd_core::{Card, Entry, Ident, Kind, Library, Live, Serial, Target};
 use upd_text::{CardRef, Fault, FaultKind, Name};
 
-/// A deck's head line and its cards, each active or inactive. `YANK$$$` can be listed too, and active means live there. DeckUnknown where no
-/// held deck has the name.
+/// A deck's head line and its cards, each active or inactive. `YANK$$$` can be listed too, and active means live there.
+/// DeckUnknown where no held deck has the name.
 pub fn list_deck(alloc: Global, library: &Library, name: &Name) -> Result<Vec<u8>, Fault>
     ensures { GivesAt (λ text. text.items) result (deck_listing name.now library.now) }
 {
@@ -58,12 +61,13 @@ pub fn list_yanks(alloc: Global, library: &Library) -> Result<Vec<u8>, Fault>
     Ok(text)
 }
 
-/// In a directory whose ages count 1, 2, .. the ident of an age stands at its place, so that the mark of purged idents is found there.
+/// In a directory whose ages count 1, 2, .. the ident of an age stands at its place, so that the mark of purged idents
+/// is found there.
 pub fn marks_tell_the_purged_idents()
     ensures { (idents : List Ident) (z : ℕ) → AreAgedFrom 1 idents → is_purged idents z ≡ not (is_held idents z) }
 {}
 
-// The age of the deck of a name.
+/// The age of the deck of a name.
 fn listed_deck(library: &Library, name: &Name) -> Option<Serial>
     ensures { result ≡ listed_deck name.now library.now }
 {
@@ -74,7 +78,7 @@ fn listed_deck(library: &Library, name: &Name) -> Option<Serial>
     }
 }
 
-// The head line of a deck, and a line for each of these cards.
+/// The head line of a deck, and a line for each of these cards.
 fn deck_text(
     alloc: Global,
     library: &Library,
@@ -82,7 +86,8 @@ fn deck_text(
     cards: &[Card],
 ) -> Result<Vec<u8>, Fault>
     ensures ok { IfOk result (λ text. text.items
-        ≡ deck_heading library.now.idents deck ++ flat_map (deck_line library.now.idents (live_targets library.now) deck) cards.now) }
+        ≡ deck_heading library.now.idents deck
+        ++ flat_map (deck_line library.now.idents (live_targets library.now) deck) cards.now) }
     ensures err { IsOkUnless result (fault_at NoMemory 0) }
 {
     let live = library.live_yanks()?;
@@ -116,7 +121,8 @@ fn push_deck_lines(
     deck: Serial,
     cards: &[Card],
 ) -> Result<(), AllocError>
-    ensures { OnOk result (text.new.items ≡ text.old.items ++ flat_map (deck_line idents.now live.now.targets deck) cards.now) }
+    ensures { OnOk result (text.new.items
+        ≡ text.old.items ++ flat_map (deck_line idents.now live.now.targets deck) cards.now) }
 {
     for card in cards {
         let status = word_of(live.is_active(deck, card), b"A", b"I");
@@ -125,9 +131,10 @@ fn push_deck_lines(
     Ok(())
 }
 
-// A card with its status and its history.
+/// A card with its status and its history.
 fn card_text(alloc: Global, library: &Library, deck: Serial, card: &Card) -> Result<Vec<u8>, Fault>
-    ensures ok { IfOk result (λ text. text.items ≡ card_lines library.now.idents (live_targets library.now) deck card.now) }
+    ensures ok { IfOk result (λ text. text.items
+        ≡ card_lines library.now.idents (live_targets library.now) deck card.now) }
     ensures err { IsOkUnless result (fault_at NoMemory 0) }
 {
     let live = library.live_yanks()?;
@@ -151,7 +158,8 @@ fn push_card_lines(
 }
 
 fn push_head(text: &mut Vec<u8>, idents: &[Ident], card: &Card) -> Result<(), AllocError>
-    ensures { OnOk result (text.new.items ≡ text.old.items ++ spaced (codes "CARD" ∷ card_name idents.now card.now ∷ [])) }
+    ensures { OnOk result (text.new.items
+        ≡ text.old.items ++ line_of (codes "CARD" ∷ card_name idents.now card.now ∷ [])) }
 {
     text.extend_from_slice(b"CARD ")?;
     push_card_name(text, idents, card)?;
@@ -166,8 +174,9 @@ fn push_fields(
     card: &Card,
 ) -> Result<(), AllocError>
     ensures { OnOk result (text.new.items ≡ text.old.items
-        ++ spaced (codes "DECK" ∷ deck_name idents.now deck ∷ []) ++ spaced (codes "TEXT" ∷ card.now.text ∷ [])
-        ++ spaced (codes "STATUS" ∷ (if is_active live.now.targets deck card.now then codes "active" else codes "inactive") ∷ [])) }
+        ++ line_of (codes "DECK" ∷ deck_name idents.now deck ∷ []) ++ line_of (codes "TEXT" ∷ card.now.text ∷ [])
+        ++ line_of (codes "STATUS"
+        ∷ (if is_active live.now.targets deck card.now then codes "active" else codes "inactive") ∷ [])) }
 {
     push_parts(text, &[b"DECK ", deck_name(idents, deck), b"\nTEXT "])?;
     let status = word_of(live.is_active(deck, card), b"active", b"inactive");
@@ -181,7 +190,8 @@ fn push_entries(
     deck: Serial,
     history: &[Entry],
 ) -> Result<(), AllocError>
-    ensures { OnOk result (text.new.items ≡ text.old.items ++ flat_map (entry_line idents.now live.now.targets deck) history.now) }
+    ensures { OnOk result (text.new.items
+        ≡ text.old.items ++ flat_map (entry_line idents.now live.now.targets deck) history.now) }
 {
     for entry in history {
         push_entry(text, idents, live, deck, entry)?;
@@ -241,7 +251,8 @@ fn push_yanks(
     live: &Live,
     yanks: &[Card],
 ) -> Result<(), AllocError>
-    ensures { OnOk result (text.new.items ≡ text.old.items ++ flat_map (yank_lines idents.now live.now.targets) yanks.now) }
+    ensures { OnOk result (text.new.items
+        ≡ text.old.items ++ flat_map (yank_lines idents.now live.now.targets) yanks.now) }
 {
     for card in yanks {
         let status = word_of(live.is_good(0, card), b"live", b"dead");
@@ -296,7 +307,7 @@ fn push_target(text: &mut Vec<u8>, idents: &[Ident], target: Target) -> Result<(
     }
 }
 
-// A mark where one of these idents is purged.
+/// A mark where one of these idents is purged.
 fn purged_mark<'a>(idents: &'a [Ident], ages: &[Serial]) -> &'a [u8]
     ensures { result.now ≡ flat_map (λ x. 32 ∷ x) (purged_mark idents.now ages.now) }
 {
@@ -318,7 +329,7 @@ fn is_purged(idents: &[Ident], age: Serial) -> bool
     }
 }
 
-// The name of the deck of an age.
+/// The name of the deck of an age.
 fn deck_name(idents: &[Ident], age: Serial) -> &[u8]
     ensures { result.now ≡ deck_name idents.now age }
 {
@@ -329,21 +340,22 @@ fn deck_name(idents: &[Ident], age: Serial) -> &[u8]
     }
 }
 
-// A line of a card: a status, its reference and its text.
+/// A line of a card: a status, its reference and its text.
 fn push_card(
     text: &mut Vec<u8>,
     status: &[u8],
     idents: &[Ident],
     card: &Card,
 ) -> Result<(), AllocError>
-    ensures { OnOk result (text.new.items ≡ text.old.items ++ spaced (status.now ∷ card_name idents.now card.now ∷ card.now.text ∷ [])) }
+    ensures { OnOk result (text.new.items
+        ≡ text.old.items ++ line_of (status.now ∷ card_name idents.now card.now ∷ card.now.text ∷ [])) }
 {
     push_parts(text, &[status, b" "])?;
     push_card_name(text, idents, card)?;
     push_parts(text, &[b" ", &card.text, b"\n"])
 }
 
-// The reference of a card.
+/// The reference of a card.
 fn push_card_name(text: &mut Vec<u8>, idents: &[Ident], card: &Card) -> Result<(), AllocError>
     ensures { OnOk result (text.new.items ≡ text.old.items ++ card_name idents.now card.now) }
 {
@@ -351,14 +363,14 @@ fn push_card_name(text: &mut Vec<u8>, idents: &[Ident], card: &Card) -> Result<(
     text.extend_from_slice(Buffer::new().format(card.number).as_bytes())
 }
 
-// One word or the other.
+/// One word or the other.
 fn word_of<'a>(test: bool, word: &'a [u8], other: &'a [u8]) -> &'a [u8]
     ensures { result.now ≡ (if test then word.now else other.now) }
 {
     if test { word } else { other }
 }
 
-// A blank and a word where a test holds.
+/// A blank and a word where a test holds.
 fn mark_if<'a>(test: bool, mark: &'a [u8]) -> &'a [u8]
     requires { mark.now ≡ 32 ∷ drop 1 mark.now }
     ensures { result.now ≡ flat_map (λ x. 32 ∷ x) (word_if test (drop 1 mark.now)) }

@@ -34,29 +34,30 @@ pub(crate) fn any_of(
         .collect(alloc)
 }
 
-fn any_marked(marks: &[bool], places: &[usize]) -> bool
-    ensures { result ≡ list_any (is_marked marks.now) places.now }
+fn any_marked(marks: &[bool], positions: &[usize]) -> bool
+    ensures { result ≡ list_any (is_marked marks.now) positions.now }
 {
-    places.iter().any(|place| is_marked(marks, *place))
+    positions.iter().any(|position| is_marked(marks, *position))
 }
 
-fn is_marked(marks: &[bool], place: usize) -> bool
-    ensures { result ≡ is_marked marks.now place }
+fn is_marked(marks: &[bool], position: usize) -> bool
+    ensures { result ≡ is_marked marks.now position }
 {
-    marks.get(place).copied().unwrap_or(false)
+    marks.get(position).copied().unwrap_or(false)
 }
 
-/// Whether each list has a marked place.
+/// Whether each list has a marked position.
 pub(crate) fn calls_marked(
     alloc: Global,
     calls: &[Vec<usize>],
     marks: &[bool],
 ) -> Result<Vec<bool>, AllocError>
-    ensures { IfOk result (λ found. found.items ≡ map (list_any (is_marked marks.now)) (map (λ list. list.items) calls.now)) }
+    ensures { IfOk result (λ found. found.items
+        ≡ map (list_any (is_marked marks.now)) (map (λ list. list.items) calls.now)) }
 {
     let mut found = Vec::with_capacity(alloc, calls.len())?;
-    for places in calls {
-        found.push(any_marked(marks, places))?;
+    for positions in calls {
+        found.push(any_marked(marks, positions))?;
     }
     Ok(found)
 }

@@ -1,3 +1,5 @@
+//! The modes of a compile file.
+
 ghost use Rattle.std.specs.Prelude.{◌≡◌};
 
 /// Which decks a compile file holds. Common decks come in through calls alone.

@@ -1,7 +1,9 @@
+//! A compile file as it grows.
+
 ghost use Rattle.std.specs.Prelude.{◌≡◌, ◌≤◌, [], ◌++◌, OnOk};
 ghost use Rattle.upd_text.specs.Outcome.{Does};
 ghost use Rattle.upd_text.specs.declared.fault.FaultKind.{FaultKind};
-ghost use Rattle.upd_compile.specs.File.{blanks, card_line, padded, padded_left};
+ghost use Rattle.upd_compile.specs.File.{blanks, card_line, from_left, from_right};
 ghost use Rattle.upd_compile.specs.Progress.{at_start, after_event, file_so_far};
 ghost use Rattle.upd_compile.specs.Walk.Event.{Line, Follow};
 
@@ -73,7 +75,14 @@ impl Progress {
     }
 }
 
-const BLANKS: &[u8; 80] = &[b' '; 80];
+/// The columns of a line: its text, a blank, the name of the card's ident, the card's number.
+const TEXT_COLUMNS: usize = 80;
+
+const NAME_COLUMNS: usize = 9;
+
+const NUMBER_COLUMNS: usize = 6;
+
+const BLANKS: &[u8; TEXT_COLUMNS] = &[b' '; TEXT_COLUMNS];
 
 /// Appends the line of a card.
 pub(crate) fn push_line(
@@ -83,33 +92,37 @@ pub(crate) fn push_line(
 ) -> Result<(), AllocError>
     ensures { OnOk result (bytes.new.items ≡ bytes.old.items ++ card_line idents.now card.now) }
 {
-    push_padded(bytes, card.text, 80)?;
+    push_padded(bytes, card.text, TEXT_COLUMNS)?;
     bytes.extend_from_slice(b" ")?;
-    push_padded(bytes, name_of(idents, card.ident), 9)?;
-    push_padded_left(bytes, Buffer::new().format(card.number).as_bytes(), 6)?;
+    push_padded(bytes, name_of(idents, card.ident), NAME_COLUMNS)?;
+    push_padded_left(
+        bytes,
+        Buffer::new().format(card.number).as_bytes(),
+        NUMBER_COLUMNS,
+    )?;
     bytes.extend_from_slice(b"\n")
 }
 
-// A text with blanks behind it up to a width.
+/// A text with blanks behind it up to a width.
 fn push_padded(bytes: &mut Vec<u8>, text: &[u8], width: usize) -> Result<(), AllocError>
-    requires { width ≤ 80 }
-    ensures { OnOk result (bytes.new.items ≡ bytes.old.items ++ padded width text.now) }
+    requires { width ≤ TEXT_COLUMNS }
+    ensures { OnOk result (bytes.new.items ≡ bytes.old.items ++ from_left width text.now) }
 {
     bytes.extend_from_slice(text)?;
     bytes.extend_from_slice(blanks(width.saturating_sub(text.len())))
 }
 
-// A text with blanks before it up to a width.
+/// A text with blanks before it up to a width.
 fn push_padded_left(bytes: &mut Vec<u8>, text: &[u8], width: usize) -> Result<(), AllocError>
-    requires { width ≤ 80 }
-    ensures { OnOk result (bytes.new.items ≡ bytes.old.items ++ padded_left width text.now) }
+    requires { width ≤ TEXT_COLUMNS }
+    ensures { OnOk result (bytes.new.items ≡ bytes.old.items ++ from_right width text.now) }
 {
     bytes.extend_from_slice(blanks(width.saturating_sub(text.len())))?;
     bytes.extend_from_slice(text)
 }
 
 fn blanks(count: usize) -> &'static [u8]
-    requires { count ≤ 80 }
+    requires { count ≤ TEXT_COLUMNS }
     ensures { result.now ≡ blanks count }
 {
     &BLANKS[..count]

@@ -1,3 +1,5 @@
+//! The walk through decks and the common decks that they call.
+
 ghost use Rattle.std.specs.Prelude.{◌≡◌, ◌==◌, ◌&&◌, map};
 ghost use Rattle.std.specs.List.{flat_map};
 ghost use Rattle.upd_text.specs.Outcome.{Does};
@@ -45,7 +47,7 @@ pub(crate) fn walk(
     Ok(())
 }
 
-// Writes the line of a card, or walks through the deck that it calls.
+/// Writes the line of a card, or walks through the deck that it calls.
 #[cycle(walk)]
 fn meet(
     source: &Indexed,
@@ -69,7 +71,7 @@ fn meet(
     walk(source, common, deep - 1, progress)
 }
 
-// Whether a card is the first of the deck of an ident.
+/// Whether a card is the first of the deck of an ident.
 pub(crate) fn is_first(card: &ActiveCard, deck: Serial) -> bool
     ensures { result ≡ (card.now.ident == deck) && (card.now.number == 1) }
 {

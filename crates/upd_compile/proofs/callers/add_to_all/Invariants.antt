@@ -2,6 +2,7 @@ use Rattle.std.proofs.Common.{◌==◌, ◌&&◌, map, take}
 use Rattle.upd_compile.specs.Reach.{FollowsMore, is_in}
 use Rattle.upd_compile.proofs.callers.add_to_all.Given as goal
 
-abbrev pub invariant-loop-place : goal.invariant-loop-place
-invariant-loop-place l =
-    FollowsMore (λ c d. is_in (take l.place-index l.places) c && (l.caller == d)) (map (λ list. list.items) l.initial.lists.items) (map (λ list. list.items) l.lists.items)
+abbrev pub invariant-loop-position : goal.invariant-loop-position
+invariant-loop-position l =
+    FollowsMore (λ c d. is_in (take l.position-index l.positions) c && (l.caller == d)) (map (λ list. list.items) l.initial.lists.items)
+    (map (λ list. list.items) l.lists.items)

@@ -2,7 +2,7 @@ use Rattle.std.proofs.Common.{◌&&◌, map, take}
 use Rattle.upd_compile.specs.Reach.{FollowsMore, follows, is_marked}
 use Rattle.upd_compile.proofs.callers.callers.Given as goal
 
-abbrev pub invariant-loop-place : goal.invariant-loop-place
-invariant-loop-place l =
-    FollowsMore (λ c d. is_marked (take l.place l.marks) d && follows (map (λ list. list.items) l.calls) d c)
+abbrev pub invariant-loop-position : goal.invariant-loop-position
+invariant-loop-position l =
+    FollowsMore (λ c d. is_marked (take l.position l.marks) d && follows (map (λ list. list.items) l.calls) d c)
     (map (λ list. list.items) l.initial.callers.items) (map (λ list. list.items) l.callers.items)

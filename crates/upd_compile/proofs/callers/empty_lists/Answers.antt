@@ -2,5 +2,5 @@ use Rattle.std.proofs.Common.{arith}
 use Rattle.std.proofs.lemmas.Grind.{common_steps}
 use Rattle.upd_compile.proofs.callers.empty_lists.Goals as goal
 
-pub loop-place-preserved : goal.loop-place-preserved
-loop-place-preserved c = grind (arith, common_steps)
+pub loop-position-preserved : goal.loop-position-preserved
+loop-position-preserved c = grind (arith, common_steps)

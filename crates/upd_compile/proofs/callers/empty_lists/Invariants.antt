@@ -1,5 +1,5 @@
 use Rattle.std.proofs.Common.{◌≡◌, [], map, replicate}
 use Rattle.upd_compile.proofs.callers.empty_lists.Given as goal
 
-abbrev pub invariant-loop-place : goal.invariant-loop-place
-invariant-loop-place l = map (λ list. list.items) l.lists.items ≡ replicate l._place []
+abbrev pub invariant-loop-position : goal.invariant-loop-position
+invariant-loop-position l = map (λ list. list.items) l.lists.items ≡ replicate l._position []

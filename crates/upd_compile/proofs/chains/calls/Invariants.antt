@@ -1,6 +1,6 @@
 use Rattle.std.proofs.Common.{◌≡◌, map, take}
-use Rattle.upd_compile.specs.Places.{called_places}
+use Rattle.upd_compile.specs.Positions.{called_positions}
 use Rattle.upd_compile.proofs.chains.calls.Given as goal
 
 abbrev pub invariant-loop-deck : goal.invariant-loop-deck
-invariant-loop-deck l = map (λ list. list.items) l.calls.items ≡ map (called_places l.source) (take l.deck-index l.decks)
+invariant-loop-deck l = map (λ list. list.items) l.calls.items ≡ map (called_positions l.source) (take l.deck-index l.decks)

@@ -3,9 +3,9 @@ use Rattle.std.specs.List.{list_any, zip}
 use Rattle.std.proofs.lemmas.List.{length-map}
 use Rattle.std.proofs.lemmas.Result.{IfOk-weaker}
 use Rattle.upd_compile.specs.Chosen.{is_changed, is_passed_on}
-use Rattle.upd_compile.specs.Places.{called_places}
+use Rattle.upd_compile.specs.Positions.{called_positions}
 use Rattle.upd_compile.specs.Reach.{AreCallers, AreReached, is_marked}
-use Rattle.upd_compile.proofs.SpreadLaws.{chains-marked, is_marked-both, is_marked-map, length-both}
+use Rattle.upd_compile.proofs.SpreadLemmas.{chains-marked, is_marked-both, is_marked-map, length-both}
 use Rattle.upd_compile.proofs.chains.chain_marks.Goals as goal
 
 pub returns : goal.returns
@@ -15,10 +15,11 @@ returns c = IfOk-weaker c.calls_marked.result _ _ (λ marks ensured before chang
     let calls = shown c.in_ok-calls.calls.items in
     let passed = c.in_ok-passed.passed.items in
     let seeds = c.in_ok-seeds.seeds.items in
-    let calls_are : calls ≡ map (called_places a) a.decks = c.in_ok-calls.ensures in
+    let calls_are : calls ≡ map (called_positions a) a.decks = c.in_ok-calls.ensures in
     let passed_are : passed ≡ map (is_passed_on a) a.decks = c.in_ok-passed.ensures in
     let seeds_are : seeds ≡ map (λ p. p.0 && p.1) (zip passed c.args.changed.now) = rw c.deref-3.ensures.value at c.in_ok-seeds.ensures in
-    let callers_are : AreCallers calls passed (shown c.in_ok-callers.callers.items) = rw (c.deref.ensures.value, c.deref-2.ensures.value) at c.in_ok-callers.ensures in
+    let callers_are : AreCallers calls passed (shown c.in_ok-callers.callers.items) =
+    rw (c.deref.ensures.value, c.deref-2.ensures.value) at c.in_ok-callers.ensures in
     let reached : AreReached (shown c.in_ok-callers.callers.items) seeds c.in_ok-marks.marks.items = rw c.deref-4.ensures.value at c.in_ok-marks.ensures in
     let found : marks.items ≡ map (list_any (is_marked c.in_ok-marks.marks.items)) calls = rw (c.deref-5.ensures.value, c.deref-6.ensures.value) at ensured in
     let same_length : length passed ≡ length c.args.changed.now =

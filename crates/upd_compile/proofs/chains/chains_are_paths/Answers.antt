@@ -1,4 +1,4 @@
-use Rattle.upd_compile.proofs.ChainLaws.{has_chain-path}
+use Rattle.upd_compile.proofs.ChainLemmas.{has_chain-path}
 use Rattle.upd_compile.proofs.chains.chains_are_paths.Goals as goal
 
 pub returns : goal.returns

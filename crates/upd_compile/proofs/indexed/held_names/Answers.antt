@@ -6,14 +6,16 @@ use Rattle.std.proofs.lemmas.List.{at_drop_more}
 use Rattle.std.proofs.lemmas.Map.Text.{hash_map_updates_str}
 use Rattle.upd_core.specs.declared.ident.Ident.{Ident}
 use Rattle.upd_core.specs.Library.{held_named}
-use Rattle.upd_compile.specs.Places.{kind_and_age, held_kind}
+use Rattle.upd_compile.specs.Positions.{kind_and_age, held_kind}
 use Rattle.upd_compile.proofs.indexed.held_names.Goals as goal
 
 -- one more held ident in front
-held_kind-cons : (i : Ident) (rest : List Ident) (name : List ℕ) → i.held ≡ true → held_kind name (i ∷ rest) ≡ cond (bytes_eq i.name name) (Some (kind_and_age i)) (held_kind name rest)
+held_kind-cons : (i : Ident) (rest : List Ident) (name : List ℕ) → i.held ≡ true
+    → held_kind name (i ∷ rest) ≡ cond (bytes_eq i.name name) (Some (kind_and_age i)) (held_kind name rest)
 held_kind-cons i rest name held = found i.held (bytes_eq i.name name) held
   where
-    found : (held b : Bool) → held ≡ true → option_map kind_and_age (cond (held && b) (Some i) (held_named name rest)) ≡ cond b (Some (kind_and_age i)) (held_kind name rest)
+    found : (held b : Bool) → held ≡ true
+        → option_map kind_and_age (cond (held && b) (Some i) (held_named name rest)) ≡ cond b (Some (kind_and_age i)) (held_kind name rest)
     found true true e = refl
     found true false e = refl
     found false b e = cc

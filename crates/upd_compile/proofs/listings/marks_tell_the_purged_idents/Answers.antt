@@ -1,4 +1,4 @@
-use Rattle.upd_compile.proofs.ListingLaws.{purged-not_held}
+use Rattle.upd_compile.proofs.ListingLemmas.{purged-not_held}
 use Rattle.upd_compile.proofs.listings.marks_tell_the_purged_idents.Goals as goal
 
 pub returns : goal.returns

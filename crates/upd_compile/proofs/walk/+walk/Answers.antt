@@ -6,7 +6,7 @@ use Rattle.upd_text.specs.Lines.{is_call, called}
 use Rattle.upd_text.specs.Outcome.{Does}
 use Rattle.upd_compile.specs.Progress.{ProgressView, after_event, after_events}
 use Rattle.upd_compile.specs.Walk.{Follow, card_events, common_named}
-use Rattle.upd_compile.proofs.WalkLaws.{events-followed, events-text, events-unknown, walk-at_card, walk-at_first}
+use Rattle.upd_compile.proofs.WalkLemmas.{events-followed, events-text, events-unknown, walk-at_card, walk-at_first}
 use Rattle.upd_compile.proofs.walk.+walk.Goals as goal
 use Rattle.upd_compile.proofs.walk.+walk.Goals.{walk-then-not-is_first+in_ok-meet, walk-else-not-is_first}
 
@@ -45,7 +45,9 @@ walk-returns-in_err-meet t c =
     let within : c.loop-card.card-index < length c.args.deck.now.cards = search rules in
     let at : c.card-item.result ≡ get_or c.args.deck.now.cards c.loop-card.card-index c.card-item.result = search rules in
     let first : (c.card-item.result.ident == c.args.deck.now.ident) && (c.card-item.result.number == 1) ≡ false = search rules in
-    let here = walk-at_card c.args.deep c.args.source.now c.args.deck.now c.loop-card.card-index c.card-item.result c.args.source.now.idents c.loop-card.progress within at first in
+    let here =
+    walk-at_card c.args.deep c.args.source.now c.args.deck.now c.loop-card.card-index c.card-item.result
+    c.args.source.now.idents c.loop-card.progress within at first in
     let P : Result ProgressView FaultKind → Type 0 = Does c.from_residual.result c.meet.new.progress in
     subst P (sym here ∙ c.loop-card.invariant) (search rules)
 
@@ -56,8 +58,11 @@ walk-loop-card-preserved t c =
     elim c.if-not-is_first.branch [
       | walk-then-not-is_first+in_ok-meet w ↦
           let first : (c.card-item.result.ident == c.args.deck.now.ident) && (c.card-item.result.number == 1) ≡ false = search rules in
-          let here = walk-at_card c.args.deep c.args.source.now c.args.deck.now c.loop-card.card-index c.card-item.result c.args.source.now.idents c.loop-card.progress within at first in
-          let met : after_events c.args.source.now.idents (card_events c.args.deep c.args.source.now c.card-item.result) c.loop-card.progress ≡ Ok w.meet.new.progress = search rules in
+          let here =
+          walk-at_card c.args.deep c.args.source.now c.args.deck.now c.loop-card.card-index c.card-item.result
+          c.args.source.now.idents c.loop-card.progress within at first in
+          let met : after_events c.args.source.now.idents
+          (card_events c.args.deep c.args.source.now c.card-item.result) c.loop-card.progress ≡ Ok w.meet.new.progress = search rules in
           rw w.progress-is ((sym (rw met at here)) ∙ c.loop-card.invariant)
       | walk-else-not-is_first w ↦
           let first : (c.card-item.result.ident == c.args.deck.now.ident) && (c.card-item.result.number == 1) ≡ true = search rules in

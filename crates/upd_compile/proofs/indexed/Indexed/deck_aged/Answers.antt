@@ -2,18 +2,18 @@ use Rattle.std.proofs.Common.{◌≡◌, ◌∙◌, sym, slice_get, arith}
 use Rattle.std.specs.Option.{option_and_then, option_copied}
 use Rattle.std.proofs.lemmas.Grind.{common_steps}
 use Rattle.std.proofs.lemmas.Option.{gets}
-use Rattle.upd_compile.specs.Places.{place_aged}
-use Rattle.upd_compile.proofs.PlaceLaws.{deck_aged-place}
+use Rattle.upd_compile.specs.Positions.{position_aged}
+use Rattle.upd_compile.proofs.PositionLemmas.{deck_aged-position}
 use Rattle.upd_compile.proofs.indexed.Indexed.deck_aged.Goals as goal
 
-pub returns-in_err-place : goal.returns-in_err-place
-returns-in_err-place c =
+pub returns-in_err-position : goal.returns-in_err-position
+returns-in_err-position c =
     let a = c.args.self.now in
-    let here : option_copied c.from_residual.result ≡ option_and_then (slice_get a.decks) (place_aged c.args.age a.decks) = grind (arith, common_steps) in
-    here ∙ sym (deck_aged-place c.args.age a)
+    let here : option_copied c.from_residual.result ≡ option_and_then (slice_get a.decks) (position_aged c.args.age a.decks) = grind (arith, common_steps) in
+    here ∙ sym (deck_aged-position c.args.age a)
 
 pub returns : goal.returns
 returns c =
     let a = c.args.self.now in
-    let here : option_copied c.get.result ≡ option_and_then (slice_get a.decks) (place_aged c.args.age a.decks) = grind (arith, common_steps, gets) in
-    here ∙ sym (deck_aged-place c.args.age a)
+    let here : option_copied c.get.result ≡ option_and_then (slice_get a.decks) (position_aged c.args.age a.decks) = grind (arith, common_steps, gets) in
+    here ∙ sym (deck_aged-position c.args.age a)

@@ -6,8 +6,8 @@ use Rattle.upd_text.specs.Outcome.{FailsAt}
 use Rattle.upd_compile.specs.File.{FileView}
 use Rattle.upd_compile.specs.Progress.{after_events, at_start}
 use Rattle.upd_compile.specs.Walk.{Event, walk}
-use Rattle.upd_compile.proofs.WrittenLaw.{written-is}
-use Rattle.upd_compile.proofs.file.written.Goals as goal
+use Rattle.upd_compile.proofs.WrittenLemmas.{written-is}
+use Rattle.upd_compile.proofs.file.file_of_walks.Goals as goal
 
 pub returns-in-Ok : goal.returns-in-Ok
 returns-in-Ok c =

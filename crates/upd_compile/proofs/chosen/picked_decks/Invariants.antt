@@ -2,7 +2,7 @@ use Rattle.std.proofs.Common.{◌≡◌, Bool, ◌&&◌, not, map, take}
 use Rattle.std.specs.List.{filter}
 use Rattle.upd_core.specs.Actives.{ActiveDeckView}
 use Rattle.upd_compile.specs.Chosen.{is_common_deck}
-use Rattle.upd_compile.proofs.chosen.picked.Given as goal
+use Rattle.upd_compile.proofs.chosen.picked_decks.Given as goal
 
 abbrev pub invariant-loop-i : goal.invariant-loop-i
 invariant-loop-i l =

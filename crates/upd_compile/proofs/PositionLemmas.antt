@@ -1,4 +1,4 @@
--- Decks found by their places.
+-- Decks found by their positions.
 use Rattle.std.proofs.Common.{◌≡◌, ℕ, zero, suc, add-one, ◌+◌, ◌==◌, Bool, true, false, if◌then◌else◌, cond, List, [], ◌∷◌, drop, Option, Some, None, refl, sym, slice_get}
 use Rattle.std.specs.Option.{option_and_then, option_map}
 use Rattle.std.specs.List.{find}
@@ -6,7 +6,7 @@ use Rattle.upd_core.specs.declared.ident.Ident.{Ident}
 use Rattle.upd_core.specs.Actives.{ActivesView}
 use Rattle.upd_core.specs.First.{index_from}
 use Rattle.upd_core.specs.Library.{is_common, held_named}
-use Rattle.upd_compile.specs.Places.{kind_and_age, place_aged, place_named}
+use Rattle.upd_compile.specs.Positions.{kind_and_age, position_aged, position_named}
 use Rattle.upd_compile.specs.Walk.{common_named, deck_aged}
 
 -- the element behind n others, and what stands behind it
@@ -30,17 +30,18 @@ find-from p n (x ∷ xs) all behind =
     elim (p x) as (λ b. cond b (Some x) (find p xs) ≡ option_and_then (slice_get all) (if b then Some n else index_from p (n + 1) xs))
     [ true ↦ sym (at_front all xs x n behind) | false ↦ later ]
 
-pub deck_aged-place : (age : ℕ) (a : ActivesView) → deck_aged age a ≡ option_and_then (slice_get a.decks) (place_aged age a.decks)
-deck_aged-place age a = find-from (λ d. d.ident == age) 0 a.decks a.decks refl
+pub deck_aged-position : (age : ℕ) (a : ActivesView) → deck_aged age a ≡ option_and_then (slice_get a.decks) (position_aged age a.decks)
+deck_aged-position age a = find-from (λ d. d.ident == age) 0 a.decks a.decks refl
 
-pub common_named-place : (name : List ℕ) (a : ActivesView) → common_named name a ≡ option_and_then (slice_get a.decks) (place_named name a)
-common_named-place name a = at (held_named name a.idents)
+pub common_named-position : (name : List ℕ) (a : ActivesView) → common_named name a ≡ option_and_then (slice_get a.decks) (position_named name a)
+common_named-position name a = at (held_named name a.idents)
   where
-    of_common : (b : Bool) (age : ℕ) → (if b then deck_aged age a else None) ≡ option_and_then (slice_get a.decks) (if b then place_aged age a.decks else None)
-    of_common true age = deck_aged-place age a
+    of_common : (b : Bool) (age : ℕ)
+        → (if b then deck_aged age a else None) ≡ option_and_then (slice_get a.decks) (if b then position_aged age a.decks else None)
+    of_common true age = deck_aged-position age a
     of_common false age = refl
 
     at : (held : Option Ident) → option_and_then (λ i. if is_common i.kind then deck_aged i.age a else None) held
-        ≡ option_and_then (slice_get a.decks) (option_and_then (λ i. if is_common i.0 then place_aged i.1 a.decks else None) (option_map kind_and_age held))
+        ≡ option_and_then (slice_get a.decks) (option_and_then (λ i. if is_common i.0 then position_aged i.1 a.decks else None) (option_map kind_and_age held))
     at None = refl
     at (Some i) = of_common (is_common i.kind) i.age

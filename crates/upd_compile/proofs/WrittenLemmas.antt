@@ -22,8 +22,10 @@ Adds idents events p [] =
     ≡ Ok (record { bytes = p.bytes ++ flat_map (event_line idents) events; lines = p.lines + count_by is_line events })
 
 -- a line more, and a call more
-Adds-line : (idents : List Ident) (card : ActiveCardView) (events : List Event) (p : ProgressView) (kinds : List FaultKind) → nat_lt p.lines MAX_COMPILE_LINES ≡ true
-    → Adds idents events (record { bytes = p.bytes ++ card_line idents card; lines = p.lines + 1; calls = p.calls }) kinds → Adds idents (Line card ∷ events) p kinds
+Adds-line : (idents : List Ident) (card : ActiveCardView) (events : List Event) (p : ProgressView) (kinds : List FaultKind)
+    → nat_lt p.lines MAX_COMPILE_LINES ≡ true
+    → Adds idents events (record { bytes = p.bytes ++ card_line idents card; lines = p.lines + 1; calls = p.calls }) kinds
+    → Adds idents (Line card ∷ events) p kinds
 Adds-line idents card events p (kind ∷ kinds) h adds = rw h adds
 Adds-line idents card events p [] h adds =
     let lines : p.lines + count_by is_line (Line card ∷ events) ≡ (p.lines + 1) + count_by is_line events =
@@ -64,7 +66,8 @@ faults_from-fault : (all before events : List Event) (e : Event) (kind : FaultKi
 faults_from-fault all before events e kind is some = rw (before-one all before (e ∷ events) is, some, length-append before (e ∷ [])) refl
 
 -- with what the rest adds, once this line or call is counted
-add-line : (idents : List Ident) (all before events : List Event) (card : ActiveCardView) (p : ProgressView) → all ≡ before ++ Line card ∷ events → IsAfter before p
+add-line : (idents : List Ident) (all before events : List Event) (card : ActiveCardView) (p : ProgressView) → all ≡ before ++ Line card ∷ events
+    → IsAfter before p
     → ((q : ProgressView) → IsAfter (before ++ Line card ∷ []) q → Adds idents events q (faults_from all (before ++ Line card ∷ []) events))
     → Adds idents (Line card ∷ events) p (faults_from all before (Line card ∷ events))
 add-line idents all before events card p is after rest = of (nat_lt p.lines MAX_COMPILE_LINES) refl
@@ -77,7 +80,8 @@ add-line idents all before events card p is after rest = of (nat_lt p.lines MAX_
           calls = count-one is_follow before (Line card) ∙ add-zero (count_by is_follow before) ∙ after.calls;
         })))
     of false full =
-        subst (Adds idents (Line card ∷ events) p) (sym (faults_from-fault all before events (Line card) CompileLong is (rw (after.lines, full) refl))) (rw full refl)
+        subst (Adds idents (Line card ∷ events) p) (sym (faults_from-fault all before events (Line card) CompileLong is (rw (after.lines, full) refl)))
+        (rw full refl)
 
 add-follow : (idents : List Ident) (all before events : List Event) (p : ProgressView) → all ≡ before ++ Follow ∷ events → IsAfter before p
     → ((q : ProgressView) → IsAfter (before ++ Follow ∷ []) q → Adds idents events q (faults_from all (before ++ Follow ∷ []) events))
@@ -94,17 +98,20 @@ add-follow idents all before events p is after rest = of (nat_lt p.calls MAX_CAL
     of false full =
         subst (Adds idents (Follow ∷ events) p) (sym (faults_from-fault all before events Follow CompileLong is (rw (after.calls, full) refl))) (rw full refl)
 
-events-add : (idents : List Ident) (all before events : List Event) (p : ProgressView) → all ≡ before ++ events → IsAfter before p → Adds idents events p (faults_from all before events)
+events-add : (idents : List Ident) (all before events : List Event) (p : ProgressView) → all ≡ before ++ events → IsAfter before p
+    → Adds idents events p (faults_from all before events)
 events-add idents all before [] p is after = simp (append-nil, add-zero)
 events-add idents all before (Line card ∷ events) p is after =
-    add-line idents all before events card p is after (λ q. events-add idents all (before ++ Line card ∷ []) events q (further all before events (Line card) is))
+    add-line idents all before events card p is after
+    (λ q. events-add idents all (before ++ Line card ∷ []) events q (further all before events (Line card) is))
 events-add idents all before (Follow ∷ events) p is after =
     add-follow idents all before events p is after (λ q. events-add idents all (before ++ Follow ∷ []) events q (further all before events Follow is))
 events-add idents all before (Depth ∷ events) p is after = refl
 events-add idents all before (Unknown ∷ events) p is after = refl
 
 -- what is written at the end of a walk
-pub written-is : (idents : List Ident) (events : List Event) → written idents events ≡ at_line 0 (after_events idents events at_start >>= (λ q. let r : Result FileView FaultKind = Ok (file_so_far q) in r))
+pub written-is : (idents : List Ident) (events : List Event)
+    → written idents events ≡ at_line 0 (after_events idents events at_start >>= (λ q. let r : Result FileView FaultKind = Ok (file_so_far q) in r))
 written-is idents events = ends (walk_faults events) refl (events-add idents events [] events at_start refl (record { lines = refl; calls = refl }))
   where
     ends : (kinds : List FaultKind) → walk_faults events ≡ kinds → Adds idents events at_start kinds

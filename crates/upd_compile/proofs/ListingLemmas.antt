@@ -1,4 +1,4 @@
--- In a directory whose ages count up, the ident of an age stands at its place.
+-- In a directory whose ages count up, the ident of an age stands at its position.
 use Rattle.std.proofs.Common.{◌≡◌, ℕ, zero, suc, ◌+◌, ◌-◌, ◌<◌, ◌==◌, Bool, true, false, not, ◌&&◌, ◌||◌, List, [], ◌∷◌, refl, sym, ap, ◌∙◌, eq-eqb, arith}
 use Rattle.std.proofs.lemmas.Grind.{common_steps}
 use Rattle.std.specs.List.{slice_get}
@@ -24,22 +24,22 @@ older_unheld n z (i ∷ idents) aged older =
     let other : (i.age == z) ≡ false = grind (arith, common_steps, aged.0) in
     passed i.held (i.age == z) (is_held idents z) other ∙ older_unheld (n + 1) z idents aged.1 (omega arith)
 
-held_at_place : (n k z : ℕ) (idents : List Ident) → AreAgedFrom n idents → z ≡ n + k
+held_at_position : (n k z : ℕ) (idents : List Ident) → AreAgedFrom n idents → z ≡ n + k
     → is_held idents z ≡ option_map_or (λ i. i.held) (slice_get idents k) false
-held_at_place n k z [] aged place = refl
-held_at_place n zero z (i ∷ idents) aged place =
+held_at_position n k z [] aged position = refl
+held_at_position n zero z (i ∷ idents) aged position =
     settled i.held (i.age == z) (is_held idents z) (eq-eqb i.age z (omega (arith, aged.0))) (older_unheld (n + 1) z idents aged.1 (omega arith))
-held_at_place n (suc k) z (i ∷ idents) aged place =
+held_at_position n (suc k) z (i ∷ idents) aged position =
     let other : (i.age == z) ≡ false = grind (arith, common_steps, aged.0) in
-    passed i.held (i.age == z) (is_held idents z) other ∙ held_at_place (n + 1) k z idents aged.1 (omega arith)
+    passed i.held (i.age == z) (is_held idents z) other ∙ held_at_position (n + 1) k z idents aged.1 (omega arith)
 
-at_place : (idents : List Ident) (z : ℕ) → ident_at idents (suc z) ≡ slice_get idents z
-at_place idents z =
+at_position : (idents : List Ident) (z : ℕ) → ident_at idents (suc z) ≡ slice_get idents z
+at_position idents z =
     let later : (suc z == 0) ≡ false = grind (arith, common_steps) in
-    let place : suc z - 1 ≡ z = omega arith in
-    rw (later, place) refl
+    let position : suc z - 1 ≡ z = omega arith in
+    rw (later, position) refl
 
 pub purged-not_held : (idents : List Ident) (z : ℕ) → AreAgedFrom 1 idents → is_purged idents z ≡ not (is_held idents z)
 purged-not_held idents zero aged = ap not (sym (older_unheld 1 0 idents aged (omega arith)))
 purged-not_held idents (suc z) aged =
-    rw (at_place idents z) (ap not (sym (held_at_place 1 z (suc z) idents aged (omega arith))))
+    rw (at_position idents z) (ap not (sym (held_at_position 1 z (suc z) idents aged (omega arith))))

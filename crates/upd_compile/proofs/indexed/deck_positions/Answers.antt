@@ -1,9 +1,9 @@
 use Rattle.std.proofs.Common.{arith}
 use Rattle.std.proofs.lemmas.Grind.{common_steps}
-use Rattle.upd_compile.proofs.chosen.picked.Goals as goal
+use Rattle.upd_compile.proofs.indexed.deck_positions.Goals as goal
 
 pub loop-i-preserved : goal.loop-i-preserved
 loop-i-preserved c = grind (arith, common_steps)
 
-pub returns : goal.returns
-returns c = grind (arith, common_steps)
+pub loop-i-init : goal.loop-i-init
+loop-i-init c = grind (arith, common_steps)

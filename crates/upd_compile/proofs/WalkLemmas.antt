@@ -11,7 +11,8 @@ use Rattle.upd_compile.specs.Progress.{ProgressView, after_event, after_events}
 use Rattle.upd_compile.specs.Walk.{Event, Line, Follow, Unknown, common_named, card_events, walk}
 
 -- events after events
-pub after_events-append : (idents : List Ident) (es fs : List Event) (p : ProgressView) → after_events idents (es ++ fs) p ≡ after_events idents es p >>= after_events idents fs
+pub after_events-append : (idents : List Ident) (es fs : List Event) (p : ProgressView)
+    → after_events idents (es ++ fs) p ≡ after_events idents es p >>= after_events idents fs
 after_events-append idents [] fs p = refl
 after_events-append idents (e ∷ es) fs p =
     elim (after_event idents e p) as (λ r. (r >>= after_events idents (es ++ fs)) ≡ (r >>= after_events idents es) >>= after_events idents fs)
@@ -23,18 +24,21 @@ events-text zero a c text = rw text refl
 events-text (suc deep) a c text = rw text refl
 
 -- what a call gives of what is no held common deck
-pub events-unknown : (deep : ℕ) (a : ActivesView) (c : ActiveCardView) → 0 < deep → is_call c.text ≡ true → common_named (called c.text) a ≡ None → card_events deep a c ≡ Unknown ∷ []
+pub events-unknown : (deep : ℕ) (a : ActivesView) (c : ActiveCardView) → 0 < deep → is_call c.text ≡ true → common_named (called c.text) a ≡ None
+    → card_events deep a c ≡ Unknown ∷ []
 events-unknown zero a c h call none = absurd (omega arith)
 events-unknown (suc deep) a c h call none = rw (call, none) refl
 
 -- what a call gives of a held common deck
-pub events-followed : (deep : ℕ) (a : ActivesView) (c : ActiveCardView) (d : ActiveDeckView) → 0 < deep → is_call c.text ≡ true → common_named (called c.text) a ≡ Some d
+pub events-followed : (deep : ℕ) (a : ActivesView) (c : ActiveCardView) (d : ActiveDeckView) → 0 < deep → is_call c.text ≡ true
+    → common_named (called c.text) a ≡ Some d
     → card_events deep a c ≡ Follow ∷ walk (deep - 1) a d
 events-followed zero a c d h call named = absurd (omega arith)
 events-followed (suc deep) a c d h call named = rw (call, named, sub-one) refl
 
 -- what a deck gives from a card on that isn't its first
-pub walk-at_card : (deep : ℕ) (a : ActivesView) (d : ActiveDeckView) (i : ℕ) (c : ActiveCardView) (idents : List Ident) (p : ProgressView) → i < length d.cards → c ≡ get_or d.cards i c → (c.ident == d.ident) && (c.number == 1) ≡ false
+pub walk-at_card : (deep : ℕ) (a : ActivesView) (d : ActiveDeckView) (i : ℕ) (c : ActiveCardView) (idents : List Ident) (p : ProgressView)
+    → i < length d.cards → c ≡ get_or d.cards i c → (c.ident == d.ident) && (c.number == 1) ≡ false
     → after_events idents (walk deep a (record d { cards = drop i d.cards })) p
     ≡ after_events idents (card_events deep a c) p >>= after_events idents (walk deep a (record d { cards = drop (i + 1) d.cards }))
 walk-at_card deep a d i c idents p h e first =
@@ -42,14 +46,16 @@ walk-at_card deep a d i c idents p h e first =
     at_drop_more F d.cards i c h ∙ rw (← e, first) (after_events-append idents (card_events deep a c) _ p)
 
 -- its first card gives nothing
-pub walk-at_first : (deep : ℕ) (a : ActivesView) (d : ActiveDeckView) (i : ℕ) (c : ActiveCardView) → i < length d.cards → c ≡ get_or d.cards i c → (c.ident == d.ident) && (c.number == 1) ≡ true
+pub walk-at_first : (deep : ℕ) (a : ActivesView) (d : ActiveDeckView) (i : ℕ) (c : ActiveCardView) → i < length d.cards → c ≡ get_or d.cards i c
+    → (c.ident == d.ident) && (c.number == 1) ≡ true
     → walk deep a (record d { cards = drop i d.cards }) ≡ walk deep a (record d { cards = drop (i + 1) d.cards })
 walk-at_first deep a d i c h e first =
     let F : List ActiveCardView → List Event = λ cards. walk deep a (record d { cards = cards }) in
     at_drop_more F d.cards i c h ∙ rw (← e, first) refl
 
 -- walks through decks, from one of them on
-pub walks-at_deck : (deep : ℕ) (a : ActivesView) (decks : List (Bor ActiveDeckView)) (i : ℕ) (d : Bor ActiveDeckView) (idents : List Ident) (p : ProgressView) → i < length decks → d ≡ get_or decks i d
+pub walks-at_deck : (deep : ℕ) (a : ActivesView) (decks : List (Bor ActiveDeckView)) (i : ℕ) (d : Bor ActiveDeckView) (idents : List Ident)
+    (p : ProgressView) → i < length decks → d ≡ get_or decks i d
     → after_events idents (flat_map (walk deep a) (map (λ d. d.now) (drop i decks))) p
     ≡ after_events idents (walk deep a d.now) p >>= after_events idents (flat_map (walk deep a) (map (λ d. d.now) (drop (i + 1) decks)))
 walks-at_deck deep a decks i d idents p h e =

@@ -10,7 +10,7 @@ use Rattle.upd_core.specs.Library.{held_named, is_common}
 use Rattle.upd_text.specs.Lines.{is_call, called}
 use Rattle.upd_compile.specs.Chosen.{Calls, Chain, Call, Through, called_decks, has_chain, has_chain_within, is_changed, is_passed_on}
 use Rattle.upd_compile.specs.Walk.{common_named, deck_aged, text_cards}
-use Rattle.upd_compile.proofs.ListLaws.{list_any-weaker, list_any-same, list_any-taken, find-holds, number, number-grows, number-all}
+use Rattle.upd_compile.proofs.ListLemmas.{list_any-weaker, list_any-same, list_any-taken, find-holds, number, number-grows, number-all}
 
 -- whether a change reaches the callers of a deck: it passes changes on, and it changed, or this holds of a deck that it calls
 abbrev pub spreads : ActivesView → ActivesView → ℕ → ActiveDeckView → Bool
@@ -21,10 +21,12 @@ list_any-never : {A : Type 0} (xs : List A) → list_any (λ x. false) xs ≡ fa
 list_any-never [] = refl
 list_any-never (x ∷ xs) = list_any-never xs
 
-pub has_chain_within-spreads : (before a : ActivesView) (k : ℕ) (d : ActiveDeckView) → has_chain_within k before a d ≡ list_any (spreads before a k) (called_decks a d)
+pub has_chain_within-spreads : (before a : ActivesView) (k : ℕ) (d : ActiveDeckView)
+    → has_chain_within k before a d ≡ list_any (spreads before a k) (called_decks a d)
 has_chain_within-spreads before a zero d = sym (list_any-never (called_decks a d))
 has_chain_within-spreads before a (suc k) d =
-    list_any-same _ (spreads before a (suc k)) (λ c. ap (λ b. is_passed_on a c && (is_changed before c || b)) (has_chain_within-spreads before a k c)) (called_decks a d)
+    list_any-same _ (spreads before a (suc k)) (λ c. ap (λ b. is_passed_on a c && (is_changed before c || b)) (has_chain_within-spreads before a k c))
+    (called_decks a d)
 
 -- a change spreads by more calls too
 pub spreads-more : (before a : ActivesView) (k : ℕ) (c : ActiveDeckView) → spreads before a k c ≡ true → spreads before a (suc k) c ≡ true
@@ -33,11 +35,13 @@ spreads-more before a (suc k) c e =
     let parts = and_parts (is_passed_on a c) (is_changed before c || list_any (spreads before a k) (called_decks a c)) e in
     and_from (is_passed_on a c) _ parts.0 (
     ⊎_elim (λ changed. or_left (is_changed before c) _ changed)
-    (λ later. or_right (is_changed before c) _ (list_any-weaker (spreads before a k) (spreads before a (suc k)) (spreads-more before a k) (called_decks a c) later))
+    (λ later. or_right (is_changed before c) _
+    (list_any-weaker (spreads before a k) (spreads before a (suc k)) (spreads-more before a k) (called_decks a c) later))
     (or_cases (is_changed before c) _ parts.1))
 
 -- a called deck has what all decks have
-pub called-holds : (Q : ActiveDeckView → Type 0) (a : ActivesView) → AllByRecursion Q a.decks → (c : ActiveCardView) (d : ActiveDeckView) → (if is_call c.text then common_named (called c.text) a else None) ≡ Some d → Q d
+pub called-holds : (Q : ActiveDeckView → Type 0) (a : ActivesView) → AllByRecursion Q a.decks → (c : ActiveCardView) (d : ActiveDeckView)
+    → (if is_call c.text then common_named (called c.text) a else None) ≡ Some d → Q d
 called-holds Q a all c d e = of_call (is_call c.text) e
   where
     of_kind : (b : Bool) (age : ℕ) → (if b then deck_aged age a else None) ≡ Some d → Q d
@@ -56,9 +60,11 @@ called-holds Q a all c d e = of_call (is_call c.text) e
 abbrev pub Settled : ActivesView → ActivesView → ℕ → Type 0
 Settled before a k = AllByRecursion (λ c. spreads before a k c ≡ spreads before a (suc k) c) a.decks
 
-pub settled-any : (before a : ActivesView) (k : ℕ) → Settled before a k → (d : ActiveDeckView) → list_any (spreads before a k) (called_decks a d) ≡ list_any (spreads before a (suc k)) (called_decks a d)
+pub settled-any : (before a : ActivesView) (k : ℕ) → Settled before a k → (d : ActiveDeckView)
+    → list_any (spreads before a k) (called_decks a d) ≡ list_any (spreads before a (suc k)) (called_decks a d)
 settled-any before a k settled d =
-    list_any-taken _ (spreads before a k) (spreads before a (suc k)) (called-holds (λ c. spreads before a k c ≡ spreads before a (suc k) c) a settled) (text_cards d)
+    list_any-taken _ (spreads before a k) (spreads before a (suc k)) (called-holds (λ c. spreads before a k c ≡ spreads before a (suc k) c) a settled)
+    (text_cards d)
 
 all-of : {A : Type 0} (P : A → Type 0) → ((x : A) → P x) → (xs : List A) → AllByRecursion P xs
 all-of P p [] = tt
@@ -77,7 +83,8 @@ settled-or-more : (before a : ActivesView) (k : ℕ) → Settled before a k ⊎ 
 settled-or-more before a zero = inr (omega arith)
 settled-or-more before a (suc k) =
     ⊎_elim (λ settled. inl (settled-next before a k settled))
-    (λ so_many. ⊎_elim (λ more. inr (omega arith)) (λ settled. inl (settled-next before a k settled)) (number-grows (spreads before a k) (spreads before a (suc k)) (spreads-more before a k) a.decks))
+    (λ so_many. ⊎_elim (λ more. inr (omega arith)) (λ settled. inl (settled-next before a k settled))
+    (number-grows (spreads before a k) (spreads before a (suc k)) (spreads-more before a k) a.decks))
     (settled-or-more before a k)
 
 -- so it is settled once there were as many calls as decks
@@ -85,7 +92,8 @@ pub settled-at_length : (before a : ActivesView) → Settled before a (length a.
 settled-at_length before a =
     let k : ℕ = length a.decks in
     ⊎_elim (λ settled. settled)
-    (λ all. all-weaker (λ c. spreads before a k c ≡ true) (λ c. spreads before a k c ≡ spreads before a (suc k) c) (λ c e. e ∙ sym (spreads-more before a k c e)) a.decks (number-all (spreads before a k) a.decks all))
+    (λ all. all-weaker (λ c. spreads before a k c ≡ true) (λ c. spreads before a k c ≡ spreads before a (suc k) c)
+    (λ c e. e ∙ sym (spreads-more before a k c e)) a.decks (number-all (spreads before a k) a.decks all))
     (settled-or-more before a k)
 
 -- what spreads within k calls has a path
@@ -99,7 +107,8 @@ path-of before a (suc k) d e =
     ⊎_elim (λ changed. Call d c calls changed) (λ later. Through d c calls (path-of before a k c later)) (or_cases (is_changed before c) _ parts.1)
 
 -- what a deck calls spreads where it changed, or what it calls does
-called-spreads : (before a : ActivesView) (k : ℕ) (d c : ActiveDeckView) → Calls a d c → (is_changed before c || list_any (spreads before a k) (called_decks a c)) ≡ true → list_any (spreads before a (suc k)) (called_decks a d) ≡ true
+called-spreads : (before a : ActivesView) (k : ℕ) (d c : ActiveDeckView) → Calls a d c
+    → (is_changed before c || list_any (spreads before a k) (called_decks a c)) ≡ true → list_any (spreads before a (suc k)) (called_decks a d) ≡ true
 called-spreads before a k d c calls e =
     list_any-from_Any (spreads before a (suc k)) (called_decks a d) (calls.1.0, c, calls.1.1, calls.1.2, and_from (is_passed_on a c) _ calls.0 e)
 

@@ -1,8 +1,8 @@
 use Rattle.std.proofs.Common.{◌≡◌, ◌==◌, ℕ, nat_eq, drop}
 use Rattle.std.specs.HashMap as hash
 use Rattle.upd_core.specs.First.{index_from}
-use Rattle.upd_compile.proofs.indexed.deck_places.Given as goal
+use Rattle.upd_compile.proofs.indexed.deck_positions.Given as goal
 
 abbrev pub invariant-loop-i : goal.invariant-loop-i
 invariant-loop-i l =
-    (age : ℕ) → hash.get nat_eq l.places age ≡ index_from (λ d. d.ident == age) l.i (drop l.i l.decks)
+    (age : ℕ) → hash.get nat_eq l.positions age ≡ index_from (λ d. d.ident == age) l.i (drop l.i l.decks)

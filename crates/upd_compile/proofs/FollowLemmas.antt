@@ -4,10 +4,11 @@ use Rattle.std.proofs.lemmas.Bool.{and_left, and_right, and_parts, eqb-true, lt-
 use Rattle.std.proofs.lemmas.List.{length-replicate, take_all}
 use Rattle.std.proofs.Math.ListN.{set, length-set}
 use Rattle.upd_compile.specs.Reach.{AreCallers, FollowsMore, follows, is_in, is_marked}
-use Rattle.upd_compile.proofs.ReachLaws.{and-true, or-false, is_in-push, is_marked-more, marks-then, same-where, same_suc}
+use Rattle.upd_compile.proofs.ReachLemmas.{and-true, or-false, is_in-push, is_marked-more, marks-then, same-where, same_suc}
 
 -- one follower more
-pub follows-set : (lists : List (List ℕ)) (i e c d : ℕ) (list : List ℕ) → slice_get lists i ≡ Some list → follows (set lists i (list ++ e ∷ [])) c d ≡ (follows lists c d || ((i == c) && (e == d)))
+pub follows-set : (lists : List (List ℕ)) (i e c d : ℕ) (list : List ℕ) → slice_get lists i ≡ Some list
+    → follows (set lists i (list ++ e ∷ [])) c d ≡ (follows lists c d || ((i == c) && (e == d)))
 follows-set [] i e c d list h = cc
 follows-set (l ∷ ls) zero e zero d list h = let same : l ≡ list = cc in rw same (is_in-push list e d)
 follows-set (l ∷ ls) zero e (suc c) d list h = rw (and_left (0 == suc c) (e == d) (ne_eqb 0 (suc c) (omega arith))) (sym (or-false (follows ls c d)))
@@ -20,7 +21,8 @@ follows-empty zero c d = refl
 follows-empty (suc n) zero d = refl
 follows-empty (suc n) (suc c) d = follows-empty n c d
 
-pub FollowsMore-one : (lists : List (List ℕ)) (i e : ℕ) (list : List ℕ) → i < length lists → slice_get lists i ≡ Some list → FollowsMore (λ c d. (i == c) && (e == d)) lists (set lists i (list ++ e ∷ []))
+pub FollowsMore-one : (lists : List (List ℕ)) (i e : ℕ) (list : List ℕ) → i < length lists → slice_get lists i ≡ Some list
+    → FollowsMore (λ c d. (i == c) && (e == d)) lists (set lists i (list ++ e ∷ []))
 FollowsMore-one lists i e list h at = record {
   follows_more = λ c d.
       follows-set lists i e c d list at
@@ -30,7 +32,8 @@ FollowsMore-one lists i e list h at = record {
 }
 
 -- some, and then more
-pub FollowsMore-then : (p q r : ℕ → ℕ → Bool) (x y z : List (List ℕ)) → ((c d : ℕ) → r c d ≡ (p c d || q c d)) → FollowsMore p x y → FollowsMore q y z → FollowsMore r x z
+pub FollowsMore-then : (p q r : ℕ → ℕ → Bool) (x y z : List (List ℕ)) → ((c d : ℕ) → r c d ≡ (p c d || q c d)) → FollowsMore p x y → FollowsMore q y z
+    → FollowsMore r x z
 FollowsMore-then p q r x y z both first then = record {
   follows_more = λ c d.
       then.follows_more c d
@@ -43,7 +46,7 @@ and-or true b true = refl
 and-or true b false = sym (and_right b false refl)
 and-or false b e = refl
 
--- a place that follows a marked one, or the one that is marked now
+-- a position that follows a marked one, or the one that is marked now
 pub follows-marked : (m e f g : Bool) → (e ≡ true → f ≡ g) → ((m || e) && f) ≡ ((m && f) || (g && e))
 follows-marked true e true g same = refl
 follows-marked true true false g same = rw (← same refl) refl
@@ -51,8 +54,9 @@ follows-marked true false false g same = sym (and_right g false refl)
 follows-marked false true f g same = same refl ∙ sym (and-true g)
 follows-marked false false f g same = sym (and_right g false refl)
 
--- one marked place more
-pub callers-more : (calls : List (List ℕ)) (marks : List Bool) (i : ℕ) (list : List ℕ) (x y z : List (List ℕ)) → i < length marks → slice_get calls i ≡ Some list → true ≡ get_or marks i true
+-- one marked position more
+pub callers-more : (calls : List (List ℕ)) (marks : List Bool) (i : ℕ) (list : List ℕ) (x y z : List (List ℕ)) → i < length marks
+    → slice_get calls i ≡ Some list → true ≡ get_or marks i true
     → FollowsMore (λ c d. is_marked (take i marks) d && follows calls d c) x y → FollowsMore (λ c d. is_in list c && (i == d)) y z
     → FollowsMore (λ c d. is_marked (take (i + 1) marks) d && follows calls d c) x z
 callers-more calls marks i list x y z within found marked first then =
@@ -62,7 +66,7 @@ callers-more calls marks i list x y z within found marked first then =
     (follows-marked (is_marked (take i marks) d) (i == d) (follows calls d c) (is_in list c) (λ e. rw (← eqb-true i d e, found) refl)))
     first then
 
--- a place more that isn't marked
+-- a position more that isn't marked
 pub callers-same : (calls : List (List ℕ)) (marks : List Bool) (i : ℕ) (x y : List (List ℕ)) → i < length marks → false ≡ get_or marks i false
     → FollowsMore (λ c d. is_marked (take i marks) d && follows calls d c) x y → FollowsMore (λ c d. is_marked (take (i + 1) marks) d && follows calls d c) x y
 callers-same calls marks i x y within unmarked first = record {
@@ -70,8 +74,9 @@ callers-same calls marks i x y within unmarked first = record {
   same_length = first.same_length;
 }
 
--- the callers once all places were gone through
-pub callers-all : (calls : List (List ℕ)) (marks : List Bool) (i n : ℕ) (first callers : List (List ℕ)) → n ≡ length calls → n ≤ i → length marks ≡ n → first ≡ replicate n []
+-- the callers once all positions were gone through
+pub callers-all : (calls : List (List ℕ)) (marks : List Bool) (i n : ℕ) (first callers : List (List ℕ)) → n ≡ length calls → n ≤ i → length marks ≡ n
+    → first ≡ replicate n []
     → FollowsMore (λ c d. is_marked (take i marks) d && follows calls d c) first callers → AreCallers calls marks callers
 callers-all calls marks i n first callers count end same empty more = λ c d.
     let all : take i marks ≡ marks = take_all i marks (omega arith) in

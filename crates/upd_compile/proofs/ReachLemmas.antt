@@ -1,4 +1,4 @@
--- Marks and places.
+-- Marks and positions.
 use Rattle.std.proofs.Common.{◌≡◌, ℕ, zero, suc, ◌<◌, ◌≤◌, ◌==◌, ◌⊎◌, ⊎_elim, nat_lt, Bool, true, false, ◌&&◌, ◌||◌, not, cond, List, [], ◌∷◌, ◌++◌, length, take, get_or, refl, sym, ap, ◌∙◌, length-append, arith}
 use Rattle.std.proofs.lemmas.Bool.Decides.{nat_tests}
 use Rattle.std.proofs.lemmas.Bool.{false≢true, and_parts, and_right, or_right, eqb-true, ltb-true, lt-ltb, ne_eqb}
@@ -19,8 +19,9 @@ or-false false = refl
 pub same_suc : (i k : ℕ) → (i == k) ≡ (suc i == suc k)
 same_suc i k = grind (arith, nat_tests)
 
--- one mark more in front of a place
-pub is_marked-more : (marks : List Bool) (i k : ℕ) (b : Bool) → i < length marks → b ≡ get_or marks i b → is_marked (take (suc i) marks) k ≡ (is_marked (take i marks) k || (b && (i == k)))
+-- one mark more in front of a position
+pub is_marked-more : (marks : List Bool) (i k : ℕ) (b : Bool) → i < length marks → b ≡ get_or marks i b
+    → is_marked (take (suc i) marks) k ≡ (is_marked (take i marks) k || (b && (i == k)))
 is_marked-more [] i k b h e = absurd (omega arith)
 is_marked-more (m ∷ ms) zero zero b h e = rw e (sym (and-true m))
 is_marked-more (m ∷ ms) zero (suc k) b h e = sym (and_right b _ (ne_eqb 0 (suc k) (omega arith)))
@@ -38,9 +39,9 @@ is_marked-set (m ∷ ms) (suc i) (suc k) h = is_marked-set ms i k (omega arith) 
 pub is_marked-at : (marks : List Bool) (k : ℕ) (d : Bool) → k < length marks → is_marked marks k ≡ get_or marks k d
 is_marked-at marks k d h = rw (slice_get-get_or marks k d h) refl
 
--- a place more in a list
-pub is_in-push : (places : List ℕ) (i k : ℕ) → is_in (places ++ i ∷ []) k ≡ (is_in places k || (i == k))
-is_in-push places i k = list_any-append (λ p. p == k) places (i ∷ []) ∙ ap (λ b. is_in places k || b) (or-false (i == k))
+-- a position more in a list
+pub is_in-push : (positions : List ℕ) (i k : ℕ) → is_in (positions ++ i ∷ []) k ≡ (is_in positions k || (i == k))
+is_in-push positions i k = list_any-append (λ p. p == k) positions (i ∷ []) ∙ ap (λ b. is_in positions k || b) (or-false (i == k))
 
 -- tests that follow from one another
 pub same-where : (b c : Bool) → (b ≡ true → c ≡ true) → b ≡ (b && c)
@@ -77,11 +78,14 @@ opens-then false false true g = refl
 opens-then false false false true = refl
 opens-then false false false false = refl
 
--- one place more
-pub MarksMore-one : (marks : List Bool) (work : List ℕ) (i : ℕ) → i < length marks → is_marked marks i ≡ false → MarksMore (λ k. i == k) marks (set marks i true) work (work ++ i ∷ [])
+-- one position more
+pub MarksMore-one : (marks : List Bool) (work : List ℕ) (i : ℕ) → i < length marks → is_marked marks i ≡ false
+    → MarksMore (λ k. i == k) marks (set marks i true) work (work ++ i ∷ [])
 MarksMore-one marks work i h unmarked = record {
   marks_more = λ k.
-      is_marked-set marks i k h ∙ ap (λ b. is_marked marks k || b) (same-where (i == k) (nat_lt k (length marks)) (λ e. let same : i ≡ k = eqb-true i k e in lt-ltb k (length marks) (omega arith)));
+      is_marked-set marks i k h
+      ∙ ap (λ b. is_marked marks k || b)
+      (same-where (i == k) (nat_lt k (length marks)) (λ e. let same : i ≡ k = eqb-true i k e in lt-ltb k (length marks) (omega arith)));
   opened = λ k.
       is_in-push work i k ∙ ap (λ b. is_in work k || b) (new-where (is_marked marks k) (i == k) (λ e. ap (is_marked marks) (sym (eqb-true i k e)) ∙ unmarked)
       ∙ ap (λ b. b && not (is_marked marks k)) (sym (is_marked-set marks i k h)));
@@ -92,7 +96,8 @@ MarksMore-one marks work i h unmarked = record {
       simp length-append (omega (arith, fewer));
 }
 
-pub MarksMore-none : (marks : List Bool) (work : List ℕ) (i : ℕ) → (is_marked marks i ≡ true) ⊎ (length marks ≤ i) → MarksMore (λ k. i == k) marks marks work work
+pub MarksMore-none : (marks : List Bool) (work : List ℕ) (i : ℕ) → (is_marked marks i ≡ true) ⊎ (length marks ≤ i)
+    → MarksMore (λ k. i == k) marks marks work work
 MarksMore-none marks work i h = record {
   marks_more = λ k. old-where (is_marked marks k) ((i == k) && nat_lt k (length marks)) (λ e.
       let parts = and_parts (i == k) (nat_lt k (length marks)) e in
@@ -105,12 +110,14 @@ MarksMore-none marks work i h = record {
 }
 
 -- some, and then one more
-pub MarksMore-then : (places : List ℕ) (i : ℕ) (a b c : List Bool) (x y z : List ℕ) → MarksMore (is_in places) a b x y → MarksMore (λ k. i == k) b c y z → MarksMore (is_in (places ++ i ∷ [])) a c x z
-MarksMore-then places i a b c x y z first then = record {
-  marks_more = λ k. then.marks_more k ∙ rw (first.marks_more k, first.same_length, is_in-push places i k) (marks-then (is_marked a k) (is_in places k) (i == k) (nat_lt k (length a)));
+pub MarksMore-then : (positions : List ℕ) (i : ℕ) (a b c : List Bool) (x y z : List ℕ) → MarksMore (is_in positions) a b x y
+    → MarksMore (λ k. i == k) b c y z → MarksMore (is_in (positions ++ i ∷ [])) a c x z
+MarksMore-then positions i a b c x y z first then = record {
+  marks_more = λ k. then.marks_more k
+      ∙ rw (first.marks_more k, first.same_length, is_in-push positions i k) (marks-then (is_marked a k) (is_in positions k) (i == k) (nat_lt k (length a)));
   opened = λ k.
       then.opened k ∙ rw (first.opened k, then.marks_more k, first.marks_more k, first.same_length)
-      (opens-then (is_in x k) (is_marked a k) (is_in places k && nat_lt k (length a)) ((i == k) && nat_lt k (length a)));
+      (opens-then (is_in x k) (is_marked a k) (is_in positions k && nat_lt k (length a)) ((i == k) && nat_lt k (length a)));
   same_length = then.same_length ∙ first.same_length;
   same_work = then.same_work ∙ first.same_work;
 }
