@@ -1,4 +1,4 @@
-pub mod StreamLaws
-pub mod TrialLaws
-pub mod CommandLaws
-pub mod WordLaws
+pub mod StreamLemmas
+pub mod TrialLemmas
+pub mod CommandLemmas
+pub mod WordLemmas

@@ -20,8 +20,9 @@ use std::io::{ErrorKind, Read, Write};
 use upd_compile::CompileFile;
 use upd_text::Fault;
 
-/// Carries out the command line `words`, the program's own name first, and answers the exit status: 0 where all is done; 1 for a refusal,
-/// whose line goes to `faults`; 2 where the words are no command line; 3 where memory, a read or a write failed.
+/// Carries out the command line `words`, the program's own name first, and answers the exit status: 0 where all is
+/// done; 1 for a refusal, whose line goes to `faults`; 2 where the words are no command line; 3 where memory, a read or
+/// a write failed.
 pub fn run_command<S: AsStr, R: Read, W: Write, E: Write>(
     alloc: Global,
     words: &[S],
@@ -35,8 +36,8 @@ pub fn run_command<S: AsStr, R: Read, W: Write, E: Write>(
     ensures unread { word_faults (map S.text words.entry.now) ≢ [] → IsToldOf (map S.text words.entry.now) result }
     // Of a run that is too long, no more is read than tells so.
     ensures front { TakesFront (MAX_RUN_BYTES + 1) (R.remaining input.old) (R.remaining input.new) }
-    ensures waits { (word_faults (map S.text words.entry.now) ≢ []) ⊎ (mode_named (mode_word (map S.text words.entry.now)) ≡ None)
-        → input.new ≡ input.old }
+    ensures waits { (word_faults (map S.text words.entry.now) ≢ [])
+        ⊎ (mode_named (mode_word (map S.text words.entry.now)) ≡ None) → input.new ≡ input.old }
     ensures silent { (result ≡ 1) ⊎ (result ≡ 2) → output.new ≡ output.old }
     ensures clean { result ≡ 0 → faults.new ≡ faults.old }
 {
@@ -57,7 +58,8 @@ pub fn run_command<S: AsStr, R: Read, W: Write, E: Write>(
     }
 }
 
-/// The exit status where the words of the command line could not be had: 3 for want of memory, and else 2. A line on `faults` says so.
+/// The exit status where the words of the command line could not be had: 3 for want of memory, and else 2. A line on
+/// `faults` says so.
 pub fn report_words<E: Write>(error: &io::Error, faults: &mut E) -> u8
     ensures memory { error_kind error.now ≡ ErrorKind.OutOfMemory
         → IsTold 3 (fault_line no_memory) result (E.contents faults.old) (E.contents faults.new) }

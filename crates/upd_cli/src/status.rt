@@ -32,7 +32,8 @@ pub(crate) fn exit_status(kind: FaultKind) -> u8
     }
 }
 
-/// Writes the line of a fault, its `Display` behind the program's name, and flushes. It takes no memory, which may just have been wanting.
+/// Writes the line of a fault, its `Display` behind the program's name, and flushes. It takes no memory, which may just
+/// have been wanting.
 pub(crate) fn write_fault<E: Write>(faults: &mut E, fault: Fault) -> io::Result<()>
     ensures ok { OnOk result (Appends (E.contents faults.old) (E.contents faults.new) (fault_line fault)) }
     ensures front { AppendsFront (E.contents faults.old) (E.contents faults.new) (fault_line fault) }

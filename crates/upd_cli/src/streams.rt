@@ -13,7 +13,8 @@ use upd_text::{Fault, FaultKind};
 
 /// All bytes of an input, or the first `MAX_RUN_BYTES` and one more, which tells that it is too long.
 pub(crate) fn read_input<R: Read>(alloc: Global, input: &mut R) -> Result<Vec<u8>, Fault>
-    ensures ok { IfSome (R.remaining input.old) (λ all. IfOk result (λ bytes. bytes.items ≡ take (MAX_RUN_BYTES + 1) all)) }
+    ensures ok { IfSome (R.remaining input.old) (λ all. IfOk result (λ bytes.
+        bytes.items ≡ take (MAX_RUN_BYTES + 1) all)) }
     ensures front { TakesFront (MAX_RUN_BYTES + 1) (R.remaining input.old) (R.remaining input.new) }
     ensures err { IfErr result (λ fault. (fault ≡ no_memory) ⊎ (fault ≡ read_failed)) }
 {
@@ -28,7 +29,8 @@ pub(crate) fn read_input<R: Read>(alloc: Global, input: &mut R) -> Result<Vec<u8
 fn read_front<R: Read>(input: &mut R, most: usize, bytes: &mut Vec<u8>) -> Result<(), Fault>
     requires { bytes.old.items ≡ [] }
     ensures ok { OnOk result (Consumes (R.remaining input.old) (R.remaining input.new) bytes.new.items) }
-    ensures end { OnOk result ((length bytes.new.items ≡ most) ⊎ ((length bytes.new.items ≤ most) × IsAtEnd (R.remaining input.new))) }
+    ensures end { OnOk result ((length bytes.new.items ≡ most)
+        ⊎ ((length bytes.new.items ≤ most) × IsAtEnd (R.remaining input.new))) }
     ensures front { TakesFront most (R.remaining input.old) (R.remaining input.new) }
     ensures err { IfErr result (λ fault. (fault ≡ no_memory) ⊎ (fault ≡ read_failed)) }
 {
@@ -73,8 +75,10 @@ pub(crate) fn write_out<W: Write>(output: &mut W, bytes: &[u8]) -> Result<(), Fa
 
 /// Writes all parts, one after the other, and flushes. An error leaves at most a beginning of them.
 pub(crate) fn write_parts<W: Write>(output: &mut W, parts: &[&[u8]]) -> io::Result<()>
-    ensures ok { OnOk result (Appends (W.contents output.old) (W.contents output.new) (flat_map (λ part. part.now) parts.now)) }
-    ensures front { AppendsFront (W.contents output.old) (W.contents output.new) (flat_map (λ part. part.now) parts.now) }
+    ensures ok { OnOk result (Appends (W.contents output.old) (W.contents output.new)
+        (flat_map (λ part. part.now) parts.now)) }
+    ensures front { AppendsFront (W.contents output.old) (W.contents output.new)
+        (flat_map (λ part. part.now) parts.now) }
 {
     for part in parts {
         write_part(output, part)?;

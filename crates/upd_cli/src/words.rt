@@ -4,7 +4,8 @@ ghost use Rattle.clap.specs.Words.{Text, app_of, kind_of, rule_of, subcommand_na
 ghost use Rattle.clap.specs.declared.builder.command.Command.TheViews.{out-Command as fields_of};
 ghost use Rattle.clap.specs.declared.error.kind.ErrorKind.TheVariants.{OutOfMemory};
 ghost use Rattle.upd_cli.specs.Status.{no_memory};
-ghost use Rattle.upd_cli.specs.Words.{IsAsked, IsPlain, IsTold, IsTrial, mode_in, mode_word, operand_rule, trial_app, upd_app, word_faults};
+ghost use Rattle.upd_cli.specs.Words.{IsAsked, IsPlain, IsTold, IsTrial, mode_in, mode_word, word_faults};
+ghost use Rattle.upd_cli.specs.Words.{operand_rule, trial_app, upd_app};
 
 use clap::error::ErrorKind;
 use clap::{Arg, ArgAction, ArgMatches, Command, Error};
@@ -92,7 +93,8 @@ fn told<'a>(alloc: Global, error: &Error) -> Result<Request<'a>, Fault>
     }
 }
 
-/// `trial` and a word that does not begin with a hyphen are read, whatever the program is called, and the word is the mode.
+/// `trial` and a word that does not begin with a hyphen are read, whatever the program is called, and the word is the
+/// mode.
 pub fn trial_is_read()
     ensures read { (name mode : Text) → IsPlain mode → word_faults (name ∷ codes "trial" ∷ mode ∷ []) ≡ [] }
     ensures mode { (name mode : Text) → IsPlain mode → mode_word (name ∷ codes "trial" ∷ mode ∷ []) ≡ mode }

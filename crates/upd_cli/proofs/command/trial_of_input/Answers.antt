@@ -4,7 +4,7 @@ use Rattle.upd_text.specs.declared.limits.TheConstants.{MAX_RUN_BYTES}
 use Rattle.upd_text.specs.Outcome.{GivesAt}
 use Rattle.upd_compile.specs.File.{FileView}
 use Rattle.upd_cli.specs.Trial.{trial_of}
-use Rattle.upd_cli.proofs.TrialLaws.{given_of_front}
+use Rattle.upd_cli.proofs.TrialLemmas.{given_of_front}
 use Rattle.upd_cli.proofs.command.trial_of_input.Goals as goal
 
 error_is : (result : Result FileView Fault) (fault : Fault) → IsErrAnd result (λ e. e ≡ fault) → result ≡ Err fault

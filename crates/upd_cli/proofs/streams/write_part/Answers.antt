@@ -1,6 +1,6 @@
 use Rattle.std.proofs.Common.{◌++◌, take}
 use Rattle.std.proofs.KnownBytes.{Appends-trans}
-use Rattle.upd_cli.proofs.StreamLaws.{front_further}
+use Rattle.upd_cli.proofs.StreamLemmas.{front_further}
 use Rattle.upd_cli.proofs.streams.write_part.Goals as goal
 
 pub output-preserved : goal.output-preserved

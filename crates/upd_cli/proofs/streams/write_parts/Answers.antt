@@ -1,4 +1,4 @@
-use Rattle.upd_cli.proofs.StreamLaws.{front_of_parts}
+use Rattle.upd_cli.proofs.StreamLemmas.{front_of_parts}
 use Rattle.upd_cli.proofs.streams.write_parts.Goals as goal
 
 pub returns-in_err-write_part-clause-front : goal.returns-in_err-write_part-clause-front

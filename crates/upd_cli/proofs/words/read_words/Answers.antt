@@ -33,12 +33,15 @@ returns-in-Ok-clause-ok g c =
     let app_is : app_of c.in_ok-commands.field-0 ≡ upd_app = c.in_ok-commands.ensures in
     let words : List Text = map g.S.AsStr.text c.args.words.now in
     let none : word_faults words ≡ [] = sym (ap (λ (a : App). fault_of a words) app_is) ∙ c.in-Ok.ensures.kinds (ap is_simple_and_free app_is ∙ is_free_upd) in
-    let rows : subcommand_rows_of c.in-Ok.matches ≡ subcommand_of upd_app words = (c.in-Ok.ensures.matches (ap is_simple app_is ∙ is_simple_upd)).1 ∙ ap (λ (a : App). subcommand_of a words) app_is in
+    let rows : subcommand_rows_of c.in-Ok.matches ≡ subcommand_of upd_app words = (c.in-Ok.ensures.matches (ap is_simple app_is ∙ is_simple_upd)).1
+    ∙ ap (λ (a : App). subcommand_of a words) app_is in
     asked_trial words c.trial_request.result none (rw (ap mode_in rows) at c.trial_request.ensures)
 
 pub returns-in-Err-clause-ok : goal.returns-in-Err-clause-ok
 returns-in-Err-clause-ok g c =
     let app_is : app_of c.in_ok-commands.field-0 ≡ upd_app = c.in_ok-commands.ensures in
     let words : List Text = map g.S.AsStr.text c.args.words.now in
-    let kinds : HasKind (word_faults words) c.in-Err.error = let P : App → Type 0 = λ a. HasKind (fault_of a words) c.in-Err.error in subst P app_is (c.in-Err.ensures.kinds (ap is_simple_and_free app_is ∙ is_free_upd)) in
+    let kinds : HasKind (word_faults words) c.in-Err.error =
+    let P : App → Type 0 = λ a. HasKind (fault_of a words) c.in-Err.error in
+    subst P app_is (c.in-Err.ensures.kinds (ap is_simple_and_free app_is ∙ is_free_upd)) in
     IfOk-weaker c.told.result _ _ (λ request is. asked_told words (kind_of c.in-Err.error) request (among _ _ kinds is.0) is.1) c.told.ensures.ok

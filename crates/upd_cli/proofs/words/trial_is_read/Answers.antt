@@ -1,4 +1,4 @@
-use Rattle.upd_cli.proofs.WordLaws.{plain_read, plain_word}
+use Rattle.upd_cli.proofs.WordLemmas.{plain_read, plain_word}
 use Rattle.upd_cli.proofs.words.trial_is_read.Goals as goal
 
 pub returns-clause-read : goal.returns-clause-read

@@ -11,7 +11,8 @@ use Rattle.upd_cli.specs.Streams.{AppendsFront}
 -- what was done goes on by what was taken of the rest
 pub front_further : (all done rest : List ℕ) (n : ℕ) → all ≡ done ++ rest → all ≡ (done ++ take n rest) ++ take (length rest - n) (drop n rest)
 front_further all done rest n e =
-    e ∙ ap (λ l. done ++ l) (sym (take-append-drop n rest)) ∙ sym (append_assoc done (take n rest) (drop n rest)) ∙ ap (λ l. (done ++ take n rest) ++ l) (sym (take_rest rest n))
+    e ∙ ap (λ l. done ++ l) (sym (take-append-drop n rest)) ∙ sym (append_assoc done (take n rest) (drop n rest))
+    ∙ ap (λ l. (done ++ take n rest) ++ l) (sym (take_rest rest n))
 
 -- nothing, and all, are beginnings
 pub front_nothing : (old : Option (List ℕ)) (bytes : List ℕ) → AppendsFront old old bytes
@@ -25,7 +26,8 @@ front_same old new bytes same is (front, rest, split, appended) = (front, rest, 
 
 -- a beginning of one part, behind the parts before it
 pub front_of_parts : (old mid new : Option (List ℕ)) (parts : List (Bor (List ℕ))) (i : ℕ) (d : Bor (List ℕ)) → i < length parts
-    → Appends old mid (flat_map (λ part. part.now) (take i parts)) → AppendsFront mid new (get_or parts i d).now → AppendsFront old new (flat_map (λ part. part.now) parts)
+    → Appends old mid (flat_map (λ part. part.now) (take i parts)) → AppendsFront mid new (get_or parts i d).now
+    → AppendsFront old new (flat_map (λ part. part.now) parts)
 front_of_parts old mid new parts i d h first (front, rest, split, then) =
     let all = λ (parts : List (Bor (List ℕ))). flat_map (λ part. part.now) parts in
     let more = all (drop (i + 1) parts) in

@@ -8,7 +8,7 @@ use Rattle.upd_text.specs.declared.fault.FaultKind.TheVariants.{Write}
 use Rattle.upd_compile.specs.File.{FileView}
 use Rattle.upd_cli.specs.Command.{Answers, Ends, IsEnd, LeavesOutput, answer_to}
 use Rattle.upd_cli.specs.Status.{exit_status, fault_line, no_memory}
-use Rattle.upd_cli.proofs.StreamLaws.{front_all}
+use Rattle.upd_cli.proofs.StreamLemmas.{front_all}
 
 -- nothing may be left by any fault
 pub nothing_left : (kind : FaultKind) (output output' : Option (List ℕ)) (bytes : List ℕ) → Appends output output' [] → LeavesOutput kind output output' bytes
@@ -36,8 +36,10 @@ answered_of_known ended status (Some bytes) defined output output' faults faults
     answered ended status (defined bytes) output output' faults faults' ends told
 
 -- before anything was read or written, memory was wanting
-pub answered_at_once : (known : Option (List ℕ)) (defined : List ℕ → Result FileView Fault) (fault : Fault) (status : ℕ) (output faults faults' : Option (List ℕ))
-    → fault ≡ no_memory → IsEnd {U = Unit {0}} (Err fault) status faults faults' → IfSome known (λ bytes. Answers (answer_to (defined bytes)) status output output faults faults')
+pub answered_at_once : (known : Option (List ℕ)) (defined : List ℕ → Result FileView Fault) (fault : Fault) (status : ℕ)
+    (output faults faults' : Option (List ℕ))
+    → fault ≡ no_memory → IsEnd {U = Unit {0}} (Err fault) status faults faults'
+    → IfSome known (λ bytes. Answers (answer_to (defined bytes)) status output output faults faults')
 answered_at_once None defined fault status output faults faults' is told = tt
 answered_at_once (Some bytes) defined fault status output faults faults' is told =
     answered {U = Unit {0}} (Err fault) status (defined bytes) output output faults faults'
