@@ -4,8 +4,10 @@ use Rattle.std.specs.List.{flat_map}
 use Rattle.std.proofs.lemmas.List.{drop_more}
 
 -- the step of the loop at the element x
-pub flat_more : {X Y : Type 0} (f : X → List Y) (xs : List X) (i : ℕ) (d x : X) (found now whole : List Y) → i < length xs → x ≡ get_or xs i d → now ≡ found ++ f x →
+pub flat_more : {X Y : Type 0} (f : X → List Y) (xs : List X) (i : ℕ) (d x : X) (found now whole : List Y) → i < length xs → x ≡ get_or xs i d →
+    now ≡ found ++ f x →
     found ++ flat_map f (drop i xs) ≡ whole → now ++ flat_map f (drop (i + 1) xs) ≡ whole
 flat_more f xs i d x found now whole within read is so_far =
     let next : drop i xs ≡ x ∷ drop (i + 1) xs = drop_more xs i d within ∙ ap (λ t. t ∷ drop (i + 1) xs) (sym read) in
-    ap (λ t. t ++ flat_map f (drop (i + 1) xs)) is ∙ append_assoc found (f x) (flat_map f (drop (i + 1) xs)) ∙ sym (ap (λ t. found ++ flat_map f t) next) ∙ so_far
+    ap (λ t. t ++ flat_map f (drop (i + 1) xs)) is ∙ append_assoc found (f x) (flat_map f (drop (i + 1) xs)) ∙ sym (ap (λ t. found ++ flat_map f t) next)
+    ∙ so_far

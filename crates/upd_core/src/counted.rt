@@ -36,7 +36,8 @@ impl<'a> Model for Counted<'a> {
     ghost view = { λ c. record { library = c.library.now; reads = c.reads } };
 }
 
-/// A card of a counted library: its reference, its deck and its targets are known, its history is read through the `Counted`.
+/// A card of a counted library: its reference, its deck and its targets are known, its history is read through the
+/// `Counted`.
 #[derive(Drop)]
 pub struct CountedCard<'a> {
     reference: CardRef,
@@ -74,7 +75,8 @@ impl<'a> CountedCard<'a> {
         &card.targets
     }
 
-    /// Whether a target covers it whose count is 0 before or now, and not both. It looks at the idents of its entries alone.
+    /// Whether a target covers it whose count is 0 before or now, and not both. It looks at the idents of its entries
+    /// alone.
     pub fn is_reached(&self, before: &TargetCounts, now: &TargetCounts) -> bool
         ensures { result ≡ is_reached (count_in before.now) (count_in now.now) self.now.deck self.now.view }
     {
@@ -130,7 +132,8 @@ impl<'a> Counted<'a> {
 
     /// The targets of the card that a reference names.
     pub fn targets(&self, card: CardRef) -> Option<&'a [Target]>
-        ensures { option_map (λ targets. targets.now) result ≡ option_map (λ c. c.targets) (card_named card self.now.library) }
+        ensures { option_map (λ targets. targets.now) result
+            ≡ option_map (λ c. c.targets) (card_named card self.now.library) }
     {
         let library = self.library;
         let place = library.card_at(card)?;
@@ -140,7 +143,8 @@ impl<'a> Counted<'a> {
 
     /// The history of the card that a reference names: one read more where the card is there.
     pub fn history(&mut self, card: CardRef) -> Option<&'a [Entry]>
-        ensures found { option_map (λ history. history.now) result ≡ option_map (λ c. c.history) (card_named card self.old.library) }
+        ensures found { option_map (λ history. history.now) result
+            ≡ option_map (λ c. c.history) (card_named card self.old.library) }
         ensures reads { self.new ≡ (if is_some result then one_more self.old else self.old) }
     {
         let library = self.library;
@@ -204,7 +208,8 @@ fn add_cards_of<'a>(
     idents: &[Ident],
     decks: &'a [Deck],
 ) -> Result<(), AllocError>
-    ensures { OnOk result (found.new.items ≡ found.old.items ++ flat_map (λ d. map (counted_card idents.now d.ident) d.cards) decks.now) }
+    ensures { OnOk result (found.new.items
+        ≡ found.old.items ++ flat_map (λ d. map (counted_card idents.now d.ident) d.cards) decks.now) }
 {
     for deck in decks {
         add_cards(found, idents, deck.ident, &deck.cards)?;
@@ -237,7 +242,8 @@ fn add_covered_of(
     target: Target,
 ) -> Result<(), AllocError>
     ensures { OnOk result (found.new.items
-        ≡ found.old.items ++ flat_map (λ d. map (ref_of idents.now) (filter (λ c. covers d.ident c target) d.cards)) decks.now) }
+        ≡ found.old.items
+        ++ flat_map (λ d. map (ref_of idents.now) (filter (λ c. covers d.ident c target) d.cards)) decks.now) }
 {
     for deck in decks {
         add_covered(found, idents, deck.ident, &deck.cards, target)?;
@@ -252,7 +258,8 @@ fn add_covered(
     cards: &[Card],
     target: Target,
 ) -> Result<(), AllocError>
-    ensures { OnOk result (found.new.items ≡ found.old.items ++ map (ref_of idents.now) (filter (λ c. covers deck c target) cards.now)) }
+    ensures { OnOk result (found.new.items
+        ≡ found.old.items ++ map (ref_of idents.now) (filter (λ c. covers deck c target) cards.now)) }
 {
     for card in cards {
         if covers(deck, card, target) {

@@ -56,7 +56,8 @@ impl TargetCounts {
 
     /// Sets the count of a target; memory alone can fail.
     pub fn put(&mut self, target: Target, count: u32) -> Result<(), AllocError>
-        ensures { OnOk result ((t : Target) → count_in self.new t ≡ (if is_same target t then count else count_in self.old t)) }
+        ensures { OnOk result ((t : Target) →
+            count_in self.new t ≡ (if is_same target t then count else count_in self.old t)) }
     {
         self.counts.insert(target, count)?;
         Ok(())
