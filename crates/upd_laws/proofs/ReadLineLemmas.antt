@@ -19,8 +19,8 @@ use Rattle.upd_deck.specs.Items.{PurgeFrom, SelPurge, PurDeck, Compile}
 use Rattle.upd_deck.specs.Reading.{CutLine, are_its_fields, card_ref_in, cut, first_field, is_allowed, is_from_name, last_of_two, two_cards_in, item_by}
 use Rattle.upd_deck.specs.Reading.{item_of, item_with, meaning, name_in, said, said_at, text_of, trimmed}
 use Rattle.upd_laws.specs.ReadRuns.{IsLineText, WereRead}
-use Rattle.upd_laws.proofs.SoundLists.{and_left, and_right, both}
-use Rattle.upd_laws.proofs.SoundOutcomes.{each_all, through, through_refusal, holds_of}
+use Rattle.upd_laws.proofs.SoundListLemmas.{and_left, and_right, both}
+use Rattle.upd_laws.proofs.SoundOutcomeLemmas.{each_all, through, through_refusal, holds_of}
 
 -- ---- how much is found
 

@@ -17,6 +17,7 @@ use Rattle.upd_core.specs.declared.ident.Kind.{Kind}
 use Rattle.upd_core.specs.declared.ident.Kind.TheVariants as kind
 use Rattle.upd_core.specs.declared.target.Target.{Target}
 use Rattle.upd_core.specs.Edits.{introduced, next_age, new_card, unheld, entered, without_idents, with_deck, with_card, with_yank, with_entries, purged}
+use Rattle.upd_core.specs.Edits.{entered_range}
 use Rattle.upd_core.specs.Edits.{purged_in, is_among}
 use Rattle.upd_core.specs.Library.{CardView, DeckView, LibraryView, empty, all_decks, is_deck, place_of, with_cards}
 use Rattle.upd_core.specs.Sound.{all_cards}
@@ -34,10 +35,10 @@ use Rattle.upd_apply.specs.Yanks.{sets_yanked, pairs_yanked, decks_yanked}
 use Rattle.upd_laws.specs.ReadRuns.{IsLineText, IsOfRun, IsMadeByRuns, WereRead}
 use Rattle.upd_laws.specs.Soundness.{after_run, after_runs}
 use Rattle.upd_laws.proofs.ReadLineLemmas.{BringsName, IsReadLine, run_read}
-use Rattle.upd_laws.proofs.SoundLists.{all_append, all_each, all_flat, all_map, all_weaker, more_all, at_first_all}
-use Rattle.upd_laws.proofs.SoundCards.{flat, changed, decks_with, idents_with, insert_more, more_with_yank, more_with_deck, all_purged, all_purged_in}
-use Rattle.upd_laws.proofs.SoundOutcomes.{through, through_need, through_refusal, through_grown, holds_of}
-use Rattle.upd_laws.proofs.SoundRuns.{line_is, reached_by}
+use Rattle.upd_laws.proofs.SoundListLemmas.{all_append, all_each, all_flat, all_map, all_weaker, more_all, at_first_all}
+use Rattle.upd_laws.proofs.SoundCardLemmas.{flat, changed, decks_with, idents_with, insert_more, more_with_yank, more_with_deck, all_purged, all_purged_in}
+use Rattle.upd_laws.proofs.SoundOutcomeLemmas.{through, through_need, through_refusal, through_grown, holds_of}
+use Rattle.upd_laws.proofs.SoundRunLemmas.{line_is, reached_by}
 
 -- ---- each edit
 
@@ -75,7 +76,7 @@ all_drop P (suc n) (x ∷ xs) all = all_drop P n xs all.1
 
 made_entries : (d from to : ℕ) (e : Entry) (l : LibraryView) → IsMadeByRuns l → IsMadeByRuns (with_entries d from to e l)
 made_entries d from to e l made =
-    made_with d (λ cards. take from cards ++ map (entered e) (drop from (take (to + 1) cards)) ++ drop (to + 1) cards) l
+    made_with d (entered_range from to e) l
     (λ cards all.
     let range = drop from (take (to + 1) cards) in
     let fit : AllByRecursion IsOfRun range = all_drop IsOfRun from (take (to + 1) cards) (all_take IsOfRun (to + 1) cards all) in

@@ -1,3 +1,4 @@
 pub mod PurgingBack
 pub mod Soundness
 pub mod ReadRuns
+pub mod YankLines

@@ -3,6 +3,7 @@
 //! Each function has an empty body, and each clause of it is a law about the definitions that other contracts cite.
 #![tactic(auto)]
 
+pub mod compile_lines;
 pub mod numbers;
 pub mod purging_back;
 pub mod read_runs;

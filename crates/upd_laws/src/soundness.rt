@@ -1,3 +1,4 @@
+//! What holds of every library that runs can reach, and of every state on the way.
 ghost use Rattle.std.specs.Prelude.{◌≡◌, ℕ, Bool, IsTrue, List, Ok};
 ghost use Rattle.upd_core.specs.Edits.{purged};
 ghost use Rattle.upd_core.specs.Library.{LibraryView, empty};

@@ -1,5 +1,5 @@
 use Rattle.upd_laws.proofs.numbers.next_numbers_count_cards.Goals as goal
-use Rattle.upd_laws.proofs.SoundRuns.{hand_counted, end_counted}
+use Rattle.upd_laws.proofs.SoundRunLemmas.{hand_counted, end_counted}
 
 pub returns-clause-hand : goal.returns-clause-hand
 returns-clause-hand c = hand_counted

@@ -5,10 +5,10 @@ use Rattle.upd_core.specs.Library.{LibraryView}
 use Rattle.upd_core.specs.Sound.{IsSound}
 use Rattle.upd_deck.specs.Items.{LineView}
 use Rattle.upd_laws.specs.PurgingBack.{IsAgain, LeadTo}
-use Rattle.upd_laws.proofs.BackLibraries.{Grows}
-use Rattle.upd_laws.proofs.BackOld.{old_library}
-use Rattle.upd_laws.proofs.BackSteps.{all_applied_grows}
-use Rattle.upd_laws.proofs.BackAgain.{again, status_again}
+use Rattle.upd_laws.proofs.BackLibraryLemmas.{Grows}
+use Rattle.upd_laws.proofs.BackOldLemmas.{old_library}
+use Rattle.upd_laws.proofs.BackStepLemmas.{all_applied_grows}
+use Rattle.upd_laws.proofs.BackAgainLemmas.{again, status_again}
 use Rattle.upd_laws.proofs.purging_back.purging_back_undoes_runs.Goals as goal
 
 led : (runs : List (List LineView)) (before after : LibraryView) → IsSound before → LeadTo runs before after

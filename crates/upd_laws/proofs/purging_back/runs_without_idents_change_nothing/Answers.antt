@@ -1,8 +1,8 @@
 use Rattle.std.proofs.Common.{◌+◌, length, arith}
 use Rattle.std.proofs.lemmas.Result.{IfOk-at_ok}
-use Rattle.upd_laws.proofs.BackLibraries.{Grows}
-use Rattle.upd_laws.proofs.BackSteps.{all_applied_grows}
-use Rattle.upd_laws.proofs.BackAgain.{same_library}
+use Rattle.upd_laws.proofs.BackLibraryLemmas.{Grows}
+use Rattle.upd_laws.proofs.BackStepLemmas.{all_applied_grows}
+use Rattle.upd_laws.proofs.BackAgainLemmas.{same_library}
 use Rattle.upd_laws.proofs.purging_back.runs_without_idents_change_nothing.Goals as goal
 
 pub returns : goal.returns

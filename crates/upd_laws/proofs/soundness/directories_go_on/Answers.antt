@@ -1,7 +1,7 @@
 use Rattle.upd_laws.proofs.soundness.directories_go_on.Goals as goal
-use Rattle.upd_laws.proofs.SoundIdents.{continues_unheld}
-use Rattle.upd_laws.proofs.SoundLeads.{step_goes}
-use Rattle.upd_laws.proofs.SoundRuns.{run_goes, runs_go}
+use Rattle.upd_laws.proofs.SoundIdentLemmas.{continues_unheld}
+use Rattle.upd_laws.proofs.SoundLeadLemmas.{step_goes}
+use Rattle.upd_laws.proofs.SoundRunLemmas.{run_goes, runs_go}
 
 pub returns-clause-line : goal.returns-clause-line
 returns-clause-line c = step_goes

@@ -1,5 +1,5 @@
 use Rattle.upd_laws.proofs.soundness.lines_keep_states_sound.Goals as goal
-use Rattle.upd_laws.proofs.SoundRuns.{started_sound, step_sound, steps_sound}
+use Rattle.upd_laws.proofs.SoundRunLemmas.{started_sound, step_sound, steps_sound}
 
 pub returns-clause-started : goal.returns-clause-started
 returns-clause-started c = started_sound

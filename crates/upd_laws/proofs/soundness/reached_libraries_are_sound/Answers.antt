@@ -2,7 +2,7 @@ use Rattle.upd_laws.proofs.soundness.reached_libraries_are_sound.Goals as goal
 use Rattle.upd_core.specs.Library.{empty}
 use Rattle.upd_laws.specs.Soundness.{after_runs}
 use Rattle.upd_core.specs.Sound.{IsSound}
-use Rattle.upd_laws.proofs.SoundRuns.{empty_sound, runs_sound}
+use Rattle.upd_laws.proofs.SoundRunLemmas.{empty_sound, runs_sound}
 
 pub returns-clause-empty : goal.returns-clause-empty
 returns-clause-empty c = empty_sound

@@ -1,7 +1,7 @@
 use Rattle.std.proofs.Common.{refl}
 use Rattle.upd_core.specs.Library.{empty}
-use Rattle.upd_laws.proofs.SoundLimits.{purged_within}
-use Rattle.upd_laws.proofs.SoundRuns.{run_within, runs_within}
+use Rattle.upd_laws.proofs.SoundLimitLemmas.{purged_within}
+use Rattle.upd_laws.proofs.SoundRunLemmas.{run_within, runs_within}
 use Rattle.upd_laws.proofs.soundness.reached_libraries_are_within_limits.Goals as goal
 
 pub returns-clause-run : goal.returns-clause-run

@@ -1,6 +1,6 @@
 use Rattle.upd_laws.proofs.soundness.runs_keep_libraries_sound.Goals as goal
-use Rattle.upd_laws.proofs.SoundEdits.{purged_sound}
-use Rattle.upd_laws.proofs.SoundRuns.{run_sound}
+use Rattle.upd_laws.proofs.SoundEditLemmas.{purged_sound}
+use Rattle.upd_laws.proofs.SoundRunLemmas.{run_sound}
 
 pub returns-clause-run : goal.returns-clause-run
 returns-clause-run c = run_sound

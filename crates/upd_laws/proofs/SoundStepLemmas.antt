@@ -1,7 +1,9 @@
 -- Each line keeps a state sound.
-use Rattle.std.proofs.Common.{◌≡◌, ℕ, ◌+◌, ◌-◌, ◌<◌, ◌≤◌, Bool, true, false, not, ◌||◌, List, [], ◌∷◌, ◌++◌, map, length, take, drop, inl, inr, refl, sym, ap, ◌∙◌, subst, arith}
+use Rattle.std.proofs.Common.{◌≡◌, ℕ, ◌+◌, ◌-◌, ◌<◌, ◌≤◌, Bool, true, false, not, ◌||◌, List, [], ◌∷◌, ◌++◌, map, length, take, drop, inl, inr, refl, sym}
+use Rattle.std.proofs.Common.{ap, ◌∙◌, subst, arith}
 use Rattle.std.proofs.lemmas.Bool.Decides.{nat_tests}
 use Rattle.std.proofs.lemmas.List.Edits.{length-insert}
+use Rattle.std.proofs.lemmas.Option.{slice_get_within}
 use Rattle.std.specs.Prelude.{Option, Some, None, is_some, Result, Ok, ◌==◌, ◌⊎◌, nat_lt, insert, IsTrue}
 use Rattle.std.specs.Option.{IfSome}
 use Rattle.std.specs.List.{AllByRecursion, AllZip}
@@ -23,20 +25,21 @@ use Rattle.upd_apply.specs.declared.Hand.{Hand}
 use Rattle.upd_apply.specs.declared.state.Spot.{Spot}
 use Rattle.upd_apply.specs.declared.state.Spot.TheVariants.{Nowhere, End, Inside}
 use Rattle.upd_apply.specs.declared.state.State.{State}
-use Rattle.upd_apply.specs.Step.{new_name, set_begun, deck_begun, behind, is_deck_card, placed_after, placed_before, switched, text_put, yank_put, ended, purged_in_all}
+use Rattle.upd_apply.specs.Step.{new_name, set_begun, deck_begun, behind, is_deck_card, placed_after, placed_before, switched, text_put, yank_put, ended}
+use Rattle.upd_apply.specs.Step.{purged_in_all}
 use Rattle.upd_apply.specs.Names.{is_reserved, known_deck, known_ident}
 use Rattle.upd_apply.specs.Purges.{AgesIn, pair_ages, pairs_purged}
 use Rattle.upd_laws.specs.Soundness.{IsNext, IsInHand, IsHandSound, IsAtEnd, IsSpotSound, IsSoundState}
-use Rattle.upd_laws.proofs.SoundOutcomes.{each_all, through, through_need, through_refusal, through_grown, holds_of}
-use Rattle.upd_laws.proofs.SoundLists.{same_number, is_same_number, other_number, any_last, all_append, all_weaker, HasMore, zip_all, zip_length}
-use Rattle.upd_laws.proofs.SoundIdents.{held_within, held_more, held_last, held_deck_last, held_deck_held, not_some}
-use Rattle.upd_laws.proofs.SoundCards.{IsEntered, entered_some, idents_with, yanks_with, yanks_kept, standing_with, cards_with, standing, more_with_card, more_with_yank, more_with_deck, zip_with_entries, flat}
-use Rattle.upd_laws.proofs.SoundYanks.{same_ident, AreYanked}
-use Rattle.upd_laws.proofs.SoundEdits.{none_beyond, introduced_sound, cards_below, deck_sound, card_sound, yank_sound, entries_sound, purged_in_sound}
-use Rattle.upd_laws.proofs.SoundNumbers.{next_first, next_own, next_other, next_entered, next_new}
-use Rattle.upd_laws.proofs.SoundPlaces.{place_within}
+use Rattle.upd_laws.proofs.SoundOutcomeLemmas.{each_all, through, through_need, through_refusal, through_grown, holds_of}
+use Rattle.upd_laws.proofs.SoundListLemmas.{same_number, is_same_number, other_number, any_last, all_append, all_weaker, HasMore, zip_all, zip_length}
+use Rattle.upd_laws.proofs.SoundIdentLemmas.{held_within, held_more, held_last, held_deck_last, held_deck_held, not_some}
+use Rattle.upd_laws.proofs.SoundCardLemmas.{IsEntered, entered_some, idents_with, yanks_with, yanks_kept, standing_with, cards_with, standing, more_with_card}
+use Rattle.upd_laws.proofs.SoundCardLemmas.{more_with_yank, more_with_deck, zip_with_entries, flat}
+use Rattle.upd_laws.proofs.SoundYankLemmas.{same_ident, AreYanked}
+use Rattle.upd_laws.proofs.SoundEditLemmas.{none_beyond, introduced_sound, cards_below, deck_sound, card_sound, yank_sound, entries_sound, purged_in_sound}
+use Rattle.upd_laws.proofs.SoundNumberLemmas.{next_first, next_own, next_other, next_entered, next_new}
 use Rattle.upd_core.proofs.ApartLemmas.{all_front}
-use Rattle.upd_core.proofs.FoundLemmas.{deck_ages_apart}
+use Rattle.upd_core.proofs.FoundLemmas.{card_of_place}
 
 -- ---- new idents
 
@@ -49,7 +52,8 @@ name_free name l b h = through_refusal (is_reserved name) fault.Reserved _ b _ h
 
 -- no yank card is younger than an age that no card is beyond
 yanks_below : (l : LibraryView) (z : ℕ) → length l.idents ≤ z → IsSound l → AllByRecursion (λ c. c.ident ≤ z) l.yanks
-yanks_below l z below s = all_weaker (λ (c : CardView). c.ident ≤ length l.idents) _ l.yanks (λ c h. omega arith) (all_front _ l.yanks (flat l.decks) (none_beyond l s))
+yanks_below l z below s =
+    all_weaker (λ (c : CardView). c.ident ≤ length l.idents) _ l.yanks (λ c h. omega arith) (all_front _ l.yanks (flat l.decks) (none_beyond l s))
 
 pub set_sound : (name : List ℕ) (s t : State) → IsSoundState s → set_begun name s ≡ Ok t → IsSoundState t
 set_sound name s t sound h =
@@ -63,13 +67,16 @@ set_sound name s t sound h =
     i : Ident
     i = record { name = name; age = next_age s.library; kind = kind.Set; noprop = false; held = true }
 
-    after : (held_named name s.library.idents ≡ None) × (is_reserved name ≡ false) → IsSoundState (record { library = l; hand = Some (record { ident = next_age s.library; next = 1 }); spot = Nowhere })
+    after : (held_named name s.library.idents ≡ None) × (is_reserved name ≡ false)
+        → IsSoundState (record { library = l; hand = Some (record { ident = next_age s.library; next = 1 }); spot = Nowhere })
     after free = record {
       library = introduced_sound name s.library sound.library free.0 free.1;
       hand = record {
         held = held_last s.library.idents i refl;
         youngest = yanks_below s.library (next_age s.library) (omega arith) sound.library;
-        next = next_first (next_age s.library) l (all_weaker (λ (c : CardView). c.ident ≤ length s.library.idents) _ (all_cards s.library) (λ c h e. absurd (omega arith)) (none_beyond s.library sound.library));
+        next =
+            next_first (next_age s.library) l (all_weaker (λ (c : CardView). c.ident ≤ length s.library.idents) _ (all_cards s.library)
+            (λ c h e. absurd (omega arith)) (none_beyond s.library sound.library));
       };
       spot = tt;
     }
@@ -80,17 +87,20 @@ hand_moved : (hand : Option Hand) (l m : LibraryView) → ((h : Hand) → IsInHa
 hand_moved None l m k h = tt
 hand_moved (Some hand) l m k h = k hand h
 
-hand_apart : (hand : Option Hand) (d : ℕ) (l m : LibraryView) → ((h : Hand) → (h.ident ≡ d → ⊥) → IsInHand h l → IsInHand h m) → IfSome hand (λ h. h.ident ≡ d → ⊥) → IsHandSound hand l → IsHandSound hand m
+hand_apart : (hand : Option Hand) (d : ℕ) (l m : LibraryView) → ((h : Hand) → (h.ident ≡ d → ⊥) → IsInHand h l → IsInHand h m)
+    → IfSome hand (λ h. h.ident ≡ d → ⊥) → IsHandSound hand l → IsHandSound hand m
 hand_apart None d l m k other h = tt
 hand_apart (Some hand) d l m k other h = k hand other h
 
-hand_is_not : (hand : Option Hand) (l : LibraryView) (d : ℕ) → ((h : Hand) → IsInHand h l → h.ident ≡ d → ⊥) → IsHandSound hand l → IfSome hand (λ h. h.ident ≡ d → ⊥)
+hand_is_not : (hand : Option Hand) (l : LibraryView) (d : ℕ) → ((h : Hand) → IsInHand h l → h.ident ≡ d → ⊥) → IsHandSound hand l
+    → IfSome hand (λ h. h.ident ≡ d → ⊥)
 hand_is_not None l d k h = tt
 hand_is_not (Some hand) l d k h = k hand h
 
 -- ---- a new deck
 
-pub deck_begun_sound : (name : List ℕ) (sort : Kind) (noprop : Bool) (text : List ℕ) (s t : State) → is_deck_kind sort ≡ true → IsSoundState s → deck_begun name sort noprop text s ≡ Ok t → IsSoundState t
+pub deck_begun_sound : (name : List ℕ) (sort : Kind) (noprop : Bool) (text : List ℕ) (s t : State) → is_deck_kind sort ≡ true → IsSoundState s
+    → deck_begun name sort noprop text s ≡ Ok t → IsSoundState t
 deck_begun_sound name sort noprop text s t deck sound h =
     through (new_name name s.library) _ t (IsSoundState t) h (λ b e h1.
     through_grown m _ t (IsSoundState t) h1 (λ h2. holds_of IsSoundState _ t h2 (after (name_free name s.library b e))))
@@ -133,12 +143,18 @@ deck_begun_sound name sort noprop text s t deck sound h =
       spot = record {
         held = held;
         standing = any_last (is_deck a) (all_decks l) d (is_same_number a a refl);
-        next = next_own a 1 c l m (more_with_deck a c l) refl refl (next_first a l (all_weaker (λ (b : CardView). b.ident < a) _ (all_cards l) (λ b h e. absurd (omega arith)) (cards_below s.library sound.library)));
+        next =
+            next_own a 1 c l m (more_with_deck a c l) refl refl
+            (next_first a l (all_weaker (λ (b : CardView). b.ident < a) _ (all_cards l) (λ b h e. absurd (omega arith)) (cards_below s.library sound.library)));
         other = hand_is_not s.hand s.library a in_hand_below sound.hand;
       };
     }
 
 -- ---- the place of text
+
+-- a card that is found stands in the deck that is named
+place_within : (card : CardRef) (l : LibraryView) (p : Place) → IsSound l → place_of card l ≡ Some p → p.index < length (cards_of p.deck l)
+place_within card l p sound e = let found = card_of_place l card p sound e in slice_get_within (cards_of p.deck l) p.index found.0 found.1
 
 behind_within : (n i : ℕ) → i < n → n - (i + 1) < n
 behind_within n i h = omega arith
@@ -151,7 +167,7 @@ after_sound card s t sound h =
     holds_of IsSoundState _ t h3 (record {
       library = sound.library;
       hand = sound.hand;
-      spot = inr (behind_within (length (cards_of p.deck s.library)) p.index (place_within card s.library p (deck_ages_apart s.library sound.library) f));
+      spot = inr (behind_within (length (cards_of p.deck s.library)) p.index (place_within card s.library p sound.library f));
     }))))
 
 pub before_sound : (card : CardRef) (s t : State) → IsSoundState s → placed_before card s ≡ Ok t → IsSoundState t
@@ -160,7 +176,7 @@ before_sound card s t sound h =
     through_need fault.CardUnknown (place_of card s.library) _ t (IsSoundState t) h1 (λ p f h2.
     through_refusal (p.deck == 0) fault.YankText _ t (IsSoundState t) h2 (λ g h3.
     through_refusal (is_deck_card p) fault.DeckCard _ t (IsSoundState t) h3 (λ k h4.
-    let within = place_within card s.library p (deck_ages_apart s.library sound.library) f in
+    let within = place_within card s.library p sound.library f in
     holds_of IsSoundState _ t h4 (record {
       library = sound.library;
       hand = sound.hand;
@@ -197,13 +213,16 @@ switched_sound active first last s t sound h =
     holds_of IsSoundState _ t h6 (after hand p q e
     (same_number p.deck q.deck (not_or (p.deck == q.deck) (nat_lt q.index p.index) k))
     (in_order p q (or_not (p.deck == q.deck) (nat_lt q.index p.index) k))
-    (place_within last s.library q (deck_ages_apart s.library sound.library) g))))))))
+    (place_within last s.library q sound.library g))))))))
   where
     in_order : (p q : Place) → nat_lt q.index p.index ≡ false → p.index ≤ q.index
     in_order p q e = grind (arith, nat_tests)
 
     after : (hand : Hand) (p q : Place) → s.hand ≡ Some hand → p.deck ≡ q.deck → p.index ≤ q.index → q.index < length (cards_of q.deck s.library)
-        → IsSoundState (record s { library = with_entries p.deck p.index q.index (record { ident = hand.ident; active = active }) s.library; spot = Inside q.deck (behind q s.library) })
+        → IsSoundState (record s {
+          library = with_entries p.deck p.index q.index (record { ident = hand.ident; active = active }) s.library;
+          spot = Inside q.deck (behind q s.library);
+        })
     after hand p q e deck order within =
         let was : IsInHand hand s.library = subst (λ o. IsHandSound o s.library) e sound.hand in
         record {
@@ -211,7 +230,8 @@ switched_sound active first last s t sound h =
           hand = subst (λ o. IsHandSound o l) (sym e) (record {
             held = subst (λ idents. IsTrue (is_held idents hand.ident)) (sym (idents_with p.deck change s.library)) was.held;
             youngest = yanks_kept (λ (c : CardView). c.ident ≤ hand.ident) p.deck change s.library
-                (zip_all (IsEntered entry) (λ (c : CardView). c.ident ≤ hand.ident) (λ c. c.ident ≤ hand.ident) s.library.yanks _ (λ x y r h. rw (same_ident entry x y r) h) (some s.library.yanks) was.youngest) was.youngest;
+                (zip_all (IsEntered entry) (λ (c : CardView). c.ident ≤ hand.ident) (λ c. c.ident ≤ hand.ident) s.library.yanks _
+                (λ x y r h. rw (same_ident entry x y r) h) (some s.library.yanks) was.youngest) was.youngest;
             next = next_entered hand.ident hand.next entry s.library l (zip_with_entries p.deck p.index q.index entry s.library order) was.next;
           });
           spot = inr (subst (λ d. behind q s.library < length (cards_of d l)) deck same_deck);
@@ -233,14 +253,17 @@ switched_sound active first last s t sound h =
         inside = subst (λ d. q.index < length (cards_of d s.library)) (sym deck) within
 
         same_length : length (cards_of p.deck l) ≡ length (cards_of q.deck s.library)
-        same_length = ap length (cards_with p.deck change s.library (standing p.deck s.library q.index inside)) ∙ zip_length (IsEntered entry) _ _ (some (cards_of p.deck s.library)) ∙ ap (λ d. length (cards_of d s.library)) deck
+        same_length =
+            ap length (cards_with p.deck change s.library (standing p.deck s.library q.index inside)) ∙ zip_length (IsEntered entry) _ _
+            (some (cards_of p.deck s.library)) ∙ ap (λ d. length (cards_of d s.library)) deck
 
         same_deck : behind q s.library < length (cards_of p.deck l)
         same_deck = rw same_length (behind_within (length (cards_of q.deck s.library)) q.index within)
 
 -- ---- text
 
-hand_card : (d after : ℕ) (c : CardView) (l : LibraryView) (h : Hand) (n : ℕ) → (d ≡ 0 → ⊥) → IsInHand h l → IsNext h.ident n (with_card d after c l) → IsInHand (record { ident = h.ident; next = n }) (with_card d after c l)
+hand_card : (d after : ℕ) (c : CardView) (l : LibraryView) (h : Hand) (n : ℕ) → (d ≡ 0 → ⊥) → IsInHand h l → IsNext h.ident n (with_card d after c l)
+    → IsInHand (record { ident = h.ident; next = n }) (with_card d after c l)
 hand_card d after c l h n other in_hand next =
     let change : List CardView → List CardView = λ cards. insert cards (length cards - after) c in
     record {
@@ -287,7 +310,8 @@ end_sound text d n s t sound at h = through_grown m _ t (IsSoundState t) h (λ h
     }
 
 -- inside a deck
-inside_sound : (text : List ℕ) (d after : ℕ) (s t : State) → IsSoundState s → s.spot ≡ Inside d after → (d ≡ 0) ⊎ (after < length (cards_of d s.library)) → text_put text (Inside d after) s ≡ Ok t → IsSoundState t
+inside_sound : (text : List ℕ) (d after : ℕ) (s t : State) → IsSoundState s → s.spot ≡ Inside d after → (d ≡ 0) ⊎ (after < length (cards_of d s.library))
+    → text_put text (Inside d after) s ≡ Ok t → IsSoundState t
 inside_sound text d after s t sound spot place h =
     through_need fault.TextNowhere s.hand _ t (IsSoundState t) h (λ hand e h1.
     through_refusal (d == 0) fault.YankText _ t (IsSoundState t) h1 (λ f h2.
@@ -302,7 +326,10 @@ inside_sound text d after s t sound spot place h =
     within f (inr inside) = inside
 
     put : (hand : Hand) → s.hand ≡ Some hand → (d ≡ 0 → ⊥) → after < length (cards_of d l)
-        → IsSoundState (record s { library = with_card d after (new_card hand.ident hand.next text []) l; hand = Some (record { ident = hand.ident; next = hand.next + 1 }) })
+        → IsSoundState (record s {
+          library = with_card d after (new_card hand.ident hand.next text []) l;
+          hand = Some (record { ident = hand.ident; next = hand.next + 1 });
+        })
     put hand e other inside =
         let was : IsInHand hand l = subst (λ o. IsHandSound o l) e sound.hand in
         let more = more_with_card d after c l stands_there in
@@ -338,7 +365,8 @@ put_sound text s t sound h = text_sound text s t s.spot refl sound h
 
 -- ---- yanks
 
-pub yank_put_sound : (text : List ℕ) (targets : ℕ → LibraryView → Result (List Target) FaultKind) (s t : State) → ((z : ℕ) (l : LibraryView) (found : List Target) → AreAgedFrom 1 l.idents → targets z l ≡ Ok found → AreYanked z found)
+pub yank_put_sound : (text : List ℕ) (targets : ℕ → LibraryView → Result (List Target) FaultKind) (s t : State)
+    → ((z : ℕ) (l : LibraryView) (found : List Target) → AreAgedFrom 1 l.idents → targets z l ≡ Ok found → AreYanked z found)
     → IsSoundState s → yank_put text targets s ≡ Ok t → IsSoundState t
 yank_put_sound text targets s t are sound h =
     through_need fault.NoIdent s.hand _ t (IsSoundState t) h (λ hand e h1.
@@ -350,13 +378,19 @@ yank_put_sound text targets s t are sound h =
     l = s.library
 
     put : (hand : Hand) (found : List Target) → IsInHand hand l → AreYanked hand.ident found
-        → IsSoundState (record { library = with_yank (new_card hand.ident hand.next text found) l; hand = Some (record { ident = hand.ident; next = hand.next + 1 }); spot = Nowhere })
+        → IsSoundState (record {
+          library = with_yank (new_card hand.ident hand.next text found) l;
+          hand = Some (record { ident = hand.ident; next = hand.next + 1 });
+          spot = Nowhere;
+        })
     put hand found was yanked = record {
       library = yank_sound hand.ident hand.next text found l sound.library (next_new hand.ident hand.next text found l was.held was.next) was.youngest yanked;
       hand = record {
         held = was.held;
         youngest = all_append (λ (c : CardView). c.ident ≤ hand.ident) l.yanks (new_card hand.ident hand.next text found ∷ []) was.youngest (omega arith, tt);
-        next = next_own hand.ident hand.next (new_card hand.ident hand.next text found) l (with_yank (new_card hand.ident hand.next text found) l) (more_with_yank (new_card hand.ident hand.next text found) l) refl refl was.next;
+        next =
+            next_own hand.ident hand.next (new_card hand.ident hand.next text found) l (with_yank (new_card hand.ident hand.next text found) l)
+            (more_with_yank (new_card hand.ident hand.next text found) l) refl refl was.next;
       };
       spot = tt;
     }

@@ -1,5 +1,6 @@
 -- What each edit does to the cards of a library.
-use Rattle.std.proofs.Common.{◌≡◌, ℕ, zero, suc, ◌+◌, ◌-◌, ◌<◌, ◌≤◌, Bool, true, false, not, ◌||◌, List, [], ◌∷◌, ◌++◌, map, length, take, drop, inl, inr, refl, sym, ap, ◌∙◌, subst, arith, append_assoc}
+use Rattle.std.proofs.Common.{◌≡◌, ℕ, zero, suc, ◌+◌, ◌-◌, ◌<◌, ◌≤◌, Bool, true, false, not, ◌||◌, List, [], ◌∷◌, ◌++◌, map, length, take, drop, inl, inr}
+use Rattle.std.proofs.Common.{refl, sym, ap, ◌∙◌, subst, arith, append_assoc}
 use Rattle.std.proofs.lemmas.Bool.{ne_eqb}
 use Rattle.std.proofs.lemmas.List.{take-append-drop}
 use Rattle.std.specs.Prelude.{Some, ◌==◌, ◌⊎◌, insert, IsTrue}
@@ -7,12 +8,16 @@ use Rattle.std.specs.Option.{option_map_or}
 use Rattle.std.specs.List.{list_any, find, filter, flat_map, AllByRecursion, AllZip}
 use Rattle.upd_core.specs.declared.card.Entry.{Entry}
 use Rattle.upd_core.specs.declared.ident.Ident.{Ident}
-use Rattle.upd_core.specs.Edits.{unheld, entered, without_entries, without_idents, deck_without, decks_without, purged, with_card, with_deck, with_yank, with_entries}
+use Rattle.upd_core.specs.Edits.{unheld, entered, without_entries, without_idents, deck_without, decks_without, purged, with_card, with_deck, with_yank}
+use Rattle.upd_core.specs.Edits.{entered_range}
+use Rattle.upd_core.specs.Edits.{with_entries}
 use Rattle.upd_core.specs.First.{at_first}
 use Rattle.upd_core.specs.Library.{CardView, DeckView, LibraryView, all_decks, cards_of, is_deck, with_cards}
 use Rattle.upd_core.specs.Sound.{is_held, stands, BeginsOn, BeginsWithItsOwn, HasNoTargets, IsOfHeld, key_of, all_cards}
-use Rattle.upd_laws.proofs.SoundLists.{or_cases, or_left, or_right, same_number, is_same_number, other_number, all_append, all_each, all_flat, HasMore, more_front, IsPart, none, fewer, kept, part_append, part_without, zip_same, at_first_all, at_first_any, at_first_find, at_first_more, at_first_zip}
-use Rattle.upd_laws.proofs.SoundIdents.{held_still}
+use Rattle.upd_laws.proofs.SoundListLemmas.{or_cases, or_left, or_right, same_number, is_same_number, other_number, all_append, all_each, all_flat, HasMore}
+use Rattle.upd_laws.proofs.SoundListLemmas.{more_front, IsPart, none, fewer, kept, part_append, part_without, zip_same, at_first_all, at_first_any}
+use Rattle.upd_laws.proofs.SoundListLemmas.{at_first_find, at_first_more, at_first_zip}
+use Rattle.upd_laws.proofs.SoundIdentLemmas.{held_still}
 use Rattle.upd_core.proofs.ApartLemmas.{all_front, all_back}
 
 -- the cards of decks
@@ -26,7 +31,8 @@ changed change d = record d { cards = change d.cards }
 -- ---- the cards of one deck changed
 
 -- `YANK$$$` is the first of all decks
-pub decks_with : (age : ℕ) (change : List CardView → List CardView) (l : LibraryView) → all_decks (with_cards age change l) ≡ at_first (is_deck age) (changed change) (all_decks l)
+pub decks_with : (age : ℕ) (change : List CardView → List CardView) (l : LibraryView)
+    → all_decks (with_cards age change l) ≡ at_first (is_deck age) (changed change) (all_decks l)
 decks_with age change l = go (age == 0) refl
   where
     front : DeckView
@@ -54,7 +60,8 @@ rest_with age change l = go (age == 0) refl
 pub yanks_with : (age : ℕ) (change : List CardView → List CardView) (l : LibraryView) → (age ≡ 0 → ⊥) → (with_cards age change l).yanks ≡ l.yanks
 yanks_with age change l other = let e : (age == 0) ≡ false = ne_eqb age 0 other in rw e refl
 
-pub yanks_kept : (P : CardView → Type 0) (age : ℕ) (change : List CardView → List CardView) (l : LibraryView) → AllByRecursion P (change l.yanks) → AllByRecursion P l.yanks → AllByRecursion P (with_cards age change l).yanks
+pub yanks_kept : (P : CardView → Type 0) (age : ℕ) (change : List CardView → List CardView) (l : LibraryView) → AllByRecursion P (change l.yanks)
+    → AllByRecursion P l.yanks → AllByRecursion P (with_cards age change l).yanks
 yanks_kept P age change l after before = go (age == 0) refl
   where
     go : (b : Bool) → (age == 0) ≡ b → AllByRecursion P (with_cards age change l).yanks
@@ -94,7 +101,8 @@ find_standing test (x ∷ xs) e = go (test x) refl (find_standing test xs)
     go true f rest = (x, rw f refl)
     go false f rest = let r = rest (rw f at e) in (r.0, rw f r.1)
 
-pub cards_with : (age : ℕ) (change : List CardView → List CardView) (l : LibraryView) → stands age l ≡ true → cards_of age (with_cards age change l) ≡ change (cards_of age l)
+pub cards_with : (age : ℕ) (change : List CardView → List CardView) (l : LibraryView) → stands age l ≡ true
+    → cards_of age (with_cards age change l) ≡ change (cards_of age l)
 cards_with age change l e =
     let found = find_standing (is_deck age) (all_decks l) e in
     let after : find (is_deck age) (all_decks (with_cards age change l)) ≡ Some (changed change found.0) =
@@ -109,7 +117,9 @@ standing age l n h = go (all_decks l) h
     go [] h = absurd (omega arith)
     go (d ∷ ds) h = one (is_deck age d) refl (go ds)
       where
-        one : (b : Bool) → is_deck age d ≡ b → (n < length (option_map_or (λ (d : DeckView). d.cards) (find (is_deck age) ds) []) → list_any (is_deck age) ds ≡ true) → list_any (is_deck age) (d ∷ ds) ≡ true
+        one : (b : Bool) → is_deck age d ≡ b
+            → (n < length (option_map_or (λ (d : DeckView). d.cards) (find (is_deck age) ds) []) → list_any (is_deck age) ds ≡ true)
+            → list_any (is_deck age) (d ∷ ds) ≡ true
         one true e rest = rw e refl
         one false e rest = rw e (rest (rw e at h))
 
@@ -121,7 +131,8 @@ insert_more c cards n = record { front = take n cards; back = drop n cards; was 
 pub more_with_card : (d behind : ℕ) (c : CardView) (l : LibraryView) → stands d l ≡ true → HasMore c (all_cards l) (all_cards (with_card d behind c l))
 more_with_card d behind c l e =
     let change : List CardView → List CardView = λ cards. insert cards (length cards - behind) c in
-    subst (λ ds. HasMore c (all_cards l) (flat ds)) (sym (decks_with d change l)) (at_first_more (λ (e : DeckView). e.cards) (is_deck d) (changed change) c (all_decks l) e (λ x. insert_more c x.cards (length x.cards - behind)))
+    subst (λ ds. HasMore c (all_cards l) (flat ds)) (sym (decks_with d change l))
+    (at_first_more (λ (e : DeckView). e.cards) (is_deck d) (changed change) c (all_decks l) e (λ x. insert_more c x.cards (length x.cards - behind)))
 
 pub more_with_yank : (c : CardView) (l : LibraryView) → HasMore c (all_cards l) (all_cards (with_yank c l))
 more_with_yank c l = record { front = l.yanks; back = flat l.decks; was = refl; is = append_assoc l.yanks (c ∷ []) (flat l.decks) }
@@ -141,7 +152,8 @@ more_with_deck a c l = more_front c (flat l.decks) (flat (l.decks ++ d ∷ [])) 
 abbrev pub IsEntered : Entry → CardView → CardView → Type 0
 IsEntered e x y = (y ≡ x) ⊎ (y ≡ entered e x)
 
-pub entered_some : (e : Entry) (from to : ℕ) (cards : List CardView) → from ≤ to → AllZip (IsEntered e) cards (take from cards ++ map (entered e) (drop from (take to cards)) ++ drop to cards)
+pub entered_some : (e : Entry) (from to : ℕ) (cards : List CardView) → from ≤ to
+    → AllZip (IsEntered e) cards (take from cards ++ map (entered e) (drop from (take to cards)) ++ drop to cards)
 entered_some e zero zero cards h = zip_same (IsEntered e) (λ c. inl refl) cards
 entered_some e zero (suc to) [] h = tt
 entered_some e zero (suc to) (c ∷ cards) h = (inr refl, entered_some e zero to cards (omega arith))
@@ -151,9 +163,10 @@ entered_some e (suc from) (suc to) (c ∷ cards) h = (inl refl, entered_some e f
 
 pub zip_with_entries : (d from to : ℕ) (e : Entry) (l : LibraryView) → from ≤ to → AllZip (IsEntered e) (all_cards l) (all_cards (with_entries d from to e l))
 zip_with_entries d from to e l h =
-    let change : List CardView → List CardView = λ cards. take from cards ++ map (entered e) (drop from (take (to + 1) cards)) ++ drop (to + 1) cards in
+    let change : List CardView → List CardView = entered_range from to e in
     subst (λ ds. AllZip (IsEntered e) (all_cards l) (flat ds)) (sym (decks_with d change l))
-    (at_first_zip (IsEntered e) (λ (x : DeckView). x.cards) (is_deck d) (changed change) (all_decks l) (λ c. inl refl) (λ x. entered_some e from (to + 1) x.cards (omega arith)))
+    (at_first_zip (IsEntered e) (λ (x : DeckView). x.cards) (is_deck d) (changed change) (all_decks l) (λ c. inl refl)
+    (λ x. entered_some e from (to + 1) x.cards (omega arith)))
 
 -- ---- a purge
 
@@ -178,7 +191,8 @@ pub keys_decks : (gone : ℕ → Bool) (ds : List DeckView) → IsPart key_of (f
 keys_decks gone [] = none
 keys_decks gone (d ∷ ds) = go (gone d.ident) refl (keys_decks gone ds)
   where
-    go : (b : Bool) → gone d.ident ≡ b → IsPart key_of (flat ds) (flat (decks_without gone ds)) → IsPart key_of (flat (d ∷ ds)) (flat (decks_without gone (d ∷ ds)))
+    go : (b : Bool) → gone d.ident ≡ b → IsPart key_of (flat ds) (flat (decks_without gone ds))
+        → IsPart key_of (flat (d ∷ ds)) (flat (decks_without gone (d ∷ ds)))
     go true e rest = rw e (part_without key_of d.cards rest)
     go false e rest = rw e (part_append key_of (keys_without gone d.cards) rest)
 
@@ -186,11 +200,13 @@ pub ages_decks : (gone : ℕ → Bool) (ds : List DeckView) → IsPart (λ (d : 
 ages_decks gone [] = none
 ages_decks gone (d ∷ ds) = go (gone d.ident) refl (ages_decks gone ds)
   where
-    go : (b : Bool) → gone d.ident ≡ b → IsPart (λ (d : DeckView). d.ident) ds (decks_without gone ds) → IsPart (λ (d : DeckView). d.ident) (d ∷ ds) (decks_without gone (d ∷ ds))
+    go : (b : Bool) → gone d.ident ≡ b → IsPart (λ (d : DeckView). d.ident) ds (decks_without gone ds)
+        → IsPart (λ (d : DeckView). d.ident) (d ∷ ds) (decks_without gone (d ∷ ds))
     go true e rest = rw e (fewer rest)
     go false e rest = rw e (kept refl rest)
 
-pub all_decks_without : (P Q : DeckView → Type 0) (gone : ℕ → Bool) (ds : List DeckView) → ((d : DeckView) → gone d.ident ≡ false → P d → Q (deck_without gone d)) → AllByRecursion P ds → AllByRecursion Q (decks_without gone ds)
+pub all_decks_without : (P Q : DeckView → Type 0) (gone : ℕ → Bool) (ds : List DeckView)
+    → ((d : DeckView) → gone d.ident ≡ false → P d → Q (deck_without gone d)) → AllByRecursion P ds → AllByRecursion Q (decks_without gone ds)
 all_decks_without P Q gone [] k all = tt
 all_decks_without P Q gone (d ∷ ds) k all = go (gone d.ident) refl (all_decks_without P Q gone ds k all.1)
   where
@@ -254,7 +270,8 @@ begins_entered e x y (inr same) begins = subst BeginsOn (sym same) (go x.history
     go (f ∷ es) begins = begins
 
 -- the first card of a deck stays where its ident does
-pub first_without : (gone : ℕ → Bool) (d : DeckView) → gone d.ident ≡ false → BeginsWithItsOwn d → BeginsWithItsOwn (record d { cards = without_idents gone d.cards })
+pub first_without : (gone : ℕ → Bool) (d : DeckView) → gone d.ident ≡ false → BeginsWithItsOwn d
+    → BeginsWithItsOwn (record d { cards = without_idents gone d.cards })
 first_without gone d e first = go d.cards first
   where
     go : (cards : List CardView) → BeginsWithItsOwn (record d { cards = cards }) → BeginsWithItsOwn (record d { cards = without_idents gone cards })

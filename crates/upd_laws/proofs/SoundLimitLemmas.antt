@@ -12,8 +12,8 @@ use Rattle.upd_core.specs.Edits.{unheld, without_entries, without_idents, deck_w
 use Rattle.upd_core.specs.First.{at_first}
 use Rattle.upd_core.specs.Library.{CardView, DeckView, LibraryView, all_decks, is_deck}
 use Rattle.upd_core.specs.Limits.{card_count, entry_count, target_count, held_count, is_within_limits}
-use Rattle.upd_laws.proofs.SoundLists.{and_left, and_right, both}
-use Rattle.upd_laws.proofs.SoundCards.{changed, decks_with, idents_with, rest_with}
+use Rattle.upd_laws.proofs.SoundListLemmas.{and_left, and_right, both}
+use Rattle.upd_laws.proofs.SoundCardLemmas.{changed, decks_with, idents_with, rest_with}
 
 -- ---- sums
 
@@ -34,7 +34,8 @@ sum_mapped f change (x ∷ xs) k =
     let c = k x in
     omega arith
 
-sum_at_first : {A : Type 0} (f : A → ℕ) (test : A → Bool) (change : A → A) (xs : List A) → ((x : A) → f (change x) ≤ f x) → sum_by f (at_first test change xs) ≤ sum_by f xs
+sum_at_first : {A : Type 0} (f : A → ℕ) (test : A → Bool) (change : A → A) (xs : List A) → ((x : A) → f (change x) ≤ f x)
+    → sum_by f (at_first test change xs) ≤ sum_by f xs
 sum_at_first f test change [] k = omega arith
 sum_at_first f test change (x ∷ xs) k = go (test x) refl (sum_at_first f test change xs k)
   where
@@ -63,7 +64,8 @@ fewer_cards gone cards =
     omega arith
 
 -- a sum over cards that no entry less makes greater
-fewer_of : (f : CardView → ℕ) (gone : ℕ → Bool) (cards : List CardView) → ((c : CardView) → f (without_entries gone c) ≤ f c) → sum_by f (without_idents gone cards) ≤ sum_by f cards
+fewer_of : (f : CardView → ℕ) (gone : ℕ → Bool) (cards : List CardView) → ((c : CardView) → f (without_entries gone c) ≤ f c)
+    → sum_by f (without_idents gone cards) ≤ sum_by f cards
 fewer_of f gone cards k =
     let a = sum_mapped f (without_entries gone) (filter (λ (c : CardView). not (gone c.ident)) cards) k in
     let b = sum_filtered f (λ (c : CardView). not (gone c.ident)) cards in
@@ -75,7 +77,8 @@ entries c = length c.history
 fewer_entries : (gone : ℕ → Bool) (c : CardView) → length (without_entries gone c).history ≤ length c.history
 fewer_entries gone c = length_filtered (λ (e : Entry). not (gone e.ident)) c.history
 
-fewer_in_decks : (f : DeckView → ℕ) (gone : ℕ → Bool) (ds : List DeckView) → ((d : DeckView) → f (deck_without gone d) ≤ f d) → sum_by f (decks_without gone ds) ≤ sum_by f ds
+fewer_in_decks : (f : DeckView → ℕ) (gone : ℕ → Bool) (ds : List DeckView) → ((d : DeckView) → f (deck_without gone d) ≤ f d)
+    → sum_by f (decks_without gone ds) ≤ sum_by f ds
 fewer_in_decks f gone ds k =
     let a = sum_mapped f (deck_without gone) (filter (λ (d : DeckView). not (gone d.ident)) ds) k in
     let b = sum_filtered f (λ (d : DeckView). not (gone d.ident)) ds in
@@ -154,8 +157,11 @@ purged_in_within d z l e = no_more (purged_in d z l) l less e
     gone : ℕ → Bool
     gone x = x == z
 
-    fewer_in : (f : DeckView → ℕ) → ((e : DeckView) → f (changed (without_idents gone) e) ≤ f e) → sum_by f (all_decks (purged_in d z l)) ≤ sum_by f (all_decks l)
-    fewer_in f k = subst (λ ds. sum_by f ds ≤ sum_by f (all_decks l)) (sym (decks_with d (without_idents gone) l)) (sum_at_first f (is_deck d) (changed (without_idents gone)) (all_decks l) k)
+    fewer_in : (f : DeckView → ℕ) → ((e : DeckView) → f (changed (without_idents gone) e) ≤ f e)
+        → sum_by f (all_decks (purged_in d z l)) ≤ sum_by f (all_decks l)
+    fewer_in f k =
+        subst (λ ds. sum_by f ds ≤ sum_by f (all_decks l)) (sym (decks_with d (without_idents gone) l))
+        (sum_at_first f (is_deck d) (changed (without_idents gone)) (all_decks l) k)
 
     fewer_targets : (b : Bool) → (d == 0) ≡ b → target_count (purged_in d z l) ≤ target_count l
     fewer_targets true f = rw f (fewer_of (λ c. length c.targets) gone l.yanks (λ c. omega arith))

@@ -9,10 +9,10 @@ use Rattle.upd_core.specs.Edits.{new_card}
 use Rattle.upd_core.specs.Library.{CardView, LibraryView}
 use Rattle.upd_core.specs.Sound.{all_cards, is_held}
 use Rattle.upd_laws.specs.Soundness.{IsNext}
-use Rattle.upd_laws.proofs.SoundLists.{is_same_number, all_weaker, HasMore, more_all, more_count, zip_all, zip_count}
-use Rattle.upd_laws.proofs.SoundCards.{IsEntered}
-use Rattle.upd_laws.proofs.SoundYanks.{same_ident, same_number_of}
-use Rattle.upd_laws.proofs.SoundEdits.{IsNew}
+use Rattle.upd_laws.proofs.SoundListLemmas.{is_same_number, all_weaker, HasMore, more_all, more_count, zip_all, zip_count}
+use Rattle.upd_laws.proofs.SoundCardLemmas.{IsEntered}
+use Rattle.upd_laws.proofs.SoundYankLemmas.{same_ident, same_number_of}
+use Rattle.upd_laws.proofs.SoundEditLemmas.{IsNew}
 
 count_none : (z : ℕ) (cards : List CardView) → AllByRecursion (λ c. c.ident ≡ z → ⊥) cards → count_by (λ c. c.ident == z) cards ≡ 0
 count_none z [] all = refl
@@ -22,10 +22,15 @@ count_none z (c ∷ cards) all =
 
 -- an ident that no card is of
 pub next_first : (z : ℕ) (l : LibraryView) → AllByRecursion (λ c. c.ident ≡ z → ⊥) (all_cards l) → IsNext z 1 l
-next_first z l all = record { counted = let e = count_none z (all_cards l) all in omega arith; above = all_weaker (λ (c : CardView). c.ident ≡ z → ⊥) _ (all_cards l) (λ c h e. absurd (h e)) all }
+next_first z l all =
+    record {
+      counted = let e = count_none z (all_cards l) all in omega arith;
+      above = all_weaker (λ (c : CardView). c.ident ≡ z → ⊥) _ (all_cards l) (λ c h e. absurd (h e)) all;
+    }
 
 -- a card with the next number of its ident
-pub next_own : (z n : ℕ) (c : CardView) (l m : LibraryView) → HasMore c (all_cards l) (all_cards m) → c.ident ≡ z → c.number ≡ n → IsNext z n l → IsNext z (n + 1) m
+pub next_own : (z n : ℕ) (c : CardView) (l m : LibraryView) → HasMore c (all_cards l) (all_cards m) → c.ident ≡ z → c.number ≡ n → IsNext z n l
+    → IsNext z (n + 1) m
 next_own z n c l m more own number next = record {
   counted =
       let e = more_count (λ (b : CardView). b.ident == z) c (all_cards l) (all_cards m) more in
@@ -33,7 +38,9 @@ next_own z n c l m more own number next = record {
       let g = rw f at e in
       let h = next.counted in
       omega arith;
-  above = more_all (λ (b : CardView). b.ident ≡ z → b.number < n + 1) c (all_cards l) (all_cards m) more (λ e. omega arith) (all_weaker (λ (b : CardView). b.ident ≡ z → b.number < n) _ (all_cards l) (λ b h e. let k = h e in omega arith) next.above);
+  above =
+      more_all (λ (b : CardView). b.ident ≡ z → b.number < n + 1) c (all_cards l) (all_cards m) more (λ e. omega arith)
+      (all_weaker (λ (b : CardView). b.ident ≡ z → b.number < n) _ (all_cards l) (λ b h e. let k = h e in omega arith) next.above);
 }
 
 -- a card of another ident
@@ -51,8 +58,12 @@ next_other z n c l m more other next = record {
 -- entries on some cards
 pub next_entered : (z n : ℕ) (e : Entry) (l m : LibraryView) → AllZip (IsEntered e) (all_cards l) (all_cards m) → IsNext z n l → IsNext z n m
 next_entered z n e l m zip next = record {
-  counted = next.counted ∙ ap (λ k. k + 1) (sym (zip_count (IsEntered e) (λ (c : CardView). c.ident == z) (all_cards l) (all_cards m) (λ x y r. ap (λ a. a == z) (same_ident e x y r)) zip));
-  above = zip_all (IsEntered e) (λ (c : CardView). c.ident ≡ z → c.number < n) (λ c. c.ident ≡ z → c.number < n) (all_cards l) (all_cards m) (λ x y r h own. rw (same_number_of e x y r) (h (sym (same_ident e x y r) ∙ own))) zip next.above;
+  counted =
+      next.counted ∙ ap (λ k. k + 1)
+      (sym (zip_count (IsEntered e) (λ (c : CardView). c.ident == z) (all_cards l) (all_cards m) (λ x y r. ap (λ a. a == z) (same_ident e x y r)) zip));
+  above =
+      zip_all (IsEntered e) (λ (c : CardView). c.ident ≡ z → c.number < n) (λ c. c.ident ≡ z → c.number < n) (all_cards l) (all_cards m)
+      (λ x y r h own. rw (same_number_of e x y r) (h (sym (same_ident e x y r) ∙ own))) zip next.above;
 }
 
 -- the next card of a held ident is new
@@ -60,5 +71,7 @@ pub next_new : (z n : ℕ) (text : List ℕ) (targets : _) (l : LibraryView) →
 next_new z n text targets l held next = record {
   held = (held, (held, tt));
   begins = (refl, refl);
-  key = all_weaker (λ (c : CardView). c.ident ≡ z → c.number < n) _ (all_cards l) (λ c h same. let a = ap (λ (p : ℕ × ℕ). p.0) same in let b = ap (λ (p : ℕ × ℕ). p.1) same in let k = h (sym a) in absurd (omega arith)) next.above;
+  key =
+      all_weaker (λ (c : CardView). c.ident ≡ z → c.number < n) _ (all_cards l)
+      (λ c h same. let a = ap (λ (p : ℕ × ℕ). p.0) same in let b = ap (λ (p : ℕ × ℕ). p.1) same in let k = h (sym a) in absurd (omega arith)) next.above;
 }

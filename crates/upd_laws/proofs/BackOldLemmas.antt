@@ -7,8 +7,8 @@ use Rattle.upd_core.specs.declared.ident.Ident.{Ident}
 use Rattle.upd_core.specs.Edits.{next_age}
 use Rattle.upd_core.specs.Library.{CardView, DeckView, LibraryView, is_deck_kind}
 use Rattle.upd_core.specs.Sound.{AreAgedFrom, is_held, is_held_deck, IsOfHeld, IsSound}
-use Rattle.upd_laws.proofs.BackGrowth.{all_weaker}
-use Rattle.upd_laws.proofs.BackPurge.{IsOldCard, IsOldDeck}
+use Rattle.upd_laws.proofs.BackGrowthLemmas.{all_weaker}
+use Rattle.upd_laws.proofs.BackPurgeLemmas.{IsOldCard, IsOldDeck}
 
 all_parts : {A : Type 0} (P : A → Type 0) (xs ys : List A) → AllByRecursion P (xs ++ ys) → AllByRecursion P xs × AllByRecursion P ys
 all_parts P [] ys a = (tt, a)

@@ -1,16 +1,18 @@
 -- A library that has only grown, by idents from an age on: what each edit leaves, and two steps in one.
-use Rattle.std.proofs.Common.{◌≡◌, ℕ, ◌+◌, ◌-◌, ◌≤◌, Bool, true, false, cond, List, [], ◌∷◌, ◌++◌, map, length, take, drop, refl, sym, ap, ◌∙◌, arith, append_assoc, append-nil, length-append}
+use Rattle.std.proofs.Common.{◌≡◌, ℕ, ◌+◌, ◌-◌, ◌≤◌, Bool, true, false, cond, List, [], ◌∷◌, ◌++◌, length, refl, sym, ap, ◌∙◌, arith}
+use Rattle.std.proofs.Common.{append_assoc, append-nil, length-append}
 use Rattle.std.specs.Prelude.{◌==◌, insert}
 use Rattle.upd_core.specs.declared.card.Entry.{Entry}
 use Rattle.upd_core.specs.declared.ident.Ident.{Ident}
 use Rattle.upd_core.specs.declared.ident.Kind.{Kind}
 use Rattle.upd_core.specs.declared.target.Target.{Target}
-use Rattle.upd_core.specs.Edits.{entered, introduced, next_age, new_card, with_deck, with_card, with_yank, with_entries}
+use Rattle.upd_core.specs.Edits.{introduced, next_age, new_card, with_deck, with_card, with_yank, with_entries, entered_range}
 use Rattle.upd_core.specs.First.{at_first}
 use Rattle.upd_core.specs.Library.{CardView, DeckView, LibraryView, with_cards, is_deck}
 use Rattle.upd_core.specs.Sound.{AreAgedFrom}
 use Rattle.upd_laws.specs.PurgingBack.{AreAmong, DecksGoOn, Ended, Come}
-use Rattle.upd_laws.proofs.BackGrowth.{aged_append, among, among_append, among_twice, among_insert, among_range, decks, decks_on, decks_at_first, decks_twice}
+use Rattle.upd_laws.proofs.BackGrowthLemmas.{aged_append, among, among_append, among_twice, among_insert, among_range, decks, decks_on, decks_at_first}
+use Rattle.upd_laws.proofs.BackGrowthLemmas.{decks_twice}
 
 abbrev pub Within : ℕ → ℕ → ℕ → Type 0
 Within x n z = (x ≤ z) × (z ≤ n)
@@ -78,7 +80,7 @@ idents-with_card d after c l = idents-with_cards d (λ cards. insert cards (leng
 
 pub idents-with_entries : (d from to : ℕ) (e : Entry) (l : LibraryView) → (with_entries d from to e l).idents ≡ l.idents
 idents-with_entries d from to e l =
-    idents-with_cards d (λ cards. take from cards ++ map (entered e) (drop from (take (to + 1) cards)) ++ drop (to + 1) cards) l
+    idents-with_cards d (entered_range from to e) l
 
 -- an entry on a range of cards
 pub grows_entries : (x : ℕ) (l : LibraryView) (d from to : ℕ) (e : Entry) → from ≤ to → Within x (length l.idents) e.ident

@@ -10,10 +10,10 @@ use Rattle.upd_core.specs.Edits.{next_age, purged_back, unheld}
 use Rattle.upd_core.specs.Library.{CardView, DeckView, LibraryView, held_named}
 use Rattle.upd_core.specs.Status.{status_of}
 use Rattle.upd_laws.specs.PurgingBack.{GoesOn, AreAmong, Ended, Kept, Come, DecksGoOn, IsAgain}
-use Rattle.upd_laws.proofs.BackGrowth.{all_weaker}
-use Rattle.upd_laws.proofs.BackLibraries.{Within, Grows}
-use Rattle.upd_laws.proofs.BackOld.{IsOld, ages_below}
-use Rattle.upd_laws.proofs.BackPurge.{cards_back, decks_back, idents_back, none_held, none_found}
+use Rattle.upd_laws.proofs.BackGrowthLemmas.{all_weaker}
+use Rattle.upd_laws.proofs.BackLibraryLemmas.{Within, Grows}
+use Rattle.upd_laws.proofs.BackOldLemmas.{IsOld, ages_below}
+use Rattle.upd_laws.proofs.BackPurgeLemmas.{cards_back, decks_back, idents_back, none_held, none_found}
 
 -- ---- back again
 

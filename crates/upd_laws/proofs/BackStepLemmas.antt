@@ -1,5 +1,6 @@
 -- One line that purges nothing: the library only grows, by idents from x on, and what is in hand is one of these.
-use Rattle.std.proofs.Common.{◌≡◌, ℕ, ◌≤◌, Bool, true, false, not, ◌||◌, ltb, List, [], ◌∷◌, length, Option, Some, None, Result, Ok, Err, refl, arith, ltb-false}
+use Rattle.std.proofs.Common.{◌≡◌, ℕ, ◌≤◌, Bool, true, false, not, ◌||◌, ltb, List, [], ◌∷◌, length, Option, Some, None, Result, Ok, Err, refl, arith}
+use Rattle.std.proofs.Common.{ltb-false}
 use Rattle.std.specs.Prelude.{◌==◌, IsTrue}
 use Rattle.std.specs.List.{list_all}
 use Rattle.std.specs.Result.{IfOk}
@@ -17,7 +18,8 @@ use Rattle.upd_core.specs.Edits.{introduced, next_age, new_card, with_deck, with
 use Rattle.upd_core.specs.Library.{DeckView, LibraryView, place_of}
 use Rattle.upd_text.proofs.OutcomeLemmas.{after_any, after_need, after_refusal}
 use Rattle.upd_text.specs.Outcome.{◌>>=◌, need, refuse_if, at_line}
-use Rattle.upd_deck.specs.Items.{ItemView, LineView, Text, Call, Ident, Deck, CommonDeck, Insert, Before, Delete, Restore, Yank, SelYank, YankDeck, Purge, PurgeFrom, SelPurge, PurDeck, Compile}
+use Rattle.upd_deck.specs.Items.{ItemView, LineView, Text, Call, Ident, Deck, CommonDeck, Insert, Before, Delete, Restore, Yank, SelYank, YankDeck, Purge}
+use Rattle.upd_deck.specs.Items.{PurgeFrom, SelPurge, PurDeck, Compile}
 use Rattle.upd_apply.specs.declared.state.Hand.{Hand}
 use Rattle.upd_apply.specs.declared.state.Spot.{Spot}
 use Rattle.upd_apply.specs.declared.state.Spot.TheVariants.{Nowhere, End, Inside}
@@ -28,7 +30,8 @@ use Rattle.upd_apply.specs.Step.{new_name, set_begun, deck_begun, placed_after, 
 use Rattle.upd_apply.specs.Yanks.{sets_yanked, pairs_yanked, decks_yanked}
 use Rattle.upd_apply.proofs.StepLemmas.{after_grown}
 use Rattle.upd_laws.specs.PurgingBack.{is_purge, purges_nothing, all_applied}
-use Rattle.upd_laws.proofs.BackLibraries.{Within, Grows, grows, grows_twice, no_fewer, grows_card, grows_entries, grows_yank, grows_ident, grows_deck, length-introduced, idents-with_card, idents-with_entries}
+use Rattle.upd_laws.proofs.BackLibraryLemmas.{Within, Grows, grows, grows_twice, no_fewer, grows_card, grows_entries, grows_yank, grows_ident, grows_deck}
+use Rattle.upd_laws.proofs.BackLibraryLemmas.{length-introduced, idents-with_card, idents-with_entries}
 
 -- ---- states
 

@@ -1,5 +1,6 @@
 -- Lists: facts of each element, lists whose elements differ, and lists with one element more or with some fewer.
-use Rattle.std.proofs.Common.{◌≡◌, ℕ, ◌+◌, ◌<◌, Bool, true, false, cond, ◌&&◌, ◌||◌, List, [], ◌∷◌, ◌++◌, map, length, inl, inr, refl, sym, ap, ◌∙◌, subst, arith, append_assoc}
+use Rattle.std.proofs.Common.{◌≡◌, ℕ, ◌+◌, ◌<◌, Bool, true, false, cond, ◌&&◌, ◌||◌, List, [], ◌∷◌, ◌++◌, map, length, inl, inr, refl, sym, ap, ◌∙◌, subst}
+use Rattle.std.proofs.Common.{arith, append_assoc}
 use Rattle.std.proofs.lemmas.Bool.Decides.{Decides-eqb}
 use Rattle.std.proofs.lemmas.List.Sums.{sum_by-append, sum_by-cons}
 use Rattle.std.specs.Prelude.{Some, None, ◌==◌, ◌⊎◌, count_by}
@@ -87,11 +88,13 @@ all_pass P test (x ∷ xs) k = go (test x) refl (all_pass P test xs k)
     go true e rest = rw e (k x e, rest)
     go false e rest = rw e rest
 
-pub all_flat : {A B : Type 0} (P : B → Type 0) (f : A → List B) (xs : List A) → AllByRecursion (λ x. AllByRecursion P (f x)) xs → AllByRecursion P (flat_map f xs)
+pub all_flat : {A B : Type 0} (P : B → Type 0) (f : A → List B) (xs : List A) → AllByRecursion (λ x. AllByRecursion P (f x)) xs
+    → AllByRecursion P (flat_map f xs)
 all_flat P f [] a = tt
 all_flat P f (x ∷ xs) a = all_append P (f x) (flat_map f xs) a.0 (all_flat P f xs a.1)
 
-pub all_each : {A B : Type 0} (P : B → Type 0) (f : A → List B) (xs : List A) → AllByRecursion P (flat_map f xs) → AllByRecursion (λ x. AllByRecursion P (f x)) xs
+pub all_each : {A B : Type 0} (P : B → Type 0) (f : A → List B) (xs : List A) → AllByRecursion P (flat_map f xs)
+    → AllByRecursion (λ x. AllByRecursion P (f x)) xs
 all_each P f [] a = tt
 all_each P f (x ∷ xs) a = (all_front P (f x) (flat_map f xs) a, all_each P f xs (all_back P (f x) (flat_map f xs) a))
 
@@ -118,16 +121,20 @@ more_all P x xs ys m p all =
     let split : AllByRecursion P (m.front ++ m.back) = subst (AllByRecursion P) m.was all in
     subst (AllByRecursion P) (sym m.is) (all_append P m.front (x ∷ m.back) (all_front P m.front m.back split) (p, all_back P m.front m.back split))
 
-apart_middle : {A B : Type 0} (f : A → B) (x : A) (xs ys : List A) → AreApart (map f (xs ++ ys)) → AllByRecursion (λ y. f x ≡ f y → ⊥) (xs ++ ys) → AreApart (map f (xs ++ x ∷ ys))
+apart_middle : {A B : Type 0} (f : A → B) (x : A) (xs ys : List A) → AreApart (map f (xs ++ ys)) → AllByRecursion (λ y. f x ≡ f y → ⊥) (xs ++ ys)
+    → AreApart (map f (xs ++ x ∷ ys))
 apart_middle f x [] ys apart new = (all_map (λ y. f x ≡ y → ⊥) f ys new, apart)
 apart_middle f x (z ∷ xs) ys apart new =
     let rest : AllByRecursion (λ y. f z ≡ f y → ⊥) (xs ++ ys) = all_mapped (λ y. f z ≡ y → ⊥) f (xs ++ ys) apart.0 in
-    let more : AllByRecursion (λ y. f z ≡ f y → ⊥) (xs ++ x ∷ ys) = all_append _ xs (x ∷ ys) (all_front _ xs ys rest) ((λ e. new.0 (sym e)), all_back _ xs ys rest) in
+    let more : AllByRecursion (λ y. f z ≡ f y → ⊥) (xs ++ x ∷ ys) =
+    all_append _ xs (x ∷ ys) (all_front _ xs ys rest) ((λ e. new.0 (sym e)), all_back _ xs ys rest) in
     (all_map (λ y. f z ≡ y → ⊥) f (xs ++ x ∷ ys) more, apart_middle f x xs ys apart.1 new.1)
 
-pub more_apart : {A B : Type 0} (f : A → B) (x : A) (xs ys : List A) → HasMore x xs ys → AllByRecursion (λ y. f x ≡ f y → ⊥) xs → AreApart (map f xs) → AreApart (map f ys)
+pub more_apart : {A B : Type 0} (f : A → B) (x : A) (xs ys : List A) → HasMore x xs ys → AllByRecursion (λ y. f x ≡ f y → ⊥) xs → AreApart (map f xs)
+    → AreApart (map f ys)
 more_apart f x xs ys m new apart =
-    subst (λ l. AreApart (map f l)) (sym m.is) (apart_middle f x m.front m.back (subst (λ l. AreApart (map f l)) m.was apart) (subst (AllByRecursion (λ y. f x ≡ f y → ⊥)) m.was new))
+    subst (λ l. AreApart (map f l)) (sym m.is)
+    (apart_middle f x m.front m.back (subst (λ l. AreApart (map f l)) m.was apart) (subst (AllByRecursion (λ y. f x ≡ f y → ⊥)) m.was new))
 
 pub more_count : {A : Type 0} (test : A → Bool) (x : A) (xs ys : List A) → HasMore x xs ys → count_by test ys ≡ count_by test xs + cond (test x) 1 0
 more_count test x xs ys m =
@@ -168,7 +175,8 @@ part_all f P (kept e p) all = (subst P (sym e) all.0, part_all f P p all.1)
 pub part_apart : {A B : Type 0} (f : A → B) {xs ys : List A} → IsPart f xs ys → AreApart (map f xs) → AreApart (map f ys)
 part_apart f none apart = tt
 part_apart f (fewer p) apart = part_apart f p apart.1
-part_apart f (kept {x} {y} {xs} {ys} e p) apart = (subst (λ v. AllByRecursion (λ w. v ≡ w → ⊥) (map f ys)) (sym e) (part_all f (λ w. f x ≡ w → ⊥) p apart.0), part_apart f p apart.1)
+part_apart f (kept {x} {y} {xs} {ys} e p) apart =
+    (subst (λ v. AllByRecursion (λ w. v ≡ w → ⊥) (map f ys)) (sym e) (part_all f (λ w. f x ≡ w → ⊥) p apart.0), part_apart f p apart.1)
 
 pub part_rising : {A : Type 0} (f : A → ℕ) {xs ys : List A} → IsPart f xs ys → AreRising (map f xs) → AreRising (map f ys)
 part_rising f none rising = tt
@@ -201,7 +209,8 @@ zip_append R [] (y ∷ ys) zs ws a b = absurd a
 zip_append R (x ∷ xs) [] zs ws a b = absurd a
 zip_append R (x ∷ xs) (y ∷ ys) zs ws a b = (a.0, zip_append R xs ys zs ws a.1 b)
 
-pub zip_all : {A : Type 0} (R : A → A → Type 0) (P Q : A → Type 0) (xs ys : List A) → ((x y : A) → R x y → P x → Q y) → AllZip R xs ys → AllByRecursion P xs → AllByRecursion Q ys
+pub zip_all : {A : Type 0} (R : A → A → Type 0) (P Q : A → Type 0) (xs ys : List A) → ((x y : A) → R x y → P x → Q y) → AllZip R xs ys → AllByRecursion P xs
+    → AllByRecursion Q ys
 zip_all R P Q [] [] k a b = tt
 zip_all R P Q [] (y ∷ ys) k a b = absurd a
 zip_all R P Q (x ∷ xs) [] k a b = tt
@@ -219,7 +228,8 @@ zip_length R [] (y ∷ ys) a = absurd a
 zip_length R (x ∷ xs) [] a = absurd a
 zip_length R (x ∷ xs) (y ∷ ys) a = let e = zip_length R xs ys a.1 in omega arith
 
-pub zip_count : {A : Type 0} (R : A → A → Type 0) (test : A → Bool) (xs ys : List A) → ((x y : A) → R x y → test y ≡ test x) → AllZip R xs ys → count_by test ys ≡ count_by test xs
+pub zip_count : {A : Type 0} (R : A → A → Type 0) (test : A → Bool) (xs ys : List A) → ((x y : A) → R x y → test y ≡ test x) → AllZip R xs ys
+    → count_by test ys ≡ count_by test xs
 zip_count R test [] [] k a = refl
 zip_count R test [] (y ∷ ys) k a = absurd a
 zip_count R test (x ∷ xs) [] k a = absurd a
@@ -229,31 +239,38 @@ zip_count R test (x ∷ xs) (y ∷ ys) k a =
 
 -- ---- the first element that passes a test, changed
 
-pub at_first_all : {A : Type 0} (test : A → Bool) (change : A → A) (P : A → Type 0) (xs : List A) → ((x : A) → find test xs ≡ Some x → P x → P (change x)) → AllByRecursion P xs → AllByRecursion P (at_first test change xs)
+pub at_first_all : {A : Type 0} (test : A → Bool) (change : A → A) (P : A → Type 0) (xs : List A) → ((x : A) → find test xs ≡ Some x → P x → P (change x))
+    → AllByRecursion P xs → AllByRecursion P (at_first test change xs)
 at_first_all test change P [] k all = tt
 at_first_all test change P (x ∷ xs) k all = go (test x) refl (at_first_all test change P xs)
   where
-    go : (b : Bool) → test x ≡ b → (((y : _) → find test xs ≡ Some y → P y → P (change y)) → AllByRecursion P xs → AllByRecursion P (at_first test change xs)) → AllByRecursion P (at_first test change (x ∷ xs))
+    go : (b : Bool) → test x ≡ b → (((y : _) → find test xs ≡ Some y → P y → P (change y)) → AllByRecursion P xs → AllByRecursion P (at_first test change xs))
+        → AllByRecursion P (at_first test change (x ∷ xs))
     go true e rest = rw e (k x (rw e refl) all.0, all.1)
     go false e rest = rw e (all.0, rest (λ y f p. k y (rw e f) p) all.1)
 
-pub at_first_any : {A : Type 0} (test : A → Bool) (change : A → A) (xs : List A) → ((x : A) → test (change x) ≡ test x) → list_any test (at_first test change xs) ≡ list_any test xs
+pub at_first_any : {A : Type 0} (test : A → Bool) (change : A → A) (xs : List A) → ((x : A) → test (change x) ≡ test x)
+    → list_any test (at_first test change xs) ≡ list_any test xs
 at_first_any test change [] k = refl
 at_first_any test change (x ∷ xs) k = go (test x) refl (at_first_any test change xs k)
   where
-    go : (b : Bool) → test x ≡ b → list_any test (at_first test change xs) ≡ list_any test xs → list_any test (at_first test change (x ∷ xs)) ≡ list_any test (x ∷ xs)
+    go : (b : Bool) → test x ≡ b → list_any test (at_first test change xs) ≡ list_any test xs
+        → list_any test (at_first test change (x ∷ xs)) ≡ list_any test (x ∷ xs)
     go true e rest = rw (e, k x, e) refl
     go false e rest = rw (e, e) rest
 
-pub at_first_find : {A : Type 0} (test : A → Bool) (change : A → A) (xs : List A) (x : A) → ((y : A) → test (change y) ≡ test y) → find test xs ≡ Some x → find test (at_first test change xs) ≡ Some (change x)
+pub at_first_find : {A : Type 0} (test : A → Bool) (change : A → A) (xs : List A) (x : A) → ((y : A) → test (change y) ≡ test y) → find test xs ≡ Some x
+    → find test (at_first test change xs) ≡ Some (change x)
 at_first_find test change [] x k f = absurd (cc)
 at_first_find test change (y ∷ xs) x k f = go (test y) refl (at_first_find test change xs x k)
   where
-    go : (b : Bool) → test y ≡ b → (find test xs ≡ Some x → find test (at_first test change xs) ≡ Some (change x)) → find test (at_first test change (y ∷ xs)) ≡ Some (change x)
+    go : (b : Bool) → test y ≡ b → (find test xs ≡ Some x → find test (at_first test change xs) ≡ Some (change x))
+        → find test (at_first test change (y ∷ xs)) ≡ Some (change x)
     go true e rest = let g = rw e at f in rw (e, k y, e) (let same : y ≡ x = cc in ap (λ z. Some (change z)) same)
     go false e rest = let g = rw e at f in rw (e, e) (rest g)
 
-pub at_first_map : {A B : Type 0} (f : A → B) (test : A → Bool) (change : A → A) (xs : List A) → ((x : A) → f (change x) ≡ f x) → map f (at_first test change xs) ≡ map f xs
+pub at_first_map : {A B : Type 0} (f : A → B) (test : A → Bool) (change : A → A) (xs : List A) → ((x : A) → f (change x) ≡ f x)
+    → map f (at_first test change xs) ≡ map f xs
 at_first_map f test change [] k = refl
 at_first_map f test change (x ∷ xs) k = go (test x) refl (at_first_map f test change xs k)
   where
@@ -261,27 +278,34 @@ at_first_map f test change (x ∷ xs) k = go (test x) refl (at_first_map f test 
     go true e rest = rw (e, k x) refl
     go false e rest = rw (e, rest) refl
 
-pub at_first_more : {A B : Type 0} (f : A → List B) (test : A → Bool) (change : A → A) (new : B) (xs : List A) → list_any test xs ≡ true → ((x : A) → HasMore new (f x) (f (change x))) → HasMore new (flat_map f xs) (flat_map f (at_first test change xs))
+pub at_first_more : {A B : Type 0} (f : A → List B) (test : A → Bool) (change : A → A) (new : B) (xs : List A) → list_any test xs ≡ true
+    → ((x : A) → HasMore new (f x) (f (change x))) → HasMore new (flat_map f xs) (flat_map f (at_first test change xs))
 at_first_more f test change new [] any k = absurd (cc)
 at_first_more f test change new (x ∷ xs) any k = go (test x) refl (at_first_more f test change new xs)
   where
-    go : (b : Bool) → test x ≡ b → (list_any test xs ≡ true → ((y : _) → HasMore new (f y) (f (change y))) → HasMore new (flat_map f xs) (flat_map f (at_first test change xs))) → HasMore new (flat_map f (x ∷ xs)) (flat_map f (at_first test change (x ∷ xs)))
+    go : (b : Bool) → test x ≡ b
+        → (list_any test xs ≡ true → ((y : _) → HasMore new (f y) (f (change y))) → HasMore new (flat_map f xs) (flat_map f (at_first test change xs)))
+        → HasMore new (flat_map f (x ∷ xs)) (flat_map f (at_first test change (x ∷ xs)))
     go true e rest = rw e (more_back new (f x) (f (change x)) (flat_map f xs) (k x))
     go false e rest = rw e (more_front new (flat_map f xs) (flat_map f (at_first test change xs)) (f x) (rest (rw e at any) k))
 
-pub at_first_zip : {A B : Type 0} (R : B → B → Type 0) (f : A → List B) (test : A → Bool) (change : A → A) (xs : List A) → ((y : B) → R y y) → ((x : A) → AllZip R (f x) (f (change x))) → AllZip R (flat_map f xs) (flat_map f (at_first test change xs))
+pub at_first_zip : {A B : Type 0} (R : B → B → Type 0) (f : A → List B) (test : A → Bool) (change : A → A) (xs : List A) → ((y : B) → R y y)
+    → ((x : A) → AllZip R (f x) (f (change x))) → AllZip R (flat_map f xs) (flat_map f (at_first test change xs))
 at_first_zip R f test change [] r k = tt
 at_first_zip R f test change (x ∷ xs) r k = go (test x) refl (at_first_zip R f test change xs r k)
   where
-    go : (b : Bool) → test x ≡ b → AllZip R (flat_map f xs) (flat_map f (at_first test change xs)) → AllZip R (flat_map f (x ∷ xs)) (flat_map f (at_first test change (x ∷ xs)))
+    go : (b : Bool) → test x ≡ b → AllZip R (flat_map f xs) (flat_map f (at_first test change xs))
+        → AllZip R (flat_map f (x ∷ xs)) (flat_map f (at_first test change (x ∷ xs)))
     go true e rest = rw e (zip_append R (f x) (f (change x)) (flat_map f xs) (flat_map f xs) (k x) (zip_same R r (flat_map f xs)))
     go false e rest = rw e (zip_append R (f x) (f x) (flat_map f xs) (flat_map f (at_first test change xs)) (zip_same R r (f x)) rest)
 
-pub at_first_part : {A B C : Type 0} (show : B → C) (f : A → List B) (test : A → Bool) (change : A → A) (xs : List A) → ((x : A) → IsPart show (f x) (f (change x))) → IsPart show (flat_map f xs) (flat_map f (at_first test change xs))
+pub at_first_part : {A B C : Type 0} (show : B → C) (f : A → List B) (test : A → Bool) (change : A → A) (xs : List A)
+    → ((x : A) → IsPart show (f x) (f (change x))) → IsPart show (flat_map f xs) (flat_map f (at_first test change xs))
 at_first_part show f test change [] k = none
 at_first_part show f test change (x ∷ xs) k = go (test x) refl (at_first_part show f test change xs k)
   where
-    go : (b : Bool) → test x ≡ b → IsPart show (flat_map f xs) (flat_map f (at_first test change xs)) → IsPart show (flat_map f (x ∷ xs)) (flat_map f (at_first test change (x ∷ xs)))
+    go : (b : Bool) → test x ≡ b → IsPart show (flat_map f xs) (flat_map f (at_first test change xs))
+        → IsPart show (flat_map f (x ∷ xs)) (flat_map f (at_first test change (x ∷ xs)))
     go true e rest = rw e (part_append show (k x) (part_same show (flat_map f xs)))
     go false e rest = rw e (part_append show (part_same show (f x)) rest)
 
@@ -313,7 +337,8 @@ any_end test (y ∷ xs) x e = go (or_cases (test y) (list_any test (xs ++ x ∷ 
     go (inl f) rest = inl (or_left (test y) (list_any test xs) f)
     go (inr f) rest = elim (rest f) [ inl g ↦ inl (or_right (test y) (list_any test xs) g) | inr g ↦ inr g ]
 
-pub any_mapped : {A : Type 0} (test after : A → Bool) (change : A → A) (xs : List A) → ((x : A) → test x ≡ true → after (change x) ≡ true) → list_any test xs ≡ true → list_any after (map change xs) ≡ true
+pub any_mapped : {A : Type 0} (test after : A → Bool) (change : A → A) (xs : List A) → ((x : A) → test x ≡ true → after (change x) ≡ true)
+    → list_any test xs ≡ true → list_any after (map change xs) ≡ true
 any_mapped test after change [] k e = absurd (cc)
 any_mapped test after change (x ∷ xs) k e = go (test x) refl (any_mapped test after change xs k)
   where
@@ -321,7 +346,8 @@ any_mapped test after change (x ∷ xs) k e = go (test x) refl (any_mapped test 
     go true f rest = or_left (after (change x)) (list_any after (map change xs)) (k x f)
     go false f rest = or_right (after (change x)) (list_any after (map change xs)) (rest (rw f at e))
 
-pub any_weaker : {A : Type 0} (test weaker : A → Bool) (xs : List A) → ((x : A) → test x ≡ true → weaker x ≡ true) → list_any test xs ≡ true → list_any weaker xs ≡ true
+pub any_weaker : {A : Type 0} (test weaker : A → Bool) (xs : List A) → ((x : A) → test x ≡ true → weaker x ≡ true) → list_any test xs ≡ true
+    → list_any weaker xs ≡ true
 any_weaker test weaker [] k e = e
 any_weaker test weaker (x ∷ xs) k e = go (test x) refl (any_weaker test weaker xs k)
   where

@@ -20,21 +20,28 @@ use Rattle.upd_text.specs.declared.fault.FaultKind.{FaultKind}
 use Rattle.upd_text.specs.Outcome.{each}
 use Rattle.upd_apply.specs.Names.{Ages, ages_by, idents_in, is_in, is_reserved, known_deck, known_ident}
 use Rattle.upd_apply.specs.Yanks.{deck_targets, decks_yanked, once, pair_targets, pairs_yanked, range_targets, sets_yanked, yanked}
-use Rattle.upd_laws.proofs.SoundLists.{and_right, both, or_none_left, or_none_right, is_same_number, all_append, all_both, all_filter, all_map, all_pass, zip_all}
-use Rattle.upd_laws.proofs.SoundCards.{IsEntered, all_without}
-use Rattle.upd_laws.proofs.SoundIdents.{all_from, found_from}
-use Rattle.upd_laws.proofs.SoundOutcomes.{each_all, through, through_option, through_refusal, holds_of}
+use Rattle.upd_laws.proofs.SoundListLemmas.{and_right, both, or_none_left, or_none_right, is_same_number, all_append, all_both, all_filter, all_map, all_pass}
+use Rattle.upd_laws.proofs.SoundListLemmas.{zip_all}
+use Rattle.upd_laws.proofs.SoundCardLemmas.{IsEntered, all_without}
+use Rattle.upd_laws.proofs.SoundIdentLemmas.{all_from, found_from}
+use Rattle.upd_laws.proofs.SoundOutcomeLemmas.{each_all, through, through_option, through_refusal, holds_of}
 
 -- ---- order of age
 
-pub aged_end : (z n : ℕ) (text : List ℕ) (targets : List Target) (yanks : List CardView) → AllByRecursion (TakesOlder z) targets → AllByRecursion (λ c. c.ident ≤ z) yanks → IsAged yanks → IsAged (yanks ++ new_card z n text targets ∷ [])
+pub aged_end : (z n : ℕ) (text : List ℕ) (targets : List Target) (yanks : List CardView) → AllByRecursion (TakesOlder z) targets
+    → AllByRecursion (λ c. c.ident ≤ z) yanks → IsAged yanks → IsAged (yanks ++ new_card z n text targets ∷ [])
 aged_end z n text targets [] older young aged = (older, (((omega arith), tt), tt), tt)
-aged_end z n text targets (y ∷ ys) older young aged =
-    (aged.0, all_append (HasEntriesFrom y.ident) (y ∷ ys) (new_card z n text targets ∷ []) aged.1 ((young.0, tt), tt), aged_end z n text targets ys older young.1 aged.2)
+aged_end z n text targets (y ∷ ys) older young aged = (
+  aged.0,
+  all_append (HasEntriesFrom y.ident) (y ∷ ys) (new_card z n text targets ∷ []) aged.1
+      ((young.0, tt), tt),
+  aged_end z n text targets ys older young.1 aged.2,
+)
 
 entries_from : (age : ℕ) (e : Entry) (x y : CardView) → age ≤ e.ident → IsEntered e x y → HasEntriesFrom age x → HasEntriesFrom age y
 entries_from age e x y young (inl same) from = subst (HasEntriesFrom age) (sym same) from
-entries_from age e x y young (inr same) from = subst (HasEntriesFrom age) (sym same) (all_append (λ (f : Entry). age ≤ f.ident) x.history (e ∷ []) from (young, tt))
+entries_from age e x y young (inr same) from =
+    subst (HasEntriesFrom age) (sym same) (all_append (λ (f : Entry). age ≤ f.ident) x.history (e ∷ []) from (young, tt))
 
 pub same_ident : (e : Entry) (x y : CardView) → IsEntered e x y → y.ident ≡ x.ident
 same_ident e x y (inl same) = ap (λ (c : CardView). c.ident) same
@@ -54,7 +61,9 @@ aged_entered e [] (y ∷ ys) zip young aged = absurd zip
 aged_entered e (x ∷ xs) [] zip young aged = tt
 aged_entered e (x ∷ xs) (y ∷ ys) zip young aged =
     let older : AllByRecursion (TakesOlder y.ident) y.targets = rw (same_ident e x y zip.0, same_targets e x y zip.0) aged.0 in
-    let from : AllByRecursion (HasEntriesFrom x.ident) (y ∷ ys) = zip_all (IsEntered e) (HasEntriesFrom x.ident) (HasEntriesFrom x.ident) (x ∷ xs) (y ∷ ys) (λ a b r h. entries_from x.ident e a b young.0 r h) zip aged.1 in
+    let from : AllByRecursion (HasEntriesFrom x.ident) (y ∷ ys) =
+    zip_all (IsEntered e) (HasEntriesFrom x.ident) (HasEntriesFrom x.ident) (x ∷ xs) (y ∷ ys)
+    (λ a b r h. entries_from x.ident e a b young.0 r h) zip aged.1 in
     (older, subst (λ age. AllByRecursion (HasEntriesFrom age) (y ∷ ys)) (sym (same_ident e x y zip.0)) from, aged_entered e xs ys zip.1 young.1 aged.2)
 
 pub aged_without : (gone : ℕ → Bool) (yanks : List CardView) → IsAged yanks → IsAged (without_idents gone yanks)
@@ -66,7 +75,8 @@ aged_without gone (y ∷ ys) aged = go (gone y.ident) refl (aged_without gone ys
 
     go : (b : Bool) → gone y.ident ≡ b → IsAged (without_idents gone ys) → IsAged (without_idents gone (y ∷ ys))
     go true e rest = rw e rest
-    go false e rest = rw e (aged.0, (fewer y aged.1.0, all_without (HasEntriesFrom y.ident) (HasEntriesFrom y.ident) gone ys (λ c f from. fewer c from) aged.1.1), rest)
+    go false e rest =
+        rw e (aged.0, (fewer y aged.1.0, all_without (HasEntriesFrom y.ident) (HasEntriesFrom y.ident) gone ys (λ c f from. fewer c from) aged.1.1), rest)
 
 -- ---- targets
 
@@ -82,7 +92,8 @@ is_same_itself (Deck d) = is_same_number d d refl
 
 -- a target that the test tells from t isn't t
 other_target : (t u : Target) → not (is_same t u) ≡ true → t ≡ u → ⊥
-other_target t u other same = let itself : is_same t u ≡ true = subst (λ v. is_same t v ≡ true) same (is_same_itself t) in absurd (let bad = rw itself at other in cc)
+other_target t u other same =
+    let itself : is_same t u ≡ true = subst (λ v. is_same t v ≡ true) same (is_same_itself t) in absurd (let bad = rw itself at other in cc)
 
 apart_filter : {A : Type 0} (test : A → Bool) (xs : List A) → AreApart xs → AreApart (filter test xs)
 apart_filter test [] apart = tt
@@ -140,7 +151,8 @@ deck_positive name l d from h =
     aged true a e = cc
     aged false a e = absurd (cc)
 
-    go : (o : Option Ident) → held_named name l.idents ≡ o → option_and_then (λ (i : Ident). if is_deck_kind i.kind then Some i.age else None) o ≡ Some d → 0 < d
+    go : (o : Option Ident) → held_named name l.idents ≡ o → option_and_then (λ (i : Ident). if is_deck_kind i.kind then Some i.age else None) o ≡ Some d
+        → 0 < d
     go None e f = absurd (cc)
     go (Some i) e f = let same = aged (is_deck_kind i.kind) i.age f in let low = found_from 1 _ l.idents i from e in omega arith
 

@@ -9,7 +9,8 @@ use Rattle.upd_core.specs.Library.{LibraryView, empty}
 use Rattle.upd_core.specs.Limits.{is_within_limits}
 use Rattle.upd_text.specs.Outcome.{at_line}
 use Rattle.upd_core.specs.Sound.{IsSound, Continues}
-use Rattle.upd_deck.specs.Items.{ItemView, LineView, Text, Call, Ident, Deck, CommonDeck, Insert, Before, Delete, Restore, Yank, SelYank, YankDeck, Purge, PurgeFrom, SelPurge, PurDeck, Compile}
+use Rattle.upd_deck.specs.Items.{ItemView, LineView, Text, Call, Ident, Deck, CommonDeck, Insert, Before, Delete, Restore, Yank, SelYank, YankDeck, Purge}
+use Rattle.upd_deck.specs.Items.{PurgeFrom, SelPurge, PurDeck, Compile}
 use Rattle.upd_apply.specs.declared.Hand.{Hand}
 use Rattle.upd_apply.specs.declared.state.Spot.TheVariants.{End}
 use Rattle.upd_apply.specs.declared.state.State.{State}
@@ -20,12 +21,13 @@ use Rattle.upd_apply.specs.Names.{known_ident}
 use Rattle.upd_apply.specs.Yanks.{sets_yanked, pairs_yanked, decks_yanked}
 use Rattle.upd_apply.specs.Purges.{idents_purged, decks_purged, pairs_purged}
 use Rattle.upd_laws.specs.Soundness.{count_of, IsInHand, IsHandSound, IsAtEnd, IsSpotSound, IsSoundState, after_run, after_runs}
-use Rattle.upd_laws.proofs.SoundOutcomes.{through, holds_of}
-use Rattle.upd_laws.proofs.SoundIdents.{continues_same, continues_on}
-use Rattle.upd_laws.proofs.SoundYanks.{sets_are, pairs_are, decks_are}
-use Rattle.upd_laws.proofs.SoundEdits.{purged_sound}
-use Rattle.upd_laws.proofs.SoundLeads.{step_goes, step_within}
-use Rattle.upd_laws.proofs.SoundSteps.{set_sound, deck_begun_sound, after_sound, before_sound, switched_sound, put_sound, yank_put_sound, others_found, purged_in_all_sound, ended_sound}
+use Rattle.upd_laws.proofs.SoundOutcomeLemmas.{through, holds_of}
+use Rattle.upd_laws.proofs.SoundIdentLemmas.{continues_same, continues_on}
+use Rattle.upd_laws.proofs.SoundYankLemmas.{sets_are, pairs_are, decks_are}
+use Rattle.upd_laws.proofs.SoundEditLemmas.{purged_sound}
+use Rattle.upd_laws.proofs.SoundLeadLemmas.{step_goes, step_within}
+use Rattle.upd_laws.proofs.SoundStepLemmas.{set_sound, deck_begun_sound, after_sound, before_sound, switched_sound, put_sound, yank_put_sound, others_found}
+use Rattle.upd_laws.proofs.SoundStepLemmas.{purged_in_all_sound, ended_sound}
 
 -- ---- a line
 
@@ -43,14 +45,18 @@ done_sound (Yank ranges) text s t sound h = yank_put_sound text (sets_yanked ran
 done_sound (SelYank pairs) text s t sound h = yank_put_sound text (pairs_yanked pairs) s t (λ z l found from e. pairs_are z l pairs found from e) sound h
 done_sound (YankDeck names) text s t sound h = yank_put_sound text (decks_yanked names) s t (λ z l found from e. decks_are z l names found from e) sound h
 done_sound (Purge ranges) text s t sound h =
-    through (idents_purged ranges s.library) _ t (IsSoundState t) h (λ ages e h1. holds_of IsSoundState _ t h1 (ended_sound (purged (is_among ages) s.library) (purged_sound (is_among ages) s.library sound.library)))
+    through (idents_purged ranges s.library) _ t (IsSoundState t) h
+    (λ ages e h1. holds_of IsSoundState _ t h1 (ended_sound (purged (is_among ages) s.library) (purged_sound (is_among ages) s.library sound.library)))
 done_sound (PurgeFrom name) text s t sound h =
-    through (known_ident name s.library) _ t (IsSoundState t) h (λ age e h1. holds_of IsSoundState _ t h1 (ended_sound (purged_back age s.library) (purged_sound (nat_le age) s.library sound.library)))
+    through (known_ident name s.library) _ t (IsSoundState t) h
+    (λ age e h1. holds_of IsSoundState _ t h1 (ended_sound (purged_back age s.library) (purged_sound (nat_le age) s.library sound.library)))
 done_sound (SelPurge pairs) text s t sound h =
     through (pairs_purged pairs s.library) _ t (IsSoundState t) h (λ ages e h1.
-    holds_of IsSoundState _ t h1 (ended_sound (purged_in_all ages s.library) (purged_in_all_sound ages s.library (others_found pairs s.library ages e) sound.library)))
+    holds_of IsSoundState _ t h1
+    (ended_sound (purged_in_all ages s.library) (purged_in_all_sound ages s.library (others_found pairs s.library ages e) sound.library)))
 done_sound (PurDeck ranges) text s t sound h =
-    through (decks_purged ranges s.library) _ t (IsSoundState t) h (λ ages e h1. holds_of IsSoundState _ t h1 (ended_sound (purged (is_among ages) s.library) (purged_sound (is_among ages) s.library sound.library)))
+    through (decks_purged ranges s.library) _ t (IsSoundState t) h
+    (λ ages e h1. holds_of IsSoundState _ t h1 (ended_sound (purged (is_among ages) s.library) (purged_sound (is_among ages) s.library sound.library)))
 done_sound (Compile ranges) text s t sound h = holds_of IsSoundState s t h sound
 
 pub step_sound : (line : LineView) (s t : State) → IsSoundState s → step line s ≡ Ok t → IsSoundState t
@@ -65,7 +71,8 @@ line_is n (Err kind) x e = absurd (cc)
 pub steps_sound : (lines : List LineView) (s t : State) → IsSoundState s → stepped lines s ≡ Ok t → IsSoundState t
 steps_sound [] s t sound h = holds_of IsSoundState s t h sound
 steps_sound (line ∷ lines) s t sound h =
-    through (at_line line.number (step line s)) _ t (IsSoundState t) h (λ x e h1. steps_sound lines x t (step_sound line s x sound (line_is line.number (step line s) x e)) h1)
+    through (at_line line.number (step line s)) _ t (IsSoundState t) h
+    (λ x e h1. steps_sound lines x t (step_sound line s x sound (line_is line.number (step line s) x e)) h1)
 
 pub steps_go : (lines : List LineView) (s t : State) → stepped lines s ≡ Ok t → Continues s.library.idents t.library.idents
 steps_go [] s t h = holds_of (λ (x : State). Continues s.library.idents x.library.idents) s t h (continues_same s.library.idents)
@@ -83,7 +90,8 @@ pub started_sound : (l : LibraryView) → IsSound l → IsSoundState (started l)
 started_sound l s = record { library = s; hand = tt; spot = tt }
 
 -- what holds of the library of each state that lines reach holds of what a run leaves
-pub reached_by : (P : LibraryView → Type 0) (lines : List LineView) (l : LibraryView) (r : Reached) → ((s : State) → stepped lines (started l) ≡ Ok s → P s.library) → applied lines l ≡ Ok r → P r.library
+pub reached_by : (P : LibraryView → Type 0) (lines : List LineView) (l : LibraryView) (r : Reached)
+    → ((s : State) → stepped lines (started l) ≡ Ok s → P s.library) → applied lines l ≡ Ok r → P r.library
 reached_by P lines l r k h =
     through (stepped lines (started l)) _ r (P r.library) h (λ s e h1.
     through (named_decks lines s.library) _ r (P r.library) h1 (λ decks f h2. holds_of (λ (r : Reached). P r.library) _ r h2 (k s e)))
@@ -94,7 +102,8 @@ run_sound lines l r sound h = reached_by IsSound lines l r (λ s e. let t = step
 pub run_goes : (lines : List LineView) (l : LibraryView) (r : Reached) → applied lines l ≡ Ok r → Continues l.idents r.library.idents
 run_goes lines l r h = reached_by (λ m. Continues l.idents m.idents) lines l r (λ s e. steps_go lines (started l) s e) h
 
-pub run_within : (lines : List LineView) (l : LibraryView) (r : Reached) → is_within_limits l ≡ true → applied lines l ≡ Ok r → is_within_limits r.library ≡ true
+pub run_within : (lines : List LineView) (l : LibraryView) (r : Reached) → is_within_limits l ≡ true → applied lines l ≡ Ok r
+    → is_within_limits r.library ≡ true
 run_within lines l r within h = reached_by (λ m. is_within_limits m ≡ true) lines l r (λ s e. steps_within lines (started l) s within e) h
 
 pub empty_sound : IsSound empty
@@ -140,13 +149,15 @@ runs_go (run ∷ runs) l = continues_on l.idents (after_run l (applied run l)).i
 
 -- ---- the next numbers
 
-pub hand_counted : (lines : List LineView) (l : LibraryView) (s : State) (hand : Hand) → IsSound l → stepped lines (started l) ≡ Ok s → s.hand ≡ Some hand → hand.next ≡ count_of hand.ident s.library + 1
+pub hand_counted : (lines : List LineView) (l : LibraryView) (s : State) (hand : Hand) → IsSound l → stepped lines (started l) ≡ Ok s → s.hand ≡ Some hand
+    → hand.next ≡ count_of hand.ident s.library + 1
 hand_counted lines l s hand sound h e =
     let state = steps_sound lines (started l) s (started_sound l sound) h in
     let in_hand : IsInHand hand s.library = subst (λ o. IsHandSound o s.library) e state.hand in
     in_hand.next.counted
 
-pub end_counted : (lines : List LineView) (l : LibraryView) (s : State) (d n : ℕ) → IsSound l → stepped lines (started l) ≡ Ok s → s.spot ≡ End d n → n ≡ count_of d s.library + 1
+pub end_counted : (lines : List LineView) (l : LibraryView) (s : State) (d n : ℕ) → IsSound l → stepped lines (started l) ≡ Ok s → s.spot ≡ End d n
+    → n ≡ count_of d s.library + 1
 end_counted lines l s d n sound h e =
     let state = steps_sound lines (started l) s (started_sound l sound) h in
     let at : IsAtEnd d n s.hand s.library = subst (λ spot. IsSpotSound spot s.hand s.library) e state.spot in

@@ -9,7 +9,7 @@ use Rattle.upd_core.specs.declared.ident.Ident.{Ident}
 use Rattle.upd_core.specs.Edits.{without_entries, without_idents, decks_without, unheld}
 use Rattle.upd_core.specs.Library.{CardView, DeckView}
 use Rattle.upd_laws.specs.PurgingBack.{GoesOn, AreAmong, Ended, Kept, Come, DecksGoOn}
-use Rattle.upd_laws.proofs.BackLibraries.{Within}
+use Rattle.upd_laws.proofs.BackLibraryLemmas.{Within}
 
 -- ---- what is older than x
 

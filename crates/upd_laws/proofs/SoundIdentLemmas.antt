@@ -1,5 +1,6 @@
 -- The directory: its ages, the names that are held, who is held, and how it goes on.
-use Rattle.std.proofs.Common.{◌≡◌, ℕ, ◌+◌, ◌<◌, ◌≤◌, Bool, true, false, cond, not, ◌&&◌, List, [], ◌∷◌, ◌++◌, map, length, inl, inr, refl, sym, ap, ◌∙◌, subst, arith}
+use Rattle.std.proofs.Common.{◌≡◌, ℕ, ◌+◌, ◌<◌, ◌≤◌, Bool, true, false, cond, not, ◌&&◌, List, [], ◌∷◌, ◌++◌, map, length, inl, inr, refl, sym, ap, ◌∙◌}
+use Rattle.std.proofs.Common.{subst, arith}
 use Rattle.std.proofs.lemmas.List.Elements.{filter-append}
 use Rattle.std.proofs.lemmas.Slice.Eq.{bytes_eq-Decides}
 use Rattle.std.specs.Prelude.{Option, Some, None, is_some, ◌==◌, ◌⊎◌}
@@ -9,7 +10,9 @@ use Rattle.upd_core.specs.declared.ident.Ident.{Ident}
 use Rattle.upd_core.specs.Edits.{unheld}
 use Rattle.upd_core.specs.Library.{held_named, is_deck_kind}
 use Rattle.upd_core.specs.Sound.{AreApart, AreAgedFrom, is_held, is_held_deck, Continues}
-use Rattle.upd_laws.proofs.SoundLists.{and_left, and_right, both, or_cases, or_left, or_right, same_number, is_same_number, apart_end, all_filter, all_map, all_weaker, IsPart, none, fewer, kept, any_end, any_front, any_last, any_mapped, any_weaker, find_none_end, find_none_mapped}
+use Rattle.upd_laws.proofs.SoundListLemmas.{and_left, and_right, both, or_cases, or_left, or_right, same_number, is_same_number, apart_end, all_filter, all_map}
+use Rattle.upd_laws.proofs.SoundListLemmas.{all_weaker, IsPart, none, fewer, kept, any_end, any_front, any_last, any_mapped, any_weaker, find_none_end}
+use Rattle.upd_laws.proofs.SoundListLemmas.{find_none_mapped}
 
 -- ---- ages
 
@@ -26,7 +29,8 @@ pub held_within : (n : ℕ) (idents : List Ident) (z : ℕ) → AreAgedFrom n id
 held_within n [] z ages e = absurd (cc)
 held_within n (i ∷ idents) z ages e = go (or_cases (i.held && (i.age == z)) (is_held idents z) e) (held_within (n + 1) idents z ages.1)
   where
-    go : ((i.held && (i.age == z)) ≡ true) ⊎ (is_held idents z ≡ true) → (is_held idents z ≡ true → (n + 1 ≤ z) × (z < (n + 1) + length idents)) → (n ≤ z) × (z < n + length (i ∷ idents))
+    go : ((i.held && (i.age == z)) ≡ true) ⊎ (is_held idents z ≡ true) → (is_held idents z ≡ true → (n + 1 ≤ z) × (z < (n + 1) + length idents))
+        → (n ≤ z) × (z < n + length (i ∷ idents))
     go (inl f) rest = let same = same_number i.age z (and_right i.held (i.age == z) f) in (omega (arith, ages.0), omega (arith, ages.0))
     go (inr f) rest = let r = rest f in (omega arith, omega arith)
 
@@ -92,7 +96,8 @@ held_still gone idents z stays e = any_mapped _ _ (unheld gone) idents (λ i f. 
         let same : i.age ≡ z = same_number i.age z (and_right i.held (i.age == z) f) in
         rw (and_left i.held (i.age == z) f, same, stays, is_same_number z z refl) refl
 
-pub held_deck_still : (gone : ℕ → Bool) (idents : List Ident) (z : ℕ) → gone z ≡ false → is_held_deck idents z ≡ true → is_held_deck (map (unheld gone) idents) z ≡ true
+pub held_deck_still : (gone : ℕ → Bool) (idents : List Ident) (z : ℕ) → gone z ≡ false → is_held_deck idents z ≡ true
+    → is_held_deck (map (unheld gone) idents) z ≡ true
 held_deck_still gone idents z stays e = any_mapped _ _ (unheld gone) idents (λ i f. go i f) e
   where
     go : (i : Ident) → (i.held && is_deck_kind i.kind && (i.age == z)) ≡ true → ((i.held && not (gone i.age)) && is_deck_kind i.kind && (i.age == z)) ≡ true
@@ -117,9 +122,12 @@ unnamed name (i ∷ idents) e = go i.held refl (bytes_eq i.name name) refl (unna
     go : (h : Bool) → i.held ≡ h → (b : Bool) → bytes_eq i.name name ≡ b → Rest → AllByRecursion (λ i. name ≡ i.name → ⊥) (filter (λ i. i.held) (i ∷ idents))
     go false f b g rest = let later = rw f at e in rw f (rest later)
     go true f true g rest = let found = rw (f, g) at e in absurd (cc)
-    go true f false g rest = let later = rw (f, g) at e in rw f ((λ same. let is : bytes_eq i.name name ≡ true = (bytes_eq-Decides i.name name).1 (sym same) in absurd (cc)), rest later)
+    go true f false g rest =
+        let later = rw (f, g) at e in
+        rw f ((λ same. let is : bytes_eq i.name name ≡ true = (bytes_eq-Decides i.name name).1 (sym same) in absurd (cc)), rest later)
 
-pub names_end : (idents : List Ident) (i : Ident) → i.held ≡ true → held_named i.name idents ≡ None → AreApart (map (λ i. i.name) (filter (λ i. i.held) idents)) → AreApart (map (λ i. i.name) (filter (λ i. i.held) (idents ++ i ∷ [])))
+pub names_end : (idents : List Ident) (i : Ident) → i.held ≡ true → held_named i.name idents ≡ None → AreApart (map (λ i. i.name) (filter (λ i. i.held) idents))
+    → AreApart (map (λ i. i.name) (filter (λ i. i.held) (idents ++ i ∷ [])))
 names_end idents i held free apart = subst AreApart (sym whole) (apart_end i.name _ apart (all_map _ (λ (j : Ident). j.name) _ (unnamed i.name idents free)))
   where
     name : Ident → List ℕ
@@ -130,13 +138,17 @@ names_end idents i held free apart = subst AreApart (sym whole) (apart_end i.nam
     mapped (x ∷ xs) = ap (λ l. x.name ∷ l) (mapped xs)
 
     whole : map name (filter (λ j. j.held) (idents ++ i ∷ [])) ≡ map name (filter (λ j. j.held) idents) ++ i.name ∷ []
-    whole = ap (map name) (filter-append (λ (j : Ident). j.held) idents (i ∷ []) ∙ ap (λ b. filter (λ (j : Ident). j.held) idents ++ cond b (i ∷ []) []) held) ∙ mapped (filter (λ j. j.held) idents)
+    whole =
+        ap (map name) (filter-append (λ (j : Ident). j.held) idents (i ∷ []) ∙ ap (λ b. filter (λ (j : Ident). j.held) idents ++ cond b (i ∷ []) []) held)
+        ∙ mapped (filter (λ j. j.held) idents)
 
-pub names_unheld : (gone : ℕ → Bool) (idents : List Ident) → IsPart (λ (i : Ident). i.name) (filter (λ i. i.held) idents) (filter (λ i. i.held) (map (unheld gone) idents))
+pub names_unheld : (gone : ℕ → Bool) (idents : List Ident)
+    → IsPart (λ (i : Ident). i.name) (filter (λ i. i.held) idents) (filter (λ i. i.held) (map (unheld gone) idents))
 names_unheld gone [] = none
 names_unheld gone (i ∷ idents) = go i.held refl (gone i.age) refl (names_unheld gone idents)
   where
-    go : (h : Bool) → i.held ≡ h → (b : Bool) → gone i.age ≡ b → IsPart (λ (i : Ident). i.name) (filter (λ i. i.held) idents) (filter (λ i. i.held) (map (unheld gone) idents))
+    go : (h : Bool) → i.held ≡ h → (b : Bool) → gone i.age ≡ b
+        → IsPart (λ (i : Ident). i.name) (filter (λ i. i.held) idents) (filter (λ i. i.held) (map (unheld gone) idents))
         → IsPart (λ (i : Ident). i.name) (filter (λ i. i.held) (i ∷ idents)) (filter (λ i. i.held) (map (unheld gone) (i ∷ idents)))
     go false f b g rest = rw f rest
     go true f true g rest = rw (f, g) (fewer rest)

@@ -1,5 +1,6 @@
 -- Each edit keeps a library sound.
-use Rattle.std.proofs.Common.{◌≡◌, ℕ, zero, suc, ◌+◌, ◌-◌, ◌<◌, ◌≤◌, Bool, true, false, cond, not, ◌||◌, List, [], ◌∷◌, ◌++◌, map, length, take, drop, inl, inr, refl, sym, ap, ◌∙◌, subst, arith}
+use Rattle.std.proofs.Common.{◌≡◌, ℕ, zero, suc, ◌+◌, ◌-◌, ◌<◌, ◌≤◌, Bool, true, false, cond, not, ◌||◌, List, [], ◌∷◌, ◌++◌, map, length, inl}
+use Rattle.std.proofs.Common.{inr, refl, sym, ap, ◌∙◌, subst, arith}
 use Rattle.std.proofs.lemmas.Bool.{ne_eqb}
 use Rattle.std.specs.Prelude.{Some, None, ◌==◌, ◌⊎◌, insert, IsTrue}
 use Rattle.std.specs.Str.{bytes_eq}
@@ -10,23 +11,33 @@ use Rattle.upd_core.specs.declared.ident.Ident.{Ident}
 use Rattle.upd_core.specs.declared.ident.Kind.{Kind}
 use Rattle.upd_core.specs.declared.ident.Kind.TheVariants as kind
 use Rattle.upd_core.specs.declared.target.Target.{Target}
-use Rattle.upd_core.specs.Edits.{introduced, next_age, new_card, unheld, entered, without_entries, without_idents, decks_without, with_card, with_deck, with_yank, with_entries, purged, purged_in}
+use Rattle.upd_core.specs.Edits.{introduced, next_age, new_card, unheld, without_entries, without_idents, decks_without, with_card, with_deck}
+use Rattle.upd_core.specs.Edits.{entered_range}
+use Rattle.upd_core.specs.Edits.{with_yank, with_entries, purged, purged_in}
 use Rattle.upd_core.specs.First.{at_first}
 use Rattle.upd_core.specs.Library.{CardView, DeckView, LibraryView, all_decks, cards_of, held_named, is_deck, is_deck_kind, with_cards}
-use Rattle.upd_core.specs.Sound.{AreAgedFrom, AreApart, AreRising, is_held, is_held_deck, stands, BeginsOn, BeginsWithItsOwn, HasNoTargets, IsOfHeld, key_of, all_cards, IsSound}
+use Rattle.upd_core.specs.Sound.{AreAgedFrom, AreApart, AreRising, is_held, is_held_deck, stands, BeginsOn, BeginsWithItsOwn, HasNoTargets, IsOfHeld}
+use Rattle.upd_core.specs.Sound.{key_of, all_cards, IsSound}
 use Rattle.upd_core.specs.Status.{IsAged}
 use Rattle.upd_text.specs.Names.{yank_name}
-use Rattle.upd_laws.proofs.SoundLists.{or_cases, or_left, or_right, same_number, is_same_number, other_number, all_append, all_weaker, all_filter, all_map, rising_end, any_front, any_last, more_all, more_apart, IsPart, none, kept, part_apart, part_rising, part_append, zip_all, zip_part, at_first_all, at_first_map, at_first_part, find_passes}
-use Rattle.upd_laws.proofs.SoundIdents.{ages_end, ages_unheld, held_within, held_more, held_deck_more, held_deck_last, held_deck_held, held_deck_end, held_deck_was, held_deck_still, names_end, names_unheld, unnamed_end, unnamed_still}
-use Rattle.upd_laws.proofs.SoundCards.{flat, changed, decks_with, standing_by_ages, standing_still, insert_more, more_with_card, more_with_yank, more_with_deck, IsEntered, entered_some, zip_with_entries, all_without, all_purged, all_purged_in, keys_without, keys_decks, ages_decks, all_decks_without, held_without, begins_without, begins_entered, plain_without, first_without}
-use Rattle.upd_laws.proofs.SoundYanks.{aged_end, same_ident, same_number_of, same_targets, aged_entered, aged_without, AreYanked}
+use Rattle.upd_laws.proofs.SoundListLemmas.{or_cases, or_left, or_right, same_number, is_same_number, other_number, all_append, all_weaker, all_filter, all_map}
+use Rattle.upd_laws.proofs.SoundListLemmas.{rising_end, any_front, any_last, more_all, more_apart, IsPart, none, kept, part_apart, part_rising, part_append}
+use Rattle.upd_laws.proofs.SoundListLemmas.{zip_all, zip_part, at_first_all, at_first_map, at_first_part, find_passes}
+use Rattle.upd_laws.proofs.SoundIdentLemmas.{ages_end, ages_unheld, held_within, held_more, held_deck_more, held_deck_last, held_deck_held, held_deck_end}
+use Rattle.upd_laws.proofs.SoundIdentLemmas.{held_deck_was, held_deck_still, names_end, names_unheld, unnamed_end, unnamed_still}
+use Rattle.upd_laws.proofs.SoundCardLemmas.{flat, changed, decks_with, standing_by_ages, standing_still, insert_more, more_with_card, more_with_yank}
+use Rattle.upd_laws.proofs.SoundCardLemmas.{more_with_deck, IsEntered, entered_some, zip_with_entries, all_without, all_purged, all_purged_in, keys_without}
+use Rattle.upd_laws.proofs.SoundCardLemmas.{keys_decks, ages_decks, all_decks_without, held_without, begins_without, begins_entered, plain_without}
+use Rattle.upd_laws.proofs.SoundCardLemmas.{first_without}
+use Rattle.upd_laws.proofs.SoundYankLemmas.{aged_end, same_ident, same_number_of, same_targets, aged_entered, aged_without, AreYanked}
 
 -- no card is of an ident that isn't in the directory
 pub none_beyond : (l : LibraryView) → IsSound l → AllByRecursion (λ c. c.ident ≤ length l.idents) (all_cards l)
 none_beyond l s = all_weaker (IsOfHeld l.idents) _ (all_cards l) (λ c h. let w = held_within 1 l.idents c.ident s.ages h.0 in omega arith) s.cards
 
 of_held_more : (idents more : List Ident) (c : CardView) → IsOfHeld idents c → IsOfHeld (idents ++ more) c
-of_held_more idents more c h = (held_more idents more c.ident h.0, all_weaker (λ (e : Entry). IsTrue (is_held idents e.ident)) _ c.history (λ e f. held_more idents more e.ident f) h.1)
+of_held_more idents more c h =
+    (held_more idents more c.ident h.0, all_weaker (λ (e : Entry). IsTrue (is_held idents e.ident)) _ c.history (λ e f. held_more idents more e.ident f) h.1)
 
 -- what the directory of a library says once it has a new ident of a free name
 record IsIntroduced (i : Ident) (l : LibraryView) : Type 0 where
@@ -94,7 +105,8 @@ deck_sound name sort noprop text l deck s free other =
       reserved = with.reserved;
       decks = all_append (λ (d : DeckView). IsTrue (is_held_deck (l.idents ++ i ∷ []) d.ident)) l.decks (d ∷ []) with.decks (held, tt);
       deck_ages = subst AreRising (sym (ages_behind l d))
-          (rising_end a (map (λ d. d.ident) (all_decks l)) s.deck_ages (omega arith, all_map (λ b. b < a) (λ (d : DeckView). d.ident) l.decks (decks_below l s)));
+          (rising_end a (map (λ d. d.ident) (all_decks l)) s.deck_ages
+          (omega arith, all_map (λ b. b < a) (λ (d : DeckView). d.ident) l.decks (decks_below l s)));
       firsts = all_append BeginsWithItsOwn l.decks (d ∷ []) s.firsts ((refl, refl), tt);
       standing = λ whole z was. elim (held_deck_end l.idents i z was) [
         | inl h ↦ any_front (is_deck z) (all_decks l) (d ∷ []) (s.standing whole z h)
@@ -110,7 +122,8 @@ deck_sound name sort noprop text l deck s free other =
       plain = all_append HasNoTargets l.decks (d ∷ []) s.plain ((refl, tt), tt);
     }
   where
-    ages_behind : (l : LibraryView) (d : DeckView) → map (λ (d : DeckView). d.ident) (all_decks l ++ d ∷ []) ≡ map (λ (d : DeckView). d.ident) (all_decks l) ++ d.ident ∷ []
+    ages_behind : (l : LibraryView) (d : DeckView)
+        → map (λ (d : DeckView). d.ident) (all_decks l ++ d ∷ []) ≡ map (λ (d : DeckView). d.ident) (all_decks l) ++ d.ident ∷ []
     ages_behind l d = go (all_decks l)
       where
         go : (ds : List DeckView) → map (λ (d : DeckView). d.ident) (ds ++ d ∷ []) ≡ map (λ (d : DeckView). d.ident) ds ++ d.ident ∷ []
@@ -189,7 +202,8 @@ card_sound d behind c l s standing other new untargeted place =
     within : (e : DeckView) → find (is_deck d) (all_decks l) ≡ Some e → (behind ≡ 0) ⊎ (behind < length e.cards)
     within e f = elim place [ inl a ↦ inl a | inr b ↦ inr (subst (λ o. behind < length (option_map_or (λ (d : DeckView). d.cards) o [])) f b) ]
 
-    at : (ident : ℕ) (cards : List CardView) (n : ℕ) → 0 < n → BeginsWithItsOwn (record { ident = ident; cards = cards }) → BeginsWithItsOwn (record { ident = ident; cards = insert cards n c })
+    at : (ident : ℕ) (cards : List CardView) (n : ℕ) → 0 < n → BeginsWithItsOwn (record { ident = ident; cards = cards })
+        → BeginsWithItsOwn (record { ident = ident; cards = insert cards n c })
     at ident [] n positive first = absurd first
     at ident (b ∷ cards) zero positive first = absurd (omega arith)
     at ident (b ∷ cards) (suc n) positive first = first
@@ -198,11 +212,13 @@ card_sound d behind c l s standing other new untargeted place =
     some ident [] first = absurd first
     some ident (b ∷ cards) first = omega arith
 
-    first_kept : (e : DeckView) → (behind ≡ 0) ⊎ (behind < length e.cards) → BeginsWithItsOwn e → BeginsWithItsOwn (changed (λ cards. insert cards (length cards - behind) c) e)
+    first_kept : (e : DeckView) → (behind ≡ 0) ⊎ (behind < length e.cards) → BeginsWithItsOwn e
+        → BeginsWithItsOwn (changed (λ cards. insert cards (length cards - behind) c) e)
     first_kept e (inl a) first = let b = some e.ident e.cards first in at e.ident e.cards (length e.cards - behind) (omega arith) first
     first_kept e (inr b) first = at e.ident e.cards (length e.cards - behind) (omega arith) first
 
-pub yank_sound : (z n : ℕ) (text : List ℕ) (targets : List Target) (l : LibraryView) → IsSound l → IsNew (new_card z n text targets) l → AllByRecursion (λ c. c.ident ≤ z) l.yanks → AreYanked z targets → IsSound (with_yank (new_card z n text targets) l)
+pub yank_sound : (z n : ℕ) (text : List ℕ) (targets : List Target) (l : LibraryView) → IsSound l → IsNew (new_card z n text targets) l
+    → AllByRecursion (λ c. c.ident ≤ z) l.yanks → AreYanked z targets → IsSound (with_yank (new_card z n text targets) l)
 yank_sound z n text targets l s new young yanked =
     let c : CardView = new_card z n text targets in
     let more = more_with_yank c l in
@@ -227,28 +243,35 @@ same_key e x y r = let a = same_ident e x y r in let b = same_number_of e x y r 
 
 entered_held : (idents : List Ident) (e : Entry) (x y : CardView) → IsTrue (is_held idents e.ident) → IsEntered e x y → IsOfHeld idents x → IsOfHeld idents y
 entered_held idents e x y held (inl same) h = subst (IsOfHeld idents) (sym same) h
-entered_held idents e x y held (inr same) h = subst (IsOfHeld idents) (sym same) (h.0, all_append (λ (f : Entry). IsTrue (is_held idents f.ident)) x.history (e ∷ []) h.1 (held, tt))
+entered_held idents e x y held (inr same) h =
+    subst (IsOfHeld idents) (sym same) (h.0, all_append (λ (f : Entry). IsTrue (is_held idents f.ident)) x.history (e ∷ []) h.1 (held, tt))
 
 -- entries of a held ident that is as young as any of `YANK$$$`
-pub entries_sound : (d from to : ℕ) (e : Entry) (l : LibraryView) → IsSound l → from ≤ to → IsTrue (is_held l.idents e.ident) → AllByRecursion (λ c. c.ident ≤ e.ident) l.yanks → IsSound (with_entries d from to e l)
+pub entries_sound : (d from to : ℕ) (e : Entry) (l : LibraryView) → IsSound l → from ≤ to → IsTrue (is_held l.idents e.ident)
+    → AllByRecursion (λ c. c.ident ≤ e.ident) l.yanks → IsSound (with_entries d from to e l)
 entries_sound d from to e l s order held young =
     let zip = zip_with_entries d from to e l order in
-    let some : (cards : List CardView) → AllZip (IsEntered e) cards (take from cards ++ map (entered e) (drop from (take (to + 1) cards)) ++ drop (to + 1) cards) = λ cards. entered_some e from (to + 1) cards (omega arith) in
-    with_cards_sound d (λ cards. take from cards ++ map (entered e) (drop from (take (to + 1) cards)) ++ drop (to + 1) cards) l s
+    let some : (cards : List CardView) → AllZip (IsEntered e) cards (entered_range from to e cards) =
+    λ cards. entered_some e from (to + 1) cards (omega arith) in
+    with_cards_sound d (entered_range from to e) l s
     (zip_all (IsEntered e) (IsOfHeld l.idents) (IsOfHeld l.idents) (all_cards l) _ (λ x y r h. entered_held l.idents e x y held r h) zip s.cards)
     (zip_all (IsEntered e) BeginsOn BeginsOn (all_cards l) _ (λ x y r h. begins_entered e x y r h) zip s.histories)
     (part_apart key_of (zip_part (IsEntered e) key_of (all_cards l) _ (same_key e) zip) s.keys)
     (λ x f first. first_entered e x.ident x.cards _ (some x.cards) first)
-    (λ d all zero. zip_all (IsEntered e) (λ (c : CardView). c.targets ≡ []) (λ c. c.targets ≡ []) d.cards _ (λ x y r h. same_targets e x y r ∙ h) (some d.cards) all)
+    (λ d all zero. zip_all (IsEntered e) (λ (c : CardView). c.targets ≡ []) (λ c. c.targets ≡ []) d.cards _ (λ x y r h. same_targets e x y r ∙ h)
+    (some d.cards) all)
     (λ zero. aged_entered e l.yanks _ (some l.yanks) young s.yanks)
-    (λ zero. zip_all (IsEntered e) (λ (c : CardView). AreApart c.targets) (λ c. AreApart c.targets) l.yanks _ (λ x y r h. subst AreApart (sym (same_targets e x y r)) h) (some l.yanks) s.targets)
+    (λ zero. zip_all (IsEntered e) (λ (c : CardView). AreApart c.targets) (λ c. AreApart c.targets) l.yanks _
+    (λ x y r h. subst AreApart (sym (same_targets e x y r)) h) (some l.yanks) s.targets)
   where
-    first_entered : (e : Entry) (ident : ℕ) (xs ys : List CardView) → AllZip (IsEntered e) xs ys → BeginsWithItsOwn (record { ident = ident; cards = xs }) → BeginsWithItsOwn (record { ident = ident; cards = ys })
+    first_entered : (e : Entry) (ident : ℕ) (xs ys : List CardView) → AllZip (IsEntered e) xs ys → BeginsWithItsOwn (record { ident = ident; cards = xs })
+        → BeginsWithItsOwn (record { ident = ident; cards = ys })
     first_entered e ident [] ys zip first = absurd first
     first_entered e ident (x ∷ xs) [] zip first = absurd zip
     first_entered e ident (x ∷ xs) (y ∷ ys) zip first = (same_ident e x y zip.0 ∙ first.0, same_number_of e x y zip.0 ∙ first.1)
 
-yanks_stay : (gone : ℕ → Bool) (l : LibraryView) → IsPart (λ (d : DeckView). d.ident) (record { ident = 0; cards = l.yanks } ∷ []) (record { ident = 0; cards = without_idents gone l.yanks } ∷ [])
+yanks_stay : (gone : ℕ → Bool) (l : LibraryView)
+    → IsPart (λ (d : DeckView). d.ident) (record { ident = 0; cards = l.yanks } ∷ []) (record { ident = 0; cards = without_idents gone l.yanks } ∷ [])
 yanks_stay gone l = kept refl none
 
 -- a purge of any idents

@@ -1,5 +1,5 @@
 -- What a line makes of a library: it grows within its limits, or idents are purged.
-use Rattle.std.proofs.Common.{◌≡◌, ℕ, ◌+◌, ◌-◌, Bool, true, false, not, ◌||◌, List, [], ◌∷◌, ◌++◌, map, length, take, drop, sym, subst}
+use Rattle.std.proofs.Common.{◌≡◌, ℕ, ◌-◌, Bool, true, false, not, ◌||◌, List, [], ◌∷◌, length, sym, subst}
 use Rattle.std.specs.Prelude.{Result, Ok, ◌==◌, nat_lt, nat_le, insert}
 use Rattle.upd_core.specs.declared.card.Entry.{Entry}
 use Rattle.upd_text.specs.declared.card_ref.CardRef.{CardRef}
@@ -8,11 +8,14 @@ use Rattle.upd_text.specs.declared.fault.FaultKind.TheVariants as fault
 use Rattle.upd_core.specs.declared.ident.Kind.{Kind}
 use Rattle.upd_core.specs.declared.ident.Kind.TheVariants as kind
 use Rattle.upd_core.specs.declared.target.Target.{Target}
-use Rattle.upd_core.specs.Edits.{introduced, next_age, new_card, entered, without_idents, with_deck, with_card, with_yank, with_entries, purged, purged_in, is_among}
+use Rattle.upd_core.specs.Edits.{introduced, next_age, new_card, without_idents, with_deck, with_card, with_yank, with_entries, purged, purged_in}
+use Rattle.upd_core.specs.Edits.{entered_range}
+use Rattle.upd_core.specs.Edits.{is_among}
 use Rattle.upd_core.specs.Library.{CardView, LibraryView, place_of, with_cards}
 use Rattle.upd_core.specs.Limits.{is_within_limits}
 use Rattle.upd_core.specs.Sound.{Continues}
-use Rattle.upd_deck.specs.Items.{ItemView, LineView, Text, Call, Ident, Deck, CommonDeck, Insert, Before, Delete, Restore, Yank, SelYank, YankDeck, Purge, PurgeFrom, SelPurge, PurDeck, Compile}
+use Rattle.upd_deck.specs.Items.{ItemView, LineView, Text, Call, Ident, Deck, CommonDeck, Insert, Before, Delete, Restore, Yank, SelYank, YankDeck, Purge}
+use Rattle.upd_deck.specs.Items.{PurgeFrom, SelPurge, PurDeck, Compile}
 use Rattle.upd_apply.specs.declared.state.Spot.{Spot}
 use Rattle.upd_apply.specs.declared.state.Spot.TheVariants.{Nowhere, End, Inside}
 use Rattle.upd_apply.specs.declared.state.State.{State}
@@ -20,10 +23,10 @@ use Rattle.upd_apply.specs.Step.{done, step, new_name, deck_begun, is_deck_card,
 use Rattle.upd_apply.specs.Names.{known_ident}
 use Rattle.upd_apply.specs.Yanks.{sets_yanked, pairs_yanked, decks_yanked}
 use Rattle.upd_apply.specs.Purges.{AgesIn, idents_purged, decks_purged, pairs_purged}
-use Rattle.upd_laws.proofs.SoundOutcomes.{through, through_need, through_refusal, through_limits, holds_of}
-use Rattle.upd_laws.proofs.SoundIdents.{continues_more, continues_same, continues_unheld, continues_on}
-use Rattle.upd_laws.proofs.SoundCards.{idents_with}
-use Rattle.upd_laws.proofs.SoundLimits.{purged_within, purged_in_within}
+use Rattle.upd_laws.proofs.SoundOutcomeLemmas.{through, through_need, through_refusal, through_limits, holds_of}
+use Rattle.upd_laws.proofs.SoundIdentLemmas.{continues_more, continues_same, continues_unheld, continues_on}
+use Rattle.upd_laws.proofs.SoundCardLemmas.{idents_with}
+use Rattle.upd_laws.proofs.SoundLimitLemmas.{purged_within, purged_in_within}
 
 -- what makes Q hold of each library that a line leaves
 record Leads (Q : LibraryView → Type 0) (l : LibraryView) : Type 0 where
@@ -39,31 +42,48 @@ card_goes : (d behind : ℕ) (c : CardView) (l : LibraryView) → Continues l.id
 card_goes d behind c l = goes_with d (λ cards. insert cards (length cards - behind) c) l
 
 entries_go : (d from to : ℕ) (e : Entry) (l : LibraryView) → Continues l.idents (with_entries d from to e l).idents
-entries_go d from to e l = goes_with d (λ cards. take from cards ++ map (entered e) (drop from (take (to + 1) cards)) ++ drop (to + 1) cards) l
+entries_go d from to e l = goes_with d (entered_range from to e) l
 
 text_leads : (Q : LibraryView → Type 0) (text : List ℕ) (spot : Spot) (s t : State) → Leads Q s.library → text_put text spot s ≡ Ok t → Q t.library
 text_leads Q text Nowhere s t leads h = absurd (cc)
-text_leads Q text (End d n) s t leads h = through_limits (with_card d 0 (new_card d n text []) s.library) _ t (Q t.library) h (λ within h1. holds_of (λ (x : State). Q x.library) _ t h1 (leads.grows (with_card d 0 (new_card d n text []) s.library) within (card_goes d 0 (new_card d n text []) s.library)))
+text_leads Q text (End d n) s t leads h =
+    through_limits (with_card d 0 (new_card d n text []) s.library) _ t (Q t.library) h (λ within h1.
+    holds_of (λ (x : State). Q x.library) _ t h1
+    (leads.grows (with_card d 0 (new_card d n text []) s.library) within (card_goes d 0 (new_card d n text []) s.library)))
 text_leads Q text (Inside d after) s t leads h =
     through_need fault.TextNowhere s.hand _ t (Q t.library) h (λ hand e h1.
     through_refusal (d == 0) fault.YankText _ t (Q t.library) h1 (λ f h2.
     through_limits (with_card d after (new_card hand.ident hand.next text []) s.library) _ t (Q t.library) h2 (λ within h3.
-    holds_of (λ (x : State). Q x.library) _ t h3 (leads.grows (with_card d after (new_card hand.ident hand.next text []) s.library) within (card_goes d after (new_card hand.ident hand.next text []) s.library)))))
+    holds_of (λ (x : State). Q x.library) _ t h3
+    (leads.grows (with_card d after (new_card hand.ident hand.next text []) s.library) within
+    (card_goes d after (new_card hand.ident hand.next text []) s.library)))))
 
-deck_leads : (Q : LibraryView → Type 0) (name : List ℕ) (sort : Kind) (noprop : Bool) (text : List ℕ) (s t : State) → Leads Q s.library → deck_begun name sort noprop text s ≡ Ok t → Q t.library
+deck_leads : (Q : LibraryView → Type 0) (name : List ℕ) (sort : Kind) (noprop : Bool) (text : List ℕ) (s t : State) → Leads Q s.library
+    → deck_begun name sort noprop text s ≡ Ok t → Q t.library
 deck_leads Q name sort noprop text s t leads h =
     through (new_name name s.library) _ t (Q t.library) h (λ b e h1.
-    through_limits (with_deck (record { ident = next_age s.library; cards = new_card (next_age s.library) 1 text [] ∷ [] }) (introduced name sort noprop s.library)) _ t (Q t.library) h1 (λ within h2.
-    holds_of (λ (x : State). Q x.library) _ t h2 (leads.grows (with_deck (record { ident = next_age s.library; cards = new_card (next_age s.library) 1 text [] ∷ [] }) (introduced name sort noprop s.library)) within (continues_more s.library.idents _))))
+    through_limits (with_deck (record {
+      ident =
+          next_age s.library;
+      cards = new_card (next_age s.library) 1 text [] ∷ [];
+    }) (introduced name sort noprop s.library)) _ t (Q t.library) h1 (λ within h2.
+    holds_of (λ (x : State). Q x.library) _ t h2 (leads.grows (with_deck (record {
+      ident =
+          next_age s.library;
+      cards = new_card (next_age s.library) 1 text [] ∷ [];
+    }) (introduced name sort noprop s.library)) within (continues_more s.library.idents _))))
 
-yank_leads : (Q : LibraryView → Type 0) (text : List ℕ) (targets : ℕ → LibraryView → Result (List Target) FaultKind) (s t : State) → Leads Q s.library → yank_put text targets s ≡ Ok t → Q t.library
+yank_leads : (Q : LibraryView → Type 0) (text : List ℕ) (targets : ℕ → LibraryView → Result (List Target) FaultKind) (s t : State) → Leads Q s.library
+    → yank_put text targets s ≡ Ok t → Q t.library
 yank_leads Q text targets s t leads h =
     through_need fault.NoIdent s.hand _ t (Q t.library) h (λ hand e h1.
     through (targets hand.ident s.library) _ t (Q t.library) h1 (λ found f h2.
     through_limits (with_yank (new_card hand.ident hand.next text found) s.library) _ t (Q t.library) h2 (λ within h3.
-    holds_of (λ (x : State). Q x.library) _ t h3 (leads.grows (with_yank (new_card hand.ident hand.next text found) s.library) within (continues_same s.library.idents)))))
+    holds_of (λ (x : State). Q x.library) _ t h3
+    (leads.grows (with_yank (new_card hand.ident hand.next text found) s.library) within (continues_same s.library.idents)))))
 
-switched_leads : (Q : LibraryView → Type 0) (active : Bool) (first last : CardRef) (s t : State) → Leads Q s.library → switched active first last s ≡ Ok t → Q t.library
+switched_leads : (Q : LibraryView → Type 0) (active : Bool) (first last : CardRef) (s t : State) → Leads Q s.library → switched active first last s ≡ Ok t
+    → Q t.library
 switched_leads Q active first last s t leads h =
     through_need fault.NoIdent s.hand _ t (Q t.library) h (λ hand e h1.
     through_need fault.CardUnknown (place_of first s.library) _ t (Q t.library) h1 (λ p f h2.
@@ -71,7 +91,11 @@ switched_leads Q active first last s t leads h =
     through_refusal (not (p.deck == q.deck) || nat_lt q.index p.index) fault.RangeOrder _ t (Q t.library) h3 (λ k h4.
     through_refusal (is_deck_card p) fault.DeckCard _ t (Q t.library) h4 (λ n h5.
     through_limits (with_entries p.deck p.index q.index (record { ident = hand.ident; active = active }) s.library) _ t (Q t.library) h5 (λ within h6.
-    holds_of (λ (x : State). Q x.library) _ t h6 (leads.grows (with_entries p.deck p.index q.index (record { ident = hand.ident; active = active }) s.library) within (entries_go p.deck p.index q.index (record { ident = hand.ident; active = active }) s.library))))))))
+    holds_of (λ (x : State). Q x.library) _ t h6 (leads.grows (with_entries p.deck p.index q.index (record {
+      ident =
+          hand.ident;
+      active = active;
+    }) s.library) within (entries_go p.deck p.index q.index (record { ident = hand.ident; active = active }) s.library))))))))
 
 done_leads : (Q : LibraryView → Type 0) (item : ItemView) (text : List ℕ) (s t : State) → Leads Q s.library → done item text s ≡ Ok t → Q t.library
 done_leads Q Text text s t leads h = text_leads Q text s.spot s t leads h
@@ -96,17 +120,23 @@ done_leads Q (Restore first last) text s t leads h = switched_leads Q true first
 done_leads Q (Yank ranges) text s t leads h = yank_leads Q text (sets_yanked ranges) s t leads h
 done_leads Q (SelYank pairs) text s t leads h = yank_leads Q text (pairs_yanked pairs) s t leads h
 done_leads Q (YankDeck names) text s t leads h = yank_leads Q text (decks_yanked names) s t leads h
-done_leads Q (Purge ranges) text s t leads h = through (idents_purged ranges s.library) _ t (Q t.library) h (λ ages e h1. holds_of (λ (x : State). Q x.library) _ t h1 (leads.purges (is_among ages)))
-done_leads Q (PurgeFrom name) text s t leads h = through (known_ident name s.library) _ t (Q t.library) h (λ age e h1. holds_of (λ (x : State). Q x.library) _ t h1 (leads.purges (nat_le age)))
-done_leads Q (SelPurge pairs) text s t leads h = through (pairs_purged pairs s.library) _ t (Q t.library) h (λ ages e h1. holds_of (λ (x : State). Q x.library) _ t h1 (leads.parts ages))
-done_leads Q (PurDeck ranges) text s t leads h = through (decks_purged ranges s.library) _ t (Q t.library) h (λ ages e h1. holds_of (λ (x : State). Q x.library) _ t h1 (leads.purges (is_among ages)))
+done_leads Q (Purge ranges) text s t leads h =
+    through (idents_purged ranges s.library) _ t (Q t.library) h (λ ages e h1. holds_of (λ (x : State). Q x.library) _ t h1 (leads.purges (is_among ages)))
+done_leads Q (PurgeFrom name) text s t leads h =
+    through (known_ident name s.library) _ t (Q t.library) h (λ age e h1. holds_of (λ (x : State). Q x.library) _ t h1 (leads.purges (nat_le age)))
+done_leads Q (SelPurge pairs) text s t leads h =
+    through (pairs_purged pairs s.library) _ t (Q t.library) h (λ ages e h1. holds_of (λ (x : State). Q x.library) _ t h1 (leads.parts ages))
+done_leads Q (PurDeck ranges) text s t leads h =
+    through (decks_purged ranges s.library) _ t (Q t.library) h (λ ages e h1. holds_of (λ (x : State). Q x.library) _ t h1 (leads.purges (is_among ages)))
 done_leads Q (Compile ranges) text s t leads h = holds_of (λ (x : State). Q x.library) s t h leads.stays
 
 -- ---- the directory
 
 purged_in_all_goes : (ages : List AgesIn) (l : LibraryView) → Continues l.idents (purged_in_all ages l).idents
 purged_in_all_goes [] l = continues_same l.idents
-purged_in_all_goes (a ∷ ages) l = continues_on l.idents (purged_in a.deck a.ident l).idents _ (goes_with a.deck (without_idents (λ x. x == a.ident)) l) (purged_in_all_goes ages (purged_in a.deck a.ident l))
+purged_in_all_goes (a ∷ ages) l =
+    continues_on l.idents (purged_in a.deck a.ident l).idents _ (goes_with a.deck (without_idents (λ x. x == a.ident)) l)
+    (purged_in_all_goes ages (purged_in a.deck a.ident l))
 
 pub step_goes : (line : LineView) (s t : State) → step line s ≡ Ok t → Continues s.library.idents t.library.idents
 step_goes line s t h = done_leads (λ m. Continues s.library.idents m.idents) line.item line.text s t (record {

@@ -7,13 +7,14 @@ use Rattle.upd_core.specs.Library.{LibraryView}
 use Rattle.upd_core.specs.Limits.{is_within_limits}
 use Rattle.upd_text.specs.Outcome.{◌>>=◌, each, need, refuse_if}
 use Rattle.upd_apply.specs.Step.{grown}
-use Rattle.upd_laws.proofs.SoundLists.{all_append}
+use Rattle.upd_laws.proofs.SoundListLemmas.{all_append}
 
 pub through : {A B E : Type 0} (r : Result A E) (f : A → Result B E) (y : B) (P : Type 0) → r >>= f ≡ Ok y → ((x : A) → r ≡ Ok x → f x ≡ Ok y → P) → P
 through (Ok x) f y P h k = k x refl h
 through (Err e) f y P h k = absurd (cc)
 
-pub through_need : {A B : Type 0} (fault : FaultKind) (o : Option A) (f : A → Result B FaultKind) (y : B) (P : Type 0) → need fault o >>= f ≡ Ok y → ((x : A) → o ≡ Some x → f x ≡ Ok y → P) → P
+pub through_need : {A B : Type 0} (fault : FaultKind) (o : Option A) (f : A → Result B FaultKind) (y : B) (P : Type 0) → need fault o >>= f ≡ Ok y
+    → ((x : A) → o ≡ Some x → f x ≡ Ok y → P) → P
 through_need fault (Some x) f y P h k = k x refl h
 through_need fault None f y P h k = absurd (cc)
 
@@ -21,12 +22,14 @@ pub through_option : {A : Type 0} (fault : FaultKind) (o : Option A) (y : A) (P 
 through_option fault (Some x) y P h k = k (let same : x ≡ y = cc in ap Some same)
 through_option fault None y P h k = absurd (cc)
 
-pub through_refusal : {B : Type 0} (bad : Bool) (fault : FaultKind) (f : Bool → Result B FaultKind) (y : B) (P : Type 0) → refuse_if bad fault >>= f ≡ Ok y → (bad ≡ false → f false ≡ Ok y → P) → P
+pub through_refusal : {B : Type 0} (bad : Bool) (fault : FaultKind) (f : Bool → Result B FaultKind) (y : B) (P : Type 0) → refuse_if bad fault >>= f ≡ Ok y
+    → (bad ≡ false → f false ≡ Ok y → P) → P
 through_refusal false fault f y P h k = k refl h
 through_refusal true fault f y P h k = absurd (cc)
 
 -- what has grown is within the limits
-pub through_limits : {B : Type 0} (l : LibraryView) (f : LibraryView → Result B FaultKind) (y : B) (P : Type 0) → grown l >>= f ≡ Ok y → (is_within_limits l ≡ true → f l ≡ Ok y → P) → P
+pub through_limits : {B : Type 0} (l : LibraryView) (f : LibraryView → Result B FaultKind) (y : B) (P : Type 0) → grown l >>= f ≡ Ok y
+    → (is_within_limits l ≡ true → f l ≡ Ok y → P) → P
 through_limits {B} l f y P h k = go (is_within_limits l) refl
   where
     go : (b : Bool) → is_within_limits l ≡ b → P

@@ -1,0 +1,28 @@
+//! Compile files and listings of libraries that runs have made.
+ghost use Rattle.std.specs.Prelude.{◌≡◌, ℕ, ◌++◌, ◌*◌, length, List, Ok};
+ghost use Rattle.std.specs.List.{Contains, flat_map};
+ghost use Rattle.upd_text.specs.Names.{yank_name};
+ghost use Rattle.upd_core.specs.Actives.{without_past};
+ghost use Rattle.upd_core.specs.Library.{CardView, LibraryView};
+ghost use Rattle.upd_core.specs.Sound.{IsSound, all_cards};
+ghost use Rattle.upd_core.specs.Status.{live_targets};
+ghost use Rattle.upd_compile.specs.declared.mode.Mode.{Mode};
+ghost use Rattle.upd_compile.specs.File.{FileView, card_line, compile_file_of};
+ghost use Rattle.upd_compile.specs.Listings.{deck_heading, deck_listing};
+ghost use Rattle.upd_laws.specs.ReadRuns.{IsMadeByRuns};
+ghost use Rattle.upd_laws.specs.YankLines.{yank_line};
+
+/// Each line of a compile file has 97 bytes, where the library was made by runs that were read.
+pub fn compile_lines_have_97_bytes()
+    ensures line { (l : LibraryView) (c : CardView) → IsMadeByRuns l → Contains (all_cards l) c
+        → length (card_line l.idents (without_past c)) ≡ 97 }
+    ensures file { (mode : Mode) (named : List ℕ) (before after : LibraryView) (file : FileView) → IsMadeByRuns after
+        → compile_file_of mode named before after ≡ Ok file → length file.bytes ≡ 97 * file.lines }
+{}
+
+/// The listing of `YANK$$$` marks a yank card `A` where the listing of the yanks calls it live, and `I` where it calls
+/// it dead.
+pub fn yank_listings_agree()
+    ensures { (l : LibraryView) → IsSound l → deck_listing yank_name l
+        ≡ Ok (deck_heading l.idents 0 ++ flat_map (yank_line l.idents (live_targets l)) l.yanks) }
+{}
