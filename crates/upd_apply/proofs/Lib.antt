@@ -1,3 +1,4 @@
+pub mod DirectoryLemmas
 pub mod Filtered
 pub mod OnceLemmas
 pub mod StepLemmas

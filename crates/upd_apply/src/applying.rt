@@ -1,7 +1,9 @@
 //! Whole runs, and purging back.
 ghost use Rattle.std.specs.Prelude.{◌≡◌, ◌+◌, ◌^◌, ◌<◌, map, drop, length, Ok, IfErr, IfOk, OnErr};
 ghost use Rattle.upd_core.specs.Edits.{purged_back};
-ghost use Rattle.upd_core.specs.Sound.{AreApart, all_cards, key_of};
+ghost use Rattle.upd_change.specs.Changes.{change_seen, done_all};
+ghost use Rattle.upd_change.specs.Rows.{Rows, Shows};
+ghost use Rattle.upd_core.specs.Sound.{AreApart, Continues, IsSound, all_cards, key_of};
 ghost use Rattle.upd_text.specs.Outcome.{DoesAt, FailsAt, GivesAt, at_line};
 ghost use Rattle.upd_apply.specs.Applying.{applied, brought, stepped, touched};
 ghost use Rattle.upd_apply.specs.Compile.{named_decks};
@@ -12,6 +14,7 @@ use crate::compile::named_decks;
 use crate::state::State;
 use crate::touched::touched;
 use std::alloc::{AllocError, Global};
+use upd_change::{Change, changes};
 use upd_core::{Ident, Library, Serial};
 use upd_deck::{Line, Run};
 use upd_text::{CardRef, Fault};
@@ -25,6 +28,8 @@ pub struct Applied {
     pub compile: Vec<Serial>,
     /// The cards that weren't there before, or whose history differs from before, by deck (`YANK$$$` first) and place.
     pub touched: Vec<CardRef>,
+    /// The row changes by which a store follows it, in the order in which they are carried out.
+    pub changes: Vec<Change>,
 }
 
 /// Applies a run. A refusal is at the line that it stands at, want of memory at 0; either leaves the library as it was.
@@ -34,6 +39,8 @@ pub fn apply(alloc: Global, library: &mut Library, run: &Run) -> Result<Applied,
         ≡ Ok (record { library = library.new; idents = a.idents.items; compile = a.compile.items })) }
     ensures touched { AreApart (map key_of (all_cards library.old))
         → IfOk result (λ a. a.touched.items ≡ touched library.old library.new) }
+    ensures changes { (rows : Rows) → IsSound library.old → Shows rows library.old
+        → IfOk result (λ a. Shows (done_all (map change_seen a.changes.items) rows) library.new) }
     ensures refused { IfErr result (λ fault. FailsAt fault (applied run.now library.old)) }
     ensures err { OnErr result (library.new ≡ library.old) }
 {
@@ -55,14 +62,18 @@ fn outcome(
     ensures compile { GivesAt (λ a. a.compile.items) result (named_decks lines.now after.now) }
     ensures touched { AreApart (map key_of (all_cards before.now))
         → IfOk result (λ a. a.touched.items ≡ touched before.now after.now) }
+    ensures changes { (rows : Rows) → IsSound before.now → Continues before.now.idents after.now.idents → Shows rows before.now
+        → IfOk result (λ a. Shows (done_all (map change_seen a.changes.items) rows) after.now) }
 {
     let compile = named_decks(alloc, after, lines)?;
     let idents = ages_from(alloc, after.idents(), before.idents().len())?;
     let touched = touched(before, after)?;
+    let changes = changes(alloc, before, after)?;
     Ok(Applied {
         idents,
         compile,
         touched,
+        changes,
     })
 }
 
