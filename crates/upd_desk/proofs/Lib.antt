@@ -1,0 +1,3 @@
+mod JournalLemmas
+mod KeptLemmas
+mod RepeatLemmas

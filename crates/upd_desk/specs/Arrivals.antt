@@ -1,0 +1,49 @@
+-- What arrives at the desk, and what is asked of it at the door.
+use Rattle.std.specs.Prelude.{ℕ, nat_lt, nat_le, Bool, not, ◌&&◌, ◌||◌, List, length, Result, Ok}
+use Rattle.std.specs.List.{list_all}
+use Rattle.upd_text.specs.declared.fault.Fault.{Fault}
+use Rattle.upd_text.specs.declared.fault.FaultKind.TheVariants as fault
+use Rattle.upd_text.specs.declared.limits.TheConstants.{MAX_RUN_BYTES}
+use Rattle.upd_text.specs.Outcome.{◌>>=◌, at_line, need, refuse_if}
+use Rattle.upd_compile.specs.Modes.{mode_named}
+use Rattle.upd_compile.specs.declared.mode.Mode.{Mode}
+use Rattle.upd_compile.specs.declared.mode.Mode.TheVariants.{Full, Quick, Normal}
+
+-- An arrival: a site, a number, a mode as a word, and the bytes of a run. Site and number are its key.
+pub record ArrivalView : Type 0 where
+  pub site : List ℕ
+  pub number : ℕ
+  pub mode : List ℕ
+  pub bytes : List ℕ
+
+-- whether a byte may stand in a site: `A-Z` and `0-9`
+abbrev pub is_site_byte : ℕ → Bool
+is_site_byte b = (nat_le 65 b && nat_le b 90) || (nat_le 48 b && nat_le b 57)
+
+-- whether a text is a site: 1 to 8 of these
+abbrev pub is_site : List ℕ → Bool
+is_site text = nat_le 1 (length text) && nat_le (length text) 8 && list_all is_site_byte text
+
+-- whether a number is a run's
+abbrev pub is_run_number : ℕ → Bool
+is_run_number n = nat_le 1 n && nat_le n 999999999
+
+-- site and number are judged first
+abbrev pub key_door : List ℕ → ℕ → Result Bool Fault
+key_door site number = do
+  _ ← at_line 0 (refuse_if (not (is_site site)) fault.BadSite)
+  at_line 0 (refuse_if (not (is_run_number number)) fault.BadNumber)
+
+-- The door: the mode of an arrival, or its first refusal, which keeps nothing.
+abbrev pub door : ArrivalView → Result Mode Fault
+door a = do
+  _ ← key_door a.site a.number
+  mode ← at_line 0 (need fault.BadMode (mode_named a.mode))
+  _ ← at_line 0 (refuse_if (nat_lt MAX_RUN_BYTES (length a.bytes)) fault.RunLong)
+  Ok mode
+
+-- the number by which the tables know a mode
+abbrev pub mode_number : Mode → ℕ
+mode_number Full = 0
+mode_number Quick = 1
+mode_number Normal = 2

@@ -1,0 +1,78 @@
+-- When a store holds what a desk owes after a journal, and what a stop may have left of it.
+use Rattle.std.specs.Prelude.{◌≡◌, ℕ, ◌≤◌, Bool, true, false, ◌⊎◌, if◌then◌else◌, IsTrue, List, [], ◌∷◌, ◌++◌, None, Result, Ok, Err}
+use Rattle.std.specs.List.{Any}
+use Rattle.upd_text.specs.declared.fault.Fault.{Fault}
+use Rattle.upd_text.specs.declared.fault.FaultKind.{FaultKind}
+use Rattle.upd_text.specs.declared.fault.FaultKind.TheVariants.{NoMemory, Store}
+use Rattle.upd_core.specs.Library.{LibraryView}
+use Rattle.upd_change.specs.Rows.{Rows, Shows, ShowsStates}
+use Rattle.upd_compile.specs.declared.mode.Mode.{Mode}
+use Rattle.upd_rows.specs.Tables.{mark_at, run_at}
+use Rattle.upd_desk.specs.Arrivals.{ArrivalView}
+use Rattle.upd_desk.specs.Journal.{Event, Came, Journal, answer, kept, mark, run_of, world}
+use Rattle.upd_desk.specs.Outcomes.{ReplyView, outcome}
+
+-- Tables hold what is owed after a journal: the library with its statuses and counts, the kept replies, and the marks.
+pub record Holds (journal : Journal) (rows : Rows) : Type 0 where
+  pub library : Shows rows (world journal)
+  pub states : ShowsStates rows (world journal)
+  pub runs : (site : List ℕ) (number : ℕ) → run_at site number rows ≡ kept journal site number
+  pub marks : (site : List ℕ) → mark_at site rows ≡ mark journal site
+
+-- whether a fault leaves an arrival unanswered: want of memory, or a failure of the store
+abbrev pub is_lost : FaultKind → Bool
+is_lost NoMemory = true
+is_lost Store = true
+is_lost _ = false
+
+-- the journal after an arrival was answered so
+abbrev pub after : Journal → ArrivalView → Result ReplyView Fault → Journal
+after journal a (Ok reply) = Came a ∷ journal
+after journal a (Err fault) = if is_lost fault.kind then journal else Came a ∷ journal
+
+-- the answer is the one that is owed, or the arrival was lost
+abbrev pub IsAnswer : Journal → ArrivalView → Result ReplyView Fault → Type 0
+IsAnswer journal a (Ok reply) = answer journal a ≡ Ok reply
+IsAnswer journal a (Err fault) = IsTrue (is_lost fault.kind) ⊎ (answer journal a ≡ Err fault)
+
+-- what is in hand after an arrival: nothing once a call was answered, and one more where it was lost
+abbrev pub in_hand_after : ArrivalView → List Event → Result ReplyView Fault → List Event
+in_hand_after a in_hand (Ok reply) = []
+in_hand_after a in_hand (Err fault) = if is_lost fault.kind then Came a ∷ in_hand else in_hand
+
+-- what a new run makes of tables that show a library: they show the library that it leaves, and keep the run with its reply
+pub record AddsRun (mode : Mode) (a : ArrivalView) (l : LibraryView) (before later : Rows) : Type 0 where
+  pub library : Shows later (outcome mode a l).library
+  pub states : ShowsStates later (outcome mode a l).library
+  pub runs : later.runs ≡ before.runs ++ run_of (record { arrival = a; mode = mode; carried = None }) (outcome mode a l).reply ∷ []
+  pub settled : later.settled ≡ before.settled
+
+module _ {Image : Type 0} (shows : Image → Rows → Type 0) where
+  -- an image holds what is owed after a journal
+  abbrev pub HoldsIn : Journal → Image → Type 0
+  HoldsIn journal image = (rows : Rows) × shows image rows × Holds journal rows
+
+  -- what a stop may have left: all that was answered, with or without one of the events in hand
+  abbrev pub IsLeft : Journal → List Event → Image → Type 0
+  IsLeft journal in_hand image = HoldsIn journal image ⊎ Any (λ e. HoldsIn (e ∷ journal) image) in_hand
+
+module _ {S : Type 0} {Image : Type 0} (is_honest is_open : S → Type 0) (image : S → Image) (shows : Image → Rows → Type 0)
+    (may_leave : S → Image → Type 0) (failures : S → ℕ) where
+  -- A store guards a journal: it shows what is owed, and a stop leaves no less.
+  pub record Guards (journal : Journal) (in_hand : List Event) (store : S) : Type 0 where
+    pub shown : is_open store → HoldsIn shows journal (image store)
+    pub left : (i : Image) → may_leave store i → IsLeft shows journal in_hand i
+
+  -- what an arrival does to a desk over a store
+  pub record Arrives (a : ArrivalView) (result : Result ReplyView Fault) (old new : S) : Type 0 where
+    pub honest : is_honest new → is_honest old
+    pub was_open : is_honest new → is_open new → is_open old
+    pub counts : failures old ≤ failures new
+    -- the answer is the one that is owed after any journal that the store holds
+    pub answers : is_honest new → (journal : Journal) → (is_open old → HoldsIn shows journal (image old)) → IsAnswer journal a result
+    -- and then the store holds the journal with this arrival
+    pub holds : is_honest new → (journal : Journal) → (is_open old → HoldsIn shows journal (image old)) → is_open new
+        → HoldsIn shows (after journal a result) (image new)
+    -- a stop leaves what was answered, with or without what is in hand
+    pub leaves : is_honest new → (journal : Journal) (in_hand : List Event) → Guards journal in_hand old → (i : Image) → may_leave new i
+        → IsLeft shows (after journal a result) (in_hand_after a in_hand result) i

@@ -1,0 +1,118 @@
+-- The journal of a desk, and what the desk owes after it: the library, the kept replies, the marks, and the answer to what comes next.
+use Rattle.std.specs.Prelude.{ℕ, ◌==◌, nat_lt, nat_le, max, Bool, false, not, ◌&&◌, if◌then◌else◌, List, [], ◌∷◌, Option, Some, None, Result, Ok, Err}
+use Rattle.std.specs.Str.{bytes_eq}
+use Rattle.std.specs.List.{list_any, find}
+use Rattle.upd_text.specs.declared.fault.Fault.{Fault}
+use Rattle.upd_text.specs.declared.fault.FaultKind.TheVariants as fault
+use Rattle.upd_text.specs.Outcome.{◌>>=◌, at_line, refuse_if}
+use Rattle.upd_core.specs.Library.{LibraryView, empty}
+use Rattle.upd_change.specs.Rows.{RunView}
+use Rattle.upd_compile.specs.declared.mode.Mode.{Mode}
+use Rattle.upd_rows.specs.Tables.{is_run}
+use Rattle.upd_desk.specs.Arrivals.{ArrivalView, door, mode_number}
+use Rattle.upd_desk.specs.Outcomes.{Outcome, ReplyView, outcome}
+
+-- What happened at a desk. An arrival that was lost, or answered by want of memory or a failure of the store, didn't happen.
+pub data Event : Type 0 where
+  -- an arrival was answered
+  Came : ArrivalView → Event
+  -- an arrival was refused under older rules, and keeps that reply
+  Carried : ArrivalView → List ℕ → Event
+  -- a site has settled its runs up to a number
+  Settled : List ℕ → ℕ → Event
+
+-- a journal: the events, the latest first
+abbrev pub Journal : Type 0
+Journal = List Event
+
+-- ---- marks
+
+-- a site's mark: the greatest number that it has settled, 0 where it never did
+abbrev pub mark : Journal → List ℕ → ℕ
+mark [] site = 0
+mark (Came a ∷ before) site = mark before site
+mark (Carried a reply ∷ before) site = mark before site
+mark (Settled s n ∷ before) site = if bytes_eq s site then max n (mark before site) else mark before site
+
+-- ---- the distinct runs
+
+-- An arrival that is heard: the mode that it asks for, and the reply that it carries, if it does.
+pub record Heard : Type 0 where
+  pub arrival : ArrivalView
+  pub mode : Mode
+  pub carried : Option (List ℕ)
+
+-- whether an arrival has a key
+abbrev pub has_key : List ℕ → ℕ → Heard → Bool
+has_key site number h = bytes_eq h.arrival.site site && (h.arrival.number == number)
+
+-- The first arrival of each key among those heard and one more that passed the door in a mode. It isn't heard where its number is settled.
+abbrev pub with_arrival : Journal → List Heard → ArrivalView → Option (List ℕ) → Result Mode Fault → List Heard
+with_arrival before runs a carried (Ok mode) =
+    if nat_lt (mark before a.site) a.number && not (list_any (has_key a.site a.number) runs)
+    then record { arrival = a; mode = mode; carried = carried } ∷ runs
+    else runs
+with_arrival before runs a carried (Err fault) = runs
+
+-- the distinct runs of a journal: the first arrival of each key, the latest first
+abbrev pub distinct : Journal → List Heard
+distinct [] = []
+distinct (Came a ∷ before) = with_arrival before (distinct before) a None (door a)
+distinct (Carried a reply ∷ before) = with_arrival before (distinct before) a (Some reply) (door a)
+distinct (Settled s n ∷ before) = distinct before
+
+-- ---- the library and the kept replies
+
+-- what a distinct run makes of the library: what its lines say, or nothing where it carries a refusal
+abbrev pub outcome_of : Heard → LibraryView → Outcome
+outcome_of h l = by h.carried
+  where
+    by : Option (List ℕ) → Outcome
+    by None = outcome h.mode h.arrival l
+    by (Some reply) = record { library = l; reply = record { accepted = false; text = reply } }
+
+-- the library that distinct runs make, each applied once to what those before it have made
+abbrev pub made_by : List Heard → LibraryView
+made_by [] = empty
+made_by (h ∷ earlier) = (outcome_of h (made_by earlier)).library
+
+-- the library after a journal
+abbrev pub world : Journal → LibraryView
+world journal = made_by (distinct journal)
+
+-- a run with its reply, as it is kept
+abbrev pub run_of : Heard → ReplyView → RunView
+run_of h reply = record {
+  site = h.arrival.site;
+  number = h.arrival.number;
+  mode = mode_number h.mode;
+  bytes = h.arrival.bytes;
+  accepted = reply.accepted;
+  reply = reply.text;
+}
+
+-- distinct runs, each with its reply
+abbrev pub answered : List Heard → List RunView
+answered [] = []
+answered (h ∷ earlier) = run_of h (outcome_of h (made_by earlier)).reply ∷ answered earlier
+
+-- what is kept under a key: the first arrival of it with its reply, as long as it isn't settled
+abbrev pub kept : Journal → List ℕ → ℕ → Option RunView
+kept journal site number = if nat_le number (mark journal site) then None else find (is_run site number) (answered (distinct journal))
+
+-- ---- answers
+
+-- An arrival of a key that is kept gets the first reply where mode and bytes are the same, of one that isn't a reply of its own.
+abbrev pub reply_to : Mode → ArrivalView → LibraryView → Option RunView → Result ReplyView Fault
+reply_to mode a l None = Ok (outcome mode a l).reply
+reply_to mode a l (Some run) =
+    if (run.mode == mode_number mode) && bytes_eq run.bytes a.bytes
+    then Ok (record { accepted = run.accepted; text = run.reply })
+    else Err (record { kind = fault.RunChanged; at = 0 })
+
+-- the answer to an arrival after a journal
+abbrev pub answer : Journal → ArrivalView → Result ReplyView Fault
+answer journal a = do
+  mode ← door a
+  _ ← at_line 0 (refuse_if (nat_le a.number (mark journal a.site)) fault.Settled)
+  reply_to mode a (world journal) (kept journal a.site a.number)

@@ -1,0 +1,4 @@
+pub mod Arrivals
+pub mod Outcomes
+pub mod Journal
+pub mod Holding
