@@ -15,4 +15,5 @@ pub tables_rise : (trees : Trees) (shapes : ℕ → Shape) (reals : ℕ → ℕ)
     → AreListed (trees catalog_tree) schema → TablesRise (record { schema = schema; trees = trees })
 tables_rise trees shapes reals schema listed ordered are =
     let laid = laid_out listed (subst (λ s. IsShaped s (trees catalog_tree)) listed.itself.0 (ordered catalog_tree)) are in
-    all_weaker (λ t. shapes t.tree ≡ Table) (λ t. IsShaped Table (trees t.tree)) (λ t shape. subst (λ s. IsShaped s (trees t.tree)) shape (ordered t.tree)) schema.tables laid.tables
+    all_weaker (λ t. shapes t.tree ≡ Table) (λ t. IsShaped Table (trees t.tree)) (λ t shape. subst (λ s. IsShaped s (trees t.tree)) shape (ordered t.tree))
+    schema.tables laid.tables

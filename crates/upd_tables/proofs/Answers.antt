@@ -46,7 +46,8 @@ module _ (sql : List ℕ) (params : Row) (old new : State) (inside : IsTrue old.
   pub late_keeps : (e : Error) → IsTooLate sql params old new e → KeepsCommit old new
   late_keeps e h = unchanged_keeps old new h.5
 
-shown_mode : (sql : List ℕ) (params : Row) (old new : State) (c : Compiled) (full : Row) (rows : List Row) (r : Option Returning) → ShowsRows old new sql c full rows r
+shown_mode : (sql : List ℕ) (params : Row) (old new : State) (c : Compiled) (full : Row) (rows : List Row) (r : Option Returning)
+    → ShowsRows old new sql c full rows r
     → new.in_transaction ≡ old.in_transaction
 shown_mode sql params old new c full rows None h = h.3.0.mode
 shown_mode sql params old new c full rows (Some what) h = h.1.shown.mode
@@ -56,8 +57,20 @@ pub shown_going : (sql : List ℕ) (params : Row) (old new : State) (rows : List
 unfolding Shown
 shown_going sql params old new rows h = shown_mode sql params old new h.0 _ rows h.0.returning h.2
 
+shown_open : (sql : List ℕ) (params : Row) (old new : State) (c : Compiled) (full : Row) (rows : List Row) (r : Option Returning)
+    → ShowsRows old new sql c full rows r
+    → IsTrue old.is_open
+shown_open sql params old new c full rows None h = h.3.0.was_open
+shown_open sql params old new c full rows (Some what) h = h.1.shown.was_open
+
+-- only an open connection answers, whatever the text is
+pub shown_was_open : (sql : List ℕ) (params : Row) (old new : State) (rows : List Row) → Shown sql params old new rows → IsTrue old.is_open
+unfolding Shown
+shown_was_open sql params old new rows h = shown_open sql params old new h.0 _ rows h.0.returning h.2
+
 -- a plain query leaves all as it was
-pub shown_same : (sql : List ℕ) (params : Row) (old new : State) (rows : List Row) → IsPlain (understood old.now.schema sql) → Shown sql params old new rows → IsUnchanged old new
+pub shown_same : (sql : List ℕ) (params : Row) (old new : State) (rows : List Row) → IsPlain (understood old.now.schema sql) → Shown sql params old new rows
+    → IsUnchanged old new
 unfolding Shown
 shown_same sql params old new rows plain h =
     let none = (subst IsPlain h.1.is plain).0 in (subst (ShowsRows old new sql h.0 (timed params h.0.formats h.1.now) rows) none h.2).3

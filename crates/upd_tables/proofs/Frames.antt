@@ -32,7 +32,8 @@ module _ (tree : ℕ) (old new : Trees) where
   kept_rows : (t : Table) (rows : List Row) → new t.tree ≡ old t.tree → HoldsRows old t rows → HoldsRows new t rows
   kept_rows t rows same h = subst (λ rs. IsShaped shape.Table rs × (map (drop 1) rs ≡ rows)) (sym same) h
 
-  others_kept : (tables : List Table) (all : List (List Row)) → list_all (λ (u : Table). not (u.tree == tree)) tables ≡ true → Spares tables → AllZip (HoldsRows old) tables all → AllZip (HoldsRows new) tables all
+  others_kept : (tables : List Table) (all : List (List Row)) → list_all (λ (u : Table). not (u.tree == tree)) tables ≡ true → Spares tables
+      → AllZip (HoldsRows old) tables all → AllZip (HoldsRows new) tables all
   others_kept [] [] apart spares h = tt
   others_kept [] (rows ∷ all) apart spares h = absurd h
   others_kept (t ∷ tables) [] apart spares h = absurd h
@@ -41,19 +42,23 @@ module _ (tree : ℕ) (old new : Trees) where
       (kept_rows t rows (spares.0 (other_tree _ _ parts.0)) h.0, others_kept tables all parts.1 spares.1 h.1)
 
   -- the table at the place has other rows, and the others have theirs
-  pub framed : (k : ℕ) (tables : List Table) (all : List (List Row)) (rows : List Row) → is_lone tree k tables ≡ true → Spares tables → IsShaped shape.Table (new tree)
+  pub framed : (k : ℕ) (tables : List Table) (all : List (List Row)) (rows : List Row) → is_lone tree k tables ≡ true → Spares tables
+      → IsShaped shape.Table (new tree)
       → map (drop 1) (new tree) ≡ rows → AllZip (HoldsRows old) tables all → AllZip (HoldsRows new) tables (with_rows k rows all)
   framed k [] all rows lone spares shaped is h = absurd (let e = lone in cc)
   framed k (t ∷ tables) [] rows lone spares shaped is h = absurd h
   framed zero (t ∷ tables) (was ∷ all) rows lone spares shaped is h =
-      let parts = and_parts (t.tree == tree) _ lone in
-      (subst (λ n. IsShaped shape.Table (new n) × (map (drop 1) (new n) ≡ rows)) (sym (same_tree _ _ parts.0)) (shaped, is), others_kept tables all parts.1 spares.1 h.1)
+      let parts = and_parts (t.tree == tree) _ lone in (
+        subst (λ n. IsShaped shape.Table (new n) × (map (drop 1) (new n) ≡ rows)) (sym (same_tree _ _ parts.0)) (shaped, is),
+        others_kept tables all parts.1 spares.1 h.1,
+      )
   framed (suc k) (t ∷ tables) (was ∷ all) rows lone spares shaped is h =
       let parts = and_parts (not (t.tree == tree)) _ lone in
       (kept_rows t was (spares.0 (other_tree _ _ parts.0)) h.0, framed k tables all rows parts.1 spares.1 shaped is h.1)
 
 -- the rows of the table at the place
-pub rows_there : (tree : ℕ) (trees : Trees) (k : ℕ) (tables : List Table) (all : List (List Row)) → is_lone tree k tables ≡ true → AllZip (HoldsRows trees) tables all
+pub rows_there : (tree : ℕ) (trees : Trees) (k : ℕ) (tables : List Table) (all : List (List Row)) → is_lone tree k tables ≡ true
+    → AllZip (HoldsRows trees) tables all
     → IsShaped shape.Table (trees tree) × (map (drop 1) (trees tree) ≡ rows_at k all)
 rows_there tree trees k [] all lone h = absurd (let e = lone in cc)
 rows_there tree trees k (t ∷ tables) [] lone h = absurd h
@@ -70,7 +75,8 @@ zipped P Q R f [] (rows ∷ all) p q = absurd p
 zipped P Q R f (t ∷ tables) [] p q = absurd p
 zipped P Q R f (t ∷ tables) (rows ∷ all) p q = (f t rows p.0 q.0, zipped P Q R f tables all p.1 q.1)
 
-ordered : (trees : Trees) (tables : List Table) (all : List (List Row)) → AllByRecursion (λ t. IsShaped shape.Table (trees t.tree)) tables → AllZip (HasRows trees) tables all → AllZip (HoldsRows trees) tables all
+ordered : (trees : Trees) (tables : List Table) (all : List (List Row)) → AllByRecursion (λ t. IsShaped shape.Table (trees t.tree)) tables
+    → AllZip (HasRows trees) tables all → AllZip (HoldsRows trees) tables all
 ordered trees [] [] rise h = tt
 ordered trees [] (rows ∷ all) rise h = absurd h
 ordered trees (t ∷ tables) [] rise h = absurd h
@@ -80,14 +86,20 @@ ordered trees (t ∷ tables) (rows ∷ all) rise h = ((rise.0, h.0), ordered tre
 pub held : (schema : Schema) (all : List (List Row)) (db : Database) → TablesRise db → Shows schema all db → Holds schema all db
 held schema all db rise h = record {
   schema_is = h.schema_is;
-  rows_are = ordered db.trees schema.tables all (subst (λ (s : Schema). AllByRecursion (λ t. IsShaped shape.Table (db.trees t.tree)) s.tables) h.schema_is rise) h.rows_are;
+  rows_are = ordered db.trees schema.tables all (subst (λ (s : Schema). AllByRecursion (λ t. IsShaped shape.Table (db.trees t.tree)) s.tables) h.schema_is
+      rise) h.rows_are;
 }
 
 pub showing : (schema : Schema) (all : List (List Row)) (db : Database) → Holds schema all db → Shows schema all db
-showing schema all db h = record { schema_is = h.schema_is; rows_are = zipped _ _ (HasRows db.trees) (λ t rows p q. p.1) schema.tables all h.rows_are h.rows_are }
+showing schema all db h = record {
+  schema_is = h.schema_is;
+  rows_are =
+      zipped _ _ (HasRows db.trees) (λ t rows p q. p.1) schema.tables all h.rows_are h.rows_are;
+}
 
 -- the rows of the table at the place, in whatever order of rowids
-pub shown_there : (tree : ℕ) (trees : Trees) (k : ℕ) (tables : List Table) (all : List (List Row)) → is_lone tree k tables ≡ true → AllZip (HasRows trees) tables all
+pub shown_there : (tree : ℕ) (trees : Trees) (k : ℕ) (tables : List Table) (all : List (List Row)) → is_lone tree k tables ≡ true
+    → AllZip (HasRows trees) tables all
     → map (drop 1) (trees tree) ≡ rows_at k all
 shown_there tree trees k [] all lone h = absurd (let e = lone in cc)
 shown_there tree trees k (t ∷ tables) [] lone h = absurd h
@@ -96,7 +108,8 @@ shown_there tree trees zero (t ∷ tables) (rows ∷ all) lone h =
 shown_there tree trees (suc k) (t ∷ tables) (rows ∷ all) lone h = shown_there tree trees k tables all (and_parts (not (t.tree == tree)) _ lone).1 h.1
 
 -- a new table at the end, with no rows
-pub with_table : (old new : Trees) (tables : List Table) (all : List (List Row)) (t : Table) → AllByRecursion (λ (u : Table). new u.tree ≡ old u.tree) tables → new t.tree ≡ []
+pub with_table : (old new : Trees) (tables : List Table) (all : List (List Row)) (t : Table) → AllByRecursion (λ (u : Table). new u.tree ≡ old u.tree) tables
+    → new t.tree ≡ []
     → AllZip (HoldsRows old) tables all → AllZip (HoldsRows new) (tables ++ t ∷ []) (all ++ [] ∷ [])
 with_table old new [] [] t kept empty h = (subst (λ rs. IsShaped shape.Table rs × (map (drop 1) rs ≡ [])) (sym empty) ((tt, tt), refl), tt)
 with_table old new [] (rows ∷ all) t kept empty h = absurd h

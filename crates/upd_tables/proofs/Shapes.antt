@@ -1,5 +1,6 @@
 -- What an INSERT, a DELETE, an UPDATE, a SELECT and a CREATE TABLE of the plain kinds do to the rows of the tables.
-use Rattle.std.proofs.Common.{◌≡◌, ◌≢◌, ◌⊎◌, inl, inr, ℕ, ◌/◌, ℤ, Bool, true, false, not, if◌then◌else◌, cond, List, [], ◌∷◌, ◌++◌, map, drop, length, filter, slice_get, Some, None, Result, Ok, Err, refl, sym, ap, subst, ◌∙◌, IsPermutation, IsTrue}
+use Rattle.std.proofs.Common.{◌≡◌, ◌≢◌, ◌⊎◌, inl, inr, ℕ, ◌/◌, ℤ, Bool, true, false, not, if◌then◌else◌, cond, List, [], ◌∷◌, ◌++◌, map, drop, length, filter}
+use Rattle.std.proofs.Common.{slice_get, Some, None, Result, Ok, Err, refl, sym, ap, subst, ◌∙◌, IsPermutation, IsTrue}
 use Rattle.std.specs.List.{AllByRecursion, list_all}
 use Rattle.std.proofs.lemmas.List.Sorted.{IsPermutation-map, IsPermutation-sym, IsPermutation-trans}
 use Rattle.sqlite_value.specs.declared.keys.Key.{Key}
@@ -38,10 +39,10 @@ use Rattle.sqlite.specs.Rows.{Written}
 use Rattle.sqlite.specs.Does.{Tally, Does, AtPlace, OnRows, lacks_sequence}
 use Rattle.sqlite.specs.State.{State, mode_of, Writes}
 use Rattle.sqlite.proofs.Callers.{one_step}
-use Rattle.upd_tables.specs.Keyed.{keyed, plain_query}
+use Rattle.upd_tables.specs.Keyed.{keyed, plain_query, row_order}
 use Rattle.upd_tables.specs.Stored.{Shows, Holds, rows_at, with_rows}
 use Rattle.upd_tables.proofs.Trees.{has_mapped, mapped_from, has_permuted, put_new, left_is, in_place, replaced_is, replaced_shaped}
-use Rattle.upd_tables.proofs.Queries.{any_order}
+use Rattle.upd_tables.proofs.Queries.{any_order, row_order_is}
 use Rattle.upd_tables.proofs.Frames.{is_lone, framed, rows_there, shown_there, with_table}
 
 -- ---- casts of the values that such a table takes
@@ -69,11 +70,13 @@ same_value e = cc
 
 -- ---- what a query found, by rowid
 
-module _ (p : Row → Bool) (shown : Row → Row) (same_id : (r : Row) → rowid (shown r) ≡ rowid r) (rows found : List Row) (are : IsPermutation (map shown (filter p rows)) found) where
+module _ (p : Row → Bool) (shown : Row → Row) (same_id : (r : Row) → rowid (shown r) ≡ rowid r) (rows found : List Row)
+    (are : IsPermutation (map shown (filter p rows)) found) where
   own_ids : (r : Row) → Has rows r → p r ≡ true → Has (ids_of found) (id_in (rowid r))
   own_ids r h passes =
       subst (λ v. Has (ids_of found) (id_in v)) (same_id r)
-      (has_mapped (λ x. id_in (rowid x)) found (shown r) (has_permuted _ found (shown r) are (has_mapped shown (filter p rows) r (Rattle.sqlite_rules.proofs.ListLemmas.has_kept p rows r h passes))))
+      (has_mapped (λ x. id_in (rowid x)) found (shown r) (has_permuted _ found (shown r) are
+      (has_mapped shown (filter p rows) r (Rattle.sqlite_rules.proofs.ListLemmas.has_kept p rows r h passes))))
 
   only_ids : (id : ℤ) → Has (ids_of found) id → (r : Row) × Has rows r × (p r ≡ true) × (id ≡ id_in (rowid r))
   only_ids id h =
@@ -89,7 +92,8 @@ mapped_on : {A B : Type 0} (f g : A → B) (xs : List A) → AllByRecursion (λ 
 mapped_on f g [] h = refl
 mapped_on f g (x ∷ xs) h = ap (λ y. y ∷ map f xs) h.0 ∙ ap (λ l. g x ∷ l) (mapped_on f g xs h.1)
 
-module _ (schema : Schema) (k tree : ℕ) (name : List ℕ) (columns : List Column) (key : List ℕ) (at : slice_get schema.tables k ≡ Some (keyed tree name columns key))
+module _ (schema : Schema) (k tree : ℕ) (name : List ℕ) (columns : List Column) (key : List ℕ) (at : slice_get schema.tables k
+    ≡ Some (keyed tree name columns key))
     (alone : is_lone tree k schema.tables ≡ true) (free : (olds news : List Row) → works schema Enforced 0 tree olds news ≡ [])
     (old new : State) (all : List (List Row)) (text : List ℕ) (params : Row) (count : ℕ) (h : Holds schema all old.now) where
   abbrev table : Table
@@ -100,23 +104,32 @@ module _ (schema : Schema) (k tree : ℕ) (name : List ℕ) (columns : List Colu
 
   -- the command at work on its table
   abbrev OnTable : Command → Database → Type 0
-  OnTable command db = (tally : Tally) × OnRows (record { limit = old.step_limit; keys = Enforced; schema = schema; table = table; params = params }) (mode_of old) None command old.now.trees (Ok (tally, db))
+  OnTable command db = (tally : Tally) × OnRows (record { limit = old.step_limit; keys = Enforced; schema = schema; table = table; params = params })
+      (mode_of old) None command old.now.trees (Ok (tally, db))
 
   -- other rows in the table alone
-  changed : (trees : Trees) (edit : Edit) (rows : List Row) → new.now ≡ record { schema = schema; trees = trees } → edit.table ≡ table → Applies schema Enforced old.now.trees edit trees
+  changed : (trees : Trees) (edit : Edit) (rows : List Row) → new.now ≡ record { schema = schema; trees = trees } → edit.table ≡ table
+      → Applies schema Enforced old.now.trees edit trees
       → IsShaped shape.Table (trees tree) → map (drop 1) (trees tree) ≡ rows → Holds schema (with_rows k rows all) new.now
   changed trees edit rows now same a shaped is =
       let spares = subst (λ (t : Table). AllByRecursion (λ u. u.tree ≢ t.tree → trees u.tree ≡ old.now.trees u.tree) schema.tables) same a.tables in
-      subst (Holds schema (with_rows k rows all)) (sym now) (record { schema_is = refl; rows_are = framed tree old.now.trees trees k schema.tables all rows alone spares shaped is h.rows_are })
+      subst (Holds schema (with_rows k rows all)) (sym now) (record {
+        schema_is = refl;
+        rows_are =
+            framed tree old.now.trees trees k schema.tables all rows alone spares shaped is h.rows_are;
+      })
 
   -- an INSERT of one row of parameters
   pub inserts : (terms : List Term) (width : ℕ) (values : Row) → value_rows (params ++ []) width (length terms / width) terms ≡ (Null ∷ values) ∷ []
-      → Writes old new None (Insert k (Values terms width)) text params count → Holds schema (with_rows k (rows_at k all ++ cast_all columns values ∷ []) all) new.now
+      → Writes old new None (Insert k (Values terms width)) text params count
+      → Holds schema (with_rows k (rows_at k all ++ cast_all columns values ∷ []) all) new.now
   inserts terms width values source w =
       let command = Insert k (Values terms width) in
       let db = old.now.trees in
-      let does = subst (λ s. Does old.step_limit (mode_of old) params (record old.now { schema = s }) text None command (Ok (w.tally, new.now))) h.schema_is w.changed in
-      let on = subst (λ o. AtPlace (λ t. OnRows (record { limit = old.step_limit; keys = Enforced; schema = schema; table = t; params = params }) (mode_of old) None command db) o (Ok (w.tally, new.now))) at does in
+      let does = subst (λ s. Does old.step_limit (mode_of old) params (record old.now { schema = s }) text None command (Ok (w.tally, new.now))) h.schema_is
+      w.changed in
+      let on = subst (λ o. AtPlace (λ t. OnRows (record { limit = old.step_limit; keys = Enforced; schema = schema; table = t; params = params })
+      (mode_of old) None command db) o (Ok (w.tally, new.now))) at does in
       let done = went on in
       let now = ap (λ (p : Tally × Database). p.1) (same_value (went (went done.2).2).2) in
       let found = went done.1 in
@@ -140,19 +153,23 @@ module _ (schema : Schema) (k tree : ℕ) (name : List ℕ) (columns : List Colu
     abbrev showing : Row → Row
     showing r = eval_all project (params ∷ r ∷ [])
 
-    asked : (rows : List Row) → Answers (record { schema = schema; trees = old.now.trees }) (record { lets = []; body = plain_query tree tests project order }) params rows
+    asked : (rows : List Row) → Answers (record { schema = schema; trees = old.now.trees })
+        (record { lets = []; body = plain_query tree tests project order }) params rows
         → IsPermutation (map showing (filter passes (old.now.trees tree))) rows
     asked rows answers = any_order tree tests project order params old.now.trees own rows answers.answer
 
   -- a DELETE of the rows that pass a test
-  pub deletes : (tests : List Term) (q : Row → Bool) → overlay old.now.trees [] tree ≡ old.now.trees tree → ((r : Row) → list_all (holds (params ∷ r ∷ [])) tests ≡ q (drop 1 r))
+  pub deletes : (tests : List Term) (q : Row → Bool) → overlay old.now.trees [] tree ≡ old.now.trees tree
+      → ((r : Row) → list_all (holds (params ∷ r ∷ [])) tests ≡ q (drop 1 r))
       → Writes old new None (Delete k (record { lets = []; body = plain_query tree tests (col 1 0 ∷ []) [] })) text params count
       → Holds schema (with_rows k (filter (λ v. not (q v)) (rows_at k all)) all) new.now
   deletes tests q own means w =
       let command = Delete k (record { lets = []; body = plain_query tree tests (col 1 0 ∷ []) [] }) in
       let db = old.now.trees in
-      let does = subst (λ s. Does old.step_limit (mode_of old) params (record old.now { schema = s }) text None command (Ok (w.tally, new.now))) h.schema_is w.changed in
-      let on = subst (λ o. AtPlace (λ t. OnRows (record { limit = old.step_limit; keys = Enforced; schema = schema; table = t; params = params }) (mode_of old) None command db) o (Ok (w.tally, new.now))) at does in
+      let does = subst (λ s. Does old.step_limit (mode_of old) params (record old.now { schema = s }) text None command (Ok (w.tally, new.now))) h.schema_is
+      w.changed in
+      let on = subst (λ o. AtPlace (λ t. OnRows (record { limit = old.step_limit; keys = Enforced; schema = schema; table = t; params = params })
+      (mode_of old) None command db) o (Ok (w.tally, new.now))) at does in
       let done = went on in
       let now = ap (λ (p : Tally × Database). p.1) (same_value (went (went done.2).2).2) in
       let found = went done.1 in
@@ -164,7 +181,8 @@ module _ (schema : Schema) (k tree : ℕ) (name : List ℕ) (columns : List Colu
       let left = left_found p (λ r. rowid r ∷ []) (λ r. refl) (db tree) found.0 (asked tests (col 1 0 ∷ []) [] own found.0 found.1) there.0 in
       let rows : next.0 tree ≡ filter (λ r. not (p r)) (db tree) = applied.rows ∙ left in
       let same : filter (λ r. not (p r)) (db tree) ≡ filter (λ r. not (q (drop 1 r))) (db tree) = filter_same _ _ (λ r. ap not (means r)) (db tree) in
-      changed next.0 edit _ (now ∙ ap (λ (t : Trees). record { schema = schema; trees = t }) trees) refl applied (subst (IsShaped shape.Table) (sym rows) (IsShaped-filter shape.Table _ (db tree) there.0))
+      changed next.0 edit _ (now ∙ ap (λ (t : Trees). record { schema = schema; trees = t }) trees) refl applied
+      (subst (IsShaped shape.Table) (sym rows) (IsShaped-filter shape.Table _ (db tree) there.0))
       (ap (map (drop 1)) (rows ∙ same) ∙ sym (filter-map (λ v. not (q v)) (drop 1) (db tree)) ∙ ap (filter (λ v. not (q v))) there.1)
 
   -- the row with its own rowid and new columns
@@ -173,7 +191,8 @@ module _ (schema : Schema) (k tree : ℕ) (name : List ℕ) (columns : List Colu
 
   renewed_on : (f : Row → Row) (rows : List Row) → AllByRecursion (λ r. IsTrue (is_int (rowid r))) rows
       → map (λ r. cast Integer (rowid r) ∷ cast_all columns (f (drop 1 r))) rows ≡ map (renewed f) rows
-  renewed_on f rows keyed = mapped_on _ (renewed f) rows (Rattle.sqlite_keyed.proofs.ListLemmas.all_weaker _ _ (λ r int. ap (λ v. v ∷ cast_all columns (f (drop 1 r))) (ap (cast Integer) (int_is (rowid r) int) ∙ cast_int _ ∙ sym (int_is (rowid r) int))) rows keyed)
+  renewed_on f rows keyed = mapped_on _ (renewed f) rows (Rattle.sqlite_keyed.proofs.ListLemmas.all_weaker _ _
+      (λ r int. ap (λ v. v ∷ cast_all columns (f (drop 1 r))) (ap (cast Integer) (int_is (rowid r) int) ∙ cast_int _ ∙ sym (int_is (rowid r) int))) rows keyed)
 
   dropped_in_place : (p : Row → Bool) (q : Row → Bool) (f : Row → Row) → ((r : Row) → p r ≡ q (drop 1 r)) → (r : Row)
       → drop 1 (in_place p (renewed f) r) ≡ (if q (drop 1 r) then cast_all columns (f (drop 1 r)) else drop 1 r)
@@ -182,7 +201,8 @@ module _ (schema : Schema) (k tree : ℕ) (name : List ℕ) (columns : List Colu
       [ true ↦ (λ e. rw (← e)) | false ↦ (λ e. rw (← e)) ] (means r)
 
   -- an UPDATE of the rows that pass a test
-  pub updates : (tests news : List Term) (q : Row → Bool) (f : Row → Row) → overlay old.now.trees [] tree ≡ old.now.trees tree → ((r : Row) → list_all (holds (params ∷ r ∷ [])) tests ≡ q (drop 1 r))
+  pub updates : (tests news : List Term) (q : Row → Bool) (f : Row → Row) → overlay old.now.trees [] tree ≡ old.now.trees tree
+      → ((r : Row) → list_all (holds (params ∷ r ∷ [])) tests ≡ q (drop 1 r))
       → ((r : Row) → eval_all news (params ∷ r ∷ []) ≡ f (drop 1 r))
       → Writes old new None (Update k (record { lets = []; body = plain_query tree tests (col 1 0 ∷ col 1 0 ∷ news) [] })) text params count
       → Holds schema (with_rows k (map (λ v. if q v then cast_all columns (f v) else v) (rows_at k all)) all) new.now
@@ -190,8 +210,10 @@ module _ (schema : Schema) (k tree : ℕ) (name : List ℕ) (columns : List Colu
       let project = col 1 0 ∷ col 1 0 ∷ news in
       let command = Update k (record { lets = []; body = plain_query tree tests project [] }) in
       let db = old.now.trees in
-      let does = subst (λ s. Does old.step_limit (mode_of old) params (record old.now { schema = s }) text None command (Ok (w.tally, new.now))) h.schema_is w.changed in
-      let on = subst (λ o. AtPlace (λ t. OnRows (record { limit = old.step_limit; keys = Enforced; schema = schema; table = t; params = params }) (mode_of old) None command db) o (Ok (w.tally, new.now))) at does in
+      let does = subst (λ s. Does old.step_limit (mode_of old) params (record old.now { schema = s }) text None command (Ok (w.tally, new.now))) h.schema_is
+      w.changed in
+      let on = subst (λ o. AtPlace (λ t. OnRows (record { limit = old.step_limit; keys = Enforced; schema = schema; table = t; params = params })
+      (mode_of old) None command db) o (Ok (w.tally, new.now))) at does in
       let done = went on in
       let now = ap (λ (p : Tally × Database). p.1) (same_value (went (went done.2).2).2) in
       let found = went done.1 in
@@ -208,32 +230,56 @@ module _ (schema : Schema) (k tree : ℕ) (name : List ℕ) (columns : List Colu
       map-map _ _ passing ∙ Rattle.sqlite_keyed.proofs.ListLemmas.map_same _ _ (λ r. ap (λ vs. cast Integer (rowid r) ∷ cast_all columns vs) (shows r)) passing
       ∙ renewed_on f passing (all-filter _ p (db tree) there.0.1) in
       let put : IsPermutation (map (renewed f) passing) edit.news =
-      IsPermutation-trans _ _ _ (IsPermutation-same _ _ (sym shown_as)) (IsPermutation-trans _ _ _ (IsPermutation-map _ _ _ seen) (IsPermutation-same _ _ (sym news_are))) in
-      let over = replaced_is p (renewed f) (λ r. refl) (db tree) (without_all (db tree) (ids_of found.0)) edit.news there.0 left put applied.keyed applied.fresh in
+      IsPermutation-trans _ _ _ (IsPermutation-same _ _ (sym shown_as))
+      (IsPermutation-trans _ _ _ (IsPermutation-map _ _ _ seen) (IsPermutation-same _ _ (sym news_are))) in
+      let over = replaced_is p (renewed f) (λ r. refl) (db tree) (without_all (db tree) (ids_of found.0)) edit.news there.0 left put applied.keyed
+      applied.fresh in
       let rows : next.0 tree ≡ map (in_place p (renewed f)) (db tree) = applied.rows ∙ over in
-      let still = replaced_shaped p (renewed f) (λ r. refl) (db tree) (without_all (db tree) (ids_of found.0)) edit.news there.0 left put applied.keyed applied.fresh in
+      let still = replaced_shaped p (renewed f) (λ r. refl) (db tree) (without_all (db tree) (ids_of found.0)) edit.news there.0 left put applied.keyed
+      applied.fresh in
       let named : map (drop 1) (map (in_place p (renewed f)) (db tree)) ≡ map (λ v. if q v then cast_all columns (f v) else v) (map (drop 1) (db tree)) =
       map-map _ _ (db tree) ∙ Rattle.sqlite_keyed.proofs.ListLemmas.map_same _ _ (dropped_in_place p q f means) (db tree) ∙ sym (map-map _ _ (db tree)) in
       changed next.0 edit _ (now ∙ ap (λ (t : Trees). record { schema = schema; trees = t }) trees) refl applied (subst (IsShaped shape.Table) (sym rows) still)
       (ap (map (drop 1)) rows ∙ named ∙ ap (map (λ v. if q v then cast_all columns (f v) else v)) there.1)
 
 -- a SELECT of the rows that pass a test: each is shown, in some order
-pub selects : (schema : Schema) (k tree : ℕ) → is_lone tree k schema.tables ≡ true → (db : Database) (all : List (List Row)) (params : Row) → Shows schema all db
-    → (tests project : List Term) (order : List (Term × Key)) (q : Row → Bool) (f : Row → Row) (names : List (List ℕ)) → overlay db.trees [] tree ≡ db.trees tree
-    → ((r : Row) → list_all (holds (params ∷ r ∷ [])) tests ≡ q (drop 1 r)) → ((r : Row) → eval_all project (params ∷ r ∷ []) ≡ f (drop 1 r)) → (rows : List Row)
-    → Reads (Select (record { lets = []; body = plain_query tree tests project order }) names) db params rows → IsPermutation (map f (filter q (rows_at k all))) rows
+pub selects : (schema : Schema) (k tree : ℕ) → is_lone tree k schema.tables ≡ true → (db : Database) (all : List (List Row)) (params : Row)
+    → Shows schema all db
+    → (tests project : List Term) (order : List (Term × Key)) (q : Row → Bool) (f : Row → Row) (names : List (List ℕ)) → overlay db.trees [] tree
+    ≡ db.trees tree
+    → ((r : Row) → list_all (holds (params ∷ r ∷ [])) tests ≡ q (drop 1 r)) → ((r : Row) → eval_all project (params ∷ r ∷ []) ≡ f (drop 1 r))
+    → (rows : List Row)
+    → Reads (Select (record { lets = []; body = plain_query tree tests project order }) names) db params rows
+    → IsPermutation (map f (filter q (rows_at k all))) rows
 selects schema k tree alone db all params h tests project order q f names own means shows rows reads =
     let found = any_order tree tests project order params db.trees own rows reads.answer in
     let there = shown_there tree db.trees k schema.tables all alone h.rows_are in
     let passing : filter q (rows_at k all) ≡ map (drop 1) (filter (λ r. list_all (holds (params ∷ r ∷ [])) tests) (db.trees tree)) =
     ap (filter q) (sym there) ∙ filter-map q (drop 1) (db.trees tree) ∙ ap (map (drop 1)) (sym (filter_same _ _ means (db.trees tree))) in
-    let first : map f (filter q (rows_at k all)) ≡ map (λ r. eval_all project (params ∷ r ∷ [])) (filter (λ r. list_all (holds (params ∷ r ∷ [])) tests) (db.trees tree)) =
+    let first : map f (filter q (rows_at k all)) ≡ map (λ r. eval_all project (params ∷ r ∷ []))
+    (filter (λ r. list_all (holds (params ∷ r ∷ [])) tests) (db.trees tree)) =
     ap (map f) passing ∙ map-map f (drop 1) _ ∙ Rattle.sqlite_keyed.proofs.ListLemmas.map_same _ _ (λ r. sym (shows r)) _ in
     subst (λ l. IsPermutation l rows) (sym first) found
 
+-- a SELECT of the rows that pass a test, in the order of the table
+pub reads_in_order : (schema : Schema) (k tree : ℕ) → is_lone tree k schema.tables ≡ true → (db : Database) (all : List (List Row)) (params : Row)
+    → Holds schema all db
+    → (tests project : List Term) (q : Row → Bool) (f : Row → Row) (names : List (List ℕ)) → overlay db.trees [] tree ≡ db.trees tree
+    → ((r : Row) → list_all (holds (params ∷ r ∷ [])) tests ≡ q (drop 1 r)) → ((r : Row) → eval_all project (params ∷ r ∷ []) ≡ f (drop 1 r))
+    → (rows : List Row)
+    → Reads (Select (record { lets = []; body = plain_query tree tests project row_order }) names) db params rows → rows ≡ map f (filter q (rows_at k all))
+reads_in_order schema k tree alone db all params h tests project q f names own means shows rows reads =
+    let there = rows_there tree db.trees k schema.tables all alone h.rows_are in
+    let found = row_order_is tree tests project params db.trees own there.0.0 rows reads.answer in
+    let passing : filter q (rows_at k all) ≡ map (drop 1) (filter (λ r. list_all (holds (params ∷ r ∷ [])) tests) (db.trees tree)) =
+    ap (filter q) (sym there.1) ∙ filter-map q (drop 1) (db.trees tree) ∙ ap (map (drop 1)) (sym (filter_same _ _ means (db.trees tree))) in
+    found ∙ Rattle.sqlite_keyed.proofs.ListLemmas.map_same _ _ shows _ ∙ sym (map-map f (drop 1) _) ∙ ap (map f) (sym passing)
+
 -- a CREATE TABLE
-pub creates : (schema : Schema) (table : Table) (old new : State) (all : List (List Row)) (text : List ℕ) (params : Row) (count : ℕ) → table_defined_by text ≡ Ok table
-    → lacks_sequence (created schema table) ≡ false → Holds schema all old.now → Writes old new None CreateTable text params count → Holds (created schema table) (all ++ [] ∷ []) new.now
+pub creates : (schema : Schema) (table : Table) (old new : State) (all : List (List Row)) (text : List ℕ) (params : Row) (count : ℕ) → table_defined_by text
+    ≡ Ok table
+    → lacks_sequence (created schema table) ≡ false → Holds schema all old.now → Writes old new None CreateTable text params count
+    → Holds (created schema table) (all ++ [] ∷ []) new.now
 creates schema table old new all text params count defined lacks h w =
     let parts = went w.changed in
     let first = went parts.1 in
@@ -245,4 +291,8 @@ creates schema table old new all text params count defined lacks h w =
     let kept = subst (λ (s : Schema). AllByRecursion (λ (u : Table). first.0.trees u.tree ≡ old.now.trees u.tree) s.tables) h.schema_is made.others in
     let empty = subst (λ s. first.0.trees (next_tree s) ≡ []) h.schema_is made.empty in
     subst (Holds (created schema table) (all ++ [] ∷ [])) (sym now)
-    (record { schema_is = now_schema; rows_are = with_table old.now.trees first.0.trees schema.tables all (record table { tree = next_tree schema }) kept empty h.rows_are })
+    (record {
+      schema_is = now_schema;
+      rows_are = with_table old.now.trees first.0.trees schema.tables all
+          (record table { tree = next_tree schema }) kept empty h.rows_are;
+    })

@@ -1,5 +1,6 @@
 -- The tests and sums of texts and of numbers that are not negative.
-use Rattle.std.proofs.Common.{◌≡◌, ℕ, ◌+◌, ◌-◌, ◌<◌, ◌≤◌, ◌^◌, ◌==◌, nat_le, pos, ◌+ℤ◌, ◌-ℤ◌, Bool, true, false, ◌&&◌, List, Some, refl, ap, ap₂, ◌∙◌, arith, int_cmp, is_eq, is_ge, is_le, bytes_eq, nat_lt}
+use Rattle.std.proofs.Common.{◌≡◌, ℕ, ◌+◌, ◌-◌, ◌<◌, ◌≤◌, ◌^◌, ◌==◌, nat_le, pos, ◌+ℤ◌, ◌-ℤ◌, Bool, true, false, ◌&&◌, List, Some, refl, ap, ap₂, ◌∙◌, arith}
+use Rattle.std.proofs.Common.{int_cmp, is_eq, is_ge, is_le, bytes_eq, nat_lt}
 use Rattle.std.proofs.lemmas.Bool.Decides.{nat_tests}
 use Rattle.std.proofs.lemmas.Int.{ints}
 use Rattle.std.proofs.lemmas.Map.Text.{is_eq-slice_cmp}

@@ -1,5 +1,6 @@
 -- What is put after all rows, taken out or changed in place leaves the rest in its order: equations between lists.
-use Rattle.std.proofs.Common.{◌≡◌, inl, inr, ℤ, pos, ◌+ℤ◌, ◌<ℤ◌, Bool, true, false, not, if◌then◌else◌, List, [], ◌∷◌, ◌++◌, map, drop, filter, fold, refl, sym, ap, ap₂, subst, ◌∙◌, arith, Less, int_cmp, IsTrue, IsPermutation}
+use Rattle.std.proofs.Common.{◌≡◌, inl, inr, ℤ, pos, ◌+ℤ◌, ◌<ℤ◌, Bool, true, false, not, if◌then◌else◌, List, [], ◌∷◌, ◌++◌, map, drop, filter, fold, refl, sym}
+use Rattle.std.proofs.Common.{ap, ap₂, subst, ◌∙◌, arith, Less, int_cmp, IsTrue, IsPermutation}
 use Rattle.std.specs.List.{AllByRecursion}
 use Rattle.std.specs.Ordering.{ordering_reverse}
 use Rattle.std.proofs.lemmas.Bool.{cases_Bool, both_ways, not-true, and_parts}
@@ -37,7 +38,8 @@ mapped_from f (x ∷ xs) y (inr h) = let r = mapped_from f xs y h in (r.0, inr r
 
 pub has_permuted : {A : Type 0} (xs ys : List A) (x : A) → IsPermutation xs ys → Has xs x → Has ys x
 has_permuted xs ys x same =
-    all_has (Has ys) xs x (recursion_from_All (Has ys) xs (All-permutation (Has ys) ys xs (IsPermutation-sym xs ys same) (All-from_recursion (Has ys) ys (all_from (Has ys) ys (λ y h. h)))))
+    all_has (Has ys) xs x (recursion_from_All (Has ys) xs (All-permutation (Has ys) ys xs (IsPermutation-sym xs ys same)
+    (All-from_recursion (Has ys) ys (all_from (Has ys) ys (λ y h. h)))))
 
 -- ---- two tables with the same rows are one
 
@@ -81,7 +83,10 @@ below_next x (y ∷ rows) up keyed =
 all_below : (next : ℤ) (vs : Row) (rows : List Row) → AllByRecursion (λ r. IsTrue (is_int (rowid r))) rows → AllByRecursion (λ r. id_in (rowid r) <ℤ next) rows
     → AllByRecursion (λ r. value_cmp (rowid r) (rowid (Int next ∷ vs)) ≡ Less) rows
 all_below next vs [] keyed low = tt
-all_below next vs (x ∷ rows) keyed low = (rw (int_is (rowid x) keyed.0, value_cmp-Int (id_in (rowid x)) next) (cmp_less _ _ low.0), all_below next vs rows keyed.1 low.1)
+all_below next vs (x ∷ rows) keyed low = (
+  rw (int_is (rowid x) keyed.0, value_cmp-Int (id_in (rowid x)) next) (cmp_less _ _ low.0),
+  all_below next vs rows keyed.1 low.1,
+)
 
 below_new : (rows : List Row) (vs : Row) → IsShaped Table rows → AllByRecursion (λ r. value_cmp (rowid r) (rowid (Int (next_rowid rows) ∷ vs)) ≡ Less) rows
 below_new [] vs h = tt
@@ -120,7 +125,8 @@ module _ (p : Row → Bool) (rows : List Row) (found : List Row) (shaped : IsSha
   left_passes x h =
       let was = without_all_has (ids_of found) rows x h in
       elim (cases_Bool (p x)) [
-        | inl yes' ↦ absurd (both_ways _ (all_has _ (ids_of found) _ (left_lacks (ids_of found) rows x h) (own x was yes')) (own_rowid x (all_has _ rows x shaped.1 was)))
+        | inl yes' ↦ absurd (both_ways _ (all_has _ (ids_of found) _ (left_lacks (ids_of found) rows x h) (own x was yes'))
+            (own_rowid x (all_has _ rows x shaped.1 was)))
         | inr no' ↦ has_kept _ rows x was (ap not no')
       ]
 
@@ -132,7 +138,8 @@ module _ (p : Row → Bool) (rows : List Row) (found : List Row) (shaped : IsSha
         | inr taken ↦
             let at = mapped_from (row_at rows) (ids_of found) x taken in
             let it = only at.0 at.1 in
-            let same : row_at rows at.0 ≡ it.0 = row_at_is rows at.0 it.0 shaped.0 it.1 (subst (λ id. has_rowid id it.0 ≡ true) (sym it.3) (own_rowid it.0 (all_has _ rows it.0 shaped.1 it.1))) in
+            let same : row_at rows at.0 ≡ it.0 = row_at_is rows at.0 it.0 shaped.0 it.1
+            (subst (λ id. has_rowid id it.0 ≡ true) (sym it.3) (own_rowid it.0 (all_has _ rows it.0 shaped.1 it.1))) in
             absurd (both_ways (p x) (not-true _ was.1) (ap p (at.2 ∙ same) ∙ it.2))
       ]
 
@@ -185,10 +192,12 @@ module _ (p : Row → Bool) (g : Row → Row) (same_id : (r : Row) → rowid (g 
           | inl yes' ↦
               let same : x ≡ g it.0 = it.2 ∙ ap (λ b. if b then g it.0 else it.0) yes' in
               subst (Has (put_all left news)) (sym same)
-              (put_all_adds news left (g it.0) fresh (has_permuted (map g (filter p rows)) news (g it.0) news_are (has_mapped g (filter p rows) it.0 (has_kept p rows it.0 it.1 yes'))))
+              (put_all_adds news left (g it.0) fresh (has_permuted (map g (filter p rows)) news (g it.0) news_are
+              (has_mapped g (filter p rows) it.0 (has_kept p rows it.0 it.1 yes'))))
           | inr no' ↦
               let same : x ≡ it.0 = it.2 ∙ ap (λ b. if b then g it.0 else it.0) no' in
-              subst (Has (put_all left news)) (sym same) (put_all_keeps news left it.0 fresh (subst (λ l. Has l it.0) (sym left_is) (has_kept _ rows it.0 it.1 (ap not no'))))
+              subst (Has (put_all left news)) (sym same) (put_all_keeps news left it.0 fresh
+              (subst (λ l. Has l it.0) (sym left_is) (has_kept _ rows it.0 it.1 (ap not no'))))
         ]
 
     pub replaced_is : put_all left news ≡ map (in_place p g) rows
@@ -197,4 +206,5 @@ module _ (p : Row → Bool) (g : Row → Row) (same_id : (r : Row) → rowid (g 
         same_rows _ _ (shaped_put news left keyed held).0 (replaced_table rows shaped.0) put_replaces replaced_put
 
     pub replaced_shaped : IsShaped Table (map (in_place p g) rows)
-    replaced_shaped = subst (IsShaped Table) replaced_is (shaped_put news left keyed (subst (IsShaped Table) (sym left_is) (IsShaped-filter Table _ rows shaped)))
+    replaced_shaped = subst (IsShaped Table) replaced_is (shaped_put news left keyed
+        (subst (IsShaped Table) (sym left_is) (IsShaped-filter Table _ rows shaped)))

@@ -3,8 +3,8 @@ use Rattle.std.specs.Prelude.{ℕ, true, false, pos, negsuc, List, [], ◌∷◌
 use Rattle.sqlite_value.specs.declared.keys.Collation.TheVariants.{Binary}
 use Rattle.sqlite_value.specs.declared.keys.Key.{Key}
 use Rattle.sqlite_value.specs.declared.value.Value.TheVariants.{Null, Int}
-use Rattle.sqlite_value.specs.Keys.{plain}
-use Rattle.sqlite_sql.specs.Term.{Term, lit}
+use Rattle.sqlite_value.specs.Keys.{ascending, plain}
+use Rattle.sqlite_sql.specs.Term.{Term, col, lit}
 use Rattle.sqlite_sql.specs.Query.{Query, inner, end}
 use Rattle.sqlite_schema.specs.declared.schema.Kind.{Kind}
 use Rattle.sqlite_schema.specs.declared.schema.Column.{Column}
@@ -44,3 +44,7 @@ plain_query tree tests project order = record {
   limit = lit (Int (negsuc 0));
   offset = lit (Int (pos 0));
 }
+
+-- in the order in which the rows came
+abbrev pub row_order : List (Term × Key)
+row_order = (col 1 0, ascending Binary) ∷ []

@@ -14,6 +14,7 @@ pub record Steps {X : Type 0} (old new : State) (r : Result X Error) : Type 0 wh
 -- a text that was run as one statement
 pub record Ran {X : Type 0} (sql : List ℕ) (params : Row) (old new : State) (r : Result X Error) : Type 0 where
   pub steps : Steps old new r
+  pub was_open : HasCleanDisk new → OnOk r (IsTrue old.in_transaction → IsTrue old.is_open)
   pub executed : HasCleanDisk new → OnOk r (IsTrue old.in_transaction → (count : ℕ) × Executes sql params old new (Ok count))
 
 -- A step of tables that are known by a relation: those that the database has and that fit are changed.
