@@ -1,0 +1,87 @@
+-- From the steps of a transaction and its commit to what the whole of it does.
+use Rattle.std.proofs.Common.{◌≡◌, Result, Ok, refl, sym, ap, subst, ◌∙◌, IsTrue, true, false}
+use Rattle.sqlite_trees.specs.Tree.{Trees}
+use Rattle.sqlite.specs.declared.error.Error.{Error}
+use Rattle.sqlite.specs.State.{State, HasCleanDisk, Shows, Survives}
+use Rattle.sqlite.proofs.StateLemmas.{survives_then}
+use Rattle.upd_change.specs.Rows.{Rows}
+use Rattle.upd_order.specs.Rising.{TablesRise}
+use Rattle.sqlite.specs.Effect.{Database}
+use Rattle.upd_tables.specs.Steps.{Makes, Steps}
+use Rattle.upd_tables.proofs.Chains.{clean_before}
+use Rattle.upd_tables.proofs.Frames.{held, showing}
+use Rattle.upd_sql.specs.Schema.{library_schema, no_schema}
+use Rattle.upd_sql.specs.Making.{no_rows, HasMade, Leads, MayMake}
+use Rattle.upd_sql.specs.Encoded.{stored}
+use Rattle.upd_sql.specs.Stands.{Stands, ShowsTables}
+use Rattle.upd_sql.specs.Commits.{ShowsIn, WasOpen, Commits, MayCommit, MayKeep, LeavesTables}
+
+module _ (F : Rows → Type 0) (f : Rows → Rows) (old last end : State) {X : Type 0} (x : X) (rise : IsTrue old.is_open → TablesRise old.now)
+    (settled : IsTrue old.is_open → old.now ≡ old.committed)
+    (m : Makes {X = X} Stands F f (record old { in_transaction = true }) last (Ok x)) where
+  led : HasCleanDisk last → IsTrue old.is_open → (it : Rows) → ShowsTables it old.committed → F it → Stands (f it) last.now
+  led clean o it shown fits = m.made clean refl it fits (held library_schema (stored it) old.now (rise o) (subst (ShowsTables it) (sym (settled o)) shown))
+
+  pub committed_whole : HasCleanDisk last → Shows last end last.now last.now false → Commits F f old end
+  committed_whole clean ended =
+      let o = (m.steps.kept clean refl).was_open ended.was_open in
+      record {
+        was_open = o;
+        is_open = ended.is_open;
+        shows = λ it shown fits. subst (ShowsTables (f it)) (sym ended.committed_is)
+            (showing library_schema (stored (f it)) last.now (led clean o it shown fits));
+      }
+
+  pub crash_leaves : (HasCleanDisk last → IsTrue old.is_open) → Survives last end (λ db. db ≡ last.now.trees)
+      → Survives (record old { in_transaction = true }) end (MayCommit F f old)
+  crash_leaves opened s =
+      survives_then (record old { in_transaction = true }) last end (λ _. ⊥) (λ db. db ≡ last.now.trees) (MayCommit F f old) (λ _ db none. absurd none)
+      (λ clean db is.
+      let early = clean_before last end _ s clean in
+      let o = opened early in
+      (o, λ it shown fits. subst (λ t. ShowsIn t (f it)) (sym is) (showing library_schema (stored (f it)) last.now (led early o it shown fits)).rows_are))
+      m.steps.survives s
+
+module _ (old last end : State) {X : Type 0} (x : X) (settled : IsTrue old.is_open → old.now ≡ old.committed)
+    (steps : Steps {X = X} (record old { in_transaction = true }) last (Ok x))
+    (was_open : WasOpen {X = X} (record old { in_transaction = true }) last (Ok x))
+    (same : LeavesTables {X = X} (record old { in_transaction = true }) last (Ok x)) where
+  still : HasCleanDisk last → IsTrue old.is_open → old.committed.schema ≡ library_schema → last.now ≡ old.committed
+  still clean o schema = same clean (ap (λ (d : Database). d.schema) (settled o) ∙ schema) ∙ settled o
+
+  pub read_kept : HasCleanDisk last → Shows last end last.now last.now false → old.committed.schema ≡ library_schema → end.committed ≡ old.committed
+  read_kept clean ended schema = ended.committed_is ∙ still clean (was_open clean refl) schema
+
+  pub read_leaves : Survives last end (λ db. db ≡ last.now.trees) → Survives (record old { in_transaction = true }) end (MayKeep old)
+  read_leaves s =
+      survives_then (record old { in_transaction = true }) last end (λ _. ⊥) (λ db. db ≡ last.now.trees) (MayKeep old) (λ _ db none. absurd none)
+      (λ clean db is.
+      let early = clean_before last end _ s clean in
+      let o = was_open early refl in
+      (o, λ schema. is ∙ ap (λ (d : Database). d.trees) (still early o schema)))
+      steps.survives s
+
+-- what a transaction finds in the tables as it sees them, it finds in those of the last commit
+pub stands_begun : (old : State) → (IsTrue old.is_open → TablesRise old.now) → (IsTrue old.is_open → old.now ≡ old.committed) → IsTrue old.is_open
+    → (it : Rows) → ShowsTables it old.committed → Stands it old.now
+stands_begun old rise settled o it shown = held library_schema (stored it) old.now (rise o) (subst (ShowsTables it) (sym (settled o)) shown)
+
+module _ (old last end : State) {X : Type 0} (x : X) (settled : IsTrue old.is_open → old.now ≡ old.committed)
+    (m : Leads {X = X} (HasMade 0) (Stands no_rows) (record old { in_transaction = true }) last (Ok x)) where
+  laid : HasCleanDisk last → IsTrue old.is_open → old.committed.schema ≡ no_schema → Stands no_rows last.now
+  laid clean o empty = m.led clean refl (record { schema_is = ap (λ (d : Database). d.schema) (settled o) ∙ empty; rows_are = tt })
+
+  pub made_whole : HasCleanDisk last → Shows last end last.now last.now false → old.committed.schema ≡ no_schema → ShowsTables no_rows end.committed
+  made_whole clean ended empty =
+      let o = (m.steps.kept clean refl).was_open ended.was_open in
+      subst (ShowsTables no_rows) (sym ended.committed_is) (showing library_schema (stored no_rows) last.now (laid clean o empty))
+
+  pub making_leaves : WasOpen {X = X} (record old { in_transaction = true }) last (Ok x) → Survives last end (λ db. db ≡ last.now.trees)
+      → Survives (record old { in_transaction = true }) end (MayMake old)
+  making_leaves was_open s =
+      survives_then (record old { in_transaction = true }) last end (λ _. ⊥) (λ db. db ≡ last.now.trees) (MayMake old) (λ _ db none. absurd none)
+      (λ clean db is.
+      let early = clean_before last end _ s clean in
+      let o = was_open early refl in
+      (o, λ empty. subst (λ t. ShowsIn t no_rows) (sym is) (showing library_schema (stored no_rows) last.now (laid early o empty)).rows_are))
+      m.steps.survives s

@@ -1,0 +1,76 @@
+-- What the tests of the texts say of the rows of records.
+use Rattle.std.proofs.Common.{◌≡◌, ℕ, pos, ◌==◌, nat_le, nat_eq, Bool, true, false, ◌&&◌, List, [], ◌∷◌, refl, sym, ap, ap₂, ◌∙◌, arith, bytes_eq}
+use Rattle.std.specs.List.{list_all}
+use Rattle.std.proofs.lemmas.Bool.Decides.{nat_tests}
+use Rattle.sqlite_value.specs.declared.value.Value.TheVariants.{Null, Text, Int}
+use Rattle.sqlite_value.specs.Order.{Row}
+use Rattle.sqlite_sql.specs.Term.{Term, holds}
+use Rattle.upd_text.specs.declared.card_ref.CardRef.{CardRef}
+use Rattle.upd_core.specs.declared.target.Target.{Target}
+use Rattle.upd_core.specs.declared.target.Target.TheVariants.{Set, SetIn, Deck}
+use Rattle.upd_core.specs.Targets.{is_same}
+use Rattle.upd_change.specs.Rows.{CardRow, EntryRow, TargetRow, RunView, StateRow, CountRow, MarkRow, same_ref}
+use Rattle.upd_rows.specs.Tables.{is_run, is_settled, is_mark_of}
+use Rattle.upd_tables.proofs.Tests.{eq_text, eq_nat, ge_nat, le_nat, one_test, two_tests, three_tests}
+use Rattle.upd_sql.specs.Encoded.{num, target_code, ident_row, card_row, entry_row, target_row, run_row, state_row, count_row, mark_row}
+use Rattle.upd_sql.proofs.Texts.{delete_card_tests, delete_entries_tests, delete_targets_tests, delete_state_tests, delete_count_tests, delete_mark_tests}
+use Rattle.upd_sql.proofs.Texts.{delete_runs_tests, run_of_key_tests, mark_of_site_tests}
+
+bytes_flip : (a b : List ℕ) → bytes_eq a b ≡ bytes_eq b a
+bytes_flip [] [] = refl
+bytes_flip [] (y ∷ b) = refl
+bytes_flip (x ∷ a) [] = refl
+bytes_flip (x ∷ a) (y ∷ b) = ap₂ ◌&&◌ (nat_flip x y) (bytes_flip a b)
+  where
+    nat_flip : (m n : ℕ) → nat_eq m n ≡ nat_eq n m
+    nat_flip m n = grind (arith, nat_tests)
+
+nat_flip : (m n : ℕ) → (m == n) ≡ (n == m)
+nat_flip m n = grind (arith, nat_tests)
+
+-- the parameters that name a card
+abbrev pub card_params : CardRef → Row
+card_params c = Text c.name ∷ num c.number ∷ []
+
+-- a row passes its tests
+abbrev pub passes : Row → List Term → Row → Bool
+passes params tests v = list_all (holds (params ∷ (Null ∷ v) ∷ [])) tests
+
+pub card_named : (c : CardRef) (r : CardRow) → passes (card_params c) delete_card_tests (card_row r) ≡ same_ref c r.card
+card_named c r = two_tests (eq_text r.card.name c.name ∙ bytes_flip r.card.name c.name) (eq_nat r.card.number c.number ∙ nat_flip r.card.number c.number)
+
+pub entry_named : (c : CardRef) (r : EntryRow) → passes (card_params c) delete_entries_tests (entry_row r) ≡ same_ref c r.card
+entry_named c r = two_tests (eq_text r.card.name c.name ∙ bytes_flip r.card.name c.name) (eq_nat r.card.number c.number ∙ nat_flip r.card.number c.number)
+
+pub target_named : (c : CardRef) (r : TargetRow) → passes (card_params c) delete_targets_tests (target_row r) ≡ same_ref c r.card
+target_named c r = two_tests (eq_text r.card.name c.name ∙ bytes_flip r.card.name c.name) (eq_nat r.card.number c.number ∙ nat_flip r.card.number c.number)
+
+pub state_named : (c : CardRef) (r : StateRow) → passes (card_params c) delete_state_tests (state_row r) ≡ same_ref c r.card
+state_named c r = two_tests (eq_text r.card.name c.name ∙ bytes_flip r.card.name c.name) (eq_nat r.card.number c.number ∙ nat_flip r.card.number c.number)
+
+-- the three columns of a target decide it
+same_codes : (s t : Target) (n : ℕ) → passes (target_code s) delete_count_tests (count_row (record { target = t; n = n })) ≡ is_same s t
+same_codes (Set a) (Set b) n = three_tests (eq_nat 0 0) (eq_nat b a) (eq_nat 0 0) ∙ one_test (nat_flip b a)
+same_codes (Set a) (SetIn b e) n = three_tests (eq_nat 1 0) (eq_nat b a) (eq_nat e 0)
+same_codes (Set a) (Deck b) n = three_tests (eq_nat 2 0) (eq_nat b a) (eq_nat 0 0)
+same_codes (SetIn a d) (Set b) n = three_tests (eq_nat 0 1) (eq_nat b a) (eq_nat 0 d)
+same_codes (SetIn a d) (SetIn b e) n = three_tests (eq_nat 1 1) (eq_nat b a) (eq_nat e d) ∙ ap₂ ◌&&◌ (nat_flip b a) (nat_flip e d)
+same_codes (SetIn a d) (Deck b) n = three_tests (eq_nat 2 1) (eq_nat b a) (eq_nat 0 d)
+same_codes (Deck a) (Set b) n = three_tests (eq_nat 0 2) (eq_nat b a) (eq_nat 0 0)
+same_codes (Deck a) (SetIn b e) n = three_tests (eq_nat 1 2) (eq_nat b a) (eq_nat e 0)
+same_codes (Deck a) (Deck b) n = three_tests (eq_nat 2 2) (eq_nat b a) (eq_nat 0 0) ∙ one_test (nat_flip b a)
+
+pub count_named : (t : Target) (r : CountRow) → passes (target_code t) delete_count_tests (count_row r) ≡ is_same t r.target
+count_named t r = same_codes t r.target r.n
+
+pub mark_named : (site : List ℕ) (r : MarkRow) → passes (Text site ∷ []) delete_mark_tests (mark_row r) ≡ is_mark_of site r
+mark_named site r = one_test (eq_text r.site site)
+
+pub mark_found : (site : List ℕ) (r : MarkRow) → passes (Text site ∷ []) mark_of_site_tests (mark_row r) ≡ is_mark_of site r
+mark_found site r = one_test (eq_text r.site site)
+
+pub run_found : (site : List ℕ) (number : ℕ) (r : RunView) → passes (Text site ∷ num number ∷ []) run_of_key_tests (run_row r) ≡ is_run site number r
+run_found site number r = two_tests (eq_text r.site site) (eq_nat r.number number)
+
+pub run_settled : (site : List ℕ) (number : ℕ) (r : RunView) → passes (Text site ∷ num number ∷ []) delete_runs_tests (run_row r) ≡ is_settled site number r
+run_settled site number r = two_tests (eq_text r.site site) (le_nat r.number number)

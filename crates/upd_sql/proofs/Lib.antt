@@ -1,0 +1,11 @@
+mod MakingLemmas
+mod Texts
+mod Bare
+mod Typed
+mod Casts
+mod Conditions
+mod Effects
+mod Finds
+mod Turns
+mod CommitLemmas
+mod MarkLemmas

@@ -1,0 +1,42 @@
+-- Changes one after another.
+use Rattle.std.proofs.Common.{◌≡◌, ℕ, ◌+◌, ◌<◌, List, [], ◌∷◌, ◌++◌, map, take, length, get_or, Result, Ok, Err, refl, sym, ap, subst, ◌∙◌, IsErr}
+use Rattle.std.proofs.lemmas.List.{take_more, map-append}
+use Rattle.sqlite.specs.declared.error.Error.{Error}
+use Rattle.sqlite.specs.State.{State}
+use Rattle.upd_change.specs.declared.change.Change.{Change}
+use Rattle.upd_change.specs.Changes.{ChangeView, done, done_all, change_seen}
+use Rattle.upd_change.specs.Rows.{Rows}
+use Rattle.upd_rows.specs.Fits.{Fits, AllFit}
+use Rattle.upd_tables.specs.Steps.{Makes}
+use Rattle.upd_tables.proofs.Chains.{makes_then, makes_as}
+use Rattle.upd_sql.specs.Stands.{Stands, AnyTables}
+use Rattle.upd_sql.proofs.Typed.{makes_stop, survives_itself}
+
+fits_push : (cs : List ChangeView) (d : ChangeView) (it : Rows) → AllFit (cs ++ d ∷ []) it → AllFit cs it × Fits d (done_all cs it)
+fits_push [] d it h = (tt, h.0)
+fits_push (c ∷ cs) d it h = let more = fits_push cs d (done c it) h.1 in ((h.0, more.0), more.1)
+
+done_push : (cs : List ChangeView) (d : ChangeView) (it : Rows) → done d (done_all cs it) ≡ done_all (cs ++ d ∷ []) it
+done_push [] d it = refl
+done_push (c ∷ cs) d it = done_push cs d (done c it)
+
+-- no change yet
+pub none_made : {X : Type 0} (s : State) (x : X) → Makes {X = X} Stands (AllFit []) (done_all []) s s (Ok x)
+none_made s x = record {
+  steps = record { going = λ clean inside. inside; kept = λ clean inside. record { was_open = λ o. o; committed = λ o. refl }; survives = survives_itself s _ };
+  made = λ clean inside it fits h. h;
+}
+
+-- one change more
+pub one_made : {X Y : Type 0} (cs : List ChangeView) (d : ChangeView) (a b c : State) (x : X) (y : Y)
+    → Makes {X = X} Stands (AllFit cs) (done_all cs) a b (Ok x) → Makes {X = Y} Stands (Fits d) (done d) b c (Ok y)
+    → Makes {X = X} Stands (AllFit (cs ++ d ∷ [])) (done_all (cs ++ d ∷ [])) a c (Ok x)
+one_made cs d a b c x y p q =
+    let whole = makes_as Stands _ (AllFit (cs ++ d ∷ [])) _ (done_all (cs ++ d ∷ [])) a c (Ok y) (fits_push cs d) (done_push cs d)
+    (makes_then Stands (AllFit cs) (Fits d) (done_all cs) (done d) a b c x (Ok y) p q) in
+    record { steps = record { going = whole.steps.going; kept = whole.steps.kept; survives = whole.steps.survives }; made = whole.made }
+
+pub seen_more : (changes : List Change) (i : ℕ) (c : Change) → i < length changes → c ≡ get_or changes i c
+    → map change_seen (take (i + 1) changes) ≡ map change_seen (take i changes) ++ change_seen c ∷ []
+seen_more changes i c within is =
+    ap (map change_seen) (take_more changes i c within ∙ ap (λ x. take i changes ++ x ∷ []) (sym is)) ∙ map-append change_seen (take i changes) (c ∷ [])

@@ -1,0 +1,14 @@
+use Rattle.std.proofs.Common.{◌≡◌, map, take, Ok}
+use Rattle.sqlite.specs.declared.error.Error.{Error}
+use Rattle.sqlite.specs.Held.{state}
+use Rattle.upd_change.specs.Changes.{done_all, change_seen}
+use Rattle.upd_rows.specs.Fits.{AllFit}
+use Rattle.upd_tables.specs.Steps.{Makes}
+use Rattle.upd_sql.specs.Stands.{Stands}
+use Rattle.upd_sql.proofs.changes.make_all.Given as goal
+
+abbrev pub invariant-loop-change : goal.invariant-loop-change
+invariant-loop-change g l =
+    (l.tx.conn.ghost_name ≡ l.initial.tx.conn.ghost_name)
+    × Makes {X = Unit {0}} Stands (AllFit (map change_seen (take l.change-index l.changes))) (done_all (map change_seen (take l.change-index l.changes)))
+    (state g.S.Store l.initial.tx.conn.now) (state g.S.Store l.tx.conn.now) (Ok tt)

@@ -1,0 +1,37 @@
+use Rattle.std.proofs.Common.{◌≡◌, IsTrue, Ok, not, true, List, map, refl, sym, ap, subst, ◌∙◌, rules, arith}
+use Rattle.sqlite.specs.Held.{state}
+use Rattle.sqlite.specs.State.{HasCleanDisk, Survives}
+use Rattle.sqlite.proofs.Callers.{survives_begin}
+use Rattle.upd_change.specs.Changes.{change_seen, done_all}
+use Rattle.upd_change.specs.Rows.{Rows}
+use Rattle.upd_rows.specs.Fits.{AllFit}
+use Rattle.upd_rows.specs.Tables.{committed, with_run}
+use Rattle.upd_tables.specs.Steps.{Makes}
+use Rattle.upd_tables.proofs.Chains.{makes_then, makes_as}
+use Rattle.upd_sql.specs.Commits.{MayCommit}
+use Rattle.upd_sql.specs.Stands.{Stands, AnyTables}
+use Rattle.upd_sql.proofs.CommitLemmas.{crash_leaves}
+use Rattle.upd_sql.proofs.commits.commit_changes.Goals as goal
+
+pub returns-clause-crash : goal.returns-clause-crash
+returns-clause-crash g c =
+    let old = state g.S.Store c.args.conn.now in
+    let begun = record old { in_transaction = true } in
+    let mid = state g.S.Store c.make_all.new.tx.conn.now in
+    let last = state g.S.Store c.insert_run.new.tx.conn.now in
+    let end = state g.S.Store c.commit.new.self.0 in
+    let cs = map change_seen c.args.changes.now in
+    let made : Makes {X = Unit {0}} Stands (AllFit cs) (done_all cs) begun mid (Ok c.in_ok-make_all.field-0) =
+    rw c.transaction-tx.ensures.begun at c.in_ok-make_all.ensures.makes in
+    let whole : Makes {X = Unit {0}} Stands (AllFit cs) (committed cs c.args.row.now) begun last (Ok c.in_ok-insert_run.field-0) =
+    makes_as Stands _ (AllFit cs) _ (committed cs c.args.row.now) begun last (Ok c.in_ok-insert_run.field-0) (λ it fits. (fits, tt)) (λ it. refl)
+    (makes_then Stands (AllFit cs) AnyTables (done_all cs) (with_run c.args.row.now) begun mid last c.in_ok-make_all.field-0
+    (Ok c.in_ok-insert_run.field-0) made c.in_ok-insert_run.ensures.makes) in
+    let outside : IsTrue c.is_autocommit-outside.result = c.is_autocommit-outside.ensures.value ∙ ap not c.requires in
+    let left = crash_leaves (AllFit cs) (committed cs c.args.row.now) old last end c.in_ok-insert_run.field-0 (c.note_settled.ensures c.requires)
+    (c.is_autocommit-outside.ensures.settled outside) whole
+    (λ clean. let early : HasCleanDisk mid = omega (arith, c.insert_run.ensures.makes.steps.survives.clean) in (made.steps.kept early refl).was_open
+    (c.in_ok-insert_run.ensures.was_open clean (made.steps.going early refl))) c.commit.ensures.survives in
+    let P = MayCommit (AllFit cs) (committed cs c.args.row.now) old in
+    let same : c.commit.new.self.0 ≡ c.conn-2-1.given.0 = search rules in
+    subst (λ h. Survives old (state g.S.Store h) P) same (survives_begin g.S.Store c.args.conn.now end P left)

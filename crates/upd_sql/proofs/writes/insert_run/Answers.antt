@@ -1,0 +1,38 @@
+use Rattle.std.proofs.Common.{ℕ, List, [], ◌∷◌, ◌++◌, subst, sym}
+use Rattle.sqlite_value.specs.declared.value.Value.TheVariants.{Text}
+use Rattle.sqlite.specs.Held.{state}
+use Rattle.upd_tables.specs.Steps.{Ran}
+use Rattle.upd_change.specs.Changes.{done, CardNew, CardsMoved, EntriesGone, EntryNew, IdentNew, IdentPurged, TargetNew, TargetsGone}
+use Rattle.upd_change.specs.Rows.{CardRow, EntryRow, TargetRow, StateRow, CountRow, MarkRow, RunView}
+use Rattle.upd_rows.specs.Tables.{with_run}
+use Rattle.upd_sql.specs.Encoded.{num, target_code, ident_row, card_row, entry_row, target_row, run_row, state_row, count_row, mark_row}
+use Rattle.upd_sql.specs.Parts.{with_count, with_mark, with_state, without_card, without_count, without_mark, without_runs, without_state}
+use Rattle.upd_sql.specs.Stands.{AnyTables}
+use Rattle.upd_sql.proofs.Conditions.{card_params}
+use Rattle.upd_sql.proofs.Typed.{makes_from, makes_nothing}
+use Rattle.upd_sql.proofs.Texts.{insert_run}
+use Rattle.upd_sql.proofs.Effects.{run_added}
+use Rattle.upd_sql.proofs.writes.insert_run.Goals as goal
+
+pub returns-clause-makes : goal.returns-clause-makes
+returns-clause-makes g c =
+    let old = state g.S.Store c.args.tx.now.conn.now in
+    let new = state g.S.Store c.run.new.tx.conn.now in
+    let ran = rw (
+      c.in_ok-run_number.ensures,
+      c.site.ensures,
+      c.number.ensures,
+      c.blob.ensures,
+      c.flag.ensures,
+      c.blob-2.ensures,
+      c.deref.ensures,
+      c.deref-2.ensures.value,
+      c.deref-3.ensures.value,
+    ) at c.run.ensures.ran in
+    makes_from AnyTables (with_run c.args.row.now) insert_run (run_row c.args.row.now) old new c.run.result
+    (subst (λ (r : RunView). Ran insert_run (run_row r) old new c.run.result) c.row.view_is ran)
+    (λ count ran it fits h. run_added old new count it h c.args.row.now ran)
+
+pub returns-in_err-run_number-clause-makes : goal.returns-in_err-run_number-clause-makes
+returns-in_err-run_number-clause-makes g c = makes_nothing AnyTables (with_run c.args.row.now)
+    (state g.S.Store c.args.tx.now.conn.now) c.from_residual.result c.from_residual.ensures.0

@@ -1,0 +1,38 @@
+-- What a whole transaction does to the tables of the last commit.
+use Rattle.std.specs.Prelude.{◌≡◌, Result, IsTrue, OnOk}
+use Rattle.std.specs.List.{AllZip}
+use Rattle.sqlite_trees.specs.Tree.{Trees}
+use Rattle.sqlite.specs.declared.error.Error.{Error}
+use Rattle.sqlite.specs.State.{State, HasCleanDisk}
+use Rattle.upd_change.specs.Rows.{Rows}
+use Rattle.upd_tables.specs.Stored.{HasRows}
+use Rattle.upd_sql.specs.Schema.{library_schema}
+use Rattle.upd_sql.specs.Encoded.{stored}
+use Rattle.upd_sql.specs.Stands.{ShowsTables}
+
+-- trees that show these tables
+abbrev pub ShowsIn : Trees → Rows → Type 0
+ShowsIn trees rows = AllZip (HasRows trees) library_schema.tables (stored rows)
+
+-- a statement of a transaction runs only while the connection is open
+abbrev pub WasOpen : {X : Type 0} → State → State → Result X Error → Type 0
+WasOpen old new r = HasCleanDisk new → OnOk r (IsTrue old.in_transaction → IsTrue old.is_open)
+
+module _ (Fits : Rows → Type 0) (change : Rows → Rows) where
+  -- A transaction was committed: tables that fit are changed.
+  pub record Commits (old new : State) : Type 0 where
+    pub was_open : IsTrue old.is_open
+    pub is_open : IsTrue new.is_open
+    pub shows : (rows : Rows) → ShowsTables rows old.committed → Fits rows → ShowsTables (change rows) new.committed
+
+  -- what a crash may leave of it
+  abbrev pub MayCommit : State → Trees → Type 0
+  MayCommit old trees = IsTrue old.is_open × ((rows : Rows) → ShowsTables rows old.committed → Fits rows → ShowsIn trees (change rows))
+
+-- what a crash may leave of a transaction that only read: what was committed before it, where the schema is the library's
+abbrev pub MayKeep : State → Trees → Type 0
+MayKeep old trees = IsTrue old.is_open × (old.committed.schema ≡ library_schema → trees ≡ old.committed.trees)
+
+-- a statement that only reads leaves the tables of the transaction, where the schema is the library's
+abbrev pub LeavesTables : {X : Type 0} → State → State → Result X Error → Type 0
+LeavesTables old new r = HasCleanDisk new → OnOk r (old.now.schema ≡ library_schema → new.now ≡ old.now)

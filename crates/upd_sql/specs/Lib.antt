@@ -1,0 +1,7 @@
+pub mod Schema
+pub mod Encoded
+pub mod Stands
+pub mod Parts
+pub mod Commits
+pub mod First
+pub mod Making

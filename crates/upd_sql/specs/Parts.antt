@@ -1,0 +1,47 @@
+-- What single texts make of the tables, where a change of rows takes two of them.
+use Rattle.std.specs.Prelude.{ℕ, Bool, not, List, [], ◌∷◌, ◌++◌}
+use Rattle.std.specs.List.{filter}
+use Rattle.upd_text.specs.declared.card_ref.CardRef.{CardRef}
+use Rattle.upd_core.specs.declared.target.Target.{Target}
+use Rattle.upd_core.specs.Targets.{is_same}
+use Rattle.upd_change.specs.Rows.{Rows, same_ref}
+use Rattle.upd_rows.specs.Tables.{is_settled, is_mark_of}
+
+-- without a card's row of cards
+abbrev pub without_card : CardRef → Rows → Rows
+without_card card rows = record rows { cards = filter (λ r. not (same_ref card r.card)) rows.cards }
+
+-- without a card's status
+abbrev pub without_state : CardRef → Rows → Rows
+without_state card rows = record rows { states = filter (λ r. not (same_ref card r.card)) rows.states }
+
+-- with one status more
+abbrev pub with_state : CardRef → Bool → Rows → Rows
+with_state card active rows = record rows { states = rows.states ++ record { card = card; active = active } ∷ [] }
+
+-- without a target's count
+abbrev pub without_count : Target → Rows → Rows
+without_count target rows = record rows { counts = filter (λ r. not (is_same target r.target)) rows.counts }
+
+-- with one count more
+abbrev pub with_count : Target → ℕ → Rows → Rows
+with_count target n rows = record rows { counts = rows.counts ++ record { target = target; n = n } ∷ [] }
+
+-- without a site's mark
+abbrev pub without_mark : List ℕ → Rows → Rows
+without_mark site rows = record rows { settled = filter (λ m. not (is_mark_of site m)) rows.settled }
+
+-- with one mark more
+abbrev pub with_mark : List ℕ → ℕ → Rows → Rows
+with_mark site n rows = record rows { settled = rows.settled ++ record { site = site; mark = n } ∷ [] }
+
+-- without a site's runs up to a number
+abbrev pub without_runs : List ℕ → ℕ → Rows → Rows
+without_runs site n rows = record rows { runs = filter (λ r. not (is_settled site n r)) rows.runs }
+
+-- with a site's runs up to a number gone and its mark at that number
+abbrev pub marked : List ℕ → ℕ → Rows → Rows
+marked site n rows = record rows {
+  runs = filter (λ r. not (is_settled site n r)) rows.runs;
+  settled = filter (λ m. not (is_mark_of site m)) rows.settled ++ record { site = site; mark = n } ∷ [];
+}

@@ -1,0 +1,108 @@
+//! Row changes carried out by texts.
+ghost use Rattle.std.specs.Prelude.{◌≡◌, map};
+ghost use Rattle.sqlite.specs.Held.{state};
+ghost use Rattle.upd_change.specs.Changes.{done, done_all, change_seen, CardGone, CardsMoved, CountNow, StatusNow};
+ghost use Rattle.upd_rows.specs.Fits.{AllFit, Fits};
+ghost use Rattle.upd_tables.specs.Steps.{Makes};
+ghost use Rattle.upd_sql.specs.Stands.{AnyTables, Stands};
+
+use crate::writes;
+use sqlite::{Alter, Error, Transaction};
+use upd_change::Change;
+use upd_core::{CardRef, Serial, Target};
+
+/// The card goes, and its status with it.
+fn remove_card<S: Alter>(tx: &mut Transaction<'_, S>, card: &CardRef) -> Result<(), Error>
+    ensures same_reference { tx.new.conn.ghost_name ≡ tx.old.conn.ghost_name }
+    ensures makes { Makes Stands AnyTables (done (CardGone card.now)) (state S.Store tx.old.conn.now)
+        (state S.Store tx.new.conn.now) result }
+{
+    writes::delete_card(tx, card)?;
+    writes::delete_state(tx, card)
+}
+
+/// The card's status takes the place of the one before it.
+fn set_state<S: Alter>(
+    tx: &mut Transaction<'_, S>,
+    card: &CardRef,
+    active: bool,
+) -> Result<(), Error>
+    ensures same_reference { tx.new.conn.ghost_name ≡ tx.old.conn.ghost_name }
+    ensures makes { Makes Stands AnyTables (done (StatusNow card.now active)) (state S.Store tx.old.conn.now)
+        (state S.Store tx.new.conn.now) result }
+{
+    writes::delete_state(tx, card)?;
+    writes::insert_state(tx, card, active)
+}
+
+/// The target's count takes the place of the one before it; 0 leaves no row.
+fn set_count<S: Alter>(tx: &mut Transaction<'_, S>, target: Target, n: u32) -> Result<(), Error>
+    ensures same_reference { tx.new.conn.ghost_name ≡ tx.old.conn.ghost_name }
+    ensures makes { Makes Stands AnyTables (done (CountNow target n)) (state S.Store tx.old.conn.now)
+        (state S.Store tx.new.conn.now) result }
+{
+    writes::delete_count(tx, target)?;
+    if n == 0 {
+        return Ok(());
+    }
+    writes::insert_count(tx, target, n)
+}
+
+/// The cards of a deck that stand at a place or behind it move.
+fn move_cards<S: Alter>(
+    tx: &mut Transaction<'_, S>,
+    deck: Serial,
+    from: u32,
+    by: i64,
+) -> Result<(), Error>
+    ensures same_reference { tx.new.conn.ghost_name ≡ tx.old.conn.ghost_name }
+    ensures makes { Makes Stands (Fits (CardsMoved deck from by)) (done (CardsMoved deck from by))
+        (state S.Store tx.old.conn.now) (state S.Store tx.new.conn.now) result }
+{
+    if by < 0 {
+        writes::move_up(tx, deck, from, by.unsigned_abs())
+    } else {
+        writes::move_back(tx, deck, from, by.unsigned_abs())
+    }
+}
+
+/// Carries out one change.
+fn make<S: Alter>(tx: &mut Transaction<'_, S>, change: &Change) -> Result<(), Error>
+    ensures same_reference { tx.new.conn.ghost_name ≡ tx.old.conn.ghost_name }
+    ensures makes { Makes Stands (Fits (change_seen change.now)) (done (change_seen change.now))
+        (state S.Store tx.old.conn.now) (state S.Store tx.new.conn.now) result }
+{
+    match change {
+        Change::IdentNew(ident) => writes::insert_ident(tx, ident),
+        Change::IdentPurged(age) => writes::purge_ident(tx, *age),
+        Change::CardNew {
+            card,
+            deck,
+            pos,
+            text,
+        } => writes::insert_card(tx, card, *deck, *pos, text),
+        Change::CardGone(card) => remove_card(tx, card),
+        Change::CardsMoved { deck, from, by } => move_cards(tx, *deck, *from, *by),
+        Change::EntryNew { card, ord, entry } => writes::insert_entry(tx, card, *ord, entry),
+        Change::EntriesGone(card) => writes::delete_entries(tx, card),
+        Change::TargetNew { card, ord, target } => writes::insert_target(tx, card, *ord, *target),
+        Change::TargetsGone { card, .. } => writes::delete_targets(tx, card),
+        Change::StatusNow { card, active } => set_state(tx, card, *active),
+        Change::CountNow { target, n } => set_count(tx, *target, *n),
+    }
+}
+
+/// Carries out changes in order.
+pub(crate) fn make_all<S: Alter>(
+    tx: &mut Transaction<'_, S>,
+    changes: &[Change],
+) -> Result<(), Error>
+    ensures same_reference { tx.new.conn.ghost_name ≡ tx.old.conn.ghost_name }
+    ensures makes { Makes Stands (AllFit (map change_seen changes.now)) (done_all (map change_seen changes.now))
+        (state S.Store tx.old.conn.now) (state S.Store tx.new.conn.now) result }
+{
+    for change in changes {
+        make(tx, change)?;
+    }
+    Ok(())
+}

@@ -1,0 +1,40 @@
+//! Whole transactions.
+ghost use Rattle.std.specs.Prelude.{◌≡◌, false, map, IsTrue, OnErr, OnOk};
+ghost use Rattle.sqlite.specs.Held.{state};
+ghost use Rattle.sqlite.specs.State.{HasCleanDisk, Survives};
+ghost use Rattle.upd_change.specs.Changes.{change_seen};
+ghost use Rattle.upd_rows.specs.Fits.{AllFit};
+ghost use Rattle.upd_rows.specs.Tables.{committed};
+ghost use Rattle.upd_sql.specs.Commits.{Commits, MayCommit};
+
+use crate::changes::make_all;
+use crate::writes::insert_run;
+use sqlite::{Connection, Error};
+use upd_change::{Change, RunRow};
+use upd_order::{Rising, note_settled};
+
+/// Carries out row changes and keeps the run that brought them, all or nothing.
+pub(crate) fn commit_changes<S: Rising>(
+    conn: &mut Connection<S>,
+    changes: &[Change],
+    row: &RunRow,
+) -> Result<(), Error>
+    requires { conn.old.in_transaction ≡ false }
+    ensures outside { conn.new.in_transaction ≡ false }
+    ensures done { HasCleanDisk (state S.Store conn.new) → OnOk result
+        (Commits (AllFit (map change_seen changes.now)) (committed (map change_seen changes.now) row.now)
+        (state S.Store conn.old) (state S.Store conn.new)) }
+    ensures undone { HasCleanDisk (state S.Store conn.new) → IsTrue (state S.Store conn.new).is_open
+        → OnErr result (IsTrue (state S.Store conn.old).is_open × ((state S.Store conn.new).committed
+        ≡ (state S.Store conn.old).committed)) }
+    ensures crash { Survives (state S.Store conn.old) (state S.Store conn.new)
+        (MayCommit (AllFit (map change_seen changes.now)) (committed (map change_seen changes.now) row.now)
+        (state S.Store conn.old)) }
+{
+    note_settled(conn);
+    let _outside = conn.is_autocommit();
+    let mut tx = conn.transaction();
+    make_all(&mut tx, changes)?;
+    insert_run(&mut tx, row)?;
+    tx.commit()
+}

@@ -1,0 +1,45 @@
+//! Rows of an answer as records.
+ghost use Rattle.std.specs.Prelude.{◌≡◌, List, map, IfOk};
+ghost use Rattle.upd_change.specs.Rows.{MarkRow, RunView};
+ghost use Rattle.upd_sql.specs.Encoded.{mark_row, run_row};
+ghost use Rattle.upd_sql.specs.First.{first_mark, first_run};
+
+use sqlite::{Error, Row};
+use upd_change::RunRow;
+
+pub(crate) fn run_of(row: &Row) -> Result<RunRow, Error>
+    ensures { IfOk result (λ run. (r : RunView) → row.now ≡ run_row r → run ≡ r) }
+{
+    Ok(RunRow {
+        site: row.get(0)?,
+        number: row.get(1)?,
+        mode: row.get(2)?,
+        bytes: row.get(3)?,
+        accepted: row.get(4)?,
+        reply: row.get(5)?,
+    })
+}
+
+pub(crate) fn mark_of(row: &Row) -> Result<u64, Error>
+    ensures { IfOk result (λ mark. (m : MarkRow) → row.now ≡ mark_row m → mark ≡ m.mark) }
+{
+    row.get(1)
+}
+
+pub(crate) fn first_mark(rows: &[Row]) -> Result<u64, Error>
+    ensures { IfOk result (λ mark. (marks : List MarkRow) → rows.now ≡ map mark_row marks → mark ≡ first_mark marks) }
+{
+    match rows.first() {
+        Some(row) => mark_of(row),
+        None => Ok(0),
+    }
+}
+
+pub(crate) fn first_run(rows: &[Row]) -> Result<Option<RunRow>, Error>
+    ensures { IfOk result (λ run. (runs : List RunView) → rows.now ≡ map run_row runs → run ≡ first_run runs) }
+{
+    match rows.first() {
+        Some(row) => Ok(Some(run_of(row)?)),
+        None => Ok(None),
+    }
+}

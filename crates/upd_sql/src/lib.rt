@@ -1,0 +1,15 @@
+//! The library in a file that any SQLite shell opens.
+//!
+//! Nine tables of whole numbers, texts and bytes. Each text that is run on them is fixed, and stands in a function of its own whose contract is what
+//! the text makes of the tables.
+#![tactic(auto)]
+
+mod changes;
+mod commits;
+mod decode;
+mod kept;
+mod make;
+mod reads;
+mod settle;
+mod values;
+mod writes;

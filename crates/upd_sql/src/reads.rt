@@ -1,0 +1,91 @@
+//! One function for each text that reads, and the rows that it answers.
+ghost use Rattle.std.specs.Prelude.{◌≡◌, map, IfOk};
+ghost use Rattle.std.specs.List.{filter};
+ghost use Rattle.sqlite.specs.Held.{state};
+ghost use Rattle.sqlite.specs.State.{HasCleanDisk};
+ghost use Rattle.upd_change.specs.Rows.{Rows};
+ghost use Rattle.upd_rows.specs.Tables.{is_mark_of, is_run, mark_at, run_at};
+ghost use Rattle.upd_tables.specs.Steps.{Steps};
+ghost use Rattle.upd_sql.specs.Commits.{LeavesTables, WasOpen};
+ghost use Rattle.upd_sql.specs.Encoded.{mark_row, run_row};
+ghost use Rattle.upd_sql.specs.Stands.{Stands};
+
+use crate::decode::{first_mark, first_run};
+use crate::values::{self, wide};
+use sqlite::{Alter, Error, Row, Transaction};
+use upd_change::RunRow;
+use upd_tables::ask;
+
+/// The rows of a site's run of a number.
+pub(crate) fn runs_of_key<S: Alter>(
+    tx: &mut Transaction<'_, S>,
+    site: &str,
+    number: u64,
+) -> Result<Vec<Row>, Error>
+    ensures same_reference { tx.new.conn.ghost_name ≡ tx.old.conn.ghost_name }
+    ensures steps { Steps (state S.Store tx.old.conn.now) (state S.Store tx.new.conn.now) result }
+    ensures was_open { WasOpen (state S.Store tx.old.conn.now) (state S.Store tx.new.conn.now) result }
+    ensures same { LeavesTables (state S.Store tx.old.conn.now) (state S.Store tx.new.conn.now) result }
+    ensures found { HasCleanDisk (state S.Store tx.new.conn.now)
+        → IfOk result (λ rows. (it : Rows) → Stands it (state S.Store tx.old.conn.now).now
+        → rows.items ≡ map run_row (filter (is_run site.now number) it.runs)) }
+{
+    let number = wide(number)?;
+    ask(
+        tx,
+        "SELECT site, num, mode, body, accepted, reply FROM runs WHERE site = ?1 AND num = ?2 ORDER BY rowid",
+        &[values::site(site), number],
+    )
+}
+
+/// The rows of a site's mark.
+pub(crate) fn marks_of_site<S: Alter>(
+    tx: &mut Transaction<'_, S>,
+    site: &str,
+) -> Result<Vec<Row>, Error>
+    ensures same_reference { tx.new.conn.ghost_name ≡ tx.old.conn.ghost_name }
+    ensures steps { Steps (state S.Store tx.old.conn.now) (state S.Store tx.new.conn.now) result }
+    ensures was_open { WasOpen (state S.Store tx.old.conn.now) (state S.Store tx.new.conn.now) result }
+    ensures same { LeavesTables (state S.Store tx.old.conn.now) (state S.Store tx.new.conn.now) result }
+    ensures found { HasCleanDisk (state S.Store tx.new.conn.now)
+        → IfOk result (λ rows. (it : Rows) → Stands it (state S.Store tx.old.conn.now).now
+        → rows.items ≡ map mark_row (filter (is_mark_of site.now) it.settled)) }
+{
+    ask(
+        tx,
+        "SELECT site, mark FROM settled WHERE site = ?1 ORDER BY rowid",
+        &[values::site(site)],
+    )
+}
+
+/// The number up to which a site has settled, 0 where it never did.
+pub(crate) fn mark_in<S: Alter>(tx: &mut Transaction<'_, S>, site: &str) -> Result<u64, Error>
+    ensures same_reference { tx.new.conn.ghost_name ≡ tx.old.conn.ghost_name }
+    ensures steps { Steps (state S.Store tx.old.conn.now) (state S.Store tx.new.conn.now) result }
+    ensures was_open { WasOpen (state S.Store tx.old.conn.now) (state S.Store tx.new.conn.now) result }
+    ensures same { LeavesTables (state S.Store tx.old.conn.now) (state S.Store tx.new.conn.now) result }
+    ensures found { HasCleanDisk (state S.Store tx.new.conn.now)
+        → IfOk result (λ mark. (it : Rows) → Stands it (state S.Store tx.old.conn.now).now → mark
+        ≡ mark_at site.now it) }
+{
+    let rows = marks_of_site(tx, site)?;
+    first_mark(&rows)
+}
+
+/// The run that is kept under a key.
+pub(crate) fn run_in<S: Alter>(
+    tx: &mut Transaction<'_, S>,
+    site: &str,
+    number: u64,
+) -> Result<Option<RunRow>, Error>
+    ensures same_reference { tx.new.conn.ghost_name ≡ tx.old.conn.ghost_name }
+    ensures steps { Steps (state S.Store tx.old.conn.now) (state S.Store tx.new.conn.now) result }
+    ensures was_open { WasOpen (state S.Store tx.old.conn.now) (state S.Store tx.new.conn.now) result }
+    ensures same { LeavesTables (state S.Store tx.old.conn.now) (state S.Store tx.new.conn.now) result }
+    ensures found { HasCleanDisk (state S.Store tx.new.conn.now)
+        → IfOk result (λ run. (it : Rows) → Stands it (state S.Store tx.old.conn.now).now → run
+        ≡ run_at site.now number it) }
+{
+    let rows = runs_of_key(tx, site, number)?;
+    first_run(&rows)
+}

@@ -1,0 +1,71 @@
+//! Settling a site's runs.
+ghost use Rattle.std.specs.Prelude.{◌≡◌, false, IfOk, IsTrue, OnErr, OnOk};
+ghost use Rattle.sqlite.specs.Held.{state};
+ghost use Rattle.sqlite.specs.State.{HasCleanDisk, Survives};
+ghost use Rattle.upd_change.specs.Rows.{Rows};
+ghost use Rattle.upd_rows.specs.Tables.{mark_at, settled_to};
+ghost use Rattle.upd_tables.specs.Steps.{Makes};
+ghost use Rattle.upd_sql.specs.Commits.{Commits, MayCommit, WasOpen};
+ghost use Rattle.upd_sql.specs.Parts.{marked};
+ghost use Rattle.upd_sql.specs.Stands.{AnyTables, ShowsTables, Stands};
+
+use crate::reads::mark_in;
+use crate::writes;
+use sqlite::{Alter, Connection, Error, Transaction};
+use upd_order::{Rising, note_settled};
+
+/// The site's runs up to a number go, and the number is its mark.
+fn set_mark<S: Alter>(tx: &mut Transaction<'_, S>, site: &str, number: u64) -> Result<(), Error>
+    ensures same_reference { tx.new.conn.ghost_name ≡ tx.old.conn.ghost_name }
+    ensures makes { Makes Stands AnyTables (marked site.now number) (state S.Store tx.old.conn.now)
+        (state S.Store tx.new.conn.now) result }
+{
+    writes::delete_runs(tx, site, number)?;
+    writes::delete_mark(tx, site)?;
+    writes::insert_mark(tx, site, number)
+}
+
+/// Settles a site's runs up to a number, and answers the site's mark afterwards.
+fn settle_in<S: Alter>(tx: &mut Transaction<'_, S>, site: &str, number: u64) -> Result<u64, Error>
+    ensures same_reference { tx.new.conn.ghost_name ≡ tx.old.conn.ghost_name }
+    ensures makes { Makes Stands AnyTables (settled_to site.now number) (state S.Store tx.old.conn.now)
+        (state S.Store tx.new.conn.now) result }
+    ensures was_open { WasOpen (state S.Store tx.old.conn.now) (state S.Store tx.new.conn.now) result }
+    ensures mark { HasCleanDisk (state S.Store tx.new.conn.now)
+        → IfOk result (λ mark. (it : Rows) → Stands it (state S.Store tx.old.conn.now).now → mark
+        ≡ mark_at site.now (settled_to site.now number it)) }
+{
+    let mark = mark_in(tx, site)?;
+    if number <= mark {
+        return Ok(mark);
+    }
+    set_mark(tx, site, number)?;
+    Ok(number)
+}
+
+/// Settles a site's runs up to a number in one transaction, and answers the site's mark afterwards.
+pub(crate) fn settle<S: Rising>(
+    conn: &mut Connection<S>,
+    site: &str,
+    number: u64,
+) -> Result<u64, Error>
+    requires { conn.old.in_transaction ≡ false }
+    ensures outside { conn.new.in_transaction ≡ false }
+    ensures done { HasCleanDisk (state S.Store conn.new) → OnOk result
+        (Commits AnyTables (settled_to site.now number) (state S.Store conn.old) (state S.Store conn.new)) }
+    ensures undone { HasCleanDisk (state S.Store conn.new) → IsTrue (state S.Store conn.new).is_open
+        → OnErr result (IsTrue (state S.Store conn.old).is_open × ((state S.Store conn.new).committed
+        ≡ (state S.Store conn.old).committed)) }
+    ensures crash { Survives (state S.Store conn.old) (state S.Store conn.new)
+        (MayCommit AnyTables (settled_to site.now number) (state S.Store conn.old)) }
+    ensures mark { HasCleanDisk (state S.Store conn.new) → IfOk result (λ mark. (it : Rows)
+        → ShowsTables it (state S.Store conn.old).committed
+        → mark ≡ mark_at site.now (settled_to site.now number it)) }
+{
+    note_settled(conn);
+    let _outside = conn.is_autocommit();
+    let mut tx = conn.transaction();
+    let mark = settle_in(&mut tx, site, number)?;
+    tx.commit()?;
+    Ok(mark)
+}
