@@ -5,7 +5,8 @@ use Rattle.std.specs.List.{list_any, flat_map, find, AllByRecursion}
 use Rattle.std.specs.Option.{option_map_or}
 use Rattle.std.proofs.lemmas.Bool.Decides.{Decides-eqb}
 use Rattle.upd_core.specs.declared.card.Entry.{Entry}
-use Rattle.upd_apply.specs.Applying.{same_entry, same_history}
+use Rattle.upd_core.specs.Entries.{same_entry}
+use Rattle.upd_apply.specs.Applying.{same_history}
 use Rattle.upd_core.specs.Library.{CardView, DeckView, LibraryView, is_card, is_deck, all_decks, cards_of}
 use Rattle.upd_core.specs.Sound.{AreApart, key_of, all_cards}
 

@@ -1,9 +1,10 @@
 -- What a run makes of a library, or why it is refused.
-use Rattle.std.specs.Prelude.{ℕ, ◌==◌, Bool, true, false, not, ◌&&◌, List, [], ◌∷◌, map, length, drop, None, Result, Ok}
+use Rattle.std.specs.Prelude.{ℕ, Bool, true, false, not, ◌&&◌, List, [], ◌∷◌, map, length, drop, None, Result, Ok}
 use Rattle.std.specs.List.{list_any, filter, flat_map}
 use Rattle.upd_core.specs.declared.card.Entry.{Entry}
 use Rattle.upd_text.specs.declared.card_ref.CardRef.{CardRef}
 use Rattle.upd_text.specs.declared.fault.Fault.{Fault}
+use Rattle.upd_core.specs.Entries.{same_entry}
 use Rattle.upd_core.specs.Library.{CardView, LibraryView, all_decks, cards_of, ref_of, is_card}
 use Rattle.upd_text.specs.Outcome.{◌>>=◌, at_line}
 use Rattle.upd_deck.specs.Items.{LineView}
@@ -41,14 +42,6 @@ applied lines l = do
   Ok (record { library = s.library; idents = brought l s.library; compile = decks })
 
 -- ---- the cards that a run touched: those that weren't there before, or whose history differs from before
-
--- of the same ident, and switching the same way
-abbrev pub same_entry : Entry → Entry → Bool
-same_entry e f = (e.ident == f.ident) && is_same e.active f.active
-  where
-    is_same : Bool → Bool → Bool
-    is_same true b = b
-    is_same false b = not b
 
 -- the same entries in the same order
 abbrev pub same_history : List Entry → List Entry → Bool

@@ -11,7 +11,8 @@ use Rattle.upd_core.specs.declared.target.Target.{Target}
 use Rattle.upd_core.specs.Library.{CardView, ref_of}
 use Rattle.upd_change.specs.Rows.{CardRow, EntryRow, TargetRow, IsSame, card_rows, entry_rows, target_rows}
 use Rattle.upd_change.specs.Fates.{FateView, DeckFatesView, Kept, Gone, New, card_after, IsKept}
-use Rattle.upd_change.specs.Told.{same_entry, begins, entries_new, targets_new, grown, brought}
+use Rattle.upd_core.specs.Entries.{same_entry}
+use Rattle.upd_change.specs.Told.{begins, entries_new, targets_new, grown, brought}
 use Rattle.upd_change.proofs.CountLemmas.{same_of, count_append, count_cons}
 use Rattle.upd_change.proofs.EffectLemmas.{on_cards, on_entries, on_targets, all_acts, acts_append, acts_appending, AreIdle, idle_acts, idle_append}
 use Rattle.upd_change.proofs.GoneLemmas.{entries_go, targets_go, staying}

@@ -6,7 +6,8 @@ use Rattle.upd_core.specs.declared.card.Entry.{Entry}
 use Rattle.upd_core.specs.declared.ident.Ident.{Ident}
 use Rattle.upd_change.specs.declared.fates.Fate.{Fate}
 use Rattle.upd_change.specs.Fates.{fate_seen}
-use Rattle.upd_change.specs.Told.{begins, idents_told, same_entry}
+use Rattle.upd_change.specs.Told.{begins, idents_told}
+use Rattle.upd_core.specs.Entries.{same_entry}
 
 -- the fates from an index on
 pub next_fates : (xs : List Fate) (i : ℕ) (x : Fate) → i < length xs → x ≡ get_or xs i x → map fate_seen (drop i xs) ≡ fate_seen x ∷ map fate_seen (drop (i + 1) xs)

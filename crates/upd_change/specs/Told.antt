@@ -5,6 +5,7 @@ use Rattle.upd_core.specs.declared.card.Entry.{Entry}
 use Rattle.upd_text.specs.declared.card_ref.CardRef.{CardRef}
 use Rattle.upd_core.specs.declared.ident.Ident.{Ident}
 use Rattle.upd_core.specs.declared.target.Target.{Target}
+use Rattle.upd_core.specs.Entries.{same_entry}
 use Rattle.upd_core.specs.Library.{CardView, ref_of}
 use Rattle.upd_change.specs.Changes.{ChangeView, IdentNew, IdentPurged, CardNew, CardGone, CardsMoved, EntryNew, EntriesGone, TargetNew, TargetsGone}
 use Rattle.upd_change.specs.Fates.{FateView, DeckFatesView, Kept, Gone, New}
@@ -14,14 +15,6 @@ abbrev pub idents_told : List Ident → List Ident → List ChangeView
 idents_told [] new = map IdentNew new
 idents_told (i ∷ old) [] = []
 idents_told (i ∷ old) (j ∷ new) = (if i.held && not j.held then IdentPurged i.age ∷ [] else []) ++ idents_told old new
-
--- of the same ident, and switching the same way
-abbrev pub same_entry : Entry → Entry → Bool
-same_entry e f = (e.ident == f.ident) && is_same e.active f.active
-  where
-    is_same : Bool → Bool → Bool
-    is_same true b = b
-    is_same false b = not b
 
 -- whether a history goes on as another
 abbrev pub begins : List Entry → List Entry → Bool

@@ -14,3 +14,4 @@ pub mod Gone
 pub mod Sound
 pub mod Actives
 pub mod Order
+pub mod Entries
