@@ -5,3 +5,4 @@ pub mod Parts
 pub mod Commits
 pub mod First
 pub mod Making
+pub mod Wanted

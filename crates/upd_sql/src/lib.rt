@@ -10,6 +10,7 @@ mod decode;
 mod kept;
 mod make;
 mod reads;
+mod schema;
 mod settle;
 mod values;
 mod writes;

@@ -1,0 +1,255 @@
+//! Whether a table is one of the library's, by its columns and its key.
+
+ghost use Rattle.std.specs.Prelude.{◌≡◌, [], ◌∷◌, map, IsTrue};
+ghost use Rattle.upd_tables.specs.Keyed.{keyed, needed};
+ghost use Rattle.upd_sql.specs.Schema.{cards, counts, entries, idents, meta, runs, settled, states, targets};
+ghost use Rattle.upd_sql.specs.Wanted.{column_of, key_index};
+
+use sqlite_items::Items;
+use sqlite_schema::schema::{Column, Index, Kind, Table};
+use sqlite_value::keys::Collation;
+use sqlite_value::value::Value;
+
+/// A column that is asked for.
+#[derive(Clone, Copy, Debug)]
+pub(crate) struct Wanted<'a> {
+    pub(crate) name: &'a str,
+    pub(crate) kind: Kind,
+}
+
+pub(crate) fn is_column(column: &Column, wanted: &Wanted<'_>) -> bool
+    ensures { IsTrue result → column.now ≡ column_of wanted.now }
+{
+    column.name.as_slice() == wanted.name.as_bytes()
+        && column.kind == wanted.kind
+        && column.is_strict
+        && column.not_null
+        && matches!(column.default, Value::Null)
+        && column.collation == Collation::Binary
+}
+
+fn are_columns(columns: &[Column], wanted: &[Wanted<'_>]) -> bool
+    ensures { IsTrue result → columns.now ≡ map column_of wanted.now }
+{
+    if columns.len() != wanted.len() {
+        return false;
+    }
+    for at in 0..columns.len() {
+        if !is_column(&columns[at], &wanted[at]) {
+            return false;
+        }
+    }
+    true
+}
+
+/// Nothing but columns and a key.
+pub(crate) fn is_plain(table: &Table) -> bool
+    ensures { IsTrue result → table.now ≡ keyed table.now.tree table.now.name table.now.columns table.now.primary }
+{
+    table.key.is_none()
+        && has_one(&table.uniques, table.primary.as_slice())
+        && table.orders.len() == 1
+        && table.orders.as_slice()[0].digits == 0
+        && table.checks.roots.is_empty()
+        && table.references.is_empty()
+        && table.computed.is_empty()
+        && table.stamps.places.is_empty()
+        && table.stamps.terms.roots.is_empty()
+        && table.stamps.formats.is_empty()
+        && !table.is_counted
+}
+
+fn has_one(keys: &Items<Items<usize>>, key: &[usize]) -> bool
+    ensures { IsTrue result → keys.now ≡ key.now ∷ [] }
+{
+    keys.len() == 1 && keys.as_slice()[0].as_slice() == key
+}
+
+/// The index that SQLite makes for the key of a table.
+pub(crate) fn is_automatic(index: &Index, table: &Table, name: &str) -> bool
+    ensures { IsTrue result → index.now ≡ key_index table.now.tree name.now table.now.primary }
+{
+    index.name.as_slice() == name.as_bytes()
+        && u64::from(index.tree) == u64::from(table.tree) + 1
+        && index.table == table.tree
+        && index.columns.as_slice() == table.primary.as_slice()
+        && index.order.digits == 0
+        && index.is_unique
+}
+
+/// A table with these columns and this key.
+pub(crate) fn is_table(
+    table: &Table,
+    tree: u32,
+    name: &str,
+    wanted: &[Wanted<'_>],
+    key: &[usize],
+) -> bool
+    ensures { IsTrue result → table.now ≡ keyed tree name.now (map column_of wanted.now) key.now }
+{
+    table.tree == tree
+        && table.name.as_slice() == name.as_bytes()
+        && table.primary.as_slice() == key
+        && are_columns(table.columns.as_slice(), wanted)
+        && is_plain(table)
+}
+
+fn number(name: &str) -> Wanted<'_>
+    ensures { column_of result ≡ needed name.now Kind.Integer }
+{
+    Wanted {
+        name,
+        kind: Kind::Integer,
+    }
+}
+
+fn text(name: &str) -> Wanted<'_>
+    ensures { column_of result ≡ needed name.now Kind.Text }
+{
+    Wanted {
+        name,
+        kind: Kind::Text,
+    }
+}
+
+fn bytes(name: &str) -> Wanted<'_>
+    ensures { column_of result ≡ needed name.now Kind.Blob }
+{
+    Wanted {
+        name,
+        kind: Kind::Blob,
+    }
+}
+
+pub(crate) fn is_cards(table: &Table) -> bool
+    ensures { IsTrue result → table.now ≡ record cards { tree = 4 } }
+{
+    is_table(
+        table,
+        4,
+        "cards",
+        &[
+            text("ident"),
+            number("num"),
+            number("deck"),
+            number("pos"),
+            text("body"),
+        ],
+        &[1, 2],
+    )
+}
+
+pub(crate) fn is_meta(table: &Table) -> bool
+    ensures { IsTrue result → table.now ≡ record meta { tree = 0 } }
+{
+    is_table(table, 0, "meta", &[text("k"), number("v")], &[1])
+}
+
+pub(crate) fn is_idents(table: &Table) -> bool
+    ensures { IsTrue result → table.now ≡ record idents { tree = 2 } }
+{
+    is_table(
+        table,
+        2,
+        "idents",
+        &[
+            number("age"),
+            text("name"),
+            number("kind"),
+            number("noprop"),
+            number("held"),
+        ],
+        &[1],
+    )
+}
+
+pub(crate) fn is_entries(table: &Table) -> bool
+    ensures { IsTrue result → table.now ≡ record entries { tree = 6 } }
+{
+    is_table(
+        table,
+        6,
+        "entries",
+        &[
+            text("ident"),
+            number("num"),
+            number("ord"),
+            number("who"),
+            number("active"),
+        ],
+        &[1, 2, 3],
+    )
+}
+
+pub(crate) fn is_targets(table: &Table) -> bool
+    ensures { IsTrue result → table.now ≡ record targets { tree = 8 } }
+{
+    is_table(
+        table,
+        8,
+        "targets",
+        &[
+            text("ident"),
+            number("num"),
+            number("ord"),
+            number("kind"),
+            number("target"),
+            number("deck"),
+        ],
+        &[1, 2, 3],
+    )
+}
+
+pub(crate) fn is_runs(table: &Table) -> bool
+    ensures { IsTrue result → table.now ≡ record runs { tree = 10 } }
+{
+    is_table(
+        table,
+        10,
+        "runs",
+        &[
+            text("site"),
+            number("num"),
+            number("mode"),
+            bytes("body"),
+            number("accepted"),
+            bytes("reply"),
+        ],
+        &[1, 2],
+    )
+}
+
+pub(crate) fn is_states(table: &Table) -> bool
+    ensures { IsTrue result → table.now ≡ record states { tree = 12 } }
+{
+    is_table(
+        table,
+        12,
+        "states",
+        &[text("ident"), number("num"), number("active")],
+        &[1, 2],
+    )
+}
+
+pub(crate) fn is_counts(table: &Table) -> bool
+    ensures { IsTrue result → table.now ≡ record counts { tree = 14 } }
+{
+    is_table(
+        table,
+        14,
+        "counts",
+        &[
+            number("kind"),
+            number("target"),
+            number("deck"),
+            number("n"),
+        ],
+        &[1, 2, 3],
+    )
+}
+
+pub(crate) fn is_settled(table: &Table) -> bool
+    ensures { IsTrue result → table.now ≡ record settled { tree = 16 } }
+{
+    is_table(table, 16, "settled", &[text("site"), number("mark")], &[1])
+}
