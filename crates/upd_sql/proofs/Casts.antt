@@ -1,5 +1,5 @@
 -- The columns take the rows of records as they are.
-use Rattle.std.proofs.Common.{◌≡◌, pos, Bool, if◌then◌else◌, refl}
+use Rattle.std.proofs.Common.{◌≡◌, pos, if◌then◌else◌, refl}
 use Rattle.sqlite_rules.specs.Cast.{cast_all}
 use Rattle.upd_core.specs.declared.ident.Ident.{Ident}
 use Rattle.upd_core.specs.declared.target.Target.{Target}

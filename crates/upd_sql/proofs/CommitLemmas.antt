@@ -1,7 +1,5 @@
 -- From the steps of a transaction and its commit to what the whole of it does.
-use Rattle.std.proofs.Common.{◌≡◌, Result, Ok, refl, sym, ap, subst, ◌∙◌, IsTrue, true, false}
-use Rattle.sqlite_trees.specs.Tree.{Trees}
-use Rattle.sqlite.specs.declared.error.Error.{Error}
+use Rattle.std.proofs.Common.{◌≡◌, Ok, refl, sym, ap, subst, ◌∙◌, IsTrue, true, false}
 use Rattle.sqlite.specs.State.{State, HasCleanDisk, Shows, Survives}
 use Rattle.sqlite.proofs.StateLemmas.{survives_then}
 use Rattle.upd_change.specs.Rows.{Rows}

@@ -1,8 +1,8 @@
 -- What the tests of the texts say of the rows of records.
-use Rattle.std.proofs.Common.{◌≡◌, ℕ, pos, ◌==◌, nat_le, nat_eq, Bool, true, false, ◌&&◌, List, [], ◌∷◌, refl, sym, ap, ap₂, ◌∙◌, arith, bytes_eq}
+use Rattle.std.proofs.Common.{◌≡◌, ℕ, ◌==◌, nat_eq, Bool, ◌&&◌, List, [], ◌∷◌, refl, ap₂, ◌∙◌, arith, bytes_eq}
 use Rattle.std.specs.List.{list_all}
 use Rattle.std.proofs.lemmas.Bool.Decides.{nat_tests}
-use Rattle.sqlite_value.specs.declared.value.Value.TheVariants.{Null, Text, Int}
+use Rattle.sqlite_value.specs.declared.value.Value.TheVariants.{Null, Text}
 use Rattle.sqlite_value.specs.Order.{Row}
 use Rattle.sqlite_sql.specs.Term.{Term, holds}
 use Rattle.upd_text.specs.declared.card_ref.CardRef.{CardRef}
@@ -11,8 +11,8 @@ use Rattle.upd_core.specs.declared.target.Target.TheVariants.{Set, SetIn, Deck}
 use Rattle.upd_core.specs.Targets.{is_same}
 use Rattle.upd_change.specs.Rows.{CardRow, EntryRow, TargetRow, RunView, StateRow, CountRow, MarkRow, same_ref}
 use Rattle.upd_rows.specs.Tables.{is_run, is_settled, is_mark_of}
-use Rattle.upd_tables.proofs.Tests.{eq_text, eq_nat, ge_nat, le_nat, one_test, two_tests, three_tests}
-use Rattle.upd_sql.specs.Encoded.{num, target_code, ident_row, card_row, entry_row, target_row, run_row, state_row, count_row, mark_row}
+use Rattle.upd_tables.proofs.Tests.{eq_text, eq_nat, le_nat, one_test, two_tests, three_tests}
+use Rattle.upd_sql.specs.Encoded.{num, target_code, card_row, entry_row, target_row, run_row, state_row, count_row, mark_row}
 use Rattle.upd_sql.proofs.Texts.{delete_card_tests, delete_entries_tests, delete_targets_tests, delete_state_tests, delete_count_tests, delete_mark_tests}
 use Rattle.upd_sql.proofs.Texts.{delete_runs_tests, run_of_key_tests, mark_of_site_tests}
 

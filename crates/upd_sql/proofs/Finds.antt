@@ -1,5 +1,5 @@
 -- What each text that reads answers.
-use Rattle.std.proofs.Common.{◌≡◌, ℕ, List, [], ◌∷◌, map, filter, codes, refl, sym, ap, subst, ◌∙◌, Result, Ok, Err, IfOk, OnOk, slice_get}
+use Rattle.std.proofs.Common.{◌≡◌, ℕ, List, [], ◌∷◌, map, filter, refl, sym, ap, subst, ◌∙◌, Result, Ok, Err, IfOk, OnOk, slice_get}
 use Rattle.sqlite_value.specs.declared.value.Value.TheVariants.{Text}
 use Rattle.sqlite_value.specs.Order.{Row}
 use Rattle.sqlite.specs.Listing.{understood}

@@ -1,5 +1,5 @@
 -- The texts that make the tables, in turn.
-use Rattle.std.proofs.Common.{◌≡◌, ℕ, ◌+◌, pos, List, [], ◌∷◌, ◌++◌, map, codes, Result, Ok, Err, IsErr, refl, subst, subst₂, ap, ◌∙◌}
+use Rattle.std.proofs.Common.{ℕ, ◌+◌, pos, List, [], ◌∷◌, codes, Result, Ok, Err, IsErr, refl, subst, subst₂}
 use Rattle.sqlite_value.specs.declared.value.Value.TheVariants.{Null, Int, Text}
 use Rattle.sqlite_sql.specs.Term.{lit}
 use Rattle.sqlite_schema.specs.declared.command.Command.TheVariants.{CreateTable}

@@ -1,10 +1,9 @@
 -- A settlement: where the number is at or below the mark nothing changes, else the mark rises.
 use Rattle.std.proofs.Common.{◌≡◌, ℕ, ◌<◌, ◌≤◌, nat_le, Bool, true, false, if◌then◌else◌, List, [], ◌∷◌, ◌++◌, filter, find, not, Result, Ok, Err, refl, sym}
-use Rattle.std.proofs.Common.{ap, subst, ◌∙◌, arith, IsTrue, bytes_eq, Some, None}
+use Rattle.std.proofs.Common.{ap, subst, ◌∙◌, arith, bytes_eq, Some, None}
 use Rattle.std.specs.Option.{option_map_or}
 use Rattle.std.proofs.lemmas.Bool.Decides.{nat_tests}
 use Rattle.sqlite.specs.declared.error.Error.{Error}
-use Rattle.sqlite.specs.Effect.{Database}
 use Rattle.sqlite.specs.State.{State, HasCleanDisk}
 use Rattle.upd_change.specs.Rows.{Rows, MarkRow}
 use Rattle.upd_rows.specs.Tables.{is_mark_of, mark_at, settled_to}

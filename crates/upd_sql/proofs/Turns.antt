@@ -1,7 +1,6 @@
 -- Changes one after another.
-use Rattle.std.proofs.Common.{◌≡◌, ℕ, ◌+◌, ◌<◌, List, [], ◌∷◌, ◌++◌, map, take, length, get_or, Result, Ok, Err, refl, sym, ap, subst, ◌∙◌, IsErr}
+use Rattle.std.proofs.Common.{◌≡◌, ℕ, ◌+◌, ◌<◌, List, [], ◌∷◌, ◌++◌, map, take, length, get_or, Ok, refl, sym, ap, ◌∙◌}
 use Rattle.std.proofs.lemmas.List.{take_more, map-append}
-use Rattle.sqlite.specs.declared.error.Error.{Error}
 use Rattle.sqlite.specs.State.{State}
 use Rattle.upd_change.specs.declared.change.Change.{Change}
 use Rattle.upd_change.specs.Changes.{ChangeView, done, done_all, change_seen}
@@ -9,8 +8,8 @@ use Rattle.upd_change.specs.Rows.{Rows}
 use Rattle.upd_rows.specs.Fits.{Fits, AllFit}
 use Rattle.upd_tables.specs.Steps.{Makes}
 use Rattle.upd_tables.proofs.Chains.{makes_then, makes_as}
-use Rattle.upd_sql.specs.Stands.{Stands, AnyTables}
-use Rattle.upd_sql.proofs.Typed.{makes_stop, survives_itself}
+use Rattle.upd_sql.specs.Stands.{Stands}
+use Rattle.upd_sql.proofs.Typed.{survives_itself}
 
 fits_push : (cs : List ChangeView) (d : ChangeView) (it : Rows) → AllFit (cs ++ d ∷ []) it → AllFit cs it × Fits d (done_all cs it)
 fits_push [] d it h = (tt, h.0)

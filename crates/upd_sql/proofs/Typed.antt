@@ -1,6 +1,6 @@
 -- The same statements on lists of records, each of which is kept as a row.
-use Rattle.std.proofs.Common.{OnOk, IsErr, inl, inr, arith, ◌≡◌, ℕ, ◌/◌, ◌-◌, ◌^◌, nat_le, unwrap_or, None, Bool, not, if◌then◌else◌, List, [], ◌∷◌, ◌++◌, map}
-use Rattle.std.proofs.Common.{drop, length, filter, slice_get, Some, Ok, refl, sym, ap, subst, ◌∙◌, IfOk, IsTrue, true, false, Result, Err, IsPermutation}
+use Rattle.std.proofs.Common.{OnOk, IsErr, inl, arith, ◌≡◌, ℕ, ◌/◌, ◌-◌, ◌^◌, nat_le, unwrap_or, None, Bool, not, if◌then◌else◌, List, [], ◌∷◌, ◌++◌, map}
+use Rattle.std.proofs.Common.{length, filter, slice_get, Some, Ok, refl, sym, ap, subst, ◌∙◌, IfOk, IsTrue, true, false, Result, Err, IsPermutation}
 use Rattle.std.specs.List.{AllByRecursion, list_all}
 use Rattle.std.proofs.lemmas.List.{map-append}
 use Rattle.sqlite_value.specs.declared.keys.Key.{Key}
@@ -17,13 +17,13 @@ use Rattle.sqlite_rules.specs.Cast.{cast_all}
 use Rattle.sqlite_rules.specs.Action.{works}
 use Rattle.sqlite_keyed.proofs.ListLemmas.{map-map, filter-map, filter_same}
 use Rattle.sqlite.specs.declared.error.Error.{Error}
-use Rattle.sqlite.specs.Effect.{Database, value_rows}
+use Rattle.sqlite.specs.Effect.{value_rows}
 use Rattle.sqlite.specs.Listing.{understood, reads_listing}
 use Rattle.sqlite.specs.State.{State, HasCleanDisk, Executes, Shown, Survives}
 use Rattle.sqlite.proofs.Callers.{IsPlain, command_of, runs_as, reads_as}
 use Rattle.upd_change.specs.Rows.{Rows}
 use Rattle.upd_tables.specs.Keyed.{keyed, plain_query, row_order}
-use Rattle.upd_tables.specs.Stored.{Shows, Holds, rows_at, with_rows}
+use Rattle.upd_tables.specs.Stored.{Holds, rows_at, with_rows}
 use Rattle.upd_tables.specs.Steps.{Steps, Ran, Makes}
 use Rattle.upd_tables.proofs.Frames.{is_lone, showing}
 use Rattle.upd_tables.proofs.Shapes.{inserts, deletes, updates, selects, reads_in_order}

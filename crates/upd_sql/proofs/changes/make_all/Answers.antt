@@ -1,4 +1,4 @@
-use Rattle.std.proofs.Common.{◌≡◌, ℕ, List, map, take, Ok, sym, subst, ◌∙◌}
+use Rattle.std.proofs.Common.{List, map, take, Ok, sym, subst, ◌∙◌}
 use Rattle.sqlite.specs.Held.{state}
 use Rattle.upd_change.specs.Changes.{ChangeView, done_all, change_seen}
 use Rattle.upd_rows.specs.Fits.{AllFit}

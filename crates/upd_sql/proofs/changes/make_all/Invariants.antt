@@ -1,5 +1,4 @@
 use Rattle.std.proofs.Common.{◌≡◌, map, take, Ok}
-use Rattle.sqlite.specs.declared.error.Error.{Error}
 use Rattle.sqlite.specs.Held.{state}
 use Rattle.upd_change.specs.Changes.{done_all, change_seen}
 use Rattle.upd_rows.specs.Fits.{AllFit}

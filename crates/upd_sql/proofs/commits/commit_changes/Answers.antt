@@ -1,9 +1,8 @@
-use Rattle.std.proofs.Common.{◌≡◌, IsTrue, Ok, not, true, List, map, refl, sym, ap, subst, ◌∙◌, rules, arith}
+use Rattle.std.proofs.Common.{◌≡◌, IsTrue, Ok, not, true, map, refl, ap, subst, ◌∙◌, rules, arith}
 use Rattle.sqlite.specs.Held.{state}
 use Rattle.sqlite.specs.State.{HasCleanDisk, Survives}
 use Rattle.sqlite.proofs.Callers.{survives_begin}
 use Rattle.upd_change.specs.Changes.{change_seen, done_all}
-use Rattle.upd_change.specs.Rows.{Rows}
 use Rattle.upd_rows.specs.Fits.{AllFit}
 use Rattle.upd_rows.specs.Tables.{committed, with_run}
 use Rattle.upd_tables.specs.Steps.{Makes}

@@ -1,14 +1,10 @@
-use Rattle.std.proofs.Common.{ℕ, List, [], ◌∷◌, ◌++◌, subst, sym}
-use Rattle.sqlite_value.specs.declared.value.Value.TheVariants.{Text}
+use Rattle.std.proofs.Common.{subst}
 use Rattle.sqlite.specs.Held.{state}
 use Rattle.upd_tables.specs.Steps.{Ran}
-use Rattle.upd_change.specs.Changes.{done, CardNew, CardsMoved, EntriesGone, EntryNew, IdentNew, IdentPurged, TargetNew, TargetsGone}
-use Rattle.upd_change.specs.Rows.{CardRow, EntryRow, TargetRow, StateRow, CountRow, MarkRow, RunView}
+use Rattle.upd_change.specs.Rows.{RunView}
 use Rattle.upd_rows.specs.Tables.{with_run}
-use Rattle.upd_sql.specs.Encoded.{num, target_code, ident_row, card_row, entry_row, target_row, run_row, state_row, count_row, mark_row}
-use Rattle.upd_sql.specs.Parts.{with_count, with_mark, with_state, without_card, without_count, without_mark, without_runs, without_state}
+use Rattle.upd_sql.specs.Encoded.{run_row}
 use Rattle.upd_sql.specs.Stands.{AnyTables}
-use Rattle.upd_sql.proofs.Conditions.{card_params}
 use Rattle.upd_sql.proofs.Typed.{makes_from, makes_nothing}
 use Rattle.upd_sql.proofs.Texts.{insert_run}
 use Rattle.upd_sql.proofs.Effects.{run_added}

@@ -1,14 +1,9 @@
-use Rattle.std.proofs.Common.{ℕ, List, [], ◌∷◌, ◌++◌}
-use Rattle.sqlite_value.specs.declared.value.Value.TheVariants.{Text}
 use Rattle.sqlite.specs.Held.{state}
-use Rattle.upd_change.specs.Changes.{done, CardNew, CardsMoved, EntriesGone, EntryNew, IdentNew, IdentPurged, TargetNew, TargetsGone}
-use Rattle.upd_change.specs.Rows.{CardRow, EntryRow, TargetRow, StateRow, CountRow, MarkRow}
-use Rattle.upd_rows.specs.Tables.{with_run}
-use Rattle.upd_sql.specs.Encoded.{num, target_code, ident_row, card_row, entry_row, target_row, run_row, state_row, count_row, mark_row}
-use Rattle.upd_sql.specs.Parts.{with_count, with_mark, with_state, without_card, without_count, without_mark, without_runs, without_state}
+use Rattle.upd_change.specs.Rows.{StateRow}
+use Rattle.upd_sql.specs.Encoded.{state_row}
+use Rattle.upd_sql.specs.Parts.{with_state}
 use Rattle.upd_sql.specs.Stands.{AnyTables}
-use Rattle.upd_sql.proofs.Conditions.{card_params}
-use Rattle.upd_sql.proofs.Typed.{makes_from, makes_nothing}
+use Rattle.upd_sql.proofs.Typed.{makes_from}
 use Rattle.upd_sql.proofs.Texts.{insert_state}
 use Rattle.upd_sql.proofs.Effects.{state_added}
 use Rattle.upd_sql.proofs.writes.insert_state.Goals as goal

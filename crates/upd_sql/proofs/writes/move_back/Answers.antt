@@ -1,4 +1,4 @@
-use Rattle.std.proofs.Common.{ℕ, pos, [], ◌∷◌}
+use Rattle.std.proofs.Common.{pos, [], ◌∷◌}
 use Rattle.sqlite.specs.Held.{state}
 use Rattle.upd_change.specs.Changes.{done, CardsMoved}
 use Rattle.upd_rows.specs.Fits.{Fits}
