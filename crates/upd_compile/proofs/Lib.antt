@@ -8,4 +8,5 @@ pub mod SpreadLemmas
 pub mod PositionLemmas
 pub mod ListingLemmas
 pub mod WalkLemmas
+pub mod DepthLemmas
 pub mod WrittenLemmas

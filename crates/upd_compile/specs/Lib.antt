@@ -1,5 +1,6 @@
 pub mod Idents
 pub mod Walk
+pub mod Depths
 pub mod Chosen
 pub mod File
 pub mod Progress

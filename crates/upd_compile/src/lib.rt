@@ -21,3 +21,4 @@ pub use changes::changed;
 pub use file::{CompileFile, compile_active, compile_file};
 pub use listings::{list_card, list_deck, list_idents, list_yanks};
 pub use mode::Mode;
+pub use walk::walks_go_by_depth;

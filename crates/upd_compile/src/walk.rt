@@ -1,16 +1,26 @@
 //! The walk through decks and the common decks that they call.
 
-ghost use Rattle.std.specs.Prelude.{◌≡◌, ◌==◌, ◌&&◌, map};
+ghost use Rattle.std.specs.Prelude.{List, ◌≡◌, ◌==◌, ◌&&◌, ◌↔◌, map};
 ghost use Rattle.std.specs.List.{flat_map};
+ghost use Rattle.upd_core.specs.Actives.{ActiveDeckView, ActivesView};
 ghost use Rattle.upd_text.specs.Outcome.{Does};
+ghost use Rattle.upd_text.specs.declared.limits.TheConstants.{MAX_DEPTH};
+ghost use Rattle.upd_compile.specs.Depths.{Walks};
 ghost use Rattle.upd_compile.specs.Progress.{after_events};
-ghost use Rattle.upd_compile.specs.Walk.{card_events, walk};
+ghost use Rattle.upd_compile.specs.Walk.{Event, card_events, walk};
 
 use crate::indexed::Indexed;
 use crate::progress::Progress;
 use upd_core::{ActiveCard, ActiveDeck, Serial};
 use upd_text::FaultKind;
 use upd_text::line::{called, is_call};
+
+/// The walk through a deck is what the rule of depths gives, and nothing else: a call in the deck has depth 1, one in a
+/// deck that is called is one deeper, and calls are followed down to [`MAX_DEPTH`](upd_text::limits::MAX_DEPTH).
+pub fn walks_go_by_depth()
+    ensures { (a : ActivesView) (d : ActiveDeckView) (events : List Event)
+        → Walks a 1 d events ↔ (events ≡ walk MAX_DEPTH a d) }
+{}
 
 /// Walks through decks, one after the other, where calls may go so deep.
 pub(crate) fn walk_all(
