@@ -10,12 +10,14 @@ use Rattle.upd_core.specs.declared.ident.Ident.{Ident as Listed}
 use Rattle.upd_core.specs.declared.ident.Kind.{Kind}
 use Rattle.upd_core.specs.declared.ident.Kind.TheVariants as kind
 use Rattle.upd_core.specs.declared.target.Target.{Target}
-use Rattle.upd_core.specs.Edits.{introduced, next_age, new_card, entered, unheld, without_idents, with_deck, with_card, with_yank, with_entries, purged_in, is_among}
+use Rattle.upd_core.specs.Edits.{introduced, next_age, new_card, entered, unheld, without_idents, with_deck, with_card, with_yank, with_entries, purged_in}
+use Rattle.upd_core.specs.Edits.{is_among}
 use Rattle.upd_core.specs.First.{at_first}
 use Rattle.upd_core.specs.Library.{CardView, LibraryView, is_deck, place_of, with_cards}
 use Rattle.upd_core.specs.Limits.{is_within_limits}
 use Rattle.upd_core.specs.Sound.{Continues}
-use Rattle.upd_deck.specs.Items.{ItemView, LineView, Text, Call, Ident, Deck, CommonDeck, Insert, Before, Delete, Restore, Yank, SelYank, YankDeck, Purge, PurgeFrom}
+use Rattle.upd_deck.specs.Items.{ItemView, LineView, Text, Call, Ident, Deck, CommonDeck, Insert, Before, Delete, Restore, Yank, SelYank, YankDeck, Purge}
+use Rattle.upd_deck.specs.Items.{PurgeFrom}
 use Rattle.upd_deck.specs.Items.{SelPurge, PurDeck, Compile}
 use Rattle.upd_apply.specs.declared.state.Spot.{Spot}
 use Rattle.upd_apply.specs.declared.state.Spot.TheVariants.{Nowhere, End, Inside}
@@ -23,7 +25,8 @@ use Rattle.upd_apply.specs.declared.state.State.{State}
 use Rattle.upd_apply.specs.Applying.{stepped}
 use Rattle.upd_apply.specs.Names.{known_ident}
 use Rattle.upd_apply.specs.Purges.{AgesIn, idents_purged, decks_purged, pairs_purged}
-use Rattle.upd_apply.specs.Step.{grown, new_name, set_begun, deck_begun, is_deck_card, placed_after, placed_before, switched, text_put, yank_put, purged_in_all, done, step}
+use Rattle.upd_apply.specs.Step.{grown, new_name, set_begun, deck_begun, is_deck_card, placed_after, placed_before, switched, text_put, yank_put, purged_in_all}
+use Rattle.upd_apply.specs.Step.{done, step}
 use Rattle.upd_apply.specs.Yanks.{sets_yanked, pairs_yanked, decks_yanked}
 
 -- ---- directories
@@ -98,7 +101,10 @@ set_goes name s =
 deck_goes : (name : List ℕ) (sort : Kind) (noprop : Bool) (text : List ℕ) (s : State) → IfOk (deck_begun name sort noprop text s) (GoesOn s)
 deck_goes name sort noprop text s =
     after_any (GoesOn s) (new_name name s.library) _ (λ b.
-    after_grown (GoesOn s) (with_deck (record { ident = next_age s.library; cards = new_card (next_age s.library) 1 text [] ∷ [] }) (introduced name sort noprop s.library)) _
+    after_grown (GoesOn s) (with_deck (record {
+      ident = next_age s.library;
+      cards = new_card (next_age s.library) 1 text [] ∷ [];
+    }) (introduced name sort noprop s.library)) _
     (continues_more s.library.idents _))
 
 yank_goes : (text : List ℕ) (targets : ℕ → LibraryView → Result (List Target) FaultKind) (s : State) → IfOk (yank_put text targets s) (GoesOn s)
@@ -128,7 +134,8 @@ switched_goes active first last s =
     after_refusal (GoesOn s) (not (p.deck == q.deck) || nat_lt q.index p.index) fault.RangeOrder _ (λ k.
     after_refusal (GoesOn s) (is_deck_card p) fault.DeckCard _ (λ n.
     after_grown (GoesOn s) (with_entries p.deck p.index q.index (record { ident = hand.ident; active = active }) s.library) _
-    (cards_go p.deck (λ cards. take p.index cards ++ map (entered (record { ident = hand.ident; active = active })) (drop p.index (take (q.index + 1) cards)) ++ drop (q.index + 1) cards) s.library))))))
+    (cards_go p.deck (λ cards. take p.index cards ++ map (entered (record { ident = hand.ident; active = active })) (drop p.index (take (q.index + 1) cards))
+    ++ drop (q.index + 1) cards) s.library))))))
 
 parts_go : (ages : List AgesIn) (l : LibraryView) → Continues l.idents (purged_in_all ages l).idents
 parts_go [] l = continues_same l.idents
@@ -160,7 +167,8 @@ at_line_if : {A : Type 0} (P : A → Type 0) (n : ℕ) (r : Result A FaultKind) 
 at_line_if P n (Ok x) h = h
 at_line_if P n (Err e) h = tt
 
-bound_if : {A B E : Type 0} (P : A → Type 0) (Q : B → Type 0) (r : Result A E) (f : A → Result B E) → IfOk r P → ((x : A) → P x → IfOk (f x) Q) → IfOk (r >>= f) Q
+bound_if : {A B E : Type 0} (P : A → Type 0) (Q : B → Type 0) (r : Result A E) (f : A → Result B E) → IfOk r P → ((x : A) → P x → IfOk (f x) Q)
+    → IfOk (r >>= f) Q
 bound_if P Q (Ok x) f h more = more x h
 bound_if P Q (Err e) f h more = tt
 

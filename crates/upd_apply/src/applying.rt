@@ -62,7 +62,8 @@ fn outcome(
     ensures compile { GivesAt (λ a. a.compile.items) result (named_decks lines.now after.now) }
     ensures touched { AreApart (map key_of (all_cards before.now))
         → IfOk result (λ a. a.touched.items ≡ touched before.now after.now) }
-    ensures changes { (rows : Rows) → IsSound before.now → Continues before.now.idents after.now.idents → Shows rows before.now
+    ensures changes { (rows : Rows) → IsSound before.now → Continues before.now.idents after.now.idents
+        → Shows rows before.now
         → IfOk result (λ a. Shows (done_all (map change_seen a.changes.items) rows) after.now) }
 {
     let compile = named_decks(alloc, after, lines)?;

@@ -28,7 +28,8 @@ pub enum Spot {
     Nowhere,
     /// The end of a deck that this run brought, and the number that its next card gets.
     End { deck: Serial, next: u32 },
-    /// Inside a deck, with so many of its cards behind. Text does not move the spot: the next text goes behind this one,
+    /// Inside a deck, with so many of its cards behind. Text does not move the spot: the next text goes behind this
+    /// one,
     /// and as many cards stand behind that.
     Inside { deck: Serial, behind: usize },
 }

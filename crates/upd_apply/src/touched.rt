@@ -1,4 +1,5 @@
-ghost use Rattle.std.specs.Prelude.{◌≡◌, ℕ, ◌<◌, ◌≤◌, true, false, not, ◌++◌, length, map, slice_index_or, EachIndex, IfOk, MatchOption, OnOk};
+ghost use Rattle.std.specs.Prelude.{◌≡◌, ℕ, ◌<◌, ◌≤◌, true, false, not, ◌++◌, length, map, slice_index_or, EachIndex};
+ghost use Rattle.std.specs.Prelude.{IfOk, MatchOption, OnOk};
 ghost use Rattle.std.specs.List.{filter, flat_map, list_any};
 ghost use Rattle.upd_core.specs.Library.{CardView, cards_of, is_card, ref_of};
 ghost use Rattle.upd_core.specs.Sound.{AreApart, all_cards, key_of};
@@ -9,9 +10,11 @@ use upd_core::ident::name_at;
 use upd_core::{Card, Deck, Entry, Ident, Library, Serial};
 use upd_text::{CardRef, Name};
 
-/// The cards of a library after a run that weren't there before, or whose history differs, by deck (`YANK$$$` first) and place.
+/// The cards of a library after a run that weren't there before, or whose history differs, by deck (`YANK$$$` first)
+/// and place.
 pub(crate) fn touched(before: &Library, after: &Library) -> Result<Vec<CardRef>, AllocError>
-    ensures { AreApart (map key_of (all_cards before.now)) → IfOk result (λ cards. cards.items ≡ touched before.now after.now) }
+    ensures { AreApart (map key_of (all_cards before.now))
+        → IfOk result (λ cards. cards.items ≡ touched before.now after.now) }
 {
     let mut found = Vec::new(after.allocator());
     add_touched(

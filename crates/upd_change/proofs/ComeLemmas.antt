@@ -1,5 +1,6 @@
 -- The rows of what comes, behind the rows of what stays.
-use Rattle.std.proofs.Common.{◌≡◌, ℕ, ◌+◌, Bool, true, false, cond, List, [], ◌∷◌, ◌++◌, length, drop, refl, ap, sym, subst, ◌∙◌, append_assoc, append-nil, arith}
+use Rattle.std.proofs.Common.{◌≡◌, ℕ, ◌+◌, Bool, true, false, cond, List, [], ◌∷◌, ◌++◌, length, drop, refl, ap, sym, subst, ◌∙◌, append_assoc, append-nil}
+use Rattle.std.proofs.Common.{arith}
 use Rattle.std.specs.Prelude.{not, ◌==◌, ◌&&◌}
 use Rattle.std.specs.List.{count_by, flat_map, AllByRecursion}
 use Rattle.std.proofs.lemmas.Bool.Decides.{Decides-eqb}
@@ -42,11 +43,13 @@ come_targets idents (New is) = target_rows (ref_of idents is) 0 is.targets
 
 entries_come : (card : CardRef) (n : ℕ) (es : List Entry) (xs : List EntryRow) → all_acts on_entries (entries_new card n es) xs ≡ xs ++ entry_rows card n es
 entries_come card n [] xs = sym (append-nil xs)
-entries_come card n (e ∷ es) xs = entries_come card (n + 1) es _ ∙ append_assoc xs (record { card = card; ord = n; entry = e } ∷ []) (entry_rows card (n + 1) es)
+entries_come card n (e ∷ es) xs = entries_come card (n + 1) es _
+    ∙ append_assoc xs (record { card = card; ord = n; entry = e } ∷ []) (entry_rows card (n + 1) es)
 
 targets_come : (card : CardRef) (n : ℕ) (ts : List Target) (xs : List TargetRow) → all_acts on_targets (targets_new card n ts) xs ≡ xs ++ target_rows card n ts
 targets_come card n [] xs = sym (append-nil xs)
-targets_come card n (t ∷ ts) xs = targets_come card (n + 1) ts _ ∙ append_assoc xs (record { card = card; ord = n; target = t } ∷ []) (target_rows card (n + 1) ts)
+targets_come card n (t ∷ ts) xs = targets_come card (n + 1) ts _
+    ∙ append_assoc xs (record { card = card; ord = n; target = t } ∷ []) (target_rows card (n + 1) ts)
 
 pub entries_idle_cards : (card : CardRef) (n : ℕ) (es : List Entry) → AreIdle on_cards (entries_new card n es)
 entries_idle_cards card n [] = tt
@@ -64,7 +67,8 @@ pub targets_idle_entries : (card : CardRef) (n : ℕ) (ts : List Target) → Are
 targets_idle_entries card n [] = tt
 targets_idle_entries card n (t ∷ ts) = (refl, targets_idle_entries card (n + 1) ts)
 
-cards_brought : (idents : List Ident) (d p : ℕ) (fates : List FateView) (xs : List CardRow) → all_acts on_cards (brought idents d p fates) xs ≡ xs ++ come_cards idents d p fates
+cards_brought : (idents : List Ident) (d p : ℕ) (fates : List FateView) (xs : List CardRow) → all_acts on_cards (brought idents d p fates) xs ≡ xs
+    ++ come_cards idents d p fates
 cards_brought idents d p [] xs = sym (append-nil xs)
 cards_brought idents d p (Kept c e ∷ fates) xs =
     acts_append on_cards (grown idents c e) (brought idents d (p + 1) fates) xs
@@ -76,8 +80,10 @@ cards_brought idents d p (Kept c e ∷ fates) xs =
     go false = entries_idle_cards (ref_of idents c) 0 e.history
 cards_brought idents d p (Gone c ∷ fates) xs = cards_brought idents d p fates xs
 cards_brought idents d p (New e ∷ fates) xs =
-    acts_append on_cards (entries_new (ref_of idents e) 0 e.history ++ targets_new (ref_of idents e) 0 e.targets) (brought idents d (p + 1) fates) (xs ++ kept_row idents d p e ∷ [])
-    ∙ ap (all_acts on_cards (brought idents d (p + 1) fates)) (idle_acts on_cards (entries_new (ref_of idents e) 0 e.history ++ targets_new (ref_of idents e) 0 e.targets) (xs ++ kept_row idents d p e ∷ [])
+    acts_append on_cards (entries_new (ref_of idents e) 0 e.history ++ targets_new (ref_of idents e) 0 e.targets) (brought idents d (p + 1) fates) (xs
+    ++ kept_row idents d p e ∷ [])
+    ∙ ap (all_acts on_cards (brought idents d (p + 1) fates)) (idle_acts on_cards (entries_new (ref_of idents e) 0 e.history
+    ++ targets_new (ref_of idents e) 0 e.targets) (xs ++ kept_row idents d p e ∷ [])
     (idle_append on_cards _ _ (entries_idle_cards (ref_of idents e) 0 e.history) (targets_idle_cards (ref_of idents e) 0 e.targets)))
     ∙ cards_brought idents d (p + 1) fates (xs ++ kept_row idents d p e ∷ [])
     ∙ append_assoc xs (kept_row idents d p e ∷ []) (come_cards idents d (p + 1) fates)
@@ -90,7 +96,8 @@ grown_entries idents c e xs = go (begins c.history e.history)
     go true = entries_come (ref_of idents c) (length c.history) (drop (length c.history) e.history) xs
     go false = entries_come (ref_of idents c) 0 e.history xs
 
-entries_brought : (idents : List Ident) (d p : ℕ) (fates : List FateView) (xs : List EntryRow) → all_acts on_entries (brought idents d p fates) xs ≡ xs ++ flat_map (come_entries idents) fates
+entries_brought : (idents : List Ident) (d p : ℕ) (fates : List FateView) (xs : List EntryRow) → all_acts on_entries (brought idents d p fates) xs ≡ xs
+    ++ flat_map (come_entries idents) fates
 entries_brought idents d p [] xs = sym (append-nil xs)
 entries_brought idents d p (Kept c e ∷ fates) xs =
     acts_append on_entries (grown idents c e) (brought idents d (p + 1) fates) xs
@@ -101,11 +108,13 @@ entries_brought idents d p (Gone c ∷ fates) xs = entries_brought idents d p fa
 entries_brought idents d p (New e ∷ fates) xs =
     acts_append on_entries (entries_new (ref_of idents e) 0 e.history ++ targets_new (ref_of idents e) 0 e.targets) (brought idents d (p + 1) fates) xs
     ∙ ap (all_acts on_entries (brought idents d (p + 1) fates)) (acts_append on_entries (entries_new (ref_of idents e) 0 e.history) (targets_new (ref_of idents e) 0 e.targets) xs
-    ∙ idle_acts on_entries (targets_new (ref_of idents e) 0 e.targets) _ (targets_idle_entries (ref_of idents e) 0 e.targets) ∙ entries_come (ref_of idents e) 0 e.history xs)
+    ∙ idle_acts on_entries (targets_new (ref_of idents e) 0 e.targets) _ (targets_idle_entries (ref_of idents e) 0 e.targets)
+    ∙ entries_come (ref_of idents e) 0 e.history xs)
     ∙ entries_brought idents d (p + 1) fates (xs ++ come_entries idents (New e))
     ∙ append_assoc xs (come_entries idents (New e)) (flat_map (come_entries idents) fates)
 
-targets_brought : (idents : List Ident) (d p : ℕ) (fates : List FateView) (xs : List TargetRow) → all_acts on_targets (brought idents d p fates) xs ≡ xs ++ flat_map (come_targets idents) fates
+targets_brought : (idents : List Ident) (d p : ℕ) (fates : List FateView) (xs : List TargetRow) → all_acts on_targets (brought idents d p fates) xs ≡ xs
+    ++ flat_map (come_targets idents) fates
 targets_brought idents d p [] xs = sym (append-nil xs)
 targets_brought idents d p (Kept c e ∷ fates) xs =
     acts_append on_targets (grown idents c e) (brought idents d (p + 1) fates) xs
@@ -139,7 +148,8 @@ all_targets_brought idents = acts_appending on_targets (λ k. brought idents k.d
 
 -- ---- what stays and what comes are the rows of the cards as they are
 
-entry_rows_append : (card : CardRef) (n m : ℕ) (es fs : List Entry) → m ≡ n + length es → entry_rows card n (es ++ fs) ≡ entry_rows card n es ++ entry_rows card m fs
+entry_rows_append : (card : CardRef) (n m : ℕ) (es fs : List Entry) → m ≡ n + length es → entry_rows card n (es ++ fs) ≡ entry_rows card n es
+    ++ entry_rows card m fs
 entry_rows_append card n m [] fs e = let same : n ≡ m = omega arith in ap (λ k. entry_rows card k fs) same
 entry_rows_append card n m (x ∷ es) fs e = ap (λ t. record { card = card; ord = n; entry = x } ∷ t) (entry_rows_append card (n + 1) m es fs (omega arith))
 
@@ -244,4 +254,7 @@ cards_woven_in idents d p (New e ∷ fates) kept test =
 
 pub cards_woven : (idents : List Ident) (k : DeckFatesView) → AllByRecursion IsKept k.fates
     → IsSame (kept_to idents k.deck 0 k.fates ++ come_cards idents k.deck 0 k.fates) (card_rows idents k.deck 0 (flat_map card_after k.fates))
-cards_woven idents k kept = record { passes = λ test. count_append test (kept_to idents k.deck 0 k.fates) (come_cards idents k.deck 0 k.fates) ∙ cards_woven_in idents k.deck 0 k.fates kept test }
+cards_woven idents k kept = record {
+  passes = λ test. count_append test (kept_to idents k.deck 0 k.fates) (come_cards idents k.deck 0 k.fates)
+      ∙ cards_woven_in idents k.deck 0 k.fates kept test;
+}

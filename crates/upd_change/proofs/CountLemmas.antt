@@ -25,7 +25,8 @@ pub count_filter : {A : Type 0} (test keep : A → Bool) (xs : List A) → count
 count_filter test keep [] = refl
 count_filter test keep (x ∷ xs) = go (keep x) (count_filter test keep xs) ∙ sym (count_cons (λ y. keep y && test y) x xs)
   where
-    go : (b : Bool) → count_by test (filter keep xs) ≡ count_by (λ y. keep y && test y) xs → count_by test (cond b (x ∷ filter keep xs) (filter keep xs)) ≡ cond (b && test x) 1 0 + count_by (λ y. keep y && test y) xs
+    go : (b : Bool) → count_by test (filter keep xs) ≡ count_by (λ y. keep y && test y) xs → count_by test (cond b (x ∷ filter keep xs) (filter keep xs))
+        ≡ cond (b && test x) 1 0 + count_by (λ y. keep y && test y) xs
     go true later = count_cons test x (filter keep xs) ∙ ap (λ n. cond (test x) 1 0 + n) later
     go false later = omega arith
 

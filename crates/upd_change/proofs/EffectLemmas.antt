@@ -205,7 +205,8 @@ pub any_append : {A : Type 0} (test : A → Bool) (xs ys : List A) → list_any 
 any_append test [] ys = refl
 any_append test (x ∷ xs) ys = go (test x) (any_append test xs ys)
   where
-    go : (b : Bool) → list_any test (xs ++ ys) ≡ (list_any test xs || list_any test ys) → (b || list_any test (xs ++ ys)) ≡ ((b || list_any test xs) || list_any test ys)
+    go : (b : Bool) → list_any test (xs ++ ys) ≡ (list_any test xs || list_any test ys) → (b || list_any test (xs ++ ys))
+        ≡ ((b || list_any test xs) || list_any test ys)
     go true later = refl
     go false later = later
 
@@ -214,7 +215,8 @@ without_both card ks ls [] = refl
 without_both card ks ls (x ∷ xs) = rw (any_append (λ k. same_ref k (card x)) ks ls) (go (is_in ks (card x)) (is_in ls (card x)) refl (without_both card ks ls xs))
   where
     go : (a b : Bool) → is_in ls (card x) ≡ b → without card ls (without card ks xs) ≡ without card (ks ++ ls) xs
-        → filter (λ r. not (is_in ls (card r))) (cond (not a) (x ∷ without card ks xs) (without card ks xs)) ≡ cond (not (a || b)) (x ∷ without card (ks ++ ls) xs) (without card (ks ++ ls) xs)
+        → filter (λ r. not (is_in ls (card r))) (cond (not a) (x ∷ without card ks xs) (without card ks xs))
+        ≡ cond (not (a || b)) (x ∷ without card (ks ++ ls) xs) (without card (ks ++ ls) xs)
     go true b e later = later
     go false true e later = rw e later
     go false false e later = rw e (ap (λ t. x ∷ t) later)

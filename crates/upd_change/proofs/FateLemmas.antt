@@ -35,12 +35,14 @@ take_none xs i = let e : i + 0 ≡ i = omega arith in ap (λ n. take n xs) e ∙
 take_next : {A : Type 0} (xs : List A) (i : ℕ) (x : A) → i < length xs → x ≡ get_or xs i x → take (i + 1) xs ≡ take i xs ++ x ∷ []
 take_next xs i x within is = take_more xs i x within ∙ ap (λ y. take i xs ++ y ∷ []) (sym is)
 
-before_next : (xs : List CardView) (i : ℕ) (x y : CardView) (f : FateView) → i < length xs → x ≡ get_or xs i x → IsNextOf x y f → take (i + length (card_before f)) xs ≡ take i xs ++ card_before f
+before_next : (xs : List CardView) (i : ℕ) (x y : CardView) (f : FateView) → i < length xs → x ≡ get_or xs i x → IsNextOf x y f
+    → take (i + length (card_before f)) xs ≡ take i xs ++ card_before f
 before_next xs i x y (Kept c d) within is next = take_next xs i x within is ∙ ap (λ z. take i xs ++ z ∷ []) (sym next.0)
 before_next xs i x y (Gone c) within is next = take_next xs i x within is ∙ ap (λ z. take i xs ++ z ∷ []) (sym next)
 before_next xs i x y (New d) within is next = take_none xs i
 
-after_next : (ys : List CardView) (j : ℕ) (x y : CardView) (f : FateView) → j < length ys → y ≡ get_or ys j y → IsNextOf x y f → take (j + length (card_after f)) ys ≡ take j ys ++ card_after f
+after_next : (ys : List CardView) (j : ℕ) (x y : CardView) (f : FateView) → j < length ys → y ≡ get_or ys j y → IsNextOf x y f
+    → take (j + length (card_after f)) ys ≡ take j ys ++ card_after f
 after_next ys j x y (Kept c d) within is next = take_next ys j y within is ∙ ap (λ z. take j ys ++ z ∷ []) (sym next.1)
 after_next ys j x y (Gone c) within is next = take_none ys j
 after_next ys j x y (New d) within is next = take_next ys j y within is ∙ ap (λ z. take j ys ++ z ∷ []) (sym next)
@@ -63,6 +65,8 @@ pub fates_end : (xs ys : List CardView) (fs : List FateView) (i j : ℕ) → Are
     → AreFates xs ys ((fs ++ map Gone (drop i xs)) ++ map New (drop j ys))
 fates_end xs ys fs i j so_far =
     let gone = fates_joined (take i xs) (take j ys) (drop i xs) [] fs (map Gone (drop i xs)) so_far (all_gone (drop i xs)) in
-    let new = fates_joined (take i xs ++ drop i xs) (take j ys ++ []) [] (drop j ys) (fs ++ map Gone (drop i xs)) (map New (drop j ys)) gone (all_new (drop j ys)) in
+    let new = fates_joined (take i xs ++ drop i xs) (take j ys ++ []) [] (drop j ys) (fs
+    ++ map Gone (drop i xs)) (map New (drop j ys)) gone (all_new (drop j ys)) in
     subst (λ us. AreFates us ys ((fs ++ map Gone (drop i xs)) ++ map New (drop j ys))) (append-nil (take i xs ++ drop i xs) ∙ take-append-drop i xs)
-    (subst (λ vs. AreFates ((take i xs ++ drop i xs) ++ []) vs ((fs ++ map Gone (drop i xs)) ++ map New (drop j ys))) (ap (λ t. t ++ drop j ys) (append-nil (take j ys)) ∙ take-append-drop j ys) new)
+    (subst (λ vs. AreFates ((take i xs ++ drop i xs) ++ []) vs ((fs ++ map Gone (drop i xs)) ++ map New (drop j ys))) (ap (λ t. t
+    ++ drop j ys) (append-nil (take j ys)) ∙ take-append-drop j ys) new)

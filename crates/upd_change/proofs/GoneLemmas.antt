@@ -131,7 +131,8 @@ without_one card k (x ∷ xs) = go (same_ref k (card x)) (without_one card k xs)
     go true later = later
     go false later = ap (λ t. x ∷ t) later
 
-pub cards_gone : (idents : List Ident) (f : FateView) (xs : List CardRow) → all_acts on_cards (gone_of idents f) xs ≡ without card_of (key_of idents card_goes f) xs
+pub cards_gone : (idents : List Ident) (f : FateView) (xs : List CardRow) → all_acts on_cards (gone_of idents f) xs
+    ≡ without card_of (key_of idents card_goes f) xs
 cards_gone idents (Kept c d) xs = go (begins c.history d.history)
   where
     go : (b : Bool) → all_acts on_cards (cond b [] (EntriesGone (ref_of idents c) ∷ [])) xs ≡ without card_of [] xs
@@ -139,13 +140,15 @@ cards_gone idents (Kept c d) xs = go (begins c.history d.history)
     go false = sym (without_none card_of xs)
 cards_gone idents (Gone c) xs = go (length c.targets == 0)
   where
-    go : (b : Bool) → all_acts on_cards (cond b [] (TargetsGone (ref_of idents c) c.targets ∷ []) ++ EntriesGone (ref_of idents c) ∷ CardGone (ref_of idents c) ∷ []) xs
+    go : (b : Bool) → all_acts on_cards (cond b [] (TargetsGone (ref_of idents c) c.targets ∷ [])
+        ++ EntriesGone (ref_of idents c) ∷ CardGone (ref_of idents c) ∷ []) xs
         ≡ without card_of (ref_of idents c ∷ []) xs
     go true = without_one card_of (ref_of idents c) xs
     go false = without_one card_of (ref_of idents c) xs
 cards_gone idents (New d) xs = sym (without_none card_of xs)
 
-pub entries_gone : (idents : List Ident) (f : FateView) (xs : List EntryRow) → all_acts on_entries (gone_of idents f) xs ≡ without entry_of (key_of idents entries_go f) xs
+pub entries_gone : (idents : List Ident) (f : FateView) (xs : List EntryRow) → all_acts on_entries (gone_of idents f) xs
+    ≡ without entry_of (key_of idents entries_go f) xs
 entries_gone idents (Kept c d) xs = go (begins c.history d.history)
   where
     go : (b : Bool) → all_acts on_entries (cond b [] (EntriesGone (ref_of idents c) ∷ [])) xs ≡ without entry_of (cond (not b) (ref_of idents c ∷ []) []) xs
@@ -153,13 +156,15 @@ entries_gone idents (Kept c d) xs = go (begins c.history d.history)
     go false = without_one entry_of (ref_of idents c) xs
 entries_gone idents (Gone c) xs = go (length c.targets == 0)
   where
-    go : (b : Bool) → all_acts on_entries (cond b [] (TargetsGone (ref_of idents c) c.targets ∷ []) ++ EntriesGone (ref_of idents c) ∷ CardGone (ref_of idents c) ∷ []) xs
+    go : (b : Bool) → all_acts on_entries (cond b [] (TargetsGone (ref_of idents c) c.targets ∷ [])
+        ++ EntriesGone (ref_of idents c) ∷ CardGone (ref_of idents c) ∷ []) xs
         ≡ without entry_of (ref_of idents c ∷ []) xs
     go true = without_one entry_of (ref_of idents c) xs
     go false = without_one entry_of (ref_of idents c) xs
 entries_gone idents (New d) xs = sym (without_none entry_of xs)
 
-pub targets_gone : (idents : List Ident) (f : FateView) (xs : List TargetRow) → all_acts on_targets (gone_of idents f) xs ≡ without target_of (key_of idents targets_go f) xs
+pub targets_gone : (idents : List Ident) (f : FateView) (xs : List TargetRow) → all_acts on_targets (gone_of idents f) xs
+    ≡ without target_of (key_of idents targets_go f) xs
 targets_gone idents (Kept c d) xs = go (begins c.history d.history)
   where
     go : (b : Bool) → all_acts on_targets (cond b [] (EntriesGone (ref_of idents c) ∷ [])) xs ≡ without target_of [] xs
@@ -167,7 +172,8 @@ targets_gone idents (Kept c d) xs = go (begins c.history d.history)
     go false = sym (without_none target_of xs)
 targets_gone idents (Gone c) xs = go (length c.targets == 0)
   where
-    go : (b : Bool) → all_acts on_targets (cond b [] (TargetsGone (ref_of idents c) c.targets ∷ []) ++ EntriesGone (ref_of idents c) ∷ CardGone (ref_of idents c) ∷ []) xs
+    go : (b : Bool) → all_acts on_targets (cond b [] (TargetsGone (ref_of idents c) c.targets ∷ [])
+        ++ EntriesGone (ref_of idents c) ∷ CardGone (ref_of idents c) ∷ []) xs
         ≡ without target_of (cond (not b) (ref_of idents c ∷ []) []) xs
     go true = sym (without_none target_of xs)
     go false = without_one target_of (ref_of idents c) xs
@@ -187,7 +193,8 @@ rows_without : {A : Type 0} (card : A → CardRef) (x : CardRef) (keys : List Ca
     → without card keys rest ≡ cond (is_in keys x) [] rest → without card keys (r ∷ rest) ≡ cond (is_in keys x) [] (r ∷ rest)
 rows_without card x keys r rest e later = rw e (go (is_in keys x) refl later)
   where
-    go : (b : Bool) → is_in keys x ≡ b → without card keys rest ≡ cond (is_in keys x) [] rest → cond (not b) (r ∷ without card keys rest) (without card keys rest) ≡ cond b [] (r ∷ rest)
+    go : (b : Bool) → is_in keys x ≡ b → without card keys rest ≡ cond (is_in keys x) [] rest
+        → cond (not b) (r ∷ without card keys rest) (without card keys rest) ≡ cond b [] (r ∷ rest)
     go true e later = rw e at later
     go false e later = ap (λ t. r ∷ t) (rw e at later)
 
@@ -195,11 +202,13 @@ no_rows : {A : Type 0} (b : Bool) (xs : List A) → xs ≡ [] → xs ≡ cond b 
 no_rows true xs e = e
 no_rows false xs e = refl
 
-entries_without : (keys : List CardRef) (x : CardRef) (n : ℕ) (es : List Entry) → without entry_of keys (entry_rows x n es) ≡ cond (is_in keys x) [] (entry_rows x n es)
+entries_without : (keys : List CardRef) (x : CardRef) (n : ℕ) (es : List Entry) → without entry_of keys (entry_rows x n es)
+    ≡ cond (is_in keys x) [] (entry_rows x n es)
 entries_without keys x n [] = no_rows (is_in keys x) [] refl
 entries_without keys x n (e ∷ es) = rows_without entry_of x keys _ _ refl (entries_without keys x (n + 1) es)
 
-targets_without : (keys : List CardRef) (x : CardRef) (n : ℕ) (ts : List Target) → without target_of keys (target_rows x n ts) ≡ cond (is_in keys x) [] (target_rows x n ts)
+targets_without : (keys : List CardRef) (x : CardRef) (n : ℕ) (ts : List Target) → without target_of keys (target_rows x n ts)
+    ≡ cond (is_in keys x) [] (target_rows x n ts)
 targets_without keys x n [] = no_rows (is_in keys x) [] refl
 targets_without keys x n (t ∷ ts) = rows_without target_of x keys _ _ refl (targets_without keys x (n + 1) ts)
 
@@ -215,13 +224,15 @@ pub rows_left : {A : Type 0} (card : A → CardRef) (idents : List Ident) (rows 
     → without card keys (flat_map rows (flat_map card_before fates)) ≡ flat_map (staying goes rows) fates
 rows_left card idents rows goes keys own [] fit = refl
 rows_left card idents rows goes keys own (Kept c d ∷ fates) fit =
-    filter-append _ (rows c) (flat_map rows (flat_map card_before fates)) ∙ ap (λ t. t ++ without card keys (flat_map rows (flat_map card_before fates))) (one (own keys c))
+    filter-append _ (rows c) (flat_map rows (flat_map card_before fates))
+    ∙ ap (λ t. t ++ without card keys (flat_map rows (flat_map card_before fates))) (one (own keys c))
     ∙ ap (λ t. staying goes rows (Kept c d) ++ t) (rows_left card idents rows goes keys own fates fit.1)
   where
     one : without card keys (rows c) ≡ cond (is_in keys (ref_of idents c)) [] (rows c) → without card keys (rows c) ≡ cond (goes (Kept c d)) [] (rows c ++ [])
     one e = e ∙ ap (λ b. cond b [] (rows c)) fit.0.0 ∙ ap (λ t. cond (goes (Kept c d)) [] t) (sym (append-nil (rows c)))
 rows_left card idents rows goes keys own (Gone c ∷ fates) fit =
-    filter-append _ (rows c) (flat_map rows (flat_map card_before fates)) ∙ ap (λ t. t ++ without card keys (flat_map rows (flat_map card_before fates))) (one (own keys c))
+    filter-append _ (rows c) (flat_map rows (flat_map card_before fates))
+    ∙ ap (λ t. t ++ without card keys (flat_map rows (flat_map card_before fates))) (one (own keys c))
     ∙ ap (λ t. staying goes rows (Gone c) ++ t) (rows_left card idents rows goes keys own fates fit.1)
   where
     one : without card keys (rows c) ≡ cond (is_in keys (ref_of idents c)) [] (rows c) → without card keys (rows c) ≡ cond (goes (Gone c)) [] (rows c ++ [])
@@ -239,13 +250,20 @@ kept_from idents d w (New is ∷ fates) = kept_from idents d w fates
 cards_left_in : (idents : List Ident) (keys : List CardRef) (d w : ℕ) (fates : List FateView) → AllByRecursion (Fits idents card_goes keys) fates
     → without card_of keys (card_rows idents d w (flat_map card_before fates)) ≡ kept_from idents d w fates
 cards_left_in idents keys d w [] fit = refl
-cards_left_in idents keys d w (Kept c e ∷ fates) fit = rw fit.0.0 (ap (λ t. record { card = ref_of idents c; deck = d; pos = w; body = c.text } ∷ t) (cards_left_in idents keys d (w + 1) fates fit.1))
+cards_left_in idents keys d w (Kept c e ∷ fates) fit = rw fit.0.0 (ap (λ t. record {
+  card = ref_of idents c;
+  deck = d;
+  pos = w;
+  body = c.text;
+} ∷ t) (cards_left_in idents keys d (w + 1) fates fit.1))
 cards_left_in idents keys d w (Gone c ∷ fates) fit = rw fit.0.0 (cards_left_in idents keys d (w + 1) fates fit.1)
 cards_left_in idents keys d w (New e ∷ fates) fit = cards_left_in idents keys d w fates fit.1
 
-pub cards_left : (idents : List Ident) (keys : List CardRef) (ks : List DeckFatesView) → AllByRecursion (λ k. AllByRecursion (Fits idents card_goes keys) k.fates) ks
+pub cards_left : (idents : List Ident) (keys : List CardRef) (ks : List DeckFatesView)
+    → AllByRecursion (λ k. AllByRecursion (Fits idents card_goes keys) k.fates) ks
     → without card_of keys (flat_map (λ k. card_rows idents k.deck 0 (flat_map card_before k.fates)) ks) ≡ flat_map (λ k. kept_from idents k.deck 0 k.fates) ks
 cards_left idents keys [] fit = refl
 cards_left idents keys (k ∷ ks) fit =
-    filter-append _ (card_rows idents k.deck 0 (flat_map card_before k.fates)) _ ∙ ap (λ t. t ++ without card_of keys (flat_map (λ j. card_rows idents j.deck 0 (flat_map card_before j.fates)) ks)) (cards_left_in idents keys k.deck 0 k.fates fit.0)
+    filter-append _ (card_rows idents k.deck 0 (flat_map card_before k.fates)) _
+    ∙ ap (λ t. t ++ without card_of keys (flat_map (λ j. card_rows idents j.deck 0 (flat_map card_before j.fates)) ks)) (cards_left_in idents keys k.deck 0 k.fates fit.0)
     ∙ ap (λ t. kept_from idents k.deck 0 k.fates ++ t) (cards_left idents keys ks fit.1)

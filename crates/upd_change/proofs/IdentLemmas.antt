@@ -1,5 +1,6 @@
 -- A directory that goes on: its changes, and the names that stay.
-use Rattle.std.proofs.Common.{◌≡◌, ℕ, zero, suc, ◌+◌, ◌-◌, ◌<◌, ◌≤◌, Bool, true, false, cond, List, [], ◌∷◌, ◌++◌, map, inl, inr, refl, ap, sym, subst, ◌∙◌, append_assoc, append-nil, arith}
+use Rattle.std.proofs.Common.{◌≡◌, ℕ, zero, suc, ◌+◌, ◌-◌, ◌<◌, ◌≤◌, Bool, true, false, cond, List, [], ◌∷◌, ◌++◌, map, inl, inr, refl, ap, sym, subst, ◌∙◌}
+use Rattle.std.proofs.Common.{append_assoc, append-nil, arith}
 use Rattle.std.specs.Prelude.{not, ◌==◌, ◌&&◌, ◌⊎◌, slice_get, Some}
 use Rattle.std.specs.List.{AllByRecursion}
 use Rattle.std.proofs.lemmas.List.{map-append}
@@ -38,7 +39,8 @@ behind_stay age n (i ∷ idents) less aged =
 own_row : (i : Ident) → purged_row i.age i ≡ record i { held = false }
 own_row i = rw ((Decides-eqb i.age i.age).1 refl) refl
 
-below_more : (n : ℕ) (idents : List Ident) (i : Ident) → AllByRecursion (λ j. j.age < n) idents → i.age ≡ n → AllByRecursion (λ j. j.age < n + 1) (idents ++ i ∷ [])
+below_more : (n : ℕ) (idents : List Ident) (i : Ident) → AllByRecursion (λ j. j.age < n) idents → i.age ≡ n
+    → AllByRecursion (λ j. j.age < n + 1) (idents ++ i ∷ [])
 below_more n [] i below e = (omega arith, tt)
 below_more n (j ∷ idents) i below e = let less = below.0 in (omega arith, below_more n idents i below.1 e)
 
@@ -48,13 +50,15 @@ one_told : (n : ℕ) (front old : List Ident) (i j : Ident) → AllByRecursion (
     → all_acts on_idents (cond (i.held && not j.held) (IdentPurged i.age ∷ []) []) (front ++ i ∷ old) ≡ front ++ j ∷ old
 one_told n front old i j below age aged (inl e) = go i.held refl j.held refl
   where
-    go : (a : Bool) → i.held ≡ a → (b : Bool) → j.held ≡ b → all_acts on_idents (cond (a && not b) (IdentPurged i.age ∷ []) []) (front ++ i ∷ old) ≡ front ++ j ∷ old
+    go : (a : Bool) → i.held ≡ a → (b : Bool) → j.held ≡ b → all_acts on_idents (cond (a && not b) (IdentPurged i.age ∷ []) []) (front ++ i ∷ old) ≡ front
+        ++ j ∷ old
     go true p true q = ap (λ k. front ++ k ∷ old) (sym e)
     go true p false q = let same = ap (λ k. k.held) e in absurd (cc)
     go false p b q = ap (λ k. front ++ k ∷ old) (sym e)
 one_told n front old i j below age aged (inr e) = go i.held refl j.held (ap (λ k. k.held) e)
   where
-    go : (a : Bool) → i.held ≡ a → (b : Bool) → b ≡ false → all_acts on_idents (cond (a && not b) (IdentPurged i.age ∷ []) []) (front ++ i ∷ old) ≡ front ++ j ∷ old
+    go : (a : Bool) → i.held ≡ a → (b : Bool) → b ≡ false → all_acts on_idents (cond (a && not b) (IdentPurged i.age ∷ []) []) (front ++ i ∷ old) ≡ front
+        ++ j ∷ old
     go true p true q = absurd (cc)
     go true p false q =
         map-append (purged_row i.age) front (i ∷ old)
@@ -82,7 +86,8 @@ directory_done old new aged goes = idents_done 1 [] old new tt aged goes
 -- ---- names stay
 
 -- an ident of the old directory stands in the new one, with its name
-goes_at : (old new : List Ident) (k : ℕ) (i : Ident) → Continues old new → slice_get old k ≡ Some i → (j : Ident) × (slice_get new k ≡ Some j) × (j.name ≡ i.name)
+goes_at : (old new : List Ident) (k : ℕ) (i : Ident) → Continues old new → slice_get old k ≡ Some i → (j : Ident) × (slice_get new k ≡ Some j)
+    × (j.name ≡ i.name)
 goes_at [] new k i goes e = absurd (cc)
 goes_at (x ∷ old) [] k i goes e = absurd goes
 goes_at (x ∷ old) (y ∷ new) zero i goes e = (y, refl, name_of_one goes.0 ∙ ap (λ z. z.name) (same_Some x i e))

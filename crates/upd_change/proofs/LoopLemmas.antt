@@ -10,7 +10,8 @@ use Rattle.upd_change.specs.Told.{begins, idents_told}
 use Rattle.upd_core.specs.Entries.{same_entry}
 
 -- the fates from an index on
-pub next_fates : (xs : List Fate) (i : ℕ) (x : Fate) → i < length xs → x ≡ get_or xs i x → map fate_seen (drop i xs) ≡ fate_seen x ∷ map fate_seen (drop (i + 1) xs)
+pub next_fates : (xs : List Fate) (i : ℕ) (x : Fate) → i < length xs → x ≡ get_or xs i x → map fate_seen (drop i xs)
+    ≡ fate_seen x ∷ map fate_seen (drop (i + 1) xs)
 next_fates xs i x within is = ap (map fate_seen) (drop_more xs i x within) ∙ ap (λ y. fate_seen y ∷ map fate_seen (drop (i + 1) xs)) (sym is)
 
 pub no_idents_more : (old : List Ident) → idents_told old [] ≡ []

@@ -31,7 +31,8 @@ kept_to idents d p (New is ∷ fates) = kept_to idents d (p + 1) fates
 abbrev pub IsMove : ChangeView → Type 0
 IsMove c = (xs ys : List CardRow) → act (on_cards c) (xs ++ ys) ≡ act (on_cards c) xs ++ act (on_cards c) ys
 
-pub moves_joined : (cs : List ChangeView) (xs ys : List CardRow) → AllByRecursion IsMove cs → all_acts on_cards cs (xs ++ ys) ≡ all_acts on_cards cs xs ++ all_acts on_cards cs ys
+pub moves_joined : (cs : List ChangeView) (xs ys : List CardRow) → AllByRecursion IsMove cs → all_acts on_cards cs (xs ++ ys) ≡ all_acts on_cards cs xs
+    ++ all_acts on_cards cs ys
 moves_joined [] xs ys are = refl
 moves_joined (c ∷ cs) xs ys are = ap (all_acts on_cards cs) (are.0 xs ys) ∙ moves_joined cs (act (on_cards c) xs) (act (on_cards c) ys) are.1
 
@@ -86,7 +87,8 @@ shift idents d w p v q (Kept c x ∷ fates) behind e =
 shift idents d w p v q (Gone c ∷ fates) behind e = shift idents d w p (v + 1) (q + 1) fates (omega arith) (omega arith)
 shift idents d w p v q (New x ∷ fates) behind e = shift idents d w p v q fates behind e
 
-move_does : (idents : List Ident) (d w p : ℕ) (fates : List FateView) → all_acts on_cards (move_to d w p) (kept_from idents d w fates) ≡ kept_from idents d p fates
+move_does : (idents : List Ident) (d w p : ℕ) (fates : List FateView) → all_acts on_cards (move_to d w p) (kept_from idents d w fates)
+    ≡ kept_from idents d p fates
 move_does idents d w p fates = go (w == p) refl
   where
     go : (b : Bool) → (w == p) ≡ b → all_acts on_cards (cond b [] (CardsMoved d w (way w p) ∷ [])) (kept_from idents d w fates) ≡ kept_from idents d p fates
@@ -114,11 +116,13 @@ fixed_rows : (d w p : ℕ) (rows : List CardRow) → AllByRecursion (IsFixed d w
 fixed_rows d w p [] fixed = refl
 fixed_rows d w p (r ∷ rows) fixed = rw (fixed_row d w p r fixed.0) (ap (λ t. r ∷ t) (fixed_rows d w p rows fixed.1))
 
-weaker : (d w p v q : ℕ) (rows : List CardRow) → ((n : ℕ) → n < w → n < p → (n < v) × (n < q)) → AllByRecursion (IsFixed d w p) rows → AllByRecursion (IsFixed d v q) rows
+weaker : (d w p v q : ℕ) (rows : List CardRow) → ((n : ℕ) → n < w → n < p → (n < v) × (n < q)) → AllByRecursion (IsFixed d w p) rows
+    → AllByRecursion (IsFixed d v q) rows
 weaker d w p v q [] h fixed = tt
 weaker d w p v q (r ∷ rows) h fixed = (λ e. let f = fixed.0 e in h r.pos f.0 f.1, weaker d w p v q rows h fixed.1)
 
-pub moves_fix : (d w p : ℕ) (fates : List FateView) (rows : List CardRow) → AllByRecursion (IsFixed d w p) rows → all_acts on_cards (moves d w p fates) rows ≡ rows
+pub moves_fix : (d w p : ℕ) (fates : List FateView) (rows : List CardRow) → AllByRecursion (IsFixed d w p) rows → all_acts on_cards (moves d w p fates) rows
+    ≡ rows
 moves_fix d w p [] rows fixed = refl
 moves_fix d w p (Kept c e ∷ fates) rows fixed =
     acts_append on_cards (move_to d w p) (moves d (p + 1) (p + 1) fates) rows ∙ ap (all_acts on_cards (moves d (p + 1) (p + 1) fates)) (go (w == p))
@@ -132,7 +136,8 @@ moves_fix d w p (New e ∷ fates) rows fixed = moves_fix d w (p + 1) fates rows 
 
 -- ---- the moves of a deck
 
-pub moves_do : (idents : List Ident) (d w p : ℕ) (fates : List FateView) → all_acts on_cards (moves d w p fates) (kept_from idents d w fates) ≡ kept_to idents d p fates
+pub moves_do : (idents : List Ident) (d w p : ℕ) (fates : List FateView) → all_acts on_cards (moves d w p fates) (kept_from idents d w fates)
+    ≡ kept_to idents d p fates
 moves_do idents d w p [] = refl
 moves_do idents d w p (Kept c e ∷ fates) =
     acts_append on_cards (move_to d w p) (moves d (p + 1) (p + 1) fates) (kept_from idents d w (Kept c e ∷ fates))
@@ -226,7 +231,8 @@ under_others idents d p fates (k ∷ ks) apart =
     go (c ∷ cs) some apart later =
         rw (moves_fix k.deck 0 0 k.fates (kept_to idents d p fates) (elsewhere_to idents k.deck d 0 0 p fates (λ e. apart.0 (sym e)))) (later apart.1)
 
-pub all_moves_do : (idents : List Ident) (ks : List DeckFatesView) → AreApart (ages_before ks) → all_acts on_cards (all_moves ks) (all_from idents ks) ≡ all_to idents ks
+pub all_moves_do : (idents : List Ident) (ks : List DeckFatesView) → AreApart (ages_before ks) → all_acts on_cards (all_moves ks) (all_from idents ks)
+    ≡ all_to idents ks
 all_moves_do idents [] apart = refl
 all_moves_do idents (k ∷ ks) apart =
     acts_append on_cards (moves k.deck 0 0 k.fates) (all_moves ks) (all_from idents (k ∷ ks))
@@ -234,7 +240,8 @@ all_moves_do idents (k ∷ ks) apart =
   where
     go : (cards : List CardView) → flat_map card_before k.fates ≡ cards → AreApart (ages_with k cards ks)
         → (AreApart (ages_before ks) → all_acts on_cards (all_moves ks) (all_from idents ks) ≡ all_to idents ks)
-        → all_acts on_cards (all_moves ks) (all_acts on_cards (moves k.deck 0 0 k.fates) (kept_from idents k.deck 0 k.fates ++ all_from idents ks)) ≡ all_to idents (k ∷ ks)
+        → all_acts on_cards (all_moves ks) (all_acts on_cards (moves k.deck 0 0 k.fates) (kept_from idents k.deck 0 k.fates ++ all_from idents ks))
+        ≡ all_to idents (k ∷ ks)
     go [] none apart later = rw (none_moves k.deck 0 0 k.fates none, none_from idents k.deck 0 k.fates none, none_to idents k.deck 0 k.fates none) (later apart)
     go (c ∷ cs) some apart later =
         ap (all_acts on_cards (all_moves ks)) (moves_joined (moves k.deck 0 0 k.fates) (kept_from idents k.deck 0 k.fates) (all_from idents ks) (moves_are k.deck 0 0 k.fates)

@@ -14,12 +14,15 @@ use Rattle.upd_core.proofs.ApartLemmas.{all_front, all_back, rising_apart}
 use Rattle.upd_core.proofs.FoundLemmas.{refs_apart}
 use Rattle.upd_change.specs.Rows.{CardRow, EntryRow, TargetRow, Rows, IsSame, Shows, rows_of, card_rows, entry_rows, target_rows}
 use Rattle.upd_change.specs.Changes.{ChangeView, IdentNew, IdentPurged, CardsMoved, EntriesGone, TargetsGone, CardGone, done_all}
-use Rattle.upd_change.specs.Fates.{FateView, DeckFatesView, Kept, Gone, New, Lead, IsKept, card_before, card_after, deck_before, deck_after, has_cards, standing}
+use Rattle.upd_change.specs.Fates.{FateView, DeckFatesView, Kept, Gone, New, Lead, IsKept, card_before, card_after, deck_before, deck_after, has_cards}
+use Rattle.upd_change.specs.Fates.{standing}
 use Rattle.upd_change.specs.Told.{begins, entries_new, targets_new, gone_of, grown, card_new, idents_told, move_to, moves, way, brought, cards_told, told}
 use Rattle.upd_change.proofs.CountLemmas.{same_of, same_trans, same_woven}
-use Rattle.upd_change.proofs.EffectLemmas.{Effect, Nothing, on_idents, on_cards, on_entries, on_targets, all_acts, acts_append, acts_same, AreIdle, idle_acts, idle_append, idle_flat, idle_map}
+use Rattle.upd_change.proofs.EffectLemmas.{Effect, Nothing, on_idents, on_cards, on_entries, on_targets, all_acts, acts_append, acts_same, AreIdle, idle_acts}
+use Rattle.upd_change.proofs.EffectLemmas.{idle_append, idle_flat, idle_map}
 use Rattle.upd_change.proofs.EffectLemmas.{idents_after, cards_after, entries_after, targets_after, is_in, without, acts_without}
-use Rattle.upd_change.proofs.GoneLemmas.{Fits, keys_fit, key_of, card_goes, entries_go, targets_go, card_of, entry_of, target_of, cards_gone, entries_gone, targets_gone}
+use Rattle.upd_change.proofs.GoneLemmas.{Fits, keys_fit, key_of, card_goes, entries_go, targets_go, card_of, entry_of, target_of, cards_gone, entries_gone}
+use Rattle.upd_change.proofs.GoneLemmas.{targets_gone}
 use Rattle.upd_change.proofs.GoneLemmas.{staying, entries_are_of, targets_are_of, rows_left, cards_left}
 use Rattle.upd_change.proofs.MoveLemmas.{kept_to, all_moves, all_moves_do, ages_before}
 use Rattle.upd_change.proofs.ComeLemmas.{come_cards, come_entries, come_targets, all_cards_brought, all_entries_brought, all_targets_brought}
@@ -57,7 +60,8 @@ gone_idle idents (Kept c x) = go (begins c.history x.history)
     go false = (refl, tt)
 gone_idle idents (Gone c) = go (length c.targets == 0)
   where
-    go : (b : Bool) → AreIdle on_idents (cond b [] (TargetsGone (ref_of idents c) c.targets ∷ []) ++ EntriesGone (ref_of idents c) ∷ CardGone (ref_of idents c) ∷ [])
+    go : (b : Bool) → AreIdle on_idents (cond b [] (TargetsGone (ref_of idents c) c.targets ∷ [])
+        ++ EntriesGone (ref_of idents c) ∷ CardGone (ref_of idents c) ∷ [])
     go true = (refl, (refl, tt))
     go false = (refl, (refl, (refl, tt)))
 gone_idle idents (New x) = tt
@@ -151,7 +155,8 @@ all_flat P g (x ∷ xs) all = joined (g x) all.0 (all_flat P g xs all.1)
     joined (y ∷ ys) a b = (a.0, joined ys a.1 b)
 
 -- decks without cards have no rows
-flat_standing : {A : Type 0} (f : DeckView → List A) → ((d : ℕ) → f (record { ident = d; cards = [] }) ≡ []) → (ds : List DeckView) → flat_map f (standing ds) ≡ flat_map f ds
+flat_standing : {A : Type 0} (f : DeckView → List A) → ((d : ℕ) → f (record { ident = d; cards = [] }) ≡ []) → (ds : List DeckView)
+    → flat_map f (standing ds) ≡ flat_map f ds
 flat_standing f none [] = refl
 flat_standing f none (d ∷ ds) = one d.ident d.cards (flat_standing f none ds)
   where
@@ -161,22 +166,26 @@ flat_standing f none (d ∷ ds) = one d.ident d.cards (flat_standing f none ds)
     one a (c ∷ cs) later = ap (λ t. f (record { ident = a; cards = c ∷ cs }) ++ t) later
 
 -- what is made of decks that have the same cards
-same_standing : {A : Type 0} (f : DeckView → List A) → ((d : ℕ) → f (record { ident = d; cards = [] }) ≡ []) → (g : DeckFatesView → DeckView) (ks : List DeckFatesView) (ds : List DeckView)
+same_standing : {A : Type 0} (f : DeckView → List A) → ((d : ℕ) → f (record { ident = d; cards = [] }) ≡ [])
+    → (g : DeckFatesView → DeckView) (ks : List DeckFatesView) (ds : List DeckView)
     → standing (map g ks) ≡ standing ds → flat_map (λ k. f (g k)) ks ≡ flat_map f ds
 same_standing f none g ks ds e = sym (flat_map-map f g ks) ∙ sym (flat_standing f none (map g ks)) ∙ ap (flat_map f) e ∙ flat_standing f none ds
 
 -- ---- rows under names that stay
 
-rows_agree : {A : Type 0} (row : CardRef → CardView → List A) (old new : List Ident) (cards : List CardView) → AllByRecursion (λ c. ref_of new c ≡ ref_of old c) cards
+rows_agree : {A : Type 0} (row : CardRef → CardView → List A) (old new : List Ident) (cards : List CardView)
+    → AllByRecursion (λ c. ref_of new c ≡ ref_of old c) cards
     → flat_map (λ c. row (ref_of old c) c) cards ≡ flat_map (λ c. row (ref_of new c) c) cards
 rows_agree row old new [] stay = refl
 rows_agree row old new (c ∷ cards) stay = rw stay.0 (ap (λ t. row (ref_of old c) c ++ t) (rows_agree row old new cards stay.1))
 
-refs_agree : (old new : List Ident) (cards : List CardView) → AllByRecursion (λ c. ref_of new c ≡ ref_of old c) cards → map (ref_of old) cards ≡ map (ref_of new) cards
+refs_agree : (old new : List Ident) (cards : List CardView) → AllByRecursion (λ c. ref_of new c ≡ ref_of old c) cards → map (ref_of old) cards
+    ≡ map (ref_of new) cards
 refs_agree old new [] stay = refl
 refs_agree old new (c ∷ cards) stay = λ i. sym stay.0 i ∷ refs_agree old new cards stay.1 i
 
-card_rows_agree : (old new : List Ident) (d p : ℕ) (cards : List CardView) → AllByRecursion (λ c. ref_of new c ≡ ref_of old c) cards → card_rows old d p cards ≡ card_rows new d p cards
+card_rows_agree : (old new : List Ident) (d p : ℕ) (cards : List CardView) → AllByRecursion (λ c. ref_of new c ≡ ref_of old c) cards
+    → card_rows old d p cards ≡ card_rows new d p cards
 card_rows_agree old new d p [] stay = refl
 card_rows_agree old new d p (c ∷ cards) stay =
     let later = card_rows_agree old new d (p + 1) cards stay.1 in λ i. record { card = sym stay.0 i; deck = d; pos = p; body = c.text } ∷ later i
@@ -191,7 +200,8 @@ deck_rows_agree old new (d ∷ ds) stay =
 
 -- ---- what is left of elements that differ
 
-all_kept_of : {A B : Type 0} (P : B → Type 0) (f : A → B) (test : A → Bool) (xs : List A) → AllByRecursion P (map f xs) → AllByRecursion P (map f (filter test xs))
+all_kept_of : {A B : Type 0} (P : B → Type 0) (f : A → B) (test : A → Bool) (xs : List A) → AllByRecursion P (map f xs)
+    → AllByRecursion P (map f (filter test xs))
 all_kept_of P f test [] all = tt
 all_kept_of P f test (x ∷ xs) all = go (test x) (all_kept_of P f test xs all.1)
   where
@@ -203,7 +213,8 @@ apart_filter : {A B : Type 0} (f : A → B) (test : A → Bool) (xs : List A) �
 apart_filter f test [] apart = tt
 apart_filter f test (x ∷ xs) apart = go (test x) (all_kept_of (λ y. f x ≡ y → ⊥) f test xs apart.0) (apart_filter f test xs apart.1)
   where
-    go : (b : Bool) → AllByRecursion (λ y. f x ≡ y → ⊥) (map f (filter test xs)) → AreApart (map f (filter test xs)) → AreApart (map f (cond b (x ∷ filter test xs) (filter test xs)))
+    go : (b : Bool) → AllByRecursion (λ y. f x ≡ y → ⊥) (map f (filter test xs)) → AreApart (map f (filter test xs))
+        → AreApart (map f (cond b (x ∷ filter test xs) (filter test xs)))
     go true here later = (here, later)
     go false here later = later
 
@@ -267,7 +278,8 @@ module _ (old new : LibraryView) (ks : List DeckFatesView) (sound : IsSound old)
 
   -- entries and targets: rows of a card, whatever its place
   module _ {A : Type 0} (e : ChangeView → Effect A) (card : A → CardRef) (row : CardRef → CardView → List A) (mark : FateView → Bool) (come : FateView → List A)
-      (own : (keys : List CardRef) (c : CardView) → without card keys (row (ref_of new.idents c) c) ≡ cond (is_in keys (ref_of new.idents c)) [] (row (ref_of new.idents c) c))
+      (own : (keys : List CardRef) (c : CardView) → without card keys (row (ref_of new.idents c) c)
+      ≡ cond (is_in keys (ref_of new.idents c)) [] (row (ref_of new.idents c) c))
       (idle : AreIdle e (idents_told old.idents new.idents))
       (acted : (xs : List A) → all_acts e (cards_told new.idents ks) xs ≡ without card (keys new.idents ks mark) xs ++ flat_map (λ k. flat_map come k.fates) ks)
       (woven : (f : FateView) → IsKept f
@@ -277,7 +289,8 @@ module _ (old new : LibraryView) (ks : List DeckFatesView) (sound : IsSound old)
     rows_are =
         same_trans (same_of _ _ (
         past_idents e (flat_map (λ c. row (ref_of old.idents c) c) (all_cards old)) idle
-        ∙ ap (all_acts e (cards_told new.idents ks)) (rows_agree row old.idents new.idents (all_cards old) stay ∙ ap (flat_map (λ c. row (ref_of new.idents c) c)) (sym before_is))
+        ∙ ap (all_acts e (cards_told new.idents ks)) (rows_agree row old.idents new.idents (all_cards old) stay
+        ∙ ap (flat_map (λ c. row (ref_of new.idents c) c)) (sym before_is))
         ∙ acted (flat_map (λ c. row (ref_of new.idents c) c) (flat_map card_before fates))
         ∙ ap (λ t. t ++ flat_map (λ k. flat_map come k.fates) ks) (rows_left card new.idents (λ c. row (ref_of new.idents c) c) mark (keys new.idents ks mark) own fates (fit mark))
         ∙ ap (λ t. flat_map (staying mark (λ c. row (ref_of new.idents c) c)) fates ++ t) (sym (flat_twice come (λ k. k.fates) ks))))

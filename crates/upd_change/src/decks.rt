@@ -1,5 +1,6 @@
 //! What became of all decks of a library.
-ghost use Rattle.std.specs.Prelude.{◌≡◌, ◌<◌, ◌≤◌, List, [], ◌∷◌, ◌++◌, length, take, drop, slice_index_or, IfOk, OnOk, MatchOption, ⊤};
+ghost use Rattle.std.specs.Prelude.{◌≡◌, ◌<◌, ◌≤◌, List, [], ◌∷◌, ◌++◌, length, take, drop, slice_index_or, IfOk, OnOk};
+ghost use Rattle.std.specs.Prelude.{MatchOption, ⊤};
 ghost use Rattle.upd_core.specs.Library.{DeckView, all_decks};
 ghost use Rattle.upd_change.specs.Fates.{Lead};
 
@@ -24,7 +25,8 @@ pub(crate) fn library_fates<'a>(
     Ok(found)
 }
 
-/// What became of decks: those that stand in both libraries are taken in order, the others are gone. The index from which on decks are left
+/// What became of decks: those that stand in both libraries are taken in order, the others are gone. The index from
+/// which on decks are left
 /// that have come.
 fn add_decks<'a>(
     alloc: Global,
@@ -73,7 +75,8 @@ fn add_deck<'a>(
 
 /// The deck at an index, if it is the same one.
 fn partner<'a>(deck: &Deck, after: &'a [Deck], next: usize) -> Option<&'a Deck>
-    ensures { MatchOption result ⊤ (λ d. (next < length after.now) × (slice_index_or after.now next d.now ≡ d.now) × (d.now.ident ≡ deck.now.ident)) }
+    ensures { MatchOption result ⊤ (λ d. (next < length after.now) × (slice_index_or after.now next d.now ≡ d.now)
+        × (d.now.ident ≡ deck.now.ident)) }
 {
     let later = after.get(next)?;
     if later.ident == deck.ident {
@@ -89,7 +92,8 @@ fn add_new_decks<'a>(
     youngest: Serial,
     decks: &'a [Deck],
 ) -> Result<(), AllocError>
-    ensures { (olds news : List DeckView) → Lead olds news found.old.items → OnOk result (Lead olds (news ++ decks.now) found.new.items) }
+    ensures { (olds news : List DeckView) → Lead olds news found.old.items
+        → OnOk result (Lead olds (news ++ decks.now) found.new.items) }
 {
     for deck in decks {
         let fates = deck_fates(alloc, deck.ident, youngest, &[], &deck.cards)?;

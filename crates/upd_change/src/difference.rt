@@ -11,8 +11,10 @@ use crate::told::told;
 use std::alloc::{AllocError, Global};
 use upd_core::{Ident, Library, Serial};
 
-/// The row changes that lead from one library to another whose directory goes on from its own: idents, then all that goes, then moves, then all
-/// that comes. What comes or goes at one place of a deck is one move. Memory alone can fail, where a deck has 2^32 cards or more as well.
+/// The row changes that lead from one library to another whose directory goes on from its own: idents, then all that
+/// goes, then moves, then all
+/// that comes. What comes or goes at one place of a deck is one move. Memory alone can fail, where a deck has 2^32
+/// cards or more as well.
 pub fn changes(alloc: Global, before: &Library, after: &Library) -> Result<Vec<Change>, AllocError>
     ensures { (rows : Rows) → IsSound before.now → Continues before.now.idents after.now.idents → Shows rows before.now
         → IfOk result (λ changes. Shows (done_all (map change_seen changes.items) rows) after.now) }

@@ -39,7 +39,8 @@ impl<'a> Fate<'a> {
     }
 }
 
-/// What became of the cards of a deck, and of those that came to it, in their order: fewer than 2^32, so that places are numbers of 32 bits.
+/// What became of the cards of a deck, and of those that came to it, in their order: fewer than 2^32, so that places
+/// are numbers of 32 bits.
 #[derive(Debug, Drop)]
 pub(crate) struct DeckFates<'a> {
     pub(crate) deck: Serial,
@@ -87,7 +88,8 @@ fn are_same_targets(targets: &[Target], others: &[Target]) -> bool
     true
 }
 
-/// What became of the next card before or of the next card after. A card that is younger than all cards before is new; otherwise an old card
+/// What became of the next card before or of the next card after. A card that is younger than all cards before is new;
+/// otherwise an old card
 /// that isn't the next one after is gone.
 fn next_fate<'a>(youngest: Serial, was: &'a Card, is: &'a Card) -> Fate<'a>
     ensures { IsNextOf was.now is.now (fate_seen result) }
@@ -143,7 +145,8 @@ fn add_new<'a>(fates: &mut Vec<Fate<'a>>, cards: &'a [Card]) -> Result<(), Alloc
     Ok(())
 }
 
-/// What became of a deck. So many cards that their places are no numbers of 32 bits are want of memory; the limits of a library stay far below.
+/// What became of a deck. So many cards that their places are no numbers of 32 bits are want of memory; the limits of a
+/// library stay far below.
 pub(crate) fn deck_fates<'a>(
     alloc: Global,
     deck: Serial,

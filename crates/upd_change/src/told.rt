@@ -1,10 +1,12 @@
 //! Tells fates as row changes: idents, then all that goes, then moves, then all that comes.
-ghost use Rattle.std.specs.Prelude.{◌≡◌, ◌+◌, ◌<◌, ◌≤◌, true, ◌^◌, ◌==◌, ◌&&◌, not, if◌then◌else◌, [], ◌∷◌, ◌++◌, map, length, drop, IfOk, OnOk};
+ghost use Rattle.std.specs.Prelude.{◌≡◌, ◌+◌, ◌<◌, ◌≤◌, true, ◌^◌, ◌==◌, ◌&&◌, not, if◌then◌else◌, [], ◌∷◌, ◌++◌, map};
+ghost use Rattle.std.specs.Prelude.{length, drop, IfOk, OnOk};
 ghost use Rattle.std.specs.List.{flat_map};
 ghost use Rattle.upd_core.specs.Library.{ref_of};
 ghost use Rattle.upd_change.specs.Changes.{CardNew, IdentPurged, TargetsGone, change_seen};
 ghost use Rattle.upd_change.specs.Fates.{Gone, Kept, fate_seen};
-ghost use Rattle.upd_change.specs.Told.{begins, brought, card_new, entries_new, gone_of, grown, idents_told, move_to, moves};
+ghost use Rattle.upd_change.specs.Told.{begins, brought, card_new, entries_new, gone_of, grown, idents_told, move_to};
+ghost use Rattle.upd_change.specs.Told.{moves};
 ghost use Rattle.upd_change.specs.Told.{targets_new, told};
 
 use crate::change::Change;
@@ -36,7 +38,8 @@ fn add_idents(
     before: &[Ident],
     after: &[Ident],
 ) -> Result<(), AllocError>
-    ensures { OnOk result (map change_seen changes.new.items ≡ map change_seen changes.old.items ++ idents_told before.now after.now) }
+    ensures { OnOk result (map change_seen changes.new.items ≡ map change_seen changes.old.items
+        ++ idents_told before.now after.now) }
 {
     for (i, ident) in after.iter().enumerate() {
         match before.get(i) {
@@ -49,7 +52,8 @@ fn add_idents(
 
 fn add_purged(changes: &mut Vec<Change>, was: &Ident, is: &Ident) -> Result<(), AllocError>
     ensures { OnOk result (map change_seen changes.new.items
-        ≡ map change_seen changes.old.items ++ (if was.now.held && not is.now.held then IdentPurged was.now.age ∷ [] else [])) }
+        ≡ map change_seen changes.old.items
+        ++ (if was.now.held && not is.now.held then IdentPurged was.now.age ∷ [] else [])) }
 {
     if was.held && !is.held {
         changes.push(Change::IdentPurged(was.age))?;
@@ -92,7 +96,8 @@ fn add_old_entries(
     was: &Card,
     is: &Card,
 ) -> Result<(), AllocError>
-    ensures { OnOk result (map change_seen changes.new.items ≡ map change_seen changes.old.items ++ gone_of idents.now (Kept was.now is.now)) }
+    ensures { OnOk result (map change_seen changes.new.items ≡ map change_seen changes.old.items
+        ++ gone_of idents.now (Kept was.now is.now)) }
 {
     if begins(&was.history, &is.history) {
         return Ok(());
@@ -102,7 +107,8 @@ fn add_old_entries(
 }
 
 fn add_gone_card(changes: &mut Vec<Change>, idents: &[Ident], was: &Card) -> Result<(), AllocError>
-    ensures { OnOk result (map change_seen changes.new.items ≡ map change_seen changes.old.items ++ gone_of idents.now (Gone was.now)) }
+    ensures { OnOk result (map change_seen changes.new.items ≡ map change_seen changes.old.items
+        ++ gone_of idents.now (Gone was.now)) }
 {
     let card = card_ref(idents, was);
     add_gone_targets(changes, &card, &was.targets)?;
@@ -117,7 +123,8 @@ fn add_gone_targets(
     targets: &[Target],
 ) -> Result<(), AllocError>
     ensures { OnOk result (map change_seen changes.new.items
-        ≡ map change_seen changes.old.items ++ (if length targets.now == 0 then [] else TargetsGone card.now targets.now ∷ [])) }
+        ≡ map change_seen changes.old.items
+        ++ (if length targets.now == 0 then [] else TargetsGone card.now targets.now ∷ [])) }
 {
     if targets.is_empty() {
         return Ok(());
@@ -140,7 +147,8 @@ fn add_all_moves(changes: &mut Vec<Change>, decks: &[DeckFates]) -> Result<(), A
     Ok(())
 }
 
-/// Moves each card that stays and doesn't stand where it must, and all behind it with it: so what comes or goes at one place is one move.
+/// Moves each card that stays and doesn't stand where it must, and all behind it with it: so what comes or goes at one
+/// place is one move.
 fn add_moves(changes: &mut Vec<Change>, deck: Serial, fates: &[Fate]) -> Result<(), AllocError>
     requires { length fates.now < 2 ^ 32 }
     ensures { OnOk result (map change_seen changes.new.items
@@ -163,7 +171,8 @@ fn add_moves(changes: &mut Vec<Change>, deck: Serial, fates: &[Fate]) -> Result<
 }
 
 fn add_move(changes: &mut Vec<Change>, deck: Serial, from: u32, to: u32) -> Result<(), AllocError>
-    ensures { OnOk result (map change_seen changes.new.items ≡ map change_seen changes.old.items ++ move_to deck from to) }
+    ensures { OnOk result (map change_seen changes.new.items ≡ map change_seen changes.old.items
+        ++ move_to deck from to) }
 {
     if from == to {
         return Ok(());
@@ -221,7 +230,8 @@ fn add_grown(
     was: &Card,
     is: &Card,
 ) -> Result<(), AllocError>
-    ensures { OnOk result (map change_seen changes.new.items ≡ map change_seen changes.old.items ++ grown idents.now was.now is.now) }
+    ensures { OnOk result (map change_seen changes.new.items ≡ map change_seen changes.old.items
+        ++ grown idents.now was.now is.now) }
 {
     let card = card_ref(idents, was);
     let from = if begins(&was.history, &is.history) {
@@ -239,7 +249,8 @@ fn add_card(
     pos: u32,
     is: &Card,
 ) -> Result<(), AllocError>
-    ensures { OnOk result (map change_seen changes.new.items ≡ map change_seen changes.old.items ++ card_new idents.now deck pos is.now) }
+    ensures { OnOk result (map change_seen changes.new.items ≡ map change_seen changes.old.items
+        ++ card_new idents.now deck pos is.now) }
 {
     let card = card_ref(idents, is);
     add_card_row(changes, &card, deck, pos, &is.text)?;
@@ -254,7 +265,8 @@ fn add_card_row(
     pos: u32,
     text: &[u8],
 ) -> Result<(), AllocError>
-    ensures { OnOk result (map change_seen changes.new.items ≡ map change_seen changes.old.items ++ CardNew card.now deck pos text.now ∷ []) }
+    ensures { OnOk result (map change_seen changes.new.items ≡ map change_seen changes.old.items
+        ++ CardNew card.now deck pos text.now ∷ []) }
 {
     let text = Vec::from_slice(*changes.allocator(), text)?;
     changes.push(Change::CardNew {
@@ -266,7 +278,8 @@ fn add_card_row(
     Ok(())
 }
 
-/// Entries of a card, from a place on. A place that is no number of 32 bits is want of memory; the limits of a library stay far below.
+/// Entries of a card, from a place on. A place that is no number of 32 bits is want of memory; the limits of a library
+/// stay far below.
 fn add_entries(
     changes: &mut Vec<Change>,
     card: &CardRef,
@@ -274,7 +287,8 @@ fn add_entries(
     entries: &[Entry],
 ) -> Result<(), AllocError>
     requires { from + length entries.now < 2 ^ 64 }
-    ensures { OnOk result (map change_seen changes.new.items ≡ map change_seen changes.old.items ++ entries_new card.now from entries.now) }
+    ensures { OnOk result (map change_seen changes.new.items ≡ map change_seen changes.old.items
+        ++ entries_new card.now from entries.now) }
 {
     for (i, entry) in entries.iter().enumerate() {
         let ord = row_number(from + i)?;
@@ -292,7 +306,8 @@ fn add_targets(
     card: &CardRef,
     targets: &[Target],
 ) -> Result<(), AllocError>
-    ensures { OnOk result (map change_seen changes.new.items ≡ map change_seen changes.old.items ++ targets_new card.now 0 targets.now) }
+    ensures { OnOk result (map change_seen changes.new.items ≡ map change_seen changes.old.items
+        ++ targets_new card.now 0 targets.now) }
 {
     for (ord, target) in targets.iter().enumerate() {
         let ord = row_number(ord)?;

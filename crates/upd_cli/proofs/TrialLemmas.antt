@@ -1,12 +1,16 @@
 -- A trial needs no more of a run than the first byte beyond the limit, and fails by its refusal or for want of memory.
-use Rattle.std.proofs.Common.{◌≡◌, ◌≤◌, ◌<◌, ◌⊎◌, inl, inr, ℕ, ◌+◌, nat_lt, Bool, true, List, length, take, Option, Some, None, Result, Ok, Err, refl, ap, sym, ◌∙◌, subst, arith, IfSome}
+use Rattle.std.proofs.Common.{◌≡◌, ◌≤◌, ◌<◌, ◌⊎◌, inl, inr, ℕ, ◌+◌, nat_lt, Bool, true, List, length, take, Option, Some, None, Result, Ok, Err, refl, ap, sym}
+use Rattle.std.proofs.Common.{◌∙◌, subst, arith, IfSome}
 use Rattle.upd_core.specs.Library.{empty}
 use Rattle.upd_apply.specs.Applying.{applied}
 use Rattle.std.proofs.lemmas.Bool.{cases_lt, lt-ltb}
 use Rattle.std.proofs.lemmas.List.{length-take-le, take_all}
 use Rattle.upd_text.specs.declared.fault.Fault.{Fault}
 use Rattle.upd_text.specs.declared.fault.FaultKind.{FaultKind}
-use Rattle.upd_text.specs.declared.fault.FaultKind.TheVariants.{RunLong, TooManyLines, BadByte, LineLong, BadName, BadCard, BadField, NoIdent, TextNowhere, NameTaken, IdentUnknown, DeckUnknown, CardUnknown, RangeOrder, DeckCard, YankText, YankSelf, Reserved, Full, CallUnknown, CallDepth, CompileLong, BadSite, BadNumber, BadMode, RunChanged, Settled, NoMemory, Store, BadFrame, CutFrame, Read, Write}
+use Rattle.upd_text.specs.declared.fault.FaultKind.TheVariants.{RunLong, TooManyLines, BadByte, LineLong, BadName, BadCard, BadField, NoIdent, TextNowhere}
+use Rattle.upd_text.specs.declared.fault.FaultKind.TheVariants.{NameTaken, IdentUnknown, DeckUnknown, CardUnknown, RangeOrder, DeckCard, YankText, YankSelf}
+use Rattle.upd_text.specs.declared.fault.FaultKind.TheVariants.{Reserved, Full, CallUnknown, CallDepth, CompileLong, BadSite, BadNumber, BadMode, RunChanged}
+use Rattle.upd_text.specs.declared.fault.FaultKind.TheVariants.{Settled, NoMemory, Store, BadFrame, CutFrame, Read, Write}
 use Rattle.upd_text.specs.declared.limits.TheConstants.{MAX_RUN_BYTES}
 use Rattle.upd_text.specs.Outcome.{◌>>=◌, FailsOf, GivesAt, at_line, need, refuse_if}
 use Rattle.upd_deck.specs.Reading.{reading}

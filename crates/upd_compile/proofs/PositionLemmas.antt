@@ -1,5 +1,6 @@
 -- Decks found by their positions.
-use Rattle.std.proofs.Common.{◌≡◌, ℕ, zero, suc, add-one, ◌+◌, ◌==◌, Bool, true, false, if◌then◌else◌, cond, List, [], ◌∷◌, drop, Option, Some, None, refl, sym, slice_get}
+use Rattle.std.proofs.Common.{◌≡◌, ℕ, zero, suc, add-one, ◌+◌, ◌==◌, Bool, true, false, if◌then◌else◌, cond, List, [], ◌∷◌, drop, Option, Some, None, refl, sym}
+use Rattle.std.proofs.Common.{slice_get}
 use Rattle.std.specs.Option.{option_and_then, option_map}
 use Rattle.std.specs.List.{find}
 use Rattle.upd_core.specs.declared.ident.Ident.{Ident}

@@ -1,6 +1,8 @@
 -- The positions reached so far, and the work that is left.
-use Rattle.std.proofs.Common.{◌≡◌, ℕ, ◌<◌, ◌==◌, ⊎_elim, nat_lt, Bool, true, false, ◌&&◌, not, List, [], ◌∷◌, ◌++◌, length, Some, None, slice_get, refl, sym, ◌∙◌, arith}
-use Rattle.std.proofs.lemmas.Bool.{false≢true, not-false, and_from, and_parts, or_from, or_parts, eq-eqb, or_cases, or_left, or_right, cases_Bool, eqb-true, lt-ltb}
+use Rattle.std.proofs.Common.{◌≡◌, ℕ, ◌<◌, ◌==◌, ⊎_elim, nat_lt, Bool, true, false, ◌&&◌, not, List, [], ◌∷◌, ◌++◌, length, Some, None, slice_get, refl, sym}
+use Rattle.std.proofs.Common.{◌∙◌, arith}
+use Rattle.std.proofs.lemmas.Bool.{false≢true, not-false, and_from, and_parts, or_from, or_parts, eq-eqb, or_cases, or_left, or_right, cases_Bool, eqb-true}
+use Rattle.std.proofs.lemmas.Bool.{lt-ltb}
 use Rattle.upd_compile.specs.Reach.{MarksMore, follows, is_in, is_marked}
 use Rattle.upd_compile.proofs.ReachLemmas.{is_in-push}
 

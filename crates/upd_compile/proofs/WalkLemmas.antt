@@ -1,5 +1,6 @@
 -- Walks one after the other.
-use Rattle.std.proofs.Common.{◌≡◌, ℕ, zero, suc, sub-one, ◌+◌, ◌-◌, ◌<◌, true, false, ◌==◌, ◌&&◌, List, [], ◌∷◌, ◌++◌, map, drop, length, get_or, Bor, Some, None, Ok, Err, Result, refl, arith, ◌∙◌}
+use Rattle.std.proofs.Common.{◌≡◌, ℕ, zero, suc, sub-one, ◌+◌, ◌-◌, ◌<◌, true, false, ◌==◌, ◌&&◌, List, [], ◌∷◌, ◌++◌, map, drop, length, get_or, Bor, Some}
+use Rattle.std.proofs.Common.{None, Ok, Err, Result, refl, arith, ◌∙◌}
 use Rattle.std.specs.List.{flat_map}
 use Rattle.std.proofs.lemmas.List.{at_drop_more}
 use Rattle.upd_text.specs.declared.fault.FaultKind.{FaultKind}

@@ -1,5 +1,6 @@
 -- A compile file that grows is what its walk is written as.
-use Rattle.std.proofs.Common.{◌≡◌, zero-add, add-zero, ◌+◌, nat_lt, Bool, true, false, cond, List, [], ◌∷◌, ◌++◌, length, take, Some, None, Ok, Err, Result, refl, sym, ap, ◌∙◌, subst, arith, append_assoc, append-nil, count_by}
+use Rattle.std.proofs.Common.{◌≡◌, zero-add, add-zero, ◌+◌, nat_lt, Bool, true, false, cond, List, [], ◌∷◌, ◌++◌, length, take, Some, None, Ok, Err, Result}
+use Rattle.std.proofs.Common.{refl, sym, ap, ◌∙◌, subst, arith, append_assoc, append-nil, count_by}
 use Rattle.std.proofs.lemmas.List.{length-append}
 use Rattle.std.specs.List.{enumerate_from, filter_map, flat_map}
 use Rattle.std.proofs.Math.Seq.{take-append_seam}

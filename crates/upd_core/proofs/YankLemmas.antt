@@ -72,8 +72,10 @@ live_where_good (y ∷ ys) aged = go (is_good later 0 y) refl (live_where_good y
     go : (good : Bool) → is_good later 0 y ≡ good → liveness ys ≡ map (is_good later 0) ys → AreMarks (live_cards (y ∷ ys))
     go true e rest =
         let same = all_good_same later y.targets y.ident (y ∷ ys) aged.0 aged.1 in
-        let behind : liveness ys ≡ map (is_good (y.targets ++ later) 0) ys = rest ∙ sym (map_same (is_good (y.targets ++ later) 0) (is_good later 0) ys same.1) in
-        subst AreMarks (sym (good_before y (live_cards ys) e)) (ap (λ b. b ∷ liveness ys) (sym same.0) ∙ ap (λ bs. is_good (y.targets ++ later) 0 y ∷ bs) behind)
+        let behind : liveness ys ≡ map (is_good (y.targets ++ later) 0) ys = rest
+        ∙ sym (map_same (is_good (y.targets ++ later) 0) (is_good later 0) ys same.1) in
+        subst AreMarks (sym (good_before y (live_cards ys) e)) (ap (λ b. b ∷ liveness ys) (sym same.0)
+        ∙ ap (λ bs. is_good (y.targets ++ later) 0 y ∷ bs) behind)
     go false e rest = subst AreMarks (sym (bad_before y (live_cards ys) e)) (ap (λ bs. is_good later 0 y ∷ bs) rest)
 
 pub marks_are_active : (l : LibraryView) → IsSound l → liveness l.yanks ≡ map (is_active (live_targets l) 0) l.yanks
@@ -91,7 +93,8 @@ live_status l card live sound e = go (place_of card l) refl (sym (live_yank-plac
     at p true f found =
         let zero : p.deck ≡ 0 = (Decides-eqb p.deck 0).0 f in
         let mark : slice_get (liveness l.yanks) p.index ≡ Some live = rw f at found in
-        rw zero (sym (slice_get-map (is_active (live_targets l) 0) l.yanks p.index) ∙ ap (λ marks. slice_get marks p.index) (sym (marks_are_active l sound)) ∙ mark)
+        rw zero (sym (slice_get-map (is_active (live_targets l) 0) l.yanks p.index) ∙ ap (λ marks. slice_get marks p.index) (sym (marks_are_active l sound))
+        ∙ mark)
     at p false f found = let none = rw f at found in absurd (cc)
 
     go : (o : Option Place) → place_of card l ≡ o → option_and_then (yank_at l) o ≡ Some live → status_of card l ≡ Some live

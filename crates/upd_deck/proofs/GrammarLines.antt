@@ -1,7 +1,9 @@
 -- A line is read as its text, and says what that says.
-use Rattle.std.proofs.Common.{◌≡◌, ℕ, zero, suc, ◌+◌, ◌-◌, ◌<◌, ◌≤◌, Bool, true, false, cond, eqb, ltb, leb, not, ◌&&◌, inl, inr, ⊎_elim, List, [], ◌∷◌, ◌++◌, length, take, get_or, length-append, refl, sym, ap, ◌∙◌, subst, Result, Ok, arith}
+use Rattle.std.proofs.Common.{◌≡◌, ℕ, zero, suc, ◌+◌, ◌-◌, ◌<◌, ◌≤◌, Bool, true, false, cond, eqb, ltb, leb, not, ◌&&◌, inl, inr, ⊎_elim, List, [], ◌∷◌, ◌++◌}
+use Rattle.std.proofs.Common.{length, take, get_or, length-append, refl, sym, ap, ◌∙◌, subst, Result, Ok, arith}
 use Rattle.std.proofs.Math.Seq.{take-append_seam}
-use Rattle.std.proofs.lemmas.Bool.{and_right, or_left, or_right, eq-eqb, and_parts, and_from, or_cases, ne_eqb, eqb-true, eqb-false, le-leb, leb-true, le-ltb, ltb-false, false≢true, not-false, false_from_ne_true, both_ways}
+use Rattle.std.proofs.lemmas.Bool.{and_right, or_left, or_right, eq-eqb, and_parts, and_from, or_cases, ne_eqb, eqb-true, eqb-false, le-leb, leb-true, le-ltb}
+use Rattle.std.proofs.lemmas.Bool.{ltb-false, false≢true, not-false, false_from_ne_true, both_ways}
 use Rattle.std.proofs.lemmas.List.{length-replicate, get_or-append_right, get_or-replicate, take_more, take_all, get_or_append_left}
 use Rattle.std.proofs.lemmas.List.Sums.{suffix_len_is}
 use Rattle.std.specs.List.{AllByRecursion, list_all, suffix_len}

@@ -1,5 +1,6 @@
 -- The parts of a line: what stands before a byte and from it on, ink and blanks, and pieces between commas.
-use Rattle.std.proofs.Common.{◌≡◌, ℕ, zero, suc, ◌<◌, Bool, true, false, cond, eqb, not, List, [], ◌∷◌, ◌++◌, length, refl, sym, ap, ◌∙◌, append_assoc, append-nil, arith}
+use Rattle.std.proofs.Common.{◌≡◌, ℕ, zero, suc, ◌<◌, Bool, true, false, cond, eqb, not, List, [], ◌∷◌, ◌++◌, length, refl, sym, ap, ◌∙◌, append_assoc}
+use Rattle.std.proofs.Common.{append-nil, arith}
 use Rattle.std.proofs.lemmas.Bool.{cond_both, or_parts, ne_eqb, eqb-false}
 use Rattle.std.specs.List.{AllByRecursion, slice_split, onto_first}
 use Rattle.upd_text.specs.Lines.{is_blank, is_comma, ends_word, up_to, from_first, after_blanks, after_comma, field, remark, fields_of}

@@ -1,5 +1,6 @@
 -- The lines of a run stand where their spans say.
-use Rattle.std.proofs.Common.{◌≡◌, ℕ, ◌+◌, eqb, cond, false, List, [], ◌∷◌, ◌++◌, length, length-append, append_assoc, append-nil, refl, sym, ap, ◌∙◌, subst, Ok, arith}
+use Rattle.std.proofs.Common.{◌≡◌, ℕ, ◌+◌, eqb, cond, false, List, [], ◌∷◌, ◌++◌, length, length-append, append_assoc, append-nil, refl, sym, ap, ◌∙◌, subst}
+use Rattle.std.proofs.Common.{Ok, arith}
 use Rattle.std.proofs.lemmas.List.Sums.{sum_by-append, sum_by-cons}
 use Rattle.std.specs.List.{AllByRecursion, count_by}
 use Rattle.upd_deck.specs.Items.{LineView}

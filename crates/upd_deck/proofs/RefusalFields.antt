@@ -1,5 +1,6 @@
 -- The fields of a word are refused exactly as the order of refusals says.
-use Rattle.std.proofs.Common.{◌≡◌, ℕ, zero, suc, Bool, true, false, cond, eqb, not, ◌&&◌, ◌⊎◌, inl, inr, ⊎_elim, List, [], ◌∷◌, ◌++◌, length, codes, refl, sym, ap, ◌∙◌, subst, Option, Some, None, Result, Ok, Err, arith}
+use Rattle.std.proofs.Common.{◌≡◌, ℕ, zero, suc, Bool, true, false, cond, eqb, not, ◌&&◌, ◌⊎◌, inl, inr, ⊎_elim, List, [], ◌∷◌, ◌++◌, length, codes, refl, sym}
+use Rattle.std.proofs.Common.{ap, ◌∙◌, subst, Option, Some, None, Result, Ok, Err, arith}
 use Rattle.std.proofs.lemmas.Bool.{and_parts, or_left, or_right, or_cases, both_ways, false_from_ne_true, false≢true, eqb-true}
 use Rattle.std.proofs.lemmas.Slice.Eq.{bytes_eq-Decides}
 use Rattle.std.specs.List.{AllByRecursion, AllZip, Contains, list_any, before_first, after_first}
@@ -13,9 +14,13 @@ use Rattle.upd_deck.specs.declared.item.NameRange.{NameRange}
 use Rattle.upd_deck.specs.declared.item.IdentIn.{IdentIn}
 use Rattle.upd_deck.specs.declared.word.Word.{Word}
 use Rattle.upd_deck.specs.declared.word.Word.TheVariants as words
-use Rattle.upd_deck.specs.Items.{ItemView, Call, Ident, Deck, CommonDeck, Insert, Before, Delete, Restore, Yank, SelYank, YankDeck, Purge, PurgeFrom, SelPurge, PurDeck, Compile}
-use Rattle.upd_deck.specs.Grammar.{IsName, IsCard, IsRange, IsPair, Takes, TakesCall, TakesIdent, TakesDeck, TakesCommon, TakesMarked, TakesInsert, TakesBefore, TakesDelete, TakesDeletes, TakesRestore, TakesRestores, TakesYank, TakesSelYank, TakesYankDeck, TakesPurge, TakesPurgeFrom, TakesSelPurge, TakesPurDeck, TakesCompile}
-use Rattle.upd_deck.specs.Reading.{may_have, first_field, last_of_two, is_marked_right, are_its_fields, name_in, card_ref_in, names_in, ident_in, range_in, one_in, each_in, is_from_name, item_with, item_by}
+use Rattle.upd_deck.specs.Items.{ItemView, Call, Ident, Deck, CommonDeck, Insert, Before, Delete, Restore, Yank, SelYank, YankDeck, Purge, PurgeFrom, SelPurge}
+use Rattle.upd_deck.specs.Items.{PurDeck, Compile}
+use Rattle.upd_deck.specs.Grammar.{IsName, IsCard, IsRange, IsPair, Takes, TakesCall, TakesIdent, TakesDeck, TakesCommon, TakesMarked, TakesInsert, TakesBefore}
+use Rattle.upd_deck.specs.Grammar.{TakesDelete, TakesDeletes, TakesRestore, TakesRestores, TakesYank, TakesSelYank, TakesYankDeck, TakesPurge, TakesPurgeFrom}
+use Rattle.upd_deck.specs.Grammar.{TakesSelPurge, TakesPurDeck, TakesCompile}
+use Rattle.upd_deck.specs.Reading.{may_have, first_field, last_of_two, is_marked_right, are_its_fields, name_in, card_ref_in, names_in, ident_in, range_in}
+use Rattle.upd_deck.specs.Reading.{one_in, each_in, is_from_name, item_with, item_by}
 use Rattle.upd_deck.specs.Refusals.{AreMisplaced, Count, Empty, Mark, IsWanted, field_fault, EndsInStar, FromName, FieldsFail, Whole, Leftmost}
 use Rattle.upd_deck.proofs.GrammarNames.{done, name_read, ident_read, ident_back, range_read, range_back, card_read, card_back}
 use Rattle.upd_deck.proofs.GrammarItems.{takes_read, takes_back}

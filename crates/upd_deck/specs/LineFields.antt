@@ -2,7 +2,8 @@
 use Rattle.upd_deck.specs.declared.item.Item.{Item}
 use Rattle.upd_deck.specs.declared.item.Item.TheVariants as item
 use Rattle.upd_deck.specs.declared.run.Line.TheInside.{Inside}
-use Rattle.upd_deck.specs.Items.{ItemView, LineView, Text, Call, Ident, Deck, CommonDeck, Insert, Before, Delete, Restore, Yank, SelYank, YankDeck, Purge, PurgeFrom, SelPurge, PurDeck, Compile}
+use Rattle.upd_deck.specs.Items.{ItemView, LineView, Text, Call, Ident, Deck, CommonDeck, Insert, Before, Delete, Restore, Yank, SelYank, YankDeck, Purge}
+use Rattle.upd_deck.specs.Items.{PurgeFrom, SelPurge, PurDeck, Compile}
 
 -- an item, its vectors seen as lists
 abbrev pub seen : Item → ItemView

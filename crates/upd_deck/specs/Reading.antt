@@ -1,5 +1,6 @@
 -- What a run says: its lines in order, or its first fault.
-use Rattle.std.specs.Prelude.{ℕ, ◌+◌, ◌-◌, ◌==◌, nat_lt, nat_le, Bool, true, not, ◌&&◌, ◌||◌, if◌then◌else◌, List, [], ◌∷◌, length, take, codes, Option, Some, None, Result, Ok, Err}
+use Rattle.std.specs.Prelude.{ℕ, ◌+◌, ◌-◌, ◌==◌, nat_lt, nat_le, Bool, true, not, ◌&&◌, ◌||◌, if◌then◌else◌, List, [], ◌∷◌, length, take, codes, Option, Some}
+use Rattle.std.specs.Prelude.{None, Result, Ok, Err}
 use Rattle.std.specs.Option.{option_map}
 use Rattle.std.specs.Str.{bytes_eq}
 use Rattle.std.specs.Str.Lines.{strip_carriage_return}
@@ -16,7 +17,8 @@ use Rattle.upd_deck.specs.declared.item.NameRange.{NameRange}
 use Rattle.upd_deck.specs.declared.item.IdentIn.{IdentIn}
 use Rattle.upd_deck.specs.declared.word.Word.{Word}
 use Rattle.upd_deck.specs.declared.word.Word.TheVariants as words
-use Rattle.upd_deck.specs.Items.{ItemView, LineView, line_view, Text, Call, Ident, Deck, CommonDeck, Insert, Before, Delete, Restore, Yank, SelYank, YankDeck, Purge, PurgeFrom, SelPurge, PurDeck, Compile}
+use Rattle.upd_deck.specs.Items.{ItemView, LineView, line_view, Text, Call, Ident, Deck, CommonDeck, Insert, Before, Delete, Restore, Yank, SelYank, YankDeck}
+use Rattle.upd_deck.specs.Items.{Purge, PurgeFrom, SelPurge, PurDeck, Compile}
 
 -- ---- words
 

@@ -10,7 +10,9 @@ ghost use Rattle.upd_text.specs.declared.fault.FaultKind.{FaultKind};
 ghost use Rattle.upd_text.specs.Outcome.{Gives};
 ghost use Rattle.upd_deck.specs.declared.word.Word.TheVariants as words;
 ghost use Rattle.upd_deck.specs.LineFields.{seen};
-ghost use Rattle.upd_deck.specs.Reading.{are_its_fields, card_ref_in, each_in, first_field, ident_in, is_from_name, is_marked_right, item_by, item_of, item_with, last_of_two, may_have, name_in, range_in};
+ghost use Rattle.upd_deck.specs.Reading.{are_its_fields, card_ref_in, each_in, first_field, ident_in, is_from_name};
+ghost use Rattle.upd_deck.specs.Reading.{is_marked_right, item_by, item_of, item_with, last_of_two, may_have, name_in};
+ghost use Rattle.upd_deck.specs.Reading.{range_in};
 
 use crate::item::{IdentIn, Item, NameRange};
 use crate::word::Word;

@@ -1,5 +1,6 @@
 -- What is kept stays kept, whatever comes between, as long as it isn't settled.
-use Rattle.std.proofs.Common.{◌≡◌, ℕ, ◌≤◌, ◌==◌, nat_lt, nat_le, max, Bool, true, false, not, ◌&&◌, ◌||◌, if◌then◌else◌, List, [], ◌∷◌, ◌++◌, Option, Some, None, Result, Ok, Err, refl, sym, ◌∙◌, rules, arith}
+use Rattle.std.proofs.Common.{◌≡◌, ℕ, ◌≤◌, ◌==◌, nat_lt, nat_le, max, Bool, true, false, not, ◌&&◌, ◌||◌, if◌then◌else◌, List, [], ◌∷◌, ◌++◌, Option, Some}
+use Rattle.std.proofs.Common.{None, Result, Ok, Err, refl, sym, ◌∙◌, rules, arith}
 use Rattle.std.specs.List.{list_any, find}
 use Rattle.std.specs.Str.{bytes_eq}
 use Rattle.std.proofs.lemmas.Bool.Decides.{nat_tests}
@@ -10,7 +11,8 @@ use Rattle.upd_change.specs.Rows.{RunView}
 use Rattle.upd_compile.specs.declared.mode.Mode.{Mode}
 use Rattle.upd_rows.specs.Tables.{is_run}
 use Rattle.upd_desk.specs.Arrivals.{ArrivalView, door, mode_number}
-use Rattle.upd_desk.specs.Journal.{Came, Carried, Settled, Heard, Journal, mark, has_key, with_arrival, distinct, outcome_of, made_by, world, run_of, answered, kept, reply_to, answer}
+use Rattle.upd_desk.specs.Journal.{Came, Carried, Settled, Heard, Journal, mark, has_key, with_arrival, distinct, outcome_of, made_by, world, run_of, answered}
+use Rattle.upd_desk.specs.Journal.{kept, reply_to, answer}
 use Rattle.upd_desk.specs.Outcomes.{ReplyView, outcome}
 use Rattle.upd_desk.proofs.JournalLemmas.{unheard_door, unheard_settled, unheard_known, heard_new, answered_any}
 use Rattle.upd_desk.proofs.KeptLemmas.{is_same_bytes, none_found, same_key, not_below}

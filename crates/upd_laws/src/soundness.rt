@@ -20,7 +20,8 @@ pub fn lines_keep_states_sound()
 
 /// A run keeps a sound library sound, and so does a purge of any idents.
 pub fn runs_keep_libraries_sound()
-    ensures run { (lines : List LineView) (l : LibraryView) (r : Reached) → IsSound l → applied lines l ≡ Ok r → IsSound r.library }
+    ensures run { (lines : List LineView) (l : LibraryView) (r : Reached) → IsSound l → applied lines l ≡ Ok r
+        → IsSound r.library }
     ensures purge { (gone : ℕ → Bool) (l : LibraryView) → IsSound l → IsSound (purged gone l) }
 {}
 
@@ -33,16 +34,19 @@ pub fn reached_libraries_are_sound()
 
 /// No library that runs can reach passes a limit.
 pub fn reached_libraries_are_within_limits()
-    ensures run { (lines : List LineView) (l : LibraryView) (r : Reached) → IsTrue (is_within_limits l) → applied lines l ≡ Ok r
+    ensures run { (lines : List LineView) (l : LibraryView) (r : Reached) → IsTrue (is_within_limits l)
+        → applied lines l ≡ Ok r
         → IsTrue (is_within_limits r.library) }
     ensures reached { (runs : List (List LineView)) → IsTrue (is_within_limits (after_runs runs empty)) }
-    ensures purge { (gone : ℕ → Bool) (l : LibraryView) → IsTrue (is_within_limits l) → IsTrue (is_within_limits (purged gone l)) }
+    ensures purge { (gone : ℕ → Bool) (l : LibraryView) → IsTrue (is_within_limits l)
+        → IsTrue (is_within_limits (purged gone l)) }
 {}
 
 /// The directory goes on: idents come at its end, and purged ones are no longer held.
 pub fn directories_go_on()
     ensures line { (line : LineView) (s t : State) → step line s ≡ Ok t → Continues s.library.idents t.library.idents }
-    ensures run { (lines : List LineView) (l : LibraryView) (r : Reached) → applied lines l ≡ Ok r → Continues l.idents r.library.idents }
+    ensures run { (lines : List LineView) (l : LibraryView) (r : Reached) → applied lines l ≡ Ok r
+        → Continues l.idents r.library.idents }
     ensures runs { (runs : List (List LineView)) (l : LibraryView) → Continues l.idents (after_runs runs l).idents }
     ensures purge { (gone : ℕ → Bool) (l : LibraryView) → Continues l.idents (purged gone l).idents }
 {}

@@ -1,6 +1,8 @@
-//! What the kit's stores keep in order: the rows of each table of the last commit stand in rising order of their rowids.
+//! What the kit's stores keep in order: the rows of each table of the last commit stand in rising order of their
+//! rowids.
 //!
-//! No clause of a connection says so, and what INSERT and DELETE do to a table, row by row, rests on it. Here it is a law of the store, true of
+//! No clause of a connection says so, and what INSERT and DELETE do to a table, row by row, rests on it. Here it is a
+//! law of the store, true of
 //! the store over files and of the one in memory, so that a connection in hand needs no second reading.
 #![tactic(auto)]
 

@@ -13,7 +13,8 @@ ghost use Rattle.upd_reply.specs.Texts.{AreShown, accepted_text, fault_text, ref
 use std::alloc::{AllocError, Global};
 use upd_text::{Fault, Name};
 
-/// The reply to an accepted run: the compile file with the number of its lines, and the names of the idents that the run
+/// The reply to an accepted run: the compile file with the number of its lines, and the names of the idents that the
+/// run
 /// introduced.
 pub fn accepted(
     alloc: Global,

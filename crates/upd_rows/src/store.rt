@@ -51,7 +51,8 @@ pub trait RowStore {
         ensures open { is_honest self.new → OnOk result (is_open self.new) }
         ensures same { Keeps is_honest is_open image shows may_leave failures_of self.old self.new }
         ensures lost { IfErr result IsLost }
-        ensures failed { IfErr result (λ e. e.kind ≡ Store → MoreFailures (failures_of self.old) (failures_of self.new)) }
+        ensures failed { IfErr result (λ e. e.kind ≡ Store
+            → MoreFailures (failures_of self.old) (failures_of self.new)) }
         ensures cause { IfErr result (λ e. e.kind ≡ Store → caused self.old self.new) };
 
     /// The directory, `YANK$$$` and those of these decks that are held; the rest counts what the others have.
@@ -61,7 +62,8 @@ pub trait RowStore {
         ensures open { is_honest self.new → OnOk result (is_open self.new) }
         ensures same { Keeps is_honest is_open image shows may_leave failures_of self.old self.new }
         ensures lost { IfErr result IsLost }
-        ensures failed { IfErr result (λ e. e.kind ≡ Store → MoreFailures (failures_of self.old) (failures_of self.new)) }
+        ensures failed { IfErr result (λ e. e.kind ≡ Store
+            → MoreFailures (failures_of self.old) (failures_of self.new)) }
         ensures cause { IfErr result (λ e. e.kind ≡ Store → caused self.old self.new) };
 
     /// The run that is kept under a key.
@@ -71,43 +73,51 @@ pub trait RowStore {
         ensures open { is_honest self.new → OnOk result (is_open self.new) }
         ensures same { Keeps is_honest is_open image shows may_leave failures_of self.old self.new }
         ensures lost { IfErr result IsLost }
-        ensures failed { IfErr result (λ e. e.kind ≡ Store → MoreFailures (failures_of self.old) (failures_of self.new)) }
+        ensures failed { IfErr result (λ e. e.kind ≡ Store
+            → MoreFailures (failures_of self.old) (failures_of self.new)) }
         ensures cause { IfErr result (λ e. e.kind ≡ Store → caused self.old self.new) };
 
     /// The number up to which a site has settled, 0 where it never did.
     fn mark(&mut self, alloc: Global, site: &str) -> Result<u64, Fault>
-        ensures found { is_honest self.new → IfOk result (λ found. (rows : Rows) → shows (image self.old) rows → found ≡ mark_at site.now rows) }
+        ensures found { is_honest self.new
+            → IfOk result (λ found. (rows : Rows) → shows (image self.old) rows → found ≡ mark_at site.now rows) }
         ensures open { is_honest self.new → OnOk result (is_open self.new) }
         ensures same { Keeps is_honest is_open image shows may_leave failures_of self.old self.new }
         ensures lost { IfErr result IsLost }
-        ensures failed { IfErr result (λ e. e.kind ≡ Store → MoreFailures (failures_of self.old) (failures_of self.new)) }
+        ensures failed { IfErr result (λ e. e.kind ≡ Store
+            → MoreFailures (failures_of self.old) (failures_of self.new)) }
         ensures cause { IfErr result (λ e. e.kind ≡ Store → caused self.old self.new) };
 
-    /// Carries out row changes and keeps the run that brought them, in one transaction. The changes have to fit the tables: no
+    /// Carries out row changes and keeps the run that brought them, in one transaction. The changes have to fit the
+    /// tables: no
     /// clause says what others leave.
     fn commit(&mut self, alloc: Global, changes: &[Change], run: RunRow) -> Result<(), Fault>
         requires new_key { is_honest self.old → is_open self.old → (rows : Rows) → shows (image self.old) rows
             → run_at run.site run.number rows ≡ None }
         ensures done { is_honest self.new → OnOk result ((rows : Rows) → shows (image self.old) rows
-            → AllFit (map change_seen changes.now) rows → shows (image self.new) (committed (map change_seen changes.now) run rows)) }
+            → AllFit (map change_seen changes.now) rows
+            → shows (image self.new) (committed (map change_seen changes.now) run rows)) }
         ensures open { is_honest self.new → OnOk result (is_open self.new) }
         ensures undone { is_honest self.new → is_open self.new → OnErr result (image self.new ≡ image self.old) }
         ensures crash { Tries is_honest is_open image shows may_leave failures_of
             (AllFit (map change_seen changes.now)) (committed (map change_seen changes.now) run) self.old self.new }
         ensures lost { IfErr result IsLost }
-        ensures failed { IfErr result (λ e. e.kind ≡ Store → MoreFailures (failures_of self.old) (failures_of self.new)) }
+        ensures failed { IfErr result (λ e. e.kind ≡ Store
+            → MoreFailures (failures_of self.old) (failures_of self.new)) }
         ensures cause { IfErr result (λ e. e.kind ≡ Store → caused self.old self.new) };
 
     /// Settles a site's runs up to a number, and answers the site's mark afterwards.
     fn settle_to(&mut self, alloc: Global, site: &str, number: u64) -> Result<u64, Fault>
         ensures done { is_honest self.new → IfOk result (λ mark. (rows : Rows) → shows (image self.old) rows
-            → (mark ≡ mark_at site.now (settled_to site.now number rows)) × shows (image self.new) (settled_to site.now number rows)) }
+            → (mark ≡ mark_at site.now (settled_to site.now number rows))
+            × shows (image self.new) (settled_to site.now number rows)) }
         ensures open { is_honest self.new → OnOk result (is_open self.new) }
         ensures undone { is_honest self.new → is_open self.new → OnErr result (image self.new ≡ image self.old) }
         ensures crash { Tries is_honest is_open image shows may_leave failures_of
             (λ _. Unit {0}) (settled_to site.now number) self.old self.new }
         ensures lost { IfErr result IsLost }
-        ensures failed { IfErr result (λ e. e.kind ≡ Store → MoreFailures (failures_of self.old) (failures_of self.new)) }
+        ensures failed { IfErr result (λ e. e.kind ≡ Store
+            → MoreFailures (failures_of self.old) (failures_of self.new)) }
         ensures cause { IfErr result (λ e. e.kind ≡ Store → caused self.old self.new) };
 
     /// How often the store has failed; it stops at the last value.

@@ -1,9 +1,11 @@
 //! Common decks, calls and modes.
 ghost use Rattle.std.specs.Prelude.{◌≡◌, ◌++◌, [], ◌∷◌, codes, Ok};
-ghost use Rattle.upd_text.specs.declared.fault.FaultKind.TheVariants.{CallDepth, CallUnknown, NoIdent, RangeOrder, Reserved};
+ghost use Rattle.upd_text.specs.declared.fault.FaultKind.TheVariants.{CallDepth, CallUnknown, NoIdent, RangeOrder};
+ghost use Rattle.upd_text.specs.declared.fault.FaultKind.TheVariants.{Reserved};
 ghost use Rattle.upd_compile.specs.declared.mode.Mode.TheVariants.{Full, Normal, Quick};
 ghost use Rattle.upd_worked.specs.Worked.{active_after, after, changed_by, compiled, file_after, refused};
-ghost use Rattle.upd_worked.specs.Yanked.{called_by_two, chained, grown_common, noprop_between, with_common, with_noprop};
+ghost use Rattle.upd_worked.specs.Yanked.{called_by_two, chained, grown_common, noprop_between, with_common};
+ghost use Rattle.upd_worked.specs.Yanked.{with_noprop};
 
 /// Which decks the modes choose.
 pub fn modes()

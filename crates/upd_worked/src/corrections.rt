@@ -1,6 +1,7 @@
 //! Insertions, deletions and restorations.
 ghost use Rattle.std.specs.Prelude.{◌≡◌, ◌++◌, [], ◌∷◌, codes, Ok};
-ghost use Rattle.upd_text.specs.declared.fault.FaultKind.TheVariants.{CardUnknown, DeckCard, NoIdent, RangeOrder, TextNowhere};
+ghost use Rattle.upd_text.specs.declared.fault.FaultKind.TheVariants.{CardUnknown, DeckCard, NoIdent, RangeOrder};
+ghost use Rattle.upd_text.specs.declared.fault.FaultKind.TheVariants.{TextNowhere};
 ghost use Rattle.upd_compile.specs.declared.mode.Mode.TheVariants.{Full};
 ghost use Rattle.upd_compile.specs.File.{blanks};
 ghost use Rattle.upd_worked.specs.Worked.{active_after, after, deck_a, file_after, refused};

@@ -1,6 +1,7 @@
 //! Purges, purging back, and names that come again.
 ghost use Rattle.std.specs.Prelude.{◌≡◌, ◌++◌, [], ◌∷◌, codes, Ok};
-ghost use Rattle.upd_text.specs.declared.fault.FaultKind.TheVariants.{BadName, CardUnknown, DeckCard, NoIdent, RangeOrder, Reserved};
+ghost use Rattle.upd_text.specs.declared.fault.FaultKind.TheVariants.{BadName, CardUnknown, DeckCard, NoIdent};
+ghost use Rattle.upd_text.specs.declared.fault.FaultKind.TheVariants.{RangeOrder, Reserved};
 ghost use Rattle.upd_core.specs.Edits.{purged_back};
 ghost use Rattle.upd_compile.specs.Listings.{card_listing, deck_listing, ident_listing, yank_listing};
 ghost use Rattle.upd_worked.specs.Worked.{active_after, after, asked, card, deck_a, refused, told};

@@ -1,6 +1,7 @@
 //! Lines and fields.
 ghost use Rattle.std.specs.Prelude.{◌≡◌, ◌++◌, [], ◌∷◌, codes, replicate, Ok};
-ghost use Rattle.upd_text.specs.declared.fault.FaultKind.TheVariants.{BadByte, BadCard, BadField, BadName, LineLong, Reserved};
+ghost use Rattle.upd_text.specs.declared.fault.FaultKind.TheVariants.{BadByte, BadCard, BadField, BadName, LineLong};
+ghost use Rattle.upd_text.specs.declared.fault.FaultKind.TheVariants.{Reserved};
 ghost use Rattle.upd_compile.specs.Listings.{deck_listing};
 ghost use Rattle.upd_worked.specs.Worked.{after, deck_a, refused, told};
 

@@ -1,6 +1,7 @@
 //! Yanks, and corrections of yanks.
 ghost use Rattle.std.specs.Prelude.{◌≡◌, ◌++◌, [], ◌∷◌, codes, Ok};
-ghost use Rattle.upd_text.specs.declared.fault.FaultKind.TheVariants.{DeckUnknown, IdentUnknown, RangeOrder, YankSelf, YankText};
+ghost use Rattle.upd_text.specs.declared.fault.FaultKind.TheVariants.{DeckUnknown, IdentUnknown, RangeOrder, YankSelf};
+ghost use Rattle.upd_text.specs.declared.fault.FaultKind.TheVariants.{YankText};
 ghost use Rattle.upd_core.specs.declared.target.Target.TheVariants.{Set};
 ghost use Rattle.upd_compile.specs.Listings.{card_listing, deck_listing, ident_listing, yank_listing};
 ghost use Rattle.upd_worked.specs.Worked.{active_after, after, asked, card, deck_a, live_count, refused, told};

@@ -8,11 +8,13 @@ use Rattle.upd_tables.proofs.Answers.{shown_keeps, fails_keeps, late_keeps, show
 use Rattle.upd_tables.proofs.ask.Goals as goal
 
 keeps : {X : Type 0} (items : X → List Row) (sql : List ℕ) (params : Row) (old new : State) (r : Result X Error) → IsTrue old.in_transaction
-    → IfOk r (λ rows. Shown sql params old new (items rows)) → IfErr r (λ e. FailsToQuery sql params old new e ⊎ IsTooLate sql params old new e) → KeepsCommit old new
+    → IfOk r (λ rows. Shown sql params old new (items rows)) → IfErr r (λ e. FailsToQuery sql params old new e ⊎ IsTooLate sql params old new e)
+    → KeepsCommit old new
 keeps items sql params old new (Ok rows) inside ok err = shown_keeps sql params old new inside (items rows) ok
 keeps items sql params old new (Err e) inside ok err = elim err [ inl fails ↦ fails_keeps sql params old new inside e fails | inr late ↦ late_keeps sql params old new inside e late ]
 
-goes_on : {X : Type 0} (items : X → List Row) (sql : List ℕ) (params : Row) (old new : State) (r : Result X Error) → IfOk r (λ rows. Shown sql params old new (items rows))
+goes_on : {X : Type 0} (items : X → List Row) (sql : List ℕ) (params : Row) (old new : State) (r : Result X Error)
+    → IfOk r (λ rows. Shown sql params old new (items rows))
     → OnOk r (IsTrue old.in_transaction → IsTrue new.in_transaction)
 goes_on items sql params old new (Ok rows) ok = λ inside. shown_going sql params old new (items rows) ok ∙ inside
 goes_on items sql params old new (Err e) ok = tt

@@ -16,7 +16,9 @@ returns-in-Some c = λ apart.
     let xs = c.args.before.now in
     let d = c.index-before-i.result in
     let old : c.old.inside.history.items ≡ (get_or xs c.in-Some.i d).history = ap (λ (b : CardView). b.history) (c.old.view_is ∙ c.index-before-i.is) in
-    let said : c.is_same_history.result ≡ same (get_or xs c.in-Some.i d) = c.is_same_history.ensures ∙ ap (λ h. same_history h c.deref-in-Some.result.now) (c.deref.ensures.value ∙ old) ∙ ap (λ h. same_history (get_or xs c.in-Some.i d).history h) c.deref-in-Some.ensures.value in
+    let said : c.is_same_history.result ≡ same (get_or xs c.in-Some.i d) = c.is_same_history.ensures
+    ∙ ap (λ h. same_history h c.deref-in-Some.result.now) (c.deref.ensures.value ∙ old)
+    ∙ ap (λ h. same_history (get_or xs c.in-Some.i d).history h) c.deref-in-Some.ensures.value in
     rw (← c.card.view_is) (ap not (said ∙ sym (stood_at c.card.inside.ident c.card.inside.number same xs c.in-Some.i d apart c.in-Some.ensures.0 (c.in-Some.ensures.1 d))))
 
 pub returns-in-None : goal.returns-in-None

@@ -6,4 +6,5 @@ use Rattle.upd_change.proofs.told.add_all_gone.Given as goal
 
 abbrev pub invariant-loop-deck : goal.invariant-loop-deck
 invariant-loop-deck l =
-    map change_seen l.changes.items ++ flat_map (λ k. flat_map (gone_of l.idents) k.fates) (drop l.deck-index l.decks) ≡ map change_seen l.initial.changes.items ++ flat_map (λ k. flat_map (gone_of l.idents) k.fates) l.decks
+    map change_seen l.changes.items ++ flat_map (λ k. flat_map (gone_of l.idents) k.fates) (drop l.deck-index l.decks)
+    ≡ map change_seen l.initial.changes.items ++ flat_map (λ k. flat_map (gone_of l.idents) k.fates) l.decks

@@ -7,4 +7,5 @@ use Rattle.upd_change.proofs.told.add_gone.Given as goal
 
 abbrev pub invariant-loop-fate : goal.invariant-loop-fate
 invariant-loop-fate l =
-    map change_seen l.changes.items ++ flat_map (gone_of l.idents) (map fate_seen (drop l.fate-index l.fates)) ≡ map change_seen l.initial.changes.items ++ flat_map (gone_of l.idents) (map fate_seen l.fates)
+    map change_seen l.changes.items ++ flat_map (gone_of l.idents) (map fate_seen (drop l.fate-index l.fates)) ≡ map change_seen l.initial.changes.items
+    ++ flat_map (gone_of l.idents) (map fate_seen l.fates)

@@ -9,5 +9,6 @@ pub returns : goal.returns
 returns c =
     let end : drop c.loop-i.i c.args.after.now ≡ [] = drop_all c.loop-i.i c.args.after.now (omega arith) in
     sym (append-nil (map change_seen c.loop-i.changes.items))
-    ∙ ap (λ t. map change_seen c.loop-i.changes.items ++ t) (sym (no_idents_more (drop c.loop-i.i c.args.before.now)) ∙ ap (idents_told (drop c.loop-i.i c.args.before.now)) (sym end))
+    ∙ ap (λ t. map change_seen c.loop-i.changes.items ++ t) (sym (no_idents_more (drop c.loop-i.i c.args.before.now))
+    ∙ ap (idents_told (drop c.loop-i.i c.args.before.now)) (sym end))
     ∙ c.loop-i.invariant

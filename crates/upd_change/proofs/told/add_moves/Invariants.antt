@@ -6,4 +6,6 @@ use Rattle.upd_change.proofs.told.add_moves.Given as goal
 
 abbrev pub invariant-loop-fate : goal.invariant-loop-fate
 invariant-loop-fate l =
-    (l.from ≤ l.fate-index) × (l.to ≤ l.fate-index) × (map change_seen l.changes.items ++ moves l.deck l.from l.to (map fate_seen (drop l.fate-index l.fates)) ≡ map change_seen l.initial.changes.items ++ moves l.deck 0 0 (map fate_seen l.fates))
+    (l.from ≤ l.fate-index) × (l.to ≤ l.fate-index) × (map change_seen l.changes.items
+    ++ moves l.deck l.from l.to (map fate_seen (drop l.fate-index l.fates)) ≡ map change_seen l.initial.changes.items
+    ++ moves l.deck 0 0 (map fate_seen l.fates))

@@ -5,4 +5,5 @@ use Rattle.upd_change.proofs.told.add_targets.Given as goal
 
 abbrev pub invariant-loop-ord : goal.invariant-loop-ord
 invariant-loop-ord l =
-    map change_seen l.changes.items ++ targets_new l.card l.ord (drop l.ord l.targets) ≡ map change_seen l.initial.changes.items ++ targets_new l.card 0 l.targets
+    map change_seen l.changes.items ++ targets_new l.card l.ord (drop l.ord l.targets) ≡ map change_seen l.initial.changes.items
+    ++ targets_new l.card 0 l.targets
