@@ -15,6 +15,8 @@ mod corrections;
 #[cfg(test)]
 mod edits;
 #[cfg(test)]
+mod kept;
+#[cfg(test)]
 mod limits;
 #[cfg(test)]
 mod parts;
