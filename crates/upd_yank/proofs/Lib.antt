@@ -9,3 +9,4 @@ pub mod StateLemmas
 pub mod RightLemmas
 pub mod LeftLemmas
 pub mod RowLemmas
+pub mod ReachLemmas

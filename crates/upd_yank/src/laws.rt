@@ -1,12 +1,12 @@
 //! What the cascade rests on.
 
-ghost use Rattle.std.specs.Prelude.{◌≡◌, ℕ, false, Some, List};
+ghost use Rattle.std.specs.Prelude.{◌≡◌, ◌↔◌, ℕ, true, false, Some, List};
 ghost use Rattle.std.specs.List.{Contains};
 ghost use Rattle.upd_apply.specs.Applying.{touched};
 ghost use Rattle.upd_core.specs.declared.target.Target.{Target};
 ghost use Rattle.upd_core.specs.Counted.{counted_card};
 ghost use Rattle.upd_core.specs.Library.{CardView, DeckView, LibraryView, all_decks, ref_of};
-ghost use Rattle.upd_core.specs.Reach.{is_reached};
+ghost use Rattle.upd_core.specs.Reach.{covers, is_flipped, is_reached};
 ghost use Rattle.upd_core.specs.Sound.{Continues, IsSound};
 ghost use Rattle.upd_core.specs.Status.{is_active, status_of, targets_of};
 ghost use Rattle.upd_core.specs.TargetCounts.{count_on, live_count};
@@ -27,4 +27,10 @@ pub fn untouched_cards_stood()
         Contains (all_decks new) d → Contains d.cards c → is_touched (touched old new)
         (counted_card new.idents d.ident c) ≡ false →
         status_of (ref_of new.idents c) old ≡ Some (is_active_by (live_count old) d.ident c) }
+{}
+
+/// A card is reached exactly where a target covers it whose count is 0 before or now, and not both.
+pub fn what_flipped_covers_is_reached()
+    ensures { (before now : Target → ℕ) (d : ℕ) (c : CardView) → (is_reached before now d c ≡ true)
+        ↔ ((t : Target) × (is_flipped before now t ≡ true) × (covers d c t ≡ true)) }
 {}
