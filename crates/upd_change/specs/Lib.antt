@@ -2,3 +2,4 @@ pub mod Rows
 pub mod Changes
 pub mod Fates
 pub mod Told
+pub mod Fits

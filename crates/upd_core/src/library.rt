@@ -82,6 +82,25 @@ impl Library {
         }
     }
 
+    /// A library of these parts.
+    pub fn of_parts(idents: Vec<Ident>, decks: Vec<Deck>, yanks: Vec<Card>, rest: Rest) -> Library
+        ensures { result ≡ record {
+          idents = idents.items;
+          decks = decks.items;
+          yanks = yanks.items;
+          rest = rest;
+        } }
+    {
+        let counts = Counts::of(&idents, &decks, &yanks, rest);
+        Library {
+            idents,
+            decks,
+            yanks,
+            rest,
+            counts,
+        }
+    }
+
     /// A library with the same contents; memory alone can fail.
     pub fn copy(&self) -> Result<Library, Fault>
         ensures ok { IfOk result (λ copy. copy ≡ self.now) }

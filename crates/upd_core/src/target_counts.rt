@@ -63,6 +63,17 @@ impl TargetCounts {
         Ok(())
     }
 
+    /// The counts that have been set, by target; memory alone can fail.
+    pub fn all(&self, alloc: Global) -> Result<Vec<(Target, u32)>, AllocError>
+        ensures { IfOk result (λ all. all.items ≡ self.now) }
+    {
+        let mut all = Vec::with_capacity(alloc, self.counts.len())?;
+        for (target, count) in &self.counts {
+            all.push((*target, *count))?;
+        }
+        Ok(all)
+    }
+
     /// One more for each of these targets; memory alone can fail. A count stays at `u32::MAX`.
     pub fn raise(&mut self, targets: &[Target]) -> Result<(), AllocError>
         ensures { OnOk result ((t : Target) → count_in self.old t + count_by (is_same t) targets.now < 2 ^ 32 →

@@ -1,5 +1,5 @@
 -- A library of which some decks aren't loaded.
-use Rattle.std.specs.Prelude.{◌≡◌, ℕ, ◌+◌, Bool, not, List, length, sum_by}
+use Rattle.std.specs.Prelude.{ℕ, ◌+◌, Bool, not, List, length, sum_by}
 use Rattle.std.specs.List.{filter}
 use Rattle.upd_core.specs.Edits.{is_among}
 use Rattle.upd_core.specs.Library.{DeckView, LibraryView}
@@ -25,7 +25,3 @@ part out l = record l {
 -- the library with the decks of these ages alone, and `YANK$$$`
 abbrev pub part_of : List ℕ → LibraryView → LibraryView
 part_of ages l = part (λ d. not (is_among ages d)) l
-
--- a library with all its decks
-abbrev pub IsWhole : LibraryView → Type 0
-IsWhole l = (l.rest.cards ≡ 0) × (l.rest.entries ≡ 0)

@@ -1,9 +1,12 @@
--- What the tables keep of runs and settled marks, and what a commit and a settlement make of the tables.
-use Rattle.std.specs.Prelude.{ℕ, ◌==◌, nat_le, Bool, not, ◌&&◌, if◌then◌else◌, List, [], ◌∷◌, ◌++◌, Option}
+-- What the tables keep of runs, settled marks and statuses, and what a commit and a settlement make of the tables.
+use Rattle.std.specs.Prelude.{ℕ, ◌==◌, nat_le, Bool, not, ◌&&◌, if◌then◌else◌, List, [], ◌∷◌, ◌++◌, map, Option}
 use Rattle.std.specs.Option.{option_map_or}
 use Rattle.std.specs.Str.{bytes_eq}
 use Rattle.std.specs.List.{find, filter}
-use Rattle.upd_change.specs.Rows.{RunView, MarkRow, Rows}
+use Rattle.upd_text.specs.declared.card_ref.CardRef.{CardRef}
+use Rattle.upd_core.specs.declared.states.States.{States}
+use Rattle.upd_core.specs.declared.target.Target.{Target}
+use Rattle.upd_change.specs.Rows.{CountRow, IsSame, MarkRow, Rows, RunView, StateRow}
 use Rattle.upd_change.specs.Changes.{ChangeView, done_all}
 
 -- whether a run is the one of a key, that is of a site and a number
@@ -43,3 +46,15 @@ settled_to site n rows =
       runs = filter (λ r. not (is_settled site n r)) rows.runs;
       settled = filter (λ m. not (is_mark_of site m)) rows.settled ++ record { site = site; mark = n } ∷ [];
     }
+
+-- a card with its status, and a target with its count
+abbrev pub state_pair : StateRow → CardRef × Bool
+state_pair r = (r.card, r.active)
+
+abbrev pub count_pair : CountRow → Target × ℕ
+count_pair r = (r.target, r.n)
+
+-- Statuses and counts that were read from tables: those of their rows, as often, in whatever order.
+pub record AreRead (rows : Rows) (found : States) : Type 0 where
+  pub states : IsSame found.states.items (map state_pair rows.states)
+  pub counts : IsSame found.counts.items (map count_pair rows.counts)

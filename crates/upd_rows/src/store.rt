@@ -2,17 +2,17 @@
 ghost use Rattle.std.specs.Prelude.{◌≡◌, ℕ, None, IfErr, IfOk, OnErr, OnOk, map};
 ghost use Rattle.upd_text.specs.declared.fault.FaultKind.TheVariants.{Store};
 ghost use Rattle.upd_core.specs.Library.{LibraryView};
-ghost use Rattle.upd_core.specs.Sound.{IsSound};
+ghost use Rattle.upd_core.specs.Sound.{IsSound, IsWhole};
 ghost use Rattle.upd_change.specs.Changes.{change_seen};
 ghost use Rattle.upd_change.specs.Rows.{Rows, Shows};
-ghost use Rattle.upd_rows.specs.Fits.{AllFit};
+ghost use Rattle.upd_change.specs.Fits.{AllFit};
 ghost use Rattle.upd_rows.specs.Keeping.{IsLost, Keeps, MoreFailures, Tries};
-ghost use Rattle.upd_rows.specs.Parts.{IsWhole, part_of};
-ghost use Rattle.upd_rows.specs.Tables.{committed, mark_at, run_at, settled_to};
+ghost use Rattle.upd_rows.specs.Parts.{part_of};
+ghost use Rattle.upd_rows.specs.Tables.{AreRead, committed, mark_at, run_at, settled_to};
 
 use std::alloc::Global;
 use upd_change::{Change, RunRow};
-use upd_core::{Library, Serial};
+use upd_core::{Library, Serial, States};
 use upd_text::Fault;
 
 /// Tables of rows that are changed by commits, each of which is all or nothing, also where the machine stops.
@@ -59,6 +59,17 @@ pub trait RowStore {
     fn load_decks(&mut self, alloc: Global, decks: &[Serial]) -> Result<Library, Fault>
         ensures found { is_honest self.new → IfOk result (λ found. (l : LibraryView) → IsSound l → IsWhole l
             → (rows : Rows) → shows (image self.old) rows → Shows rows l → found ≡ part_of decks.now l) }
+        ensures open { is_honest self.new → OnOk result (is_open self.new) }
+        ensures same { Keeps is_honest is_open image shows may_leave failures_of self.old self.new }
+        ensures lost { IfErr result IsLost }
+        ensures failed { IfErr result (λ e. e.kind ≡ Store
+            → MoreFailures (failures_of self.old) (failures_of self.new)) }
+        ensures cause { IfErr result (λ e. e.kind ≡ Store → caused self.old self.new) };
+
+    /// The status of each card and the count of each target that a live yank card has.
+    fn load_states(&mut self, alloc: Global) -> Result<States, Fault>
+        ensures found { is_honest self.new → IfOk result (λ found. (rows : Rows) → shows (image self.old) rows
+            → AreRead rows found) }
         ensures open { is_honest self.new → OnOk result (is_open self.new) }
         ensures same { Keeps is_honest is_open image shows may_leave failures_of self.old self.new }
         ensures lost { IfErr result IsLost }

@@ -5,7 +5,7 @@ use Rattle.sqlite.specs.State.{State}
 use Rattle.upd_change.specs.declared.change.Change.{Change}
 use Rattle.upd_change.specs.Changes.{ChangeView, done, done_all, change_seen}
 use Rattle.upd_change.specs.Rows.{Rows}
-use Rattle.upd_rows.specs.Fits.{Fits, AllFit}
+use Rattle.upd_change.specs.Fits.{Fits, AllFit}
 use Rattle.upd_tables.specs.Steps.{Makes}
 use Rattle.upd_tables.proofs.Chains.{makes_then, makes_as}
 use Rattle.upd_sql.specs.Stands.{Stands}

@@ -2,7 +2,7 @@
 ghost use Rattle.std.specs.Prelude.{◌≡◌, map};
 ghost use Rattle.sqlite.specs.Held.{state};
 ghost use Rattle.upd_change.specs.Changes.{done, done_all, change_seen, CardGone, CardsMoved, CountNow, StatusNow};
-ghost use Rattle.upd_rows.specs.Fits.{AllFit, Fits};
+ghost use Rattle.upd_change.specs.Fits.{AllFit, Fits};
 ghost use Rattle.upd_tables.specs.Steps.{Makes};
 ghost use Rattle.upd_sql.specs.Stands.{AnyTables, Stands};
 

@@ -3,7 +3,7 @@ ghost use Rattle.std.specs.Prelude.{◌≡◌, false, map, IsTrue, OnErr, OnOk};
 ghost use Rattle.sqlite.specs.Held.{state};
 ghost use Rattle.sqlite.specs.State.{HasCleanDisk, Survives};
 ghost use Rattle.upd_change.specs.Changes.{change_seen};
-ghost use Rattle.upd_rows.specs.Fits.{AllFit};
+ghost use Rattle.upd_change.specs.Fits.{AllFit};
 ghost use Rattle.upd_rows.specs.Tables.{committed};
 ghost use Rattle.upd_sql.specs.Commits.{Commits, MayCommit};
 

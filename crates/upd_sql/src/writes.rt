@@ -3,7 +3,7 @@ ghost use Rattle.std.specs.Prelude.{◌≡◌, ◌<◌, ◌-◌, pos, negsuc, []
 ghost use Rattle.sqlite.specs.Held.{state};
 ghost use Rattle.upd_change.specs.Changes.{done, CardNew, CardsMoved, EntriesGone, EntryNew, IdentNew, IdentPurged};
 ghost use Rattle.upd_change.specs.Changes.{TargetNew, TargetsGone};
-ghost use Rattle.upd_rows.specs.Fits.{Fits};
+ghost use Rattle.upd_change.specs.Fits.{Fits};
 ghost use Rattle.upd_rows.specs.Tables.{with_run};
 ghost use Rattle.upd_tables.specs.Steps.{Makes};
 ghost use Rattle.upd_sql.specs.Parts.{with_count, with_mark, with_state, without_card, without_count, without_mark};

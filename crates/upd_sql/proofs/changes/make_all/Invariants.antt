@@ -1,7 +1,7 @@
 use Rattle.std.proofs.Common.{◌≡◌, map, take, Ok}
 use Rattle.sqlite.specs.Held.{state}
 use Rattle.upd_change.specs.Changes.{done_all, change_seen}
-use Rattle.upd_rows.specs.Fits.{AllFit}
+use Rattle.upd_change.specs.Fits.{AllFit}
 use Rattle.upd_tables.specs.Steps.{Makes}
 use Rattle.upd_sql.specs.Stands.{Stands}
 use Rattle.upd_sql.proofs.changes.make_all.Given as goal

@@ -3,7 +3,7 @@ use Rattle.sqlite.specs.Held.{state}
 use Rattle.sqlite.specs.State.{HasCleanDisk, Survives}
 use Rattle.sqlite.proofs.Callers.{survives_begin}
 use Rattle.upd_change.specs.Changes.{change_seen, done_all}
-use Rattle.upd_rows.specs.Fits.{AllFit}
+use Rattle.upd_change.specs.Fits.{AllFit}
 use Rattle.upd_rows.specs.Tables.{committed, with_run}
 use Rattle.upd_tables.specs.Steps.{Makes}
 use Rattle.upd_tables.proofs.Chains.{makes_then, makes_as}
