@@ -3,6 +3,7 @@ ghost use Rattle.std.specs.Prelude.{◌≡◌, ◌+◌, ◌^◌, ◌<◌, map, d
 ghost use Rattle.upd_core.specs.Edits.{purged_back};
 ghost use Rattle.upd_change.specs.Changes.{change_seen, done_all};
 ghost use Rattle.upd_change.specs.Rows.{Rows, Shows};
+ghost use Rattle.upd_change.specs.States.{TakeGone};
 ghost use Rattle.upd_core.specs.Sound.{AreApart, Continues, IsSound, all_cards, key_of};
 ghost use Rattle.upd_text.specs.Outcome.{DoesAt, FailsAt, GivesAt, at_line};
 ghost use Rattle.upd_apply.specs.Applying.{applied, brought, stepped, touched};
@@ -41,6 +42,8 @@ pub fn apply(alloc: Global, library: &mut Library, run: &Run) -> Result<Applied,
         → IfOk result (λ a. a.touched.items ≡ touched library.old library.new) }
     ensures changes { (rows : Rows) → IsSound library.old → Shows rows library.old
         → IfOk result (λ a. Shows (done_all (map change_seen a.changes.items) rows) library.new) }
+    ensures states { IsSound library.old → IsSound library.new
+        → IfOk result (λ a. TakeGone library.old library.new (map change_seen a.changes.items)) }
     ensures refused { IfErr result (λ fault. FailsAt fault (applied run.now library.old)) }
     ensures err { OnErr result (library.new ≡ library.old) }
 {
@@ -65,6 +68,8 @@ fn outcome(
     ensures changes { (rows : Rows) → IsSound before.now → Continues before.now.idents after.now.idents
         → Shows rows before.now
         → IfOk result (λ a. Shows (done_all (map change_seen a.changes.items) rows) after.now) }
+    ensures states { IsSound before.now → IsSound after.now → Continues before.now.idents after.now.idents
+        → IfOk result (λ a. TakeGone before.now after.now (map change_seen a.changes.items)) }
 {
     let compile = named_decks(alloc, after, lines)?;
     let idents = ages_from(alloc, after.idents(), before.idents().len())?;

@@ -8,3 +8,4 @@ pub mod ToldLemmas
 pub mod FateLemmas
 pub mod LoopLemmas
 pub mod LeadLemmas
+pub mod StateLemmas

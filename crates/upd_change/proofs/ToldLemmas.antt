@@ -138,7 +138,7 @@ module _ (idents : List Ident) (ks : List DeckFatesView) where
 
 -- ---- lists of lists
 
-flat_twice : {A B C : Type 0} (f : B → List C) (g : A → List B) (xs : List A) → flat_map f (flat_map g xs) ≡ flat_map (λ x. flat_map f (g x)) xs
+pub flat_twice : {A B C : Type 0} (f : B → List C) (g : A → List B) (xs : List A) → flat_map f (flat_map g xs) ≡ flat_map (λ x. flat_map f (g x)) xs
 flat_twice f g [] = refl
 flat_twice f g (x ∷ xs) = flat_map-append f (g x) (flat_map g xs) ∙ ap (λ t. flat_map f (g x) ++ t) (flat_twice f g xs)
 
@@ -221,16 +221,16 @@ apart_filter f test (x ∷ xs) apart = go (test x) (all_kept_of (λ y. f x ≡ y
 -- ---- the law
 
 module _ (old new : LibraryView) (ks : List DeckFatesView) (sound : IsSound old) (goes : Continues old.idents new.idents) (lead : Lead (all_decks old) (all_decks new) ks) where
-  abbrev fates : List FateView
+  abbrev pub fates : List FateView
   fates = flat_map (λ k. k.fates) ks
 
-  before_is : flat_map card_before fates ≡ all_cards old
+  pub before_is : flat_map card_before fates ≡ all_cards old
   before_is = flat_twice card_before (λ k. k.fates) ks ∙ same_standing (λ d. d.cards) (λ d. refl) deck_before ks (all_decks old) lead.olds
 
-  after_is : flat_map card_after fates ≡ all_cards new
+  pub after_is : flat_map card_after fates ≡ all_cards new
   after_is = flat_twice card_after (λ k. k.fates) ks ∙ same_standing (λ d. d.cards) (λ d. refl) deck_after ks (all_decks new) lead.news
 
-  stay : AllByRecursion (λ c. ref_of new.idents c ≡ ref_of old.idents c) (all_cards old)
+  pub stay : AllByRecursion (λ c. ref_of new.idents c ≡ ref_of old.idents c) (all_cards old)
   stay = refs_stay old new.idents sound goes (all_cards old) sound.cards
 
   apart : AreApart (map (ref_of new.idents) (flat_map card_before fates))
@@ -240,7 +240,7 @@ module _ (old new : LibraryView) (ks : List DeckFatesView) (sound : IsSound old)
   fit : (mark : FateView → Bool) → AllByRecursion (Fits new.idents mark (keys new.idents ks mark)) fates
   fit mark = subst (λ keys. AllByRecursion (Fits new.idents mark keys) fates) (flat_twice (key_of new.idents mark) (λ k. k.fates) ks) (keys_fit new.idents mark fates apart)
 
-  all_kept : AllByRecursion IsKept fates
+  pub all_kept : AllByRecursion IsKept fates
   all_kept = all_flat IsKept (λ k. k.fates) ks lead.kept
 
   ages_apart : AreApart (ages_before ks)

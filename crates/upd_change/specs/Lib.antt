@@ -3,3 +3,4 @@ pub mod Changes
 pub mod Fates
 pub mod Told
 pub mod Fits
+pub mod States

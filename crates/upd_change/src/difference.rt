@@ -4,6 +4,7 @@ ghost use Rattle.std.specs.Option.{option_map_or};
 ghost use Rattle.upd_core.specs.Sound.{Continues, IsSound};
 ghost use Rattle.upd_change.specs.Changes.{change_seen, done_all};
 ghost use Rattle.upd_change.specs.Rows.{Rows, Shows};
+ghost use Rattle.upd_change.specs.States.{TakeGone};
 
 use crate::change::Change;
 use crate::decks::library_fates;
@@ -16,8 +17,11 @@ use upd_core::{Ident, Library, Serial};
 /// that comes. What comes or goes at one place of a deck is one move. Memory alone can fail, where a deck has 2^32
 /// cards or more as well.
 pub fn changes(alloc: Global, before: &Library, after: &Library) -> Result<Vec<Change>, AllocError>
-    ensures { (rows : Rows) → IsSound before.now → Continues before.now.idents after.now.idents → Shows rows before.now
+    ensures shows { (rows : Rows) → IsSound before.now → Continues before.now.idents after.now.idents
+        → Shows rows before.now
         → IfOk result (λ changes. Shows (done_all (map change_seen changes.items) rows) after.now) }
+    ensures states { IsSound before.now → IsSound after.now → Continues before.now.idents after.now.idents
+        → IfOk result (λ changes. TakeGone before.now after.now (map change_seen changes.items)) }
 {
     let idents = before.idents();
     let decks = library_fates(alloc, youngest(idents), before, after)?;
