@@ -5,6 +5,7 @@
 //! the clauses deck A is the deck of three lines that `deck_a` brings.
 #![tactic(auto)]
 
+pub mod changes;
 pub mod commons;
 pub mod corrections;
 pub mod purges;

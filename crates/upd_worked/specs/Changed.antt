@@ -1,0 +1,71 @@
+-- What row changes that are written out make of the tables of a library.
+use Rattle.std.specs.Prelude.{ℕ, ◌==◌, nat_lt, Bool, true, false, ◌&&◌, ◌||◌, if◌then◌else◌, List, [], ◌∷◌, ◌++◌, Result}
+use Rattle.upd_core.specs.declared.ident.Ident.{Ident}
+use Rattle.upd_core.specs.declared.ident.Kind.{Kind}
+use Rattle.upd_core.specs.declared.card.Entry.{Entry}
+use Rattle.upd_text.specs.declared.fault.Fault.{Fault}
+use Rattle.upd_change.specs.Rows.{CardRow, EntryRow, Rows, TargetRow, rows_of}
+use Rattle.upd_change.specs.Changes.{ChangeView, done_all}
+use Rattle.upd_worked.specs.Worked.{asked}
+
+-- whether a key comes before another: by their first numbers that differ, or as its beginning
+abbrev pub is_less : List ℕ → List ℕ → Bool
+is_less [] [] = false
+is_less [] (m ∷ ms) = true
+is_less (n ∷ ns) [] = false
+is_less (n ∷ ns) (m ∷ ms) = nat_lt n m || ((n == m) && is_less ns ms)
+
+module _ {A : Type 0} (key : A → List ℕ) where
+  -- a row put before the first one of a greater key
+  abbrev pub placed : A → List A → List A
+  placed x [] = x ∷ []
+  placed x (y ∷ ys) = if is_less (key x) (key y) then x ∷ y ∷ ys else y ∷ placed x ys
+
+  -- rows in order of their keys
+  abbrev pub by_key : List A → List A
+  by_key [] = []
+  by_key (x ∷ xs) = placed x (by_key xs)
+
+-- ---- the keys of the tables
+
+abbrev pub ident_key : Ident → List ℕ
+ident_key i = i.age ∷ []
+
+abbrev pub card_key : CardRow → List ℕ
+card_key r = r.deck ∷ r.pos ∷ []
+
+abbrev pub entry_key : EntryRow → List ℕ
+entry_key r = r.card.name ++ 0 ∷ r.card.number ∷ r.ord ∷ []
+
+abbrev pub target_key : TargetRow → List ℕ
+target_key r = r.card.name ++ 0 ∷ r.card.number ∷ r.ord ∷ []
+
+-- the tables of a library, each in order of its keys
+abbrev pub in_order : Rows → Rows
+in_order rows = record rows {
+  idents = by_key ident_key rows.idents;
+  cards = by_key card_key rows.cards;
+  entries = by_key entry_key rows.entries;
+  targets = by_key target_key rows.targets;
+}
+
+-- ---- examples
+
+-- the tables after runs
+abbrev pub tables_after : List (List ℕ) → Result Rows Fault
+tables_after runs = asked runs (λ l. in_order (rows_of l))
+
+-- the tables after runs and then row changes
+abbrev pub changed_after : List (List ℕ) → List ChangeView → Result Rows Fault
+changed_after runs changes = asked runs (λ l. in_order (done_all changes (rows_of l)))
+
+-- an ident that is held and doesn't stop changes
+abbrev pub brought : List ℕ → ℕ → Kind → Ident
+brought name age kind = record { name = name; age = age; kind = kind; noprop = false; held = true }
+
+-- entries of an ident
+abbrev pub on : ℕ → Entry
+on z = record { ident = z; active = true }
+
+abbrev pub off : ℕ → Entry
+off z = record { ident = z; active = false }
