@@ -1,8 +1,11 @@
 //! The library in rows: what a store of rows promises, and a store over lists.
 #![tactic(auto)]
 
+mod list_changes;
+pub mod list_store;
 pub mod rows;
 pub mod store;
 
+pub use list_store::ListStore;
 pub use rows::{CardRow, CountRow, EntryRow, LibraryRows, MarkRow, StateRow, TargetRow};
 pub use store::RowStore;

@@ -132,6 +132,19 @@ impl Model for MarkRow {
     ghost view = { λ r. record { site = string_bytes r.site; mark = r.mark } };
 }
 
+impl MarkRow {
+    /// A copy; memory alone can fail.
+    pub fn copy(&self, alloc: Global) -> Result<MarkRow, AllocError>
+        ensures { IfOk result (λ copy. copy ≡ self.now) }
+    {
+        let site = String::from_str(alloc, &self.site)?;
+        Ok(MarkRow {
+            site,
+            mark: self.mark,
+        })
+    }
+}
+
 /// The rows that make a library, in any order.
 #[derive(Debug, Drop)]
 pub struct LibraryRows {
