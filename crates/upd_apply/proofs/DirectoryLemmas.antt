@@ -185,3 +185,8 @@ run_goes (line ∷ lines) s =
 -- a run that is accepted
 pub steps_go_on : (lines : List LineView) (s t : State) → stepped lines s ≡ Ok t → GoesOn s t
 steps_go_on lines s t e = subst (λ r. IfOk r (GoesOn s)) e (run_goes lines s)
+
+-- from the directory that the steps began with
+pub goes_on_from : (l : LibraryView) (lines : List LineView) (s t : State) → s.library.idents ≡ l.idents → stepped lines s ≡ Ok t
+    → Continues l.idents t.library.idents
+goes_on_from l lines s t same e = subst (λ i. Continues i t.library.idents) same (steps_go_on lines s t e)

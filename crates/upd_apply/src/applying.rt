@@ -2,6 +2,7 @@
 ghost use Rattle.std.specs.Prelude.{◌≡◌, ◌+◌, ◌^◌, ◌<◌, map, drop, length, Ok, IfErr, IfOk, OnErr};
 ghost use Rattle.upd_core.specs.Edits.{purged_back};
 ghost use Rattle.upd_change.specs.Changes.{change_seen, done_all};
+ghost use Rattle.upd_change.specs.Fits.{AllFit};
 ghost use Rattle.upd_change.specs.Rows.{Rows, Shows};
 ghost use Rattle.upd_change.specs.States.{TakeGone};
 ghost use Rattle.upd_core.specs.Sound.{AreApart, Continues, IsSound, all_cards, key_of};
@@ -44,6 +45,8 @@ pub fn apply(alloc: Global, library: &mut Library, run: &Run) -> Result<Applied,
         → IfOk result (λ a. Shows (done_all (map change_seen a.changes.items) rows) library.new) }
     ensures states { IsSound library.old → IsSound library.new
         → IfOk result (λ a. TakeGone library.old library.new (map change_seen a.changes.items)) }
+    ensures fits { (rows : Rows) → IsSound library.old → Shows rows library.old
+        → IfOk result (λ a. AllFit (map change_seen a.changes.items) rows) }
     ensures refused { IfErr result (λ fault. FailsAt fault (applied run.now library.old)) }
     ensures err { OnErr result (library.new ≡ library.old) }
 {
@@ -70,6 +73,9 @@ fn outcome(
         → IfOk result (λ a. Shows (done_all (map change_seen a.changes.items) rows) after.now) }
     ensures states { IsSound before.now → IsSound after.now → Continues before.now.idents after.now.idents
         → IfOk result (λ a. TakeGone before.now after.now (map change_seen a.changes.items)) }
+    ensures fits { (rows : Rows) → IsSound before.now → Continues before.now.idents after.now.idents
+        → Shows rows before.now
+        → IfOk result (λ a. AllFit (map change_seen a.changes.items) rows) }
 {
     let compile = named_decks(alloc, after, lines)?;
     let idents = ages_from(alloc, after.idents(), before.idents().len())?;

@@ -15,7 +15,9 @@ use Rattle.upd_change.specs.Fates.{FateView, DeckFatesView, Kept, Gone, New, car
 use Rattle.upd_core.specs.Entries.{same_entry}
 use Rattle.upd_change.specs.Told.{begins, entries_new, targets_new, grown, brought}
 use Rattle.upd_change.proofs.CountLemmas.{same_of, count_append, count_cons}
-use Rattle.upd_change.proofs.EffectLemmas.{on_cards, on_entries, on_targets, all_acts, acts_append, acts_appending, AreIdle, idle_acts, idle_append}
+use Rattle.upd_change.proofs.EffectLemmas.{on_cards, on_entries, on_targets, all_acts, acts_append, acts_appending, Nothing, idle_acts}
+use Rattle.upd_change.proofs.AllLemmas.{all_joined}
+use Rattle.upd_change.proofs.KindLemmas.{entries_all, targets_all, grown_all}
 use Rattle.upd_change.proofs.GoneLemmas.{entries_go, targets_go, staying}
 use Rattle.upd_change.proofs.MoveLemmas.{kept_row, kept_to}
 
@@ -51,40 +53,22 @@ targets_come card n [] xs = sym (append-nil xs)
 targets_come card n (t ∷ ts) xs = targets_come card (n + 1) ts _
     ∙ append_assoc xs (record { card = card; ord = n; target = t } ∷ []) (target_rows card (n + 1) ts)
 
-pub entries_idle_cards : (card : CardRef) (n : ℕ) (es : List Entry) → AreIdle on_cards (entries_new card n es)
-entries_idle_cards card n [] = tt
-entries_idle_cards card n (e ∷ es) = (refl, entries_idle_cards card (n + 1) es)
-
-pub entries_idle_targets : (card : CardRef) (n : ℕ) (es : List Entry) → AreIdle on_targets (entries_new card n es)
-entries_idle_targets card n [] = tt
-entries_idle_targets card n (e ∷ es) = (refl, entries_idle_targets card (n + 1) es)
-
-pub targets_idle_cards : (card : CardRef) (n : ℕ) (ts : List Target) → AreIdle on_cards (targets_new card n ts)
-targets_idle_cards card n [] = tt
-targets_idle_cards card n (t ∷ ts) = (refl, targets_idle_cards card (n + 1) ts)
-
-pub targets_idle_entries : (card : CardRef) (n : ℕ) (ts : List Target) → AreIdle on_entries (targets_new card n ts)
-targets_idle_entries card n [] = tt
-targets_idle_entries card n (t ∷ ts) = (refl, targets_idle_entries card (n + 1) ts)
-
 cards_brought : (idents : List Ident) (d p : ℕ) (fates : List FateView) (xs : List CardRow) → all_acts on_cards (brought idents d p fates) xs ≡ xs
     ++ come_cards idents d p fates
 cards_brought idents d p [] xs = sym (append-nil xs)
 cards_brought idents d p (Kept c e ∷ fates) xs =
     acts_append on_cards (grown idents c e) (brought idents d (p + 1) fates) xs
-    ∙ ap (all_acts on_cards (brought idents d (p + 1) fates)) (idle_acts on_cards (grown idents c e) xs (go (begins c.history e.history)))
+    ∙ ap (all_acts on_cards (brought idents d (p + 1) fates)) (idle_acts on_cards (grown idents c e) xs (grown_all (λ c. on_cards c ≡ Nothing) (λ card n e. refl) idents c e))
     ∙ cards_brought idents d (p + 1) fates xs
-  where
-    go : (b : Bool) → AreIdle on_cards (cond b (entries_new (ref_of idents c) (length c.history) (drop (length c.history) e.history)) (entries_new (ref_of idents c) 0 e.history))
-    go true = entries_idle_cards (ref_of idents c) (length c.history) (drop (length c.history) e.history)
-    go false = entries_idle_cards (ref_of idents c) 0 e.history
 cards_brought idents d p (Gone c ∷ fates) xs = cards_brought idents d p fates xs
 cards_brought idents d p (New e ∷ fates) xs =
     acts_append on_cards (entries_new (ref_of idents e) 0 e.history ++ targets_new (ref_of idents e) 0 e.targets) (brought idents d (p + 1) fates) (xs
     ++ kept_row idents d p e ∷ [])
     ∙ ap (all_acts on_cards (brought idents d (p + 1) fates)) (idle_acts on_cards (entries_new (ref_of idents e) 0 e.history
     ++ targets_new (ref_of idents e) 0 e.targets) (xs ++ kept_row idents d p e ∷ [])
-    (idle_append on_cards _ _ (entries_idle_cards (ref_of idents e) 0 e.history) (targets_idle_cards (ref_of idents e) 0 e.targets)))
+    (all_joined (λ c. on_cards c ≡ Nothing) (entries_new (ref_of idents e) 0 e.history) (targets_new (ref_of idents e) 0 e.targets)
+    (entries_all (λ c. on_cards c ≡ Nothing) (λ card n e. refl) (ref_of idents e) 0 e.history)
+    (targets_all (λ c. on_cards c ≡ Nothing) (λ card n t. refl) (ref_of idents e) 0 e.targets)))
     ∙ cards_brought idents d (p + 1) fates (xs ++ kept_row idents d p e ∷ [])
     ∙ append_assoc xs (kept_row idents d p e ∷ []) (come_cards idents d (p + 1) fates)
 
@@ -108,7 +92,7 @@ entries_brought idents d p (Gone c ∷ fates) xs = entries_brought idents d p fa
 entries_brought idents d p (New e ∷ fates) xs =
     acts_append on_entries (entries_new (ref_of idents e) 0 e.history ++ targets_new (ref_of idents e) 0 e.targets) (brought idents d (p + 1) fates) xs
     ∙ ap (all_acts on_entries (brought idents d (p + 1) fates)) (acts_append on_entries (entries_new (ref_of idents e) 0 e.history) (targets_new (ref_of idents e) 0 e.targets) xs
-    ∙ idle_acts on_entries (targets_new (ref_of idents e) 0 e.targets) _ (targets_idle_entries (ref_of idents e) 0 e.targets)
+    ∙ idle_acts on_entries (targets_new (ref_of idents e) 0 e.targets) _ (targets_all (λ c. on_entries c ≡ Nothing) (λ card n t. refl) (ref_of idents e) 0 e.targets)
     ∙ entries_come (ref_of idents e) 0 e.history xs)
     ∙ entries_brought idents d (p + 1) fates (xs ++ come_entries idents (New e))
     ∙ append_assoc xs (come_entries idents (New e)) (flat_map (come_entries idents) fates)
@@ -118,17 +102,13 @@ targets_brought : (idents : List Ident) (d p : ℕ) (fates : List FateView) (xs 
 targets_brought idents d p [] xs = sym (append-nil xs)
 targets_brought idents d p (Kept c e ∷ fates) xs =
     acts_append on_targets (grown idents c e) (brought idents d (p + 1) fates) xs
-    ∙ ap (all_acts on_targets (brought idents d (p + 1) fates)) (idle_acts on_targets (grown idents c e) xs (go (begins c.history e.history)))
+    ∙ ap (all_acts on_targets (brought idents d (p + 1) fates)) (idle_acts on_targets (grown idents c e) xs (grown_all (λ c. on_targets c ≡ Nothing) (λ card n e. refl) idents c e))
     ∙ targets_brought idents d (p + 1) fates xs
-  where
-    go : (b : Bool) → AreIdle on_targets (cond b (entries_new (ref_of idents c) (length c.history) (drop (length c.history) e.history)) (entries_new (ref_of idents c) 0 e.history))
-    go true = entries_idle_targets (ref_of idents c) (length c.history) (drop (length c.history) e.history)
-    go false = entries_idle_targets (ref_of idents c) 0 e.history
 targets_brought idents d p (Gone c ∷ fates) xs = targets_brought idents d p fates xs
 targets_brought idents d p (New e ∷ fates) xs =
     acts_append on_targets (entries_new (ref_of idents e) 0 e.history ++ targets_new (ref_of idents e) 0 e.targets) (brought idents d (p + 1) fates) xs
     ∙ ap (all_acts on_targets (brought idents d (p + 1) fates)) (acts_append on_targets (entries_new (ref_of idents e) 0 e.history) (targets_new (ref_of idents e) 0 e.targets) xs
-    ∙ ap (all_acts on_targets (targets_new (ref_of idents e) 0 e.targets)) (idle_acts on_targets (entries_new (ref_of idents e) 0 e.history) xs (entries_idle_targets (ref_of idents e) 0 e.history))
+    ∙ ap (all_acts on_targets (targets_new (ref_of idents e) 0 e.targets)) (idle_acts on_targets (entries_new (ref_of idents e) 0 e.history) xs (entries_all (λ c. on_targets c ≡ Nothing) (λ card n e. refl) (ref_of idents e) 0 e.history))
     ∙ targets_come (ref_of idents e) 0 e.targets xs)
     ∙ targets_brought idents d (p + 1) fates (xs ++ come_targets idents (New e))
     ∙ append_assoc xs (come_targets idents (New e)) (flat_map (come_targets idents) fates)

@@ -102,7 +102,7 @@ idents_one (CountNow target n) rows = refl
 pub idents_after : (cs : List ChangeView) (rows : Rows) → (done_all cs rows).idents ≡ all_acts on_idents cs rows.idents
 idents_after = table_after (λ r. r.idents) on_idents idents_one
 
-cards_one : (c : ChangeView) (rows : Rows) → (done c rows).cards ≡ act (on_cards c) rows.cards
+pub cards_one : (c : ChangeView) (rows : Rows) → (done c rows).cards ≡ act (on_cards c) rows.cards
 cards_one (IdentNew i) rows = refl
 cards_one (IdentPurged age) rows = refl
 cards_one (CardNew card deck place body) rows = refl
@@ -156,7 +156,7 @@ pub acts_append : {A : Type 0} (e : ChangeView → Effect A) (cs ds : List Chang
 acts_append e [] ds xs = refl
 acts_append e (c ∷ cs) ds xs = acts_append e cs ds (act (e c) xs)
 
-act_same : {A : Type 0} (f : Effect A) {xs ys : List A} → IsSame xs ys → IsSame (act f xs) (act f ys)
+pub act_same : {A : Type 0} (f : Effect A) {xs ys : List A} → IsSame xs ys → IsSame (act f xs) (act f ys)
 act_same Nothing same = same
 act_same (Append x) same = same_append same (same_of (x ∷ []) (x ∷ []) refl)
 act_same (Keep test) same = same_filter test same
@@ -175,18 +175,6 @@ AreIdle e cs = AllByRecursion (λ c. e c ≡ Nothing) cs
 pub idle_acts : {A : Type 0} (e : ChangeView → Effect A) (cs : List ChangeView) (xs : List A) → AreIdle e cs → all_acts e cs xs ≡ xs
 idle_acts e [] xs idle = refl
 idle_acts e (c ∷ cs) xs idle = ap (λ f. all_acts e cs (act f xs)) idle.0 ∙ idle_acts e cs xs idle.1
-
-pub idle_append : {A : Type 0} (e : ChangeView → Effect A) (cs ds : List ChangeView) → AreIdle e cs → AreIdle e ds → AreIdle e (cs ++ ds)
-idle_append e [] ds a b = b
-idle_append e (c ∷ cs) ds a b = (a.0, idle_append e cs ds a.1 b)
-
-pub idle_flat : {Z A : Type 0} (e : ChangeView → Effect A) (g : Z → List ChangeView) → ((z : Z) → AreIdle e (g z)) → (zs : List Z) → AreIdle e (flat_map g zs)
-idle_flat e g each [] = tt
-idle_flat e g each (z ∷ zs) = idle_append e (g z) (flat_map g zs) (each z) (idle_flat e g each zs)
-
-pub idle_map : {Z A : Type 0} (e : ChangeView → Effect A) (g : Z → ChangeView) → ((z : Z) → e (g z) ≡ Nothing) → (zs : List Z) → AreIdle e (map g zs)
-idle_map e g each [] = tt
-idle_map e g each (z ∷ zs) = (each z, idle_map e g each zs)
 
 -- ---- rows of some cards go
 

@@ -1,21 +1,17 @@
 -- Fates that are found one after the other.
 use Rattle.std.proofs.Common.{◌≡◌, ℕ, ◌+◌, ◌<◌, List, [], ◌∷◌, ◌++◌, map, length, take, drop, get_or, refl, ap, sym, subst, ◌∙◌, append-nil, arith}
-use Rattle.std.specs.List.{AllByRecursion}
 use Rattle.std.proofs.lemmas.List.{take_more, take-append-drop}
 use Rattle.std.proofs.lemmas.Grind.{flat_map-append}
 use Rattle.upd_core.specs.Library.{CardView}
+use Rattle.upd_change.proofs.AllLemmas.{all_joined}
 use Rattle.upd_change.specs.Fates.{FateView, Kept, Gone, New, card_before, card_after, IsKept, IsNextOf, AreFates}
-
-joined : {A : Type 0} (P : A → Type 0) (xs ys : List A) → AllByRecursion P xs → AllByRecursion P ys → AllByRecursion P (xs ++ ys)
-joined P [] ys a b = b
-joined P (x ∷ xs) ys a b = (a.0, joined P xs ys a.1 b)
 
 -- fates with those of more cards
 pub fates_joined : (xs ys us vs : List CardView) (fs gs : List FateView) → AreFates xs ys fs → AreFates us vs gs → AreFates (xs ++ us) (ys ++ vs) (fs ++ gs)
 fates_joined xs ys us vs fs gs a b = record {
   olds = flat_map-append card_before fs gs ∙ (λ i. a.olds i ++ b.olds i);
   news = flat_map-append card_after fs gs ∙ (λ i. a.news i ++ b.news i);
-  kept = joined IsKept fs gs a.kept b.kept;
+  kept = all_joined IsKept fs gs a.kept b.kept;
 }
 
 pub all_gone : (cards : List CardView) → AreFates cards [] (map Gone cards)

@@ -4,11 +4,8 @@ use Rattle.std.specs.List.{AllByRecursion}
 use Rattle.std.proofs.lemmas.List.{map-append, take_more, take_rest, take-append-drop}
 use Rattle.std.proofs.lemmas.List.Elements.{filter-append}
 use Rattle.upd_core.specs.Library.{CardView, DeckView}
-use Rattle.upd_change.specs.Fates.{DeckFatesView, AreFates, IsKept, Lead, deck_before, deck_after, has_cards, standing}
-
-joined : {A : Type 0} (P : A → Type 0) (xs : List A) (x : A) → AllByRecursion P xs → P x → AllByRecursion P (xs ++ x ∷ [])
-joined P [] x a b = (b, tt)
-joined P (y ∷ ys) x a b = (a.0, joined P ys x a.1 b)
+use Rattle.upd_change.proofs.AllLemmas.{all_joined}
+use Rattle.upd_change.specs.Fates.{DeckFatesView, AreFates, IsKept, IsShort, Lead, deck_before, deck_after, has_cards, standing}
 
 -- one more deck on both sides of an equation of standing decks
 standing_more : (g : DeckFatesView → DeckView) (ks : List DeckFatesView) (k : DeckFatesView) (xs : List DeckView) (d : DeckView)
@@ -32,35 +29,38 @@ same_deck : (a : ℕ) (cards : List CardView) (d : DeckView) → a ≡ d.ident �
 same_deck a cards d p q = λ i. record { ident = p i; cards = q i }
 
 pub lead_pair : (xs ys : List DeckView) (ks : List DeckFatesView) (d e : DeckView) (k : DeckFatesView) → Lead xs ys ks → AreFates d.cards e.cards k.fates
-    → k.deck ≡ d.ident → k.deck ≡ e.ident → Lead (xs ++ d ∷ []) (ys ++ e ∷ []) (ks ++ k ∷ [])
-lead_pair xs ys ks d e k lead are p q = record {
+    → IsShort k → k.deck ≡ d.ident → k.deck ≡ e.ident → Lead (xs ++ d ∷ []) (ys ++ e ∷ []) (ks ++ k ∷ [])
+lead_pair xs ys ks d e k lead are short p q = record {
   olds = standing_more deck_before ks k xs d lead.olds (same_deck k.deck (deck_before k).cards d p are.olds);
   news = standing_more deck_after ks k ys e lead.news (same_deck k.deck (deck_after k).cards e q are.news);
-  kept = joined (λ k. AllByRecursion IsKept k.fates) ks k lead.kept are.kept;
+  kept = all_joined (λ k. AllByRecursion IsKept k.fates) ks (k ∷ []) lead.kept (are.kept, tt);
+  short = all_joined IsShort ks (k ∷ []) lead.short (short, tt);
 }
 
 pub lead_gone : (xs ys : List DeckView) (ks : List DeckFatesView) (d : DeckView) (k : DeckFatesView) → Lead xs ys ks → AreFates d.cards [] k.fates
-    → k.deck ≡ d.ident → Lead (xs ++ d ∷ []) ys (ks ++ k ∷ [])
-lead_gone xs ys ks d k lead are p = record {
+    → IsShort k → k.deck ≡ d.ident → Lead (xs ++ d ∷ []) ys (ks ++ k ∷ [])
+lead_gone xs ys ks d k lead are short p = record {
   olds = standing_more deck_before ks k xs d lead.olds (same_deck k.deck (deck_before k).cards d p are.olds);
   news = standing_none deck_after ks k ys lead.news are.news;
-  kept = joined (λ k. AllByRecursion IsKept k.fates) ks k lead.kept are.kept;
+  kept = all_joined (λ k. AllByRecursion IsKept k.fates) ks (k ∷ []) lead.kept (are.kept, tt);
+  short = all_joined IsShort ks (k ∷ []) lead.short (short, tt);
 }
 
 pub lead_new : (xs ys : List DeckView) (ks : List DeckFatesView) (d : DeckView) (k : DeckFatesView) → Lead xs ys ks → AreFates [] d.cards k.fates
-    → k.deck ≡ d.ident → Lead xs (ys ++ d ∷ []) (ks ++ k ∷ [])
-lead_new xs ys ks d k lead are p = record {
+    → IsShort k → k.deck ≡ d.ident → Lead xs (ys ++ d ∷ []) (ks ++ k ∷ [])
+lead_new xs ys ks d k lead are short p = record {
   olds = standing_none deck_before ks k xs lead.olds are.olds;
   news = standing_more deck_after ks k ys d lead.news (same_deck k.deck (deck_after k).cards d p are.news);
-  kept = joined (λ k. AllByRecursion IsKept k.fates) ks k lead.kept are.kept;
+  kept = all_joined (λ k. AllByRecursion IsKept k.fates) ks (k ∷ []) lead.kept (are.kept, tt);
+  short = all_joined IsShort ks (k ∷ []) lead.short (short, tt);
 }
 
 pub take_on : {A : Type 0} (front xs : List A) (i : ℕ) (x : A) → i < length xs → x ≡ get_or xs i x → (front ++ take i xs) ++ x ∷ [] ≡ front ++ take (i + 1) xs
 take_on front xs i x within is =
     append_assoc front (take i xs) (x ∷ []) ∙ ap (λ y. front ++ (take i xs ++ y ∷ [])) is ∙ ap (λ t. front ++ t) (sym (take_more xs i x within))
 
-pub lead_first : (d e : DeckView) (k : DeckFatesView) → AreFates d.cards e.cards k.fates → k.deck ≡ d.ident → k.deck ≡ e.ident → Lead (d ∷ []) (e ∷ []) (k ∷ [])
-lead_first d e k are p q = lead_pair [] [] [] d e k (record { olds = refl; news = refl; kept = tt }) are p q
+pub lead_first : (d e : DeckView) (k : DeckFatesView) → AreFates d.cards e.cards k.fates → IsShort k → k.deck ≡ d.ident → k.deck ≡ e.ident → Lead (d ∷ []) (e ∷ []) (k ∷ [])
+lead_first d e k are short p q = lead_pair [] [] [] d e k (record { olds = refl; news = refl; kept = tt; short = tt }) are short p q
 
 -- decks with all that are left
 pub lead_all : (d e : DeckView) (ds es : List DeckView) (n : ℕ) (ks : List DeckFatesView)

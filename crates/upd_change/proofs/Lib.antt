@@ -9,3 +9,6 @@ pub mod FateLemmas
 pub mod LoopLemmas
 pub mod LeadLemmas
 pub mod StateLemmas
+pub mod AllLemmas
+pub mod KindLemmas
+pub mod FitLemmas

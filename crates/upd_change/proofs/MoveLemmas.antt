@@ -1,7 +1,6 @@
 -- The moves bring the cards that stay to the places where they are to stand.
-use Rattle.std.proofs.Common.{◌≡◌, ℕ, ◌+◌, ◌-◌, ◌<◌, ◌≤◌, Bool, true, false, cond, List, [], ◌∷◌, ◌++◌, map, refl, ap, sym, ◌∙◌, arith}
-use Rattle.std.proofs.lemmas.List.{map-append}
-use Rattle.std.specs.Prelude.{nat_lt, nat_le, ◌==◌, ◌&&◌, pos, negsuc}
+use Rattle.std.proofs.Common.{◌≡◌, ℕ, ◌+◌, ◌-◌, ◌<◌, ◌≤◌, Bool, true, false, cond, List, [], ◌∷◌, ◌++◌, map, length, ◌^◌, refl, ap, sym, arith}
+use Rattle.std.specs.Prelude.{nat_lt, nat_le, ◌==◌, ◌&&◌, pos, negsuc, IsTrue}
 use Rattle.std.specs.List.{flat_map, AllByRecursion}
 use Rattle.std.proofs.lemmas.Bool.{ltb-true}
 use Rattle.std.proofs.lemmas.Bool.Decides.{Decides-eqb, nat_tests}
@@ -10,9 +9,12 @@ use Rattle.upd_core.specs.Library.{CardView, ref_of}
 use Rattle.upd_core.specs.Sound.{AreApart}
 use Rattle.upd_change.specs.Rows.{CardRow}
 use Rattle.upd_change.specs.Changes.{ChangeView, CardsMoved, moved_row, shifted}
-use Rattle.upd_change.specs.Fates.{FateView, DeckFatesView, Kept, Gone, New, card_before, deck_before, standing}
+use Rattle.upd_change.specs.Fates.{FateView, DeckFatesView, Kept, Gone, New, IsShort, card_before, deck_before, standing}
 use Rattle.upd_change.specs.Told.{moves, move_to, way}
-use Rattle.upd_change.proofs.EffectLemmas.{on_cards, act, all_acts, acts_append}
+use Rattle.upd_change.specs.Fits.{CanMove}
+use Rattle.upd_change.proofs.AllLemmas.{all_joined, each_flat}
+use Rattle.upd_change.proofs.FitLemmas.{Carry, carry_none, carry_append, carry_joined, IsMove, are_moves}
+use Rattle.upd_change.proofs.KindLemmas.{moves_all}
 use Rattle.upd_change.proofs.GoneLemmas.{kept_from}
 
 -- the row of a card that stays, where it is to stand
@@ -25,33 +27,6 @@ kept_to idents d p [] = []
 kept_to idents d p (Kept was is ∷ fates) = kept_row idents d p was ∷ kept_to idents d (p + 1) fates
 kept_to idents d p (Gone was ∷ fates) = kept_to idents d p fates
 kept_to idents d p (New is ∷ fates) = kept_to idents d (p + 1) fates
-
--- ---- moves go over joined lists
-
-abbrev pub IsMove : ChangeView → Type 0
-IsMove c = (xs ys : List CardRow) → act (on_cards c) (xs ++ ys) ≡ act (on_cards c) xs ++ act (on_cards c) ys
-
-pub moves_joined : (cs : List ChangeView) (xs ys : List CardRow) → AllByRecursion IsMove cs → all_acts on_cards cs (xs ++ ys) ≡ all_acts on_cards cs xs
-    ++ all_acts on_cards cs ys
-moves_joined [] xs ys are = refl
-moves_joined (c ∷ cs) xs ys are = ap (all_acts on_cards cs) (are.0 xs ys) ∙ moves_joined cs (act (on_cards c) xs) (act (on_cards c) ys) are.1
-
-all_joined : {A : Type 0} (P : A → Type 0) (xs ys : List A) → AllByRecursion P xs → AllByRecursion P ys → AllByRecursion P (xs ++ ys)
-all_joined P [] ys a b = b
-all_joined P (x ∷ xs) ys a b = (a.0, all_joined P xs ys a.1 b)
-
-move_is : (d w p : ℕ) → AllByRecursion IsMove (move_to d w p)
-move_is d w p = go (w == p)
-  where
-    go : (b : Bool) → AllByRecursion IsMove (cond b [] (CardsMoved d w (way w p) ∷ []))
-    go true = tt
-    go false = (λ xs ys. map-append (moved_row d w (way w p)) xs ys, tt)
-
-pub moves_are : (d w p : ℕ) (fates : List FateView) → AllByRecursion IsMove (moves d w p fates)
-moves_are d w p [] = tt
-moves_are d w p (Kept c e ∷ fates) = all_joined IsMove (move_to d w p) (moves d (p + 1) (p + 1) fates) (move_is d w p) (moves_are d (p + 1) (p + 1) fates)
-moves_are d w p (Gone c ∷ fates) = moves_are d (w + 1) p fates
-moves_are d w p (New e ∷ fates) = moves_are d w (p + 1) fates
 
 -- ---- one move
 
@@ -87,13 +62,32 @@ shift idents d w p v q (Kept c x ∷ fates) behind e =
 shift idents d w p v q (Gone c ∷ fates) behind e = shift idents d w p (v + 1) (q + 1) fates (omega arith) (omega arith)
 shift idents d w p v q (New x ∷ fates) behind e = shift idents d w p v q fates behind e
 
-move_does : (idents : List Ident) (d w p : ℕ) (fates : List FateView) → all_acts on_cards (move_to d w p) (kept_from idents d w fates)
-    ≡ kept_from idents d p fates
-move_does idents d w p fates = go (w == p) refl
+-- a place behind where a move begins stays a place: the cards are fewer than 2^32
+can_shift : (w p v : ℕ) → w ≤ v → v < 2 ^ 32 → v + p < 2 ^ 32 + w → CanMove (way w p) v
+can_shift w p v behind within later = go (nat_lt p w) refl
   where
-    go : (b : Bool) → (w == p) ≡ b → all_acts on_cards (cond b [] (CardsMoved d w (way w p) ∷ [])) (kept_from idents d w fates) ≡ kept_from idents d p fates
-    go true is = let same : w ≡ p = (Decides-eqb w p).0 is in ap (λ n. kept_from idents d n fates) same
-    go false is = shift idents d w p w p fates (omega arith) (omega arith)
+    go : (b : Bool) → nat_lt p w ≡ b → CanMove (cond b (negsuc (w - p - 1)) (pos (p - w))) v
+    go true is = let less : p < w = ltb-true p w is in (omega arith, omega arith)
+    go false is = let more : w ≤ p = grind (arith, nat_tests) in omega arith
+
+shift_fits : (idents : List Ident) (d w p v : ℕ) (fates : List FateView) → w ≤ v → v + length fates < 2 ^ 32 → v + p + length fates < 2 ^ 32 + w
+    → AllByRecursion (λ r. IsTrue ((r.deck == d) && nat_le w r.pos) → CanMove (way w p) r.pos) (kept_from idents d v fates)
+shift_fits idents d w p v [] behind within later = tt
+shift_fits idents d w p v (Kept c x ∷ fates) behind within later =
+    (λ _. can_shift w p v behind (omega arith) (omega arith), shift_fits idents d w p (v + 1) fates (omega arith) (omega arith) (omega arith))
+shift_fits idents d w p v (Gone c ∷ fates) behind within later = shift_fits idents d w p (v + 1) fates (omega arith) (omega arith) (omega arith)
+shift_fits idents d w p v (New x ∷ fates) behind within later = shift_fits idents d w p v fates behind (omega arith) (omega arith)
+
+move_does : (idents : List Ident) (d w p : ℕ) (fates : List FateView) → w + length fates < 2 ^ 32 → p + length fates < 2 ^ 32
+    → Carry (move_to d w p) (kept_from idents d w fates) (kept_from idents d p fates)
+move_does idents d w p fates short later = go (w == p) refl
+  where
+    go : (b : Bool) → (w == p) ≡ b → Carry (cond b [] (CardsMoved d w (way w p) ∷ [])) (kept_from idents d w fates) (kept_from idents d p fates)
+    go true is = let same : w ≡ p = (Decides-eqb w p).0 is in record { fit = tt; are = ap (λ n. kept_from idents d n fates) same }
+    go false is = record {
+      fit = (shift_fits idents d w p w fates (omega arith) short (omega arith), tt);
+      are = shift idents d w p w p fates (omega arith) (omega arith);
+    }
 
 -- ---- rows that moves leave alone
 
@@ -121,33 +115,47 @@ weaker : (d w p v q : ℕ) (rows : List CardRow) → ((n : ℕ) → n < w → n 
 weaker d w p v q [] h fixed = tt
 weaker d w p v q (r ∷ rows) h fixed = (λ e. let f = fixed.0 e in h r.pos f.0 f.1, weaker d w p v q rows h fixed.1)
 
-pub moves_fix : (d w p : ℕ) (fates : List FateView) (rows : List CardRow) → AllByRecursion (IsFixed d w p) rows → all_acts on_cards (moves d w p fates) rows
-    ≡ rows
-moves_fix d w p [] rows fixed = refl
-moves_fix d w p (Kept c e ∷ fates) rows fixed =
-    acts_append on_cards (move_to d w p) (moves d (p + 1) (p + 1) fates) rows ∙ ap (all_acts on_cards (moves d (p + 1) (p + 1) fates)) (go (w == p))
-    ∙ moves_fix d (p + 1) (p + 1) fates rows (weaker d w p (p + 1) (p + 1) rows (λ n a b. (omega arith, omega arith)) fixed)
+fixed_fits : (d w p : ℕ) (rows : List CardRow) → AllByRecursion (IsFixed d w p) rows
+    → AllByRecursion (λ r. IsTrue ((r.deck == d) && nat_le w r.pos) → CanMove (way w p) r.pos) rows
+fixed_fits d w p [] fixed = tt
+fixed_fits d w p (r ∷ rows) fixed = (λ moved. go (r.deck == d) refl moved, fixed_fits d w p rows fixed.1)
   where
-    go : (b : Bool) → all_acts on_cards (cond b [] (CardsMoved d w (way w p) ∷ [])) rows ≡ rows
-    go true = refl
-    go false = fixed_rows d w p rows fixed
+    go : (a : Bool) → (r.deck == d) ≡ a → (a && nat_le w r.pos) ≡ true → CanMove (way w p) r.pos
+    go true is le = let less = (fixed.0 ((Decides-eqb r.deck d).0 is)).0 in absurd (no (lt_test w r.pos less))
+      where
+        no : nat_le w r.pos ≡ false → ⊥
+        no e = cc
+    go false is le = absurd (cc)
+
+move_fixes : (d w p : ℕ) (rows : List CardRow) → AllByRecursion (IsFixed d w p) rows → Carry (move_to d w p) rows rows
+move_fixes d w p rows fixed = go (w == p)
+  where
+    go : (b : Bool) → Carry (cond b [] (CardsMoved d w (way w p) ∷ [])) rows rows
+    go true = carry_none rows
+    go false = record { fit = (fixed_fits d w p rows fixed, tt); are = fixed_rows d w p rows fixed }
+
+moves_fix : (d w p : ℕ) (fates : List FateView) (rows : List CardRow) → AllByRecursion (IsFixed d w p) rows → Carry (moves d w p fates) rows rows
+moves_fix d w p [] rows fixed = carry_none rows
+moves_fix d w p (Kept c e ∷ fates) rows fixed =
+    carry_append (move_to d w p) (moves d (p + 1) (p + 1) fates) rows rows rows (move_fixes d w p rows fixed)
+    (moves_fix d (p + 1) (p + 1) fates rows (weaker d w p (p + 1) (p + 1) rows (λ n a b. (omega arith, omega arith)) fixed))
 moves_fix d w p (Gone c ∷ fates) rows fixed = moves_fix d (w + 1) p fates rows (weaker d w p (w + 1) p rows (λ n a b. (omega arith, b)) fixed)
 moves_fix d w p (New e ∷ fates) rows fixed = moves_fix d w (p + 1) fates rows (weaker d w p w (p + 1) rows (λ n a b. (a, omega arith)) fixed)
 
 -- ---- the moves of a deck
 
-pub moves_do : (idents : List Ident) (d w p : ℕ) (fates : List FateView) → all_acts on_cards (moves d w p fates) (kept_from idents d w fates)
-    ≡ kept_to idents d p fates
-moves_do idents d w p [] = refl
-moves_do idents d w p (Kept c e ∷ fates) =
-    acts_append on_cards (move_to d w p) (moves d (p + 1) (p + 1) fates) (kept_from idents d w (Kept c e ∷ fates))
-    ∙ ap (all_acts on_cards (moves d (p + 1) (p + 1) fates)) (move_does idents d w p (Kept c e ∷ fates))
-    ∙ moves_joined (moves d (p + 1) (p + 1) fates) (kept_row idents d p c ∷ []) (kept_from idents d (p + 1) fates) (moves_are d (p + 1) (p + 1) fates)
-    ∙ ap (λ t. t ++ all_acts on_cards (moves d (p + 1) (p + 1) fates) (kept_from idents d (p + 1) fates))
+moves_do : (idents : List Ident) (d w p : ℕ) (fates : List FateView) → w + length fates < 2 ^ 32 → p + length fates < 2 ^ 32
+    → Carry (moves d w p fates) (kept_from idents d w fates) (kept_to idents d p fates)
+moves_do idents d w p [] short later = carry_none []
+moves_do idents d w p (Kept c e ∷ fates) short later =
+    carry_append (move_to d w p) (moves d (p + 1) (p + 1) fates) (kept_from idents d w (Kept c e ∷ fates)) (kept_from idents d p (Kept c e ∷ fates))
+    (kept_to idents d p (Kept c e ∷ fates)) (move_does idents d w p (Kept c e ∷ fates) short later)
+    (carry_joined (moves d (p + 1) (p + 1) fates) (kept_row idents d p c ∷ []) (kept_from idents d (p + 1) fates) (kept_row idents d p c ∷ [])
+    (kept_to idents d (p + 1) fates) (moves_all IsMove are_moves d (p + 1) (p + 1) fates)
     (moves_fix d (p + 1) (p + 1) fates (kept_row idents d p c ∷ []) (λ _. (omega arith, omega arith), tt))
-    ∙ ap (λ t. kept_row idents d p c ∷ t) (moves_do idents d (p + 1) (p + 1) fates)
-moves_do idents d w p (Gone c ∷ fates) = moves_do idents d (w + 1) p fates
-moves_do idents d w p (New e ∷ fates) = moves_do idents d w (p + 1) fates
+    (moves_do idents d (p + 1) (p + 1) fates (omega arith) (omega arith)))
+moves_do idents d w p (Gone c ∷ fates) short later = moves_do idents d (w + 1) p fates (omega arith) (omega arith)
+moves_do idents d w p (New e ∷ fates) short later = moves_do idents d w (p + 1) fates (omega arith) (omega arith)
 
 -- ---- the moves of all decks, where no two decks that had cards have one age
 
@@ -200,8 +208,7 @@ abbrev ages_with : DeckFatesView → List CardView → List DeckFatesView → Li
 ages_with k cards ks = map (λ d. d.ident) (standing (record { ident = k.deck; cards = cards } ∷ map deck_before ks))
 
 all_moves_are : (ks : List DeckFatesView) → AllByRecursion IsMove (all_moves ks)
-all_moves_are [] = tt
-all_moves_are (k ∷ ks) = all_joined IsMove (moves k.deck 0 0 k.fates) (all_moves ks) (moves_are k.deck 0 0 k.fates) (all_moves_are ks)
+all_moves_are = each_flat IsMove (λ k. moves k.deck 0 0 k.fates) (λ k. moves_all IsMove are_moves k.deck 0 0 k.fates)
 
 -- the rows of other decks stay under the moves of one
 others_stay : (idents : List Ident) (d : ℕ) (ks : List DeckFatesView) → AllByRecursion (λ a. d ≡ a → ⊥) (ages_before ks)
@@ -218,35 +225,35 @@ others_stay idents d (k ∷ ks) apart = go (flat_map card_before k.fates) refl a
 
 -- the rows of one deck stay under the moves of others
 under_others : (idents : List Ident) (d p : ℕ) (fates : List FateView) (ks : List DeckFatesView) → AllByRecursion (λ a. d ≡ a → ⊥) (ages_before ks)
-    → all_acts on_cards (all_moves ks) (kept_to idents d p fates) ≡ kept_to idents d p fates
-under_others idents d p fates [] apart = refl
-under_others idents d p fates (k ∷ ks) apart =
-    acts_append on_cards (moves k.deck 0 0 k.fates) (all_moves ks) (kept_to idents d p fates)
-    ∙ go (flat_map card_before k.fates) refl apart (under_others idents d p fates ks)
+    → Carry (all_moves ks) (kept_to idents d p fates) (kept_to idents d p fates)
+under_others idents d p fates [] apart = carry_none (kept_to idents d p fates)
+under_others idents d p fates (k ∷ ks) apart = go (flat_map card_before k.fates) refl apart (under_others idents d p fates ks)
   where
     go : (cards : List CardView) → flat_map card_before k.fates ≡ cards → AllByRecursion (λ a. d ≡ a → ⊥) (ages_with k cards ks)
-        → (AllByRecursion (λ a. d ≡ a → ⊥) (ages_before ks) → all_acts on_cards (all_moves ks) (kept_to idents d p fates) ≡ kept_to idents d p fates)
-        → all_acts on_cards (all_moves ks) (all_acts on_cards (moves k.deck 0 0 k.fates) (kept_to idents d p fates)) ≡ kept_to idents d p fates
+        → (AllByRecursion (λ a. d ≡ a → ⊥) (ages_before ks) → Carry (all_moves ks) (kept_to idents d p fates) (kept_to idents d p fates))
+        → Carry (moves k.deck 0 0 k.fates ++ all_moves ks) (kept_to idents d p fates) (kept_to idents d p fates)
     go [] none apart later = rw (none_moves k.deck 0 0 k.fates none) (later apart)
     go (c ∷ cs) some apart later =
-        rw (moves_fix k.deck 0 0 k.fates (kept_to idents d p fates) (elsewhere_to idents k.deck d 0 0 p fates (λ e. apart.0 (sym e)))) (later apart.1)
+        carry_append (moves k.deck 0 0 k.fates) (all_moves ks) (kept_to idents d p fates) (kept_to idents d p fates) (kept_to idents d p fates)
+        (moves_fix k.deck 0 0 k.fates (kept_to idents d p fates) (elsewhere_to idents k.deck d 0 0 p fates (λ e. apart.0 (sym e)))) (later apart.1)
 
-pub all_moves_do : (idents : List Ident) (ks : List DeckFatesView) → AreApart (ages_before ks) → all_acts on_cards (all_moves ks) (all_from idents ks)
-    ≡ all_to idents ks
-all_moves_do idents [] apart = refl
-all_moves_do idents (k ∷ ks) apart =
-    acts_append on_cards (moves k.deck 0 0 k.fates) (all_moves ks) (all_from idents (k ∷ ks))
-    ∙ go (flat_map card_before k.fates) refl apart (all_moves_do idents ks)
+pub all_moves_do : (idents : List Ident) (ks : List DeckFatesView) → AreApart (ages_before ks) → AllByRecursion IsShort ks
+    → Carry (all_moves ks) (all_from idents ks) (all_to idents ks)
+all_moves_do idents [] apart short = carry_none []
+all_moves_do idents (k ∷ ks) apart short = go (flat_map card_before k.fates) refl apart (λ a. all_moves_do idents ks a short.1)
   where
+    few : length k.fates < 2 ^ 32 → 0 + length k.fates < 2 ^ 32
+    few h = omega arith
+
     go : (cards : List CardView) → flat_map card_before k.fates ≡ cards → AreApart (ages_with k cards ks)
-        → (AreApart (ages_before ks) → all_acts on_cards (all_moves ks) (all_from idents ks) ≡ all_to idents ks)
-        → all_acts on_cards (all_moves ks) (all_acts on_cards (moves k.deck 0 0 k.fates) (kept_from idents k.deck 0 k.fates ++ all_from idents ks))
-        ≡ all_to idents (k ∷ ks)
+        → (AreApart (ages_before ks) → Carry (all_moves ks) (all_from idents ks) (all_to idents ks))
+        → Carry (moves k.deck 0 0 k.fates ++ all_moves ks) (kept_from idents k.deck 0 k.fates ++ all_from idents ks) (all_to idents (k ∷ ks))
     go [] none apart later = rw (none_moves k.deck 0 0 k.fates none, none_from idents k.deck 0 k.fates none, none_to idents k.deck 0 k.fates none) (later apart)
     go (c ∷ cs) some apart later =
-        ap (all_acts on_cards (all_moves ks)) (moves_joined (moves k.deck 0 0 k.fates) (kept_from idents k.deck 0 k.fates) (all_from idents ks) (moves_are k.deck 0 0 k.fates)
-        ∙ ap (λ t. t ++ all_acts on_cards (moves k.deck 0 0 k.fates) (all_from idents ks)) (moves_do idents k.deck 0 0 k.fates)
-        ∙ ap (λ t. kept_to idents k.deck 0 k.fates ++ t) (moves_fix k.deck 0 0 k.fates (all_from idents ks) (others_stay idents k.deck ks apart.0)))
-        ∙ moves_joined (all_moves ks) (kept_to idents k.deck 0 k.fates) (all_from idents ks) (all_moves_are ks)
-        ∙ ap (λ t. t ++ all_acts on_cards (all_moves ks) (all_from idents ks)) (under_others idents k.deck 0 k.fates ks apart.0)
-        ∙ ap (λ t. kept_to idents k.deck 0 k.fates ++ t) (later apart.1)
+        carry_append (moves k.deck 0 0 k.fates) (all_moves ks) (kept_from idents k.deck 0 k.fates ++ all_from idents ks)
+        (kept_to idents k.deck 0 k.fates ++ all_from idents ks) (all_to idents (k ∷ ks))
+        (carry_joined (moves k.deck 0 0 k.fates) (kept_from idents k.deck 0 k.fates) (all_from idents ks) (kept_to idents k.deck 0 k.fates) (all_from idents ks)
+        (moves_all IsMove are_moves k.deck 0 0 k.fates) (moves_do idents k.deck 0 0 k.fates (few short.0) (few short.0))
+        (moves_fix k.deck 0 0 k.fates (all_from idents ks) (others_stay idents k.deck ks apart.0)))
+        (carry_joined (all_moves ks) (kept_to idents k.deck 0 k.fates) (all_from idents ks) (kept_to idents k.deck 0 k.fates) (all_to idents ks) (all_moves_are ks)
+        (under_others idents k.deck 0 k.fates ks apart.0) (later apart.1))

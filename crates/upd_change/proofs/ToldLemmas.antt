@@ -1,94 +1,34 @@
 -- The law of row changes: rows that show a library, changed as the fates of its cards are told, show the library that these lead to.
-use Rattle.std.proofs.Common.{◌≡◌, ℕ, ◌+◌, Bool, true, false, cond, List, [], ◌∷◌, ◌++◌, map, length, drop, refl, ap, sym, subst, ◌∙◌}
-use Rattle.std.specs.Prelude.{not, ◌==◌, ◌&&◌}
+use Rattle.std.proofs.Common.{◌≡◌, ℕ, ◌+◌, Bool, true, false, cond, List, [], ◌∷◌, ◌++◌, map, refl, ap, sym, subst, ◌∙◌}
+use Rattle.std.specs.Prelude.{ℤ}
 use Rattle.std.specs.List.{filter, flat_map, AllByRecursion}
 use Rattle.std.proofs.lemmas.Grind.{flat_map-append}
 use Rattle.std.proofs.lemmas.List.Folds.{flat_map-map}
 use Rattle.upd_text.specs.declared.card_ref.CardRef.{CardRef}
-use Rattle.upd_core.specs.declared.card.Entry.{Entry}
 use Rattle.upd_core.specs.declared.ident.Ident.{Ident}
-use Rattle.upd_core.specs.declared.target.Target.{Target}
 use Rattle.upd_core.specs.Library.{CardView, DeckView, LibraryView, all_decks, ref_of}
 use Rattle.upd_core.specs.Sound.{AreApart, Continues, IsSound, all_cards}
 use Rattle.upd_core.proofs.ApartLemmas.{all_front, all_back, rising_apart}
 use Rattle.upd_core.proofs.FoundLemmas.{refs_apart}
 use Rattle.upd_change.specs.Rows.{CardRow, EntryRow, TargetRow, Rows, IsSame, Shows, rows_of, card_rows, entry_rows, target_rows}
-use Rattle.upd_change.specs.Changes.{ChangeView, IdentNew, IdentPurged, CardsMoved, EntriesGone, TargetsGone, CardGone, done_all}
-use Rattle.upd_change.specs.Fates.{FateView, DeckFatesView, Kept, Gone, New, Lead, IsKept, card_before, card_after, deck_before, deck_after, has_cards}
+use Rattle.upd_change.specs.Changes.{ChangeView, CardsMoved, done_all}
+use Rattle.upd_change.specs.Fates.{FateView, DeckFatesView, Lead, IsKept, card_before, card_after, deck_before, deck_after, has_cards}
 use Rattle.upd_change.specs.Fates.{standing}
-use Rattle.upd_change.specs.Told.{begins, entries_new, targets_new, gone_of, grown, card_new, idents_told, move_to, moves, way, brought, cards_told, told}
+use Rattle.upd_change.specs.Told.{gone_of, idents_told, moves, brought, cards_told, told}
 use Rattle.upd_change.proofs.CountLemmas.{same_of, same_trans, same_woven}
 use Rattle.upd_change.proofs.EffectLemmas.{Effect, Nothing, on_idents, on_cards, on_entries, on_targets, all_acts, acts_append, acts_same, AreIdle, idle_acts}
-use Rattle.upd_change.proofs.EffectLemmas.{idle_append, idle_flat, idle_map}
+use Rattle.upd_change.proofs.AllLemmas.{all_joined, all_flat, each_flat}
+use Rattle.upd_change.proofs.KindLemmas.{idents_all, gone_all, moves_all, brought_all}
+use Rattle.upd_change.proofs.FitLemmas.{Carry, FitsAny, any_fit, fit_append, fit_same, of_cards}
+use Rattle.upd_change.specs.Fits.{AllFit}
 use Rattle.upd_change.proofs.EffectLemmas.{idents_after, cards_after, entries_after, targets_after, is_in, without, acts_without}
 use Rattle.upd_change.proofs.GoneLemmas.{Fits, keys_fit, key_of, card_goes, entries_go, targets_go, card_of, entry_of, target_of, cards_gone, entries_gone}
 use Rattle.upd_change.proofs.GoneLemmas.{targets_gone}
 use Rattle.upd_change.proofs.GoneLemmas.{staying, entries_are_of, targets_are_of, rows_left, cards_left}
-use Rattle.upd_change.proofs.MoveLemmas.{kept_to, all_moves, all_moves_do, ages_before}
+use Rattle.upd_change.proofs.MoveLemmas.{kept_to, all_from, all_to, all_moves, all_moves_do, ages_before}
 use Rattle.upd_change.proofs.ComeLemmas.{come_cards, come_entries, come_targets, all_cards_brought, all_entries_brought, all_targets_brought}
 use Rattle.upd_change.proofs.ComeLemmas.{entries_woven, targets_woven, cards_woven}
 use Rattle.upd_change.proofs.IdentLemmas.{directory_done, refs_stay}
-
--- ---- which changes leave which tables alone
-
-module _ {A : Type 0} (e : ChangeView → Effect A) where
-  idents_idle : ((i : Ident) → e (IdentNew i) ≡ Nothing) → ((z : ℕ) → e (IdentPurged z) ≡ Nothing) → (old new : List Ident) → AreIdle e (idents_told old new)
-  idents_idle come go [] new = idle_map e IdentNew come new
-  idents_idle come go (i ∷ old) [] = tt
-  idents_idle come go (i ∷ old) (j ∷ new) =
-      idle_append e (cond (i.held && not j.held) (IdentPurged i.age ∷ []) []) (idents_told old new) (one (i.held && not j.held)) (idents_idle come go old new)
-    where
-      one : (b : Bool) → AreIdle e (cond b (IdentPurged i.age ∷ []) [])
-      one true = (go i.age, tt)
-      one false = tt
-
-  moves_idle : ((d f : ℕ) (by : _) → e (CardsMoved d f by) ≡ Nothing) → (d w p : ℕ) (fates : List FateView) → AreIdle e (moves d w p fates)
-  moves_idle move d w p [] = tt
-  moves_idle move d w p (Kept c x ∷ fates) = idle_append e (move_to d w p) (moves d (p + 1) (p + 1) fates) (one (w == p)) (moves_idle move d (p + 1) (p + 1) fates)
-    where
-      one : (b : Bool) → AreIdle e (cond b [] (CardsMoved d w (way w p) ∷ []))
-      one true = tt
-      one false = (move d w (way w p), tt)
-  moves_idle move d w p (Gone c ∷ fates) = moves_idle move d (w + 1) p fates
-  moves_idle move d w p (New x ∷ fates) = moves_idle move d w (p + 1) fates
-
-gone_idle : (idents : List Ident) (f : FateView) → AreIdle on_idents (gone_of idents f)
-gone_idle idents (Kept c x) = go (begins c.history x.history)
-  where
-    go : (b : Bool) → AreIdle on_idents (cond b [] (EntriesGone (ref_of idents c) ∷ []))
-    go true = tt
-    go false = (refl, tt)
-gone_idle idents (Gone c) = go (length c.targets == 0)
-  where
-    go : (b : Bool) → AreIdle on_idents (cond b [] (TargetsGone (ref_of idents c) c.targets ∷ [])
-        ++ EntriesGone (ref_of idents c) ∷ CardGone (ref_of idents c) ∷ [])
-    go true = (refl, (refl, tt))
-    go false = (refl, (refl, (refl, tt)))
-gone_idle idents (New x) = tt
-
-entries_new_idle : (card : CardRef) (n : ℕ) (es : List Entry) → AreIdle on_idents (entries_new card n es)
-entries_new_idle card n [] = tt
-entries_new_idle card n (x ∷ es) = (refl, entries_new_idle card (n + 1) es)
-
-targets_new_idle : (card : CardRef) (n : ℕ) (ts : List Target) → AreIdle on_idents (targets_new card n ts)
-targets_new_idle card n [] = tt
-targets_new_idle card n (x ∷ ts) = (refl, targets_new_idle card (n + 1) ts)
-
-brought_idle : (idents : List Ident) (d p : ℕ) (fates : List FateView) → AreIdle on_idents (brought idents d p fates)
-brought_idle idents d p [] = tt
-brought_idle idents d p (Kept c x ∷ fates) = idle_append on_idents (grown idents c x) (brought idents d (p + 1) fates) (one (begins c.history x.history)) (brought_idle idents d (p + 1) fates)
-  where
-    one : (b : Bool) → AreIdle on_idents (cond b (entries_new (ref_of idents c) (length c.history) (drop (length c.history) x.history)) (entries_new (ref_of idents c) 0 x.history))
-    one true = entries_new_idle (ref_of idents c) (length c.history) (drop (length c.history) x.history)
-    one false = entries_new_idle (ref_of idents c) 0 x.history
-brought_idle idents d p (Gone c ∷ fates) = brought_idle idents d p fates
-brought_idle idents d p (New x ∷ fates) =
-    idle_append on_idents (card_new idents d p x) (brought idents d (p + 1) fates) (
-      refl,
-      idle_append on_idents (entries_new (ref_of idents x) 0 x.history) (targets_new (ref_of idents x) 0 x.targets)
-          (entries_new_idle (ref_of idents x) 0 x.history) (targets_new_idle (ref_of idents x) 0 x.targets),
-    )
-    (brought_idle idents d (p + 1) fates)
 
 -- ---- told changes, a table at a time
 
@@ -107,24 +47,39 @@ module _ (idents : List Ident) (ks : List DeckFatesView) where
       → all_acts e (cards_told idents ks) xs ≡ all_acts e all_brought (all_acts e (all_moves ks) (all_acts e all_gone xs))
   phases e xs = acts_append e all_gone (all_moves ks ++ all_brought) xs ∙ acts_append e (all_moves ks) all_brought (all_acts e all_gone xs)
 
+  -- what holds of each kind of change
+  gone_each : (P : ChangeView → Type 0) → ((f : FateView) → AllByRecursion P (gone_of idents f)) → AllByRecursion P all_gone
+  gone_each P each = each_flat P (λ k. flat_map (gone_of idents) k.fates) (λ k. each_flat P (gone_of idents) each k.fates) ks
+
+  moves_each : (P : ChangeView → Type 0) → ((d from : ℕ) (by : ℤ) → P (CardsMoved d from by)) → AllByRecursion P (all_moves ks)
+  moves_each P move = each_flat P (λ k. moves k.deck 0 0 k.fates) (λ k. moves_all P move k.deck 0 0 k.fates) ks
+
+  brought_each : (P : ChangeView → Type 0) → ((d p : ℕ) (fates : List FateView) → AllByRecursion P (brought idents d p fates)) → AllByRecursion P all_brought
+  brought_each P each = each_flat P (λ k. brought idents k.deck 0 k.fates) (λ k. each k.deck 0 k.fates) ks
+
+  abbrev IsIdle : ChangeView → Type 0
+  IsIdle c = on_idents c ≡ Nothing
+
   cards_idle : (xs : List Ident) → all_acts on_idents (cards_told idents ks) xs ≡ xs
   cards_idle xs = idle_acts on_idents (cards_told idents ks) xs
-      (idle_append on_idents all_gone (all_moves ks ++ all_brought) (idle_flat on_idents (λ k. flat_map (gone_of idents) k.fates) (λ k. idle_flat on_idents (gone_of idents) (gone_idle idents) k.fates) ks)
-      (idle_append on_idents (all_moves ks) all_brought (idle_flat on_idents (λ k. moves k.deck 0 0 k.fates) (λ k. moves_idle on_idents (λ d f by. refl) k.deck 0 0 k.fates) ks)
-      (idle_flat on_idents (λ k. brought idents k.deck 0 k.fates) (λ k. brought_idle idents k.deck 0 k.fates) ks)))
+      (all_joined IsIdle all_gone (all_moves ks ++ all_brought) (gone_each IsIdle (gone_all IsIdle (λ card. refl) (λ card. refl) (λ card targets. refl) idents))
+      (all_joined IsIdle (all_moves ks) all_brought (moves_each IsIdle (λ d from by. refl))
+      (brought_each IsIdle (brought_all IsIdle (λ card d p body. refl) (λ card n e. refl) (λ card n t. refl) idents))))
+
+  cards_gone_of : (xs : List CardRow) → all_acts on_cards all_gone xs ≡ without card_of (keys card_goes) xs
+  cards_gone_of =
+      acts_without on_cards card_of (λ k. flat_map (gone_of idents) k.fates) (λ k. flat_map (key_of idents card_goes) k.fates)
+      (λ k ys. acts_without on_cards card_of (gone_of idents) (key_of idents card_goes) (cards_gone idents) k.fates ys) ks
 
   cards_acted : (xs : List CardRow) → all_acts on_cards (cards_told idents ks) xs
-      ≡ all_acts on_cards (all_moves ks) (without card_of (keys card_goes) xs) ++ flat_map (λ k. come_cards idents k.deck 0 k.fates) ks
+      ≡ all_acts on_cards (all_moves ks) (all_acts on_cards all_gone xs) ++ flat_map (λ k. come_cards idents k.deck 0 k.fates) ks
   cards_acted xs = phases on_cards xs ∙ all_cards_brought idents ks (all_acts on_cards (all_moves ks) (all_acts on_cards all_gone xs))
-      ∙ ap (λ t. all_acts on_cards (all_moves ks) t ++ flat_map (λ k. come_cards idents k.deck 0 k.fates) ks)
-      (acts_without on_cards card_of (λ k. flat_map (gone_of idents) k.fates) (λ k. flat_map (key_of idents card_goes) k.fates)
-      (λ k ys. acts_without on_cards card_of (gone_of idents) (key_of idents card_goes) (cards_gone idents) k.fates ys) ks xs)
 
   entries_acted : (xs : List EntryRow) → all_acts on_entries (cards_told idents ks) xs
       ≡ without entry_of (keys entries_go) xs ++ flat_map (λ k. flat_map (come_entries idents) k.fates) ks
   entries_acted xs = phases on_entries xs ∙ all_entries_brought idents ks (all_acts on_entries (all_moves ks) (all_acts on_entries all_gone xs))
       ∙ ap (λ t. t ++ flat_map (λ k. flat_map (come_entries idents) k.fates) ks)
-      (idle_acts on_entries (all_moves ks) _ (idle_flat on_entries (λ k. moves k.deck 0 0 k.fates) (λ k. moves_idle on_entries (λ d f by. refl) k.deck 0 0 k.fates) ks)
+      (idle_acts on_entries (all_moves ks) _ (moves_each (λ c. on_entries c ≡ Nothing) (λ d from by. refl))
       ∙ acts_without on_entries entry_of (λ k. flat_map (gone_of idents) k.fates) (λ k. flat_map (key_of idents entries_go) k.fates)
       (λ k ys. acts_without on_entries entry_of (gone_of idents) (key_of idents entries_go) (entries_gone idents) k.fates ys) ks xs)
 
@@ -132,7 +87,7 @@ module _ (idents : List Ident) (ks : List DeckFatesView) where
       ≡ without target_of (keys targets_go) xs ++ flat_map (λ k. flat_map (come_targets idents) k.fates) ks
   targets_acted xs = phases on_targets xs ∙ all_targets_brought idents ks (all_acts on_targets (all_moves ks) (all_acts on_targets all_gone xs))
       ∙ ap (λ t. t ++ flat_map (λ k. flat_map (come_targets idents) k.fates) ks)
-      (idle_acts on_targets (all_moves ks) _ (idle_flat on_targets (λ k. moves k.deck 0 0 k.fates) (λ k. moves_idle on_targets (λ d f by. refl) k.deck 0 0 k.fates) ks)
+      (idle_acts on_targets (all_moves ks) _ (moves_each (λ c. on_targets c ≡ Nothing) (λ d from by. refl))
       ∙ acts_without on_targets target_of (λ k. flat_map (gone_of idents) k.fates) (λ k. flat_map (key_of idents targets_go) k.fates)
       (λ k ys. acts_without on_targets target_of (gone_of idents) (key_of idents targets_go) (targets_gone idents) k.fates ys) ks xs)
 
@@ -145,14 +100,6 @@ flat_twice f g (x ∷ xs) = flat_map-append f (g x) (flat_map g xs) ∙ ap (λ t
 all_split : {A B : Type 0} (P : B → Type 0) (g : A → List B) (xs : List A) → AllByRecursion P (flat_map g xs) → AllByRecursion (λ x. AllByRecursion P (g x)) xs
 all_split P g [] all = tt
 all_split P g (x ∷ xs) all = (all_front P (g x) (flat_map g xs) all, all_split P g xs (all_back P (g x) (flat_map g xs) all))
-
-all_flat : {A B : Type 0} (P : B → Type 0) (g : A → List B) (xs : List A) → AllByRecursion (λ x. AllByRecursion P (g x)) xs → AllByRecursion P (flat_map g xs)
-all_flat P g [] all = tt
-all_flat P g (x ∷ xs) all = joined (g x) all.0 (all_flat P g xs all.1)
-  where
-    joined : (ys : List _) → AllByRecursion P ys → AllByRecursion P (flat_map g xs) → AllByRecursion P (ys ++ flat_map g xs)
-    joined [] a b = b
-    joined (y ∷ ys) a b = (a.0, joined ys a.1 b)
 
 -- decks without cards have no rows
 flat_standing : {A : Type 0} (f : DeckView → List A) → ((d : ℕ) → f (record { ident = d; cards = [] }) ≡ []) → (ds : List DeckView)
@@ -263,15 +210,23 @@ module _ (old new : LibraryView) (ks : List DeckFatesView) (sound : IsSound old)
       deck_rows_agree old.idents new.idents (all_decks old) stay
       ∙ sym (same_standing (λ d. card_rows new.idents d.ident 0 d.cards) (λ d. refl) deck_before ks (all_decks old) lead.olds)
 
+  -- the rows of cards once all that goes is gone
+  cards_left_are : all_acts on_cards (all_gone new.idents ks) (rows_of old).cards ≡ all_from new.idents ks
+  cards_left_are =
+      ap (all_acts on_cards (all_gone new.idents ks)) old_cards
+      ∙ cards_gone_of new.idents ks (flat_map (λ k. card_rows new.idents k.deck 0 (flat_map card_before k.fates)) ks)
+      ∙ cards_left new.idents (keys new.idents ks card_goes) ks (all_split (Fits new.idents card_goes (keys new.idents ks card_goes)) (λ k. k.fates) ks (fit card_goes))
+
+  moves_carry : Carry (all_moves ks) (all_from new.idents ks) (all_to new.idents ks)
+  moves_carry = all_moves_do new.idents ks ages_apart lead.short
+
   cards_are : IsSame (all_acts on_cards (told old.idents new.idents ks) (rows_of old).cards) (rows_of new).cards
   cards_are =
       same_trans (same_of _ _ (
-      past_idents on_cards (rows_of old).cards (idents_idle on_cards (λ i. refl) (λ z. refl) old.idents new.idents)
-      ∙ ap (all_acts on_cards (cards_told new.idents ks)) old_cards
-      ∙ cards_acted new.idents ks (flat_map (λ k. card_rows new.idents k.deck 0 (flat_map card_before k.fates)) ks)
-      ∙ ap (λ t. all_acts on_cards (all_moves ks) t ++ flat_map (λ k. come_cards new.idents k.deck 0 k.fates) ks)
-      (cards_left new.idents (keys new.idents ks card_goes) ks (all_split (Fits new.idents card_goes (keys new.idents ks card_goes)) (λ k. k.fates) ks (fit card_goes)))
-      ∙ ap (λ t. t ++ flat_map (λ k. come_cards new.idents k.deck 0 k.fates) ks) (all_moves_do new.idents ks ages_apart)))
+      past_idents on_cards (rows_of old).cards (idents_all (λ c. on_cards c ≡ Nothing) (λ i. refl) (λ age. refl) old.idents new.idents)
+      ∙ cards_acted new.idents ks (rows_of old).cards
+      ∙ ap (λ t. all_acts on_cards (all_moves ks) t ++ flat_map (λ k. come_cards new.idents k.deck 0 k.fates) ks) cards_left_are
+      ∙ ap (λ t. t ++ flat_map (λ k. come_cards new.idents k.deck 0 k.fates) ks) moves_carry.are))
       (same_trans (same_woven (λ k. AllByRecursion IsKept k.fates) (λ k. kept_to new.idents k.deck 0 k.fates) (λ k. come_cards new.idents k.deck 0 k.fates)
       (λ k. card_rows new.idents k.deck 0 (flat_map card_after k.fates)) (cards_woven new.idents) ks lead.kept)
       (same_of _ _ (same_standing (λ d. card_rows new.idents d.ident 0 d.cards) (λ d. refl) deck_after ks (all_decks new) lead.news)))
@@ -306,9 +261,34 @@ module _ (old new : LibraryView) (ks : List DeckFatesView) (sound : IsSound old)
     entries = same_trans (same_of _ _ (entries_after (told old.idents new.idents ks) rows))
         (same_trans (acts_same on_entries (told old.idents new.idents ks) shows.entries)
         (rows_are on_entries entry_of (λ r c. entry_rows r 0 c.history) entries_go (come_entries new.idents) (entries_are_of new.idents)
-        (idents_idle on_entries (λ i. refl) (λ z. refl) old.idents new.idents) (entries_acted new.idents ks) (entries_woven new.idents)));
+        (idents_all (λ c. on_entries c ≡ Nothing) (λ i. refl) (λ age. refl) old.idents new.idents) (entries_acted new.idents ks) (entries_woven new.idents)));
     targets = same_trans (same_of _ _ (targets_after (told old.idents new.idents ks) rows))
         (same_trans (acts_same on_targets (told old.idents new.idents ks) shows.targets)
         (rows_are on_targets target_of (λ r c. target_rows r 0 c.targets) targets_go (come_targets new.idents) (targets_are_of new.idents)
-        (idents_idle on_targets (λ i. refl) (λ z. refl) old.idents new.idents) (targets_acted new.idents ks) (targets_woven new.idents)));
+        (idents_all (λ c. on_targets c ≡ Nothing) (λ i. refl) (λ age. refl) old.idents new.idents) (targets_acted new.idents ks) (targets_woven new.idents)));
   }
+
+  abbrev gone : List ChangeView
+  gone = all_gone new.idents ks
+
+  abbrev begun : Rows → Rows
+  begun rows = done_all (idents_told old.idents new.idents) rows
+
+  left : (rows : Rows) → Shows rows old → IsSame (done_all gone (begun rows)).cards (all_from new.idents ks)
+  left rows shows =
+      same_trans (same_of _ _ (cards_after gone (begun rows)
+      ∙ ap (all_acts on_cards gone) (cards_after (idents_told old.idents new.idents) rows
+      ∙ idle_acts on_cards (idents_told old.idents new.idents) rows.cards (idents_all (λ c. on_cards c ≡ Nothing) (λ i. refl) (λ age. refl) old.idents new.idents))))
+      (same_trans (acts_same on_cards gone shows.cards) (same_of _ _ cards_left_are))
+
+  -- tables that show the old library can carry the changes out
+  pub told_fits : (rows : Rows) → Shows rows old → AllFit (told old.idents new.idents ks) rows
+  told_fits rows shows =
+      fit_append (idents_told old.idents new.idents) (cards_told new.idents ks) rows
+      (any_fit (idents_told old.idents new.idents) rows (idents_all FitsAny (λ i r. tt) (λ age r. tt) old.idents new.idents))
+      (fit_append gone (all_moves ks ++ all_brought new.idents ks) (begun rows)
+      (any_fit gone (begun rows) (gone_each new.idents ks FitsAny (gone_all FitsAny (λ card r. tt) (λ card r. tt) (λ card targets r. tt) new.idents)))
+      (fit_append (all_moves ks) (all_brought new.idents ks) (done_all gone (begun rows))
+      (fit_same (all_moves ks) (done_all gone (begun rows)) (of_cards (all_from new.idents ks)) (left rows shows) moves_carry.fit)
+      (any_fit (all_brought new.idents ks) (done_all (all_moves ks) (done_all gone (begun rows)))
+      (brought_each new.idents ks FitsAny (brought_all FitsAny (λ card d p body r. tt) (λ card n e r. tt) (λ card n t r. tt) new.idents)))))

@@ -1,5 +1,5 @@
 -- What became of the cards of a library, deck by deck.
-use Rattle.std.specs.Prelude.{◌≡◌, ℕ, Bool, true, List, [], ◌∷◌, map}
+use Rattle.std.specs.Prelude.{◌≡◌, ℕ, ◌<◌, ◌^◌, Bool, true, List, [], ◌∷◌, map, length}
 use Rattle.std.specs.List.{list_any, filter, flat_map, AllByRecursion}
 use Rattle.upd_core.specs.Library.{CardView, DeckView}
 use Rattle.upd_change.specs.declared.fates.Fate.{Fate}
@@ -47,6 +47,10 @@ IsKept (Kept was is) = is ≡ record was { history = is.history }
 IsKept (Gone was) = Unit {0}
 IsKept (New is) = Unit {0}
 
+-- fates of so few cards that their places are numbers of 32 bits
+abbrev pub IsShort : DeckFatesView → Type 0
+IsShort k = length k.fates < 2 ^ 32
+
 -- whether a deck has cards
 abbrev pub has_cards : DeckView → Bool
 has_cards d = list_any (λ c. true) d.cards
@@ -66,6 +70,7 @@ pub record Lead (before after : List DeckView) (decks : List DeckFatesView) : Ty
   pub olds : standing (map deck_before decks) ≡ standing before
   pub news : standing (map deck_after decks) ≡ standing after
   pub kept : AllByRecursion (λ k. AllByRecursion IsKept k.fates) decks
+  pub short : AllByRecursion IsShort decks
 
 -- a fate of the next card before or of the next card after, or of both where these are one
 abbrev pub IsNextOf : CardView → CardView → FateView → Type 0

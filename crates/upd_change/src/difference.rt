@@ -3,6 +3,7 @@ ghost use Rattle.std.specs.Prelude.{◌≡◌, ◌-◌, length, map, slice_get, 
 ghost use Rattle.std.specs.Option.{option_map_or};
 ghost use Rattle.upd_core.specs.Sound.{Continues, IsSound};
 ghost use Rattle.upd_change.specs.Changes.{change_seen, done_all};
+ghost use Rattle.upd_change.specs.Fits.{AllFit};
 ghost use Rattle.upd_change.specs.Rows.{Rows, Shows};
 ghost use Rattle.upd_change.specs.States.{TakeGone};
 
@@ -22,6 +23,9 @@ pub fn changes(alloc: Global, before: &Library, after: &Library) -> Result<Vec<C
         → IfOk result (λ changes. Shows (done_all (map change_seen changes.items) rows) after.now) }
     ensures states { IsSound before.now → IsSound after.now → Continues before.now.idents after.now.idents
         → IfOk result (λ changes. TakeGone before.now after.now (map change_seen changes.items)) }
+    ensures fits { (rows : Rows) → IsSound before.now → Continues before.now.idents after.now.idents
+        → Shows rows before.now
+        → IfOk result (λ changes. AllFit (map change_seen changes.items) rows) }
 {
     let idents = before.idents();
     let decks = library_fates(alloc, youngest(idents), before, after)?;

@@ -2,7 +2,7 @@
 ghost use Rattle.std.specs.Prelude.{◌≡◌, ◌+◌, ◌<◌, ◌≤◌, [], ◌∷◌, ◌++◌, true, map, length, take, IfOk, OnOk};
 ghost use Rattle.std.specs.List.{flat_map, AllByRecursion};
 ghost use Rattle.upd_core.specs.Library.{CardView};
-ghost use Rattle.upd_change.specs.Fates.{AreFates, IsNextOf, Gone, New, card_after, card_before, fate_seen};
+ghost use Rattle.upd_change.specs.Fates.{AreFates, IsNextOf, IsShort, Gone, New, card_after, card_before, fate_seen};
 
 use std::alloc::{AllocError, Global};
 use std::marker::Model;
@@ -156,6 +156,7 @@ pub(crate) fn deck_fates<'a>(
 ) -> Result<DeckFates<'a>, AllocError>
     ensures deck { IfOk result (λ k. k.deck ≡ deck) }
     ensures fates { IfOk result (λ k. AreFates before.now after.now k.fates) }
+    ensures short { IfOk result IsShort }
 {
     let fates = fates(alloc, youngest, before, after)?;
     if u32::try_from(fates.len()).is_err() {
