@@ -6,6 +6,8 @@ mod Casts
 mod Conditions
 mod Effects
 mod Finds
+mod SchemaLemmas
+mod WholeLemmas
 mod Turns
 mod CommitLemmas
 mod MarkLemmas

@@ -1,14 +1,15 @@
 -- What a whole transaction does to the tables of the last commit.
-use Rattle.std.specs.Prelude.{◌≡◌, Result, IsTrue, OnOk}
+use Rattle.std.specs.Prelude.{◌≡◌, Result, IsTrue, IfOk, OnOk}
 use Rattle.std.specs.List.{AllZip}
 use Rattle.sqlite_trees.specs.Tree.{Trees}
 use Rattle.sqlite.specs.declared.error.Error.{Error}
 use Rattle.sqlite.specs.State.{State, HasCleanDisk}
 use Rattle.upd_change.specs.Rows.{Rows}
+use Rattle.upd_tables.specs.Steps.{Steps}
 use Rattle.upd_tables.specs.Stored.{HasRows}
 use Rattle.upd_sql.specs.Schema.{library_schema}
 use Rattle.upd_sql.specs.Encoded.{stored}
-use Rattle.upd_sql.specs.Stands.{ShowsTables}
+use Rattle.upd_sql.specs.Stands.{ShowsTables, Stands}
 
 -- trees that show these tables
 abbrev pub ShowsIn : Trees → Rows → Type 0
@@ -36,3 +37,10 @@ MayKeep old trees = IsTrue old.is_open × (old.committed.schema ≡ library_sche
 -- a statement that only reads leaves the tables of the transaction, where the schema is the library's
 abbrev pub LeavesTables : {X : Type 0} → State → State → Result X Error → Type 0
 LeavesTables old new r = HasCleanDisk new → OnOk r (old.now.schema ≡ library_schema → new.now ≡ old.now)
+
+-- What statements of a transaction do that only read: they leave the tables, and what they find is so of the tables as they stood.
+pub record Looks {X : Type 0} (Found : Rows → X → Type 0) (old new : State) (r : Result X Error) : Type 0 where
+  pub steps : Steps old new r
+  pub was_open : WasOpen old new r
+  pub same : LeavesTables old new r
+  pub found : HasCleanDisk new → IfOk r (λ x. (it : Rows) → Stands it old.now → Found it x)

@@ -3,6 +3,7 @@ use Rattle.std.specs.Prelude.{ℕ, pos, Bool, List, [], ◌∷◌, ◌++◌, map
 use Rattle.sqlite_value.specs.declared.value.Value.{Value}
 use Rattle.sqlite_value.specs.declared.value.Value.TheVariants.{Int, Text, Blob}
 use Rattle.sqlite_value.specs.Order.{Row}
+use Rattle.upd_text.specs.declared.card_ref.CardRef.{CardRef}
 use Rattle.upd_core.specs.declared.ident.Ident.{Ident}
 use Rattle.upd_core.specs.declared.ident.Kind.{Kind}
 use Rattle.upd_core.specs.declared.ident.Kind.TheVariants as kind
@@ -53,6 +54,13 @@ state_row r = Text r.card.name ∷ num r.card.number ∷ flag r.active ∷ []
 
 abbrev pub count_row : CountRow → Row
 count_row r = target_code r.target ++ num r.n ∷ []
+
+-- a card with its status, and a target with its count, by the same rows
+abbrev pub kept_state : CardRef × Bool → Row
+kept_state s = state_row (record { card = s.0; active = s.1 })
+
+abbrev pub kept_count : Target × ℕ → Row
+kept_count c = count_row (record { target = c.0; n = c.1 })
 
 abbrev pub mark_row : MarkRow → Row
 mark_row r = Text r.site ∷ num r.mark ∷ []

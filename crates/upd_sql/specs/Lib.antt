@@ -6,3 +6,4 @@ pub mod Commits
 pub mod First
 pub mod Making
 pub mod Wanted
+pub mod Whole

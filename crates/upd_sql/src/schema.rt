@@ -1,12 +1,12 @@
-//! Whether a table is one of the library's, by its columns and its key.
+//! Whether a schema is the library's: each table by its columns and its key, each index by its table.
 
-ghost use Rattle.std.specs.Prelude.{◌≡◌, [], ◌∷◌, map, IsTrue};
+ghost use Rattle.std.specs.Prelude.{◌≡◌, [], ◌∷◌, map, slice_get, IsTrue, Some};
 ghost use Rattle.upd_tables.specs.Keyed.{keyed, needed};
-ghost use Rattle.upd_sql.specs.Schema.{cards, counts, entries, idents, meta, runs, settled, states, targets};
-ghost use Rattle.upd_sql.specs.Wanted.{column_of, key_index};
+ghost use Rattle.upd_sql.specs.Schema.{cards, counts, entries, idents, library_schema, meta, runs, settled, states, targets};
+ghost use Rattle.upd_sql.specs.Wanted.{column_of, key_index, key_indexes};
 
 use sqlite_items::Items;
-use sqlite_schema::schema::{Column, Index, Kind, Table};
+use sqlite_schema::schema::{Column, Index, Kind, Schema, Table};
 use sqlite_value::keys::Collation;
 use sqlite_value::value::Value;
 
@@ -65,14 +65,14 @@ fn has_one(keys: &Items<Items<usize>>, key: &[usize]) -> bool
     keys.len() == 1 && keys.as_slice()[0].as_slice() == key
 }
 
-/// The index that SQLite makes for the key of a table.
-pub(crate) fn is_automatic(index: &Index, table: &Table, name: &str) -> bool
-    ensures { IsTrue result → index.now ≡ key_index table.now.tree name.now table.now.primary }
+/// The index that SQLite makes for the key of the table in a tree.
+fn is_automatic(index: &Index, tree: u32, name: &str, key: &[usize]) -> bool
+    ensures { IsTrue result → index.now ≡ key_index tree name.now key.now }
 {
     index.name.as_slice() == name.as_bytes()
-        && u64::from(index.tree) == u64::from(table.tree) + 1
-        && index.table == table.tree
-        && index.columns.as_slice() == table.primary.as_slice()
+        && u64::from(index.tree) == u64::from(tree) + 1
+        && index.table == tree
+        && index.columns.as_slice() == key
         && index.order.digits == 0
         && index.is_unique
 }
@@ -252,4 +252,81 @@ pub(crate) fn is_settled(table: &Table) -> bool
     ensures { IsTrue result → table.now ≡ record settled { tree = 16 } }
 {
     is_table(table, 16, "settled", &[text("site"), number("mark")], &[1])
+}
+
+/// The table at a place of the library's schema.
+fn is_table_at(at: usize, table: &Table) -> bool
+    ensures { IsTrue result → slice_get library_schema.tables at ≡ Some table.now }
+{
+    match at {
+        0 => is_meta(table),
+        1 => is_idents(table),
+        2 => is_cards(table),
+        3 => is_entries(table),
+        4 => is_targets(table),
+        5 => is_runs(table),
+        6 => is_states(table),
+        7 => is_counts(table),
+        8 => is_settled(table),
+        _ => false,
+    }
+}
+
+/// The index at a place of the library's schema.
+fn is_index_at(at: usize, index: &Index) -> bool
+    ensures { IsTrue result → slice_get key_indexes at ≡ Some index.now }
+{
+    match at {
+        0 => is_automatic(index, 0, "sqlite_autoindex_meta_1", &[1]),
+        1 => is_automatic(index, 2, "sqlite_autoindex_idents_1", &[1]),
+        2 => is_automatic(index, 4, "sqlite_autoindex_cards_1", &[1, 2]),
+        3 => is_automatic(index, 6, "sqlite_autoindex_entries_1", &[1, 2, 3]),
+        4 => is_automatic(index, 8, "sqlite_autoindex_targets_1", &[1, 2, 3]),
+        5 => is_automatic(index, 10, "sqlite_autoindex_runs_1", &[1, 2]),
+        6 => is_automatic(index, 12, "sqlite_autoindex_states_1", &[1, 2]),
+        7 => is_automatic(index, 14, "sqlite_autoindex_counts_1", &[1, 2, 3]),
+        8 => is_automatic(index, 16, "sqlite_autoindex_settled_1", &[1]),
+        _ => false,
+    }
+}
+
+fn are_tables(tables: &[Table]) -> bool
+    ensures { IsTrue result → tables.now ≡ library_schema.tables }
+{
+    if tables.len() != 9 {
+        return false;
+    }
+    for at in 0..tables.len() {
+        if !is_table_at(at, &tables[at]) {
+            return false;
+        }
+    }
+    true
+}
+
+fn are_indexes(indexes: &[Index]) -> bool
+    ensures { IsTrue result → indexes.now ≡ key_indexes }
+{
+    if indexes.len() != 9 {
+        return false;
+    }
+    for at in 0..indexes.len() {
+        if !is_index_at(at, &indexes[at]) {
+            return false;
+        }
+    }
+    true
+}
+
+/// The nine tables with the indexes of their keys, and nothing else.
+pub(crate) fn is_library_schema(schema: &Schema) -> bool
+    ensures { IsTrue result → schema.now ≡ library_schema }
+{
+    if !schema.views.is_empty() {
+        return false;
+    }
+    if !are_tables(schema.tables.as_slice()) {
+        return false;
+    }
+    are_indexes(schema.indexes.as_slice())
 }

@@ -1,0 +1,6 @@
+use Rattle.std.proofs.Common.{◌≡◌, take}
+use Rattle.upd_sql.specs.Wanted.{key_indexes}
+use Rattle.upd_sql.proofs.schema.are_indexes.Given as goal
+
+abbrev pub invariant-loop-at : goal.invariant-loop-at
+invariant-loop-at l = take l.at l.indexes ≡ take l.at key_indexes
