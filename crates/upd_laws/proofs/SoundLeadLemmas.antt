@@ -1,5 +1,5 @@
 -- What a line makes of a library: it grows within its limits, or idents are purged.
-use Rattle.std.proofs.Common.{◌≡◌, ℕ, ◌-◌, Bool, true, false, not, ◌||◌, List, [], ◌∷◌, length, sym, subst}
+use Rattle.std.proofs.Common.{◌≡◌, ℕ, ◌-◌, Bool, true, false, not, ◌||◌, List, [], ◌∷◌, length, refl, sym, ◌∙◌, subst}
 use Rattle.std.specs.Prelude.{Result, Ok, ◌==◌, nat_lt, nat_le, insert}
 use Rattle.upd_core.specs.declared.card.Entry.{Entry}
 use Rattle.upd_text.specs.declared.card_ref.CardRef.{CardRef}
@@ -25,13 +25,13 @@ use Rattle.upd_apply.specs.Yanks.{sets_yanked, pairs_yanked, decks_yanked}
 use Rattle.upd_apply.specs.Purges.{AgesIn, idents_purged, decks_purged, pairs_purged}
 use Rattle.upd_laws.proofs.SoundOutcomeLemmas.{through, through_need, through_refusal, through_limits, holds_of}
 use Rattle.upd_laws.proofs.SoundIdentLemmas.{continues_more, continues_same, continues_unheld, continues_on}
-use Rattle.upd_laws.proofs.SoundCardLemmas.{idents_with}
+use Rattle.upd_laws.proofs.SoundCardLemmas.{idents_with, rest_with}
 use Rattle.upd_laws.proofs.SoundLimitLemmas.{purged_within, purged_in_within}
 
 -- what makes Q hold of each library that a line leaves
 record Leads (Q : LibraryView → Type 0) (l : LibraryView) : Type 0 where
   stays : Q l
-  grows : (m : LibraryView) → is_within_limits m ≡ true → Continues l.idents m.idents → Q m
+  grows : (m : LibraryView) → is_within_limits m ≡ true → Continues l.idents m.idents → m.rest ≡ l.rest → Q m
   purges : (gone : ℕ → Bool) → Q (purged gone l)
   parts : (ages : List AgesIn) → Q (purged_in_all ages l)
 
@@ -41,6 +41,9 @@ goes_with age change l = subst (Continues l.idents) (sym (idents_with age change
 card_goes : (d behind : ℕ) (c : CardView) (l : LibraryView) → Continues l.idents (with_card d behind c l).idents
 card_goes d behind c l = goes_with d (λ cards. insert cards (length cards - behind) c) l
 
+card_rests : (d behind : ℕ) (c : CardView) (l : LibraryView) → (with_card d behind c l).rest ≡ l.rest
+card_rests d behind c l = rest_with d (λ cards. insert cards (length cards - behind) c) l
+
 entries_go : (d from to : ℕ) (e : Entry) (l : LibraryView) → Continues l.idents (with_entries d from to e l).idents
 entries_go d from to e l = goes_with d (entered_range from to e) l
 
@@ -49,14 +52,15 @@ text_leads Q text Nowhere s t leads h = absurd (cc)
 text_leads Q text (End d n) s t leads h =
     through_limits (with_card d 0 (new_card d n text []) s.library) _ t (Q t.library) h (λ within h1.
     holds_of (λ (x : State). Q x.library) _ t h1
-    (leads.grows (with_card d 0 (new_card d n text []) s.library) within (card_goes d 0 (new_card d n text []) s.library)))
+    (leads.grows (with_card d 0 (new_card d n text []) s.library) within (card_goes d 0 (new_card d n text []) s.library)
+    (card_rests d 0 (new_card d n text []) s.library)))
 text_leads Q text (Inside d after) s t leads h =
     through_need fault.TextNowhere s.hand _ t (Q t.library) h (λ hand e h1.
     through_refusal (d == 0) fault.YankText _ t (Q t.library) h1 (λ f h2.
     through_limits (with_card d after (new_card hand.ident hand.next text []) s.library) _ t (Q t.library) h2 (λ within h3.
     holds_of (λ (x : State). Q x.library) _ t h3
     (leads.grows (with_card d after (new_card hand.ident hand.next text []) s.library) within
-    (card_goes d after (new_card hand.ident hand.next text []) s.library)))))
+    (card_goes d after (new_card hand.ident hand.next text []) s.library) (card_rests d after (new_card hand.ident hand.next text []) s.library)))))
 
 deck_leads : (Q : LibraryView → Type 0) (name : List ℕ) (sort : Kind) (noprop : Bool) (text : List ℕ) (s t : State) → Leads Q s.library
     → deck_begun name sort noprop text s ≡ Ok t → Q t.library
@@ -71,7 +75,7 @@ deck_leads Q name sort noprop text s t leads h =
       ident =
           next_age s.library;
       cards = new_card (next_age s.library) 1 text [] ∷ [];
-    }) (introduced name sort noprop s.library)) within (continues_more s.library.idents _))))
+    }) (introduced name sort noprop s.library)) within (continues_more s.library.idents _) refl)))
 
 yank_leads : (Q : LibraryView → Type 0) (text : List ℕ) (targets : ℕ → LibraryView → Result (List Target) FaultKind) (s t : State) → Leads Q s.library
     → yank_put text targets s ≡ Ok t → Q t.library
@@ -80,7 +84,7 @@ yank_leads Q text targets s t leads h =
     through (targets hand.ident s.library) _ t (Q t.library) h1 (λ found f h2.
     through_limits (with_yank (new_card hand.ident hand.next text found) s.library) _ t (Q t.library) h2 (λ within h3.
     holds_of (λ (x : State). Q x.library) _ t h3
-    (leads.grows (with_yank (new_card hand.ident hand.next text found) s.library) within (continues_same s.library.idents)))))
+    (leads.grows (with_yank (new_card hand.ident hand.next text found) s.library) within (continues_same s.library.idents) refl))))
 
 switched_leads : (Q : LibraryView → Type 0) (active : Bool) (first last : CardRef) (s t : State) → Leads Q s.library → switched active first last s ≡ Ok t
     → Q t.library
@@ -95,7 +99,8 @@ switched_leads Q active first last s t leads h =
       ident =
           hand.ident;
       active = active;
-    }) s.library) within (entries_go p.deck p.index q.index (record { ident = hand.ident; active = active }) s.library))))))))
+    }) s.library) within (entries_go p.deck p.index q.index (record { ident = hand.ident; active = active }) s.library)
+    (rest_with p.deck (entered_range p.index q.index (record { ident = hand.ident; active = active })) s.library))))))))
 
 done_leads : (Q : LibraryView → Type 0) (item : ItemView) (text : List ℕ) (s t : State) → Leads Q s.library → done item text s ≡ Ok t → Q t.library
 done_leads Q Text text s t leads h = text_leads Q text s.spot s t leads h
@@ -103,7 +108,8 @@ done_leads Q (Call name) text s t leads h = text_leads Q text s.spot s t leads h
 done_leads Q (Ident name) text s t leads h =
     through (new_name name s.library) _ t (Q t.library) h (λ b e h1.
     through_limits (introduced name kind.Set false s.library) _ t (Q t.library) h1 (λ within h2.
-    holds_of (λ (x : State). Q x.library) _ t h2 (leads.grows (introduced name kind.Set false s.library) within (continues_more s.library.idents _))))
+    holds_of (λ (x : State). Q x.library) _ t h2 (leads.grows (introduced name kind.Set false s.library) within (continues_more s.library.idents _)
+    refl)))
 done_leads Q (Deck name) text s t leads h = deck_leads Q name kind.Deck false text s t leads h
 done_leads Q (CommonDeck name noprop) text s t leads h = deck_leads Q name kind.Common noprop text s t leads h
 done_leads Q (Insert card) text s t leads h =
@@ -141,7 +147,7 @@ purged_in_all_goes (a ∷ ages) l =
 pub step_goes : (line : LineView) (s t : State) → step line s ≡ Ok t → Continues s.library.idents t.library.idents
 step_goes line s t h = done_leads (λ m. Continues s.library.idents m.idents) line.item line.text s t (record {
   stays = continues_same s.library.idents;
-  grows = λ m within goes. goes;
+  grows = λ m within goes rests. goes;
   purges = λ gone. continues_unheld gone s.library.idents;
   parts = λ ages. purged_in_all_goes ages s.library;
 }) h
@@ -155,7 +161,22 @@ purged_in_all_within (a ∷ ages) l e = purged_in_all_within ages (purged_in a.d
 pub step_within : (line : LineView) (s t : State) → is_within_limits s.library ≡ true → step line s ≡ Ok t → is_within_limits t.library ≡ true
 step_within line s t e h = done_leads (λ m. is_within_limits m ≡ true) line.item line.text s t (record {
   stays = e;
-  grows = λ m within goes. within;
+  grows = λ m within goes rests. within;
   purges = λ gone. purged_within gone s.library e;
   parts = λ ages. purged_in_all_within ages s.library e;
+}) h
+
+-- ---- what the decks hold that aren't loaded
+
+purged_in_all_rests : (ages : List AgesIn) (l : LibraryView) → (purged_in_all ages l).rest ≡ l.rest
+purged_in_all_rests [] l = refl
+purged_in_all_rests (a ∷ ages) l =
+    purged_in_all_rests ages (purged_in a.deck a.ident l) ∙ rest_with a.deck (without_idents (λ x. x == a.ident)) l
+
+pub step_rests : (line : LineView) (s t : State) → step line s ≡ Ok t → t.library.rest ≡ s.library.rest
+step_rests line s t h = done_leads (λ m. m.rest ≡ s.library.rest) line.item line.text s t (record {
+  stays = refl;
+  grows = λ m within goes rests. rests;
+  purges = λ gone. refl;
+  parts = λ ages. purged_in_all_rests ages s.library;
 }) h

@@ -1,5 +1,5 @@
 -- Lines and runs keep what they find sound, the directory goes on, and no limit is passed.
-use Rattle.std.proofs.Common.{◌≡◌, ℕ, ◌+◌, true, false, List, [], ◌∷◌, refl, subst}
+use Rattle.std.proofs.Common.{◌≡◌, ℕ, ◌+◌, true, false, List, [], ◌∷◌, refl, ◌∙◌, subst}
 use Rattle.std.specs.Prelude.{Some, Result, Ok, Err, nat_le}
 use Rattle.upd_text.specs.declared.fault.Fault.{Fault}
 use Rattle.upd_text.specs.declared.fault.FaultKind.{FaultKind}
@@ -8,7 +8,7 @@ use Rattle.upd_core.specs.Edits.{purged, purged_back, is_among}
 use Rattle.upd_core.specs.Library.{LibraryView, empty}
 use Rattle.upd_core.specs.Limits.{is_within_limits}
 use Rattle.upd_text.specs.Outcome.{at_line}
-use Rattle.upd_core.specs.Sound.{IsSound, Continues}
+use Rattle.upd_core.specs.Sound.{IsSound, IsWhole, Continues}
 use Rattle.upd_deck.specs.Items.{ItemView, LineView, Text, Call, Ident, Deck, CommonDeck, Insert, Before, Delete, Restore, Yank, SelYank, YankDeck, Purge}
 use Rattle.upd_deck.specs.Items.{PurgeFrom, SelPurge, PurDeck, Compile}
 use Rattle.upd_apply.specs.declared.Hand.{Hand}
@@ -25,7 +25,7 @@ use Rattle.upd_laws.proofs.SoundOutcomeLemmas.{through, holds_of}
 use Rattle.upd_laws.proofs.SoundIdentLemmas.{continues_same, continues_on}
 use Rattle.upd_laws.proofs.SoundYankLemmas.{sets_are, pairs_are, decks_are}
 use Rattle.upd_laws.proofs.SoundEditLemmas.{purged_sound}
-use Rattle.upd_laws.proofs.SoundLeadLemmas.{step_goes, step_within}
+use Rattle.upd_laws.proofs.SoundLeadLemmas.{step_goes, step_rests, step_within}
 use Rattle.upd_laws.proofs.SoundStepLemmas.{set_sound, deck_begun_sound, after_sound, before_sound, switched_sound, put_sound, yank_put_sound, others_found}
 use Rattle.upd_laws.proofs.SoundStepLemmas.{purged_in_all_sound, ended_sound}
 
@@ -86,6 +86,12 @@ steps_within (line ∷ lines) s t e h =
     through (at_line line.number (step line s)) _ t (is_within_limits t.library ≡ true) h (λ x f h1.
     steps_within lines x t (step_within line s x e (line_is line.number (step line s) x f)) h1)
 
+steps_rest : (lines : List LineView) (s t : State) → stepped lines s ≡ Ok t → t.library.rest ≡ s.library.rest
+steps_rest [] s t h = holds_of (λ (x : State). x.library.rest ≡ s.library.rest) s t h refl
+steps_rest (line ∷ lines) s t h =
+    through (at_line line.number (step line s)) _ t (t.library.rest ≡ s.library.rest) h (λ x e h1.
+    steps_rest lines x t h1 ∙ step_rests line s x (line_is line.number (step line s) x e))
+
 pub started_sound : (l : LibraryView) → IsSound l → IsSoundState (started l)
 started_sound l s = record { library = s; hand = tt; spot = tt }
 
@@ -105,6 +111,9 @@ run_goes lines l r h = reached_by (λ m. Continues l.idents m.idents) lines l r 
 pub run_within : (lines : List LineView) (l : LibraryView) (r : Reached) → is_within_limits l ≡ true → applied lines l ≡ Ok r
     → is_within_limits r.library ≡ true
 run_within lines l r within h = reached_by (λ m. is_within_limits m ≡ true) lines l r (λ s e. steps_within lines (started l) s within e) h
+
+pub run_whole : (lines : List LineView) (l : LibraryView) (r : Reached) → IsWhole l → applied lines l ≡ Ok r → IsWhole r.library
+run_whole lines l r whole h = reached_by (λ m. m.rest ≡ l.rest) lines l r (λ s e. steps_rest lines (started l) s e) h ∙ whole
 
 pub empty_sound : IsSound empty
 empty_sound = record {

@@ -1,11 +1,12 @@
 //! Compile files and listings of libraries that runs have made.
-ghost use Rattle.std.specs.Prelude.{◌≡◌, ℕ, ◌++◌, ◌*◌, length, List, Ok};
-ghost use Rattle.std.specs.List.{Contains, flat_map};
+ghost use Rattle.std.specs.Prelude.{◌≡◌, ℕ, ◌++◌, ◌*◌, ◌==◌, ◌||◌, length, IsTrue, List, Ok};
+ghost use Rattle.std.specs.List.{AllByRecursion, Contains, flat_map};
 ghost use Rattle.upd_text.specs.Names.{yank_name};
 ghost use Rattle.upd_core.specs.Actives.{without_past};
 ghost use Rattle.upd_core.specs.Library.{CardView, LibraryView};
 ghost use Rattle.upd_core.specs.Sound.{IsSound, all_cards};
 ghost use Rattle.upd_core.specs.Status.{live_targets};
+ghost use Rattle.upd_deck.specs.Reading.{is_allowed};
 ghost use Rattle.upd_compile.specs.declared.mode.Mode.{Mode};
 ghost use Rattle.upd_compile.specs.File.{FileView, card_line, compile_file_of};
 ghost use Rattle.upd_compile.specs.Listings.{deck_heading, deck_listing};
@@ -18,6 +19,13 @@ pub fn compile_lines_have_97_bytes()
         → length (card_line l.idents (without_past c)) ≡ 97 }
     ensures file { (mode : Mode) (named : List ℕ) (before after : LibraryView) (file : FileView) → IsMadeByRuns after
         → compile_file_of mode named before after ≡ Ok file → length file.bytes ≡ 97 * file.lines }
+{}
+
+/// A compile file has the bytes of lines, and LF at their ends, where the library was made by runs that were read.
+pub fn compile_files_have_bytes_of_lines()
+    ensures { (mode : Mode) (named : List ℕ) (before after : LibraryView) (file : FileView) → IsMadeByRuns after
+        → compile_file_of mode named before after ≡ Ok file
+        → AllByRecursion (λ b. IsTrue (is_allowed b || (b == 10))) file.bytes }
 {}
 
 /// The listing of `YANK$$$` marks a yank card `A` where the listing of the yanks calls it live, and `I` where it calls

@@ -3,7 +3,7 @@ ghost use Rattle.std.specs.Prelude.{◌≡◌, ℕ, Bool, IsTrue, List, Ok};
 ghost use Rattle.upd_core.specs.Edits.{purged};
 ghost use Rattle.upd_core.specs.Library.{LibraryView, empty};
 ghost use Rattle.upd_core.specs.Limits.{is_within_limits};
-ghost use Rattle.upd_core.specs.Sound.{Continues, IsSound};
+ghost use Rattle.upd_core.specs.Sound.{Continues, IsSound, IsWhole};
 ghost use Rattle.upd_core.specs.Status.{IsAged};
 ghost use Rattle.upd_deck.specs.Items.{LineView};
 ghost use Rattle.upd_apply.specs.declared.state.State.{State};
@@ -18,10 +18,12 @@ pub fn lines_keep_states_sound()
     ensures all { (lines : List LineView) (s t : State) → IsSoundState s → stepped lines s ≡ Ok t → IsSoundState t }
 {}
 
-/// A run keeps a sound library sound, and so does a purge of any idents.
+/// A run keeps a sound library sound, and so does a purge of any idents. A whole library stays whole.
 pub fn runs_keep_libraries_sound()
     ensures run { (lines : List LineView) (l : LibraryView) (r : Reached) → IsSound l → applied lines l ≡ Ok r
         → IsSound r.library }
+    ensures whole { (lines : List LineView) (l : LibraryView) (r : Reached) → IsWhole l → applied lines l ≡ Ok r
+        → IsWhole r.library }
     ensures purge { (gone : ℕ → Bool) (l : LibraryView) → IsSound l → IsSound (purged gone l) }
 {}
 
