@@ -1,3 +1,6 @@
 mod JournalLemmas
 mod KeptLemmas
 mod RepeatLemmas
+mod MadeLemmas
+mod ShownLemmas
+mod StateLemmas

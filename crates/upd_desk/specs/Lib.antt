@@ -2,3 +2,5 @@ pub mod Arrivals
 pub mod Outcomes
 pub mod Journal
 pub mod Holding
+pub mod Made
+pub mod Worked

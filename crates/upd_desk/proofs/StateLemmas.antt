@@ -1,0 +1,155 @@
+-- Statuses and counts that were read from tables are those of the library that the tables show.
+use Rattle.std.proofs.Common.{◌≡◌, ℕ, ◌==◌, Bool, true, false, not, ◌&&◌, if◌then◌else◌, List, [], ◌∷◌, length, map, Option, Some, None, count_by}
+use Rattle.std.proofs.Common.{refl, ap, sym, ◌∙◌, rules, arith}
+use Rattle.std.specs.List.{filter}
+use Rattle.std.proofs.lemmas.Bool.Decides.{nat_tests}
+use Rattle.std.proofs.lemmas.List.Sums.{length-filter, sum_by-cons}
+use Rattle.upd_text.specs.declared.card_ref.CardRef.{CardRef}
+use Rattle.upd_core.specs.declared.states.States.{States}
+use Rattle.upd_core.specs.declared.target.Target.{Target}
+use Rattle.upd_core.specs.Library.{LibraryView}
+use Rattle.upd_core.specs.Status.{status_of}
+use Rattle.upd_core.specs.TargetCounts.{live_count}
+use Rattle.upd_core.specs.Targets.{is_same}
+use Rattle.upd_core.proofs.CountedLemmas.{same_target, target_same}
+use Rattle.upd_change.specs.Rows.{CountRow, IsSame, Rows, ShowsStates, StateRow, count_row, same_ref, state_row}
+use Rattle.upd_change.proofs.CountLemmas.{count_filter}
+use Rattle.upd_change.proofs.GoneLemmas.{same_ref_is, same_ref_own}
+use Rattle.upd_rows.specs.Tables.{AreRead, count_pair, state_pair}
+use Rattle.upd_yank.specs.Right as right
+use Rattle.upd_yank.specs.Right.{ShowStates}
+
+-- ---- the same elements as often
+
+module _ {A : Type 0} (test : A → Bool) (xs ys : List A) (same : IsSame xs ys) where
+  -- of as many elements as often as many pass
+  passes : length (filter test xs) ≡ length (filter test ys)
+  passes = length-filter test xs ∙ same.passes test ∙ sym (length-filter test ys)
+
+  none_passes : filter test ys ≡ [] → filter test xs ≡ []
+  none_passes none = go (filter test xs) (passes ∙ ap length none)
+    where
+      go : (zs : List A) → length zs ≡ 0 → zs ≡ []
+      go [] e = refl
+      go (z ∷ zs) e = absurd (cc)
+
+  -- the only element that passes is told by a test of its own
+  one_passes : (own : A → Bool) (y : A) → own y ≡ true → ((x : A) → own x ≡ true → x ≡ y) → filter test ys ≡ y ∷ [] → filter test xs ≡ y ∷ []
+  one_passes own y is alone only = go (filter test xs) (passes ∙ ap length only) owned
+    where
+      owned : count_by own (filter test xs) ≡ count_by own (y ∷ [])
+      owned = count_filter own test xs ∙ same.passes (λ x. test x && own x) ∙ sym (count_filter own test ys) ∙ ap (count_by own) only
+
+      single : (x : A) (b : Bool) → own x ≡ b → count_by own (x ∷ []) ≡ count_by own (y ∷ []) → b ≡ true
+      single x true e h = refl
+      single x false e h = let clash : ◌≡◌ {A = ℕ} 0 1 = rw (e, is) at h in absurd (cc)
+
+      go : (zs : List A) → length zs ≡ 1 → count_by own zs ≡ count_by own (y ∷ []) → zs ≡ y ∷ []
+      go [] e h = absurd (cc)
+      go (x ∷ []) e h = ap (λ z. z ∷ []) (alone x (single x (own x) refl h))
+      go (x ∷ z ∷ zs) e h = absurd (omega arith)
+
+-- what passes of elements that something was made of
+pub filter_made : {A B : Type 0} (test : B → Bool) (f : A → B) (xs : List A) → filter test (map f xs) ≡ map f (filter (λ x. test (f x)) xs)
+filter_made test f [] = refl
+filter_made {A} {B} test f (x ∷ xs) = go (test (f x)) (filter_made test f xs)
+  where
+    go : (b : Bool) → filter test (map f xs) ≡ map f (filter (λ x. test (f x)) xs)
+        → (if b then f x ∷ filter test (map f xs) else filter test (map f xs)) ≡ map f (if b then x ∷ filter (λ x. test (f x)) xs else filter (λ x. test (f x)) xs)
+    go true rest = ap (λ t. f x ∷ t) rest
+    go false rest = rest
+
+-- ---- statuses
+
+both : (a b : Bool) → (a && b) ≡ true → (a ≡ true) × (b ≡ true)
+both true b holds = (refl, holds)
+both false b holds = absurd (cc)
+
+abbrev same_bool : Bool → Bool → Bool
+same_bool true b = b
+same_bool false b = not b
+
+same_bool_is : (a b : Bool) → same_bool a b ≡ true → a ≡ b
+same_bool_is true true e = refl
+same_bool_is true false e = absurd (cc)
+same_bool_is false true e = absurd (cc)
+same_bool_is false false e = refl
+
+same_bool_own : (a : Bool) → same_bool a a ≡ true
+same_bool_own true = refl
+same_bool_own false = refl
+
+abbrev is_status : CardRef → Bool → CardRef × Bool → Bool
+is_status card active p = same_ref card p.0 && same_bool p.1 active
+
+own_status : (card : CardRef) (active : Bool) → is_status card active (card, active) ≡ true
+own_status card active = rw (same_ref_own card, same_bool_own active) refl
+
+one_status : (card : CardRef) (active : Bool) (p : CardRef × Bool) → is_status card active p ≡ true → p ≡ (card, active)
+one_status card active p e =
+    let two = both (same_ref card p.0) (same_bool p.1 active) e in
+    pair_is p.0 card p.1 active (sym (same_ref_is card p.0 two.0)) (same_bool_is p.1 active two.1)
+  where
+    pair_is : (a b : CardRef) (x y : Bool) → a ≡ b → x ≡ y → (let p : CardRef × Bool = (a, x) in p) ≡ (b, y)
+    pair_is a b x y e f = rw (e, f) refl
+
+states_shown : (rows : Rows) (found : States) (l : LibraryView) → AreRead rows found → ShowsStates rows l
+    → (card : CardRef) → filter (λ p. same_ref card p.0) found.states.items ≡ right.status_pair card (status_of card l)
+states_shown rows found l read shown card = go (status_of card l) (shown.states card)
+  where
+    test : CardRef × Bool → Bool
+    test p = same_ref card p.0
+
+    made : filter test (map state_pair rows.states) ≡ map state_pair (filter (λ r. same_ref card r.card) rows.states)
+    made = filter_made test state_pair rows.states
+
+    go : (s : Option Bool) → filter (λ r. same_ref card r.card) rows.states ≡ state_row card s → filter test found.states.items ≡ right.status_pair card s
+    go None e = none_passes test found.states.items (map state_pair rows.states) read.states (made ∙ ap (map state_pair) e)
+    go (Some active) e =
+        one_passes test found.states.items (map state_pair rows.states) read.states (is_status card active) (card, active)
+        (own_status card active) (one_status card active) (made ∙ ap (map state_pair) e)
+
+-- ---- counts
+
+abbrev is_count : Target → ℕ → Target × ℕ → Bool
+is_count target n p = is_same target p.0 && (p.1 == n)
+
+own_count : (target : Target) (n : ℕ) → is_count target n (target, n) ≡ true
+own_count target n = let same : (n == n) ≡ true = grind (arith, nat_tests) in rw (target_same target, same) refl
+
+one_count : (target : Target) (n : ℕ) (p : Target × ℕ) → is_count target n p ≡ true → p ≡ (target, n)
+one_count target n p e =
+    let two = both (is_same target p.0) (p.1 == n) e in
+    pair_is p.0 target p.1 n (sym (same_target target p.0 two.0)) (equal two.1)
+  where
+    equal : (p.1 == n) ≡ true → p.1 ≡ n
+    equal e = grind (arith, nat_tests)
+
+    pair_is : (a b : Target) (x y : ℕ) → a ≡ b → x ≡ y → (let p : Target × ℕ = (a, x) in p) ≡ (b, y)
+    pair_is a b x y e f = rw (e, f) refl
+
+counts_shown : (rows : Rows) (found : States) (l : LibraryView) → AreRead rows found → ShowsStates rows l
+    → (target : Target) → filter (λ p. is_same target p.0) found.counts.items ≡ right.count_pair target (live_count l target)
+counts_shown rows found l read shown target = go (live_count l target) (live_count l target == 0) refl (shown.counts target)
+  where
+    test : Target × ℕ → Bool
+    test p = is_same target p.0
+
+    made : filter test (map count_pair rows.counts) ≡ map count_pair (filter (λ r. is_same target r.target) rows.counts)
+    made = filter_made test count_pair rows.counts
+
+    go : (n : ℕ) (b : Bool) → (n == 0) ≡ b → filter (λ r. is_same target r.target) rows.counts ≡ count_row target n
+        → filter test found.counts.items ≡ right.count_pair target n
+    go n true is e = rw is (none_passes test found.counts.items (map count_pair rows.counts) read.counts (made ∙ ap (map count_pair) (e ∙ row)))
+      where
+        row : count_row target n ≡ []
+        row = rw is refl
+    go n false is e = rw is (one_passes test found.counts.items (map count_pair rows.counts) read.counts (is_count target n) (target, n)
+        (own_count target n) (one_count target n) (made ∙ ap (map count_pair) (e ∙ row)))
+      where
+        row : count_row target n ≡ record { target = target; n = n } ∷ []
+        row = rw is refl
+
+-- what was read shows the statuses of the library whose statuses the tables show
+pub read_states : (rows : Rows) (found : States) (l : LibraryView) → AreRead rows found → ShowsStates rows l → ShowStates found l
+read_states rows found l read shown = record { states = states_shown rows found l read shown; counts = counts_shown rows found l read shown }

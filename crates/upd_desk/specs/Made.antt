@@ -1,0 +1,31 @@
+-- What a desk owes of a new run: what is known of the library that it comes to, and what its row changes make of tables.
+use Rattle.std.specs.Prelude.{ℕ, IsTrue, List, length, Result, Ok, Err}
+use Rattle.upd_text.specs.declared.fault.Fault.{Fault}
+use Rattle.upd_core.specs.Library.{LibraryView}
+use Rattle.upd_core.specs.Limits.{is_within_limits}
+use Rattle.upd_core.specs.Sound.{IsSound, IsWhole}
+use Rattle.upd_apply.specs.Applying.{touched}
+use Rattle.upd_change.specs.Changes.{ChangeView, done_all}
+use Rattle.upd_change.specs.Fits.{AllFit}
+use Rattle.upd_change.specs.Rows.{Rows, Shows, ShowsStates}
+use Rattle.upd_laws.specs.ReadRuns.{IsMadeByRuns}
+use Rattle.upd_yank.specs.Affected.{affected}
+use Rattle.upd_desk.specs.Outcomes.{Compiled}
+
+-- What is known of the library after each journal: it is sound and whole, no limit is passed, and names and cards are as runs bring them.
+pub record IsMade (l : LibraryView) : Type 0 where
+  pub sound : IsSound l
+  pub whole : IsWhole l
+  pub within : IsTrue (is_within_limits l)
+  pub by_runs : IsMadeByRuns l
+
+-- Row changes lead tables to a library: the tables can carry them out, and then show the library with its statuses and counts.
+pub record LeadTo (changes : List ChangeView) (rows : Rows) (l : LibraryView) : Type 0 where
+  pub fit : AllFit changes rows
+  pub library : Shows (done_all changes rows) l
+  pub states : ShowsStates (done_all changes rows) l
+
+-- how many cards are looked at for a run: those that it can have changed the status of, and none where it is refused
+abbrev pub looked_at : LibraryView → Result Compiled Fault → ℕ
+looked_at l (Ok done) = length (affected (touched l done.reached.library) l done.reached.library)
+looked_at l (Err fault) = 0
