@@ -10,3 +10,4 @@ pub mod RightLemmas
 pub mod LeftLemmas
 pub mod RowLemmas
 pub mod ReachLemmas
+pub mod ToldLemmas

@@ -1,10 +1,9 @@
 -- A settling leaves the statuses and counts of the library after a run, and looks at no more cards than it must.
-use Rattle.std.proofs.Common.{◌≡◌, ℕ, zero, suc, ◌<◌, ◌≤◌, ◌^◌, slice_get, Bool, true, false, ◌||◌, List, [], ◌∷◌, ◌++◌, map, length, Option, Some, None}
+use Rattle.std.proofs.Common.{◌≡◌, ℕ, ◌<◌, ◌≤◌, ◌^◌, Bool, true, false, ◌||◌, List, [], ◌∷◌, ◌++◌, map, length, Option, Some, None}
 use Rattle.std.proofs.Common.{unwrap_or, refl, ap, sym, ◌∙◌, subst, arith, length-append}
 use Rattle.std.specs.List.{list_any, filter, AllByRecursion}
 use Rattle.std.specs.Map.{update_all}
 use Rattle.std.proofs.lemmas.List.{length-map}
-use Rattle.std.proofs.lemmas.Option.{same_Some}
 use Rattle.upd_core.proofs.ApartLemmas.{all_by_index}
 use Rattle.upd_yank.proofs.RefLemmas.{ref_same}
 use Rattle.std.proofs.lemmas.List.Elements.{filter-append}
@@ -16,12 +15,16 @@ use Rattle.upd_core.specs.Sound.{IsSound}
 use Rattle.upd_core.specs.Status.{IsAged, is_active, live_cards, live_targets, status_of}
 use Rattle.upd_core.specs.TargetCounts.{count_in, count_on, live_count}
 use Rattle.upd_apply.specs.Applying.{touched}
+use Rattle.upd_change.specs.Changes.{ChangeView}
 use Rattle.upd_change.specs.Rows.{same_ref}
+use Rattle.upd_change.specs.States.{TakeGone}
+use Rattle.upd_change.proofs.StateLemmas.{any_of}
 use Rattle.upd_text.specs.declared.card_ref.CardRef.{CardRef}
 use Rattle.upd_yank.proofs.FlipLemmas.{or_none, same_active, status_is}
 use Rattle.upd_yank.proofs.KeptLemmas.{untouched_status}
 use Rattle.upd_yank.proofs.SettleLemmas.{settled_is}
-use Rattle.upd_yank.proofs.StateLemmas.{HadStatus, all_counted, put_all, stay_right, statuses_are}
+use Rattle.upd_yank.proofs.ToldLemmas.{IsSettled}
+use Rattle.upd_yank.proofs.StateLemmas.{HadStatus, all_counted, put_all, stay_right, statuses_are, unfound_stayed}
 use Rattle.upd_yank.proofs.WorkLemmas.{Agrees, HasStatus, IsListed, all_agree, all_both, all_listed_back, all_listed_others, all_map, found_back, length_back}
 use Rattle.upd_yank.proofs.WorkLemmas.{listed_back, listed_front, right_back, right_others, takes_no_yanks, yanks_found}
 use Rattle.upd_yank.specs.Affected.{affected, altered, is_other, is_touched}
@@ -101,26 +104,39 @@ found_count touched before now l =
           (filter due (others_of l)),
     )
 
+-- what is found is right, and each due card is among it
+pub found_right : (touched was : CountedCardView → Bool) (before : Target → ℕ) (known : CardRef → Option Bool) (l : LibraryView) →
+    IsKnown touched was before known l →
+    AllByRecursion (λ p. status_of p.0 l ≡ Some p.1)
+    (found_back touched before (live_count l) (yanks_of l) ++ found_others touched before (live_count l) (others_of l)) ×
+    AllByRecursion (IsListed (is_due touched before (live_count l))
+    (found_back touched before (live_count l) (yanks_of l) ++ found_others touched before (live_count l) (others_of l))) (counted_cards l)
+found_right touched was before known l is =
+    let now = live_count l in
+    let due = is_due touched before now in
+    let back = found_back touched before now (yanks_of l) in
+    let others = found_others touched before now (others_of l) in
+    let has = statuses_are l is.sound in (
+      all_both (λ p. status_of p.0 l ≡ Some p.1) back others
+          (right_back touched before now l (yanks_of l) (split_front (HasStatus l now) (yanks_of l) (others_of l) has))
+          (right_others touched before now l (others_of l) (split_back (HasStatus l now) (yanks_of l) (others_of l) has)),
+      all_both (IsListed due (back ++ others)) (yanks_of l) (others_of l)
+          (all_map (IsListed due back) (IsListed due (back ++ others)) (yanks_of l) (λ k h. listed_front due back others k h)
+          (all_listed_back touched before now (yanks_of l)))
+          (all_map (IsListed due others) (IsListed due (back ++ others)) (others_of l) (λ k h. listed_back due back others k h)
+          (all_listed_others touched before now (others_of l))),
+    )
+
 pub statuses_right : (touched was : CountedCardView → Bool) (before : Target → ℕ) (known : CardRef → Option Bool) (l : LibraryView) (r : CardRef) →
     IsKnown touched was before known l →
     update_all same_ref (stay known (others_of l) (stay known (yanks_of l) (λ _. None)))
     (found_back touched before (live_count l) (yanks_of l) ++ found_others touched before (live_count l) (others_of l)) r ≡ status_of r l
 statuses_right touched was before known l r is =
     let now = live_count l in
-    let due = is_due touched before now in
-    let back = found_back touched before now (yanks_of l) in
-    let others = found_others touched before now (others_of l) in
-    let has = statuses_are l is.sound in
-    let right = all_both (λ p. status_of p.0 l ≡ Some p.1) back others
-    (right_back touched before now l (yanks_of l) (split_front (HasStatus l now) (yanks_of l) (others_of l) has))
-    (right_others touched before now l (others_of l) (split_back (HasStatus l now) (yanks_of l) (others_of l) has)) in
-    let listed = all_both (IsListed due (back ++ others)) (yanks_of l) (others_of l)
-    (all_map (IsListed due back) (IsListed due (back ++ others)) (yanks_of l) (λ k h. listed_front due back others k h)
-    (all_listed_back touched before now (yanks_of l)))
-    (all_map (IsListed due others) (IsListed due (back ++ others)) (others_of l) (λ k h. listed_back due back others k h)
-    (all_listed_others touched before now (others_of l))) in
-    put_all l (back ++ others) (stay known (others_of l) (stay known (yanks_of l) (λ _. None))) r right
-    (λ none. stay_right l due known now (back ++ others) r is.sound has is.had listed none)
+    let found = found_back touched before now (yanks_of l) ++ found_others touched before now (others_of l) in
+    let right = found_right touched was before known l is in
+    put_all l found (stay known (others_of l) (stay known (yanks_of l) (λ _. None))) r right.0
+    (λ none. stay_right l (is_due touched before now) known now found r is.sound (statuses_are l is.sound) is.had right.1 none)
 
 -- ---- after a run
 
@@ -237,6 +253,14 @@ known_anew run was before known l sound all = record {
       (λ k h. λ none. absurd (let q = sym h ∙ (or_none (run k) (is_reached before (live_count l) k.deck k.view) none).0 in cc)) all;
 }
 
+-- what is found by a set of the touched cards is what is found by these
+found_by_run : (cache : CacheView) (new : LibraryView) (run set : List CardRef) (found : List (CardRef × Bool)) →
+    ((r : CardRef) → list_any (same_ref r) set ≡ list_any (same_ref r) run) →
+    found ≡ found_of_all (is_touched set) (was_active cache.states) (count_in cache.counts) new →
+    found ≡ found_of_all (is_touched run) (was_active cache.states) (count_in cache.counts) new
+found_by_run cache new run set found same is =
+    is ∙ (λ i. found_of_all (λ k. same k.card i) (was_active cache.states) (count_in cache.counts) new)
+
 -- the same of a set of the touched cards
 pub settled_right : (old new : LibraryView) (cache left : CacheView) (run set : List CardRef) (found : List (CardRef × Bool)) → IsRunBetween old new cache run →
     ((r : CardRef) → list_any (same_ref r) set ≡ list_any (same_ref r) run) →
@@ -251,23 +275,39 @@ settled_right old new cache left run set found between same counts found_all sta
     let touched_same : is_touched set ≡ is_touched run = λ i k. same k.card i in
     let was = was_active cache.states in
     let before = count_in cache.counts in
-    let all : found ≡ found_of_all (is_touched run) was before new = found_all fits
-    ∙ ap (λ (test : CountedCardView → Bool). found_of_all test was before new) touched_same in (
+    let all = found_by_run cache new run set found same (found_all fits) in (
       left_right (is_touched run) was before (kept_status cache.states) new found left (known_between old new cache run between) all
           (λ t. counts fits t ∙ ap (λ (test : CountedCardView → Bool). count_on (settled test was before (yanks_of new)) t) touched_same) statuses,
       left_work old new cache run found between all,
     )
 
--- each card of a library is among its own
-any_of : {A : Type 0} (test : A → Bool) (xs : List A) (k : ℕ) (x : A) → slice_get xs k ≡ Some x → test x ≡ true → list_any test xs ≡ true
-any_of test [] k x at is = absurd (cc)
-any_of test (y ∷ xs) zero x at is = ap (λ b. b || list_any test xs) (ap test (same_Some y x at) ∙ is)
-any_of test (y ∷ xs) (suc k) x at is = or_later (test y) (list_any test xs) (any_of test xs k x at is)
-  where
-    or_later : (a b : Bool) → b ≡ true → (a || b) ≡ true
-    or_later true b e = refl
-    or_later false b e = e
+-- what is told of a settling
+pub settled_told : (old new : LibraryView) (cache left : CacheView) (run set : List CardRef) (found : List (CardRef × Bool)) (changes : List ChangeView) →
+    IsRunBetween old new cache run → ((r : CardRef) → list_any (same_ref r) set ≡ list_any (same_ref r) run) →
+    (AreCountable new.yanks → found ≡ found_of_all (is_touched set) (was_active cache.states) (count_in cache.counts) new) →
+    IsRight new left → TakeGone old new changes → IsSettled old new cache.states found left.states changes cache.counts left.counts
+settled_told old new cache left run set found changes between same found_all right taken =
+    let touched = is_touched run in
+    let was = was_active cache.states in
+    let before = count_in cache.counts in
+    let known = kept_status cache.states in
+    let is = known_between old new cache run between in
+    let all = found_by_run cache new run set found same (found_all (countable new between.after between.few))
+    ∙ found_is touched was before known new is in
+    let both = found_right touched was before known new is in
+    let due = is_due touched before (live_count new) in
+    let listed = subst (λ found. AllByRecursion (IsListed due found) (counted_cards new)) (sym all) both.1 in
+    record {
+      before = between.right.status;
+      right = subst (AllByRecursion (λ p. status_of p.0 new ≡ Some p.1)) (sym all) both.0;
+      after = right.status;
+      stayed = λ r none there. unfound_stayed new due known found r between.after is.had listed none there;
+      counted = between.right.count;
+      counts = right.count;
+      taken = taken;
+    }
 
+-- each card of a library is among its own
 pub all_touched : (l : LibraryView) (none first set : List CardRef) (ys os : List CountedCardView) → ys ≡ yanks_of l → os ≡ others_of l →
     ((r : CardRef) → list_any (same_ref r) first ≡ (list_any (same_ref r) none || list_any (λ k. same_ref r k.card) ys)) →
     ((r : CardRef) → list_any (same_ref r) set ≡ (list_any (same_ref r) first || list_any (λ k. same_ref r k.card) os)) →

@@ -1,6 +1,6 @@
 -- The statuses once what is found is put to those that stay.
-use Rattle.std.proofs.Common.{◌≡◌, ℕ, zero, suc, Bool, true, false, ◌||◌, cond, if◌then◌else◌, List, [], ◌∷◌, ◌++◌, map, slice_get, Option, Some, None, refl}
-use Rattle.std.proofs.Common.{ap, sym, ◌∙◌}
+use Rattle.std.proofs.Common.{◌≡◌, ℕ, zero, suc, Bool, true, false, ◌||◌, cond, if◌then◌else◌, List, [], ◌∷◌, ◌++◌, map, slice_get, Option, Some, None, is_some}
+use Rattle.std.proofs.Common.{refl, ap, sym, ◌∙◌}
 use Rattle.std.specs.List.{list_any, flat_map, AllByRecursion, Contains}
 use Rattle.std.specs.Map.{update, update_all}
 use Rattle.std.specs.Option.{option_or}
@@ -20,7 +20,7 @@ use Rattle.upd_text.specs.declared.card_ref.CardRef.{CardRef}
 use Rattle.upd_yank.proofs.FlipLemmas.{or_none, status_is}
 use Rattle.upd_yank.proofs.FindLemmas.{any_at, cards_found}
 use Rattle.upd_yank.proofs.RefLemmas.{one_ref, ref_same}
-use Rattle.upd_yank.proofs.WorkLemmas.{HasStatus, all_both, is_found}
+use Rattle.upd_yank.proofs.WorkLemmas.{HasStatus, IsListed, all_both, is_found}
 use Rattle.upd_yank.specs.Cascade.{is_active_by, stay}
 
 -- ---- the cards of a library with their decks
@@ -137,10 +137,36 @@ none_stay known true b r e = absurd (cc)
 none_stay known false true r e = absurd (cc)
 none_stay known false false r e = refl
 
+-- a card that isn't found had its status
+had_status : (l : LibraryView) (due : CountedCardView → Bool) (known : CardRef → Option Bool) (found : List (CardRef × Bool)) (r : CardRef) →
+    AllByRecursion (HadStatus l due known) (counted_cards l) → AllByRecursion (IsListed due found) (counted_cards l) → is_found found r ≡ false →
+    list_any (λ k. same_ref k.card r) (counted_cards l) ≡ true → known r ≡ status_of r l
+had_status l due known found r had listed none there = at (any_at (λ k. same_ref k.card r) (counted_cards l) there)
+  where
+    not_due : (k : CountedCardView) → IsListed due found k → k.card ≡ r → (b : Bool) → due k ≡ b → due k ≡ false
+    not_due k here same false f = f
+    not_due k here same true f = absurd (let q = sym none ∙ sym (ap (is_found found) same) ∙ here f in cc)
+
+    at : (i : ℕ) × (k : CountedCardView) × (slice_get (counted_cards l) i ≡ Some k) × (same_ref k.card r ≡ true) → known r ≡ status_of r l
+    at found_card =
+        let k = found_card.1 in
+        let same : k.card ≡ r = one_ref k.card r found_card.3 in
+        let undue = not_due k (all_at (IsListed due found) (counted_cards l) found_card.0 k listed found_card.2) same (due k) refl in
+        sym (ap known same) ∙ all_at (HadStatus l due known) (counted_cards l) found_card.0 k had found_card.2 undue ∙ ap (λ x. status_of x l) same
+
+pub unfound_stayed : (l : LibraryView) (due : CountedCardView → Bool) (known : CardRef → Option Bool) (found : List (CardRef × Bool)) (r : CardRef) →
+    IsSound l → AllByRecursion (HadStatus l due known) (counted_cards l) → AllByRecursion (IsListed due found) (counted_cards l) →
+    is_found found r ≡ false → is_some (status_of r l) ≡ true → known r ≡ status_of r l
+unfound_stayed l due known found r sound had listed none there = go (status_of r l) refl
+  where
+    go : (o : Option Bool) → status_of r l ≡ o → known r ≡ status_of r l
+    go None e = absurd (let q = sym (ap is_some e) ∙ there in cc)
+    go (Some s) e = had_status l due known found r had listed none (status_there l r s sound e)
+
 pub stay_right : (l : LibraryView) (due : CountedCardView → Bool) (known : CardRef → Option Bool) (now : Target → ℕ) (found : List (CardRef × Bool))
     (r : CardRef) → IsSound l →
     AllByRecursion (HasStatus l now) (counted_cards l) → AllByRecursion (HadStatus l due known) (counted_cards l) →
-    AllByRecursion (λ k. due k ≡ true → is_found found k.card ≡ true) (counted_cards l) → is_found found r ≡ false →
+    AllByRecursion (IsListed due found) (counted_cards l) → is_found found r ≡ false →
     stay known (others_of l) (stay known (yanks_of l) (λ _. None)) r ≡ status_of r l
 stay_right l due known now found r sound has had listed none = go (list_any (λ k. same_ref k.card r) (counted_cards l)) refl
   where
@@ -163,14 +189,6 @@ stay_right l due known now found r sound has had listed none = go (list_any (λ 
         at found_card =
             let k = found_card.1 in
             let same : k.card ≡ r = one_ref k.card r found_card.3 in
-            let status = all_at (HasStatus l now) (counted_cards l) found_card.0 k has found_card.2 in
-            let known_here = all_at (HadStatus l due known) (counted_cards l) found_card.0 k had found_card.2
-            (not_due k (all_at (λ k. due k ≡ true → is_found found k.card ≡ true) (counted_cards l) found_card.0 k listed found_card.2) same (due k) refl)
-            in
+            let status = sym (ap (λ x. status_of x l) same) ∙ all_at (HasStatus l now) (counted_cards l) found_card.0 k has found_card.2 in
             two_stay known (list_any (λ k. same_ref k.card r) (yanks_of l)) (list_any (λ k. same_ref k.card r) (others_of l)) r (is_active_by now k.deck k.view)
-            (sym parts ∙ e)
-            (sym (ap known same) ∙ known_here ∙ status) ∙ sym status ∙ ap (λ x. status_of x l) same
-          where
-            not_due : (k : CountedCardView) → (due k ≡ true → is_found found k.card ≡ true) → k.card ≡ r → (b : Bool) → due k ≡ b → due k ≡ false
-            not_due k here same false f = f
-            not_due k here same true f = absurd (let q = sym none ∙ sym (ap (is_found found) same) ∙ here f in cc)
+            (sym parts ∙ e) (had_status l due known found r had listed none e ∙ status) ∙ sym status

@@ -1,3 +1,4 @@
 pub mod Cascade
 pub mod Right
 pub mod Affected
+pub mod Told

@@ -1,6 +1,6 @@
 //! The cache: kept statuses and counts, from nothing, from rows, or settled after a run.
 
-ghost use Rattle.std.specs.Prelude.{◌≡◌, ◌<◌, ◌≤◌, ◌^◌, length, IfOk, OnErr, OnOk};
+ghost use Rattle.std.specs.Prelude.{◌≡◌, ◌<◌, ◌≤◌, ◌^◌, length, map, IfOk, OnErr, OnOk};
 ghost use Rattle.std.specs.Result.{IsOkUnless};
 ghost use Rattle.upd_core.specs.Library.{LibraryView};
 ghost use Rattle.upd_core.specs.declared.target.Target.{Target};
@@ -8,15 +8,20 @@ ghost use Rattle.upd_core.specs.Sound.{IsSound};
 ghost use Rattle.upd_core.specs.TargetCounts.{count_in};
 ghost use Rattle.upd_text.specs.Faults.{fault_at};
 ghost use Rattle.upd_text.specs.declared.fault.FaultKind.TheVariants.{NoMemory};
+ghost use Rattle.upd_change.specs.Changes.{change_seen, done_all};
+ghost use Rattle.upd_change.specs.Rows.{Rows, ShowsStates};
+ghost use Rattle.upd_change.specs.States.{TakeGone};
 ghost use Rattle.upd_yank.specs.Affected.{affected, altered};
 ghost use Rattle.upd_yank.specs.Right.{IsRight, IsRunBetween, ShowStates, kept_status, put_counts};
 
 use crate::cascade::{Before, settling};
 use crate::statuses::Statuses;
+use crate::told::tell;
 use crate::touched::Touched;
 use std::alloc::{AllocError, Global};
 use std::marker::Model;
 use upd_apply::Applied;
+use upd_change::Change;
 use upd_core::{CardRef, Counted, Fault, Library, States, Target, TargetCounts};
 
 /// The status of each card and the count of each target, kept from run to run.
@@ -80,15 +85,27 @@ impl Cache {
         })
     }
 
-    /// Leads the cache from the library before a run to the one after it, of which this is a new `Counted`. Memory
-    /// alone can fail, and leaves the cache as it was.
-    pub fn settle(&mut self, counted: &mut Counted<'_>, applied: &Applied) -> Result<(), Fault>
+    /// Leads the cache from the library before a run to the one after it, of which this is a new `Counted`. What it
+    /// answers does the same to rows that show statuses and counts, once the changes of the run are carried out: each
+    /// status that is new or another one, that of a card which the run took away and brought again, and each count
+    /// that is another one. Memory alone can fail, and leaves the cache as it was.
+    pub fn settle(
+        &mut self,
+        counted: &mut Counted<'_>,
+        applied: &Applied,
+    ) -> Result<Vec<Change>, Fault>
         ensures right { (old : LibraryView) → IsRunBetween old counted.old.library self.old applied.now.touched.items →
             OnOk result (IsRight counted.old.library self.new) }
         ensures work { (old : LibraryView) → IsRunBetween old counted.old.library self.old applied.now.touched.items →
             OnOk result (self.new.work ≡ length (affected applied.now.touched.items old counted.old.library)) }
         ensures least { (old : LibraryView) → IsRunBetween old counted.old.library self.old applied.now.touched.items →
             OnOk result (length (altered old counted.old.library) ≤ self.new.work) }
+        ensures changes { (old : LibraryView) →
+            IsRunBetween old counted.old.library self.old applied.now.touched.items →
+            TakeGone old counted.old.library (map change_seen applied.now.changes.items) →
+            (rows : Rows) → ShowsStates rows old → IfOk result (λ changes.
+            ShowsStates (done_all (map change_seen changes.items) (done_all (map change_seen applied.now.changes.items)
+            rows)) counted.old.library) }
         ensures reads { counted.old.reads ≡ 0 → OnOk result (counted.new.reads ≡ self.new.work) }
         ensures err { IsOkUnless result (fault_at NoMemory 0) × OnErr result (self.new ≡ self.old) }
     {
@@ -99,10 +116,11 @@ impl Cache {
             counts: &self.counts,
         };
         let left = settling(self.alloc, counted, &before)?;
+        let changes = tell(self.alloc, &before, &left, &applied.changes)?;
         self.work = left.found.statuses.len() as u64;
         self.statuses = left.statuses;
         self.counts = left.found.counts;
-        Ok(())
+        Ok(changes)
     }
 
     /// Whether a card is active, for a yank card live; none where there is no such card.

@@ -6,6 +6,7 @@ pub mod cache;
 mod cascade;
 pub mod laws;
 mod statuses;
+mod told;
 mod touched;
 
 pub use cache::Cache;

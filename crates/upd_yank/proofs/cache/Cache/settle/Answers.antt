@@ -1,8 +1,11 @@
-use Rattle.std.proofs.Common.{ap, sym, ◌∙◌, subst, arith}
+use Rattle.std.proofs.Common.{map, ap, sym, ◌∙◌, subst, arith}
 use Rattle.std.specs.List.{list_any}
-use Rattle.upd_change.specs.Rows.{same_ref}
-use Rattle.upd_yank.proofs.RightLemmas.{least_work, settled_right}
+use Rattle.upd_change.specs.Changes.{change_seen, done_all}
+use Rattle.upd_change.specs.Rows.{ShowsStates, same_ref}
+use Rattle.upd_yank.proofs.RightLemmas.{least_work, settled_right, settled_told}
+use Rattle.upd_yank.proofs.ToldLemmas.{settling_shows}
 use Rattle.upd_yank.specs.Right.{CacheView, IsRunBetween}
+use Rattle.upd_yank.specs.Told.{settling_told}
 use Rattle.upd_yank.proofs.cache.Cache.settle.Goals as goal
 
 pub returns-clause-right : goal.returns-clause-right
@@ -33,3 +36,21 @@ returns-clause-least c = λ old between.
     let more = least_work old c.args.counted.now.library c.args.self.now c.args.applied.now.touched.items between in
     let is = returns-clause-work c old between in
     omega (arith, more, is)
+
+pub returns-clause-changes : goal.returns-clause-changes
+returns-clause-changes c = λ old between taken rows shown.
+    let new = c.args.counted.now.library in
+    let run = c.args.applied.now.touched.items in
+    let gone = map change_seen c.args.applied.now.changes.items in
+    let cache : CacheView = record { states = c.self.inside.statuses; counts = c.self.inside.counts; work = c.self.inside.work } in
+    let left : CacheView = record { states = c.in_ok-left.left.statuses; counts = c.in_ok-left.left.found.counts; work = c.len.result } in
+    let found = c.in_ok-left.left.found.statuses.items in
+    let known = subst (λ k. IsRunBetween old new k run) (sym c.self.view_is) between in
+    let same = λ (r : _). c.in_ok-touched.ensures r ∙ ap (list_any (same_ref r)) c.deref.ensures.value in
+    let right = (settled_right old new cache left run c.in_ok-touched.touched found known same
+    c.in_ok-left.ensures.counts c.in_ok-left.ensures.found c.in_ok-left.ensures.statuses).0 in
+    let settled = settled_told old new cache left run c.in_ok-touched.touched found gone known same c.in_ok-left.ensures.found right taken in
+    let told = c.in_ok-changes.ensures
+    ∙ ap (λ cs. settling_told cache.states found left.states (map change_seen cs) cache.counts left.counts) c.deref-2.ensures.value in
+    subst (λ cs. ShowsStates (done_all cs (done_all gone rows)) new) (sym told)
+    (settling_shows old new cache.states found left.states gone cache.counts left.counts rows settled shown)
