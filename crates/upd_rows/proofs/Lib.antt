@@ -1,3 +1,4 @@
 pub mod ListLemmas
 pub mod TableLemmas
 pub mod StoreLemmas
+pub mod KeepingLemmas

@@ -186,6 +186,10 @@ mark_at_settled s n rows site = go (nat_le n (mark_at s rows)) (bytes_eq s site)
         rw b (ap (λ m. option_map_or (λ x. x.mark) m 0) (not_sought (is_mark_of site) (filter (λ x. not (is_mark_of s x)) rows.settled)
         (record { site = s; mark = n }) is ∙ rest))
 
+-- a number above the mark is the mark afterwards
+pub settled_mark : (s : List ℕ) (n : ℕ) (rows : Rows) → nat_le n (mark_at s rows) ≡ false → mark_at s (settled_to s n rows) ≡ n
+settled_mark s n rows above = mark_at_settled s n rows s ∙ rw (is_same_bytes s) (max_left n (mark_at s rows) above)
+
 -- which of the runs of a key a settlement takes
 taken_by : (s site : List ℕ) (n m : ℕ) (x : RunView) → is_run site m x ≡ true → is_settled s n x ≡ (bytes_eq site s && nat_le m n)
 taken_by s site n m x hit = let key = same_key x.site site x.number m hit in rw (key.0, key.1) refl

@@ -1,13 +1,20 @@
 //! A store over lists.
 
-ghost use Rattle.std.specs.Prelude.{◌≡◌, [], IfOk};
+ghost use Rattle.std.specs.Prelude.{◌≡◌, ◌≤◌, [], ◌∷◌, ◌++◌, not, map, IfOk, OnErr, OnOk};
+ghost use Rattle.std.specs.List.{filter};
+ghost use Rattle.std.specs.Option.{option_copied};
+ghost use Rattle.std.specs.Vec.{vec_capacity, vec_len};
+ghost use Rattle.upd_change.specs.Changes.{change_seen};
+ghost use Rattle.upd_change.specs.Fits.{AllFit};
 ghost use Rattle.upd_change.specs.Rows.{Rows};
+ghost use Rattle.upd_rows.specs.Tables.{AreRead, committed, count_pair, is_mark_of, is_settled, mark_at, run_at, settled_to};
+ghost use Rattle.upd_rows.specs.Tables.{state_pair};
 
 use crate::rows::{CardRow, CountRow, EntryRow, MarkRow, StateRow, TargetRow, copy_run};
 use std::alloc::{AllocError, Global};
 use std::marker::Model;
-use upd_change::RunRow;
-use upd_core::Ident;
+use upd_change::{Change, RunRow};
+use upd_core::{CardRef, Ident, States, Target};
 
 /// The tables as lists. Nothing but want of memory fails here.
 #[derive(Debug, Drop)]
@@ -86,6 +93,127 @@ impl ListStore {
             settled,
         })
     }
+
+    /// The run that is kept under a key.
+    fn run_under(&self, site: &str, number: u64) -> Option<&RunRow>
+        ensures { option_copied result ≡ run_at site.now number self.now }
+    {
+        for run in &self.runs {
+            if run.site.as_str() == site && run.number == number {
+                return Some(run);
+            }
+        }
+        None
+    }
+
+    /// The number up to which a site has settled, 0 where it never did.
+    fn mark_of(&self, site: &str) -> u64
+        ensures { result ≡ mark_at site.now self.now }
+    {
+        for row in &self.settled {
+            if row.site.as_str() == site {
+                return row.mark;
+            }
+        }
+        0
+    }
+
+    /// All statuses and counts; memory alone can fail.
+    fn all_states(&self, alloc: Global) -> Result<States, AllocError>
+        ensures { IfOk result (λ found. AreRead self.now found) }
+    {
+        let states = state_pairs(alloc, &self.states)?;
+        let counts = count_pairs(alloc, &self.counts)?;
+        Ok(States { states, counts })
+    }
+
+    /// One commit: where memory runs out nothing is changed.
+    fn commit_all(
+        &mut self,
+        alloc: Global,
+        changes: &[Change],
+        run: RunRow,
+    ) -> Result<(), AllocError>
+        ensures done { OnOk result (AllFit (map change_seen changes.now) self.old
+            → self.new ≡ committed (map change_seen changes.now) run self.old) }
+        ensures undone { OnErr result (self.new ≡ self.old) }
+    {
+        let mut tables = self.copy(alloc)?;
+        tables.carry_out_all(changes)?;
+        tables.runs.push(run)?;
+        *self = tables;
+        Ok(())
+    }
+
+    /// One settlement: where memory runs out nothing is changed.
+    fn settle(&mut self, alloc: Global, site: &str, number: u64) -> Result<u64, AllocError>
+        ensures mark { IfOk result (λ mark. mark ≡ mark_at site.now (settled_to site.now number self.old)) }
+        ensures done { OnOk result (self.new ≡ settled_to site.now number self.old) }
+        ensures undone { OnErr result (self.new ≡ self.old) }
+    {
+        let mark = self.mark_of(site);
+        if number <= mark {
+            return Ok(mark);
+        }
+        let row = MarkRow {
+            site: String::from_str(alloc, site)?,
+            mark: number,
+        };
+        put_mark(&mut self.settled, row)?;
+        drop_runs(&mut self.runs, site, number);
+        Ok(number)
+    }
+}
+
+/// The cards of rows with their statuses; memory alone can fail.
+fn state_pairs(alloc: Global, rows: &[StateRow]) -> Result<Vec<(CardRef, bool)>, AllocError>
+    ensures { IfOk result (λ pairs. pairs.items ≡ map state_pair rows.now) }
+{
+    let mut pairs = Vec::with_capacity(alloc, rows.len())?;
+    for row in rows {
+        pairs.push((row.card, row.active))?;
+    }
+    Ok(pairs)
+}
+
+/// The targets of rows with their counts; memory alone can fail.
+fn count_pairs(alloc: Global, rows: &[CountRow]) -> Result<Vec<(Target, u32)>, AllocError>
+    ensures { IfOk result (λ pairs. pairs.items ≡ map count_pair rows.now) }
+{
+    let mut pairs = Vec::with_capacity(alloc, rows.len())?;
+    for row in rows {
+        pairs.push((row.target, row.n))?;
+    }
+    Ok(pairs)
+}
+
+/// Puts a mark in the place of the site's other marks; where memory runs out nothing is changed.
+fn put_mark(marks: &mut Vec<MarkRow>, row: MarkRow) -> Result<(), AllocError>
+    ensures done { OnOk result (marks.new.items ≡ filter (λ m. not (is_mark_of row.site m)) marks.old.items ++ row ∷ []) }
+    ensures undone { OnErr result (marks.new.items ≡ marks.old.items) }
+{
+    marks.reserve(1)?;
+    drop_marks(marks, &row.site);
+    if marks.push(row).is_err() {
+        unreachable!();
+    }
+    Ok(())
+}
+
+/// Takes a site's marks away.
+fn drop_marks(marks: &mut Vec<MarkRow>, site: &str)
+    ensures rest { marks.new.items ≡ filter (λ m. not (is_mark_of site.now m)) marks.old.items }
+    ensures len { vec_len marks.new ≤ vec_len marks.old }
+    ensures capacity { vec_capacity marks.new ≡ vec_capacity marks.old }
+{
+    marks.retain(|mark| mark.site.as_str() != site);
+}
+
+/// Takes a site's runs away up to a number.
+fn drop_runs(runs: &mut Vec<RunRow>, site: &str, number: u64)
+    ensures { runs.new.items ≡ filter (λ r. not (is_settled site.now number r)) runs.old.items }
+{
+    runs.retain(|run| !(run.site.as_str() == site && run.number <= number));
 }
 
 /// A copy of rows of cards; memory alone can fail.
