@@ -11,3 +11,4 @@ pub mod LeftLemmas
 pub mod RowLemmas
 pub mod ReachLemmas
 pub mod ToldLemmas
+pub mod OnlyLemmas

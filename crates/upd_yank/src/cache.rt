@@ -1,6 +1,7 @@
 //! The cache: kept statuses and counts, from nothing, from rows, or settled after a run.
 
-ghost use Rattle.std.specs.Prelude.{◌≡◌, ◌<◌, ◌≤◌, ◌^◌, length, map, IfOk, OnErr, OnOk};
+ghost use Rattle.std.specs.Prelude.{◌≡◌, ◌<◌, ◌≤◌, ◌^◌, length, map, true, IfOk, OnErr, OnOk};
+ghost use Rattle.std.specs.List.{AllByRecursion};
 ghost use Rattle.std.specs.Result.{IsOkUnless};
 ghost use Rattle.upd_core.specs.Library.{LibraryView};
 ghost use Rattle.upd_core.specs.declared.target.Target.{Target};
@@ -10,7 +11,7 @@ ghost use Rattle.upd_text.specs.Faults.{fault_at};
 ghost use Rattle.upd_text.specs.declared.fault.FaultKind.TheVariants.{NoMemory};
 ghost use Rattle.upd_change.specs.Changes.{change_seen, done_all};
 ghost use Rattle.upd_change.specs.Rows.{Rows, ShowsStates};
-ghost use Rattle.upd_change.specs.States.{TakeGone};
+ghost use Rattle.upd_change.specs.States.{TakeGone, tells_state};
 ghost use Rattle.upd_yank.specs.Affected.{affected, altered};
 ghost use Rattle.upd_yank.specs.Right.{IsRight, IsRunBetween, ShowStates, kept_status, put_counts};
 
@@ -106,6 +107,8 @@ impl Cache {
             (rows : Rows) → ShowsStates rows old → IfOk result (λ changes.
             ShowsStates (done_all (map change_seen changes.items) (done_all (map change_seen applied.now.changes.items)
             rows)) counted.old.library) }
+        ensures only { IfOk result (λ changes.
+            AllByRecursion (λ c. tells_state c ≡ true) (map change_seen changes.items)) }
         ensures reads { counted.old.reads ≡ 0 → OnOk result (counted.new.reads ≡ self.new.work) }
         ensures err { IsOkUnless result (fault_at NoMemory 0) × OnErr result (self.new ≡ self.old) }
     {

@@ -1,7 +1,9 @@
-use Rattle.std.proofs.Common.{map, ap, sym, ◌∙◌, subst, arith}
-use Rattle.std.specs.List.{list_any}
+use Rattle.std.proofs.Common.{◌≡◌, true, map, ap, sym, ◌∙◌, subst, arith}
+use Rattle.std.specs.List.{list_any, AllByRecursion}
 use Rattle.upd_change.specs.Changes.{change_seen, done_all}
 use Rattle.upd_change.specs.Rows.{ShowsStates, same_ref}
+use Rattle.upd_change.specs.States.{tells_state}
+use Rattle.upd_yank.proofs.OnlyLemmas.{settling_only}
 use Rattle.upd_yank.proofs.RightLemmas.{least_work, settled_right, settled_told}
 use Rattle.upd_yank.proofs.ToldLemmas.{settling_shows}
 use Rattle.upd_yank.specs.Right.{CacheView, IsRunBetween}
@@ -54,3 +56,14 @@ returns-clause-changes c = λ old between taken rows shown.
     ∙ ap (λ cs. settling_told cache.states found left.states (map change_seen cs) cache.counts left.counts) c.deref-2.ensures.value in
     subst (λ cs. ShowsStates (done_all cs (done_all gone rows)) new) (sym told)
     (settling_shows old new cache.states found left.states gone cache.counts left.counts rows settled shown)
+
+pub returns-clause-only : goal.returns-clause-only
+returns-clause-only c =
+    let gone = map change_seen c.args.applied.now.changes.items in
+    let known = c.self.inside.statuses in
+    let found = c.in_ok-left.left.found.statuses.items in
+    let kept = c.in_ok-left.left.statuses in
+    let had = c.self.inside.counts in
+    let has = c.in_ok-left.left.found.counts in
+    let told = c.in_ok-changes.ensures ∙ ap (λ cs. settling_told known found kept (map change_seen cs) had has) c.deref-2.ensures.value in
+    subst (AllByRecursion (λ c. tells_state c ≡ true)) (sym told) (settling_only known found kept gone had has)
