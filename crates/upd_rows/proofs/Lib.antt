@@ -1,6 +1,7 @@
 pub mod ListLemmas
 pub mod TableLemmas
 pub mod StoreLemmas
+mod PartLemmas
 pub mod KeepingLemmas
 mod SortLemmas
 mod RowLemmas

@@ -8,7 +8,9 @@ ghost use Rattle.upd_change.specs.Rows.{Rows, Shows, same_ref};
 ghost use Rattle.upd_rows.specs.Assembling.{AreAgesOf, AreByAge, AreByCard, AreByPlace, AreRowsOf};
 ghost use Rattle.upd_rows.specs.Assembling.{AreTargetsByCard, age_named, card_in, decks_in, entries_of, library_of};
 ghost use Rattle.upd_rows.specs.Assembling.{targets_of};
+ghost use Rattle.upd_rows.specs.Parts.{part_of};
 
+use crate::parts::part_of;
 use crate::rows::{CardRow, EntryRow, LibraryRows, TargetRow};
 use std::alloc::{AllocError, Global};
 use std::collections::BTreeMap;
@@ -189,13 +191,10 @@ fn library_of(alloc: Global, idents: Vec<Ident>, decks: Vec<Deck>) -> Library
     Library::of_parts(idents, decks, yanks.cards, rest)
 }
 
-/// The library of rows that come in any order; memory alone can fail. Where they are no library's rows it is some
-/// library, of which nothing is promised.
-pub fn assembled(alloc: Global, rows: LibraryRows) -> Result<Library, AllocError>
-    ensures part { (tables : Rows) (l : LibraryView) → IsSound l → Shows tables l → AreRowsOf tables rows
-        → IfOk result (λ found. found ≡ record l { rest = empty.rest }) }
-    ensures whole { (tables : Rows) (l : LibraryView) → IsSound l → IsWhole l → Shows tables l → AreRowsOf tables rows
-        → IfOk result (λ found. found ≡ l) }
+/// The directory and the decks of rows that come in any order.
+fn idents_and_decks(alloc: Global, rows: LibraryRows) -> Result<(Vec<Ident>, Vec<Deck>), AllocError>
+    ensures { (tables : Rows) (l : LibraryView) → IsSound l → Shows tables l → AreRowsOf tables rows
+        → IfOk result (λ found. library_of found.0.items found.1.items ≡ record l { rest = empty.rest }) }
 {
     let rows = LibraryRows {
         idents: by_age(rows.idents),
@@ -204,5 +203,30 @@ pub fn assembled(alloc: Global, rows: LibraryRows) -> Result<Library, AllocError
         targets: targets_by_card(rows.targets),
     };
     let decks = decks_of(alloc, &rows)?;
-    Ok(library_of(alloc, rows.idents, decks))
+    Ok((rows.idents, decks))
+}
+
+/// The library of rows that come in any order; memory alone can fail. Where they are no library's rows it is some
+/// library, of which nothing is promised.
+pub fn assembled(alloc: Global, rows: LibraryRows) -> Result<Library, AllocError>
+    ensures part { (tables : Rows) (l : LibraryView) → IsSound l → Shows tables l → AreRowsOf tables rows
+        → IfOk result (λ found. found ≡ record l { rest = empty.rest }) }
+    ensures whole { (tables : Rows) (l : LibraryView) → IsSound l → IsWhole l → Shows tables l → AreRowsOf tables rows
+        → IfOk result (λ found. found ≡ l) }
+{
+    let (idents, decks) = idents_and_decks(alloc, rows)?;
+    Ok(library_of(alloc, idents, decks))
+}
+
+/// The same without the decks other than `YANK$$$` that aren't of these ages: what they have is counted.
+pub fn assembled_part(
+    alloc: Global,
+    rows: LibraryRows,
+    ages: &[Serial],
+) -> Result<Library, AllocError>
+    ensures { (tables : Rows) (l : LibraryView) → IsSound l → IsWhole l → Shows tables l → AreRowsOf tables rows
+        → IfOk result (λ found. found ≡ part_of ages.now l) }
+{
+    let (idents, decks) = idents_and_decks(alloc, rows)?;
+    Ok(part_of(alloc, idents, decks, ages))
 }

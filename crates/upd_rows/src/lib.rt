@@ -4,10 +4,11 @@
 pub mod assemble;
 mod list_changes;
 pub mod list_store;
+mod parts;
 pub mod rows;
 pub mod store;
 
-pub use assemble::assembled;
+pub use assemble::{assembled, assembled_part};
 pub use list_store::ListStore;
 pub use rows::{CardRow, CountRow, EntryRow, LibraryRows, MarkRow, StateRow, TargetRow};
 pub use store::RowStore;

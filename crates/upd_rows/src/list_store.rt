@@ -1,20 +1,30 @@
 //! A store over lists.
 
-ghost use Rattle.std.specs.Prelude.{◌≡◌, ◌≤◌, [], ◌∷◌, ◌++◌, not, map, IfOk, OnErr, OnOk};
+ghost use Rattle.std.specs.Prelude.{◌≡◌, ◌≤◌, refl, [], ◌∷◌, ◌++◌, not, map, IfOk, OnErr, OnOk};
 ghost use Rattle.std.specs.List.{filter};
 ghost use Rattle.std.specs.Option.{option_copied};
 ghost use Rattle.std.specs.Vec.{vec_capacity, vec_len};
+ghost use Rattle.std.proofs.Common.{sym, ◌∙◌};
+ghost use Rattle.upd_core.specs.Library.{LibraryView};
+ghost use Rattle.upd_core.specs.Sound.{IsSound, IsWhole};
 ghost use Rattle.upd_change.specs.Changes.{change_seen};
 ghost use Rattle.upd_change.specs.Fits.{AllFit};
-ghost use Rattle.upd_change.specs.Rows.{Rows};
-ghost use Rattle.upd_rows.specs.Tables.{AreRead, committed, count_pair, is_mark_of, is_settled, mark_at, run_at, settled_to};
-ghost use Rattle.upd_rows.specs.Tables.{state_pair};
+ghost use Rattle.upd_change.specs.Rows.{Rows, Shows};
+ghost use Rattle.upd_rows.specs.Assembling.{AreRowsOf};
+ghost use Rattle.upd_rows.specs.Parts.{part_of};
+ghost use Rattle.upd_rows.specs.Tables.{AreRead, committed, count_pair, is_mark_of, is_settled, mark_at, run_at};
+ghost use Rattle.upd_rows.specs.Tables.{settled_to, state_pair};
 
-use crate::rows::{CardRow, CountRow, EntryRow, MarkRow, StateRow, TargetRow, copy_run};
+use crate::assemble::{assembled, assembled_part};
+use crate::rows::{
+    CardRow, CountRow, EntryRow, LibraryRows, MarkRow, StateRow, TargetRow, copy_run,
+};
+use crate::store::RowStore;
 use std::alloc::{AllocError, Global};
 use std::marker::Model;
 use upd_change::{Change, RunRow};
-use upd_core::{CardRef, Ident, States, Target};
+use upd_core::{CardRef, Ident, Library, Serial, States, Target};
+use upd_text::Fault;
 
 /// The tables as lists. Nothing but want of memory fails here.
 #[derive(Debug, Drop)]
@@ -94,6 +104,41 @@ impl ListStore {
         })
     }
 
+    /// The rows that make the library; memory alone can fail.
+    fn library_rows(&self, alloc: Global) -> Result<LibraryRows, AllocError>
+        ensures { IfOk result (AreRowsOf self.now) }
+    {
+        let idents = Vec::from_slice(alloc, &self.idents)?;
+        let cards = copy_cards(alloc, &self.cards)?;
+        let entries = Vec::from_slice(alloc, &self.entries)?;
+        let targets = Vec::from_slice(alloc, &self.targets)?;
+        Ok(LibraryRows {
+            idents,
+            cards,
+            entries,
+            targets,
+        })
+    }
+
+    /// The library; memory alone can fail.
+    fn library(&self, alloc: Global) -> Result<Library, AllocError>
+        ensures { (l : LibraryView) → IsSound l → IsWhole l → Shows self.now l → IfOk result (λ found. found ≡ l) }
+    {
+        let rows = self.library_rows(alloc)?;
+        let library = assembled(alloc, rows)?;
+        Ok(library)
+    }
+
+    /// The library without the decks that aren't of these ages; memory alone can fail.
+    fn part(&self, alloc: Global, ages: &[Serial]) -> Result<Library, AllocError>
+        ensures { (l : LibraryView) → IsSound l → IsWhole l → Shows self.now l
+            → IfOk result (λ found. found ≡ part_of ages.now l) }
+    {
+        let rows = self.library_rows(alloc)?;
+        let library = assembled_part(alloc, rows, ages)?;
+        Ok(library)
+    }
+
     /// The run that is kept under a key.
     fn run_under(&self, site: &str, number: u64) -> Option<&RunRow>
         ensures { option_copied result ≡ run_at site.now number self.now }
@@ -165,6 +210,80 @@ impl ListStore {
     }
 }
 
+impl RowStore for ListStore {
+    ghost Image = { Rows };
+
+    ghost shows = { λ image rows. image ≡ rows };
+
+    ghost image = { λ s. s };
+
+    ghost is_open = { λ _. Unit {0} };
+
+    ghost is_honest = { λ _. Unit {0} };
+
+    ghost may_leave = { λ s image. image ≡ s };
+
+    ghost failures_of = { λ _. 0 };
+
+    ghost caused = { λ _ _. ⊥ };
+
+    fn load(&mut self, alloc: Global) -> Result<Library, Fault> {
+        let library = self.library(alloc)?;
+        Ok(library)
+    }
+
+    fn load_decks(&mut self, alloc: Global, decks: &[Serial]) -> Result<Library, Fault> {
+        let library = self.part(alloc, decks)?;
+        Ok(library)
+    }
+
+    fn load_states(&mut self, alloc: Global) -> Result<States, Fault> {
+        let states = self.all_states(alloc)?;
+        Ok(states)
+    }
+
+    fn kept_run(
+        &mut self,
+        alloc: Global,
+        site: &str,
+        number: u64,
+    ) -> Result<Option<RunRow>, Fault> {
+        match self.run_under(site, number) {
+            Some(run) => {
+                let run = copy_run(alloc, run)?;
+                Ok(Some(run))
+            }
+            None => Ok(None),
+        }
+    }
+
+    fn mark(&mut self, _alloc: Global, site: &str) -> Result<u64, Fault> {
+        Ok(self.mark_of(site))
+    }
+
+    fn commit(&mut self, alloc: Global, changes: &[Change], run: RunRow) -> Result<(), Fault> {
+        self.commit_all(alloc, changes, run)?;
+        Ok(())
+    }
+
+    fn settle_to(&mut self, alloc: Global, site: &str, number: u64) -> Result<u64, Fault> {
+        let mark = self.settle(alloc, site, number)?;
+        Ok(mark)
+    }
+
+    fn failures(&self) -> u64 {
+        0
+    }
+
+    ghost one = { λ i a b shown other. sym shown ∙ other };
+
+    ghost settled = { λ s i _ _ left. left };
+
+    ghost stays = { λ s _ _. refl };
+
+    ghost survives = { λ s _. ∣ (_, refl) ∣₁ };
+}
+
 /// The cards of rows with their statuses; memory alone can fail.
 fn state_pairs(alloc: Global, rows: &[StateRow]) -> Result<Vec<(CardRef, bool)>, AllocError>
     ensures { IfOk result (λ pairs. pairs.items ≡ map state_pair rows.now) }
@@ -189,7 +308,8 @@ fn count_pairs(alloc: Global, rows: &[CountRow]) -> Result<Vec<(Target, u32)>, A
 
 /// Puts a mark in the place of the site's other marks; where memory runs out nothing is changed.
 fn put_mark(marks: &mut Vec<MarkRow>, row: MarkRow) -> Result<(), AllocError>
-    ensures done { OnOk result (marks.new.items ≡ filter (λ m. not (is_mark_of row.site m)) marks.old.items ++ row ∷ []) }
+    ensures done { OnOk result (marks.new.items
+        ≡ filter (λ m. not (is_mark_of row.site m)) marks.old.items ++ row ∷ []) }
     ensures undone { OnErr result (marks.new.items ≡ marks.old.items) }
 {
     marks.reserve(1)?;
