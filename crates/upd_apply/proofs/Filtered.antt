@@ -1,6 +1,6 @@
 -- A filter in a loop: what is found so far, and what is still to come.
 use Rattle.std.proofs.Common.{◌≡◌, ℕ, ◌+◌, ◌<◌, Bool, true, false, if◌then◌else◌, List, [], ◌∷◌, ◌++◌, map, length, drop, get_or, ap, sym, ◌∙◌, append_assoc}
-use Rattle.std.specs.List.{filter, flat_map}
+use Rattle.std.specs.List.{filter}
 use Rattle.std.proofs.lemmas.List.{drop_more}
 
 one_more : {X Y : Type 0} (f : X → Y) (test : X → Bool) (x : X) (xs : List X) (found now : List Y) (b : Bool)
@@ -18,11 +18,3 @@ filter_more f test xs i x found now whole b within read says is so_far =
     one_more f test x (drop (i + 1) xs) found now b says is
     ∙ ap (λ t. found ++ map f (if t then x ∷ filter test (drop (i + 1) xs) else filter test (drop (i + 1) xs))) says
     ∙ sym (ap (λ t. found ++ map f (filter test t)) next) ∙ so_far
-
--- the step of a loop that adds what f makes of the element x
-pub flat_more : {X Y : Type 0} (f : X → List Y) (xs : List X) (i : ℕ) (d x : X) (found now whole : List Y) → i < length xs
-    → x ≡ get_or xs i d → now ≡ found ++ f x → found ++ flat_map f (drop i xs) ≡ whole → now ++ flat_map f (drop (i + 1) xs) ≡ whole
-flat_more f xs i d x found now whole within read is so_far =
-    let next : drop i xs ≡ x ∷ drop (i + 1) xs = drop_more xs i d within ∙ ap (λ t. t ∷ drop (i + 1) xs) (sym read) in
-    ap (λ t. t ++ flat_map f (drop (i + 1) xs)) is ∙ append_assoc found (f x) (flat_map f (drop (i + 1) xs))
-    ∙ sym (ap (λ t. found ++ flat_map f t) next) ∙ so_far

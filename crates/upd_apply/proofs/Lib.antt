@@ -3,4 +3,3 @@ pub mod Filtered
 pub mod OnceLemmas
 pub mod StepLemmas
 pub mod TargetLemmas
-pub mod TouchedLaws

@@ -14,9 +14,8 @@ ghost use Rattle.upd_apply.specs.Step.{step};
 
 use crate::compile::named_decks;
 use crate::state::State;
-use crate::touched::touched;
 use std::alloc::{AllocError, Global};
-use upd_change::{Change, changes};
+use upd_change::{Change, Compared, compare};
 use upd_core::{Ident, Library, Serial};
 use upd_deck::{Line, Run};
 use upd_text::{CardRef, Fault};
@@ -79,8 +78,7 @@ fn outcome(
 {
     let compile = named_decks(alloc, after, lines)?;
     let idents = ages_from(alloc, after.idents(), before.idents().len())?;
-    let touched = touched(before, after)?;
-    let changes = changes(alloc, before, after)?;
+    let Compared { changes, touched } = compare(alloc, before, after)?;
     Ok(Applied {
         idents,
         compile,

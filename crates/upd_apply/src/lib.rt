@@ -7,7 +7,6 @@ mod names;
 mod purges;
 pub mod state;
 mod step;
-mod touched;
 mod yanks;
 
 pub use applying::{Applied, apply, purge_back};

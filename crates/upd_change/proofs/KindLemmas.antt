@@ -1,16 +1,16 @@
 -- What holds of each kind of change holds of all that is told.
 use Rattle.std.proofs.Common.{ℕ, ◌+◌, Bool, true, false, cond, List, [], ◌∷◌, ◌++◌, length, drop}
 use Rattle.std.specs.Prelude.{not, ◌==◌, ◌&&◌, ℤ}
-use Rattle.std.specs.List.{AllByRecursion}
+use Rattle.std.specs.List.{flat_map, AllByRecursion}
 use Rattle.upd_text.specs.declared.card_ref.CardRef.{CardRef}
 use Rattle.upd_core.specs.declared.card.Entry.{Entry}
 use Rattle.upd_core.specs.declared.ident.Ident.{Ident}
 use Rattle.upd_core.specs.declared.target.Target.{Target}
 use Rattle.upd_core.specs.Library.{CardView, ref_of}
 use Rattle.upd_change.specs.Changes.{ChangeView, IdentNew, IdentPurged, CardNew, CardGone, CardsMoved, EntryNew, EntriesGone, TargetNew, TargetsGone}
-use Rattle.upd_change.specs.Fates.{FateView, Kept, Gone, New}
+use Rattle.upd_change.specs.Fates.{FateView, DeckFatesView, Kept, Gone, New}
 use Rattle.upd_change.specs.Told.{begins, idents_told, gone_of, move_to, moves, way, entries_new, targets_new, grown, card_new, brought}
-use Rattle.upd_change.proofs.AllLemmas.{all_joined, each_map}
+use Rattle.upd_change.proofs.AllLemmas.{all_joined, each_flat, each_map}
 
 module _ (P : ChangeView → Type 0) where
   pub idents_all : ((i : Ident) → P (IdentNew i)) → ((age : ℕ) → P (IdentPurged age)) → (old new : List Ident) → AllByRecursion P (idents_told old new)
@@ -84,3 +84,20 @@ module _ (P : ChangeView → Type 0) where
             (entries_all entry (ref_of idents e) 0 e.history) (targets_all target (ref_of idents e) 0 e.targets),
       )
       (brought_all card entry target idents d (p + 1) fates)
+
+  -- ---- of all decks
+
+  pub gone_each : ((card : CardRef) → P (CardGone card)) → ((card : CardRef) → P (EntriesGone card))
+      → ((card : CardRef) (targets : List Target) → P (TargetsGone card targets)) → (idents : List Ident) (ks : List DeckFatesView)
+      → AllByRecursion P (flat_map (λ k. flat_map (gone_of idents) k.fates) ks)
+  gone_each card entries targets idents =
+      each_flat P (λ k. flat_map (gone_of idents) k.fates) (λ k. each_flat P (gone_of idents) (gone_all card entries targets idents) k.fates)
+
+  pub moves_each : ((d from : ℕ) (by : ℤ) → P (CardsMoved d from by)) → (ks : List DeckFatesView)
+      → AllByRecursion P (flat_map (λ k. moves k.deck 0 0 k.fates) ks)
+  moves_each move = each_flat P (λ k. moves k.deck 0 0 k.fates) (λ k. moves_all move k.deck 0 0 k.fates)
+
+  pub brought_each : ((card : CardRef) (d p : ℕ) (body : List ℕ) → P (CardNew card d p body)) → ((card : CardRef) (n : ℕ) (e : Entry) → P (EntryNew card n e))
+      → ((card : CardRef) (n : ℕ) (t : Target) → P (TargetNew card n t)) → (idents : List Ident) (ks : List DeckFatesView)
+      → AllByRecursion P (flat_map (λ k. brought idents k.deck 0 k.fates) ks)
+  brought_each card entry target idents = each_flat P (λ k. brought idents k.deck 0 k.fates) (λ k. brought_all card entry target idents k.deck 0 k.fates)

@@ -12,3 +12,4 @@ pub mod StateLemmas
 pub mod AllLemmas
 pub mod KindLemmas
 pub mod FitLemmas
+pub mod TouchedLemmas

@@ -1,14 +1,12 @@
 -- What told changes do to statuses and counts: the rows of cards that are gone go, and nothing else.
-use Rattle.std.proofs.Common.{◌≡◌, ℕ, zero, suc, ◌+◌, Bool, true, false, cond, List, [], ◌∷◌, ◌++◌, length, drop, slice_get, Option, Some, None, is_some}
+use Rattle.std.proofs.Common.{◌≡◌, ℕ, zero, suc, Bool, true, false, cond, List, [], ◌∷◌, ◌++◌, slice_get, Option, Some, None, is_some}
 use Rattle.std.proofs.Common.{refl, ap, sym, ◌∙◌}
-use Rattle.std.specs.Prelude.{not, ◌==◌, ◌&&◌, ◌||◌}
+use Rattle.std.specs.Prelude.{not, ◌||◌}
 use Rattle.std.specs.List.{filter, find, flat_map, list_any, AllByRecursion, Contains}
 use Rattle.std.proofs.lemmas.Option.{same_Some}
 use Rattle.upd_text.specs.declared.card_ref.CardRef.{CardRef}
-use Rattle.upd_core.specs.declared.card.Entry.{Entry}
 use Rattle.upd_core.specs.declared.ident.Ident.{Ident}
 use Rattle.upd_core.specs.declared.library.Place.{Place}
-use Rattle.upd_core.specs.declared.target.Target.{Target}
 use Rattle.upd_core.specs.Library.{CardView, DeckView, LibraryView, all_decks, card_in, is_deck, place_of, ref_of}
 use Rattle.upd_core.specs.Sound.{Continues, IsSound, all_cards}
 use Rattle.upd_core.specs.Status.{status_of}
@@ -19,9 +17,11 @@ use Rattle.upd_change.specs.Changes.{ChangeView, IdentNew, IdentPurged, CardNew,
 use Rattle.upd_change.specs.Changes.{StatusNow, CountNow, done, done_all}
 use Rattle.upd_change.specs.Fates.{FateView, DeckFatesView, Kept, Gone, New, Lead, IsKept, card_after, card_before}
 use Rattle.upd_change.specs.States.{TakeGone, takes_card, tells_state}
-use Rattle.upd_change.specs.Told.{begins, brought, card_new, cards_told, entries_new, gone_of, grown, idents_told, move_to, moves, targets_new, targets_told}
-use Rattle.upd_change.specs.Told.{told, way}
+use Rattle.upd_change.specs.Told.{brought, cards_told, gone_of, idents_told, moves, targets_told}
+use Rattle.upd_change.specs.Told.{told}
+use Rattle.upd_change.proofs.AllLemmas.{all_joined}
 use Rattle.upd_change.proofs.EffectLemmas.{any_append}
+use Rattle.upd_change.proofs.KindLemmas.{idents_all, gone_each, moves_each, brought_each}
 use Rattle.upd_change.proofs.GoneLemmas.{same_ref_is, same_ref_own}
 use Rattle.upd_change.proofs.ToldLemmas.{after_is, all_kept, before_is, fates, flat_twice, stay}
 
@@ -136,80 +136,20 @@ gone_told idents r (New b ∷ fs) kept was is = gone_told idents r fs kept.1 was
 -- ---- no status and no count is told
 
 -- changes that tell no status and no count
+abbrev IsSilent : ChangeView → Type 0
+IsSilent c = tells_state c ≡ false
+
 abbrev pub AreSilent : List ChangeView → Type 0
-AreSilent cs = AllByRecursion (λ c. tells_state c ≡ false) cs
-
-silent_both : (cs ds : List ChangeView) → AreSilent cs → AreSilent ds → AreSilent (cs ++ ds)
-silent_both [] ds front back = back
-silent_both (c ∷ cs) ds front back = (front.0, silent_both cs ds front.1 back)
-
-silent_flat : {A : Type 0} (f : A → List ChangeView) → ((x : A) → AreSilent (f x)) → (xs : List A) → AreSilent (flat_map f xs)
-silent_flat f each [] = tt
-silent_flat f each (x ∷ xs) = silent_both (f x) (flat_map f xs) (each x) (silent_flat f each xs)
-
-silent_if : (b : Bool) (cs ds : List ChangeView) → AreSilent cs → AreSilent ds → AreSilent (cond b cs ds)
-silent_if true cs ds front back = front
-silent_if false cs ds front back = back
-
-idents_silent : (old new : List Ident) → AreSilent (idents_told old new)
-idents_silent [] [] = tt
-idents_silent [] (j ∷ new) = (refl, idents_silent [] new)
-idents_silent (i ∷ old) [] = tt
-idents_silent (i ∷ old) (j ∷ new) =
-    silent_both (cond (i.held && not j.held) (IdentPurged i.age ∷ []) []) (idents_told old new)
-    (silent_if (i.held && not j.held) (IdentPurged i.age ∷ []) [] (refl, tt) tt) (idents_silent old new)
-
-gone_silent : (idents : List Ident) (f : FateView) → AreSilent (gone_of idents f)
-gone_silent idents (Kept a b) = silent_if (begins a.history b.history) [] (EntriesGone (ref_of idents a) ∷ []) tt (refl, tt)
-gone_silent idents (Gone a) =
-    silent_both (targets_told idents a) (EntriesGone (ref_of idents a) ∷ CardGone (ref_of idents a) ∷ [])
-    (silent_if (length a.targets == 0) [] (TargetsGone (ref_of idents a) a.targets ∷ []) tt (refl, tt)) (refl, (refl, tt))
-gone_silent idents (New b) = tt
-
-moves_silent : (d w p : ℕ) (fs : List FateView) → AreSilent (moves d w p fs)
-moves_silent d w p [] = tt
-moves_silent d w p (Kept a b ∷ fs) =
-    silent_both (move_to d w p) (moves d (p + 1) (p + 1) fs) (silent_if (w == p) [] (CardsMoved d w (way w p) ∷ []) tt (refl, tt))
-    (moves_silent d (p + 1) (p + 1) fs)
-moves_silent d w p (Gone a ∷ fs) = moves_silent d (w + 1) p fs
-moves_silent d w p (New b ∷ fs) = moves_silent d w (p + 1) fs
-
-entries_silent : (card : CardRef) (n : ℕ) (es : List Entry) → AreSilent (entries_new card n es)
-entries_silent card n [] = tt
-entries_silent card n (e ∷ es) = (refl, entries_silent card (n + 1) es)
-
-targets_silent : (card : CardRef) (n : ℕ) (ts : List Target) → AreSilent (targets_new card n ts)
-targets_silent card n [] = tt
-targets_silent card n (t ∷ ts) = (refl, targets_silent card (n + 1) ts)
-
-grown_silent : (idents : List Ident) (a b : CardView) → AreSilent (grown idents a b)
-grown_silent idents a b =
-    silent_if (begins a.history b.history) (entries_new (ref_of idents a) (length a.history) (drop (length a.history) b.history))
-    (entries_new (ref_of idents a) 0 b.history) (entries_silent (ref_of idents a) (length a.history) (drop (length a.history) b.history))
-    (entries_silent (ref_of idents a) 0 b.history)
-
-brought_silent : (idents : List Ident) (d p : ℕ) (fs : List FateView) → AreSilent (brought idents d p fs)
-brought_silent idents d p [] = tt
-brought_silent idents d p (Kept a b ∷ fs) =
-    silent_both (grown idents a b) (brought idents d (p + 1) fs) (grown_silent idents a b) (brought_silent idents d (p + 1) fs)
-brought_silent idents d p (Gone a ∷ fs) = brought_silent idents d p fs
-brought_silent idents d p (New b ∷ fs) =
-    silent_both (card_new idents d p b) (brought idents d (p + 1) fs) (
-      refl,
-      silent_both (entries_new (ref_of idents b) 0 b.history) (targets_new (ref_of idents b) 0 b.targets) (entries_silent (ref_of idents b) 0 b.history)
-          (targets_silent (ref_of idents b) 0 b.targets),
-    )
-    (brought_silent idents d (p + 1) fs)
+AreSilent cs = AllByRecursion IsSilent cs
 
 told_silent : (old new : List Ident) (ks : List DeckFatesView) → AreSilent (told old new ks)
 told_silent old new ks =
-    silent_both (idents_told old new) (cards_told new ks) (idents_silent old new)
-    (silent_both (flat_map (λ k. flat_map (gone_of new) k.fates) ks)
+    all_joined IsSilent (idents_told old new) (cards_told new ks) (idents_all IsSilent (λ i. refl) (λ age. refl) old new)
+    (all_joined IsSilent (flat_map (λ k. flat_map (gone_of new) k.fates) ks)
     (flat_map (λ k. moves k.deck 0 0 k.fates) ks ++ flat_map (λ k. brought new k.deck 0 k.fates) ks)
-    (silent_flat (λ k. flat_map (gone_of new) k.fates) (λ k. silent_flat (gone_of new) (gone_silent new) k.fates) ks)
-    (silent_both (flat_map (λ k. moves k.deck 0 0 k.fates) ks) (flat_map (λ k. brought new k.deck 0 k.fates) ks)
-    (silent_flat (λ k. moves k.deck 0 0 k.fates) (λ k. moves_silent k.deck 0 0 k.fates) ks)
-    (silent_flat (λ k. brought new k.deck 0 k.fates) (λ k. brought_silent new k.deck 0 k.fates) ks)))
+    (gone_each IsSilent (λ card. refl) (λ card. refl) (λ card targets. refl) new ks)
+    (all_joined IsSilent (flat_map (λ k. moves k.deck 0 0 k.fates) ks) (flat_map (λ k. brought new k.deck 0 k.fates) ks)
+    (moves_each IsSilent (λ d from by. refl) ks) (brought_each IsSilent (λ card d p body. refl) (λ card n e. refl) (λ card n t. refl) new ks)))
 
 -- ---- what is told takes what is gone, and leaves other statuses and the counts alone
 

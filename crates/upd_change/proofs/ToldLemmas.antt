@@ -1,6 +1,5 @@
 -- The law of row changes: rows that show a library, changed as the fates of its cards are told, show the library that these lead to.
 use Rattle.std.proofs.Common.{◌≡◌, ℕ, ◌+◌, Bool, true, false, cond, List, [], ◌∷◌, ◌++◌, map, refl, ap, sym, subst, ◌∙◌}
-use Rattle.std.specs.Prelude.{ℤ}
 use Rattle.std.specs.List.{filter, flat_map, AllByRecursion}
 use Rattle.std.proofs.lemmas.Grind.{flat_map-append}
 use Rattle.std.proofs.lemmas.List.Folds.{flat_map-map}
@@ -11,14 +10,14 @@ use Rattle.upd_core.specs.Sound.{AreApart, Continues, IsSound, all_cards}
 use Rattle.upd_core.proofs.ApartLemmas.{all_front, all_back, rising_apart}
 use Rattle.upd_core.proofs.FoundLemmas.{refs_apart}
 use Rattle.upd_change.specs.Rows.{CardRow, EntryRow, TargetRow, Rows, IsSame, Shows, rows_of, card_rows, entry_rows, target_rows}
-use Rattle.upd_change.specs.Changes.{ChangeView, CardsMoved, done_all}
+use Rattle.upd_change.specs.Changes.{ChangeView, done_all}
 use Rattle.upd_change.specs.Fates.{FateView, DeckFatesView, Lead, IsKept, card_before, card_after, deck_before, deck_after, has_cards}
 use Rattle.upd_change.specs.Fates.{standing}
-use Rattle.upd_change.specs.Told.{gone_of, idents_told, moves, brought, cards_told, told}
+use Rattle.upd_change.specs.Told.{gone_of, idents_told, brought, cards_told, told}
 use Rattle.upd_change.proofs.CountLemmas.{same_of, same_trans, same_woven}
 use Rattle.upd_change.proofs.EffectLemmas.{Effect, Nothing, on_idents, on_cards, on_entries, on_targets, all_acts, acts_append, acts_same, AreIdle, idle_acts}
-use Rattle.upd_change.proofs.AllLemmas.{all_joined, all_flat, each_flat}
-use Rattle.upd_change.proofs.KindLemmas.{idents_all, gone_all, moves_all, brought_all}
+use Rattle.upd_change.proofs.AllLemmas.{all_joined, all_flat}
+use Rattle.upd_change.proofs.KindLemmas.{idents_all, gone_each, moves_each, brought_each}
 use Rattle.upd_change.proofs.FitLemmas.{Carry, FitsAny, any_fit, fit_append, fit_same, of_cards}
 use Rattle.upd_change.specs.Fits.{AllFit}
 use Rattle.upd_change.proofs.EffectLemmas.{idents_after, cards_after, entries_after, targets_after, is_in, without, acts_without}
@@ -47,24 +46,15 @@ module _ (idents : List Ident) (ks : List DeckFatesView) where
       → all_acts e (cards_told idents ks) xs ≡ all_acts e all_brought (all_acts e (all_moves ks) (all_acts e all_gone xs))
   phases e xs = acts_append e all_gone (all_moves ks ++ all_brought) xs ∙ acts_append e (all_moves ks) all_brought (all_acts e all_gone xs)
 
-  -- what holds of each kind of change
-  gone_each : (P : ChangeView → Type 0) → ((f : FateView) → AllByRecursion P (gone_of idents f)) → AllByRecursion P all_gone
-  gone_each P each = each_flat P (λ k. flat_map (gone_of idents) k.fates) (λ k. each_flat P (gone_of idents) each k.fates) ks
-
-  moves_each : (P : ChangeView → Type 0) → ((d from : ℕ) (by : ℤ) → P (CardsMoved d from by)) → AllByRecursion P (all_moves ks)
-  moves_each P move = each_flat P (λ k. moves k.deck 0 0 k.fates) (λ k. moves_all P move k.deck 0 0 k.fates) ks
-
-  brought_each : (P : ChangeView → Type 0) → ((d p : ℕ) (fates : List FateView) → AllByRecursion P (brought idents d p fates)) → AllByRecursion P all_brought
-  brought_each P each = each_flat P (λ k. brought idents k.deck 0 k.fates) (λ k. each k.deck 0 k.fates) ks
-
   abbrev IsIdle : ChangeView → Type 0
   IsIdle c = on_idents c ≡ Nothing
 
   cards_idle : (xs : List Ident) → all_acts on_idents (cards_told idents ks) xs ≡ xs
-  cards_idle xs = idle_acts on_idents (cards_told idents ks) xs
-      (all_joined IsIdle all_gone (all_moves ks ++ all_brought) (gone_each IsIdle (gone_all IsIdle (λ card. refl) (λ card. refl) (λ card targets. refl) idents))
-      (all_joined IsIdle (all_moves ks) all_brought (moves_each IsIdle (λ d from by. refl))
-      (brought_each IsIdle (brought_all IsIdle (λ card d p body. refl) (λ card n e. refl) (λ card n t. refl) idents))))
+  cards_idle xs =
+      idle_acts on_idents (cards_told idents ks) xs
+      (all_joined IsIdle all_gone (all_moves ks ++ all_brought) (gone_each IsIdle (λ card. refl) (λ card. refl) (λ card targets. refl) idents ks)
+      (all_joined IsIdle (all_moves ks) all_brought (moves_each IsIdle (λ d from by. refl) ks)
+      (brought_each IsIdle (λ card d p body. refl) (λ card n e. refl) (λ card n t. refl) idents ks)))
 
   cards_gone_of : (xs : List CardRow) → all_acts on_cards all_gone xs ≡ without card_of (keys card_goes) xs
   cards_gone_of =
@@ -79,7 +69,7 @@ module _ (idents : List Ident) (ks : List DeckFatesView) where
       ≡ without entry_of (keys entries_go) xs ++ flat_map (λ k. flat_map (come_entries idents) k.fates) ks
   entries_acted xs = phases on_entries xs ∙ all_entries_brought idents ks (all_acts on_entries (all_moves ks) (all_acts on_entries all_gone xs))
       ∙ ap (λ t. t ++ flat_map (λ k. flat_map (come_entries idents) k.fates) ks)
-      (idle_acts on_entries (all_moves ks) _ (moves_each (λ c. on_entries c ≡ Nothing) (λ d from by. refl))
+      (idle_acts on_entries (all_moves ks) _ (moves_each (λ c. on_entries c ≡ Nothing) (λ d from by. refl) ks)
       ∙ acts_without on_entries entry_of (λ k. flat_map (gone_of idents) k.fates) (λ k. flat_map (key_of idents entries_go) k.fates)
       (λ k ys. acts_without on_entries entry_of (gone_of idents) (key_of idents entries_go) (entries_gone idents) k.fates ys) ks xs)
 
@@ -87,7 +77,7 @@ module _ (idents : List Ident) (ks : List DeckFatesView) where
       ≡ without target_of (keys targets_go) xs ++ flat_map (λ k. flat_map (come_targets idents) k.fates) ks
   targets_acted xs = phases on_targets xs ∙ all_targets_brought idents ks (all_acts on_targets (all_moves ks) (all_acts on_targets all_gone xs))
       ∙ ap (λ t. t ++ flat_map (λ k. flat_map (come_targets idents) k.fates) ks)
-      (idle_acts on_targets (all_moves ks) _ (moves_each (λ c. on_targets c ≡ Nothing) (λ d from by. refl))
+      (idle_acts on_targets (all_moves ks) _ (moves_each (λ c. on_targets c ≡ Nothing) (λ d from by. refl) ks)
       ∙ acts_without on_targets target_of (λ k. flat_map (gone_of idents) k.fates) (λ k. flat_map (key_of idents targets_go) k.fates)
       (λ k ys. acts_without on_targets target_of (gone_of idents) (key_of idents targets_go) (targets_gone idents) k.fates ys) ks xs)
 
@@ -113,7 +103,7 @@ flat_standing f none (d ∷ ds) = one d.ident d.cards (flat_standing f none ds)
     one a (c ∷ cs) later = ap (λ t. f (record { ident = a; cards = c ∷ cs }) ++ t) later
 
 -- what is made of decks that have the same cards
-same_standing : {A : Type 0} (f : DeckView → List A) → ((d : ℕ) → f (record { ident = d; cards = [] }) ≡ [])
+pub same_standing : {A : Type 0} (f : DeckView → List A) → ((d : ℕ) → f (record { ident = d; cards = [] }) ≡ [])
     → (g : DeckFatesView → DeckView) (ks : List DeckFatesView) (ds : List DeckView)
     → standing (map g ks) ≡ standing ds → flat_map (λ k. f (g k)) ks ≡ flat_map f ds
 same_standing f none g ks ds e = sym (flat_map-map f g ks) ∙ sym (flat_standing f none (map g ks)) ∙ ap (flat_map f) e ∙ flat_standing f none ds
@@ -287,8 +277,8 @@ module _ (old new : LibraryView) (ks : List DeckFatesView) (sound : IsSound old)
       fit_append (idents_told old.idents new.idents) (cards_told new.idents ks) rows
       (any_fit (idents_told old.idents new.idents) rows (idents_all FitsAny (λ i r. tt) (λ age r. tt) old.idents new.idents))
       (fit_append gone (all_moves ks ++ all_brought new.idents ks) (begun rows)
-      (any_fit gone (begun rows) (gone_each new.idents ks FitsAny (gone_all FitsAny (λ card r. tt) (λ card r. tt) (λ card targets r. tt) new.idents)))
+      (any_fit gone (begun rows) (gone_each FitsAny (λ card r. tt) (λ card r. tt) (λ card targets r. tt) new.idents ks))
       (fit_append (all_moves ks) (all_brought new.idents ks) (done_all gone (begun rows))
       (fit_same (all_moves ks) (done_all gone (begun rows)) (of_cards (all_from new.idents ks)) (left rows shows) moves_carry.fit)
       (any_fit (all_brought new.idents ks) (done_all (all_moves ks) (done_all gone (begun rows)))
-      (brought_each new.idents ks FitsAny (brought_all FitsAny (λ card d p body r. tt) (λ card n e r. tt) (λ card n t r. tt) new.idents)))))
+      (brought_each FitsAny (λ card d p body r. tt) (λ card n e r. tt) (λ card n t r. tt) new.idents ks))))

@@ -4,3 +4,4 @@ pub mod Fates
 pub mod Told
 pub mod Fits
 pub mod States
+pub mod Touched

@@ -1,6 +1,6 @@
 -- The tables of a store as lists of rows, and when they show a library.
 use Rattle.std.specs.Prelude.{◌≡◌, ℕ, ◌+◌, ◌==◌, Bool, ◌&&◌, if◌then◌else◌, List, [], ◌∷◌, count_by, Option, Some, None}
-use Rattle.std.specs.List.{list_any, filter, flat_map}
+use Rattle.std.specs.List.{filter, flat_map}
 use Rattle.std.specs.Str.{bytes_eq}
 use Rattle.upd_core.specs.declared.card.Entry.{Entry}
 use Rattle.upd_text.specs.declared.card_ref.CardRef.{CardRef}
@@ -8,7 +8,8 @@ use Rattle.upd_core.specs.declared.ident.Ident.{Ident}
 use Rattle.upd_core.specs.declared.target.Target.{Target}
 use Rattle.upd_core.specs.Library.{CardView, LibraryView, all_decks, ref_of}
 use Rattle.upd_core.specs.Sound.{all_cards}
-use Rattle.upd_core.specs.Status.{live_cards, status_of}
+use Rattle.upd_core.specs.Status.{status_of}
+use Rattle.upd_core.specs.TargetCounts.{live_count}
 use Rattle.upd_core.specs.Targets.{is_same}
 
 -- ---- rows; the card that a row is of stands first, or else what its key is
@@ -119,10 +120,6 @@ abbrev pub state_row : CardRef → Option Bool → List StateRow
 state_row card None = []
 state_row card (Some active) = record { card = card; active = active } ∷ []
 
--- how many live yank cards have a target
-abbrev pub live_count : Target → LibraryView → ℕ
-live_count target l = count_by (λ c. list_any (is_same target) c.targets) (live_cards l.yanks)
-
 -- the row of a target that is counted
 abbrev pub count_row : Target → ℕ → List CountRow
 count_row target n = if n == 0 then [] else record { target = target; n = n } ∷ []
@@ -131,4 +128,4 @@ count_row target n = if n == 0 then [] else record { target = target; n = n } �
 -- is in one row with the number of these, and there are no others.
 pub record ShowsStates (rows : Rows) (l : LibraryView) : Type 0 where
   pub states : (card : CardRef) → filter (λ r. same_ref card r.card) rows.states ≡ state_row card (status_of card l)
-  pub counts : (target : Target) → filter (λ r. is_same target r.target) rows.counts ≡ count_row target (live_count target l)
+  pub counts : (target : Target) → filter (λ r. is_same target r.target) rows.counts ≡ count_row target (live_count l target)

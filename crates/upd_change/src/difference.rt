@@ -1,35 +1,50 @@
 //! The row changes of a run, from the library before and the library after it.
 ghost use Rattle.std.specs.Prelude.{◌≡◌, ◌-◌, length, map, slice_get, IfOk};
 ghost use Rattle.std.specs.Option.{option_map_or};
-ghost use Rattle.upd_core.specs.Sound.{Continues, IsSound};
+ghost use Rattle.upd_core.specs.Sound.{AreApart, Continues, IsSound, all_cards, key_of};
 ghost use Rattle.upd_change.specs.Changes.{change_seen, done_all};
 ghost use Rattle.upd_change.specs.Fits.{AllFit};
 ghost use Rattle.upd_change.specs.Rows.{Rows, Shows};
 ghost use Rattle.upd_change.specs.States.{TakeGone};
+ghost use Rattle.upd_change.specs.Touched.{touched};
 
 use crate::change::Change;
 use crate::decks::library_fates;
 use crate::told::told;
+use crate::touched::touched;
 use std::alloc::{AllocError, Global};
 use upd_core::{Ident, Library, Serial};
+use upd_text::CardRef;
 
-/// The row changes that lead from one library to another whose directory goes on from its own: idents, then all that
-/// goes, then moves, then all
-/// that comes. What comes or goes at one place of a deck is one move. Memory alone can fail, where a deck has 2^32
-/// cards or more as well.
-pub fn changes(alloc: Global, before: &Library, after: &Library) -> Result<Vec<Change>, AllocError>
+/// What leads from one library to another.
+#[derive(Debug, Drop)]
+pub struct Compared {
+    pub changes: Vec<Change>,
+    /// The cards that weren't there before, or whose history differs, by deck (`YANK$$$` first) and place.
+    pub touched: Vec<CardRef>,
+}
+
+/// The row changes that lead from one library to another whose directory goes on from its own, and the cards that were
+/// touched, from one comparison of the two. Changes stand in the order in which they are carried out: idents, then all
+/// that goes, then moves, then all that comes. What comes or goes at one place of a deck is one move. Memory alone can
+/// fail, where a deck has 2^32 cards or more as well.
+pub fn compare(alloc: Global, before: &Library, after: &Library) -> Result<Compared, AllocError>
     ensures shows { (rows : Rows) → IsSound before.now → Continues before.now.idents after.now.idents
         → Shows rows before.now
-        → IfOk result (λ changes. Shows (done_all (map change_seen changes.items) rows) after.now) }
-    ensures states { IsSound before.now → IsSound after.now → Continues before.now.idents after.now.idents
-        → IfOk result (λ changes. TakeGone before.now after.now (map change_seen changes.items)) }
+        → IfOk result (λ d. Shows (done_all (map change_seen d.changes.items) rows) after.now) }
     ensures fits { (rows : Rows) → IsSound before.now → Continues before.now.idents after.now.idents
         → Shows rows before.now
-        → IfOk result (λ changes. AllFit (map change_seen changes.items) rows) }
+        → IfOk result (λ d. AllFit (map change_seen d.changes.items) rows) }
+    ensures states { IsSound before.now → IsSound after.now → Continues before.now.idents after.now.idents
+        → IfOk result (λ d. TakeGone before.now after.now (map change_seen d.changes.items)) }
+    ensures touched { AreApart (map key_of (all_cards before.now))
+        → IfOk result (λ d. d.touched.items ≡ touched before.now after.now) }
 {
     let idents = before.idents();
     let decks = library_fates(alloc, youngest(idents), before, after)?;
-    told(alloc, idents, after.idents(), &decks)
+    let touched = touched(alloc, before, after.idents(), &decks)?;
+    let changes = told(alloc, idents, after.idents(), &decks)?;
+    Ok(Compared { changes, touched })
 }
 
 /// The age of the last ident, 0 where there is none.

@@ -7,7 +7,8 @@ pub mod difference;
 mod fates;
 pub mod run_row;
 mod told;
+mod touched;
 
 pub use change::Change;
-pub use difference::changes;
+pub use difference::{Compared, compare};
 pub use run_row::RunRow;

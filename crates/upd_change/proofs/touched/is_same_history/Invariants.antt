@@ -1,6 +1,6 @@
 use Rattle.std.proofs.Common.{◌≡◌, drop, length}
-use Rattle.upd_apply.specs.Applying.{same_history}
-use Rattle.upd_apply.proofs.touched.is_same_history.Given as goal
+use Rattle.upd_change.specs.Touched.{same_history}
+use Rattle.upd_change.proofs.touched.is_same_history.Given as goal
 
 abbrev pub invariant-loop-i : goal.invariant-loop-i
 invariant-loop-i l =

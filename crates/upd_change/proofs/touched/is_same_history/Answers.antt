@@ -1,7 +1,7 @@
 use Rattle.std.proofs.lemmas.Grind.{common_steps}
 use Rattle.std.proofs.Common.{arith, sym}
-use Rattle.upd_apply.proofs.TouchedLaws.{other_history}
-use Rattle.upd_apply.proofs.touched.is_same_history.Goals as goal
+use Rattle.upd_change.proofs.TouchedLemmas.{other_history}
+use Rattle.upd_change.proofs.touched.is_same_history.Goals as goal
 
 pub returns-then-history-other : goal.returns-then-history-other
 returns-then-history-other c = sym (other_history _ _ c.if-history-other.true)
