@@ -5,7 +5,7 @@ use Rattle.sqlite_schema.specs.declared.schema.Index.{Index}
 use Rattle.sqlite_schema.specs.declared.schema.View.{View}
 use Rattle.sqlite_schema.specs.declared.schema.Schema.{Schema}
 use Rattle.sqlite_tied.specs.Compute.{everything}
-use Rattle.upd_sql.specs.Schema.{library_schema}
+use Rattle.upd_sql.specs.Schema.{library_schema, no_schema}
 use Rattle.upd_sql.specs.Wanted.{key_indexes}
 
 abbrev schema_of : List Table → List Index → List View → Schema
@@ -22,3 +22,6 @@ indexes_are = refl
 
 pub schema_is : (s : Schema) → s.views ≡ [] → s.tables ≡ library_schema.tables → s.indexes ≡ key_indexes → s ≡ library_schema
 schema_is s views tables indexes = joined s library_schema.tables key_indexes [] tables indexes views ∙ indexes_are
+
+pub no_schema_is : (s : Schema) → s.tables ≡ [] → s.indexes ≡ [] → s.views ≡ [] → s ≡ no_schema
+no_schema_is s tables indexes views = joined s [] [] [] tables indexes views

@@ -6,4 +6,3 @@ pub mod Commits
 pub mod First
 pub mod Making
 pub mod Wanted
-pub mod Whole

@@ -14,7 +14,7 @@ use upd_change::{Change, RunRow};
 use upd_order::{Rising, note_settled};
 
 /// Carries out row changes and keeps the run that brought them, all or nothing.
-pub(crate) fn commit_changes<S: Rising>(
+pub fn commit_changes<S: Rising>(
     conn: &mut Connection<S>,
     changes: &[Change],
     row: &RunRow,

@@ -7,7 +7,7 @@ ghost use Rattle.upd_rows.specs.Tables.{AreRead, mark_at, run_at};
 ghost use Rattle.upd_sql.specs.Commits.{MayKeep};
 ghost use Rattle.upd_sql.specs.Schema.{library_schema};
 ghost use Rattle.upd_sql.specs.Stands.{ShowsTables};
-ghost use Rattle.upd_sql.specs.Whole.{AreRows};
+ghost use Rattle.upd_rows.specs.Assembling.{AreRowsOf};
 
 use crate::{reads, whole};
 use sqlite::{Connection, Error};
@@ -18,7 +18,7 @@ use upd_order::{Rising, note_settled};
 use upd_rows::LibraryRows;
 
 /// The number up to which a site has settled, 0 where it never did.
-pub(crate) fn kept_mark<S: Rising>(conn: &mut Connection<S>, site: &str) -> Result<u64, Error>
+pub fn kept_mark<S: Rising>(conn: &mut Connection<S>, site: &str) -> Result<u64, Error>
     requires { conn.old.in_transaction ≡ false }
     ensures outside { conn.new.in_transaction ≡ false }
     ensures was_open { HasCleanDisk (state S.Store conn.new) → IsTrue (state S.Store conn.new).is_open
@@ -41,7 +41,7 @@ pub(crate) fn kept_mark<S: Rising>(conn: &mut Connection<S>, site: &str) -> Resu
 }
 
 /// The run that is kept under a key.
-pub(crate) fn kept_run<S: Rising>(
+pub fn kept_run<S: Rising>(
     conn: &mut Connection<S>,
     site: &str,
     number: u64,
@@ -68,7 +68,7 @@ pub(crate) fn kept_run<S: Rising>(
 }
 
 /// The rows of the four tables that a library is made of.
-pub(crate) fn kept_library<S: Rising>(
+pub fn kept_library<S: Rising>(
     conn: &mut Connection<S>,
     alloc: Global,
 ) -> Result<LibraryRows, Error>
@@ -83,7 +83,7 @@ pub(crate) fn kept_library<S: Rising>(
         → (state S.Store conn.new).committed ≡ (state S.Store conn.old).committed }
     ensures crash { Survives (state S.Store conn.old) (state S.Store conn.new) (MayKeep (state S.Store conn.old)) }
     ensures found { HasCleanDisk (state S.Store conn.new) → IfOk result
-        (λ found. (it : Rows) → ShowsTables it (state S.Store conn.old).committed → AreRows it found) }
+        (λ found. (it : Rows) → ShowsTables it (state S.Store conn.old).committed → AreRowsOf it found) }
 {
     note_settled(conn);
     let _outside = conn.is_autocommit();
@@ -94,10 +94,7 @@ pub(crate) fn kept_library<S: Rising>(
 }
 
 /// The status of each card and the count of each target that a live yank card has.
-pub(crate) fn kept_states<S: Rising>(
-    conn: &mut Connection<S>,
-    alloc: Global,
-) -> Result<States, Error>
+pub fn kept_states<S: Rising>(conn: &mut Connection<S>, alloc: Global) -> Result<States, Error>
     requires { conn.old.in_transaction ≡ false }
     ensures outside { conn.new.in_transaction ≡ false }
     ensures was_open { HasCleanDisk (state S.Store conn.new) → IsTrue (state S.Store conn.new).is_open

@@ -1,7 +1,7 @@
 //! The library in a file that any SQLite shell opens.
 //!
-//! Nine tables of whole numbers, texts and bytes. Each text that is run on them is fixed, and stands in a function of its own whose contract is what
-//! the text makes of the tables.
+//! Nine tables of whole numbers, texts and bytes. Each text that is run on them is fixed, and stands in a function of its
+//! own whose contract is what the text makes of the tables.
 #![tactic(auto)]
 
 mod changes;
@@ -16,3 +16,9 @@ mod settle;
 mod values;
 mod whole;
 mod writes;
+
+pub use commits::commit_changes;
+pub use kept::{kept_library, kept_mark, kept_run, kept_states};
+pub use make::make_library;
+pub use schema::{is_library_schema, is_no_schema};
+pub use settle::settle_site;

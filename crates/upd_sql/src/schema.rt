@@ -2,7 +2,8 @@
 
 ghost use Rattle.std.specs.Prelude.{◌≡◌, [], ◌∷◌, map, slice_get, IsTrue, Some};
 ghost use Rattle.upd_tables.specs.Keyed.{keyed, needed};
-ghost use Rattle.upd_sql.specs.Schema.{cards, counts, entries, idents, library_schema, meta, runs, settled, states, targets};
+ghost use Rattle.upd_sql.specs.Schema.{cards, counts, entries, idents, library_schema, meta, no_schema, runs};
+ghost use Rattle.upd_sql.specs.Schema.{settled, states, targets};
 ghost use Rattle.upd_sql.specs.Wanted.{column_of, key_index, key_indexes};
 
 use sqlite_items::Items;
@@ -319,7 +320,7 @@ fn are_indexes(indexes: &[Index]) -> bool
 }
 
 /// The nine tables with the indexes of their keys, and nothing else.
-pub(crate) fn is_library_schema(schema: &Schema) -> bool
+pub fn is_library_schema(schema: &Schema) -> bool
     ensures { IsTrue result → schema.now ≡ library_schema }
 {
     if !schema.views.is_empty() {
@@ -329,4 +330,17 @@ pub(crate) fn is_library_schema(schema: &Schema) -> bool
         return false;
     }
     are_indexes(schema.indexes.as_slice())
+}
+
+/// No table, index or view.
+pub fn is_no_schema(schema: &Schema) -> bool
+    ensures { IsTrue result → schema.now ≡ no_schema }
+{
+    if !schema.tables.is_empty() {
+        return false;
+    }
+    if !schema.indexes.is_empty() {
+        return false;
+    }
+    schema.views.is_empty()
 }

@@ -44,7 +44,7 @@ fn settle_in<S: Alter>(tx: &mut Transaction<'_, S>, site: &str, number: u64) -> 
 }
 
 /// Settles a site's runs up to a number in one transaction, and answers the site's mark afterwards.
-pub(crate) fn settle<S: Rising>(
+pub fn settle_site<S: Rising>(
     conn: &mut Connection<S>,
     site: &str,
     number: u64,

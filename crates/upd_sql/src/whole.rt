@@ -11,7 +11,7 @@ ghost use Rattle.upd_tables.specs.Steps.{Steps};
 ghost use Rattle.upd_sql.specs.Commits.{LeavesTables, Looks, WasOpen};
 ghost use Rattle.upd_sql.specs.Schema.{library_schema};
 ghost use Rattle.upd_sql.specs.Stands.{Stands};
-ghost use Rattle.upd_sql.specs.Whole.{AreRows};
+ghost use Rattle.upd_rows.specs.Assembling.{AreRowsOf};
 
 use crate::record::{Record, each};
 use sqlite::{Alter, Error, Row, Transaction};
@@ -135,7 +135,7 @@ pub(crate) fn library_in<S: Alter>(
     alloc: Global,
 ) -> Result<LibraryRows, Error>
     ensures same_reference { tx.new.conn.ghost_name ≡ tx.old.conn.ghost_name }
-    ensures looks { Looks AreRows (state S.Store tx.old.conn.now) (state S.Store tx.new.conn.now) result }
+    ensures looks { Looks AreRowsOf (state S.Store tx.old.conn.now) (state S.Store tx.new.conn.now) result }
 {
     let idents = idents_in(tx, alloc)?;
     let cards = cards_in(tx, alloc)?;

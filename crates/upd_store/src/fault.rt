@@ -1,0 +1,65 @@
+//! Errors of SQLite as faults.
+ghost use Rattle.std.specs.Prelude.{◌≡◌, ◌≤◌};
+ghost use Rattle.upd_text.specs.declared.fault.FaultKind.TheVariants.{NoMemory, Store};
+ghost use Rattle.upd_rows.specs.Keeping.{IsLost, MoreFailures};
+
+use sqlite::{Error, ErrorCode};
+use upd_text::{Fault, FaultKind};
+
+/// Want of memory.
+pub(crate) fn no_memory() -> Fault
+    ensures lost { IsLost result }
+    ensures kind { result.kind ≡ NoMemory }
+{
+    FaultKind::NoMemory.without_line()
+}
+
+/// A failure of the store, at the version that was found.
+pub(crate) fn store_at(version: u32) -> Fault
+    ensures { IsLost result }
+{
+    FaultKind::Store.at_line(version)
+}
+
+/// Want of memory is told as such, any other error as a failure of the store.
+pub(crate) fn fault_of(error: Error) -> Fault
+    ensures { IsLost result }
+{
+    match error {
+        Error::SqliteFailure(ErrorCode::OutOfMemory) => no_memory(),
+        _ => store_at(0),
+    }
+}
+
+/// The fault of a file of another schema, by the version that it tells.
+pub(crate) fn fault_at(found: Result<u32, Error>) -> Fault
+    ensures { IsLost result }
+{
+    match found {
+        Ok(version) => store_at(version),
+        Err(error) => fault_of(error),
+    }
+}
+
+/// A call that wasn't begun: one more failure of the store.
+pub(crate) fn refused(failures: &mut u64) -> Fault
+    ensures lost { IsLost result }
+    ensures more { MoreFailures failures.old failures.new }
+    ensures grows { failures.old ≤ failures.new }
+{
+    *failures = failures.saturating_add(1);
+    store_at(0)
+}
+
+/// A call that failed: a failure of the store is counted, want of memory isn't.
+pub(crate) fn counted(error: Error, failures: &mut u64) -> Fault
+    ensures lost { IsLost result }
+    ensures more { result.kind ≡ Store → MoreFailures failures.old failures.new }
+    ensures grows { failures.old ≤ failures.new }
+{
+    let fault = fault_of(error);
+    if fault.kind == FaultKind::Store {
+        *failures = failures.saturating_add(1);
+    }
+    fault
+}

@@ -1,0 +1,141 @@
+//! The promises of a store of rows, kept by the tables.
+ghost use Rattle.std.specs.Prelude.{◌≡◌, false, IfErr, IfOk, IsTrue, OnOk};
+ghost use Rattle.sqlite.specs.Held.{state};
+ghost use Rattle.sqlite.specs.State.{HasCleanDisk};
+ghost use Rattle.upd_sql.specs.Schema.{library_schema};
+
+use crate::fault::{counted, no_memory, refused};
+use crate::sql_store::SqlStore;
+use sqlite::Connection;
+use std::alloc::Global;
+use upd_change::{Change, RunRow};
+use upd_core::{Library, Serial, States};
+use upd_order::Rising;
+use upd_rows::{RowStore, assembled, assembled_part};
+use upd_sql::{
+    commit_changes, is_library_schema, kept_library, kept_mark, kept_run, kept_states, settle_site,
+};
+use upd_text::Fault;
+
+/// Whether the schema is the library's, outside a transaction.
+fn is_ours<S: Rising>(conn: &Connection<S>) -> bool
+    requires { conn.now.in_transaction ≡ false }
+    ensures { IsTrue result → IsTrue (state S.Store conn.now).is_open
+        → (state S.Store conn.now).committed.schema ≡ library_schema }
+{
+    let _outside = conn.is_autocommit();
+    is_library_schema(conn.schema())
+}
+
+impl<S: Rising> RowStore for SqlStore<S> {
+    ghost use Rattle.std.specs.Prelude.{IsTrue};
+    ghost use Rattle.sqlite_trees.specs.Tree.{Trees};
+    ghost use Rattle.sqlite.specs.Held.{state};
+    ghost use Rattle.sqlite.specs.State.{HasCleanDisk};
+    ghost use Rattle.upd_sql.specs.Commits.{ShowsIn};
+    ghost use Rattle.upd_store.specs.One.{shows_one};
+
+    ghost Image = { Trees };
+
+    ghost shows = { ShowsIn };
+
+    ghost image = { λ s. (state S.Store s.conn).committed.trees };
+
+    ghost is_open = { λ s. IsTrue (state S.Store s.conn).is_open };
+
+    ghost is_honest = { λ s. HasCleanDisk (state S.Store s.conn) };
+
+    ghost may_leave = { λ s. (state S.Store s.conn).may_leave };
+
+    ghost failures_of = { λ s. s.failures };
+
+    ghost caused = { λ _ _. Unit {0} };
+
+    fn load(&mut self, alloc: Global) -> Result<Library, Fault> {
+        if !is_ours(&self.conn) {
+            return Err(refused(&mut self.failures));
+        }
+        match kept_library(&mut self.conn, alloc) {
+            Ok(rows) => match assembled(alloc, rows) {
+                Ok(library) => Ok(library),
+                Err(_) => Err(no_memory()),
+            },
+            Err(error) => Err(counted(error, &mut self.failures)),
+        }
+    }
+
+    fn load_decks(&mut self, alloc: Global, decks: &[Serial]) -> Result<Library, Fault> {
+        if !is_ours(&self.conn) {
+            return Err(refused(&mut self.failures));
+        }
+        match kept_library(&mut self.conn, alloc) {
+            Ok(rows) => match assembled_part(alloc, rows, decks) {
+                Ok(library) => Ok(library),
+                Err(_) => Err(no_memory()),
+            },
+            Err(error) => Err(counted(error, &mut self.failures)),
+        }
+    }
+
+    fn load_states(&mut self, alloc: Global) -> Result<States, Fault> {
+        if !is_ours(&self.conn) {
+            return Err(refused(&mut self.failures));
+        }
+        match kept_states(&mut self.conn, alloc) {
+            Ok(states) => Ok(states),
+            Err(error) => Err(counted(error, &mut self.failures)),
+        }
+    }
+
+    fn kept_run(&mut self, _: Global, site: &str, number: u64) -> Result<Option<RunRow>, Fault> {
+        if !is_ours(&self.conn) {
+            return Err(refused(&mut self.failures));
+        }
+        match kept_run(&mut self.conn, site, number) {
+            Ok(run) => Ok(run),
+            Err(error) => Err(counted(error, &mut self.failures)),
+        }
+    }
+
+    fn mark(&mut self, _: Global, site: &str) -> Result<u64, Fault> {
+        if !is_ours(&self.conn) {
+            return Err(refused(&mut self.failures));
+        }
+        match kept_mark(&mut self.conn, site) {
+            Ok(mark) => Ok(mark),
+            Err(error) => Err(counted(error, &mut self.failures)),
+        }
+    }
+
+    fn commit(&mut self, _: Global, changes: &[Change], run: RunRow) -> Result<(), Fault> {
+        if !is_ours(&self.conn) {
+            return Err(refused(&mut self.failures));
+        }
+        match commit_changes(&mut self.conn, changes, &run) {
+            Ok(()) => Ok(()),
+            Err(error) => Err(counted(error, &mut self.failures)),
+        }
+    }
+
+    fn settle_to(&mut self, _: Global, site: &str, number: u64) -> Result<u64, Fault> {
+        if !is_ours(&self.conn) {
+            return Err(refused(&mut self.failures));
+        }
+        match settle_site(&mut self.conn, site, number) {
+            Ok(mark) => Ok(mark),
+            Err(error) => Err(counted(error, &mut self.failures)),
+        }
+    }
+
+    fn failures(&self) -> u64 {
+        self.failures
+    }
+
+    ghost one = { shows_one };
+
+    ghost settled = { λ s i clean is_open may. S.Store.settled s.conn.store i is_open may };
+
+    ghost stays = { λ s clean is_open. S.Store.stays s.conn.store is_open };
+
+    ghost survives = { λ s clean. S.Store.survives s.conn.store clean };
+}

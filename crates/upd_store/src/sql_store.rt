@@ -1,0 +1,98 @@
+//! The library in the tables of a connection.
+ghost use Rattle.std.specs.Prelude.{◌≡◌, false, IfErr, IfOk, IsTrue};
+ghost use Rattle.sqlite.specs.Held.{state};
+ghost use Rattle.sqlite.specs.State.{HasCleanDisk, Survives};
+ghost use Rattle.upd_rows.specs.Keeping.{IsLost};
+ghost use Rattle.upd_sql.specs.Making.{no_rows, MayMake};
+ghost use Rattle.upd_sql.specs.Schema.{library_schema};
+ghost use Rattle.upd_sql.specs.Stands.{ShowsTables};
+
+use crate::fault::{fault_at, fault_of, store_at};
+use crate::version::version_of;
+use sqlite::Connection;
+use upd_order::Rising;
+use upd_sql::{is_library_schema, is_no_schema, make_library};
+use upd_text::Fault;
+
+/// The version of the schema.
+const VERSION: u32 = 3;
+
+/// The library in the tables of a connection, which is in no transaction.
+pub struct SqlStore<S: Rising> {
+    pub(crate) conn: Connection<S>,
+    pub(crate) failures: u64,
+    ghost outside: { conn.in_transaction ≡ false },
+}
+
+// It is written out, so that a caller does not prove again how each part is dropped.
+impl<S: Rising + Drop> Drop for SqlStore<S> {
+    fn drop(self) {
+        let SqlStore {
+            conn: _,
+            failures: _,
+        } = self;
+    }
+}
+
+impl<S: Rising> SqlStore<S> {
+    /// Takes a connection to a library's file. Where it is none the fault is Store, at the version that the file
+    /// tells, 0 where there is none, and the connection comes back. Nothing is written.
+    pub fn adopt(mut conn: Connection<S>) -> Result<SqlStore<S>, (Fault, Connection<S>)>
+        ensures ours { IfOk result (λ s. HasCleanDisk (state S.Store s.conn) → IsTrue (state S.Store s.conn).is_open
+            → (state S.Store s.conn).committed.schema ≡ library_schema) }
+        ensures same { IfOk result (λ s. HasCleanDisk (state S.Store s.conn) → IsTrue (state S.Store s.conn).is_open
+            → (state S.Store s.conn).committed ≡ (state S.Store conn).committed) }
+        ensures survives { IfOk result (λ s. Survives (state S.Store conn) (state S.Store s.conn) (λ _. ⊥)) }
+        ensures same_back { IfErr result (λ e. HasCleanDisk (state S.Store e.1) → IsTrue (state S.Store e.1).is_open
+            → (state S.Store e.1).committed ≡ (state S.Store conn).committed) }
+        ensures survives_back { IfErr result (λ e. Survives (state S.Store conn) (state S.Store e.1) (λ _. ⊥)) }
+        ensures lost { IfErr result (λ e. IsLost e.0) }
+    {
+        if !conn.is_autocommit() {
+            return Err((store_at(0), conn));
+        }
+        let version = match version_of(&mut conn) {
+            Ok(version) => version,
+            Err(error) => return Err((fault_of(error), conn)),
+        };
+        let _outside = conn.is_autocommit();
+        if version != VERSION || !is_library_schema(conn.schema()) {
+            return Err((store_at(version), conn));
+        }
+        Ok(SqlStore { conn, failures: 0 })
+    }
+
+    /// Makes an empty library's tables. Where there is any table the fault is Store, at the version that the file
+    /// tells, 0 where there is none, and the connection comes back.
+    pub fn init(mut conn: Connection<S>) -> Result<SqlStore<S>, (Fault, Connection<S>)>
+        ensures shows { IfOk result (λ s. HasCleanDisk (state S.Store s.conn)
+            → IsTrue (state S.Store s.conn).is_open × ShowsTables no_rows (state S.Store s.conn).committed) }
+        ensures survives { IfOk result (λ s. Survives (state S.Store conn) (state S.Store s.conn)
+            (MayMake (state S.Store conn))) }
+        ensures same_back { IfErr result (λ e. HasCleanDisk (state S.Store e.1) → IsTrue (state S.Store e.1).is_open
+            → (state S.Store e.1).committed ≡ (state S.Store conn).committed) }
+        ensures survives_back { IfErr result (λ e. Survives (state S.Store conn) (state S.Store e.1)
+            (MayMake (state S.Store conn))) }
+        ensures lost { IfErr result (λ e. IsLost e.0) }
+    {
+        if !conn.is_autocommit() {
+            return Err((store_at(0), conn));
+        }
+        if !is_no_schema(conn.schema()) {
+            let found = version_of(&mut conn);
+            return Err((fault_at(found), conn));
+        }
+        match make_library(&mut conn) {
+            Ok(()) => Ok(SqlStore { conn, failures: 0 }),
+            Err(error) => Err((fault_of(error), conn)),
+        }
+    }
+
+    /// The connection; nothing is written.
+    pub fn into_connection(self) -> Connection<S>
+        ensures { result ≡ self.conn }
+    {
+        let SqlStore { conn, failures: _ } = self;
+        conn
+    }
+}

@@ -1,0 +1,35 @@
+//! The version that a file tells.
+ghost use Rattle.std.specs.Prelude.{◌≡◌, false, IsTrue};
+ghost use Rattle.sqlite.specs.Held.{state};
+ghost use Rattle.sqlite.specs.State.{HasCleanDisk, Survives};
+ghost use Rattle.upd_tables.specs.Steps.{Steps};
+
+use sqlite::{Alter, Connection, Error, Transaction};
+use upd_tables::ask;
+
+fn version_in<S: Alter>(tx: &mut Transaction<'_, S>) -> Result<u32, Error>
+    ensures same_reference { tx.new.conn.ghost_name ≡ tx.old.conn.ghost_name }
+    ensures steps { Steps (state S.Store tx.old.conn.now) (state S.Store tx.new.conn.now) result }
+{
+    let rows = ask(tx, "SELECT v FROM meta WHERE k = 'version'", &[])?;
+    match rows.first() {
+        Some(row) => row.get(0),
+        None => Ok(0),
+    }
+}
+
+/// The version that a file tells, 0 where it tells none; a file without such a table is an error. Nothing is written.
+pub(crate) fn version_of<S: Alter>(conn: &mut Connection<S>) -> Result<u32, Error>
+    requires { conn.old.in_transaction ≡ false }
+    ensures outside { conn.new.in_transaction ≡ false }
+    ensures was_open { HasCleanDisk (state S.Store conn.new) → IsTrue (state S.Store conn.new).is_open
+        → IsTrue (state S.Store conn.old).is_open }
+    ensures same { HasCleanDisk (state S.Store conn.new) → IsTrue (state S.Store conn.new).is_open
+        → (state S.Store conn.new).committed ≡ (state S.Store conn.old).committed }
+    ensures survives { Survives (state S.Store conn.old) (state S.Store conn.new) (λ _. ⊥) }
+{
+    let mut tx = conn.transaction();
+    let version = version_in(&mut tx)?;
+    tx.rollback();
+    Ok(version)
+}
