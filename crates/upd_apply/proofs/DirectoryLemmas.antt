@@ -63,7 +63,10 @@ continues_on (i ∷ a) (j ∷ b) (k ∷ c) p q = (both i j k p.0 q.0, continues_
 same_idents : (age : ℕ) (change : List CardView → List CardView) (l : LibraryView) → (with_cards age change l).idents ≡ l.idents
 same_idents age change l = go (age == 0)
   where
-    go : (b : Bool) → (cond b (record l { yanks = change l.yanks }) (record l { decks = at_first (is_deck age) (λ d. record d { cards = change d.cards }) l.decks })).idents ≡ l.idents
+    go : (b : Bool) → (cond b (record l { yanks = change l.yanks }) (record l {
+      decks = at_first (is_deck age)
+          (λ d. record d { cards = change d.cards }) l.decks;
+    })).idents ≡ l.idents
     go true = refl
     go false = refl
 
@@ -86,7 +89,8 @@ cards_go age change l = subst (Continues l.idents) (sym (same_idents age change 
 text_goes : (text : List ℕ) (spot : Spot) (s : State) → IfOk (text_put text spot s) (GoesOn s)
 text_goes text Nowhere s = tt
 text_goes text (End d n) s =
-    after_grown (GoesOn s) (with_card d 0 (new_card d n text []) s.library) _ (cards_go d (λ cards. insert cards (length cards - 0) (new_card d n text [])) s.library)
+    after_grown (GoesOn s) (with_card d 0 (new_card d n text []) s.library) _ (cards_go d (λ cards. insert cards (length cards - 0)
+    (new_card d n text [])) s.library)
 text_goes text (Inside d n) s =
     after_need (GoesOn s) fault.TextNowhere s.hand _ (λ hand e.
     after_refusal (GoesOn s) (d == 0) fault.YankText _ (λ f.
@@ -140,7 +144,8 @@ switched_goes active first last s =
 parts_go : (ages : List AgesIn) (l : LibraryView) → Continues l.idents (purged_in_all ages l).idents
 parts_go [] l = continues_same l.idents
 parts_go (a ∷ ages) l =
-    continues_on l.idents (purged_in a.deck a.ident l).idents _ (cards_go a.deck (without_idents (λ x. x == a.ident)) l) (parts_go ages (purged_in a.deck a.ident l))
+    continues_on l.idents (purged_in a.deck a.ident l).idents _ (cards_go a.deck (without_idents (λ x. x == a.ident)) l) (parts_go ages
+    (purged_in a.deck a.ident l))
 
 line_goes : (item : ItemView) (text : List ℕ) (s : State) → IfOk (done item text s) (GoesOn s)
 line_goes Text text s = text_goes text s.spot s
@@ -179,8 +184,10 @@ if_more (Err e) P Q more h = tt
 run_goes : (lines : List LineView) (s : State) → IfOk (stepped lines s) (GoesOn s)
 run_goes [] s = continues_same s.library.idents
 run_goes (line ∷ lines) s =
-    bound_if (GoesOn s) (GoesOn s) (at_line line.number (step line s)) (stepped lines) (at_line_if (GoesOn s) line.number (step line s) (line_goes line.item line.text s))
-    (λ x goes. if_more (stepped lines x) (GoesOn x) (GoesOn s) (λ t later. continues_on s.library.idents x.library.idents t.library.idents goes later) (run_goes lines x))
+    bound_if (GoesOn s) (GoesOn s) (at_line line.number (step line s)) (stepped lines) (at_line_if (GoesOn s) line.number (step line s)
+    (line_goes line.item line.text s))
+    (λ x goes. if_more (stepped lines x) (GoesOn x) (GoesOn s)
+    (λ t later. continues_on s.library.idents x.library.idents t.library.idents goes later) (run_goes lines x))
 
 -- a run that is accepted
 pub steps_go_on : (lines : List LineView) (s t : State) → stepped lines s ≡ Ok t → GoesOn s t

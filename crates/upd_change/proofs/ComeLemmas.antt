@@ -58,7 +58,8 @@ cards_brought : (idents : List Ident) (d p : ℕ) (fates : List FateView) (xs : 
 cards_brought idents d p [] xs = sym (append-nil xs)
 cards_brought idents d p (Kept c e ∷ fates) xs =
     acts_append on_cards (grown idents c e) (brought idents d (p + 1) fates) xs
-    ∙ ap (all_acts on_cards (brought idents d (p + 1) fates)) (idle_acts on_cards (grown idents c e) xs (grown_all (λ c. on_cards c ≡ Nothing) (λ card n e. refl) idents c e))
+    ∙ ap (all_acts on_cards (brought idents d (p + 1) fates)) (idle_acts on_cards (grown idents c e) xs (grown_all (λ c. on_cards c ≡ Nothing)
+    (λ card n e. refl) idents c e))
     ∙ cards_brought idents d (p + 1) fates xs
 cards_brought idents d p (Gone c ∷ fates) xs = cards_brought idents d p fates xs
 cards_brought idents d p (New e ∷ fates) xs =
@@ -75,7 +76,8 @@ cards_brought idents d p (New e ∷ fates) xs =
 grown_entries : (idents : List Ident) (c e : CardView) (xs : List EntryRow) → all_acts on_entries (grown idents c e) xs ≡ xs ++ come_entries idents (Kept c e)
 grown_entries idents c e xs = go (begins c.history e.history)
   where
-    go : (b : Bool) → all_acts on_entries (cond b (entries_new (ref_of idents c) (length c.history) (drop (length c.history) e.history)) (entries_new (ref_of idents c) 0 e.history)) xs
+    go : (b : Bool) → all_acts on_entries (cond b (entries_new (ref_of idents c) (length c.history) (drop (length c.history) e.history))
+        (entries_new (ref_of idents c) 0 e.history)) xs
         ≡ xs ++ cond b (entry_rows (ref_of idents c) (length c.history) (drop (length c.history) e.history)) (entry_rows (ref_of idents c) 0 e.history)
     go true = entries_come (ref_of idents c) (length c.history) (drop (length c.history) e.history) xs
     go false = entries_come (ref_of idents c) 0 e.history xs
@@ -91,8 +93,10 @@ entries_brought idents d p (Kept c e ∷ fates) xs =
 entries_brought idents d p (Gone c ∷ fates) xs = entries_brought idents d p fates xs
 entries_brought idents d p (New e ∷ fates) xs =
     acts_append on_entries (entries_new (ref_of idents e) 0 e.history ++ targets_new (ref_of idents e) 0 e.targets) (brought idents d (p + 1) fates) xs
-    ∙ ap (all_acts on_entries (brought idents d (p + 1) fates)) (acts_append on_entries (entries_new (ref_of idents e) 0 e.history) (targets_new (ref_of idents e) 0 e.targets) xs
-    ∙ idle_acts on_entries (targets_new (ref_of idents e) 0 e.targets) _ (targets_all (λ c. on_entries c ≡ Nothing) (λ card n t. refl) (ref_of idents e) 0 e.targets)
+    ∙ ap (all_acts on_entries (brought idents d (p + 1) fates)) (acts_append on_entries (entries_new (ref_of idents e) 0 e.history) (targets_new
+    (ref_of idents e) 0 e.targets) xs
+    ∙ idle_acts on_entries (targets_new (ref_of idents e) 0 e.targets) _ (targets_all (λ c. on_entries c ≡ Nothing) (λ card n t. refl)
+    (ref_of idents e) 0 e.targets)
     ∙ entries_come (ref_of idents e) 0 e.history xs)
     ∙ entries_brought idents d (p + 1) fates (xs ++ come_entries idents (New e))
     ∙ append_assoc xs (come_entries idents (New e)) (flat_map (come_entries idents) fates)
@@ -102,13 +106,16 @@ targets_brought : (idents : List Ident) (d p : ℕ) (fates : List FateView) (xs 
 targets_brought idents d p [] xs = sym (append-nil xs)
 targets_brought idents d p (Kept c e ∷ fates) xs =
     acts_append on_targets (grown idents c e) (brought idents d (p + 1) fates) xs
-    ∙ ap (all_acts on_targets (brought idents d (p + 1) fates)) (idle_acts on_targets (grown idents c e) xs (grown_all (λ c. on_targets c ≡ Nothing) (λ card n e. refl) idents c e))
+    ∙ ap (all_acts on_targets (brought idents d (p + 1) fates)) (idle_acts on_targets (grown idents c e) xs (grown_all (λ c. on_targets c ≡ Nothing)
+    (λ card n e. refl) idents c e))
     ∙ targets_brought idents d (p + 1) fates xs
 targets_brought idents d p (Gone c ∷ fates) xs = targets_brought idents d p fates xs
 targets_brought idents d p (New e ∷ fates) xs =
     acts_append on_targets (entries_new (ref_of idents e) 0 e.history ++ targets_new (ref_of idents e) 0 e.targets) (brought idents d (p + 1) fates) xs
-    ∙ ap (all_acts on_targets (brought idents d (p + 1) fates)) (acts_append on_targets (entries_new (ref_of idents e) 0 e.history) (targets_new (ref_of idents e) 0 e.targets) xs
-    ∙ ap (all_acts on_targets (targets_new (ref_of idents e) 0 e.targets)) (idle_acts on_targets (entries_new (ref_of idents e) 0 e.history) xs (entries_all (λ c. on_targets c ≡ Nothing) (λ card n e. refl) (ref_of idents e) 0 e.history))
+    ∙ ap (all_acts on_targets (brought idents d (p + 1) fates)) (acts_append on_targets (entries_new (ref_of idents e) 0 e.history) (targets_new
+    (ref_of idents e) 0 e.targets) xs
+    ∙ ap (all_acts on_targets (targets_new (ref_of idents e) 0 e.targets)) (idle_acts on_targets (entries_new (ref_of idents e) 0 e.history) xs
+    (entries_all (λ c. on_targets c ≡ Nothing) (λ card n e. refl) (ref_of idents e) 0 e.history))
     ∙ targets_come (ref_of idents e) 0 e.targets xs)
     ∙ targets_brought idents d (p + 1) fates (xs ++ come_targets idents (New e))
     ∙ append_assoc xs (come_targets idents (New e)) (flat_map (come_targets idents) fates)
@@ -116,15 +123,18 @@ targets_brought idents d p (New e ∷ fates) xs =
 -- of all decks
 pub all_cards_brought : (idents : List Ident) (ks : List DeckFatesView) (xs : List CardRow)
     → all_acts on_cards (flat_map (λ k. brought idents k.deck 0 k.fates) ks) xs ≡ xs ++ flat_map (λ k. come_cards idents k.deck 0 k.fates) ks
-all_cards_brought idents = acts_appending on_cards (λ k. brought idents k.deck 0 k.fates) (λ k. come_cards idents k.deck 0 k.fates) (λ k xs. cards_brought idents k.deck 0 k.fates xs)
+all_cards_brought idents = acts_appending on_cards (λ k. brought idents k.deck 0 k.fates) (λ k. come_cards idents k.deck 0 k.fates)
+    (λ k xs. cards_brought idents k.deck 0 k.fates xs)
 
 pub all_entries_brought : (idents : List Ident) (ks : List DeckFatesView) (xs : List EntryRow)
     → all_acts on_entries (flat_map (λ k. brought idents k.deck 0 k.fates) ks) xs ≡ xs ++ flat_map (λ k. flat_map (come_entries idents) k.fates) ks
-all_entries_brought idents = acts_appending on_entries (λ k. brought idents k.deck 0 k.fates) (λ k. flat_map (come_entries idents) k.fates) (λ k xs. entries_brought idents k.deck 0 k.fates xs)
+all_entries_brought idents = acts_appending on_entries (λ k. brought idents k.deck 0 k.fates) (λ k. flat_map (come_entries idents) k.fates)
+    (λ k xs. entries_brought idents k.deck 0 k.fates xs)
 
 pub all_targets_brought : (idents : List Ident) (ks : List DeckFatesView) (xs : List TargetRow)
     → all_acts on_targets (flat_map (λ k. brought idents k.deck 0 k.fates) ks) xs ≡ xs ++ flat_map (λ k. flat_map (come_targets idents) k.fates) ks
-all_targets_brought idents = acts_appending on_targets (λ k. brought idents k.deck 0 k.fates) (λ k. flat_map (come_targets idents) k.fates) (λ k xs. targets_brought idents k.deck 0 k.fates xs)
+all_targets_brought idents = acts_appending on_targets (λ k. brought idents k.deck 0 k.fates) (λ k. flat_map (come_targets idents) k.fates)
+    (λ k xs. targets_brought idents k.deck 0 k.fates xs)
 
 -- ---- what stays and what comes are the rows of the cards as they are
 
@@ -180,7 +190,8 @@ kept_entries : (idents : List Ident) (c : CardView) (h : List Entry)
 kept_entries idents c h = go (begins c.history h) refl
   where
     go : (b : Bool) → begins c.history h ≡ b
-        → (cond (not b) [] (entries_row idents c ++ []) ++ cond b (entry_rows (ref_of idents c) (length c.history) (drop (length c.history) h)) (entry_rows (ref_of idents c) 0 h))
+        → (cond (not b) [] (entries_row idents c ++ []) ++ cond b (entry_rows (ref_of idents c) (length c.history) (drop (length c.history) h))
+        (entry_rows (ref_of idents c) 0 h))
         ≡ entry_rows (ref_of idents c) 0 h ++ []
     go true is =
         ap (λ t. t ++ entry_rows (ref_of idents c) (length c.history) (drop (length c.history) h)) (append-nil (entries_row idents c))

@@ -200,7 +200,8 @@ any_append test (x ∷ xs) ys = go (test x) (any_append test xs ys)
 
 without_both : {A : Type 0} (card : A → CardRef) (ks ls : List CardRef) (xs : List A) → without card ls (without card ks xs) ≡ without card (ks ++ ls) xs
 without_both card ks ls [] = refl
-without_both card ks ls (x ∷ xs) = rw (any_append (λ k. same_ref k (card x)) ks ls) (go (is_in ks (card x)) (is_in ls (card x)) refl (without_both card ks ls xs))
+without_both card ks ls (x ∷ xs) = rw (any_append (λ k. same_ref k (card x)) ks ls) (go (is_in ks (card x)) (is_in ls (card x)) refl
+    (without_both card ks ls xs))
   where
     go : (a b : Bool) → is_in ls (card x) ≡ b → without card ls (without card ks xs) ≡ without card (ks ++ ls) xs
         → filter (λ r. not (is_in ls (card r))) (cond (not a) (x ∷ without card ks xs) (without card ks xs))

@@ -265,5 +265,6 @@ pub cards_left : (idents : List Ident) (keys : List CardRef) (ks : List DeckFate
 cards_left idents keys [] fit = refl
 cards_left idents keys (k ∷ ks) fit =
     filter-append _ (card_rows idents k.deck 0 (flat_map card_before k.fates)) _
-    ∙ ap (λ t. t ++ without card_of keys (flat_map (λ j. card_rows idents j.deck 0 (flat_map card_before j.fates)) ks)) (cards_left_in idents keys k.deck 0 k.fates fit.0)
+    ∙ ap (λ t. t ++ without card_of keys (flat_map (λ j. card_rows idents j.deck 0 (flat_map card_before j.fates)) ks))
+    (cards_left_in idents keys k.deck 0 k.fates fit.0)
     ∙ ap (λ t. kept_from idents k.deck 0 k.fates ++ t) (cards_left idents keys ks fit.1)

@@ -66,7 +66,8 @@ module _ (P : ChangeView → Type 0) where
   grown_all entry idents c d = go (begins c.history d.history)
     where
       go : (b : Bool)
-          → AllByRecursion P (cond b (entries_new (ref_of idents c) (length c.history) (drop (length c.history) d.history)) (entries_new (ref_of idents c) 0 d.history))
+          → AllByRecursion P (cond b (entries_new (ref_of idents c) (length c.history) (drop (length c.history) d.history)) (entries_new
+          (ref_of idents c) 0 d.history))
       go true = entries_all entry (ref_of idents c) (length c.history) (drop (length c.history) d.history)
       go false = entries_all entry (ref_of idents c) 0 d.history
 

@@ -59,7 +59,8 @@ pub take_on : {A : Type 0} (front xs : List A) (i : ℕ) (x : A) → i < length 
 take_on front xs i x within is =
     append_assoc front (take i xs) (x ∷ []) ∙ ap (λ y. front ++ (take i xs ++ y ∷ [])) is ∙ ap (λ t. front ++ t) (sym (take_more xs i x within))
 
-pub lead_first : (d e : DeckView) (k : DeckFatesView) → AreFates d.cards e.cards k.fates → IsShort k → k.deck ≡ d.ident → k.deck ≡ e.ident → Lead (d ∷ []) (e ∷ []) (k ∷ [])
+pub lead_first : (d e : DeckView) (k : DeckFatesView) → AreFates d.cards e.cards k.fates → IsShort k → k.deck ≡ d.ident → k.deck ≡ e.ident
+    → Lead (d ∷ []) (e ∷ []) (k ∷ [])
 lead_first d e k are short p q = lead_pair [] [] [] d e k (record { olds = refl; news = refl; kept = tt; short = tt }) are short p q
 
 -- decks with all that are left

@@ -221,7 +221,8 @@ others_stay idents d (k ∷ ks) apart = go (flat_map card_before k.fates) refl a
         → AllByRecursion (IsFixed d 0 0) (kept_from idents k.deck 0 k.fates ++ all_from idents ks)
     go [] none apart later = rw (none_from idents k.deck 0 k.fates none) (later apart)
     go (c ∷ cs) some apart later =
-        all_joined (IsFixed d 0 0) (kept_from idents k.deck 0 k.fates) (all_from idents ks) (elsewhere_from idents d k.deck 0 0 0 k.fates apart.0) (later apart.1)
+        all_joined (IsFixed d 0 0) (kept_from idents k.deck 0 k.fates) (all_from idents ks) (elsewhere_from idents d k.deck 0 0 0 k.fates apart.0)
+        (later apart.1)
 
 -- the rows of one deck stay under the moves of others
 under_others : (idents : List Ident) (d p : ℕ) (fates : List FateView) (ks : List DeckFatesView) → AllByRecursion (λ a. d ≡ a → ⊥) (ages_before ks)
@@ -255,5 +256,6 @@ all_moves_do idents (k ∷ ks) apart short = go (flat_map card_before k.fates) r
         (carry_joined (moves k.deck 0 0 k.fates) (kept_from idents k.deck 0 k.fates) (all_from idents ks) (kept_to idents k.deck 0 k.fates) (all_from idents ks)
         (moves_all IsMove are_moves k.deck 0 0 k.fates) (moves_do idents k.deck 0 0 k.fates (few short.0) (few short.0))
         (moves_fix k.deck 0 0 k.fates (all_from idents ks) (others_stay idents k.deck ks apart.0)))
-        (carry_joined (all_moves ks) (kept_to idents k.deck 0 k.fates) (all_from idents ks) (kept_to idents k.deck 0 k.fates) (all_to idents ks) (all_moves_are ks)
+        (carry_joined (all_moves ks) (kept_to idents k.deck 0 k.fates) (all_from idents ks) (kept_to idents k.deck 0 k.fates) (all_to idents ks)
+        (all_moves_are ks)
         (under_others idents k.deck 0 k.fates ks apart.0) (later apart.1))

@@ -157,7 +157,8 @@ apart_filter f test (x ∷ xs) apart = go (test x) (all_kept_of (λ y. f x ≡ y
 
 -- ---- the law
 
-module _ (old new : LibraryView) (ks : List DeckFatesView) (sound : IsSound old) (goes : Continues old.idents new.idents) (lead : Lead (all_decks old) (all_decks new) ks) where
+module _ (old new : LibraryView) (ks : List DeckFatesView) (sound : IsSound old) (goes : Continues old.idents new.idents) (lead : Lead
+    (all_decks old) (all_decks new) ks) where
   abbrev pub fates : List FateView
   fates = flat_map (λ k. k.fates) ks
 
@@ -171,17 +172,20 @@ module _ (old new : LibraryView) (ks : List DeckFatesView) (sound : IsSound old)
   stay = refs_stay old new.idents sound goes (all_cards old) sound.cards
 
   apart : AreApart (map (ref_of new.idents) (flat_map card_before fates))
-  apart = subst (λ cs. AreApart (map (ref_of new.idents) cs)) (sym before_is) (subst AreApart (refs_agree old.idents new.idents (all_cards old) stay) (refs_apart old sound))
+  apart = subst (λ cs. AreApart (map (ref_of new.idents) cs)) (sym before_is) (subst AreApart (refs_agree old.idents new.idents
+      (all_cards old) stay) (refs_apart old sound))
 
   -- the keys of marked cards fit
   fit : (mark : FateView → Bool) → AllByRecursion (Fits new.idents mark (keys new.idents ks mark)) fates
-  fit mark = subst (λ keys. AllByRecursion (Fits new.idents mark keys) fates) (flat_twice (key_of new.idents mark) (λ k. k.fates) ks) (keys_fit new.idents mark fates apart)
+  fit mark = subst (λ keys. AllByRecursion (Fits new.idents mark keys) fates) (flat_twice (key_of new.idents mark) (λ k. k.fates) ks)
+      (keys_fit new.idents mark fates apart)
 
   pub all_kept : AllByRecursion IsKept fates
   all_kept = all_flat IsKept (λ k. k.fates) ks lead.kept
 
   ages_apart : AreApart (ages_before ks)
-  ages_apart = subst (λ ds. AreApart (map (λ d. d.ident) ds)) (sym lead.olds) (apart_filter (λ d. d.ident) has_cards (all_decks old) (rising_apart (map (λ d. d.ident) (all_decks old)) sound.deck_ages))
+  ages_apart = subst (λ ds. AreApart (map (λ d. d.ident) ds)) (sym lead.olds) (apart_filter (λ d. d.ident) has_cards (all_decks old) (rising_apart
+      (map (λ d. d.ident) (all_decks old)) sound.deck_ages))
 
   -- what is told of the directory leaves the other tables alone
   past_idents : {A : Type 0} (e : ChangeView → Effect A) (xs : List A) → AreIdle e (idents_told old.idents new.idents)
@@ -205,7 +209,8 @@ module _ (old new : LibraryView) (ks : List DeckFatesView) (sound : IsSound old)
   cards_left_are =
       ap (all_acts on_cards (all_gone new.idents ks)) old_cards
       ∙ cards_gone_of new.idents ks (flat_map (λ k. card_rows new.idents k.deck 0 (flat_map card_before k.fates)) ks)
-      ∙ cards_left new.idents (keys new.idents ks card_goes) ks (all_split (Fits new.idents card_goes (keys new.idents ks card_goes)) (λ k. k.fates) ks (fit card_goes))
+      ∙ cards_left new.idents (keys new.idents ks card_goes) ks (all_split (Fits new.idents card_goes (keys new.idents ks card_goes))
+      (λ k. k.fates) ks (fit card_goes))
 
   moves_carry : Carry (all_moves ks) (all_from new.idents ks) (all_to new.idents ks)
   moves_carry = all_moves_do new.idents ks ages_apart lead.short
@@ -237,9 +242,11 @@ module _ (old new : LibraryView) (ks : List DeckFatesView) (sound : IsSound old)
         ∙ ap (all_acts e (cards_told new.idents ks)) (rows_agree row old.idents new.idents (all_cards old) stay
         ∙ ap (flat_map (λ c. row (ref_of new.idents c) c)) (sym before_is))
         ∙ acted (flat_map (λ c. row (ref_of new.idents c) c) (flat_map card_before fates))
-        ∙ ap (λ t. t ++ flat_map (λ k. flat_map come k.fates) ks) (rows_left card new.idents (λ c. row (ref_of new.idents c) c) mark (keys new.idents ks mark) own fates (fit mark))
+        ∙ ap (λ t. t ++ flat_map (λ k. flat_map come k.fates) ks) (rows_left card new.idents (λ c. row (ref_of new.idents c) c) mark
+        (keys new.idents ks mark) own fates (fit mark))
         ∙ ap (λ t. flat_map (staying mark (λ c. row (ref_of new.idents c) c)) fates ++ t) (sym (flat_twice come (λ k. k.fates) ks))))
-        (same_trans (same_woven IsKept (staying mark (λ c. row (ref_of new.idents c) c)) come (λ f. flat_map (λ c. row (ref_of new.idents c) c) (card_after f)) woven fates all_kept)
+        (same_trans (same_woven IsKept (staying mark (λ c. row (ref_of new.idents c) c)) come (λ f. flat_map (λ c. row (ref_of new.idents c) c)
+        (card_after f)) woven fates all_kept)
         (same_of _ _ (sym (flat_twice (λ c. row (ref_of new.idents c) c) card_after fates) ∙ ap (flat_map (λ c. row (ref_of new.idents c) c)) after_is)))
 
   pub told_shows : (rows : Rows) → Shows rows old → Shows (done_all (told old.idents new.idents ks) rows) new
@@ -268,7 +275,8 @@ module _ (old new : LibraryView) (ks : List DeckFatesView) (sound : IsSound old)
   left rows shows =
       same_trans (same_of _ _ (cards_after gone (begun rows)
       ∙ ap (all_acts on_cards gone) (cards_after (idents_told old.idents new.idents) rows
-      ∙ idle_acts on_cards (idents_told old.idents new.idents) rows.cards (idents_all (λ c. on_cards c ≡ Nothing) (λ i. refl) (λ age. refl) old.idents new.idents))))
+      ∙ idle_acts on_cards (idents_told old.idents new.idents) rows.cards (idents_all (λ c. on_cards c ≡ Nothing) (λ i. refl)
+      (λ age. refl) old.idents new.idents))))
       (same_trans (acts_same on_cards gone shows.cards) (same_of _ _ cards_left_are))
 
   -- tables that show the old library can carry the changes out

@@ -1,5 +1,6 @@
 -- Cards that are looked for by ident and number, where no two have the same.
-use Rattle.std.proofs.Common.{◌≡◌, ℕ, zero, suc, ◌+◌, ◌<◌, ◌≤◌, Bool, true, false, ◌&&◌, ◌||◌, if◌then◌else◌, List, [], ◌∷◌, ◌++◌, map, length, drop, get_or, slice_get, Some, subst}
+use Rattle.std.proofs.Common.{◌≡◌, ℕ, zero, suc, ◌+◌, ◌<◌, ◌≤◌, Bool, true, false, ◌&&◌, ◌||◌}
+use Rattle.std.proofs.Common.{if◌then◌else◌, List, [], ◌∷◌, ◌++◌, map, length, drop, get_or, slice_get, Some, subst}
 use Rattle.std.proofs.Common.{refl, ap, sym, ◌∙◌, append_assoc, append-nil, arith, add-one}
 use Rattle.std.specs.Prelude.{◌==◌, not}
 use Rattle.std.specs.List.{list_any, flat_map, find, filter, AllByRecursion, Contains}
@@ -56,7 +57,8 @@ stood_from : (ident number : ℕ) (same : CardView → Bool) (xs : List CardView
 stood_from ident number same [] k c apart at key is = absurd (cc)
 stood_from ident number same (x ∷ xs) zero c apart at key is =
     let e : x ≡ c = same_Some x c at in
-    step_at_card (is_card ident number x) (same x) _ (ap (is_card ident number) e ∙ is) (none_of_key ident number same (key_of x) xs (ap key_of e ∙ key) apart.0)
+    step_at_card (is_card ident number x) (same x) _ (ap (is_card ident number) e ∙ is) (none_of_key ident number same (key_of x) xs (ap key_of e
+    ∙ key) apart.0)
     ∙ ap same e
 stood_from ident number same (x ∷ xs) (suc k) c apart at key is =
     step_at_other (is_card ident number x) (same x) _ _
@@ -172,19 +174,26 @@ found_cards l k ks all = go (flat_map card_before k.fates) refl all
         → AllByRecursion (Contains (cards_of k.deck l)) (flat_map card_before k.fates)
         × AllByRecursion (λ d. cards_of d.ident l ≡ d.cards) (standing (map deck_before ks))
     go [] e all = (subst (AllByRecursion (Contains (cards_of k.deck l))) (sym e) tt, all)
-    go (c ∷ cs) e all =
-        (subst (AllByRecursion (Contains (cards_of k.deck l))) (sym e) (subst (λ xs. AllByRecursion (Contains xs) (c ∷ cs)) (sym all.0) (own_cards (c ∷ cs))), all.1)
+    go (c ∷ cs) e all = (
+      subst (AllByRecursion (Contains (cards_of k.deck l))) (sym e) (subst (λ xs. AllByRecursion (Contains xs) (c ∷ cs)) (sym all.0) (own_cards
+          (c ∷ cs))),
+      all.1,
+    )
 
 each_are_of : (l : LibraryView) (sure : Bool) (ks : List DeckFatesView) → AllByRecursion (λ k. AllByRecursion IsKept k.fates) ks
     → (sure ≡ true → AllByRecursion (λ d. cards_of d.ident l ≡ d.cards) (standing (map deck_before ks))) → AllByRecursion (AreOf l sure) ks
 each_are_of l sure [] kept found = tt
-each_are_of l sure (k ∷ ks) kept found =
-    (are_of (cards_of k.deck l) sure k.fates kept.0 (λ e. (found_cards l k ks (found e)).0), each_are_of l sure ks kept.1 (λ e. (found_cards l k ks (found e)).1))
+each_are_of l sure (k ∷ ks) kept found = (
+  are_of (cards_of k.deck l) sure k.fates kept.0 (λ e. (found_cards l k ks (found e)).0),
+  each_are_of l sure ks kept.1 (λ e. (found_cards l k ks
+      (found e)).1),
+)
 
 pub lead_are_of : (l : LibraryView) (after : List DeckView) (ks : List DeckFatesView) (sure : Bool) → Lead (all_decks l) after ks
     → (sure ≡ true → AreRising (map (λ d. d.ident) (all_decks l))) → AllByRecursion (AreOf l sure) ks
 lead_are_of l after ks sure lead rising =
-    each_are_of l sure ks lead.kept (λ e. subst (AllByRecursion (λ d. cards_of d.ident l ≡ d.cards)) (sym lead.olds) (all_left _ has_cards (all_decks l) (deck_found l (rising e))))
+    each_are_of l sure ks lead.kept (λ e. subst (AllByRecursion (λ d. cards_of d.ident l ≡ d.cards)) (sym lead.olds) (all_left _ has_cards
+    (all_decks l) (deck_found l (rising e))))
 
 -- ---- loops
 

@@ -62,8 +62,8 @@ fn add_touched(
     fates: &[Fate],
 ) -> Result<(), AllocError>
     ensures { AreApart (map key_of before.now) → AllByRecursion (IsOf before.now sure) (map fate_seen fates.now)
-        → OnOk result (found.new.items ≡ found.old.items
-        ++ map (ref_of idents.now) (filter (λ c. not (stood_in before.now c)) (flat_map card_after (map fate_seen fates.now)))) }
+        → OnOk result (found.new.items ≡ found.old.items ++ map (ref_of idents.now)
+        (filter (λ c. not (stood_in before.now c)) (flat_map card_after (map fate_seen fates.now)))) }
 {
     let youngest = youngest(before);
     for fate in fates {
@@ -88,7 +88,8 @@ fn add_unless(
     stood: bool,
     card: &Card,
 ) -> Result<(), AllocError>
-    ensures { OnOk result (found.new.items ≡ found.old.items ++ (if not stood then ref_of idents.now card.now ∷ [] else [])) }
+    ensures { OnOk result (found.new.items ≡ found.old.items
+        ++ (if not stood then ref_of idents.now card.now ∷ [] else [])) }
 {
     if !stood {
         found.push(card_ref(idents, card))?;

@@ -13,8 +13,10 @@ loop-deck-preserved c = λ olds news h.
     rw c.in_ok-push.ensures.items
     (subst (λ t. Lead olds t (c.loop-deck.found.items ++ k ∷ []))
     (take_on news c.args.decks.now c.loop-deck.deck-index d c.loop-deck-test.true c.deck-item.is)
-    (lead_new olds (news ++ take c.loop-deck.deck-index c.args.decks.now) c.loop-deck.found.items d k (c.loop-deck.invariant olds news h) are c.in_ok-fates.ensures.short deck))
+    (lead_new olds (news ++ take c.loop-deck.deck-index c.args.decks.now) c.loop-deck.found.items d k
+    (c.loop-deck.invariant olds news h) are c.in_ok-fates.ensures.short deck))
 
 pub returns : goal.returns
 returns c = λ olds news h.
-    subst (λ t. Lead olds (news ++ t) c.loop-deck.found.items) (take_all c.loop-deck.deck-index c.args.decks.now (omega arith)) (c.loop-deck.invariant olds news h)
+    subst (λ t. Lead olds (news ++ t) c.loop-deck.found.items) (take_all c.loop-deck.deck-index c.args.decks.now (omega arith))
+    (c.loop-deck.invariant olds news h)

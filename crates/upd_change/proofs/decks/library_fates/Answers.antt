@@ -13,6 +13,7 @@ returns c =
     let k = c.in_ok-deck_fates.field-0 in
     let are : AreFates old.yanks new.yanks k.fates = rw (c.yanks.ensures, c.yanks-2.ensures) at c.in_ok-deck_fates.ensures.fates in
     let first : Lead (d ∷ []) (e ∷ []) c.push.new.self.items =
-    rw (c.in_ok-push.ensures.items, c.new-found.ensures.items) (lead_first d e k are c.in_ok-deck_fates.ensures.short c.in_ok-deck_fates.ensures.deck c.in_ok-deck_fates.ensures.deck) in
+    rw (c.in_ok-push.ensures.items, c.new-found.ensures.items)
+    (lead_first d e k are c.in_ok-deck_fates.ensures.short c.in_ok-deck_fates.ensures.deck c.in_ok-deck_fates.ensures.deck) in
     let all = c.in_ok-add_new_decks.ensures _ _ (c.in_ok-next.ensures.lead (d ∷ []) (e ∷ []) first) in
     lead_all d e old.decks new.decks c.in_ok-next.next c.add_new_decks.new.found.items (rw (c.decks-decks.ensures, c.decks.ensures) at all)

@@ -19,7 +19,8 @@ loop-fate-preserved c = λ apart all.
       | in-Kept+in_ok-add_unless-in-Kept w ↦
           let here = rw w.in-Kept.is at next in
           let of = subst (AllByRecursion (IsOf before c.args.sure)) here so.0 in
-          let told = ap (λ t. c.loop-fate.found.items ++ map (ref_of idents) (filter (λ k. not (stood_in before k)) (flat_map card_after t))) (sym here) ∙ so.1 in (
+          let told = ap (λ t. c.loop-fate.found.items ++ map (ref_of idents) (filter (λ k. not (stood_in before k)) (flat_map card_after t)))
+          (sym here) ∙ so.1 in (
             of.1,
             rw w.found-is (card_more idents before _ rest c.loop-fate.found.items _ _ w.has_stayed-stood.result
                 (w.has_stayed-stood.ensures apart of.0.1 of.0.0) w.in_ok-add_unless-in-Kept.ensures told),
@@ -34,7 +35,8 @@ loop-fate-preserved c = λ apart all.
       | in-New+in_ok-add_unless-in-New w ↦
           let here = rw w.in-New.is at next in
           let of = subst (AllByRecursion (IsOf before c.args.sure)) here so.0 in
-          let told = ap (λ t. c.loop-fate.found.items ++ map (ref_of idents) (filter (λ k. not (stood_in before k)) (flat_map card_after t))) (sym here) ∙ so.1 in (
+          let told = ap (λ t. c.loop-fate.found.items ++ map (ref_of idents) (filter (λ k. not (stood_in before k)) (flat_map card_after t)))
+          (sym here) ∙ so.1 in (
             of.1,
             rw w.found-is (card_more idents before _ rest c.loop-fate.found.items _ _ w.has_stood-stood.result w.has_stood-stood.ensures
                 w.in_ok-add_unless-in-New.ensures told),
