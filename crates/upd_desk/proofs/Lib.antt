@@ -4,3 +4,9 @@ mod RepeatLemmas
 mod MadeLemmas
 mod ShownLemmas
 mod StateLemmas
+mod AlikeLemmas
+mod AnswerLemmas
+mod StoreLemmas
+mod ArrivesLemmas
+mod SettlesLemmas
+mod QueryLemmas

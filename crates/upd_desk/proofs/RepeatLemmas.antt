@@ -17,7 +17,7 @@ use Rattle.upd_desk.specs.Outcomes.{ReplyView, outcome}
 use Rattle.upd_desk.proofs.JournalLemmas.{unheard_door, unheard_settled, unheard_known, heard_new, answered_any}
 use Rattle.upd_desk.proofs.KeptLemmas.{is_same_bytes, none_found, same_key, not_below}
 
-missed : {A : Type 0} (test : A → Bool) (xs : List A) → find test xs ≡ None → list_any test xs ≡ false
+pub missed : {A : Type 0} (test : A → Bool) (xs : List A) → find test xs ≡ None → list_any test xs ≡ false
 missed test [] is = refl
 missed {A} test (x ∷ xs) is = go (test x) is (missed test xs)
   where
@@ -28,7 +28,7 @@ missed {A} test (x ∷ xs) is = go (test x) is (missed test xs)
 -- ---- a refusal leaves the journal's runs as they were
 
 -- a kept run is one of the distinct runs
-known_where_kept : (j : Journal) (site : List ℕ) (n : ℕ) (run : RunView) → kept j site n ≡ Some run → list_any (has_key site n) (distinct j) ≡ true
+pub known_where_kept : (j : Journal) (site : List ℕ) (n : ℕ) (run : RunView) → kept j site n ≡ Some run → list_any (has_key site n) (distinct j) ≡ true
 known_where_kept j site n run is = go (list_any (has_key site n) (distinct j)) refl
   where
     none : list_any (has_key site n) (distinct j) ≡ false → (settled : Bool)

@@ -4,12 +4,14 @@ use Rattle.std.specs.List.{Any}
 use Rattle.upd_text.specs.declared.fault.Fault.{Fault}
 use Rattle.upd_text.specs.declared.fault.FaultKind.{FaultKind}
 use Rattle.upd_text.specs.declared.fault.FaultKind.TheVariants.{NoMemory, Store}
+use Rattle.upd_text.specs.Outcome.{◌>>=◌}
 use Rattle.upd_core.specs.Library.{LibraryView}
 use Rattle.upd_change.specs.Rows.{Rows, Shows, ShowsStates}
 use Rattle.upd_compile.specs.declared.mode.Mode.{Mode}
 use Rattle.upd_rows.specs.Tables.{mark_at, run_at}
-use Rattle.upd_desk.specs.Arrivals.{ArrivalView}
-use Rattle.upd_desk.specs.Journal.{Event, Came, Journal, answer, kept, mark, run_of, world}
+use Rattle.upd_desk.specs.Arrivals.{ArrivalView, key_door}
+use Rattle.upd_desk.specs.Journal.{Event, Came, Settled, Journal, answer, kept, mark, run_of, world}
+use Rattle.upd_desk.specs.Made.{IsMade}
 use Rattle.upd_desk.specs.Outcomes.{ReplyView, outcome}
 
 -- Tables hold what is owed after a journal: the library with its statuses and counts, the kept replies, and the marks.
@@ -30,15 +32,56 @@ abbrev pub after : Journal → ArrivalView → Result ReplyView Fault → Journa
 after journal a (Ok reply) = Came a ∷ journal
 after journal a (Err fault) = if is_lost fault.kind then journal else Came a ∷ journal
 
+-- a call answered what is owed, or it was lost
+abbrev pub IsOwed : {A : Type 0} → Result A Fault → Result A Fault → Type 0
+IsOwed owed (Ok x) = owed ≡ Ok x
+IsOwed owed (Err fault) = IsTrue (is_lost fault.kind) ⊎ (owed ≡ Err fault)
+
 -- the answer is the one that is owed, or the arrival was lost
 abbrev pub IsAnswer : Journal → ArrivalView → Result ReplyView Fault → Type 0
-IsAnswer journal a (Ok reply) = answer journal a ≡ Ok reply
-IsAnswer journal a (Err fault) = IsTrue (is_lost fault.kind) ⊎ (answer journal a ≡ Err fault)
+IsAnswer journal a result = IsOwed (answer journal a) result
 
 -- what is in hand after an arrival: nothing once a call was answered, and one more where it was lost
 abbrev pub in_hand_after : ArrivalView → List Event → Result ReplyView Fault → List Event
 in_hand_after a in_hand (Ok reply) = []
 in_hand_after a in_hand (Err fault) = if is_lost fault.kind then Came a ∷ in_hand else in_hand
+
+-- what a settlement is answered: the first refusal of its site and its number, or the site's mark afterwards
+abbrev pub mark_after : Journal → List ℕ → ℕ → Result ℕ Fault
+mark_after journal site n = do
+  _ ← key_door site n
+  Ok (mark (Settled site n ∷ journal) site)
+
+-- the journal after a settlement was answered so
+abbrev pub after_settling : Journal → List ℕ → ℕ → Result ℕ Fault → Journal
+after_settling journal site n (Ok mark) = Settled site n ∷ journal
+after_settling journal site n (Err fault) = journal
+
+-- what is in hand after a settlement
+abbrev pub in_hand_settling : List ℕ → ℕ → List Event → Result ℕ Fault → List Event
+in_hand_settling site n in_hand (Ok mark) = []
+in_hand_settling site n in_hand (Err fault) = if is_lost fault.kind then Settled site n ∷ in_hand else in_hand
+
+-- ---- arrivals one after the other
+
+-- the journal after arrivals were answered so
+abbrev pub after_all : Journal → List ArrivalView → List (Result ReplyView Fault) → Journal
+after_all journal [] results = journal
+after_all journal (a ∷ later) [] = journal
+after_all journal (a ∷ later) (result ∷ results) = after_all (after journal a result) later results
+
+-- each has its answer, and it is the one that is owed after those before it
+abbrev pub AreAnswers : Journal → List ArrivalView → List (Result ReplyView Fault) → Type 0
+AreAnswers journal [] [] = Unit {0}
+AreAnswers journal [] (result ∷ results) = ⊥
+AreAnswers journal (a ∷ later) [] = ⊥
+AreAnswers journal (a ∷ later) (result ∷ results) = IsAnswer journal a result × AreAnswers (after journal a result) later results
+
+-- what is in hand after them
+abbrev pub in_hand_after_all : List Event → List ArrivalView → List (Result ReplyView Fault) → List Event
+in_hand_after_all in_hand [] results = in_hand
+in_hand_after_all in_hand (a ∷ later) [] = in_hand
+in_hand_after_all in_hand (a ∷ later) (result ∷ results) = in_hand_after_all (in_hand_after a in_hand result) later results
 
 -- what a new run makes of tables that show a library: they show the library that it leaves, and keep the run with its reply
 pub record AddsRun (mode : Mode) (a : ArrivalView) (l : LibraryView) (before later : Rows) : Type 0 where
@@ -48,6 +91,11 @@ pub record AddsRun (mode : Mode) (a : ArrivalView) (l : LibraryView) (before lat
   pub settled : later.settled ≡ before.settled
 
 module _ {Image : Type 0} (shows : Image → Rows → Type 0) where
+  -- An image becomes another by a new run: where the one shows a library that runs have made, the other shows what the run makes of it.
+  abbrev pub Becomes : Mode → ArrivalView → Image → Image → Type 0
+  Becomes mode a before later = (l : LibraryView) → IsMade l → (rows : Rows) → shows before rows → Shows rows l → ShowsStates rows l
+      → (new : Rows) × shows later new × AddsRun mode a l rows new
+
   -- an image holds what is owed after a journal
   abbrev pub HoldsIn : Journal → Image → Type 0
   HoldsIn journal image = (rows : Rows) × shows image rows × Holds journal rows
@@ -63,6 +111,14 @@ module _ {S : Type 0} {Image : Type 0} (is_honest is_open : S → Type 0) (image
     pub shown : is_open store → HoldsIn shows journal (image store)
     pub left : (i : Image) → may_leave store i → IsLeft shows journal in_hand i
 
+  -- A call that tries to keep a new run: a crash leaves nothing that it could not leave before, but for what the run makes of what the
+  -- store kept.
+  pub record TriesRun (mode : Mode) (a : ArrivalView) (old new : S) : Type 0 where
+    pub honest : is_honest new → is_honest old
+    pub was_open : is_honest new → is_open new → is_open old
+    pub counts : failures old ≤ failures new
+    pub crash : is_honest new → (i : Image) → may_leave new i → may_leave old i ⊎ (is_open old × Becomes shows mode a (image old) i)
+
   -- what an arrival does to a desk over a store
   pub record Arrives (a : ArrivalView) (result : Result ReplyView Fault) (old new : S) : Type 0 where
     pub honest : is_honest new → is_honest old
@@ -76,3 +132,30 @@ module _ {S : Type 0} {Image : Type 0} (is_honest is_open : S → Type 0) (image
     -- a stop leaves what was answered, with or without what is in hand
     pub leaves : is_honest new → (journal : Journal) (in_hand : List Event) → Guards journal in_hand old → (i : Image) → may_leave new i
         → IsLeft shows (after journal a result) (in_hand_after a in_hand result) i
+
+  -- what a settlement does to a desk over a store
+  pub record Settles (site : List ℕ) (n : ℕ) (result : Result ℕ Fault) (old new : S) : Type 0 where
+    pub honest : is_honest new → is_honest old
+    pub was_open : is_honest new → is_open new → is_open old
+    pub counts : failures old ≤ failures new
+    pub answers : is_honest new → (journal : Journal) → (is_open old → HoldsIn shows journal (image old)) → IsOwed (mark_after journal site n) result
+    pub holds : is_honest new → (journal : Journal) → (is_open old → HoldsIn shows journal (image old)) → is_open new
+        → HoldsIn shows (after_settling journal site n result) (image new)
+    pub leaves : is_honest new → (journal : Journal) (in_hand : List Event) → Guards journal in_hand old → (i : Image) → may_leave new i
+        → IsLeft shows (after_settling journal site n result) (in_hand_settling site n in_hand result) i
+
+  -- what arrivals one after the other do to a desk over a store
+  pub record ArriveAll (list : List ArrivalView) (results : List (Result ReplyView Fault)) (old new : S) : Type 0 where
+    pub honest : is_honest new → is_honest old
+    pub was_open : is_honest new → is_open new → is_open old
+    pub counts : failures old ≤ failures new
+    pub answers : is_honest new → (journal : Journal) → (is_open old → HoldsIn shows journal (image old)) → AreAnswers journal list results
+    pub holds : is_honest new → (journal : Journal) → (is_open old → HoldsIn shows journal (image old)) → is_open new
+        → HoldsIn shows (after_all journal list results) (image new)
+    pub leaves : is_honest new → (journal : Journal) (in_hand : List Event) → Guards journal in_hand old → (i : Image) → may_leave new i
+        → IsLeft shows (after_all journal list results) (in_hand_after_all in_hand list results) i
+
+  -- A query answers what is defined of the library after any journal that the store holds.
+  abbrev pub Tells : {A : Type 0} → (LibraryView → Result A Fault) → Result A Fault → S → S → Type 0
+  Tells defined result old new = is_honest new → (journal : Journal) → (is_open old → HoldsIn shows journal (image old))
+      → IsOwed (defined (world journal)) result

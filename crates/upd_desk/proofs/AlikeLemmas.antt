@@ -1,0 +1,70 @@
+-- Journals that go on alike, and what tables hold after one more event.
+use Rattle.std.proofs.Common.{◌≡◌, ℕ, nat_lt, true, false, List, ◌∷◌, Option, Some, None}
+use Rattle.std.proofs.Common.{Result, Ok, Err, refl, ap, sym, ◌∙◌, subst}
+use Rattle.std.specs.List.{list_any, find}
+use Rattle.std.specs.Option.{option_map_or}
+use Rattle.upd_text.specs.declared.fault.Fault.{Fault}
+use Rattle.upd_change.specs.Rows.{Rows, Shows, ShowsStates}
+use Rattle.upd_compile.specs.declared.mode.Mode.{Mode}
+use Rattle.upd_rows.specs.Tables.{is_run, run_at, is_mark_of}
+use Rattle.upd_desk.specs.Arrivals.{ArrivalView, door}
+use Rattle.upd_desk.specs.Journal.{Event, Came, Carried, Settled, Heard, Journal, mark, has_key, with_arrival, distinct, made_by, world, answered, kept}
+use Rattle.upd_desk.specs.Outcomes.{outcome}
+use Rattle.upd_desk.specs.Holding.{Holds, AddsRun}
+use Rattle.upd_desk.proofs.JournalLemmas.{answered_any, heard_new}
+use Rattle.upd_desk.proofs.KeptLemmas.{kept_with_run, not_below}
+use Rattle.upd_desk.proofs.RepeatLemmas.{missed}
+
+-- Two journals that go on alike: the same distinct runs and the same marks.
+pub record Alike (a b : Journal) : Type 0 where
+  pub runs : distinct a ≡ distinct b
+  pub marks : (site : List ℕ) → mark a site ≡ mark b site
+
+-- an arrival that isn't heard changes nothing of how a journal goes on
+pub alike_unheard : (j : Journal) (a : ArrivalView) → distinct (Came a ∷ j) ≡ distinct j → Alike j (Came a ∷ j)
+alike_unheard j a same = record { runs = sym same; marks = λ site. refl }
+
+with_alike : (a b : Journal) (x : ArrivalView) (carried : Option (List ℕ)) (d : Result Mode Fault) → Alike a b
+    → with_arrival a (distinct a) x carried d ≡ with_arrival b (distinct b) x carried d
+with_alike a b x carried (Ok mode) same = rw (same.runs, same.marks x.site) refl
+with_alike a b x carried (Err fault) same = same.runs
+
+-- journals that go on alike do so after one more event
+pub alike_more : (a b : Journal) (e : Event) → Alike a b → Alike (e ∷ a) (e ∷ b)
+alike_more a b (Came x) same = record { runs = with_alike a b x None (door x) same; marks = same.marks }
+alike_more a b (Carried x reply) same = record { runs = with_alike a b x (Some reply) (door x) same; marks = same.marks }
+alike_more a b (Settled s n) same = record { runs = same.runs; marks = λ site. rw (same.marks site) refl }
+
+-- tables that hold what is owed after a journal do so after one that goes on alike
+pub holds_alike : (a b : Journal) (rows : Rows) → Alike a b → Holds a rows → Holds b rows
+holds_alike a b rows same held = record {
+  library = subst (λ runs. Shows rows (made_by runs)) same.runs held.library;
+  states = subst (λ runs. ShowsStates rows (made_by runs)) same.runs held.states;
+  runs = λ site n. held.runs site n ∙ rw (same.runs, same.marks site) refl;
+  marks = λ site. held.marks site ∙ same.marks site;
+}
+
+-- a key that no run is kept under, above the mark, is none of those heard
+pub unheard_key : (j : Journal) (rows : Rows) (site : List ℕ) (n : ℕ) → Holds j rows → nat_lt (mark j site) n ≡ true
+    → run_at site n rows ≡ None → list_any (has_key site n) (distinct j) ≡ false
+unheard_key j rows site n held above none =
+    let found : kept j site n ≡ find (is_run site n) (answered (distinct j)) = rw (not_below (mark j site) n above) refl in
+    let nothing : find (is_run site n) (answered (distinct j)) ≡ None = sym found ∙ sym (held.runs site n) ∙ none in
+    sym (answered_any site n (distinct j)) ∙ missed (is_run site n) (answered (distinct j)) nothing
+
+-- tables that a new run was added to hold what is owed after its arrival
+pub holds_new : (j : Journal) (a : ArrivalView) (mode : Mode) (rows new : Rows) → Holds j rows → door a ≡ Ok mode
+    → nat_lt (mark j a.site) a.number ≡ true → run_at a.site a.number rows ≡ None → AddsRun mode a (world j) rows new → Holds (Came a ∷ j) new
+holds_new j a mode rows new held passed above none adds =
+    let fresh = unheard_key j rows a.site a.number held above none in
+    let heard : distinct (Came a ∷ j) ≡ h ∷ distinct j = heard_new j a mode passed above fresh in
+    record {
+      library = subst (λ runs. Shows new (made_by runs)) (sym heard) adds.library;
+      states = subst (λ runs. ShowsStates new (made_by runs)) (sym heard) adds.states;
+      runs = λ site n. ap (find (is_run site n)) adds.runs
+          ∙ kept_with_run j h (outcome mode a (world j)).reply rows held.runs above fresh site n ∙ rw heard refl;
+      marks = λ site. ap (λ rows. option_map_or (λ m. m.mark) (find (is_mark_of site) rows) 0) adds.settled ∙ held.marks site;
+    }
+  where
+    h : Heard
+    h = record { arrival = a; mode = mode; carried = None }

@@ -1,0 +1,271 @@
+-- What each answer to an arrival makes of a desk over a store.
+use Rattle.std.proofs.Common.{◌≡◌, ℕ, suc, ◌≤◌, ◌<◌, nat_lt, nat_le, Bool, true, false, ◌⊎◌, if◌then◌else◌, List, ◌∷◌}
+use Rattle.std.proofs.Common.{Option, Some, None, Result, Ok, Err, ◌==◌, ◌&&◌}
+use Rattle.std.proofs.Common.{inl, inr, refl, ap, sym, ◌∙◌, subst, rules, arith}
+use Rattle.std.specs.Str.{bytes_eq}
+use Rattle.std.proofs.lemmas.Bool.Decides.{nat_tests}
+use Rattle.upd_text.specs.declared.fault.Fault.{Fault}
+use Rattle.upd_text.specs.declared.fault.FaultKind.TheVariants as fault
+use Rattle.upd_core.specs.Library.{LibraryView, empty}
+use Rattle.upd_change.specs.Rows.{RunView, Rows, Shows}
+use Rattle.upd_compile.specs.declared.mode.Mode.{Mode}
+use Rattle.upd_rows.specs.Keeping.{IsLost, Keeps, MoreFailures, OfMemory, OfStore}
+use Rattle.upd_rows.specs.Tables.{mark_at, run_at}
+use Rattle.upd_rows.proofs.StoreLemmas.{keeps_still}
+use Rattle.upd_desk.specs.Arrivals.{ArrivalView, door, mode_number}
+use Rattle.upd_desk.specs.Journal.{Event, Came, Journal, answer, distinct, mark, reply_to, world}
+use Rattle.upd_desk.specs.Made.{IsMade}
+use Rattle.upd_desk.specs.Outcomes.{ReplyView, outcome}
+use Rattle.upd_desk.specs.Holding.{Arrives, Becomes, Guards, HoldsIn, IsLeft, TriesRun, is_lost}
+use Rattle.upd_desk.proofs.AlikeLemmas.{Alike, alike_more, alike_unheard, holds_alike, holds_new}
+use Rattle.upd_desk.proofs.AnswerLemmas.{answer_again, answer_at_door, answer_new, answer_settled, door_keeps}
+use Rattle.upd_desk.proofs.RepeatLemmas.{refused_unheard}
+
+-- a fault that is lost is one by its kind
+pub lost_kind : (f : Fault) → IsLost f → is_lost f.kind ≡ true
+lost_kind f (OfMemory g is at) = rw is refl
+lost_kind f (OfStore g is) = rw is refl
+
+-- a fault that isn't lost is no failure of a store
+pub unstored : (old new : ℕ) (f : Fault) → is_lost f.kind ≡ false → f.kind ≡ fault.Store → MoreFailures old new
+unstored old new f stays is = let clash : true ≡ false = sym (ap is_lost is) ∙ stays in grind rules
+
+-- another run under a kept key neither wants memory nor fails as a store does
+pub changed_keeps : (mode : Mode) (a : ArrivalView) (l : LibraryView) (run : RunView) (f : Fault) → Err f ≡ reply_to mode a l (Some run)
+    → is_lost f.kind ≡ false
+changed_keeps mode a l run f is = go ((run.mode == mode_number mode) && bytes_eq run.bytes a.bytes) is
+  where
+    told : Result ReplyView Fault
+    told = Ok (record { accepted = run.accepted; text = run.reply })
+
+    changed : Result ReplyView Fault
+    changed = Err (record { kind = fault.RunChanged; at = 0 })
+
+    go : (same : Bool) → Err f ≡ (if same then told else changed) → is_lost f.kind ≡ false
+    go true is = grind rules
+    go false is = grind rules
+
+-- ---- images
+
+module _ {Image : Type 0} (shows : Image → Rows → Type 0) where
+  pub holds_in_alike : (a b : Journal) (i : Image) → Alike a b → HoldsIn shows a i → HoldsIn shows b i
+  holds_in_alike a b i alike held = (held.0, held.1, holds_alike a b held.0 alike held.2)
+
+  -- what is left after a journal is left after one that goes on alike
+  pub left_alike : (a b : Journal) (hand : List Event) (i : Image) → Alike a b → IsLeft shows a hand i → IsLeft shows b hand i
+  left_alike a b hand i alike (inl held) = inl (holds_in_alike a b i alike held)
+  left_alike a b hand i alike (inr some) =
+      inr (some.0, some.1, some.2, some.3, holds_in_alike (some.1 ∷ a) (some.1 ∷ b) i (alike_more a b some.1 alike) some.4)
+
+  -- one more in hand leaves no less
+  pub left_more : (j : Journal) (e : Event) (hand : List Event) (i : Image) → IsLeft shows j hand i → IsLeft shows j (e ∷ hand) i
+  left_more j e hand i (inl held) = inl held
+  left_more j e hand i (inr some) = inr (suc some.0, some.1, (let less = some.2 in omega (arith, less)), some.3, some.4)
+
+  -- what is in hand may be left
+  pub left_here : (j : Journal) (e : Event) (hand : List Event) (i : Image) → HoldsIn shows (e ∷ j) i → IsLeft shows j (e ∷ hand) i
+  left_here j e hand i held = inr (0, e, grind arith, refl, held)
+
+-- ---- answers
+
+module _ {S : Type 0} {Image : Type 0} (is_honest is_open : S → Type 0) (image : S → Image) (shows : Image → Rows → Type 0)
+    (may_leave : S → Image → Type 0) (failures : S → ℕ) where
+  -- what a journal is held in before a call is what its journals are asked of
+  abbrev HeldAt : S → Journal → Type 0
+  HeldAt s j = is_open s → HoldsIn shows j (image s)
+
+  abbrev Went : ArrivalView → Result ReplyView Fault → S → S → Type 0
+  Went = Arrives is_honest is_open image shows may_leave failures
+
+  held_after : (old new : S) → Keeps is_honest is_open image shows may_leave failures old new → is_honest new → (j k : Journal) → Alike j k
+      → HeldAt old j → is_open new → HoldsIn shows k (image new)
+  held_after old new keeps honest j k alike held is =
+      subst (HoldsIn shows k) (sym (keeps.same honest is)) (holds_in_alike shows j k (image old) alike (held (keeps.was_open honest is)))
+
+  -- A call that only read, and a refusal that isn't kept: nothing changed, and the journal goes on alike.
+  pub refuses : (a : ArrivalView) (f : Fault) (old new : S) → Keeps is_honest is_open image shows may_leave failures old new
+      → is_lost f.kind ≡ false → (is_honest new → (j : Journal) → HeldAt old j → answer j a ≡ Err f) → Went a (Err f) old new
+  refuses a f old new keeps stays answers = record {
+    honest = keeps.honest;
+    was_open = keeps.was_open;
+    counts = keeps.counts;
+    answers = λ honest j held. inr (answers honest j held);
+    holds = λ honest j held is. rw stays (held_after old new keeps honest j (Came a ∷ j) (alike honest j held) held is);
+    leaves = λ honest j hand guards i may.
+        rw stays (left_alike shows j (Came a ∷ j) hand i (alike honest j guards.shown) (guards.left i (keeps.crash honest i may)));
+  }
+    where
+      alike : is_honest new → (j : Journal) → HeldAt old j → Alike j (Came a ∷ j)
+      alike honest j held = alike_unheard j a (refused_unheard j a f (answers honest j held))
+
+  -- A call that only read, and a kept reply: nothing changed, and nothing is in hand.
+  pub tells : (settles : (s : S) (i : Image) → is_honest s → is_open s → may_leave s i → i ≡ image s) (a : ArrivalView) (reply : ReplyView)
+      (old new : S) → Keeps is_honest is_open image shows may_leave failures old new → (is_honest new → is_open new)
+      → (is_honest new → (j : Journal) → HeldAt old j → (answer j a ≡ Ok reply) × (distinct (Came a ∷ j) ≡ distinct j)) → Went a (Ok reply) old new
+  tells settles a reply old new keeps opens answers = record {
+    honest = keeps.honest;
+    was_open = keeps.was_open;
+    counts = keeps.counts;
+    answers = λ honest j held. (answers honest j held).0;
+    holds = holds;
+    leaves = λ honest j hand guards i may.
+        inl (subst (HoldsIn shows (Came a ∷ j)) (sym (settles new i honest (opens honest) may)) (holds honest j guards.shown (opens honest)));
+  }
+    where
+      holds : is_honest new → (j : Journal) → HeldAt old j → is_open new → HoldsIn shows (Came a ∷ j) (image new)
+      holds honest j held is = held_after old new keeps honest j (Came a ∷ j) (alike_unheard j a (answers honest j held).1) held is
+
+  -- A call that failed and tried no write: nothing changed, and the arrival didn't happen.
+  pub loses : (a : ArrivalView) (f : Fault) (old new : S) → Keeps is_honest is_open image shows may_leave failures old new
+      → IsLost f → Went a (Err f) old new
+  loses a f old new keeps lost = record {
+    honest = keeps.honest;
+    was_open = keeps.was_open;
+    counts = keeps.counts;
+    answers = λ honest j held. inl (lost_kind f lost);
+    holds = λ honest j held is. rw (lost_kind f lost) (subst (HoldsIn shows j) (sym (keeps.same honest is)) (held (keeps.was_open honest is)));
+    leaves = λ honest j hand guards i may. rw (lost_kind f lost) (left_more shows j (Came a) hand i (guards.left i (keeps.crash honest i may)));
+  }
+
+  -- What is known of an arrival that is looked up: it passed the door, its number is above the mark that the tables hold, and what is kept.
+  pub record IsAsked (mode : Mode) (a : ArrivalView) (kept : Option RunView) (s : S) : Type 0 where
+    pub passed : door a ≡ Ok mode
+    pub above : is_open s → (rows : Rows) → shows (image s) rows → nat_lt (mark_at a.site rows) a.number ≡ true
+    pub found : is_open s → (rows : Rows) → shows (image s) rows → run_at a.site a.number rows ≡ kept
+
+  becomes_held : (made : (j : Journal) → IsMade (world j)) (mode : Mode) (a : ArrivalView) (old : S) (i : Image) (j : Journal) → IsAsked mode a None old
+      → is_open old → HoldsIn shows j (image old) → Becomes shows mode a (image old) i → HoldsIn shows (Came a ∷ j) i
+  becomes_held made mode a old i j new is (rows, shown, held) becomes =
+      let later = becomes (world j) (made j) rows shown held.library held.states in
+      let above : nat_lt (mark j a.site) a.number ≡ true = rw (← held.marks a.site) (new.above is rows shown) in
+      (later.0, later.1, holds_new j a mode rows later.0 held new.passed above (new.found is rows shown) later.2)
+
+  -- A call that failed and may have tried to keep a new run: it is in hand.
+  pub loses_new : (made : (j : Journal) → IsMade (world j)) (mode : Mode) (a : ArrivalView) (f : Fault) (old new : S)
+      → TriesRun is_honest is_open image shows may_leave failures mode a old new → (is_honest old → IsAsked mode a None old) → IsLost f
+      → (is_honest new → is_open new → image new ≡ image old) → Went a (Err f) old new
+  loses_new made mode a f old new tries is_new lost same = record {
+    honest = tries.honest;
+    was_open = tries.was_open;
+    counts = tries.counts;
+    answers = λ honest j held. inl (lost_kind f lost);
+    holds = λ honest j held is. rw (lost_kind f lost) (subst (HoldsIn shows j) (sym (same honest is)) (held (tries.was_open honest is)));
+    leaves = λ honest j hand guards i may. rw (lost_kind f lost) (by honest j hand guards i (tries.crash honest i may));
+  }
+    where
+      by : is_honest new → (j : Journal) (hand : List Event) → Guards is_honest is_open image shows may_leave failures j hand old → (i : Image)
+          → may_leave old i ⊎ (is_open old × Becomes shows mode a (image old) i) → IsLeft shows j (Came a ∷ hand) i
+      by honest j hand guards i (inl may) = left_more shows j (Came a) hand i (guards.left i may)
+      by honest j hand guards i (inr (is, becomes)) = left_here shows j (Came a) hand i
+          (becomes_held made mode a old i j (is_new (tries.honest honest)) is (guards.shown is) becomes)
+
+  -- A new run was kept: the store holds the journal with it, and nothing is in hand.
+  pub keeps_new : (made : (j : Journal) → IsMade (world j))
+      (settles : (s : S) (i : Image) → is_honest s → is_open s → may_leave s i → i ≡ image s) (mode : Mode) (a : ArrivalView) (reply : ReplyView)
+      (old new : S) → TriesRun is_honest is_open image shows may_leave failures mode a old new → (is_honest old → IsAsked mode a None old)
+      → (is_honest new → is_open new) → (is_honest new → Becomes shows mode a (image old) (image new))
+      → (is_honest new → (l : LibraryView) → IsMade l → (rows : Rows) → shows (image old) rows → Shows rows l → reply ≡ (outcome mode a l).reply)
+      → Went a (Ok reply) old new
+  keeps_new made settles mode a reply old new tries is_new opens becomes replies = record {
+    honest = tries.honest;
+    was_open = tries.was_open;
+    counts = tries.counts;
+    answers = λ honest j held. owed honest j (held (was_open honest));
+    holds = holds;
+    leaves = λ honest j hand guards i may.
+        inl (subst (HoldsIn shows (Came a ∷ j)) (sym (settles new i honest (opens honest) may)) (holds honest j guards.shown (opens honest)));
+  }
+    where
+      was_open : is_honest new → is_open old
+      was_open honest = tries.was_open honest (opens honest)
+
+      holds : is_honest new → (j : Journal) → HeldAt old j → is_open new → HoldsIn shows (Came a ∷ j) (image new)
+      holds honest j held is =
+          becomes_held made mode a old (image new) j (is_new (tries.honest honest)) (was_open honest) (held (was_open honest)) (becomes honest)
+
+      owed : is_honest new → (j : Journal) → HoldsIn shows j (image old) → answer j a ≡ Ok reply
+      owed honest j (rows, shown, held) =
+          let new = is_new (tries.honest honest) in
+          let first = answer_new j a mode rows held new.passed (new.above (was_open honest) rows shown) (new.found (was_open honest) rows shown) in
+          first ∙ ap Ok (sym (replies honest (world j) (made j) rows shown held.library))
+
+  -- ---- calls before that only read
+
+  -- what an arrival does behind such calls it does with them
+  pub keeps_arrives : (a : ArrivalView) (result : Result ReplyView Fault) (old mid new : S)
+      → Keeps is_honest is_open image shows may_leave failures old mid → Went a result mid new → Went a result old new
+  keeps_arrives a result old mid new keeps went = record {
+    honest = λ honest. keeps.honest (went.honest honest);
+    was_open = λ honest is. keeps.was_open (went.honest honest) (went.was_open honest is);
+    counts = (let less = keeps.counts in let more = went.counts in grind arith);
+    answers = λ honest j held. went.answers honest j (later (went.honest honest) j held);
+    holds = λ honest j held is. went.holds honest j (later (went.honest honest) j held) is;
+    leaves = λ honest j hand guards i may. went.leaves honest j hand
+        (record { shown = later (went.honest honest) j guards.shown; left = λ i may. guards.left i (keeps.crash (went.honest honest) i may) }) i may;
+  }
+    where
+      later : is_honest mid → (j : Journal) → HeldAt old j → HeldAt mid j
+      later honest j held is = subst (HoldsIn shows j) (sym (keeps.same honest is)) (held (keeps.was_open honest is))
+
+  -- what is known once the mark and the kept run were read
+  pub asked : (mode : Mode) (a : ArrivalView) (m : ℕ) (kept : Option RunView) (old mid new : S)
+      → Keeps is_honest is_open image shows may_leave failures old mid → Keeps is_honest is_open image shows may_leave failures mid new
+      → door a ≡ Ok mode → m < a.number
+      → (is_honest mid → (rows : Rows) → shows (image old) rows → m ≡ mark_at a.site rows)
+      → (is_honest new → (rows : Rows) → shows (image mid) rows → kept ≡ run_at a.site a.number rows)
+      → is_honest new → IsAsked mode a kept new
+  asked mode a m kept old mid new first last passed above marks runs honest = record {
+    passed = passed;
+    above = λ is rows shown. higher (mark_at a.site rows) (marks before rows (there is rows shown));
+    found = λ is rows shown. sym (runs honest rows (subst (λ i. shows i rows) (last.same honest is) shown));
+  }
+    where
+      before : is_honest mid
+      before = last.honest honest
+
+      there : is_open new → (rows : Rows) → shows (image new) rows → shows (image old) rows
+      there is rows shown = subst (λ i. shows i rows) (last.same honest is ∙ first.same before (last.was_open honest is)) shown
+
+      higher : (mark : ℕ) → m ≡ mark → nat_lt mark a.number ≡ true
+      higher mark is = let over = above in grind (arith, nat_tests)
+
+  -- ---- the answers behind them
+
+  pub refuses_at_door : (a : ArrivalView) (f : Fault) (s : S) → Err f ≡ door a → Went a (Err f) s s
+  refuses_at_door a f s refused = refuses a f s s (keeps_still is_honest is_open image shows may_leave failures s) (door_keeps a f (sym refused))
+      (λ honest j held. answer_at_door j a f (sym refused))
+
+  pub refuses_settled : (mode : Mode) (a : ArrivalView) (m : ℕ) (f : Fault) (old new : S)
+      → Keeps is_honest is_open image shows may_leave failures old new → (is_honest new → is_open new) → door a ≡ Ok mode → a.number ≤ m
+      → (is_honest new → (rows : Rows) → shows (image old) rows → m ≡ mark_at a.site rows) → f ≡ record { kind = fault.Settled; at = 0 }
+      → Went a (Err f) old new
+  refuses_settled mode a m f old new keeps opens passed below marks is = refuses a f old new keeps (ap (λ g. is_lost g.kind) is) owed
+    where
+      lower : (mark : ℕ) → m ≡ mark → nat_le a.number mark ≡ true
+      lower mark same = let under = below in grind (arith, nat_tests)
+
+      by : (j : Journal) → is_honest new → HoldsIn shows j (image old) → answer j a ≡ Err f
+      by j honest (rows, shown, held) = answer_settled j a mode rows held passed (lower (mark_at a.site rows) (marks honest rows shown)) ∙ ap Err (sym is)
+
+      owed : is_honest new → (j : Journal) → HeldAt old j → answer j a ≡ Err f
+      owed honest j held = by j honest (held (keeps.was_open honest (opens honest)))
+
+  known : (mode : Mode) (a : ArrivalView) (run : RunView) (s : S) (j : Journal) → is_open s → IsAsked mode a (Some run) s
+      → HoldsIn shows j (image s) → (answer j a ≡ reply_to mode a (world j) (Some run)) × (distinct (Came a ∷ j) ≡ distinct j)
+  known mode a run s j is asks (rows, shown, held) = answer_again j a mode rows run held asks.passed (asks.above is rows shown) (asks.found is rows shown)
+
+  pub tells_kept : (settles : (s : S) (i : Image) → is_honest s → is_open s → may_leave s i → i ≡ image s) (mode : Mode) (a : ArrivalView)
+      (run : RunView) (reply : ReplyView) (s : S) → (is_honest s → is_open s) → (is_honest s → IsAsked mode a (Some run) s)
+      → ((l : LibraryView) → Ok reply ≡ reply_to mode a l (Some run)) → Went a (Ok reply) s s
+  tells_kept settles mode a run reply s opens asks told = tells settles a reply s s (keeps_still is_honest is_open image shows may_leave failures s) opens owed
+    where
+      owed : is_honest s → (j : Journal) → HeldAt s j → (answer j a ≡ Ok reply) × (distinct (Came a ∷ j) ≡ distinct j)
+      owed honest j held =
+          let both = known mode a run s j (opens honest) (asks honest) (held (opens honest)) in
+          (both.0 ∙ sym (told (world j)), both.1)
+
+  pub refuses_changed : (mode : Mode) (a : ArrivalView) (run : RunView) (f : Fault) (s : S) → (is_honest s → is_open s)
+      → (is_honest s → IsAsked mode a (Some run) s) → ((l : LibraryView) → Err f ≡ reply_to mode a l (Some run)) → Went a (Err f) s s
+  refuses_changed mode a run f s opens asks told = refuses a f s s (keeps_still is_honest is_open image shows may_leave failures s)
+      (changed_keeps mode a empty run f (told empty))
+      (λ honest j held. (known mode a run s j (opens honest) (asks honest) (held (opens honest))).0 ∙ sym (told (world j)))

@@ -1,0 +1,131 @@
+-- What a query of a desk tells.
+use Rattle.std.proofs.Common.{◌≡◌, ℕ, nat_lt, Bool, true, false, ◌⊎◌, if◌then◌else◌, IsTrue, List, [], ◌∷◌, take, Option, Some, None, Result, Ok, Err}
+use Rattle.std.proofs.Common.{inl, inr, refl, ap, ◌∙◌, subst, rules}
+use Rattle.std.specs.Prelude.{count_by}
+use Rattle.std.specs.List.{enumerate_from, filter_map, flat_map}
+use Rattle.upd_text.specs.declared.fault.Fault.{Fault}
+use Rattle.upd_text.specs.declared.fault.FaultKind.{FaultKind}
+use Rattle.upd_text.specs.declared.fault.FaultKind.TheVariants.{RunLong, TooManyLines, BadByte, LineLong, BadName, BadCard, BadField, NoIdent, TextNowhere}
+use Rattle.upd_text.specs.declared.fault.FaultKind.TheVariants.{NameTaken, IdentUnknown, DeckUnknown, CardUnknown, RangeOrder, DeckCard, YankText, YankSelf}
+use Rattle.upd_text.specs.declared.fault.FaultKind.TheVariants.{Reserved, Full, CallUnknown, CallDepth, CompileLong, BadSite, BadNumber, BadMode, RunChanged}
+use Rattle.upd_text.specs.declared.fault.FaultKind.TheVariants.{Settled, NoMemory, Store, BadFrame, CutFrame, Read, Write}
+use Rattle.upd_text.specs.Outcome.{FailsAt, FailsOf}
+use Rattle.upd_text.specs.declared.limits.TheConstants.{MAX_COMPILE_LINES, MAX_CALLS, MAX_DEPTH}
+use Rattle.upd_core.specs.Actives.{actives_of}
+use Rattle.upd_core.specs.Library.{LibraryView}
+use Rattle.upd_compile.specs.Chosen.{chosen}
+use Rattle.upd_compile.specs.File.{FileView, compile_file_of, event_fault, event_line, is_follow, is_line, walk_faults}
+use Rattle.upd_compile.specs.Walk.{Event, Line, Follow, Depth, Unknown, walk}
+use Rattle.upd_compile.specs.declared.mode.Mode.{Mode}
+use Rattle.upd_core.specs.Sound.{IsSound, IsWhole}
+use Rattle.upd_change.specs.Rows.{Rows, Shows}
+use Rattle.upd_rows.specs.Keeping.{Keeps}
+use Rattle.upd_desk.specs.Journal.{Journal, world}
+use Rattle.upd_desk.specs.Made.{IsMade}
+use Rattle.upd_desk.specs.Holding.{HoldsIn, IsOwed, Tells, is_lost}
+
+-- a call that failed as defined, but for want of memory, met what is owed or was lost
+pub fails_owed : {A : Type 0} (f : Fault) (defined : Result A Fault) → FailsAt f defined → IsTrue (is_lost f.kind) ⊎ (defined ≡ Err f)
+fails_owed f defined = go f.kind
+  where
+    go : (k : FaultKind) → FailsOf k f defined → IsTrue (is_lost k) ⊎ (defined ≡ Err f)
+    go RunLong fails = inr fails
+    go TooManyLines fails = inr fails
+    go BadByte fails = inr fails
+    go LineLong fails = inr fails
+    go BadName fails = inr fails
+    go BadCard fails = inr fails
+    go BadField fails = inr fails
+    go NoIdent fails = inr fails
+    go TextNowhere fails = inr fails
+    go NameTaken fails = inr fails
+    go IdentUnknown fails = inr fails
+    go DeckUnknown fails = inr fails
+    go CardUnknown fails = inr fails
+    go RangeOrder fails = inr fails
+    go DeckCard fails = inr fails
+    go YankText fails = inr fails
+    go YankSelf fails = inr fails
+    go Reserved fails = inr fails
+    go Full fails = inr fails
+    go CallUnknown fails = inr fails
+    go CallDepth fails = inr fails
+    go CompileLong fails = inr fails
+    go BadSite fails = inr fails
+    go BadNumber fails = inr fails
+    go BadMode fails = inr fails
+    go RunChanged fails = inr fails
+    go Settled fails = inr fails
+    go NoMemory fails = inl refl
+    go Store fails = inr fails
+    go BadFrame fails = inr fails
+    go CutFrame fails = inr fails
+    go Read fails = inr fails
+    go Write fails = inr fails
+
+-- a call that failed as a store does met what is defined
+pub store_fails : {A : Type 0} (f : Fault) (defined : Result A Fault) → f.kind ≡ Store → FailsAt f defined → defined ≡ Err f
+store_fails f defined is fails = subst (λ k. FailsOf k f defined) is fails
+
+module _ {S : Type 0} {Image : Type 0} (is_honest is_open : S → Type 0) (image : S → Image) (shows : Image → Rows → Type 0)
+    (may_leave : S → Image → Type 0) (failures : S → ℕ) where
+  -- what is owed of the library that was loaded is owed of the library after the journal
+  pub tells_loaded : (made : (j : Journal) → IsMade (world j)) {A : Type 0} (defined : LibraryView → Result A Fault) (result : Result A Fault)
+      (library : LibraryView) (old new : S) → Keeps is_honest is_open image shows may_leave failures old new → (is_honest new → is_open new)
+      → (is_honest new → (l : LibraryView) → IsSound l → IsWhole l → (rows : Rows) → shows (image old) rows → Shows rows l → library ≡ l)
+      → IsOwed (defined library) result → Tells is_honest is_open image shows may_leave failures defined result old new
+  tells_loaded made defined result library old new keeps opens found owed honest j held = by (held (keeps.was_open honest (opens honest)))
+    where
+      by : HoldsIn shows j (image old) → IsOwed (defined (world j)) result
+      by (rows, shown, holds) =
+          let is = found honest (world j) (made j).sound (made j).whole rows shown holds.library in
+          subst (λ l. IsOwed (defined l) result) is owed
+
+-- ---- compile files
+
+-- the fault of an event is no failure of a store
+event_keeps : (before : List Event) (e : Event) (k : FaultKind) → event_fault before e ≡ Some k → is_lost k ≡ false
+event_keeps before (Line c) k is = go (nat_lt (count_by is_line before) MAX_COMPILE_LINES) is
+  where
+    go : (few : Bool) → (if few then None else Some CompileLong) ≡ Some k → is_lost k ≡ false
+    go true is = grind rules
+    go false is = grind rules
+event_keeps before Follow k is = go (nat_lt (count_by is_follow before) MAX_CALLS) is
+  where
+    go : (few : Bool) → (if few then None else Some CompileLong) ≡ Some k → is_lost k ≡ false
+    go true is = grind rules
+    go false is = grind rules
+event_keeps before Depth k is = grind rules
+event_keeps before Unknown k is = grind rules
+
+first_keeps : (all : List Event) (es : List (ℕ × Event)) (k : FaultKind) (ks : List FaultKind)
+    → filter_map (λ e. event_fault (take e.0 all) e.1) es ≡ k ∷ ks → is_lost k ≡ false
+first_keeps all [] k ks is = grind rules
+first_keeps all (e ∷ es) k ks is = go (event_fault (take e.0 all) e.1) refl (first_keeps all es k ks)
+  where
+    go : (o : Option FaultKind) → event_fault (take e.0 all) e.1 ≡ o
+        → (filter_map (λ e. event_fault (take e.0 all) e.1) es ≡ k ∷ ks → is_lost k ≡ false) → is_lost k ≡ false
+    go None none rest = let less : filter_map (λ e. event_fault (take e.0 all) e.1) es ≡ k ∷ ks = rw none at is in rest less
+    go (Some found) here rest =
+        let first : found ∷ filter_map (λ e. event_fault (take e.0 all) e.1) es ≡ k ∷ ks = rw here at is in
+        event_keeps (take e.0 all) e.1 k (here ∙ ap Some (cc first))
+
+-- a compile file that is refused is no failure of a store
+pub compile_keeps : (mode : Mode) (named : List ℕ) (before after : LibraryView) (f : Fault) → compile_file_of mode named before after ≡ Err f
+    → is_lost f.kind ≡ false
+compile_keeps mode named before after f is = go (walk_faults events) refl
+  where
+    events : List Event
+    events = flat_map (walk MAX_DEPTH (actives_of after)) (chosen mode named (actives_of before) (actives_of after))
+
+    go : (ks : List FaultKind) → walk_faults events ≡ ks → is_lost f.kind ≡ false
+    go [] none = let clash : Ok (record { bytes = flat_map (event_line (actives_of after).idents) events; lines = count_by is_line events }) ≡ Err f
+        = rw none at is in grind rules
+    go (k ∷ ks) some =
+        let refused : Err (record { kind = k; at = 0 }) ≡ Err f = rw some at is in
+        let kind : k ≡ f.kind = ap kind_of refused in
+        subst (λ kind. is_lost kind ≡ false) kind (first_keeps events (enumerate_from 0 events) k ks some)
+      where
+        kind_of : Result FileView Fault → FaultKind
+        kind_of (Ok file) = CompileLong
+        kind_of (Err fault) = fault.kind

@@ -1,0 +1,177 @@
+-- What each answer to a settlement makes of a desk over a store.
+use Rattle.std.proofs.Common.{◌≡◌, ℕ, ◌≤◌, nat_le, max, Bool, true, false, not, ◌⊎◌, if◌then◌else◌, List, ◌∷◌, Result, Ok, Err}
+use Rattle.std.proofs.Common.{inl, inr, refl, ap, sym, ◌∙◌, subst, rules, arith}
+use Rattle.std.specs.Str.{bytes_eq}
+use Rattle.std.proofs.lemmas.Bool.Decides.{nat_tests}
+use Rattle.upd_text.specs.declared.fault.Fault.{Fault}
+use Rattle.upd_text.specs.declared.fault.FaultKind.TheVariants as fault
+use Rattle.upd_text.specs.Outcome.{◌>>=◌, at_line, refuse_if}
+use Rattle.upd_change.specs.Rows.{Rows}
+use Rattle.upd_rows.specs.Keeping.{IsLost, Keeps, Tries}
+use Rattle.upd_rows.specs.Tables.{mark_at, settled_to}
+use Rattle.upd_rows.proofs.TableLemmas.{max_right, same_bytes, shows_settled, states_settled}
+use Rattle.upd_desk.specs.Arrivals.{is_run_number, is_site, key_door}
+use Rattle.upd_desk.specs.Journal.{Event, Settled, Journal, mark, world}
+use Rattle.upd_desk.specs.Holding.{Guards, Holds, HoldsIn, IsLeft, Settles, is_lost, mark_after}
+use Rattle.upd_desk.proofs.AlikeLemmas.{Alike}
+use Rattle.upd_desk.proofs.ArrivesLemmas.{holds_in_alike, left_here, left_more, lost_kind}
+use Rattle.upd_desk.proofs.KeptLemmas.{kept_settled, mark_settled}
+
+-- the door of a key neither wants memory nor fails as a store does
+pub key_keeps : (site : List ℕ) (n : ℕ) (f : Fault) → key_door site n ≡ Err f → is_lost f.kind ≡ false
+key_keeps site n f refused = by_site (is_site site) refused
+  where
+    by_number : (number : Bool) → at_line 0 (refuse_if (not number) fault.BadNumber) ≡ Err f → is_lost f.kind ≡ false
+    by_number true is = grind rules
+    by_number false is = grind rules
+
+    by_site : (good : Bool)
+        → (at_line 0 (refuse_if (not good) fault.BadSite) >>= λ _. at_line 0 (refuse_if (not (is_run_number n)) fault.BadNumber)) ≡ Err f
+        → is_lost f.kind ≡ false
+    by_site false is = grind rules
+    by_site true is = by_number (is_run_number n) is
+
+-- a settlement at or below the mark changes nothing
+pub alike_settled : (j : Journal) (s : List ℕ) (n : ℕ) → nat_le n (mark j s) ≡ true → Alike j (Settled s n ∷ j)
+alike_settled j s n below = record { runs = refl; marks = λ site. go site (bytes_eq s site) refl }
+  where
+    go : (site : List ℕ) (same : Bool) → bytes_eq s site ≡ same → mark j site ≡ (if same then max n (mark j site) else mark j site)
+    go site false is = refl
+    go site true is =
+        let here : nat_le n (mark j site) ≡ true = rw (← same_bytes s site is) below in
+        sym (max_right n (mark j site) here)
+
+-- tables that a settlement has changed hold what is owed after it
+pub holds_settled : (j : Journal) (s : List ℕ) (n : ℕ) (rows : Rows) → Holds j rows → Holds (Settled s n ∷ j) (settled_to s n rows)
+holds_settled j s n rows held = record {
+  library = shows_settled s n rows (world j) held.library;
+  states = states_settled s n rows (world j) held.states;
+  runs = kept_settled j s n rows held.marks held.runs;
+  marks = mark_settled j s n rows held.marks;
+}
+
+module _ {S : Type 0} {Image : Type 0} (is_honest is_open : S → Type 0) (image : S → Image) (shows : Image → Rows → Type 0)
+    (may_leave : S → Image → Type 0) (failures : S → ℕ) where
+  abbrev HeldAt : S → Journal → Type 0
+  HeldAt s j = is_open s → HoldsIn shows j (image s)
+
+  abbrev Did : List ℕ → ℕ → Result ℕ Fault → S → S → Type 0
+  Did = Settles is_honest is_open image shows may_leave failures
+
+  -- a refusal of the site or the number
+  pub refuses_key : (site : List ℕ) (n : ℕ) (f : Fault) (old new : S) → Keeps is_honest is_open image shows may_leave failures old new
+      → key_door site n ≡ Err f → Did site n (Err f) old new
+  refuses_key site n f old new keeps refused = record {
+    honest = keeps.honest;
+    was_open = keeps.was_open;
+    counts = keeps.counts;
+    answers = λ honest j held. inr (rw refused refl);
+    holds = λ honest j held is. subst (HoldsIn shows j) (sym (keeps.same honest is)) (held (keeps.was_open honest is));
+    leaves = λ honest j hand guards i may. rw (key_keeps site n f refused) (guards.left i (keeps.crash honest i may));
+  }
+
+  -- a call that failed and tried no write
+  pub loses_key : (site : List ℕ) (n : ℕ) (f : Fault) (old new : S) → Keeps is_honest is_open image shows may_leave failures old new
+      → IsLost f → Did site n (Err f) old new
+  loses_key site n f old new keeps lost = record {
+    honest = keeps.honest;
+    was_open = keeps.was_open;
+    counts = keeps.counts;
+    answers = λ honest j held. inl (lost_kind f lost);
+    holds = λ honest j held is. subst (HoldsIn shows j) (sym (keeps.same honest is)) (held (keeps.was_open honest is));
+    leaves = λ honest j hand guards i may. rw (lost_kind f lost) (left_more shows j (Settled site n) hand i (guards.left i (keeps.crash honest i may)));
+  }
+
+  -- what is at or below the mark is settled already: the mark is the answer
+  pub tells_mark : (settles : (s : S) (i : Image) → is_honest s → is_open s → may_leave s i → i ≡ image s) (site : List ℕ) (n m : ℕ) (old new : S)
+      → Keeps is_honest is_open image shows may_leave failures old new → (is_honest new → is_open new) → key_door site n ≡ Ok false
+      → (is_honest new → (rows : Rows) → shows (image old) rows → m ≡ mark_at site rows) → n ≤ m → Did site n (Ok m) old new
+  tells_mark settles site n m old new keeps opens passed found below = record {
+    honest = keeps.honest;
+    was_open = keeps.was_open;
+    counts = keeps.counts;
+    answers = λ honest j held. owed honest j (held (was_open honest));
+    holds = holds;
+    leaves = λ honest j hand guards i may.
+        inl (subst (HoldsIn shows (Settled site n ∷ j)) (sym (settles new i honest (opens honest) may)) (holds honest j guards.shown (opens honest)));
+  }
+    where
+      was_open : is_honest new → is_open old
+      was_open honest = keeps.was_open honest (opens honest)
+
+      is_mark : is_honest new → (j : Journal) → HoldsIn shows j (image old) → m ≡ mark j site
+      is_mark honest j (rows, shown, held) = found honest rows shown ∙ held.marks site
+
+      lower : (mark : ℕ) → m ≡ mark → nat_le n mark ≡ true
+      lower mark is = let under = below in grind (arith, nat_tests)
+
+      alike : is_honest new → (j : Journal) → HoldsIn shows j (image old) → Alike j (Settled site n ∷ j)
+      alike honest j held = alike_settled j site n (lower (mark j site) (is_mark honest j held))
+
+      owed : is_honest new → (j : Journal) → HoldsIn shows j (image old) → mark_after j site n ≡ Ok m
+      owed honest j held = rw passed (ap Ok (sym ((alike honest j held).marks site) ∙ sym (is_mark honest j held)))
+
+      holds : is_honest new → (j : Journal) → HeldAt old j → is_open new → HoldsIn shows (Settled site n ∷ j) (image new)
+      holds honest j held is =
+          let before = held (was_open honest) in
+          subst (HoldsIn shows (Settled site n ∷ j)) (sym (keeps.same honest is))
+          (holds_in_alike shows j (Settled site n ∷ j) (image old) (alike honest j before) before)
+
+  -- a settlement that was carried out behind a call that only read
+  pub settles_after : (settles : (s : S) (i : Image) → is_honest s → is_open s → may_leave s i → i ≡ image s) (site : List ℕ) (n m : ℕ)
+      (old mid new : S) → Keeps is_honest is_open image shows may_leave failures old mid
+      → Tries is_honest is_open image shows may_leave failures (λ _. Unit {0}) (settled_to site n) mid new → (is_honest new → is_open new)
+      → key_door site n ≡ Ok false
+      → (is_honest new → (rows : Rows) → shows (image mid) rows
+      → (m ≡ mark_at site (settled_to site n rows)) × shows (image new) (settled_to site n rows))
+      → Did site n (Ok m) old new
+  settles_after settles site n m old mid new keeps tries opens passed done = record {
+    honest = λ honest. keeps.honest (tries.honest honest);
+    was_open = λ honest is. keeps.was_open (tries.honest honest) (tries.was_open honest is);
+    counts = (let less = keeps.counts in let more = tries.counts in grind arith);
+    answers = λ honest j held. owed honest j (there honest j held);
+    holds = λ honest j held is. holds honest j (there honest j held);
+    leaves = λ honest j hand guards i may.
+        inl (subst (HoldsIn shows (Settled site n ∷ j)) (sym (settles new i honest (opens honest) may)) (holds honest j (there honest j guards.shown)));
+  }
+    where
+      there : is_honest new → (j : Journal) → HeldAt old j → HoldsIn shows j (image mid)
+      there honest j held =
+          let before = tries.honest honest in
+          let is = tries.was_open honest (opens honest) in
+          subst (HoldsIn shows j) (sym (keeps.same before is)) (held (keeps.was_open before is))
+
+      owed : is_honest new → (j : Journal) → HoldsIn shows j (image mid) → mark_after j site n ≡ Ok m
+      owed honest j (rows, shown, held) =
+          rw passed (ap Ok (sym (mark_settled j site n rows held.marks site) ∙ sym (done honest rows shown).0))
+
+      holds : is_honest new → (j : Journal) → HoldsIn shows j (image mid) → HoldsIn shows (Settled site n ∷ j) (image new)
+      holds honest j (rows, shown, held) = (settled_to site n rows, (done honest rows shown).1, holds_settled j site n rows held)
+
+  -- a settlement that failed behind such a call and may have been carried out: it is in hand
+  pub loses_settling : (site : List ℕ) (n : ℕ) (f : Fault) (old mid new : S) → Keeps is_honest is_open image shows may_leave failures old mid
+      → Tries is_honest is_open image shows may_leave failures (λ _. Unit {0}) (settled_to site n) mid new → IsLost f
+      → (is_honest new → is_open new → image new ≡ image mid) → Did site n (Err f) old new
+  loses_settling site n f old mid new keeps tries lost same = record {
+    honest = λ honest. keeps.honest (tries.honest honest);
+    was_open = λ honest is. keeps.was_open (tries.honest honest) (tries.was_open honest is);
+    counts = (let less = keeps.counts in let more = tries.counts in grind arith);
+    answers = λ honest j held. inl (lost_kind f lost);
+    holds = λ honest j held is. subst (HoldsIn shows j) (sym (same honest is)) (there (tries.honest honest) j held (tries.was_open honest is));
+    leaves = λ honest j hand guards i may.
+        rw (lost_kind f lost) (by (tries.honest honest) j hand guards i (tries.crash honest i may));
+  }
+    where
+      there : is_honest mid → (j : Journal) → HeldAt old j → is_open mid → HoldsIn shows j (image mid)
+      there honest j held is = subst (HoldsIn shows j) (sym (keeps.same honest is)) (held (keeps.was_open honest is))
+
+      carried : (j : Journal) (i : Image) → ((rows : Rows) → shows (image mid) rows → Unit {0} → shows i (settled_to site n rows))
+          → HoldsIn shows j (image mid) → HoldsIn shows (Settled site n ∷ j) i
+      carried j i writes (rows, shown, held) = (settled_to site n rows, writes rows shown tt, holds_settled j site n rows held)
+
+      by : is_honest mid → (j : Journal) (hand : List Event) → Guards is_honest is_open image shows may_leave failures j hand old → (i : Image)
+          → may_leave mid i ⊎ (is_open mid × ((rows : Rows) → shows (image mid) rows → Unit {0} → shows i (settled_to site n rows)))
+          → IsLeft shows j (Settled site n ∷ hand) i
+      by honest j hand guards i (inl may) = left_more shows j (Settled site n) hand i (guards.left i (keeps.crash honest i may))
+      by honest j hand guards i (inr (is, writes)) =
+          left_here shows j (Settled site n) hand i (carried j i writes (there honest j guards.shown is))

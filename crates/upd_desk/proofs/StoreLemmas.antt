@@ -1,0 +1,139 @@
+-- What calls of a store, one after the other, make of what it keeps.
+use Rattle.std.proofs.Common.{◌≡◌, ℕ, ◌≤◌, ◌⊎◌, List, None, Ok, inl, inr, ap, sym, ◌∙◌, subst, arith}
+use Rattle.upd_text.specs.declared.fault.Fault.{Fault}
+use Rattle.upd_text.specs.declared.fault.FaultKind.TheVariants.{NoMemory}
+use Rattle.upd_text.specs.Faults.{fault_at}
+use Rattle.upd_change.specs.Rows.{RunView, Rows, Shows, ShowsStates}
+use Rattle.upd_change.specs.Changes.{ChangeView}
+use Rattle.upd_change.specs.Fits.{AllFit}
+use Rattle.upd_core.specs.declared.states.States.{States}
+use Rattle.upd_core.specs.Library.{LibraryView}
+use Rattle.upd_core.specs.Sound.{IsSound, IsWhole}
+use Rattle.upd_compile.specs.declared.mode.Mode.{Mode}
+use Rattle.upd_rows.specs.Keeping.{IsLost, Keeps, MoreFailures, OfMemory, Tries}
+use Rattle.upd_rows.specs.Tables.{AreRead, committed}
+use Rattle.upd_rows.proofs.TableLemmas.{shows_committed, states_committed, runs_committed, marks_stay}
+use Rattle.upd_desk.specs.Arrivals.{ArrivalView, door}
+use Rattle.upd_desk.specs.Journal.{Heard, run_of}
+use Rattle.upd_desk.specs.Made.{IsMade, LeadTo}
+use Rattle.upd_desk.specs.Outcomes.{ReplyView, outcome}
+use Rattle.upd_desk.specs.Holding.{AddsRun, Becomes, TriesRun}
+
+-- a commit of changes that lead to the library of a new run adds that run
+pub commits_run : (mode : Mode) (a : ArrivalView) (l : LibraryView) (cs : List ChangeView) (rows : Rows)
+    → LeadTo cs rows (outcome mode a l).library
+    → AddsRun mode a l rows (committed cs (run_of (record { arrival = a; mode = mode; carried = None }) (outcome mode a l).reply) rows)
+commits_run mode a l cs rows leads = record {
+  library = shows_committed cs run rows (outcome mode a l).library leads.library;
+  states = states_committed cs run rows (outcome mode a l).library leads.states;
+  runs = runs_committed cs run rows;
+  settled = marks_stay cs rows;
+}
+  where
+    run : RunView
+    run = run_of (record { arrival = a; mode = mode; carried = None }) (outcome mode a l).reply
+
+-- want of memory leaves an arrival unanswered
+pub lost_memory : (f : Fault) → f ≡ fault_at NoMemory 0 → IsLost f
+lost_memory f is = OfMemory f (ap (λ g. g.kind) is) (ap (λ g. g.at) is)
+
+-- ---- counts of failures
+
+pub more_before : (old mid new : ℕ) → old ≤ mid → MoreFailures mid new → MoreFailures old new
+more_before old mid new less more = grind arith
+
+pub more_after : (old mid new : ℕ) → MoreFailures old mid → mid ≤ new → MoreFailures old new
+more_after old mid new more less = grind arith
+
+module _ {Image : Type 0} (shows : Image → Rows → Type 0) where
+  -- what a commit of such changes writes is what a new run makes of the image
+  pub becomes_by : (mode : Mode) (a : ArrivalView) (cs : List ChangeView) (run : RunView) (before later : Image)
+      → ((rows : Rows) → shows before rows → AllFit cs rows → shows later (committed cs run rows))
+      → ((l : LibraryView) → IsMade l → (rows : Rows) → shows before rows → Shows rows l → ShowsStates rows l
+      → AllFit cs rows × AddsRun mode a l rows (committed cs run rows))
+      → Becomes shows mode a before later
+  becomes_by mode a cs run before later writes makes l made rows shown library states =
+      let adds = makes l made rows shown library states in
+      (committed cs run rows, writes rows shown adds.0, adds.1)
+
+-- ---- calls
+
+module _ {S : Type 0} {Image : Type 0} {is_honest is_open : S → Type 0} {image : S → Image} {shows : Image → Rows → Type 0}
+    {may_leave : S → Image → Type 0} {failures : S → ℕ} where
+  -- a call that only reads tries nothing
+  pub keeps_as_run : (mode : Mode) (a : ArrivalView) (old new : S) → Keeps is_honest is_open image shows may_leave failures old new
+      → TriesRun is_honest is_open image shows may_leave failures mode a old new
+  keeps_as_run mode a old new keeps = record {
+    honest = keeps.honest;
+    was_open = keeps.was_open;
+    counts = keeps.counts;
+    crash = λ honest i may. inl (keeps.crash honest i may);
+  }
+
+  -- a commit behind calls that only read tries to keep a run, where the changes fit and lead to what the run makes of the tables
+  pub commit_as_run : (mode : Mode) (a : ArrivalView) (cs : List ChangeView) (run : RunView) (old mid new : S)
+      → Keeps is_honest is_open image shows may_leave failures old mid
+      → Tries is_honest is_open image shows may_leave failures (AllFit cs) (committed cs run) mid new
+      → (is_honest mid → is_open mid → (l : LibraryView) → IsMade l → (rows : Rows) → shows (image old) rows → Shows rows l → ShowsStates rows l
+      → AllFit cs rows × AddsRun mode a l rows (committed cs run rows))
+      → TriesRun is_honest is_open image shows may_leave failures mode a old new
+  commit_as_run mode a cs run old mid new keeps tries makes = record {
+    honest = λ honest. keeps.honest (tries.honest honest);
+    was_open = λ honest is. keeps.was_open (tries.honest honest) (tries.was_open honest is);
+    counts = (let less = keeps.counts in let more = tries.counts in grind arith);
+    crash = λ honest i may. by honest i (tries.crash honest i may);
+  }
+    where
+      by : is_honest new → (i : Image)
+          → may_leave mid i ⊎ (is_open mid × ((rows : Rows) → shows (image mid) rows → AllFit cs rows → shows i (committed cs run rows)))
+          → may_leave old i ⊎ (is_open old × Becomes shows mode a (image old) i)
+      by honest i (inl may) = inl (keeps.crash (tries.honest honest) i may)
+      by honest i (inr (is, writes)) =
+          let before = tries.honest honest in
+          let there = subst (λ j. (rows : Rows) → shows j rows → AllFit cs rows → shows i (committed cs run rows)) (keeps.same before is) writes in
+          inr (keeps.was_open before is, becomes_by shows mode a cs run (image old) i there (makes before is))
+
+  -- the same of a commit that was carried out
+  pub commit_becomes : (mode : Mode) (a : ArrivalView) (cs : List ChangeView) (run : RunView) (old mid new : S)
+      → Keeps is_honest is_open image shows may_leave failures old mid
+      → Tries is_honest is_open image shows may_leave failures (AllFit cs) (committed cs run) mid new → (is_honest new → is_open new)
+      → (is_honest new → (rows : Rows) → shows (image mid) rows → AllFit cs rows → shows (image new) (committed cs run rows))
+      → (is_honest mid → (l : LibraryView) → IsMade l → (rows : Rows) → shows (image old) rows → Shows rows l → ShowsStates rows l
+      → AllFit cs rows × AddsRun mode a l rows (committed cs run rows))
+      → is_honest new → Becomes shows mode a (image old) (image new)
+  commit_becomes mode a cs run old mid new keeps tries opens writes makes honest =
+      let before = tries.honest honest in
+      let is = tries.was_open honest (opens honest) in
+      becomes_by shows mode a cs run (image old) (image new)
+      (subst (λ j. (rows : Rows) → shows j rows → AllFit cs rows → shows (image new) (committed cs run rows)) (keeps.same before is) (writes honest))
+      (makes before)
+
+  -- The changes of a new run fit the tables that its library and its statuses were loaded from, and lead to what the run makes of them.
+  pub loaded_makes : (mode : Mode) (a : ArrivalView) (told cs : List ChangeView) (run : RunView) (reply : ReplyView) (library : LibraryView)
+      (states : States) (old mid new : S)
+      → Keeps is_honest is_open image shows may_leave failures old mid → Keeps is_honest is_open image shows may_leave failures mid new
+      → (is_honest mid → is_open mid)
+      → (is_honest mid → (l : LibraryView) → IsSound l → IsWhole l → (rows : Rows) → shows (image old) rows → Shows rows l → library ≡ l)
+      → (is_honest new → (rows : Rows) → shows (image mid) rows → AreRead rows states) → door a ≡ Ok mode
+      → (IsMade library → door a ≡ Ok mode → reply ≡ (outcome mode a library).reply)
+      → (IsMade library → door a ≡ Ok mode → (rows : Rows) → Shows rows library → ShowsStates rows library → AreRead rows states
+      → LeadTo told rows (outcome mode a library).library)
+      → told ≡ cs → run ≡ run_of (record { arrival = a; mode = mode; carried = None }) reply
+      → is_honest new → (l : LibraryView) → IsMade l → (rows : Rows) → shows (image old) rows → Shows rows l → ShowsStates rows l
+      → AllFit cs rows × AddsRun mode a l rows (committed cs run rows)
+  loaded_makes mode a told cs run reply library states old mid new first second opens found read passed replies leads is_told is_run
+      honest l made rows shown shows_l states_l =
+      let before = second.honest honest in
+      let is : library ≡ l = found before l made.sound made.whole rows shown shows_l in
+      let there : shows (image mid) rows = subst (λ j. shows j rows) (sym (first.same before (opens before))) shown in
+      let its_made : IsMade library = subst IsMade (sym is) made in
+      let lead : LeadTo cs rows (outcome mode a library).library =
+      subst (λ cs. LeadTo cs rows (outcome mode a library).library) is_told
+      (leads its_made passed rows (subst (Shows rows) (sym is) shows_l) (subst (ShowsStates rows) (sym is) states_l) (read honest rows there)) in
+      let row_is : run ≡ run_of h (outcome mode a library).reply = is_run ∙ ap (run_of h) (replies its_made passed) in
+      let adds : AddsRun mode a library rows (committed cs run rows) =
+      subst (λ r. AddsRun mode a library rows (committed cs r rows)) (sym row_is) (commits_run mode a library cs rows lead) in
+      (lead.fit, subst (λ k. AddsRun mode a k rows (committed cs run rows)) is adds)
+    where
+      h : Heard
+      h = record { arrival = a; mode = mode; carried = None }

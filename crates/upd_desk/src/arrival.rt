@@ -1,0 +1,93 @@
+//! What arrives at the desk, and the door.
+
+ghost use Rattle.std.specs.Prelude.{◌≡◌, false};
+ghost use Rattle.std.specs.List.{list_all};
+ghost use Rattle.std.specs.Result.{result_map_both};
+ghost use Rattle.upd_desk.specs.Arrivals.{door, is_run_number, is_site, is_site_byte, key_door, mode_number};
+
+use std::marker::Model;
+use upd_compile::Mode;
+use upd_text::limits::MAX_RUN_BYTES;
+use upd_text::{Fault, FaultKind};
+
+/// A run that arrives: its key is the site and the number.
+#[derive(Debug, Drop)]
+pub struct Arrival<'a> {
+    pub site: &'a str,
+    pub number: u64,
+    /// `full`, `quick` or `normal`.
+    pub mode: &'a str,
+    pub bytes: &'a [u8],
+}
+
+impl<'a> Model for Arrival<'a> {
+    ghost use Rattle.upd_desk.specs.Arrivals.{ArrivalView};
+
+    ghost Value = { ArrivalView };
+
+    ghost view = { λ a. record { site = a.site.now; number = a.number; mode = a.mode.now; bytes = a.bytes.now } };
+}
+
+/// What is asked of an arrival before the store is. The first refusal keeps nothing.
+pub(crate) fn door(arrival: &Arrival<'_>) -> Result<Mode, Fault>
+    ensures { result ≡ door arrival.now }
+{
+    if let Err(fault) = key_door(arrival.site, arrival.number) {
+        return Err(fault);
+    }
+    let Some(mode) = Mode::read(arrival.mode) else {
+        return Err(FaultKind::BadMode.without_line());
+    };
+    if arrival.bytes.len() > MAX_RUN_BYTES {
+        return Err(FaultKind::RunLong.without_line());
+    }
+    Ok(mode)
+}
+
+/// What is asked of a site and a number.
+pub(crate) fn key_door(site: &str, number: u64) -> Result<(), Fault>
+    ensures { result_map_both (λ _. false) (λ fault. fault) result ≡ key_door site.now number }
+{
+    if !is_site(site.as_bytes()) {
+        return Err(FaultKind::BadSite.without_line());
+    }
+    if !is_run_number(number) {
+        return Err(FaultKind::BadNumber.without_line());
+    }
+    Ok(())
+}
+
+fn is_site(text: &[u8]) -> bool
+    ensures { result ≡ is_site text.now }
+{
+    1 <= text.len() && text.len() <= 8 && are_site_bytes(text)
+}
+
+fn are_site_bytes(text: &[u8]) -> bool
+    ensures { result ≡ list_all is_site_byte text.now }
+{
+    text.iter().all(|&byte| is_site_byte(byte))
+}
+
+fn is_site_byte(byte: u8) -> bool
+    ensures { result ≡ is_site_byte byte }
+{
+    byte.is_ascii_uppercase() || byte.is_ascii_digit()
+}
+
+fn is_run_number(number: u64) -> bool
+    ensures { result ≡ is_run_number number }
+{
+    1 <= number && number <= 999_999_999
+}
+
+/// The number by which the tables know a mode.
+pub(crate) fn mode_number(mode: Mode) -> u32
+    ensures { result ≡ mode_number mode }
+{
+    match mode {
+        Mode::Full => 0,
+        Mode::Quick => 1,
+        Mode::Normal => 2,
+    }
+}

@@ -1,0 +1,153 @@
+//! The desk over a store.
+
+ghost use Rattle.std.specs.Prelude.{◌≡◌, [], Ok, IfErr};
+ghost use Rattle.std.specs.Result.{result_map_both};
+ghost use Rattle.upd_compile.specs.File.{compile_file_of};
+ghost use Rattle.upd_compile.specs.Listings.{card_listing, deck_listing, ident_listing, yank_listing};
+ghost use Rattle.upd_compile.specs.declared.mode.Mode.TheVariants.{Full};
+ghost use Rattle.upd_desk.specs.Holding.{Settles, Tells};
+ghost use Rattle.upd_rows.specs.Keeping.{Keeps, MoreFailures};
+ghost use Rattle.upd_text.specs.declared.fault.FaultKind.TheVariants.{Store};
+
+use crate::settle::settle_at;
+use std::alloc::Global;
+use upd_compile::{CompileFile, Mode, compile_file, list_card, list_deck, list_idents, list_yanks};
+use upd_core::{CardRef, Name};
+use upd_rows::RowStore;
+use upd_text::Fault;
+
+/// A desk: runs arrive at it and act once each, in the order of first arrival. All that it keeps stands in its store.
+#[derive(Drop)]
+pub struct Desk<S: RowStore> {
+    store: S,
+}
+
+impl<S: RowStore> Desk<S> {
+    /// A desk over a store, which isn't called.
+    pub fn open(store: S) -> Desk<S>
+        ensures { result.store ≡ store }
+    {
+        Desk { store }
+    }
+
+    /// The store of the desk, which isn't called.
+    pub fn close(self) -> S
+        ensures { result ≡ self.store }
+    {
+        self.store
+    }
+
+    /// Settles a site's runs up to a number, and answers the site's mark afterwards: a run at or below it is refused
+    /// from then on. What is settled already stays so.
+    pub fn settle_site(&mut self, alloc: Global, site: &str, number: u64) -> Result<u64, Fault>
+        ensures settles { Settles S.is_honest S.is_open S.image S.shows S.may_leave S.failures_of
+            site.now number result self.old.store self.new.store }
+        ensures failed { IfErr result (λ fault. fault.kind ≡ Store
+            → MoreFailures (S.failures_of self.old.store) (S.failures_of self.new.store)) }
+    {
+        match settle_at(&mut self.store, alloc, site, number) {
+            Ok(mark) => Ok(mark),
+            Err(fault) => Err(fault),
+        }
+    }
+
+    /// The compile file of all decks.
+    pub fn full_compile(&mut self, alloc: Global) -> Result<CompileFile, Fault>
+        ensures text { Tells S.is_honest S.is_open S.image S.shows S.may_leave S.failures_of
+            (λ l. compile_file_of Full [] l l) (result_map_both (λ file. file) (λ fault. fault) result)
+            self.old.store self.new.store }
+        ensures same { Keeps S.is_honest S.is_open S.image S.shows S.may_leave S.failures_of
+            self.old.store self.new.store }
+        ensures failed { IfErr result (λ fault. fault.kind ≡ Store
+            → MoreFailures (S.failures_of self.old.store) (S.failures_of self.new.store)) }
+    {
+        let library = match self.store.load(alloc) {
+            Ok(library) => library,
+            Err(fault) => return Err(fault),
+        };
+        match compile_file(alloc, &library, &library, Mode::Full, &[]) {
+            Ok(text) => Ok(text),
+            Err(fault) => Err(fault),
+        }
+    }
+
+    /// The cards of a deck, or of `YANK$$$`.
+    pub fn deck_list(&mut self, alloc: Global, name: &Name) -> Result<Vec<u8>, Fault>
+        ensures text { Tells S.is_honest S.is_open S.image S.shows S.may_leave S.failures_of
+            (deck_listing name.now) (result_map_both (λ text. text.items) (λ fault. fault) result)
+            self.old.store self.new.store }
+        ensures same { Keeps S.is_honest S.is_open S.image S.shows S.may_leave S.failures_of
+            self.old.store self.new.store }
+        ensures failed { IfErr result (λ fault. fault.kind ≡ Store
+            → MoreFailures (S.failures_of self.old.store) (S.failures_of self.new.store)) }
+    {
+        let library = match self.store.load(alloc) {
+            Ok(library) => library,
+            Err(fault) => return Err(fault),
+        };
+        match list_deck(alloc, &library, name) {
+            Ok(text) => Ok(text),
+            Err(fault) => Err(fault),
+        }
+    }
+
+    /// A card with its history.
+    pub fn card_list(&mut self, alloc: Global, card: CardRef) -> Result<Vec<u8>, Fault>
+        ensures text { Tells S.is_honest S.is_open S.image S.shows S.may_leave S.failures_of
+            (card_listing card) (result_map_both (λ text. text.items) (λ fault. fault) result)
+            self.old.store self.new.store }
+        ensures same { Keeps S.is_honest S.is_open S.image S.shows S.may_leave S.failures_of
+            self.old.store self.new.store }
+        ensures failed { IfErr result (λ fault. fault.kind ≡ Store
+            → MoreFailures (S.failures_of self.old.store) (S.failures_of self.new.store)) }
+    {
+        let library = match self.store.load(alloc) {
+            Ok(library) => library,
+            Err(fault) => return Err(fault),
+        };
+        match list_card(alloc, &library, card) {
+            Ok(text) => Ok(text),
+            Err(fault) => Err(fault),
+        }
+    }
+
+    /// The directory.
+    pub fn ident_list(&mut self, alloc: Global) -> Result<Vec<u8>, Fault>
+        ensures text { Tells S.is_honest S.is_open S.image S.shows S.may_leave S.failures_of
+            (λ l. Ok (ident_listing l)) (result_map_both (λ text. text.items) (λ fault. fault) result)
+            self.old.store self.new.store }
+        ensures same { Keeps S.is_honest S.is_open S.image S.shows S.may_leave S.failures_of
+            self.old.store self.new.store }
+        ensures failed { IfErr result (λ fault. fault.kind ≡ Store
+            → MoreFailures (S.failures_of self.old.store) (S.failures_of self.new.store)) }
+    {
+        let library = match self.store.load(alloc) {
+            Ok(library) => library,
+            Err(fault) => return Err(fault),
+        };
+        match list_idents(alloc, &library) {
+            Ok(text) => Ok(text),
+            Err(fault) => Err(fault),
+        }
+    }
+
+    /// The yank cards with their targets.
+    pub fn yank_list(&mut self, alloc: Global) -> Result<Vec<u8>, Fault>
+        ensures text { Tells S.is_honest S.is_open S.image S.shows S.may_leave S.failures_of
+            (λ l. Ok (yank_listing l)) (result_map_both (λ text. text.items) (λ fault. fault) result)
+            self.old.store self.new.store }
+        ensures same { Keeps S.is_honest S.is_open S.image S.shows S.may_leave S.failures_of
+            self.old.store self.new.store }
+        ensures failed { IfErr result (λ fault. fault.kind ≡ Store
+            → MoreFailures (S.failures_of self.old.store) (S.failures_of self.new.store)) }
+    {
+        let library = match self.store.load(alloc) {
+            Ok(library) => library,
+            Err(fault) => return Err(fault),
+        };
+        match list_yanks(alloc, &library) {
+            Ok(text) => Ok(text),
+            Err(fault) => Err(fault),
+        }
+    }
+}

@@ -1,0 +1,40 @@
+//! The way of a settlement, over any store.
+
+ghost use Rattle.std.specs.Prelude.{◌≡◌, IfErr};
+ghost use Rattle.upd_desk.specs.Holding.{Settles};
+ghost use Rattle.upd_rows.specs.Keeping.{MoreFailures};
+ghost use Rattle.upd_text.specs.declared.fault.FaultKind.TheVariants.{Store};
+
+use crate::arrival::key_door;
+use std::alloc::Global;
+use upd_rows::RowStore;
+use upd_text::Fault;
+
+/// Settles a site's runs up to a number, unless they are settled already, and answers the site's mark.
+pub(crate) fn settle_at<S: RowStore>(
+    store: &mut S,
+    alloc: Global,
+    site: &str,
+    number: u64,
+) -> Result<u64, Fault>
+    ensures settles { Settles S.is_honest S.is_open S.image S.shows S.may_leave S.failures_of
+        site.now number result store.old store.new }
+    ensures failed { IfErr result (λ fault. fault.kind ≡ Store
+        → MoreFailures (S.failures_of store.old) (S.failures_of store.new)) }
+{
+    match key_door(site, number) {
+        Ok(()) => {}
+        Err(fault) => return Err(fault),
+    }
+    let mark = match store.mark(alloc, site) {
+        Ok(mark) => mark,
+        Err(fault) => return Err(fault),
+    };
+    if number <= mark {
+        return Ok(mark);
+    }
+    match store.settle_to(alloc, site, number) {
+        Ok(mark) => Ok(mark),
+        Err(fault) => Err(fault),
+    }
+}
