@@ -22,15 +22,14 @@ left_found touched was before l ys os counts found now yanks others front known 
     ∙ ap (λ k. count_on (settled touched was before k) t) yanks in
     is ∙ (λ i. all i ++ found_others touched before (λ t. settled_counts t i) (others i))
 
-pub left_statuses : (known : CardRef → Option Bool) (l : LibraryView) (ys os : List CountedCardView) (empty first second last found : List (CardRef × Bool)) →
-    ys ≡ yanks_of l → os ≡ others_of l → empty ≡ [] →
+pub left_statuses : (known : CardRef → Option Bool) (ys os : List CountedCardView) (empty first second last found : List (CardRef × Bool)) → empty ≡ [] →
     ((r : CardRef) → kept_status first r ≡ (if list_any (λ k. same_ref k.card r) ys then option_or (known r) (kept_status empty r) else kept_status empty r)) →
     ((r : CardRef) → kept_status second r ≡ (if list_any (λ k. same_ref k.card r) os then option_or (known r) (kept_status first r) else kept_status first r)) →
     ((r : CardRef) → kept_status last r ≡ update_all same_ref (kept_status second) found r) →
-    (r : CardRef) → kept_status last r ≡ update_all same_ref (stay known (others_of l) (stay known (yanks_of l) (λ _. None))) found r
-left_statuses known l ys os empty first second last found yanks others none one two put r =
+    (r : CardRef) → kept_status last r ≡ update_all same_ref (stay known os (stay known ys (λ _. None))) found r
+left_statuses known ys os empty first second last found none one two put r =
     let start : (r : CardRef) → kept_status empty r ≡ None = λ r. ap (λ e. kept_status e r) none in
-    let of_yanks : (r : CardRef) → kept_status first r ≡ stay known (yanks_of l) (λ _. None) r = λ r. one r ∙ (λ i. stay known (yanks i) (λ q. start q i) r) in
-    let of_others : (r : CardRef) → kept_status second r ≡ stay known (others_of l) (stay known (yanks_of l) (λ _. None)) r = λ r. two r
-    ∙ (λ i. stay known (others i) (λ q. of_yanks q i) r) in
+    let of_yanks : (r : CardRef) → kept_status first r ≡ stay known ys (λ _. None) r = λ r. one r ∙ (λ i. stay known ys (λ q. start q i) r) in
+    let of_others : (r : CardRef) → kept_status second r ≡ stay known os (stay known ys (λ _. None)) r = λ r. two r
+    ∙ (λ i. stay known os (λ q. of_yanks q i) r) in
     put r ∙ (λ i. update_all same_ref (λ q. of_others q i) found r)

@@ -11,4 +11,5 @@ pub mod LeftLemmas
 pub mod RowLemmas
 pub mod ReachLemmas
 pub mod ToldLemmas
+pub mod WholeLemmas
 pub mod OnlyLemmas

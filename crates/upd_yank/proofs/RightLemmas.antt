@@ -1,6 +1,6 @@
 -- A settling leaves the statuses and counts of the library after a run, and looks at no more cards than it must.
 use Rattle.std.proofs.Common.{◌≡◌, ℕ, ◌<◌, ◌≤◌, ◌^◌, Bool, true, false, ◌||◌, List, [], ◌∷◌, ◌++◌, map, length, Option, Some, None}
-use Rattle.std.proofs.Common.{unwrap_or, refl, ap, sym, ◌∙◌, subst, arith, length-append}
+use Rattle.std.proofs.Common.{unwrap_or, inl, inr, refl, ap, sym, ◌∙◌, subst, arith, length-append}
 use Rattle.std.specs.List.{list_any, filter, AllByRecursion}
 use Rattle.std.specs.Map.{update_all}
 use Rattle.std.proofs.lemmas.List.{length-map}
@@ -24,11 +24,13 @@ use Rattle.upd_yank.proofs.FlipLemmas.{or_none, same_active, status_is}
 use Rattle.upd_yank.proofs.KeptLemmas.{untouched_status}
 use Rattle.upd_yank.proofs.SettleLemmas.{settled_is}
 use Rattle.upd_yank.proofs.ToldLemmas.{IsSettled}
+use Rattle.upd_yank.proofs.WholeLemmas.{whole_right}
 use Rattle.upd_yank.proofs.StateLemmas.{HadStatus, all_counted, put_all, stay_right, statuses_are, unfound_stayed}
 use Rattle.upd_yank.proofs.WorkLemmas.{Agrees, HasStatus, IsListed, all_agree, all_both, all_listed_back, all_listed_others, all_map, found_back, length_back}
 use Rattle.upd_yank.proofs.WorkLemmas.{listed_back, listed_front, right_back, right_others, takes_no_yanks, yanks_found}
 use Rattle.upd_yank.specs.Affected.{affected, altered, is_other, is_touched}
-use Rattle.upd_yank.specs.Cascade.{AreYanks, IsKept, TakesNoYanks, found_of, found_of_all, found_others, found_yanks, is_active_by, is_due, settled, stay}
+use Rattle.upd_yank.specs.Cascade.{ArePut, AreYanks, IsKept, TakesNoYanks, found_of, found_of_all, found_others, found_yanks, is_active_by, is_due, settled}
+use Rattle.upd_yank.specs.Cascade.{stay}
 use Rattle.upd_yank.specs.Cascade.{views}
 use Rattle.upd_yank.specs.Right.{AreCountable, CacheView, IsRight, IsRunBetween, kept_status, was_active}
 
@@ -220,17 +222,31 @@ least_work old new cache run between =
 pub countable : (l : LibraryView) → IsSound l → length l.yanks < 2 ^ 32 → AreCountable l.yanks
 countable l sound few = record { few = few; apart = sound.targets }
 
+-- statuses with what is found put are those of the library
+put_right : (run was : CountedCardView → Bool) (before : Target → ℕ) (known : CardRef → Option Bool) (l : LibraryView)
+    (found statuses : List (CardRef × Bool)) →
+    IsKnown run was before known l → found ≡ found_of_all run was before l → ArePut known (yanks_of l) (others_of l) found statuses → (r : CardRef) →
+    kept_status statuses r ≡ status_of r l
+put_right run was before known l found statuses is found_all (inr put) r =
+    put r ∙ ap (λ f. update_all same_ref (stay known (others_of l) (stay known (yanks_of l) (λ _. None))) f r) (found_all
+    ∙ found_is run was before known l is)
+    ∙ statuses_right run was before known l r is
+put_right run was before known l found statuses is found_all (inl whole) r =
+    let all = found_all ∙ found_is run was before known l is in
+    let both = found_right run was before known l is in
+    let due = is_due run before (live_count l) in
+    let right = subst (AllByRecursion (λ p. status_of p.0 l ≡ Some p.1)) (sym all) both.0 in
+    let listed = subst (λ found. AllByRecursion (IsListed due found) (counted_cards l)) (sym all) both.1 in
+    whole_right l due known found statuses is.sound right is.had listed (whole.0 ∙ sym (length-append (yanks_of l) (others_of l))) whole.1 r
+
 -- what the code has left is right of the library
 pub left_right : (run was : CountedCardView → Bool) (before : Target → ℕ) (known : CardRef → Option Bool) (l : LibraryView) (found : List (CardRef × Bool))
     (cache : CacheView) →
     IsKnown run was before known l → found ≡ found_of_all run was before l →
     ((t : Target) → count_in cache.counts t ≡ count_on (settled run was before (yanks_of l)) t) →
-    ((r : CardRef) → kept_status cache.states r ≡ update_all same_ref (stay known (others_of l) (stay known (yanks_of l) (λ _. None))) found r) →
-    IsRight l cache
+    ArePut known (yanks_of l) (others_of l) found cache.states → IsRight l cache
 left_right run was before known l found cache is found_all counts statuses = record {
-  status = λ r. statuses r ∙ ap (λ f. update_all same_ref (stay known (others_of l) (stay known (yanks_of l) (λ _. None))) f r) (found_all
-      ∙ found_is run was before known l is)
-      ∙ statuses_right run was before known l r is;
+  status = put_right run was before known l found cache.states is found_all statuses;
   count = λ t. counts t ∙ ap (λ cards. count_on cards t) (live_is run was before known l is);
 }
 
@@ -267,8 +283,7 @@ pub settled_right : (old new : LibraryView) (cache left : CacheView) (run set : 
     (AreCountable new.yanks → (t : Target) → count_in left.counts t ≡ count_on (settled (is_touched set) (was_active cache.states) (count_in cache.counts)
     (yanks_of new)) t) →
     (AreCountable new.yanks → found ≡ found_of_all (is_touched set) (was_active cache.states) (count_in cache.counts) new) →
-    ((r : CardRef) → kept_status left.states r
-    ≡ update_all same_ref (stay (kept_status cache.states) (others_of new) (stay (kept_status cache.states) (yanks_of new) (λ _. None))) found r) →
+    ArePut (kept_status cache.states) (yanks_of new) (others_of new) found left.states →
     IsRight new left × (length found ≡ length (affected run old new))
 settled_right old new cache left run set found between same counts found_all statuses =
     let fits = countable new between.after between.few in
@@ -330,8 +345,7 @@ pub built_right : (l : LibraryView) (set : List CardRef) (states : List (CardRef
     AllByRecursion (λ k. is_touched set k ≡ true) (counted_cards l) →
     (AreCountable l.yanks → (t : Target) → count_in left.counts t ≡ count_on (settled (is_touched set) (was_active states) (count_in counts) (yanks_of l)) t) →
     (AreCountable l.yanks → found ≡ found_of_all (is_touched set) (was_active states) (count_in counts) l) →
-    ((r : CardRef) → kept_status left.states r ≡ update_all same_ref (stay (kept_status states) (others_of l)
-    (stay (kept_status states) (yanks_of l) (λ _. None))) found r) → IsRight l left
+    ArePut (kept_status states) (yanks_of l) (others_of l) found left.states → IsRight l left
 built_right l set states counts found left sound few all known_counts found_all statuses =
     let fits = countable l sound few in
     left_right (is_touched set) (was_active states) (count_in counts) (kept_status states) l found left

@@ -1,5 +1,6 @@
 -- The cascade: what becomes of kept statuses when yank cards come, go and change.
-use Rattle.std.specs.Prelude.{◌≡◌, ℕ, ◌==◌, Bool, false, not, ◌&&◌, ◌||◌, if◌then◌else◌, List, [], ◌∷◌, ◌++◌, map, Option}
+use Rattle.std.specs.Prelude.{◌≡◌, ◌⊎◌, ℕ, ◌+◌, ◌==◌, Bool, false, not, ◌&&◌, ◌||◌, if◌then◌else◌, List, [], ◌∷◌, ◌++◌, map, length, Option, None}
+use Rattle.std.specs.Map.{lookup, update_all}
 use Rattle.std.specs.List.{list_any, filter, AllByRecursion}
 use Rattle.std.specs.Option.{option_or}
 use Rattle.upd_text.specs.declared.card_ref.CardRef.{CardRef}
@@ -60,6 +61,12 @@ found_of_all touched was before l =
 -- the statuses of these cards, as they were known, put to others
 abbrev pub stay : (CardRef → Option Bool) → List CountedCardView → (CardRef → Option Bool) → CardRef → Option Bool
 stay known ks had r = if list_any (λ k. same_ref k.card r) ks then option_or (known r) (had r) else had r
+
+-- Statuses once what is found is put: to all that were known, and they are as many as these cards; or to those of these cards alone.
+abbrev pub ArePut : (CardRef → Option Bool) → List CountedCardView → List CountedCardView → List (CardRef × Bool) → List (CardRef × Bool) → Type 0
+ArePut known ys os found statuses =
+    ((length statuses ≡ length ys + length os) × ((r : CardRef) → lookup (same_ref r) statuses ≡ update_all same_ref known found r))
+    ⊎ ((r : CardRef) → lookup (same_ref r) statuses ≡ update_all same_ref (stay known os (stay known ys (λ _. None))) found r)
 
 -- ---- what the cascade stands on
 

@@ -1,9 +1,8 @@
 //! The cascade: `YANK$$$` from the youngest card to the oldest, then the other cards. No card is looked at twice, and
 //! none that nothing reaches.
 
-ghost use Rattle.std.specs.Prelude.{◌≡◌, ℕ, ◌+◌, ◌<◌, ◌^◌, [], ◌∷◌, ◌++◌, if◌then◌else◌, length, count_by, None, OnOk};
-ghost use Rattle.std.specs.Prelude.{IfOk};
-ghost use Rattle.std.specs.Map.{update_all};
+ghost use Rattle.std.specs.Prelude.{◌≡◌, ℕ, ◌+◌, ◌<◌, ◌^◌, [], ◌∷◌, ◌++◌, if◌then◌else◌, length, count_by};
+ghost use Rattle.std.specs.Prelude.{true, IfOk, None, OnOk, Some};
 ghost use Rattle.upd_core.specs.Counted.{one_more, others_of, yanks_of};
 ghost use Rattle.upd_core.specs.declared.target.Target.{Target};
 ghost use Rattle.upd_core.specs.Status.{stays_on};
@@ -12,9 +11,7 @@ ghost use Rattle.upd_core.specs.Targets.{is_same};
 ghost use Rattle.upd_yank.specs.Affected.{is_touched};
 ghost use Rattle.upd_yank.specs.Cascade.{found_of, found_others, found_yanks, is_active_by, is_due, is_taken_by};
 ghost use Rattle.upd_yank.specs.Cascade.{settled, status_now, views};
-ghost use Rattle.upd_yank.specs.Cascade.{found_of_all, stay};
-ghost use Rattle.upd_change.specs.Rows.{same_ref};
-ghost use Rattle.upd_text.specs.declared.card_ref.CardRef.{CardRef};
+ghost use Rattle.upd_yank.specs.Cascade.{ArePut, found_of_all};
 ghost use Rattle.upd_yank.specs.Right.{AreCountable, kept_status, was_active};
 
 use crate::statuses::Statuses;
@@ -73,7 +70,37 @@ fn is_due(before: &Before, now: &TargetCounts, card: &CountedCard) -> bool
     before.touched.has(card.reference()) || card.is_reached(before.counts, now)
 }
 
-/// The status of a card: anew if it is due, which is put to what is found, else as it was.
+/// The status of a card anew if it is due, which is put to what is found.
+fn find<'a>(
+    counted: &mut Counted<'a>,
+    before: &Before,
+    found: &mut Found,
+    card: &CountedCard<'a>,
+) -> Result<Option<bool>, AllocError>
+    ensures active { IfOk result (λ active. active
+        ≡ (if is_due (is_touched before.now.touched.now) (count_in before.now.counts.now)
+        (count_in found.old.counts) card.now
+        then Some (is_active_by (count_in found.old.counts) card.now.deck card.now.view) else None)) }
+    ensures counts { OnOk result (found.new.counts ≡ found.old.counts) }
+    ensures statuses { OnOk result (found.new.statuses.items ≡ found.old.statuses.items
+        ++ (if is_due (is_touched before.now.touched.now) (count_in before.now.counts.now)
+        (count_in found.old.counts) card.now
+        then found_of (count_in found.old.counts) card.now ∷ [] else [])) }
+    ensures reads { OnOk result (counted.new
+        ≡ (if is_due (is_touched before.now.touched.now) (count_in before.now.counts.now)
+        (count_in found.old.counts) card.now
+        then one_more counted.old else counted.old)) }
+{
+    if is_due(before, &found.counts, card) {
+        let active = judge(counted, &found.counts, card);
+        found.statuses.push((card.reference(), active))?;
+        Ok(Some(active))
+    } else {
+        Ok(None)
+    }
+}
+
+/// The status of a card: anew if it is due, else as it was.
 fn look<'a>(
     counted: &mut Counted<'a>,
     before: &Before,
@@ -93,12 +120,9 @@ fn look<'a>(
         (count_in found.old.counts) card.now
         then one_more counted.old else counted.old)) }
 {
-    if is_due(before, &found.counts, card) {
-        let active = judge(counted, &found.counts, card);
-        found.statuses.push((card.reference(), active))?;
-        Ok(active)
-    } else {
-        Ok(before.statuses.of(card.reference()).unwrap_or(false))
+    match find(counted, before, found, card)? {
+        Some(active) => Ok(active),
+        None => Ok(before.statuses.of(card.reference()).unwrap_or(false)),
     }
 }
 
@@ -173,7 +197,7 @@ fn judge_others<'a>(
         ≡ counted.old.reads + length found.new.statuses.items) }
 {
     for card in cards {
-        look(counted, before, found, card)?;
+        find(counted, before, found, card)?;
     }
     Ok(())
 }
@@ -199,19 +223,43 @@ pub(crate) fn settling<'a>(
     ensures found { AreCountable counted.old.library.yanks → IfOk result (λ left. left.found.statuses.items
         ≡ found_of_all (is_touched before.now.touched.now) (was_active before.now.statuses.now)
         (count_in before.now.counts.now) counted.old.library) }
-    ensures statuses { IfOk result (λ left. (r : CardRef) → kept_status left.statuses r
-        ≡ update_all same_ref (stay (kept_status before.now.statuses.now) (others_of counted.old.library) (stay
-        (kept_status before.now.statuses.now) (yanks_of counted.old.library)
-        (λ _. None))) left.found.statuses.items r) }
+    ensures statuses { IfOk result (λ left. ArePut (kept_status before.now.statuses.now)
+        (yanks_of counted.old.library) (others_of counted.old.library) left.found.statuses.items left.statuses) }
     ensures reads { counted.old.reads ≡ 0 → IfOk result (λ left. counted.new.reads ≡ length left.found.statuses.items) }
 {
     let yanks = counted.yanks(alloc)?;
     let others = counted.others(alloc)?;
     let mut found = settle_yanks(alloc, counted, before, &yanks)?;
     judge_others(counted, before, &mut found, &others)?;
-    let mut statuses = Statuses::new(alloc);
-    statuses.keep(before.statuses, &yanks)?;
-    statuses.keep(before.statuses, &others)?;
-    statuses.put_all(&found.statuses)?;
+    let statuses = put_found(alloc, before.statuses, &yanks, &others, &found.statuses)?;
     Ok(Settled { statuses, found })
+}
+
+/// What is found, put to the statuses that are known. If these are then as many as the cards, no card is gone; else
+/// those of the cards are put together anew.
+fn put_found(
+    alloc: Global,
+    known: &Statuses,
+    yanks: &[CountedCard],
+    others: &[CountedCard],
+    found: &[(CardRef, bool)],
+) -> Result<Statuses, AllocError>
+    ensures { IfOk result (λ statuses. ArePut (kept_status known.now) yanks.now others.now found.now statuses) }
+{
+    let mut whole = known.copy()?;
+    whole.put_all(found)?;
+    if is_sum(whole.len(), yanks.len(), others.len()) {
+        return Ok(whole);
+    }
+    let mut statuses = Statuses::new(alloc);
+    statuses.keep(known, yanks)?;
+    statuses.keep(known, others)?;
+    statuses.put_all(found)?;
+    Ok(statuses)
+}
+
+fn is_sum(sum: usize, a: usize, b: usize) -> bool
+    ensures { result ≡ true → sum ≡ a + b }
+{
+    a <= sum && sum - a == b
 }

@@ -1,6 +1,6 @@
 //! Statuses by card.
 
-ghost use Rattle.std.specs.Prelude.{◌≡◌, [], Some, if◌then◌else◌, OnOk, IfOk};
+ghost use Rattle.std.specs.Prelude.{◌≡◌, [], Some, if◌then◌else◌, length, OnOk, IfOk};
 ghost use Rattle.std.specs.Map.{update_all};
 ghost use Rattle.std.specs.List.{list_any};
 ghost use Rattle.std.specs.Option.{option_or};
@@ -35,6 +35,21 @@ impl Statuses {
         Statuses {
             statuses: BTreeMap::new(alloc),
         }
+    }
+
+    /// A copy; memory alone can fail.
+    pub(crate) fn copy(&self) -> Result<Statuses, AllocError>
+        ensures { IfOk result (λ copy. copy ≡ self.now) }
+    {
+        let statuses = self.statuses.clone()?;
+        Ok(Statuses { statuses })
+    }
+
+    /// How many cards it knows.
+    pub(crate) fn len(&self) -> usize
+        ensures { result ≡ length self.now }
+    {
+        self.statuses.len()
     }
 
     /// The status of a card.

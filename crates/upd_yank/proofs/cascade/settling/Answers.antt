@@ -1,11 +1,10 @@
 use Rattle.std.proofs.Common.{ap, sym, ◌∙◌, subst}
-use Rattle.std.specs.Map.{update_all}
-use Rattle.upd_change.specs.Rows.{same_ref}
 use Rattle.upd_core.specs.TargetCounts.{count_in, count_on}
-use Rattle.upd_yank.proofs.LeftLemmas.{left_found, left_statuses}
+use Rattle.upd_yank.proofs.LeftLemmas.{left_found}
 use Rattle.upd_yank.proofs.RightLemmas.{views_are}
 use Rattle.upd_yank.specs.Affected.{is_touched}
-use Rattle.upd_yank.specs.Cascade.{settled, views}
+use Rattle.upd_core.specs.Counted.{others_of, yanks_of}
+use Rattle.upd_yank.specs.Cascade.{ArePut, settled, views}
 use Rattle.upd_yank.specs.Right.{AreCountable, kept_status, was_active}
 use Rattle.upd_yank.proofs.cascade.settling.Goals as goal
 
@@ -32,9 +31,9 @@ returns-clause-found c = λ countable.
 pub returns-clause-statuses : goal.returns-clause-statuses
 returns-clause-statuses c =
     let l = c.args.counted.now.library in
+    let known = kept_status c.args.before.now.statuses.now in
     let yanks = c.deref-3.ensures.value ∙ c.in_ok-yanks.ensures in
     let others = c.deref-4.ensures.value ∙ c.in_ok-others.ensures in
-    left_statuses (kept_status c.args.before.now.statuses.now) l c.deref-3.result.now c.deref-4.result.now c.new-statuses.result c.keep.new.self
-    c.keep-2.new.self c.put_all.new.self
-    c.judge_others.new.found.statuses.items yanks others c.new-statuses.ensures c.in_ok-keep.ensures c.in_ok-keep-2.ensures
-    (λ r. c.in_ok-put_all.ensures r ∙ ap (λ found. update_all same_ref (kept_status c.keep-2.new.self) found r) c.deref-5.ensures.value)
+    subst (λ found. ArePut known (yanks_of l) (others_of l) found c.in_ok-statuses.statuses) c.deref-5.ensures.value
+    (subst (λ os. ArePut known (yanks_of l) os c.deref-5.result.now c.in_ok-statuses.statuses) others
+    (subst (λ ys. ArePut known ys c.deref-4.result.now c.deref-5.result.now c.in_ok-statuses.statuses) yanks c.in_ok-statuses.ensures))
