@@ -10,3 +10,5 @@ mod StoreLemmas
 mod ArrivesLemmas
 mod SettlesLemmas
 mod QueryLemmas
+mod LeadLemmas
+mod RefusedLemmas

@@ -1,6 +1,6 @@
 -- All texts of a reply are plain: sites, words for modes, names of idents and compile files.
 use Rattle.std.proofs.Common.{◌≡◌, ℕ, ◌==◌, nat_le, length, Bool, true, false, ◌&&◌, ◌||◌, IsTrue, List, [], ◌∷◌, map, codes, Option, Some, None, Ok, refl}
-use Rattle.std.proofs.Common.{sym, subst, arith}
+use Rattle.std.proofs.Common.{ap, sym, ◌∙◌, subst, arith}
 use Rattle.std.specs.List.{list_all, AllByRecursion}
 use Rattle.std.specs.Str.{bytes_eq}
 use Rattle.std.proofs.lemmas.Bool.Decides.{nat_tests}
@@ -15,9 +15,12 @@ use Rattle.upd_compile.specs.Modes.{mode_named}
 use Rattle.upd_laws.specs.ReadRuns.{IsMadeByRuns}
 use Rattle.upd_laws.proofs.CompileLineLemmas.{file_plain, name_of_plain}
 use Rattle.upd_laws.proofs.SoundListLemmas.{and_right, all_weaker}
-use Rattle.upd_reply.specs.Texts.{AreShown, is_shown}
-use Rattle.upd_desk.specs.Arrivals.{is_site, is_site_byte}
+use Rattle.upd_reply.specs.Texts.{AreShown, accepted_text, is_shown}
+use Rattle.upd_desk.specs.Arrivals.{ArrivalView, door, is_site, is_site_byte}
+use Rattle.upd_desk.specs.Made.{IsMade}
+use Rattle.upd_desk.specs.Outcomes.{Compiled, compiled}
 use Rattle.upd_desk.proofs.KeptLemmas.{same_bytes}
+use Rattle.upd_desk.proofs.MadeLemmas.{accepted, accepted_made, passed}
 
 pub site_shown : (site : List ℕ) → is_site site ≡ true → AreShown site
 site_shown site is = all_weaker (λ b. is_site_byte b ≡ true) (λ b. IsTrue (is_shown b)) site one (all_of is_site_byte site bytes)
@@ -61,3 +64,36 @@ names_shown idents (z ∷ ages) named = (
   all_weaker (λ b. IsTrue (is_allowed b || (b == 10))) (λ b. IsTrue (is_shown b)) (name_of idents z) plain_shown (name_of_plain idents z named),
   names_shown idents ages named,
 )
+
+-- All texts of the reply to an accepted run.
+pub record AreAllShown (a : ArrivalView) (done : Compiled) : Type 0 where
+  pub site : AreShown a.site
+  pub word : AreShown a.mode
+  pub idents : AllByRecursion AreShown (map (name_of done.reached.library.idents) done.reached.idents)
+  pub file : AreShown done.file.bytes
+
+pub all_shown : (mode : Mode) (a : ArrivalView) (l : LibraryView) (done : Compiled) → IsMade l → door a ≡ Ok mode → compiled mode a.bytes l ≡ Ok done
+    → AreAllShown a done
+all_shown mode a l done made entered h =
+    let through = passed a mode entered in
+    let left = accepted_made mode a.bytes l done made h in
+    let run = accepted mode a.bytes l done h in
+    record {
+      site = site_shown a.site through.site;
+      word = word_shown a.mode mode through.word;
+      idents = names_shown done.reached.library.idents done.reached.idents left.by_runs.names;
+      file = file_shown mode done.reached.compile l done.reached.library done.file left.by_runs run.file;
+    }
+
+-- a text is the reply where it is written from the same parts
+pub written : (done : Compiled) (a b : ArrivalView) (idents : List (List ℕ)) (file : List ℕ) (n : ℕ) (text : List ℕ) → a ≡ b
+    → idents ≡ map (name_of done.reached.library.idents) done.reached.idents → file ≡ done.file.bytes → n ≡ done.file.lines → AreAllShown b done
+    → (AreShown a.site → AreShown a.mode → AllByRecursion AreShown idents → AreShown file → text ≡ accepted_text a.site a.number a.mode idents file n)
+    → text ≡ accepted_text b.site b.number b.mode (map (name_of done.reached.library.idents) done.reached.idents) done.file.bytes done.file.lines
+written done a b idents file n text same names bytes lines shown is =
+    is (subst (λ (x : ArrivalView). AreShown x.site) (sym same) shown.site) (subst (λ (x : ArrivalView). AreShown x.mode) (sym same) shown.word)
+    (subst (AllByRecursion AreShown) (sym names) shown.idents) (subst AreShown (sym bytes) shown.file)
+    ∙ ap (λ (x : ArrivalView). accepted_text x.site x.number x.mode idents file n) same
+    ∙ ap (λ i. accepted_text b.site b.number b.mode i file n) names
+    ∙ ap (λ f. accepted_text b.site b.number b.mode (map (name_of done.reached.library.idents) done.reached.idents) f n) bytes
+    ∙ ap (λ m. accepted_text b.site b.number b.mode (map (name_of done.reached.library.idents) done.reached.idents) done.file.bytes m) lines

@@ -3,4 +3,5 @@ pub mod Outcomes
 pub mod Journal
 pub mod Holding
 pub mod Made
+pub mod Compiling
 pub mod Worked

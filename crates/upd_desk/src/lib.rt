@@ -7,6 +7,7 @@
 pub mod arrival;
 pub mod desk;
 pub mod laws;
+mod outcome;
 pub mod reply;
 mod settle;
 pub mod worked;

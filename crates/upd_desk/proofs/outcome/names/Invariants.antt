@@ -1,0 +1,6 @@
+use Rattle.std.proofs.Common.{◌≡◌, map, take}
+use Rattle.upd_core.specs.Library.{name_of}
+use Rattle.upd_desk.proofs.outcome.names.Given as goal
+
+abbrev pub invariant-loop-age : goal.invariant-loop-age
+invariant-loop-age l = l.names.items ≡ map (name_of l.idents) (take l.age-index l.ages)
