@@ -116,7 +116,7 @@ module _ {S : Type 0} {Image : Type 0} {is_honest is_open : S → Type 0} {image
       → (is_honest mid → (l : LibraryView) → IsSound l → IsWhole l → (rows : Rows) → shows (image old) rows → Shows rows l → library ≡ l)
       → (is_honest new → (rows : Rows) → shows (image mid) rows → AreRead rows states) → door a ≡ Ok mode
       → (IsMade library → door a ≡ Ok mode → reply ≡ (outcome mode a library).reply)
-      → (IsMade library → door a ≡ Ok mode → (rows : Rows) → Shows rows library → ShowsStates rows library → AreRead rows states
+      → (IsMade library → (rows : Rows) → Shows rows library → ShowsStates rows library → AreRead rows states
       → LeadTo told rows (outcome mode a library).library)
       → told ≡ cs → run ≡ run_of (record { arrival = a; mode = mode; carried = None }) reply
       → is_honest new → (l : LibraryView) → IsMade l → (rows : Rows) → shows (image old) rows → Shows rows l → ShowsStates rows l
@@ -129,7 +129,7 @@ module _ {S : Type 0} {Image : Type 0} {is_honest is_open : S → Type 0} {image
       let its_made : IsMade library = subst IsMade (sym is) made in
       let lead : LeadTo cs rows (outcome mode a library).library =
       subst (λ cs. LeadTo cs rows (outcome mode a library).library) is_told
-      (leads its_made passed rows (subst (Shows rows) (sym is) shows_l) (subst (ShowsStates rows) (sym is) states_l) (read honest rows there)) in
+      (leads its_made rows (subst (Shows rows) (sym is) shows_l) (subst (ShowsStates rows) (sym is) states_l) (read honest rows there)) in
       let row_is : run ≡ run_of h (outcome mode a library).reply = is_run ∙ ap (run_of h) (replies its_made passed) in
       let adds : AddsRun mode a library rows (committed cs run rows) =
       subst (λ r. AddsRun mode a library rows (committed cs r rows)) (sym row_is) (commits_run mode a library cs rows lead) in

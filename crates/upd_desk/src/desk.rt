@@ -5,10 +5,13 @@ ghost use Rattle.std.specs.Result.{result_map_both};
 ghost use Rattle.upd_compile.specs.File.{compile_file_of};
 ghost use Rattle.upd_compile.specs.Listings.{card_listing, deck_listing, ident_listing, yank_listing};
 ghost use Rattle.upd_compile.specs.declared.mode.Mode.TheVariants.{Full};
-ghost use Rattle.upd_desk.specs.Holding.{Settles, Tells};
+ghost use Rattle.upd_desk.specs.Holding.{Arrives, Settles, Tells};
 ghost use Rattle.upd_rows.specs.Keeping.{Keeps, MoreFailures};
 ghost use Rattle.upd_text.specs.declared.fault.FaultKind.TheVariants.{Store};
 
+use crate::arrival::Arrival;
+use crate::arrive::arrive_at;
+use crate::reply::Reply;
 use crate::settle::settle_at;
 use std::alloc::Global;
 use upd_compile::{CompileFile, Mode, compile_file, list_card, list_deck, list_idents, list_yanks};
@@ -20,14 +23,16 @@ use upd_text::Fault;
 #[derive(Drop)]
 pub struct Desk<S: RowStore> {
     store: S,
+    work: u64,
 }
 
 impl<S: RowStore> Desk<S> {
     /// A desk over a store, which isn't called.
     pub fn open(store: S) -> Desk<S>
-        ensures { result.store ≡ store }
+        ensures store { result.store ≡ store }
+        ensures work { result.work ≡ 0 }
     {
-        Desk { store }
+        Desk { store, work: 0 }
     }
 
     /// The store of the desk, which isn't called.
@@ -35,6 +40,52 @@ impl<S: RowStore> Desk<S> {
         ensures { result ≡ self.store }
     {
         self.store
+    }
+
+    /// How many cards the last arrival that was answered has looked at: 0 before one and after a repeat.
+    pub fn work(&self) -> u64
+        ensures { result ≡ self.now.work }
+    {
+        self.work
+    }
+
+    /// The answer to a run. A refusal of a run that was read is a reply as well, and kept like any other.
+    pub fn arrive(
+        &mut self,
+        alloc: Global,
+        site: &str,
+        number: u64,
+        mode: &str,
+        bytes: &[u8],
+    ) -> Result<Reply, Fault>
+        ensures arrives { Arrives S.is_honest S.is_open S.image S.shows S.may_leave S.failures_of
+            (record { site = site.now; number = number; mode = mode.now; bytes = bytes.now })
+            result self.old.store self.new.store }
+        ensures failed { IfErr result (λ fault. fault.kind ≡ Store
+            → MoreFailures (S.failures_of self.old.store) (S.failures_of self.new.store)) }
+    {
+        let arrival = Arrival {
+            site,
+            number,
+            mode,
+            bytes,
+        };
+        self.arrive_one(alloc, &arrival)
+    }
+
+    fn arrive_one(&mut self, alloc: Global, arrival: &Arrival<'_>) -> Result<Reply, Fault>
+        ensures arrives { Arrives S.is_honest S.is_open S.image S.shows S.may_leave S.failures_of
+            arrival.now result self.old.store self.new.store }
+        ensures failed { IfErr result (λ fault. fault.kind ≡ Store
+            → MoreFailures (S.failures_of self.old.store) (S.failures_of self.new.store)) }
+    {
+        match arrive_at(&mut self.store, alloc, arrival) {
+            Ok(answered) => {
+                self.work = answered.work;
+                Ok(answered.reply)
+            }
+            Err(fault) => Err(fault),
+        }
     }
 
     /// Settles a site's runs up to a number, and answers the site's mark afterwards: a run at or below it is refused

@@ -1,10 +1,11 @@
 //! The desk: each run acts once, in the order of first arrival.
 //!
-//! What the desk owes after a journal of arrivals and settlements stands in `specs/`, and here are laws of it,
-//! the desk's settlements and its queries. The calls by which runs arrive are not built yet.
+//! What the desk owes after a journal of arrivals and settlements stands in `specs/`, and here are laws of it
+//! and the desk, over any store of rows.
 #![tactic(auto)]
 
 pub mod arrival;
+mod arrive;
 pub mod desk;
 pub mod laws;
 mod outcome;

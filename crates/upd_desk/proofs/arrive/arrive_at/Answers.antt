@@ -1,0 +1,90 @@
+-- Each way out of the desk is what is owed to the arrival.
+use Rattle.std.proofs.Common.{◌<◌, ◌≤◌, None, Some, Ok, Err, ap, sym, ◌∙◌, subst}
+use Rattle.upd_core.specs.Library.{empty}
+use Rattle.upd_rows.specs.Tables.{mark_at, run_at}
+use Rattle.upd_rows.proofs.StoreLemmas.{keeps_keeps}
+use Rattle.upd_desk.proofs.ArrivesLemmas.{asked, changed_keeps, keeps_arrives, keeps_new, loses, loses_new}
+use Rattle.upd_desk.proofs.ArrivesLemmas.{refuses_at_door, refuses_changed, refuses_settled, tells_kept, unstored}
+use Rattle.upd_desk.proofs.MadeLemmas.{world_made}
+use Rattle.upd_desk.proofs.arrive.arrive_at.Goals as goal
+
+pub returns-in-Err-clause-arrives : goal.returns-in-Err-clause-arrives
+returns-in-Err-clause-arrives g c = refuses_at_door _ _ _ _ _ _ c.args.arrival.now c.in-Err.fault c.args.store.now c.in-Err.ensures
+
+pub returns-in-Err-mark-clause-arrives : goal.returns-in-Err-mark-clause-arrives
+returns-in-Err-mark-clause-arrives g c =
+    loses _ _ _ _ _ _ c.args.arrival.now c.in-Err-mark.fault c.args.store.now c.mark.new.self c.in-Err-mark.ensures.same c.in-Err-mark.ensures.lost
+
+pub returns-then-arrival-mark-clause-arrives : goal.returns-then-arrival-mark-clause-arrives
+returns-then-arrival-mark-clause-arrives g c =
+    refuses_settled _ _ _ _ _ _ c.in-Ok.mode c.args.arrival.now c.in-Ok-mark.mark c.without_line.result c.args.store.now c.mark.new.self
+    c.in-Ok-mark.ensures.same
+    c.in-Ok-mark.ensures.open (sym c.in-Ok.ensures)
+    (subst (λ a. a.number ≤ c.in-Ok-mark.mark) c.arrival.view_is c.if-arrival-mark.true)
+    (λ honest rows shown. c.in-Ok-mark.ensures.found honest rows shown ∙ ap (λ a. mark_at a.site rows) c.arrival.view_is) c.without_line.ensures
+
+pub returns-in-Err-kept_run-clause-arrives : goal.returns-in-Err-kept_run-clause-arrives
+returns-in-Err-kept_run-clause-arrives g c =
+    loses _ _ _ _ _ _ c.args.arrival.now c.in-Err-kept_run.fault c.args.store.now c.kept_run.new.self
+    (keeps_keeps _ _ _ _ _ _ c.in-Ok-mark.ensures.same c.in-Err-kept_run.ensures.same) c.in-Err-kept_run.ensures.lost
+
+pub returns-in-Ok-told_again-clause-arrives : goal.returns-in-Ok-told_again-clause-arrives
+returns-in-Ok-told_again-clause-arrives g c =
+    keeps_arrives _ _ _ _ _ _ c.args.arrival.now (Ok c.in-Ok-told_again.reply) c.args.store.now c.kept_run.new.self c.kept_run.new.self
+    (keeps_keeps _ _ _ _ _ _ c.in-Ok-mark.ensures.same c.in-Ok-kept_run.ensures.same)
+    (tells_kept _ _ _ _ _ _ g.met.S.RowStore.settled c.in-Ok.mode c.args.arrival.now c.in-Some.run' c.in-Ok-told_again.reply c.kept_run.new.self
+    c.in-Ok-kept_run.ensures.open
+    (λ honest. asked _ _ _ _ _ _ c.in-Ok.mode c.args.arrival.now c.in-Ok-mark.mark (Some c.in-Some.run') c.args.store.now c.mark.new.self
+    c.kept_run.new.self c.in-Ok-mark.ensures.same c.in-Ok-kept_run.ensures.same (sym c.in-Ok.ensures)
+    (subst (λ a. c.in-Ok-mark.mark < a.number) c.arrival.view_is c.if-arrival-mark.false)
+    (λ honest rows shown. c.in-Ok-mark.ensures.found honest rows shown ∙ ap (λ a. mark_at a.site rows) c.arrival.view_is)
+    (λ honest rows shown. sym c.in-Some.is ∙ c.in-Ok-kept_run.ensures.found honest rows shown
+    ∙ ap (λ a. run_at a.site a.number rows) c.arrival.view_is) honest)
+    c.in-Ok-told_again.ensures)
+
+pub returns-in-Err-told_again-clause-arrives : goal.returns-in-Err-told_again-clause-arrives
+returns-in-Err-told_again-clause-arrives g c =
+    keeps_arrives _ _ _ _ _ _ c.args.arrival.now (Err c.in-Err-told_again.fault) c.args.store.now c.kept_run.new.self c.kept_run.new.self
+    (keeps_keeps _ _ _ _ _ _ c.in-Ok-mark.ensures.same c.in-Ok-kept_run.ensures.same)
+    (refuses_changed _ _ _ _ _ _ c.in-Ok.mode c.args.arrival.now c.in-Some.run' c.in-Err-told_again.fault c.kept_run.new.self
+    c.in-Ok-kept_run.ensures.open
+    (λ honest. asked _ _ _ _ _ _ c.in-Ok.mode c.args.arrival.now c.in-Ok-mark.mark (Some c.in-Some.run') c.args.store.now c.mark.new.self
+    c.kept_run.new.self c.in-Ok-mark.ensures.same c.in-Ok-kept_run.ensures.same (sym c.in-Ok.ensures)
+    (subst (λ a. c.in-Ok-mark.mark < a.number) c.arrival.view_is c.if-arrival-mark.false)
+    (λ honest rows shown. c.in-Ok-mark.ensures.found honest rows shown ∙ ap (λ a. mark_at a.site rows) c.arrival.view_is)
+    (λ honest rows shown. sym c.in-Some.is ∙ c.in-Ok-kept_run.ensures.found honest rows shown
+    ∙ ap (λ a. run_at a.site a.number rows) c.arrival.view_is) honest)
+    c.in-Err-told_again.ensures)
+
+pub returns-in-Err-told_again-clause-failed : goal.returns-in-Err-told_again-clause-failed
+returns-in-Err-told_again-clause-failed g c is =
+    unstored _ _ c.in-Err-told_again.fault
+    (changed_keeps c.in-Ok.mode c.args.arrival.now empty c.in-Some.run' c.in-Err-told_again.fault (c.in-Err-told_again.ensures empty)) is
+
+pub returns-in-Ok-keep_new-clause-arrives : goal.returns-in-Ok-keep_new-clause-arrives
+returns-in-Ok-keep_new-clause-arrives g c =
+    keeps_arrives _ _ _ _ _ _ c.args.arrival.now (Ok c.in-Ok-keep_new.answered.reply) c.args.store.now c.kept_run.new.self c.keep_new.new.store
+    (keeps_keeps _ _ _ _ _ _ c.in-Ok-mark.ensures.same c.in-Ok-kept_run.ensures.same)
+    (keeps_new _ _ _ _ _ _ world_made g.met.S.RowStore.settled c.in-Ok.mode c.args.arrival.now c.in-Ok-keep_new.answered.reply c.kept_run.new.self
+    c.keep_new.new.store c.in-Ok-keep_new.ensures.tries
+    (λ honest. asked _ _ _ _ _ _ c.in-Ok.mode c.args.arrival.now c.in-Ok-mark.mark None c.args.store.now c.mark.new.self
+    c.kept_run.new.self c.in-Ok-mark.ensures.same c.in-Ok-kept_run.ensures.same (sym c.in-Ok.ensures)
+    (subst (λ a. c.in-Ok-mark.mark < a.number) c.arrival.view_is c.if-arrival-mark.false)
+    (λ honest rows shown. c.in-Ok-mark.ensures.found honest rows shown ∙ ap (λ a. mark_at a.site rows) c.arrival.view_is)
+    (λ honest rows shown. sym c.in-None.is ∙ c.in-Ok-kept_run.ensures.found honest rows shown
+    ∙ ap (λ a. run_at a.site a.number rows) c.arrival.view_is) honest)
+    c.in-Ok-keep_new.ensures.open c.in-Ok-keep_new.ensures.becomes c.in-Ok-keep_new.ensures.reply)
+
+pub returns-in-Err-keep_new-clause-arrives : goal.returns-in-Err-keep_new-clause-arrives
+returns-in-Err-keep_new-clause-arrives g c =
+    keeps_arrives _ _ _ _ _ _ c.args.arrival.now (Err c.in-Err-keep_new.fault) c.args.store.now c.kept_run.new.self c.keep_new.new.store
+    (keeps_keeps _ _ _ _ _ _ c.in-Ok-mark.ensures.same c.in-Ok-kept_run.ensures.same)
+    (loses_new _ _ _ _ _ _ world_made c.in-Ok.mode c.args.arrival.now c.in-Err-keep_new.fault c.kept_run.new.self c.keep_new.new.store
+    c.in-Err-keep_new.ensures.tries
+    (λ honest. asked _ _ _ _ _ _ c.in-Ok.mode c.args.arrival.now c.in-Ok-mark.mark None c.args.store.now c.mark.new.self
+    c.kept_run.new.self c.in-Ok-mark.ensures.same c.in-Ok-kept_run.ensures.same (sym c.in-Ok.ensures)
+    (subst (λ a. c.in-Ok-mark.mark < a.number) c.arrival.view_is c.if-arrival-mark.false)
+    (λ honest rows shown. c.in-Ok-mark.ensures.found honest rows shown ∙ ap (λ a. mark_at a.site rows) c.arrival.view_is)
+    (λ honest rows shown. sym c.in-None.is ∙ c.in-Ok-kept_run.ensures.found honest rows shown
+    ∙ ap (λ a. run_at a.site a.number rows) c.arrival.view_is) honest)
+    c.in-Err-keep_new.ensures.lost c.in-Err-keep_new.ensures.undone)
