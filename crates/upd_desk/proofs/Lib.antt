@@ -12,3 +12,4 @@ mod SettlesLemmas
 mod QueryLemmas
 mod LeadLemmas
 mod RefusedLemmas
+mod WorkLemmas

@@ -1,5 +1,5 @@
 -- What a desk owes of a new run: what is known of the library that it comes to, and what its row changes make of tables.
-use Rattle.std.specs.Prelude.{ℕ, IsTrue, List, length, Result, Ok, Err}
+use Rattle.std.specs.Prelude.{ℕ, IsTrue, List, length, Option, Some, None, Result, Ok, Err}
 use Rattle.upd_text.specs.declared.fault.Fault.{Fault}
 use Rattle.upd_core.specs.Library.{LibraryView}
 use Rattle.upd_core.specs.Limits.{is_within_limits}
@@ -7,10 +7,13 @@ use Rattle.upd_core.specs.Sound.{IsSound, IsWhole}
 use Rattle.upd_apply.specs.Applying.{touched}
 use Rattle.upd_change.specs.Changes.{ChangeView, done_all}
 use Rattle.upd_change.specs.Fits.{AllFit}
-use Rattle.upd_change.specs.Rows.{Rows, Shows, ShowsStates}
+use Rattle.upd_change.specs.Rows.{Rows, RunView, Shows, ShowsStates}
+use Rattle.upd_compile.specs.declared.mode.Mode.{Mode}
 use Rattle.upd_laws.specs.ReadRuns.{IsMadeByRuns}
 use Rattle.upd_yank.specs.Affected.{affected}
-use Rattle.upd_desk.specs.Outcomes.{Compiled}
+use Rattle.upd_desk.specs.Arrivals.{ArrivalView, door}
+use Rattle.upd_desk.specs.Journal.{Journal, kept, world}
+use Rattle.upd_desk.specs.Outcomes.{Compiled, compiled}
 
 -- What is known of the library after each journal: it is sound and whole, no limit is passed, and names and cards are as runs bring them.
 pub record IsMade (l : LibraryView) : Type 0 where
@@ -29,3 +32,12 @@ pub record LeadTo (changes : List ChangeView) (rows : Rows) (l : LibraryView) : 
 abbrev pub looked_at : LibraryView → Result Compiled Fault → ℕ
 looked_at l (Ok done) = length (affected (touched l done.reached.library) l done.reached.library)
 looked_at l (Err fault) = 0
+
+-- how many cards are looked at for an arrival after a journal: none where its key is kept, otherwise those for its own run
+abbrev pub work_of : Journal → ArrivalView → ℕ
+work_of journal a = by (kept journal a.site a.number) (door a)
+  where
+    by : Option RunView → Result Mode Fault → ℕ
+    by (Some run) mode = 0
+    by None (Ok mode) = looked_at (world journal) (compiled mode a.bytes (world journal))
+    by None (Err fault) = 0

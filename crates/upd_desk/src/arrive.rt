@@ -1,18 +1,19 @@
 //! The way of an arrival, over any store.
 
-ghost use Rattle.std.specs.Prelude.{◌≡◌, None, Ok, Some, IfErr, IfOk, OnErr, OnOk};
+ghost use Rattle.std.specs.Prelude.{◌≡◌, ◌≤◌, ◌∷◌, length, None, Ok, Some, IfErr, IfOk, OnErr, OnOk};
 ghost use Rattle.std.specs.Result.{result_map_both};
-ghost use Rattle.upd_change.specs.Rows.{Rows, Shows};
+ghost use Rattle.upd_change.specs.Rows.{Rows, Shows, ShowsStates};
 ghost use Rattle.upd_core.specs.Library.{LibraryView};
 ghost use Rattle.upd_desk.specs.Arrivals.{door};
-ghost use Rattle.upd_desk.specs.Holding.{Arrives, Becomes, TriesRun};
-ghost use Rattle.upd_desk.specs.Made.{IsMade};
-ghost use Rattle.upd_desk.specs.Journal.{reply_to, run_of};
-ghost use Rattle.upd_desk.specs.Outcomes.{outcome};
+ghost use Rattle.upd_desk.specs.Holding.{Arrives, Becomes, HoldsIn, TriesRun};
+ghost use Rattle.upd_desk.specs.Made.{IsMade, looked_at, work_of};
+ghost use Rattle.upd_desk.specs.Journal.{Came, Journal, reply_to, run_of, world};
+ghost use Rattle.upd_desk.specs.Outcomes.{compiled, outcome};
 ghost use Rattle.upd_rows.specs.Keeping.{IsLost, MoreFailures};
 ghost use Rattle.upd_rows.specs.Tables.{run_at};
 ghost use Rattle.upd_text.specs.Faults.{fault_at};
 ghost use Rattle.upd_text.specs.declared.fault.FaultKind.TheVariants.{NoMemory, Store};
+ghost use Rattle.upd_yank.specs.Affected.{altered};
 
 use crate::arrival::{Arrival, door, mode_number};
 use crate::outcome::run_outcome;
@@ -77,6 +78,12 @@ fn keep_new<S: RowStore>(
         → OnOk result (Becomes S.shows mode arrival.now (S.image store.old) (S.image store.new)) }
     ensures reply { S.is_honest store.new → IfOk result (λ answered. (l : LibraryView) → IsMade l → (rows : Rows)
         → S.shows (S.image store.old) rows → Shows rows l → answered.reply ≡ (outcome mode arrival.now l).reply) }
+    ensures work { S.is_honest store.new → IfOk result (λ answered. (l : LibraryView) → IsMade l → (rows : Rows)
+        → S.shows (S.image store.old) rows → Shows rows l → ShowsStates rows l
+        → answered.work ≡ looked_at l (compiled mode arrival.now.bytes l)) }
+    ensures least { S.is_honest store.new → IfOk result (λ answered. (l : LibraryView) → IsMade l → (rows : Rows)
+        → S.shows (S.image store.old) rows → Shows rows l → ShowsStates rows l
+        → length (altered l (outcome mode arrival.now l).library) ≤ answered.work) }
     ensures undone { S.is_honest store.new → S.is_open store.new
         → OnErr result (S.image store.new ≡ S.image store.old) }
     ensures lost { IfErr result IsLost }
@@ -117,6 +124,13 @@ pub(crate) fn arrive_at<S: RowStore>(
 ) -> Result<Answered, Fault>
     ensures arrives { Arrives S.is_honest S.is_open S.image S.shows S.may_leave S.failures_of
         arrival.now (result_map_both (λ answered. answered.reply) (λ fault. fault) result) store.old store.new }
+    ensures work { S.is_honest store.new → (journal : Journal)
+        → (S.is_open store.old → HoldsIn S.shows journal (S.image store.old))
+        → IfOk result (λ answered. answered.work ≡ work_of journal arrival.now) }
+    ensures least { S.is_honest store.new → (journal : Journal)
+        → (S.is_open store.old → HoldsIn S.shows journal (S.image store.old))
+        → IfOk result (λ answered. length (altered (world journal) (world (Came arrival.now ∷ journal)))
+        ≤ answered.work) }
     ensures failed { IfErr result (λ fault. fault.kind ≡ Store
         → MoreFailures (S.failures_of store.old) (S.failures_of store.new)) }
 {

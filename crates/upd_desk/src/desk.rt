@@ -1,13 +1,16 @@
 //! The desk over a store.
 
-ghost use Rattle.std.specs.Prelude.{◌≡◌, [], Ok, IfErr};
+ghost use Rattle.std.specs.Prelude.{◌≡◌, ◌≤◌, [], ◌∷◌, length, Ok, IfErr, IfOk, OnErr};
 ghost use Rattle.std.specs.Result.{result_map_both};
 ghost use Rattle.upd_compile.specs.File.{compile_file_of};
 ghost use Rattle.upd_compile.specs.Listings.{card_listing, deck_listing, ident_listing, yank_listing};
 ghost use Rattle.upd_compile.specs.declared.mode.Mode.TheVariants.{Full};
-ghost use Rattle.upd_desk.specs.Holding.{Arrives, Settles, Tells};
+ghost use Rattle.upd_desk.specs.Holding.{Arrives, HoldsIn, Settles, Tells};
+ghost use Rattle.upd_desk.specs.Journal.{Came, Journal, world};
+ghost use Rattle.upd_desk.specs.Made.{work_of};
 ghost use Rattle.upd_rows.specs.Keeping.{Keeps, MoreFailures};
 ghost use Rattle.upd_text.specs.declared.fault.FaultKind.TheVariants.{Store};
+ghost use Rattle.upd_yank.specs.Affected.{altered};
 
 use crate::arrival::Arrival;
 use crate::arrive::arrive_at;
@@ -61,6 +64,16 @@ impl<S: RowStore> Desk<S> {
         ensures arrives { Arrives S.is_honest S.is_open S.image S.shows S.may_leave S.failures_of
             (record { site = site.now; number = number; mode = mode.now; bytes = bytes.now })
             result self.old.store self.new.store }
+        ensures work { S.is_honest self.new.store → (journal : Journal)
+            → (S.is_open self.old.store → HoldsIn S.shows journal (S.image self.old.store))
+            → IfOk result (λ reply. self.new.work ≡ work_of journal
+            (record { site = site.now; number = number; mode = mode.now; bytes = bytes.now })) }
+        ensures least { S.is_honest self.new.store → (journal : Journal)
+            → (S.is_open self.old.store → HoldsIn S.shows journal (S.image self.old.store))
+            → IfOk result (λ reply. length (altered (world journal) (world (Came
+            (record { site = site.now; number = number; mode = mode.now; bytes = bytes.now }) ∷ journal)))
+            ≤ self.new.work) }
+        ensures idle { OnErr result (self.new.work ≡ self.old.work) }
         ensures failed { IfErr result (λ fault. fault.kind ≡ Store
             → MoreFailures (S.failures_of self.old.store) (S.failures_of self.new.store)) }
     {
@@ -76,6 +89,14 @@ impl<S: RowStore> Desk<S> {
     fn arrive_one(&mut self, alloc: Global, arrival: &Arrival<'_>) -> Result<Reply, Fault>
         ensures arrives { Arrives S.is_honest S.is_open S.image S.shows S.may_leave S.failures_of
             arrival.now result self.old.store self.new.store }
+        ensures work { S.is_honest self.new.store → (journal : Journal)
+            → (S.is_open self.old.store → HoldsIn S.shows journal (S.image self.old.store))
+            → IfOk result (λ reply. self.new.work ≡ work_of journal arrival.now) }
+        ensures least { S.is_honest self.new.store → (journal : Journal)
+            → (S.is_open self.old.store → HoldsIn S.shows journal (S.image self.old.store))
+            → IfOk result (λ reply. length (altered (world journal) (world (Came arrival.now ∷ journal)))
+            ≤ self.new.work) }
+        ensures idle { OnErr result (self.new.work ≡ self.old.work) }
         ensures failed { IfErr result (λ fault. fault.kind ≡ Store
             → MoreFailures (S.failures_of self.old.store) (S.failures_of self.new.store)) }
     {

@@ -6,6 +6,7 @@ use Rattle.upd_rows.proofs.StoreLemmas.{keeps_keeps}
 use Rattle.upd_desk.proofs.ArrivesLemmas.{asked, changed_keeps, keeps_arrives, keeps_new, loses, loses_new}
 use Rattle.upd_desk.proofs.ArrivesLemmas.{refuses_at_door, refuses_changed, refuses_settled, tells_kept, unstored}
 use Rattle.upd_desk.proofs.MadeLemmas.{world_made}
+use Rattle.upd_desk.proofs.WorkLemmas.{least_kept, least_told, work_kept, work_told}
 use Rattle.upd_desk.proofs.arrive.arrive_at.Goals as goal
 
 pub returns-in-Err-clause-arrives : goal.returns-in-Err-clause-arrives
@@ -88,3 +89,53 @@ returns-in-Err-keep_new-clause-arrives g c =
     (λ honest rows shown. sym c.in-None.is ∙ c.in-Ok-kept_run.ensures.found honest rows shown
     ∙ ap (λ a. run_at a.site a.number rows) c.arrival.view_is) honest)
     c.in-Err-keep_new.ensures.lost c.in-Err-keep_new.ensures.undone)
+
+pub returns-in-Ok-told_again-clause-work : goal.returns-in-Ok-told_again-clause-work
+returns-in-Ok-told_again-clause-work g c =
+    work_told _ _ _ _ _ _ c.in-Ok.mode c.args.arrival.now c.in-Some.run' c.args.store.now c.kept_run.new.self
+    (keeps_keeps _ _ _ _ _ _ c.in-Ok-mark.ensures.same c.in-Ok-kept_run.ensures.same)
+    c.in-Ok-kept_run.ensures.open
+    (λ honest. asked _ _ _ _ _ _ c.in-Ok.mode c.args.arrival.now c.in-Ok-mark.mark (Some c.in-Some.run') c.args.store.now c.mark.new.self
+    c.kept_run.new.self c.in-Ok-mark.ensures.same c.in-Ok-kept_run.ensures.same (sym c.in-Ok.ensures)
+    (subst (λ a. c.in-Ok-mark.mark < a.number) c.arrival.view_is c.if-arrival-mark.false)
+    (λ honest rows shown. c.in-Ok-mark.ensures.found honest rows shown ∙ ap (λ a. mark_at a.site rows) c.arrival.view_is)
+    (λ honest rows shown. sym c.in-Some.is ∙ c.in-Ok-kept_run.ensures.found honest rows shown
+    ∙ ap (λ a. run_at a.site a.number rows) c.arrival.view_is) honest)
+
+pub returns-in-Ok-told_again-clause-least : goal.returns-in-Ok-told_again-clause-least
+returns-in-Ok-told_again-clause-least g c =
+    least_told _ _ _ _ _ _ c.in-Ok.mode c.args.arrival.now c.in-Some.run' c.args.store.now c.kept_run.new.self
+    (keeps_keeps _ _ _ _ _ _ c.in-Ok-mark.ensures.same c.in-Ok-kept_run.ensures.same)
+    c.in-Ok-kept_run.ensures.open
+    (λ honest. asked _ _ _ _ _ _ c.in-Ok.mode c.args.arrival.now c.in-Ok-mark.mark (Some c.in-Some.run') c.args.store.now c.mark.new.self
+    c.kept_run.new.self c.in-Ok-mark.ensures.same c.in-Ok-kept_run.ensures.same (sym c.in-Ok.ensures)
+    (subst (λ a. c.in-Ok-mark.mark < a.number) c.arrival.view_is c.if-arrival-mark.false)
+    (λ honest rows shown. c.in-Ok-mark.ensures.found honest rows shown ∙ ap (λ a. mark_at a.site rows) c.arrival.view_is)
+    (λ honest rows shown. sym c.in-Some.is ∙ c.in-Ok-kept_run.ensures.found honest rows shown
+    ∙ ap (λ a. run_at a.site a.number rows) c.arrival.view_is) honest)
+
+pub returns-in-Ok-keep_new-clause-work : goal.returns-in-Ok-keep_new-clause-work
+returns-in-Ok-keep_new-clause-work g c =
+    work_kept _ _ _ _ _ _ c.in-Ok.mode c.args.arrival.now c.in-Ok-keep_new.answered.work c.args.store.now c.kept_run.new.self c.keep_new.new.store
+    (keeps_keeps _ _ _ _ _ _ c.in-Ok-mark.ensures.same c.in-Ok-kept_run.ensures.same)
+    c.in-Ok-keep_new.ensures.tries
+    (λ honest. asked _ _ _ _ _ _ c.in-Ok.mode c.args.arrival.now c.in-Ok-mark.mark None c.args.store.now c.mark.new.self
+    c.kept_run.new.self c.in-Ok-mark.ensures.same c.in-Ok-kept_run.ensures.same (sym c.in-Ok.ensures)
+    (subst (λ a. c.in-Ok-mark.mark < a.number) c.arrival.view_is c.if-arrival-mark.false)
+    (λ honest rows shown. c.in-Ok-mark.ensures.found honest rows shown ∙ ap (λ a. mark_at a.site rows) c.arrival.view_is)
+    (λ honest rows shown. sym c.in-None.is ∙ c.in-Ok-kept_run.ensures.found honest rows shown
+    ∙ ap (λ a. run_at a.site a.number rows) c.arrival.view_is) honest)
+    c.in-Ok-keep_new.ensures.open c.in-Ok-keep_new.ensures.work
+
+pub returns-in-Ok-keep_new-clause-least : goal.returns-in-Ok-keep_new-clause-least
+returns-in-Ok-keep_new-clause-least g c =
+    least_kept _ _ _ _ _ _ c.in-Ok.mode c.args.arrival.now c.in-Ok-keep_new.answered.work c.args.store.now c.kept_run.new.self c.keep_new.new.store
+    (keeps_keeps _ _ _ _ _ _ c.in-Ok-mark.ensures.same c.in-Ok-kept_run.ensures.same)
+    c.in-Ok-keep_new.ensures.tries
+    (λ honest. asked _ _ _ _ _ _ c.in-Ok.mode c.args.arrival.now c.in-Ok-mark.mark None c.args.store.now c.mark.new.self
+    c.kept_run.new.self c.in-Ok-mark.ensures.same c.in-Ok-kept_run.ensures.same (sym c.in-Ok.ensures)
+    (subst (λ a. c.in-Ok-mark.mark < a.number) c.arrival.view_is c.if-arrival-mark.false)
+    (λ honest rows shown. c.in-Ok-mark.ensures.found honest rows shown ∙ ap (λ a. mark_at a.site rows) c.arrival.view_is)
+    (λ honest rows shown. sym c.in-None.is ∙ c.in-Ok-kept_run.ensures.found honest rows shown
+    ∙ ap (λ a. run_at a.site a.number rows) c.arrival.view_is) honest)
+    c.in-Ok-keep_new.ensures.open c.in-Ok-keep_new.ensures.least
