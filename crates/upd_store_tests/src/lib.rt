@@ -1,0 +1,9 @@
+//! Tests of the store over SQLite in memory: what runs leave in it is there again when the connection is taken up anew.
+//!
+//! Expected values are worked by hand from `docs/rules.md`.
+#![tactic(auto)]
+
+#[cfg(test)]
+mod shelf;
+#[cfg(test)]
+mod stored;
