@@ -10,6 +10,7 @@ pub mod RightLemmas
 pub mod LeftLemmas
 pub mod RowLemmas
 pub mod ReachLemmas
+pub mod UnflippedLemmas
 pub mod ToldLemmas
 pub mod WholeLemmas
 pub mod OnlyLemmas

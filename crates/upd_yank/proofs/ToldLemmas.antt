@@ -20,6 +20,7 @@ use Rattle.upd_change.specs.States.{TakeGone, takes_card}
 use Rattle.upd_change.proofs.StateLemmas.{counts_after, filter_gone, filter_kept, state_after, states_gone, states_kept}
 use Rattle.upd_yank.proofs.FlipLemmas.{or_none}
 use Rattle.upd_yank.proofs.RefLemmas.{one_ref, ref_same}
+use Rattle.upd_yank.proofs.UnflippedLemmas.{is_listed, unlisted}
 use Rattle.upd_yank.proofs.WorkLemmas.{all_both, is_found}
 use Rattle.upd_yank.specs.Affected.{is_other}
 use Rattle.upd_yank.specs.Right.{kept_status}
@@ -305,10 +306,6 @@ right_zeros l before now (p ∷ ps) right =
     one true e false = (sym ((Decides-eqb (now p.0) 0).0 e) ∙ right p.0, tt)
     one false e b = tt
 
--- whether a target is listed
-abbrev is_listed : Target → List (Target × ℕ) → Bool
-is_listed t ps = list_any (λ p. is_same t p.0) ps
-
 -- of a target that is listed now and isn't told, the count was the same
 same_count : (before now : Target → ℕ) (ps : List (Target × ℕ)) (t : Target) → list_any (tells_count t) (flat_map (count_told before now) ps) ≡ false →
     is_listed t ps ≡ true → now t ≡ before t
@@ -343,10 +340,6 @@ none_before before now (p ∷ ps) t untold is zero =
         let now_none : (now p.0 == 0) ≡ true = (Decides-eqb (now p.0) 0).1 (ap now (sym (same_target t p.0 e)) ∙ zero) in
         let told : (is_same t p.0 || false) ≡ false = rw (now_none, f) at none in
         absurd (let q = sym (ap (λ b. b || false) e) ∙ told in cc)
-
-unlisted : (ps : List (Target × ℕ)) (t : Target) → is_listed t ps ≡ false → count_in ps t ≡ 0
-unlisted [] t e = refl
-unlisted (p ∷ ps) t e = let parts = or_none (is_same t p.0) (is_listed t ps) e in rw parts.0 (unlisted ps t parts.1)
 
 -- a count that isn't told is as it was
 untold_count : (had has : List (Target × ℕ)) (t : Target) → list_any (tells_count t) (counts_told had has) ≡ false → count_in has t ≡ count_in had t

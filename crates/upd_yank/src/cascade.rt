@@ -2,9 +2,11 @@
 //! none that nothing reaches.
 
 ghost use Rattle.std.specs.Prelude.{◌≡◌, ℕ, ◌+◌, ◌<◌, ◌^◌, [], ◌∷◌, ◌++◌, if◌then◌else◌, length, count_by};
-ghost use Rattle.std.specs.Prelude.{true, IfOk, None, OnOk, Some};
+ghost use Rattle.std.specs.Prelude.{false, true, IfOk, None, OnOk, Some};
+ghost use Rattle.std.specs.List.{list_any};
 ghost use Rattle.upd_core.specs.Counted.{one_more, others_of, yanks_of};
 ghost use Rattle.upd_core.specs.declared.target.Target.{Target};
+ghost use Rattle.upd_core.specs.Reach.{is_flipped};
 ghost use Rattle.upd_core.specs.Status.{stays_on};
 ghost use Rattle.upd_core.specs.TargetCounts.{count_in, count_on};
 ghost use Rattle.upd_core.specs.Targets.{is_same};
@@ -181,8 +183,32 @@ fn settle_yanks<'a>(
     Ok(found)
 }
 
-/// Looks at each of these cards that is due, by the counts that are settled.
+/// Whether some count is 0 in one of these and not in the other; memory alone can fail.
+#[tactic(auto, using(crate::proofs::UnflippedLemmas::none_flipped))]
+fn has_flipped(alloc: Global, before: &TargetCounts, now: &TargetCounts) -> Result<bool, AllocError>
+    ensures { IfOk result (λ flipped. flipped ≡ false → (t : Target) →
+        is_flipped (count_in before.now) (count_in now.now) t ≡ false) }
+{
+    let had = before.all(alloc)?;
+    let has = now.all(alloc)?;
+    Ok(has_flipped_of(before, now, &had) || has_flipped_of(before, now, &has))
+}
+
+fn has_flipped_of(before: &TargetCounts, now: &TargetCounts, listed: &[(Target, u32)]) -> bool
+    ensures { result ≡ list_any (λ p. is_flipped (count_in before.now) (count_in now.now) p.0) listed.now }
+{
+    for (target, _) in listed {
+        if TargetCounts::is_flipped(before, now, *target) {
+            return true;
+        }
+    }
+    false
+}
+
+/// Looks at each of these cards that is due, by the counts that are settled. Where no count flipped, nothing reaches
+/// a card, so that only touched ones are due.
 fn judge_others<'a>(
+    alloc: Global,
     counted: &mut Counted<'a>,
     before: &Before,
     found: &mut Found,
@@ -196,7 +222,11 @@ fn judge_others<'a>(
         + length found.old.statuses.items
         ≡ counted.old.reads + length found.new.statuses.items) }
 {
+    let flipped = has_flipped(alloc, before.counts, &found.counts)?;
     for card in cards {
+        if !flipped && !before.touched.has(card.reference()) {
+            continue;
+        }
         find(counted, before, found, card)?;
     }
     Ok(())
@@ -230,7 +260,7 @@ pub(crate) fn settling<'a>(
     let yanks = counted.yanks(alloc)?;
     let others = counted.others(alloc)?;
     let mut found = settle_yanks(alloc, counted, before, &yanks)?;
-    judge_others(counted, before, &mut found, &others)?;
+    judge_others(alloc, counted, before, &mut found, &others)?;
     let statuses = put_found(alloc, before.statuses, &yanks, &others, &found.statuses)?;
     Ok(Settled { statuses, found })
 }
