@@ -8,6 +8,7 @@ mod AlikeLemmas
 mod AnswerLemmas
 mod StoreLemmas
 mod ArrivesLemmas
+mod ArriveAllLemmas
 mod SettlesLemmas
 mod QueryLemmas
 mod LeadLemmas

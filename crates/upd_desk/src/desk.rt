@@ -1,15 +1,17 @@
 //! The desk over a store.
 
 ghost use Rattle.std.specs.Prelude.{◌≡◌, ◌≤◌, [], ◌∷◌, length, Ok, IfErr, IfOk, OnErr};
+ghost use Rattle.std.specs.List.{All};
 ghost use Rattle.std.specs.Result.{result_map_both};
 ghost use Rattle.upd_compile.specs.File.{compile_file_of};
 ghost use Rattle.upd_compile.specs.Listings.{card_listing, deck_listing, ident_listing, yank_listing};
 ghost use Rattle.upd_compile.specs.declared.mode.Mode.TheVariants.{Full};
-ghost use Rattle.upd_desk.specs.Holding.{Arrives, HoldsIn, Settles, Tells};
+ghost use Rattle.upd_desk.specs.Holding.{ArriveAll, Arrives, HoldsIn, Settles, Tells};
 ghost use Rattle.upd_desk.specs.Journal.{Came, Journal, world};
 ghost use Rattle.upd_desk.specs.Made.{work_of};
 ghost use Rattle.upd_rows.specs.Keeping.{Keeps, MoreFailures};
-ghost use Rattle.upd_text.specs.declared.fault.FaultKind.TheVariants.{Store};
+ghost use Rattle.upd_text.specs.Faults.{fault_at};
+ghost use Rattle.upd_text.specs.declared.fault.FaultKind.TheVariants.{NoMemory, Store};
 ghost use Rattle.upd_yank.specs.Affected.{altered};
 
 use crate::arrival::Arrival;
@@ -107,6 +109,30 @@ impl<S: RowStore> Desk<S> {
             }
             Err(fault) => Err(fault),
         }
+    }
+
+    /// The answers to arrivals one after the other: one that wants memory, or whose store fails, is lost, and the next is
+    /// taken. The list of answers is reserved before any arrival is looked at.
+    pub fn run_all(
+        &mut self,
+        alloc: Global,
+        list: &[Arrival<'_>],
+    ) -> Result<Vec<Result<Reply, Fault>>, Fault>
+        ensures arrives { IfOk result (λ answers. ArriveAll S.is_honest S.is_open S.image S.shows S.may_leave S.failures_of
+            list.now answers.items self.old.store self.new.store) }
+        ensures failed { IfOk result (λ answers. All (λ answer. IfErr answer (λ fault. fault.kind ≡ Store
+            → MoreFailures (S.failures_of self.old.store) (S.failures_of self.new.store))) answers.items) }
+        ensures none { OnErr result (self.new.store ≡ self.old.store) }
+        ensures err { IfErr result (λ fault. fault ≡ fault_at NoMemory 0) }
+    {
+        let mut answers = Vec::with_capacity(alloc, list.len())?;
+        for arrival in list {
+            let answer = self.arrive_one(alloc, arrival);
+            if answers.push(answer).is_err() {
+                unreachable!();
+            }
+        }
+        Ok(answers)
     }
 
     /// Settles a site's runs up to a number, and answers the site's mark afterwards: a run at or below it is refused
