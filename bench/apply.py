@@ -1,11 +1,10 @@
 #!/usr/bin/env python3
-"""Measures libraries at their limits: the processor time of tests of crates/upd_tests.
+"""Measures libraries at their limits: the processor time of tests of crates/upd_tests and crates/upd_desk_tests.
 
-    python3 bench/apply.py [UPD_TESTS] [--times N]
+    python3 bench/apply.py [--times N]
 
-UPD_TESTS is the executable of the tests, crates/upd_tests/out/upd_tests_tests where none is given (`rt test` in crates/upd_tests makes it). Each
-test is run N times (5 where none is said), in a process of its own, and the medians are printed. The exit status is 1 where the corrections
-are past their budget.
+`rt test` in those crates makes their executables, crates/NAME/out/NAME_tests. Each test is run N times (5 where none is said), in a process of its
+own, and the medians are printed. The exit status is 1 where a run is past its budget.
 """
 
 import argparse
@@ -15,40 +14,64 @@ import subprocess
 import sys
 from pathlib import Path
 
+HERE = Path(__file__).resolve().parent.parent
+
 TESTS = {
-    "holds_50000_cards": "50,000 cards in 25 runs",
-    "takes_1999_corrections_on_50000_cards": "the same, and a run of 1,999 one-card corrections on them",
-    "holds_200000_entries": "200,000 entries in 100 lines, refused once and accepted once",
-    "holds_100000_targets": "4,000 idents and 100,000 targets on 25 yank cards, refused once and accepted once",
-    "introduces_65536_idents": "65,536 idents, 4,096 at a time",
-    "follows_4000_common_decks_in_one_chain": "4,000 common decks in one chain, and the choice of a normal compile file",
+    ("upd_tests", "limits::holds_50000_cards"): "50,000 cards in 25 runs",
+    ("upd_tests", "limits::takes_1999_corrections_on_50000_cards"): "the same, and a run of 1,999 one-card corrections on them",
+    ("upd_tests", "limits::holds_200000_entries"): "200,000 entries in 100 lines, refused once and accepted once",
+    ("upd_tests", "limits::holds_100000_targets"): "4,000 idents and 100,000 targets on 25 yank cards, refused once and accepted once",
+    ("upd_tests", "limits::introduces_65536_idents"): "65,536 idents, 4,096 at a time",
+    ("upd_tests", "limits::follows_4000_common_decks_in_one_chain"): "4,000 common decks in one chain, and the choice of a normal compile file",
+    ("upd_desk_tests", "changes::holds_48000_cards"): "48,000 cards in 24 runs, with their row changes as text",
+    ("upd_desk_tests", "changes::takes_1998_texts_at_one_place_of_48000_cards"): "the same, and a run of 1,998 texts at one place",
+    ("upd_desk_tests", "changes::purges_40000_of_48000_cards"): "the same, and a purge of 40,000 cards",
+    ("upd_desk_tests", "settling::applies_20_deletions_of_one_card_to_48000"): "48,000 cards, and 20 runs that delete one card",
+    ("upd_desk_tests", "settling::settles_20_deletions_of_one_card_of_48000"): "the same, each settled",
+    ("upd_desk_tests", "settling::applies_4_runs_of_1900_deletions_to_48000_cards"): "48,000 cards, and 4 runs that delete 1,900 cards",
+    ("upd_desk_tests", "settling::settles_4_runs_of_1900_deletions_on_48000_cards"): "the same, each settled",
+    ("upd_desk_tests", "settling::has_900_yanks_in_a_row"): "900 sets, each of which yanks the one before it",
+    ("upd_desk_tests", "settling::takes_back_the_last_of_900_yanks_10_times"): "the same, and 10 runs that change the last one, each settled",
 }
-CORRECTIONS_BUDGET = 0.3  # seconds of processor time
+
+# A run or a settling alone is a test less the one without it, by how often it comes; seconds of processor time.
+CHANGES = "changes::holds_48000_cards"
+BUDGETS = [
+    ("1,999 corrections", "limits::takes_1999_corrections_on_50000_cards", "limits::holds_50000_cards", 1, 0.3),
+    ("1,998 texts at one place", "changes::takes_1998_texts_at_one_place_of_48000_cards", CHANGES, 1, 0.1),
+    ("a purge of 40,000 cards", "changes::purges_40000_of_48000_cards", CHANGES, 1, 0.3),
+    # 2 ms beside the copy of the cache
+    ("settling one card", "settling::settles_20_deletions_of_one_card_of_48000", "settling::applies_20_deletions_of_one_card_to_48000", 20, 0.004),
+    ("settling 1,900 cards", "settling::settles_4_runs_of_1900_deletions_on_48000_cards",
+     "settling::applies_4_runs_of_1900_deletions_to_48000_cards", 4, 0.03),
+    ("a run on 900 yanks in a row", "settling::takes_back_the_last_of_900_yanks_10_times", "settling::has_900_yanks_in_a_row", 10, 0.005),
+]
 
 
-def measured(program, test):
+def measured(crate, test):
     """Processor seconds of one run."""
-    child = subprocess.Popen([program, f"limits::{test}"], stdout=subprocess.DEVNULL)
+    program = HERE / f"crates/{crate}/out/{crate}_tests"
+    child = subprocess.Popen([program, test], stdout=subprocess.DEVNULL)
     _, status, usage = os.wait4(child.pid, 0)
     if status != 0:
-        sys.exit(f"{program} limits::{test}: status {status}")
+        sys.exit(f"{program} {test}: status {status}")
     return usage.ru_utime + usage.ru_stime
 
 
 def main():
-    here = Path(__file__).resolve().parent.parent
     parser = argparse.ArgumentParser(description=__doc__.splitlines()[0])
-    parser.add_argument("program", nargs="?", default=here / "crates/upd_tests/out/upd_tests_tests")
     parser.add_argument("--times", type=int, default=5)
     given = parser.parse_args()
     medians = {}
-    for test, what in TESTS.items():
-        runs = [measured(str(given.program), test) for _ in range(given.times)]
-        medians[test] = statistics.median(runs)
+    for (crate, test), what in TESTS.items():
+        medians[test] = statistics.median(measured(crate, test) for _ in range(given.times))
         print(f"{medians[test] * 1000:8.1f} ms  {what}")
-    corrections = medians["takes_1999_corrections_on_50000_cards"] - medians["holds_50000_cards"]
-    print(f"the corrections alone: {corrections * 1000:.1f} ms (budget {CORRECTIONS_BUDGET * 1000:.0f} ms)")
-    return 1 if corrections > CORRECTIONS_BUDGET else 0
+    late = False
+    for what, test, before, times, budget in BUDGETS:
+        alone = (medians[test] - medians[before]) / times
+        late = late or alone > budget
+        print(f"{what} alone: {alone * 1000:.1f} ms (budget {budget * 1000:.0f} ms)")
+    return 1 if late else 0
 
 
 if __name__ == "__main__":

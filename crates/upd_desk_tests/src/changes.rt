@@ -191,7 +191,7 @@ fn a_name_that_comes_again_is_gone_and_new(rt: HostRuntime) -> Result<(), Fail> 
 }
 
 /// Brings decks of 2,000 cards.
-fn with_decks(alloc: Global, decks: u32) -> Result<Library, Fail> {
+pub fn with_decks(alloc: Global, decks: u32) -> Result<Library, Fail> {
     let mut library = Library::new(alloc);
     for n in 0..decks {
         let mut text = format!(in alloc; "*DECK DECK{n}\n")?;

@@ -4,4 +4,12 @@
 #![tactic(auto)]
 
 #[cfg(test)]
+mod arrivals;
+#[cfg(test)]
 mod changes;
+#[cfg(test)]
+mod dice;
+#[cfg(test)]
+mod plain;
+#[cfg(test)]
+mod settling;
