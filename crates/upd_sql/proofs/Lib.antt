@@ -1,13 +1,13 @@
-mod MakingLemmas
-mod Texts
-mod Bare
-mod Typed
-mod Casts
-mod Conditions
-mod Effects
-mod Finds
-mod SchemaLemmas
-mod WholeLemmas
-mod Turns
-mod CommitLemmas
-mod MarkLemmas
+pub mod MakingLemmas
+pub mod Texts
+pub mod Bare
+pub mod Typed
+pub mod Casts
+pub mod Conditions
+pub mod Effects
+pub mod Finds
+pub mod SchemaLemmas
+pub mod WholeLemmas
+pub mod Turns
+pub mod CommitLemmas
+pub mod MarkLemmas

@@ -1,9 +1,11 @@
 -- The columns of a table as they are asked for.
-use Rattle.std.specs.Prelude.{ℕ, ◌+◌, true, List, [], ◌∷◌, codes}
+use Rattle.std.specs.Prelude.{ℕ, ◌+◌, true, List, [], ◌∷◌, codes, take}
 use Rattle.sqlite_schema.specs.declared.schema.Column.{Column}
 use Rattle.sqlite_schema.specs.declared.schema.Index.{Index}
+use Rattle.sqlite_schema.specs.declared.schema.Schema.{Schema}
 use Rattle.sqlite_value.specs.Keys.{plain}
 use Rattle.upd_tables.specs.Keyed.{needed}
+use Rattle.upd_sql.specs.Schema.{library_schema}
 use Rattle.upd_sql.specs.declared.schema.Wanted.{Wanted}
 
 -- the column that is wanted
@@ -27,3 +29,7 @@ key_indexes =
     ∷ key_index 14 (codes "sqlite_autoindex_counts_1") (1 ∷ 2 ∷ 3 ∷ [])
     ∷ key_index 16 (codes "sqlite_autoindex_settled_1") (1 ∷ [])
     ∷ []
+
+-- the first so many tables of the library with the indexes of their keys, and nothing else
+abbrev pub first_tables : ℕ → Schema
+first_tables n = record { tables = take n library_schema.tables; indexes = take n key_indexes; views = [] }

@@ -92,11 +92,8 @@ fn make<S: Alter>(tx: &mut Transaction<'_, S>, change: &Change) -> Result<(), Er
     }
 }
 
-/// Carries out changes in order.
-pub(crate) fn make_all<S: Alter>(
-    tx: &mut Transaction<'_, S>,
-    changes: &[Change],
-) -> Result<(), Error>
+/// Carries out changes in order, inside a transaction.
+pub fn make_all<S: Alter>(tx: &mut Transaction<'_, S>, changes: &[Change]) -> Result<(), Error>
     ensures same_reference { tx.new.conn.ghost_name ≡ tx.old.conn.ghost_name }
     ensures makes { Makes Stands (AllFit (map change_seen changes.now)) (done_all (map change_seen changes.now))
         (state S.Store tx.old.conn.now) (state S.Store tx.new.conn.now) result }

@@ -17,8 +17,10 @@ mod values;
 mod whole;
 mod writes;
 
+pub use changes::make_all;
 pub use commits::commit_changes;
 pub use kept::{kept_library, kept_mark, kept_run, kept_states};
 pub use make::make_library;
-pub use schema::{is_library_schema, is_no_schema};
+pub use schema::{has_first_tables, is_library_schema, is_no_schema};
 pub use settle::settle_site;
+pub use whole::library_in;

@@ -1,10 +1,10 @@
 //! Whether a schema is the library's: each table by its columns and its key, each index by its table.
 
-ghost use Rattle.std.specs.Prelude.{◌≡◌, [], ◌∷◌, map, slice_get, IsTrue, Some};
+ghost use Rattle.std.specs.Prelude.{◌≡◌, ◌≤◌, [], ◌∷◌, map, slice_get, take, IsTrue, Some};
 ghost use Rattle.upd_tables.specs.Keyed.{keyed, needed};
 ghost use Rattle.upd_sql.specs.Schema.{cards, counts, entries, idents, library_schema, meta, no_schema, runs};
 ghost use Rattle.upd_sql.specs.Schema.{settled, states, targets};
-ghost use Rattle.upd_sql.specs.Wanted.{column_of, key_index, key_indexes};
+ghost use Rattle.upd_sql.specs.Wanted.{column_of, first_tables, key_index, key_indexes};
 
 use sqlite_items::Items;
 use sqlite_schema::schema::{Column, Index, Kind, Schema, Table};
@@ -291,10 +291,12 @@ fn is_index_at(at: usize, index: &Index) -> bool
     }
 }
 
-fn are_tables(tables: &[Table]) -> bool
-    ensures { IsTrue result → tables.now ≡ library_schema.tables }
+/// The first so many tables.
+fn are_tables(tables: &[Table], count: usize) -> bool
+    requires { count ≤ 9 }
+    ensures { IsTrue result → tables.now ≡ take count library_schema.tables }
 {
-    if tables.len() != 9 {
+    if tables.len() != count {
         return false;
     }
     for at in 0..tables.len() {
@@ -305,10 +307,12 @@ fn are_tables(tables: &[Table]) -> bool
     true
 }
 
-fn are_indexes(indexes: &[Index]) -> bool
-    ensures { IsTrue result → indexes.now ≡ key_indexes }
+/// The indexes of the first so many tables.
+fn are_indexes(indexes: &[Index], count: usize) -> bool
+    requires { count ≤ 9 }
+    ensures { IsTrue result → indexes.now ≡ take count key_indexes }
 {
-    if indexes.len() != 9 {
+    if indexes.len() != count {
         return false;
     }
     for at in 0..indexes.len() {
@@ -319,17 +323,25 @@ fn are_indexes(indexes: &[Index]) -> bool
     true
 }
 
-/// The nine tables with the indexes of their keys, and nothing else.
-pub fn is_library_schema(schema: &Schema) -> bool
-    ensures { IsTrue result → schema.now ≡ library_schema }
+/// The first so many of the library's tables with the indexes of their keys, and nothing else.
+pub fn has_first_tables(schema: &Schema, count: usize) -> bool
+    requires { count ≤ 9 }
+    ensures { IsTrue result → schema.now ≡ first_tables count }
 {
     if !schema.views.is_empty() {
         return false;
     }
-    if !are_tables(schema.tables.as_slice()) {
+    if !are_tables(schema.tables.as_slice(), count) {
         return false;
     }
-    are_indexes(schema.indexes.as_slice())
+    are_indexes(schema.indexes.as_slice(), count)
+}
+
+/// The nine tables with the indexes of their keys, and nothing else.
+pub fn is_library_schema(schema: &Schema) -> bool
+    ensures { IsTrue result → schema.now ≡ library_schema }
+{
+    has_first_tables(schema, 9)
 }
 
 /// No table, index or view.

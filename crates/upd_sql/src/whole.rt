@@ -129,8 +129,8 @@ fn counts_in<S: Alter>(
     )
 }
 
-/// The rows of the four tables that a library is made of.
-pub(crate) fn library_in<S: Alter>(
+/// The rows of the four tables that a library is made of, inside a transaction.
+pub fn library_in<S: Alter>(
     tx: &mut Transaction<'_, S>,
     alloc: Global,
 ) -> Result<LibraryRows, Error>

@@ -15,14 +15,14 @@ pub(crate) fn no_memory() -> Fault
 }
 
 /// A failure of the store, at the version that was found.
-pub(crate) fn store_at(version: u32) -> Fault
+pub fn store_at(version: u32) -> Fault
     ensures { IsLost result }
 {
     FaultKind::Store.at_line(version)
 }
 
 /// Want of memory is told as such, any other error as a failure of the store.
-pub(crate) fn fault_of(error: Error) -> Fault
+pub fn fault_of(error: Error) -> Fault
     ensures { IsLost result }
 {
     match error {

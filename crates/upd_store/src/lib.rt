@@ -6,4 +6,6 @@ mod row_store;
 mod sql_store;
 mod version;
 
+pub use fault::{fault_of, store_at};
 pub use sql_store::SqlStore;
+pub use version::version_of;

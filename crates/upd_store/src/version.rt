@@ -19,7 +19,7 @@ fn version_in<S: Alter>(tx: &mut Transaction<'_, S>) -> Result<u32, Error>
 }
 
 /// The version that a file tells, 0 where it tells none; a file without such a table is an error. Nothing is written.
-pub(crate) fn version_of<S: Alter>(conn: &mut Connection<S>) -> Result<u32, Error>
+pub fn version_of<S: Alter>(conn: &mut Connection<S>) -> Result<u32, Error>
     requires { conn.old.in_transaction ≡ false }
     ensures outside { conn.new.in_transaction ≡ false }
     ensures was_open { HasCleanDisk (state S.Store conn.new) → IsTrue (state S.Store conn.new).is_open
