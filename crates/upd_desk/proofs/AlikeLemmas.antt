@@ -8,17 +8,12 @@ use Rattle.upd_change.specs.Rows.{Rows, Shows, ShowsStates}
 use Rattle.upd_compile.specs.declared.mode.Mode.{Mode}
 use Rattle.upd_rows.specs.Tables.{is_run, run_at, is_mark_of}
 use Rattle.upd_desk.specs.Arrivals.{ArrivalView, door}
-use Rattle.upd_desk.specs.Journal.{Event, Came, Carried, Settled, Heard, Journal, mark, has_key, with_arrival, distinct, made_by, world, answered, kept}
+use Rattle.upd_desk.specs.Journal.{Alike, Event, Came, Carried, Settled, Heard, Journal, mark, has_key, with_arrival, distinct, made_by, world, answered, kept}
 use Rattle.upd_desk.specs.Outcomes.{outcome}
 use Rattle.upd_desk.specs.Holding.{Holds, AddsRun}
 use Rattle.upd_desk.proofs.JournalLemmas.{answered_any, heard_new}
 use Rattle.upd_desk.proofs.KeptLemmas.{kept_with_run, not_below}
 use Rattle.upd_desk.proofs.RepeatLemmas.{missed}
-
--- Two journals that go on alike: the same distinct runs and the same marks.
-pub record Alike (a b : Journal) : Type 0 where
-  pub runs : distinct a ≡ distinct b
-  pub marks : (site : List ℕ) → mark a site ≡ mark b site
 
 -- an arrival that isn't heard changes nothing of how a journal goes on
 pub alike_unheard : (j : Journal) (a : ArrivalView) → distinct (Came a ∷ j) ≡ distinct j → Alike j (Came a ∷ j)
@@ -45,12 +40,15 @@ holds_alike a b rows same held = record {
 }
 
 -- a key that no run is kept under, above the mark, is none of those heard
+pub unkept_key : (j : Journal) (site : List ℕ) (n : ℕ) → nat_lt (mark j site) n ≡ true → kept j site n ≡ None
+    → list_any (has_key site n) (distinct j) ≡ false
+unkept_key j site n above none =
+    let found : kept j site n ≡ find (is_run site n) (answered (distinct j)) = rw (not_below (mark j site) n above) refl in
+    sym (answered_any site n (distinct j)) ∙ missed (is_run site n) (answered (distinct j)) (sym found ∙ none)
+
 pub unheard_key : (j : Journal) (rows : Rows) (site : List ℕ) (n : ℕ) → Holds j rows → nat_lt (mark j site) n ≡ true
     → run_at site n rows ≡ None → list_any (has_key site n) (distinct j) ≡ false
-unheard_key j rows site n held above none =
-    let found : kept j site n ≡ find (is_run site n) (answered (distinct j)) = rw (not_below (mark j site) n above) refl in
-    let nothing : find (is_run site n) (answered (distinct j)) ≡ None = sym found ∙ sym (held.runs site n) ∙ none in
-    sym (answered_any site n (distinct j)) ∙ missed (is_run site n) (answered (distinct j)) nothing
+unheard_key j rows site n held above none = unkept_key j site n above (sym (held.runs site n) ∙ none)
 
 -- tables that a new run was added to hold what is owed after its arrival
 pub holds_new : (j : Journal) (a : ArrivalView) (mode : Mode) (rows new : Rows) → Holds j rows → door a ≡ Ok mode

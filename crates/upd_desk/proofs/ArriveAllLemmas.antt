@@ -1,5 +1,5 @@
 -- Arrivals one after the other: one more at the end.
-use Rattle.std.proofs.Common.{◌≡◌, ℕ, ◌≤◌, List, [], ◌∷◌, ◌++◌, length, Result, Ok, Err, IfErr, refl, sym, subst, rules, arith}
+use Rattle.std.proofs.Common.{◌≡◌, ℕ, ◌≤◌, List, [], ◌∷◌, ◌++◌, length, Result, Ok, Err, IfErr, IfOk, OnErr, refl, sym, ◌∙◌, subst, rules, arith}
 use Rattle.std.specs.List.{All}
 use Rattle.std.proofs.lemmas.List.Elements.{All-push}
 use Rattle.upd_text.specs.declared.fault.Fault.{Fault}
@@ -10,7 +10,8 @@ use Rattle.upd_desk.specs.Arrivals.{ArrivalView}
 use Rattle.upd_desk.specs.Journal.{Event, Journal}
 use Rattle.upd_desk.specs.Outcomes.{ReplyView}
 use Rattle.upd_desk.specs.Holding.{AreAnswers, ArriveAll, Arrives, HoldsIn, IsAnswer, IsLeft}
-use Rattle.upd_desk.specs.Holding.{after, after_all, in_hand_after, in_hand_after_all}
+use Rattle.upd_desk.specs.Holding.{after, after_all, in_hand_after, in_hand_after_all, work_after, work_after_all}
+use Rattle.upd_desk.specs.Made.{work_of}
 use Rattle.upd_desk.proofs.StoreLemmas.{more_after, more_before}
 
 after_more : (j : Journal) (list : List ArrivalView) (results : List (Result ReplyView Fault)) (a : ArrivalView) (result : Result ReplyView Fault)
@@ -27,6 +28,15 @@ in_hand_more hand [] [] a result same = refl
 in_hand_more hand [] (r ∷ results) a result same = grind (arith, same)
 in_hand_more hand (b ∷ list) [] a result same = grind (arith, same)
 in_hand_more hand (b ∷ list) (r ∷ results) a result same = in_hand_more (in_hand_after b hand r) list results a result (omega (arith, same))
+
+work_more : (work : ℕ) (j : Journal) (list : List ArrivalView) (results : List (Result ReplyView Fault)) (a : ArrivalView)
+    (result : Result ReplyView Fault) → length list ≡ length results → work_after_all work j (list ++ a ∷ []) (results ++ result ∷ [])
+    ≡ work_after (work_after_all work j list results) (after_all j list results) a result
+work_more work j [] [] a result same = refl
+work_more work j [] (r ∷ results) a result same = grind (arith, same)
+work_more work j (b ∷ list) [] a result same = grind (arith, same)
+work_more work j (b ∷ list) (r ∷ results) a result same =
+    work_more (work_after work j b r) (after j b r) list results a result (omega (arith, same))
 
 answers_more : (j : Journal) (list : List ArrivalView) (results : List (Result ReplyView Fault)) (a : ArrivalView) (result : Result ReplyView Fault)
     → AreAnswers j list results → IsAnswer (after_all j list results) a result → AreAnswers j (list ++ a ∷ []) (results ++ result ∷ [])
@@ -73,6 +83,24 @@ module _ {S : Type 0} {Image : Type 0} (is_honest is_open : S → Type 0) (image
       left j hand {i} was = subst (λ k. IsLeft shows k (in_hand_after_all hand (list ++ a ∷ []) (results ++ result ∷ [])) i)
           (sym (after_more j list results a result same))
           (subst (λ h. IsLeft shows (after (after_all j list results) a result) h i) (sym (in_hand_more hand list results a result same)) was)
+
+  -- the cards that are looked at for one arrival more
+  pub work_one_more : (list : List ArrivalView) (results : List (Result ReplyView Fault)) (a : ArrivalView) (result : Result ReplyView Fault)
+      (old mid new : S) (work before later : ℕ) → length list ≡ length results
+      → ArriveAll is_honest is_open image shows may_leave failures list results old mid
+      → Arrives is_honest is_open image shows may_leave failures a result mid new
+      → (is_honest mid → (j : Journal) → (is_open old → HoldsIn shows j (image old)) → before ≡ work_after_all work j list results)
+      → (is_honest new → (j : Journal) → (is_open mid → HoldsIn shows j (image mid)) → IfOk result (λ reply. later ≡ work_of j a))
+      → OnErr result (later ≡ before)
+      → is_honest new → (j : Journal) → (is_open old → HoldsIn shows j (image old))
+      → later ≡ work_after_all work j (list ++ a ∷ []) (results ++ result ∷ [])
+  work_one_more list results a result old mid new work before later same all went earlier looks idle honest j held =
+      by result (looks honest (after_all j list results) (all.holds (went.honest honest) j held)) idle ∙ sym (work_more work j list results a result same)
+    where
+      by : (r : Result ReplyView Fault) → IfOk r (λ reply. later ≡ work_of (after_all j list results) a) → OnErr r (later ≡ before)
+          → later ≡ work_after (work_after_all work j list results) (after_all j list results) a r
+      by (Ok reply) looked none = looked
+      by (Err f) none stays = stays ∙ earlier (went.honest honest) j held
 
 -- a failure of the store was counted
 abbrev pub IsCounted : ℕ → ℕ → Result ReplyView Fault → Type 0

@@ -13,11 +13,11 @@ use Rattle.upd_rows.specs.Keeping.{IsLost, Keeps, MoreFailures, OfMemory, OfStor
 use Rattle.upd_rows.specs.Tables.{mark_at, run_at}
 use Rattle.upd_rows.proofs.StoreLemmas.{keeps_still}
 use Rattle.upd_desk.specs.Arrivals.{ArrivalView, door, mode_number}
-use Rattle.upd_desk.specs.Journal.{Event, Came, Journal, answer, distinct, mark, reply_to, world}
+use Rattle.upd_desk.specs.Journal.{Alike, Event, Came, Journal, answer, distinct, mark, reply_to, world}
 use Rattle.upd_desk.specs.Made.{IsMade}
 use Rattle.upd_desk.specs.Outcomes.{ReplyView, outcome}
 use Rattle.upd_desk.specs.Holding.{Arrives, Becomes, Guards, HoldsIn, IsLeft, TriesRun, is_lost}
-use Rattle.upd_desk.proofs.AlikeLemmas.{Alike, alike_more, alike_unheard, holds_alike, holds_new}
+use Rattle.upd_desk.proofs.AlikeLemmas.{alike_more, alike_unheard, holds_alike, holds_new}
 use Rattle.upd_desk.proofs.AnswerLemmas.{answer_again, answer_at_door, answer_new, answer_settled, door_keeps}
 use Rattle.upd_desk.proofs.RepeatLemmas.{refused_unheard}
 

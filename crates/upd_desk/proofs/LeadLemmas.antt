@@ -1,11 +1,10 @@
 -- The row changes of a run, and those of its settling behind them, lead tables to the library that it leaves.
-use Rattle.std.proofs.Common.{◌≡◌, ℕ, ◌+◌, ◌<◌, ◌≤◌, ◌^◌, nat_le, Bool, true, false, ◌&&◌, List, [], ◌∷◌, ◌++◌, length, map, sum_by, Ok, refl, ap, sym, ◌∙◌}
-use Rattle.std.proofs.Common.{subst, rules, arith}
+use Rattle.std.proofs.Common.{◌≡◌, ℕ, ◌+◌, ◌<◌, ◌≤◌, ◌^◌, nat_le, true, ◌&&◌, List, [], ◌∷◌, ◌++◌, length, map, sum_by, Ok, ap, sym}
+use Rattle.std.proofs.Common.{subst, arith}
 use Rattle.std.specs.List.{AllByRecursion}
 use Rattle.std.proofs.lemmas.Bool.Decides.{nat_tests}
 use Rattle.std.proofs.lemmas.List.{map-append}
 use Rattle.std.proofs.lemmas.List.Sums.{sum_by-cons}
-use Rattle.upd_text.specs.declared.card_ref.CardRef.{CardRef}
 use Rattle.upd_text.specs.declared.limits.TheConstants.{MAX_CARDS, MAX_ENTRIES, MAX_HELD, MAX_INTRODUCED, MAX_TARGETS}
 use Rattle.upd_core.specs.Library.{DeckView, LibraryView}
 use Rattle.upd_core.specs.Sound.{AreApart, IsSound, all_cards, key_of}

@@ -14,3 +14,4 @@ mod QueryLemmas
 mod LeadLemmas
 mod RefusedLemmas
 mod WorkLemmas
+mod LawLemmas

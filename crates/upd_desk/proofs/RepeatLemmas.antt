@@ -10,12 +10,13 @@ use Rattle.upd_core.specs.Library.{LibraryView}
 use Rattle.upd_change.specs.Rows.{RunView}
 use Rattle.upd_compile.specs.declared.mode.Mode.{Mode}
 use Rattle.upd_rows.specs.Tables.{is_run}
+use Rattle.upd_rows.proofs.TableLemmas.{is_same_bytes, same_key}
 use Rattle.upd_desk.specs.Arrivals.{ArrivalView, door, mode_number}
 use Rattle.upd_desk.specs.Journal.{Came, Carried, Settled, Heard, Journal, mark, has_key, with_arrival, distinct, outcome_of, made_by, world, run_of, answered}
 use Rattle.upd_desk.specs.Journal.{kept, reply_to, answer}
 use Rattle.upd_desk.specs.Outcomes.{ReplyView, outcome}
 use Rattle.upd_desk.proofs.JournalLemmas.{unheard_door, unheard_settled, unheard_known, heard_new, answered_any}
-use Rattle.upd_desk.proofs.KeptLemmas.{is_same_bytes, none_found, same_key, not_below}
+use Rattle.upd_desk.proofs.KeptLemmas.{none_found, not_below}
 
 pub missed : {A : Type 0} (test : A → Bool) (xs : List A) → find test xs ≡ None → list_any test xs ≡ false
 missed test [] is = refl
@@ -64,7 +65,7 @@ refused_unheard j a fault refused = by_door (door a) refl refused
 
 -- ---- marks never fall
 
-mark_rises : (between before : Journal) (site : List ℕ) → mark before site ≤ mark (between ++ before) site
+pub mark_rises : (between before : Journal) (site : List ℕ) → mark before site ≤ mark (between ++ before) site
 mark_rises [] before site = grind arith
 mark_rises (Came a ∷ es) before site = mark_rises es before site
 mark_rises (Carried a reply ∷ es) before site = mark_rises es before site
@@ -125,7 +126,7 @@ own_reply mode a l reply = rw (is_same_bytes a.bytes, same_number (mode_number m
     same_number n = grind (arith, nat_tests)
 
 -- what an arrival finds under its key once it was answered
-found_own : (before : Journal) (a : ArrivalView) (mode : Mode) → door a ≡ Ok mode → nat_lt (mark before a.site) a.number ≡ true
+pub found_own : (before : Journal) (a : ArrivalView) (mode : Mode) → door a ≡ Ok mode → nat_lt (mark before a.site) a.number ≡ true
     → list_any (has_key a.site a.number) (distinct before) ≡ false
     → find (is_run a.site a.number) (answered (distinct (Came a ∷ before)))
     ≡ Some (run_of (record { arrival = a; mode = mode; carried = None }) (outcome mode a (world before)).reply)

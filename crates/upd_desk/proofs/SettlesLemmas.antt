@@ -11,9 +11,8 @@ use Rattle.upd_rows.specs.Keeping.{IsLost, Keeps, Tries}
 use Rattle.upd_rows.specs.Tables.{mark_at, settled_to}
 use Rattle.upd_rows.proofs.TableLemmas.{max_right, same_bytes, shows_settled, states_settled}
 use Rattle.upd_desk.specs.Arrivals.{is_run_number, is_site, key_door}
-use Rattle.upd_desk.specs.Journal.{Event, Settled, Journal, mark, world}
+use Rattle.upd_desk.specs.Journal.{Alike, Event, Settled, Journal, mark, world}
 use Rattle.upd_desk.specs.Holding.{Guards, Holds, HoldsIn, IsLeft, Settles, is_lost, mark_after}
-use Rattle.upd_desk.proofs.AlikeLemmas.{Alike}
 use Rattle.upd_desk.proofs.ArrivesLemmas.{holds_in_alike, left_here, left_more, lost_kind}
 use Rattle.upd_desk.proofs.KeptLemmas.{kept_settled, mark_settled}
 

@@ -1,5 +1,5 @@
 -- All texts of a reply are plain: sites, words for modes, names of idents and compile files.
-use Rattle.std.proofs.Common.{◌≡◌, ℕ, ◌==◌, nat_le, length, Bool, true, false, ◌&&◌, ◌||◌, IsTrue, List, [], ◌∷◌, map, codes, Option, Some, None, Ok, refl}
+use Rattle.std.proofs.Common.{◌≡◌, ℕ, ◌==◌, nat_le, length, Bool, true, false, ◌&&◌, ◌||◌, IsTrue, List, [], ◌∷◌, map, codes, Some, Ok, refl}
 use Rattle.std.proofs.Common.{ap, sym, ◌∙◌, subst, arith}
 use Rattle.std.specs.List.{list_all, AllByRecursion}
 use Rattle.std.specs.Str.{bytes_eq}
@@ -19,7 +19,7 @@ use Rattle.upd_reply.specs.Texts.{AreShown, accepted_text, is_shown}
 use Rattle.upd_desk.specs.Arrivals.{ArrivalView, door, is_site, is_site_byte}
 use Rattle.upd_desk.specs.Made.{IsMade}
 use Rattle.upd_desk.specs.Outcomes.{Compiled, compiled}
-use Rattle.upd_desk.proofs.KeptLemmas.{same_bytes}
+use Rattle.upd_rows.proofs.TableLemmas.{same_bytes}
 use Rattle.upd_desk.proofs.MadeLemmas.{accepted, accepted_made, passed}
 
 pub site_shown : (site : List ℕ) → is_site site ≡ true → AreShown site

@@ -1,9 +1,11 @@
 -- Statuses and counts that were read from tables are those of the library that the tables show.
-use Rattle.std.proofs.Common.{◌≡◌, ℕ, ◌==◌, Bool, true, false, not, ◌&&◌, if◌then◌else◌, List, [], ◌∷◌, length, map, Option, Some, None, count_by}
-use Rattle.std.proofs.Common.{refl, ap, sym, ◌∙◌, rules, arith}
+use Rattle.std.proofs.Common.{◌≡◌, ℕ, ◌==◌, Bool, true, false, ◌&&◌, if◌then◌else◌, List, [], ◌∷◌, length, map, Option, Some, None, count_by}
+use Rattle.std.proofs.Common.{refl, ap, sym, ◌∙◌, arith}
+use Rattle.std.specs.Cmp.{booleans_Decides}
 use Rattle.std.specs.List.{filter}
+use Rattle.std.proofs.Math.Bool.{beq}
 use Rattle.std.proofs.lemmas.Bool.Decides.{nat_tests}
-use Rattle.std.proofs.lemmas.List.Sums.{length-filter, sum_by-cons}
+use Rattle.std.proofs.lemmas.List.Sums.{length-filter}
 use Rattle.upd_text.specs.declared.card_ref.CardRef.{CardRef}
 use Rattle.upd_core.specs.declared.states.States.{States}
 use Rattle.upd_core.specs.declared.target.Target.{Target}
@@ -12,7 +14,7 @@ use Rattle.upd_core.specs.Status.{status_of}
 use Rattle.upd_core.specs.TargetCounts.{live_count}
 use Rattle.upd_core.specs.Targets.{is_same}
 use Rattle.upd_core.proofs.CountedLemmas.{same_target, target_same}
-use Rattle.upd_change.specs.Rows.{CountRow, IsSame, Rows, ShowsStates, StateRow, count_row, same_ref, state_row}
+use Rattle.upd_change.specs.Rows.{IsSame, Rows, ShowsStates, count_row, same_ref, state_row}
 use Rattle.upd_change.proofs.CountLemmas.{count_filter}
 use Rattle.upd_change.proofs.GoneLemmas.{same_ref_is, same_ref_own}
 use Rattle.upd_rows.specs.Tables.{AreRead, count_pair, state_pair}
@@ -55,7 +57,8 @@ filter_made test f [] = refl
 filter_made {A} {B} test f (x ∷ xs) = go (test (f x)) (filter_made test f xs)
   where
     go : (b : Bool) → filter test (map f xs) ≡ map f (filter (λ x. test (f x)) xs)
-        → (if b then f x ∷ filter test (map f xs) else filter test (map f xs)) ≡ map f (if b then x ∷ filter (λ x. test (f x)) xs else filter (λ x. test (f x)) xs)
+        → (if b then f x ∷ filter test (map f xs) else filter test (map f xs))
+        ≡ map f (if b then x ∷ filter (λ x. test (f x)) xs else filter (λ x. test (f x)) xs)
     go true rest = ap (λ t. f x ∷ t) rest
     go false rest = rest
 
@@ -65,30 +68,16 @@ both : (a b : Bool) → (a && b) ≡ true → (a ≡ true) × (b ≡ true)
 both true b holds = (refl, holds)
 both false b holds = absurd (cc)
 
-abbrev same_bool : Bool → Bool → Bool
-same_bool true b = b
-same_bool false b = not b
-
-same_bool_is : (a b : Bool) → same_bool a b ≡ true → a ≡ b
-same_bool_is true true e = refl
-same_bool_is true false e = absurd (cc)
-same_bool_is false true e = absurd (cc)
-same_bool_is false false e = refl
-
-same_bool_own : (a : Bool) → same_bool a a ≡ true
-same_bool_own true = refl
-same_bool_own false = refl
-
 abbrev is_status : CardRef → Bool → CardRef × Bool → Bool
-is_status card active p = same_ref card p.0 && same_bool p.1 active
+is_status card active p = same_ref card p.0 && beq p.1 active
 
 own_status : (card : CardRef) (active : Bool) → is_status card active (card, active) ≡ true
-own_status card active = rw (same_ref_own card, same_bool_own active) refl
+own_status card active = rw (same_ref_own card, (booleans_Decides active active).1 refl) refl
 
 one_status : (card : CardRef) (active : Bool) (p : CardRef × Bool) → is_status card active p ≡ true → p ≡ (card, active)
 one_status card active p e =
-    let two = both (same_ref card p.0) (same_bool p.1 active) e in
-    pair_is p.0 card p.1 active (sym (same_ref_is card p.0 two.0)) (same_bool_is p.1 active two.1)
+    let two = both (same_ref card p.0) (beq p.1 active) e in
+    pair_is p.0 card p.1 active (sym (same_ref_is card p.0 two.0)) ((booleans_Decides p.1 active).0 two.1)
   where
     pair_is : (a b : CardRef) (x y : Bool) → a ≡ b → x ≡ y → (let p : CardRef × Bool = (a, x) in p) ≡ (b, y)
     pair_is a b x y e f = rw (e, f) refl

@@ -11,7 +11,7 @@ use Rattle.upd_compile.specs.declared.mode.Mode.{Mode}
 use Rattle.upd_rows.specs.Tables.{mark_at, run_at}
 use Rattle.upd_desk.specs.Arrivals.{ArrivalView, key_door}
 use Rattle.upd_desk.specs.Journal.{Event, Came, Settled, Journal, answer, kept, mark, run_of, world}
-use Rattle.upd_desk.specs.Made.{IsMade}
+use Rattle.upd_desk.specs.Made.{IsMade, work_of}
 use Rattle.upd_desk.specs.Outcomes.{ReplyView, outcome}
 
 -- Tables hold what is owed after a journal: the library with its statuses and counts, the kept replies, and the marks.
@@ -69,6 +69,17 @@ abbrev pub after_all : Journal → List ArrivalView → List (Result ReplyView F
 after_all journal [] results = journal
 after_all journal (a ∷ later) [] = journal
 after_all journal (a ∷ later) (result ∷ results) = after_all (after journal a result) later results
+
+-- how many cards the last arrival that was answered has looked at, where it was so many before
+abbrev pub work_after : ℕ → Journal → ArrivalView → Result ReplyView Fault → ℕ
+work_after work journal a (Ok reply) = work_of journal a
+work_after work journal a (Err fault) = work
+
+-- the same after arrivals one after the other
+abbrev pub work_after_all : ℕ → Journal → List ArrivalView → List (Result ReplyView Fault) → ℕ
+work_after_all work journal [] results = work
+work_after_all work journal (a ∷ later) [] = work
+work_after_all work journal (a ∷ later) (result ∷ results) = work_after_all (work_after work journal a result) (after journal a result) later results
 
 -- each has its answer, and it is the one that is owed after those before it
 abbrev pub AreAnswers : Journal → List ArrivalView → List (Result ReplyView Fault) → Type 0

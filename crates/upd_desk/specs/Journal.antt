@@ -1,5 +1,6 @@
 -- The journal of a desk, and what the desk owes after it: the library, the kept replies, the marks, and the answer to what comes next.
-use Rattle.std.specs.Prelude.{ℕ, ◌==◌, nat_lt, nat_le, max, Bool, false, not, ◌&&◌, if◌then◌else◌, List, [], ◌∷◌, Option, Some, None, Result, Ok, Err}
+use Rattle.std.specs.Prelude.{◌≡◌, ℕ, ◌==◌, nat_lt, nat_le, max, Bool, false, not, ◌&&◌, if◌then◌else◌, List, [], ◌∷◌, ◌++◌, Option, Some, None}
+use Rattle.std.specs.Prelude.{Result, Ok, Err}
 use Rattle.std.specs.Str.{bytes_eq}
 use Rattle.std.specs.List.{list_any, find}
 use Rattle.upd_text.specs.declared.fault.Fault.{Fault}
@@ -61,6 +62,27 @@ distinct (Came a ∷ before) = with_arrival before (distinct before) a None (doo
 distinct (Carried a reply ∷ before) = with_arrival before (distinct before) a (Some reply) (door a)
 distinct (Settled s n ∷ before) = distinct before
 
+-- ---- the distinct runs, once more: those whose key isn't heard earlier
+
+-- An arrival is heard where it passed the door in a mode and its number isn't settled.
+abbrev pub heard_one : Journal → ArrivalView → Option (List ℕ) → Result Mode Fault → List Heard
+heard_one before a carried (Ok mode) =
+    if nat_lt (mark before a.site) a.number then record { arrival = a; mode = mode; carried = carried } ∷ [] else []
+heard_one before a carried (Err fault) = []
+
+-- all arrivals of a journal that are heard, repeats too, the latest first
+abbrev pub heard : Journal → List Heard
+heard [] = []
+heard (Came a ∷ before) = heard_one before a None (door a) ++ heard before
+heard (Carried a reply ∷ before) = heard_one before a (Some reply) (door a) ++ heard before
+heard (Settled s n ∷ before) = heard before
+
+-- those whose key isn't heard earlier
+abbrev pub first_arrivals : List Heard → List Heard
+first_arrivals [] = []
+first_arrivals (h ∷ earlier) =
+    if list_any (has_key h.arrival.site h.arrival.number) earlier then first_arrivals earlier else h ∷ first_arrivals earlier
+
 -- ---- the library and the kept replies
 
 -- what a distinct run makes of the library: what its lines say, or nothing where it carries a refusal
@@ -116,3 +138,10 @@ answer journal a = do
   mode ← door a
   _ ← at_line 0 (refuse_if (nat_le a.number (mark journal a.site)) fault.Settled)
   reply_to mode a (world journal) (kept journal a.site a.number)
+
+-- ---- journals that go on alike
+
+-- Two journals are alike where they have the same distinct runs, in the same order, and the same marks.
+pub record Alike (a b : Journal) : Type 0 where
+  pub runs : distinct a ≡ distinct b
+  pub marks : (site : List ℕ) → mark a site ≡ mark b site

@@ -1,5 +1,5 @@
 -- Arrivals at a desk that begins with an empty library, and what they are answered.
-use Rattle.std.specs.Prelude.{ℕ, ◌-◌, Bool, true, false, List, [], ◌∷◌, ◌++◌, codes, length, replicate, Result, Ok, Err}
+use Rattle.std.specs.Prelude.{ℕ, ◌-◌, true, false, List, [], ◌∷◌, ◌++◌, codes, length, replicate, Result, Ok, Err}
 use Rattle.std.specs.List.{concat}
 use Rattle.upd_text.specs.declared.fault.Fault.{Fault}
 use Rattle.upd_text.specs.declared.fault.FaultKind.{FaultKind}

@@ -6,7 +6,7 @@ ghost use Rattle.std.specs.Result.{result_map_both};
 ghost use Rattle.upd_compile.specs.File.{compile_file_of};
 ghost use Rattle.upd_compile.specs.Listings.{card_listing, deck_listing, ident_listing, yank_listing};
 ghost use Rattle.upd_compile.specs.declared.mode.Mode.TheVariants.{Full};
-ghost use Rattle.upd_desk.specs.Holding.{ArriveAll, Arrives, HoldsIn, Settles, Tells};
+ghost use Rattle.upd_desk.specs.Holding.{ArriveAll, Arrives, HoldsIn, Settles, Tells, work_after_all};
 ghost use Rattle.upd_desk.specs.Journal.{Came, Journal, world};
 ghost use Rattle.upd_desk.specs.Made.{work_of};
 ghost use Rattle.upd_rows.specs.Keeping.{Keeps, MoreFailures};
@@ -111,18 +111,22 @@ impl<S: RowStore> Desk<S> {
         }
     }
 
-    /// The answers to arrivals one after the other: one that wants memory, or whose store fails, is lost, and the next is
-    /// taken. The list of answers is reserved before any arrival is looked at.
+    /// The answers to arrivals one after the other: one that wants memory, or whose store fails, is lost, and the
+    /// next is taken. The list of answers is reserved before any arrival is looked at.
     pub fn run_all(
         &mut self,
         alloc: Global,
         list: &[Arrival<'_>],
     ) -> Result<Vec<Result<Reply, Fault>>, Fault>
-        ensures arrives { IfOk result (λ answers. ArriveAll S.is_honest S.is_open S.image S.shows S.may_leave S.failures_of
-            list.now answers.items self.old.store self.new.store) }
+        ensures arrives { IfOk result (λ answers. ArriveAll S.is_honest S.is_open S.image S.shows S.may_leave
+            S.failures_of list.now answers.items self.old.store self.new.store) }
+        ensures work { S.is_honest self.new.store → (journal : Journal)
+            → (S.is_open self.old.store → HoldsIn S.shows journal (S.image self.old.store))
+            → IfOk result (λ answers. self.new.work ≡ work_after_all self.old.work journal list.now answers.items) }
         ensures failed { IfOk result (λ answers. All (λ answer. IfErr answer (λ fault. fault.kind ≡ Store
             → MoreFailures (S.failures_of self.old.store) (S.failures_of self.new.store))) answers.items) }
         ensures none { OnErr result (self.new.store ≡ self.old.store) }
+        ensures idle { OnErr result (self.new.work ≡ self.old.work) }
         ensures err { IfErr result (λ fault. fault ≡ fault_at NoMemory 0) }
     {
         let mut answers = Vec::with_capacity(alloc, list.len())?;
@@ -140,6 +144,7 @@ impl<S: RowStore> Desk<S> {
     pub fn settle_site(&mut self, alloc: Global, site: &str, number: u64) -> Result<u64, Fault>
         ensures settles { Settles S.is_honest S.is_open S.image S.shows S.may_leave S.failures_of
             site.now number result self.old.store self.new.store }
+        ensures idle { self.new.work ≡ self.old.work }
         ensures failed { IfErr result (λ fault. fault.kind ≡ Store
             → MoreFailures (S.failures_of self.old.store) (S.failures_of self.new.store)) }
     {
@@ -156,6 +161,7 @@ impl<S: RowStore> Desk<S> {
             self.old.store self.new.store }
         ensures same { Keeps S.is_honest S.is_open S.image S.shows S.may_leave S.failures_of
             self.old.store self.new.store }
+        ensures idle { self.new.work ≡ self.old.work }
         ensures failed { IfErr result (λ fault. fault.kind ≡ Store
             → MoreFailures (S.failures_of self.old.store) (S.failures_of self.new.store)) }
     {
@@ -176,6 +182,7 @@ impl<S: RowStore> Desk<S> {
             self.old.store self.new.store }
         ensures same { Keeps S.is_honest S.is_open S.image S.shows S.may_leave S.failures_of
             self.old.store self.new.store }
+        ensures idle { self.new.work ≡ self.old.work }
         ensures failed { IfErr result (λ fault. fault.kind ≡ Store
             → MoreFailures (S.failures_of self.old.store) (S.failures_of self.new.store)) }
     {
@@ -196,6 +203,7 @@ impl<S: RowStore> Desk<S> {
             self.old.store self.new.store }
         ensures same { Keeps S.is_honest S.is_open S.image S.shows S.may_leave S.failures_of
             self.old.store self.new.store }
+        ensures idle { self.new.work ≡ self.old.work }
         ensures failed { IfErr result (λ fault. fault.kind ≡ Store
             → MoreFailures (S.failures_of self.old.store) (S.failures_of self.new.store)) }
     {
@@ -216,6 +224,7 @@ impl<S: RowStore> Desk<S> {
             self.old.store self.new.store }
         ensures same { Keeps S.is_honest S.is_open S.image S.shows S.may_leave S.failures_of
             self.old.store self.new.store }
+        ensures idle { self.new.work ≡ self.old.work }
         ensures failed { IfErr result (λ fault. fault.kind ≡ Store
             → MoreFailures (S.failures_of self.old.store) (S.failures_of self.new.store)) }
     {
@@ -236,6 +245,7 @@ impl<S: RowStore> Desk<S> {
             self.old.store self.new.store }
         ensures same { Keeps S.is_honest S.is_open S.image S.shows S.may_leave S.failures_of
             self.old.store self.new.store }
+        ensures idle { self.new.work ≡ self.old.work }
         ensures failed { IfErr result (λ fault. fault.kind ≡ Store
             → MoreFailures (S.failures_of self.old.store) (S.failures_of self.new.store)) }
     {

@@ -1,9 +1,9 @@
 -- After each arrival the answers so far are what the arrivals so far are owed, and there is room for the rest.
-use Rattle.std.proofs.Common.{◌≡◌, ◌+◌, [], ◌∷◌, ◌++◌, take, length, sym, ap, ◌∙◌, rules, arith}
+use Rattle.std.proofs.Common.{◌≡◌, ◌+◌, [], ◌∷◌, ◌++◌, take, length, refl, sym, ap, ◌∙◌, rules, arith}
 use Rattle.std.proofs.lemmas.List.{length-take-le, length_push, take_more}
 use Rattle.std.proofs.lemmas.List.Elements.{All-nil}
 use Rattle.std.specs.Vec.{vec_len}
-use Rattle.upd_desk.proofs.ArriveAllLemmas.{counted_more, none_arrived, one_more}
+use Rattle.upd_desk.proofs.ArriveAllLemmas.{counted_more, none_arrived, one_more, work_one_more}
 use Rattle.upd_desk.proofs.desk.Desk.run_all.Goals as goal
 
 pub loop-arrival-init : goal.loop-arrival-init
@@ -14,6 +14,7 @@ loop-arrival-init g c =
       (let room = c.in_ok-answers.ensures.capacity in grind (arith, rules)),
       rw empty (none_arrived _ _ _ _ _ _ c.args.self.now.store),
       rw empty (All-nil _),
+      λ honest journal held. refl,
     )
 
 pub unreachable-requires : goal.unreachable-requires
@@ -45,4 +46,8 @@ loop-arrival-preserved g c =
           c.loop-arrival.self.store c.arrive_one-answer.new.self.store same all went),
       rw items (counted_more _ _ _ before c.arrive_one-answer.result all.counts went.counts c.loop-arrival.invariant.4
           c.arrive_one-answer.ensures.failed),
+      rw (more, items) (work_one_more _ _ _ _ _ _ (take i list) before c.arrival-item.result c.arrive_one-answer.result c.args.self.now.store
+          c.loop-arrival.self.store c.arrive_one-answer.new.self.store c.args.self.now.work c.loop-arrival.self.work
+          c.arrive_one-answer.new.self.work same all went c.loop-arrival.invariant.5 c.arrive_one-answer.ensures.work
+          c.arrive_one-answer.ensures.idle),
     )
