@@ -1,13 +1,13 @@
 //! A library that is changed by runs, each of which a store follows by one commit.
-use std::alloc::Global;
+use crate::tables::{Tables, same_tables};
+use std::alloc::{AllocError, Global};
 use std::process::Abort;
 use std::test::Fail;
 use upd_apply::apply;
 use upd_change::{Change, RunRow};
-use upd_core::ident::name_at;
-use upd_core::{Card, CardRef, Counted, Library, Target};
+use upd_core::{Counted, Library, States};
 use upd_deck::read_run;
-use upd_rows::RowStore;
+use upd_rows::{ListStore, RowStore};
 use upd_text::Fault;
 use upd_yank::Cache;
 
@@ -55,74 +55,31 @@ impl Follower {
         }
     }
 
-    /// What the store shows is the library with its statuses and counts.
+    /// What the store loads is the library with its statuses and counts.
     pub fn is_followed<S: RowStore>(&self, rt: &impl Abort, store: &mut S) -> Result<(), Fail> {
         let alloc = self.alloc;
         let found = store.load(alloc)?;
         let found = format!(in alloc; "{found:?}")?;
         let wanted = format!(in alloc; "{:?}", self.library)?;
         assert_eq!(rt; found.as_str(), wanted.as_str());
-        let states = store.load_states(alloc)?;
-        let mut found = states.states;
-        found.sort()?;
-        let mut wanted = self.statuses()?;
-        wanted.sort()?;
-        let found = format!(in alloc; "{found:?}")?;
-        let wanted = format!(in alloc; "{wanted:?}")?;
-        assert_eq!(rt; found.as_str(), wanted.as_str());
-        let mut found = states.counts;
-        found.sort()?;
-        let mut wanted = self.counts()?;
-        wanted.sort()?;
-        let found = format!(in alloc; "{found:?}")?;
-        let wanted = format!(in alloc; "{wanted:?}")?;
-        assert_eq!(rt; found.as_str(), wanted.as_str());
+        let tables = Tables::of(alloc, &self.library)?;
+        let States { states, counts } = store.load_states(alloc)?;
+        assert_eq!(rt; sorted(states)?, sorted(tables.statuses(alloc)?)?);
+        assert_eq!(rt; sorted(counts)?, sorted(tables.counted(alloc)?)?);
         Ok(())
     }
 
-    /// Each card with its status, as the library tells it.
-    fn statuses(&self) -> Result<Vec<(CardRef, bool)>, Fail> {
-        let mut all = Vec::new(self.alloc);
-        self.add_statuses(&mut all, self.library.yanks())?;
-        for deck in self.library.decks() {
-            self.add_statuses(&mut all, &deck.cards)?;
-        }
-        Ok(all)
-    }
-
-    fn add_statuses(&self, all: &mut Vec<(CardRef, bool)>, cards: &[Card]) -> Result<(), Fail> {
-        let built = Cache::build(self.alloc, &self.library)?;
-        for card in cards {
-            let card = CardRef {
-                name: name_at(self.library.idents(), card.ident).ok_or("no name")?,
-                number: card.number,
-            };
-            let active = built.active(card).ok_or("no status")?;
-            all.push((card, active))?;
-        }
-        Ok(())
-    }
-
-    /// Each target that is counted, with its count, as a cache tells it that is built anew.
-    fn counts(&self) -> Result<Vec<(Target, u32)>, Fail> {
-        let built = Cache::build(self.alloc, &self.library)?;
-        let mut all = Vec::new(self.alloc);
-        for card in self.library.yanks() {
-            add_counts(&mut all, &built, &card.targets)?;
-        }
-        Ok(all)
+    /// The tables of the store are those of the library with its statuses and counts, row for row.
+    pub fn has_tables(&self, rt: &impl Abort, store: &ListStore) -> Result<(), Fail> {
+        same_tables(rt, &self.library, store)
     }
 }
 
-/// Those of these targets that are counted and aren't there yet.
-fn add_counts(all: &mut Vec<(Target, u32)>, built: &Cache, targets: &[Target]) -> Result<(), Fail> {
-    for target in targets {
-        let pair = (*target, built.count(*target));
-        if pair.1 > 0 && !all.contains(&pair) {
-            all.push(pair)?;
-        }
-    }
-    Ok(())
+/// The same elements in order.
+fn sorted<T: Ord + Drop>(elements: Vec<T>) -> Result<Vec<T>, AllocError> {
+    let mut elements = elements;
+    elements.sort()?;
+    Ok(elements)
 }
 
 /// The row of a run of site SITE.

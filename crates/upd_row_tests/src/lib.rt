@@ -10,3 +10,5 @@ mod commits;
 mod follower;
 #[cfg(test)]
 mod random;
+#[cfg(test)]
+mod tables;

@@ -3,7 +3,7 @@ use crate::follower::Follower;
 use std::alloc::Global;
 use std::process::Abort;
 use std::test::Fail;
-use upd_rows::{ListStore, RowStore};
+use upd_rows::ListStore;
 
 /// Numbers that look random, the same each time.
 #[derive(Drop)]
@@ -42,26 +42,23 @@ fn random_run(alloc: Global, dice: &mut Dice, number: u32) -> Result<String, Fai
     Ok(text)
 }
 
-/// A list of runs: how many of them were accepted.
-fn random_runs<S: RowStore>(
-    rt: &impl Abort,
-    alloc: Global,
-    dice: &mut Dice,
-    store: &mut S,
-) -> Result<u32, Fail> {
+/// A list of runs, followed by a store of its own: how many of them were accepted.
+fn random_runs(rt: &impl Abort, alloc: Global, dice: &mut Dice) -> Result<u32, Fail> {
+    let mut store = ListStore::new(alloc);
     let mut follower = Follower::new(alloc)?;
     assert!(rt;
         follower.run(
-            store,
+            &mut store,
             "*DECK P0\nONE\nTWO\n*DECK P1\nONE\n*COMDECK P2\nONE\n"
         )?
     );
     let mut accepted: u32 = 1;
     for _ in 0..16 {
         let text = random_run(alloc, dice, accepted.saturating_add(1))?;
-        if follower.run(store, text.as_str())? {
+        if follower.run(&mut store, text.as_str())? {
             accepted = accepted.saturating_add(1);
-            follower.is_followed(rt, store)?;
+            follower.has_tables(rt, &store)?;
+            follower.is_followed(rt, &mut store)?;
         }
     }
     Ok(accepted)
@@ -72,9 +69,7 @@ fn lists_follow_150_random_lists_of_runs(rt: HostRuntime) -> Result<(), Fail> {
     let mut dice = Dice(1972);
     let mut accepted: u32 = 0;
     for _ in 0..150 {
-        let mut store = ListStore::new(rt.alloc());
-        let more = random_runs(&rt, rt.alloc(), &mut dice, &mut store)?;
-        accepted = accepted.saturating_add(more);
+        accepted = accepted.saturating_add(random_runs(&rt, rt.alloc(), &mut dice)?);
     }
     assert!(&rt; accepted > 800, "{accepted}");
     Ok(())
