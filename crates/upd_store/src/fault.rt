@@ -1,5 +1,5 @@
 //! Errors of SQLite as faults.
-ghost use Rattle.std.specs.Prelude.{◌≡◌, ◌≤◌};
+ghost use Rattle.std.specs.Prelude.{◌≡◌, ◌≤◌, MatchResult};
 ghost use Rattle.upd_text.specs.declared.fault.FaultKind.TheVariants.{NoMemory, Store};
 ghost use Rattle.upd_rows.specs.Keeping.{IsLost, MoreFailures};
 
@@ -10,20 +10,23 @@ use upd_text::{Fault, FaultKind};
 pub(crate) fn no_memory() -> Fault
     ensures lost { IsLost result }
     ensures kind { result.kind ≡ NoMemory }
+    ensures at { result.at ≡ 0 }
 {
     FaultKind::NoMemory.without_line()
 }
 
 /// A failure of the store, at the version that was found.
 pub fn store_at(version: u32) -> Fault
-    ensures { IsLost result }
+    ensures lost { IsLost result }
+    ensures at { result.at ≡ version }
 {
     FaultKind::Store.at_line(version)
 }
 
 /// Want of memory is told as such, any other error as a failure of the store.
 pub fn fault_of(error: Error) -> Fault
-    ensures { IsLost result }
+    ensures lost { IsLost result }
+    ensures at { result.at ≡ 0 }
 {
     match error {
         Error::SqliteFailure(ErrorCode::OutOfMemory) => no_memory(),
@@ -33,7 +36,8 @@ pub fn fault_of(error: Error) -> Fault
 
 /// The fault of a file of another schema, by the version that it tells.
 pub(crate) fn fault_at(found: Result<u32, Error>) -> Fault
-    ensures { IsLost result }
+    ensures lost { IsLost result }
+    ensures at { MatchResult found (λ version. result.at ≡ version) (λ _. result.at ≡ 0) }
 {
     match found {
         Ok(version) => store_at(version),

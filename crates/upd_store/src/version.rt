@@ -1,21 +1,34 @@
 //! The version that a file tells.
-ghost use Rattle.std.specs.Prelude.{◌≡◌, false, IsTrue};
+ghost use Rattle.std.specs.Prelude.{◌≡◌, ◌∷◌, [], ℕ, false, IfOk, IsTrue};
 ghost use Rattle.sqlite.specs.Held.{state};
 ghost use Rattle.sqlite.specs.State.{HasCleanDisk, Survives};
 ghost use Rattle.upd_tables.specs.Steps.{Steps};
+ghost use Rattle.upd_sql.specs.Commits.{WasOpen};
+ghost use Rattle.upd_sql.specs.Encoded.{num};
+ghost use Rattle.upd_store.specs.Version.{TellsVersion};
 
-use sqlite::{Alter, Connection, Error, Transaction};
+use sqlite::{Alter, Connection, Error, Row, Transaction};
 use upd_tables::ask;
 
-fn version_in<S: Alter>(tx: &mut Transaction<'_, S>) -> Result<u32, Error>
-    ensures same_reference { tx.new.conn.ghost_name ≡ tx.old.conn.ghost_name }
-    ensures steps { Steps (state S.Store tx.old.conn.now) (state S.Store tx.new.conn.now) result }
+/// The number that the first row begins with, 0 where there is no row.
+fn first_number(rows: &[Row]) -> Result<u32, Error>
+    ensures { IfOk result (λ n. (v : ℕ) → rows.now ≡ (num v ∷ []) ∷ [] → n ≡ v) }
 {
-    let rows = ask(tx, "SELECT v FROM meta WHERE k = 'version'", &[])?;
     match rows.first() {
         Some(row) => row.get(0),
         None => Ok(0),
     }
+}
+
+fn version_in<S: Alter>(tx: &mut Transaction<'_, S>) -> Result<u32, Error>
+    ensures same_reference { tx.new.conn.ghost_name ≡ tx.old.conn.ghost_name }
+    ensures steps { Steps (state S.Store tx.old.conn.now) (state S.Store tx.new.conn.now) result }
+    ensures was_open { WasOpen (state S.Store tx.old.conn.now) (state S.Store tx.new.conn.now) result }
+    ensures told { HasCleanDisk (state S.Store tx.new.conn.now)
+        → IfOk result (λ n. (v : ℕ) → TellsVersion v (state S.Store tx.old.conn.now).now → n ≡ v) }
+{
+    let rows = ask(tx, "SELECT v FROM meta WHERE k = 'version'", &[])?;
+    first_number(&rows)
 }
 
 /// The version that a file tells, 0 where it tells none; a file without such a table is an error. Nothing is written.
@@ -27,7 +40,10 @@ pub fn version_of<S: Alter>(conn: &mut Connection<S>) -> Result<u32, Error>
     ensures same { HasCleanDisk (state S.Store conn.new) → IsTrue (state S.Store conn.new).is_open
         → (state S.Store conn.new).committed ≡ (state S.Store conn.old).committed }
     ensures survives { Survives (state S.Store conn.old) (state S.Store conn.new) (λ _. ⊥) }
+    ensures told { HasCleanDisk (state S.Store conn.new) → IfOk result
+        (λ n. (v : ℕ) → TellsVersion v (state S.Store conn.old).committed → n ≡ v) }
 {
+    let _outside = conn.is_autocommit();
     let mut tx = conn.transaction();
     let version = version_in(&mut tx)?;
     tx.rollback();

@@ -3,5 +3,5 @@ use Rattle.upd_text.specs.declared.fault.Fault.{Fault}
 use Rattle.upd_rows.specs.Keeping.{OfStore}
 use Rattle.upd_store.proofs.fault.store_at.Goals as goal
 
-pub returns : goal.returns
-returns c = OfStore _ (ap (λ (f : Fault). f.kind) c.at_line.ensures)
+pub returns-clause-lost : goal.returns-clause-lost
+returns-clause-lost c = OfStore _ (ap (λ (f : Fault). f.kind) c.at_line.ensures)

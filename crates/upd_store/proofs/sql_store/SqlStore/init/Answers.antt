@@ -1,0 +1,17 @@
+use Rattle.std.proofs.Common.{◌≡◌, ◌⊎◌, inl, inr, ◌∙◌, ℕ, Result, Ok, Err, IfOk}
+use Rattle.std.specs.Prelude.{MatchResult}
+use Rattle.sqlite.specs.declared.error.Error.{Error}
+use Rattle.sqlite.specs.Held.{state}
+use Rattle.upd_store.specs.Version.{TellsVersion}
+use Rattle.upd_store.proofs.sql_store.SqlStore.init.Goals as goal
+
+named : (Tells : ℕ → Type 0) (found : Result ℕ Error) (at : ℕ) → IfOk found (λ n. (v : ℕ) → Tells v → n ≡ v)
+    → MatchResult found (λ n. at ≡ n) (λ _. at ≡ 0)
+    → (v : ℕ) → Tells v → (at ≡ v) ⊎ (at ≡ 0)
+named Tells (Ok n) at told is v h = inl (is ∙ told v h)
+named Tells (Err e) at told is v h = inr is
+
+pub returns-then-not-is_no_schema-clause-version : goal.returns-then-not-is_no_schema-clause-version
+returns-then-not-is_no_schema-clause-version g c clean =
+    named (λ v. TellsVersion v (state g.S.Store c.args.conn).committed) c.version_of-found.result c.fault_at.result.at (c.version_of-found.ensures.told clean)
+    c.fault_at.ensures.at

@@ -1,0 +1,31 @@
+use Rattle.std.proofs.Common.{◌≡◌, ℕ, List, [], ◌∷◌, Ok, Err, IfOk, IsTrue, OnOk, Result}
+use Rattle.sqlite_value.specs.Order.{Row}
+use Rattle.sqlite.specs.declared.error.Error.{Error}
+use Rattle.sqlite.specs.Held.{state}
+use Rattle.sqlite.specs.State.{State, Shown}
+use Rattle.upd_tables.proofs.Answers.{shown_was_open}
+use Rattle.upd_sql.specs.Encoded.{num}
+use Rattle.upd_store.specs.Version.{TellsVersion}
+use Rattle.upd_store.proofs.VersionLemmas.{version_shown, version_text}
+use Rattle.upd_store.proofs.version.version_in.Goals as goal
+
+told : (old new : State) (rows : List Row) (r : Result ℕ Error) → IfOk r (λ n. (v : ℕ) → rows ≡ (num v ∷ []) ∷ [] → n ≡ v)
+    → Shown version_text [] old new rows
+    → IfOk r (λ n. (v : ℕ) → TellsVersion v old.now → n ≡ v)
+told old new rows (Ok n) says shown = λ v h. says v (version_shown v old new rows h shown)
+told old new rows (Err e) says shown = tt
+
+was_open : (old new : State) (rows : List Row) (r : Result ℕ Error) → Shown version_text [] old new rows
+    → OnOk r (IsTrue old.in_transaction → IsTrue old.is_open)
+was_open old new rows (Ok n) shown = λ inside. shown_was_open version_text [] old new rows shown
+was_open old new rows (Err e) shown = tt
+
+pub returns-clause-was_open : goal.returns-clause-was_open
+returns-clause-was_open g c clean =
+    was_open (state g.S.Store c.args.tx.now.conn.now) (state g.S.Store c.ask.new.tx.conn.now) c.in_ok-rows.rows.items c.first_number.result
+    (c.in_ok-rows.ensures.shown clean)
+
+pub returns-clause-told : goal.returns-clause-told
+returns-clause-told g c clean =
+    told (state g.S.Store c.args.tx.now.conn.now) (state g.S.Store c.ask.new.tx.conn.now) c.in_ok-rows.rows.items c.first_number.result
+    (rw c.deref.ensures.value at c.first_number.ensures) (c.in_ok-rows.ensures.shown clean)
