@@ -1,7 +1,8 @@
 -- Counts in place of the targets of live cards, and cards that nothing that flipped reaches.
-use Rattle.std.proofs.Common.{◌≡◌, ℕ, ◌+◌, ◌<◌, Bool, true, false, not, ◌&&◌, ◌||◌, if◌then◌else◌, List, [], ◌∷◌, inl, inr, refl, ap, sym, ◌∙◌, arith}
-use Rattle.std.specs.Prelude.{◌==◌, ◌⊎◌}
+use Rattle.std.proofs.Common.{◌≡◌, ℕ, ◌+◌, ◌<◌, Bool, true, false, not, ◌&&◌, ◌||◌, if◌then◌else◌, List, [], ◌∷◌, refl, ap, sym, ◌∙◌, arith}
+use Rattle.std.specs.Prelude.{◌==◌}
 use Rattle.std.specs.List.{list_any, filter, AllByRecursion}
+use Rattle.std.proofs.lemmas.Bool.{or_parts}
 use Rattle.std.proofs.lemmas.Bool.Decides.{nat_tests}
 use Rattle.std.proofs.lemmas.List.Folds.{list_any-append}
 use Rattle.std.proofs.lemmas.List.Sums.{sum_by-cons}
@@ -18,13 +19,9 @@ use Rattle.upd_yank.specs.Cascade.{is_taken_by, is_active_by}
 
 -- ---- truths and numbers
 
-pub or_none : (a b : Bool) → (a || b) ≡ false → (a ≡ false) × (b ≡ false)
-or_none true b e = absurd (cc)
-or_none false b e = (refl, e)
-
 pub none_any : {A : Type 0} (test : A → Bool) (xs : List A) → list_any test xs ≡ false → AllByRecursion (λ x. test x ≡ false) xs
 none_any test [] e = tt
-none_any test (x ∷ xs) e = let p = or_none (test x) (list_any test xs) e in (p.0, none_any test xs p.1)
+none_any test (x ∷ xs) e = let p = or_parts (test x) (list_any test xs) e in (p.0, none_any test xs p.1)
 
 same_truths : (a b : Bool) → differs a b ≡ false → a ≡ b
 same_truths true true e = refl
@@ -94,12 +91,12 @@ no_flip before now t e = same_truths (before t == 0) (now t == 0) e
 
 same_taken : (before now : Target → ℕ) (d : ℕ) (e : Entry) → is_retaken before now d e ≡ false → is_taken_by before d e.ident ≡ is_taken_by now d e.ident
 same_taken before now d e none =
-    let p = or_none (is_flipped before now (Set e.ident)) (is_flipped before now (SetIn e.ident d)) none in
+    let p = or_parts (is_flipped before now (Set e.ident)) (is_flipped before now (SetIn e.ident d)) none in
     λ i. not (no_flip before now (Set e.ident) p.0 i) || not (no_flip before now (SetIn e.ident d) p.1 i)
 
 pub same_active : (before now : Target → ℕ) (d : ℕ) (c : CardView) → is_reached before now d c ≡ false → is_active_by before d c ≡ is_active_by now d c
 same_active before now d c none =
-    let p = or_none (list_any (is_retaken before now d) c.history) (is_flipped before now (Deck d)) none in
+    let p = or_parts (list_any (is_retaken before now d) c.history) (is_flipped before now (Deck d)) none in
     let stays = same_stays (is_taken_by before d) (is_taken_by now d) c.history (entries c.history (none_any (is_retaken before now d) c.history p.0)) in
     λ i. stays i && no_flip before now (Deck d) p.1 i
   where
@@ -107,17 +104,3 @@ same_active before now d c none =
         AllByRecursion (λ e. is_taken_by before d e.ident ≡ is_taken_by now d e.ident) es
     entries [] all = tt
     entries (e ∷ es) all = (same_taken before now d e all.0, entries es all.1)
-
--- ---- a card is reached exactly where what flipped covers it
-
-or_left : (a b : Bool) → a ≡ true → (a || b) ≡ true
-or_left true b e = refl
-or_left false b e = absurd (cc)
-
-or_right : (a b : Bool) → b ≡ true → (a || b) ≡ true
-or_right true b e = refl
-or_right false b e = e
-
-pub or_either : (a b : Bool) → (a || b) ≡ true → (a ≡ true) ⊎ (b ≡ true)
-or_either true b e = inl refl
-or_either false b e = inr e

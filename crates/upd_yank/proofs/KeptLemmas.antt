@@ -3,6 +3,7 @@ use Rattle.std.proofs.Common.{◌≡◌, ℕ, zero, suc, ◌-◌, ◌<◌, Bool,
 use Rattle.std.proofs.Common.{arith}
 use Rattle.std.specs.Prelude.{◌==◌, ◌⊎◌}
 use Rattle.std.specs.List.{list_any, filter, flat_map, AllByRecursion, Contains}
+use Rattle.std.proofs.lemmas.Bool.{or_parts}
 use Rattle.std.proofs.lemmas.Bool.Decides.{nat_tests, Decides-eqb}
 use Rattle.std.proofs.lemmas.List.Folds.{list_any-append}
 use Rattle.std.proofs.lemmas.Option.{same_Some}
@@ -19,7 +20,7 @@ use Rattle.upd_core.specs.Entries.{same_entry}
 use Rattle.upd_apply.specs.Applying.{same_history, stood_in, touched}
 use Rattle.upd_change.specs.Rows.{same_ref}
 use Rattle.upd_yank.proofs.FindLemmas.{any_at, cards_found}
-use Rattle.upd_yank.proofs.FlipLemmas.{or_none, status_is}
+use Rattle.upd_yank.proofs.FlipLemmas.{status_is}
 use Rattle.upd_yank.proofs.RefLemmas.{ref_same}
 use Rattle.upd_yank.specs.Affected.{is_touched}
 use Rattle.upd_yank.specs.Cascade.{is_active_by}
@@ -30,7 +31,7 @@ none_flat : {A B : Type 0} (test : B → Bool) (f : A → List B) (xs : List A) 
     AllByRecursion (λ x. list_any test (f x) ≡ false) xs
 none_flat test f [] e = tt
 none_flat test f (x ∷ xs) e =
-    let p = or_none (list_any test (f x)) (list_any test (flat_map f xs)) (sym (list_any-append test (f x) (flat_map f xs)) ∙ e) in
+    let p = or_parts (list_any test (f x)) (list_any test (flat_map f xs)) (sym (list_any-append test (f x) (flat_map f xs)) ∙ e) in
     (p.0, none_flat test f xs p.1)
 
 none_listed : {A B : Type 0} (test : B → Bool) (f : A → B) (p : A → Bool) (xs : List A) → list_any test (map f (filter p xs)) ≡ false →
@@ -40,7 +41,7 @@ none_listed test f p (x ∷ xs) e = go (p x) refl (none_listed test f p xs)
   where
     go : (b : Bool) → p x ≡ b → (list_any test (map f (filter p xs)) ≡ false → AllByRecursion (λ x. p x ≡ true → test (f x) ≡ false) xs) →
         (p x ≡ true → test (f x) ≡ false) × AllByRecursion (λ x. p x ≡ true → test (f x) ≡ false) xs
-    go true g later = let both = or_none (test (f x)) (list_any test (map f (filter p xs))) (rw g at e) in ((λ _. both.0), later both.1)
+    go true g later = let both = or_parts (test (f x)) (list_any test (map f (filter p xs))) (rw g at e) in ((λ _. both.0), later both.1)
     go false g later = ((λ h. absurd (let q = sym g ∙ h in cc)), later (rw g at e))
 
 not_false : (b : Bool) → (not b ≡ true → true ≡ false) → b ≡ true

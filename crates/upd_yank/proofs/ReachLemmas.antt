@@ -1,29 +1,14 @@
 -- A card is reached exactly where a target that flipped covers it.
-use Rattle.std.proofs.Common.{◌≡◌, ℕ, Bool, true, false, ◌&&◌, ◌||◌, List, [], ◌∷◌, inl, inr, refl, sym, subst}
+use Rattle.std.proofs.Common.{◌≡◌, ℕ, Bool, true, false, ◌||◌, List, [], ◌∷◌, inl, inr, refl, sym, subst}
 use Rattle.std.specs.Prelude.{◌==◌, ◌⊎◌}
 use Rattle.std.specs.List.{list_any}
+use Rattle.std.proofs.lemmas.Bool.{and_parts, or_cases, or_left, or_right}
 use Rattle.std.proofs.lemmas.Bool.Decides.{Decides-eqb}
 use Rattle.upd_core.specs.declared.card.Entry.{Entry}
 use Rattle.upd_core.specs.declared.target.Target.{Target}
 use Rattle.upd_core.specs.declared.target.Target.TheVariants.{Set, SetIn, Deck}
 use Rattle.upd_core.specs.Library.{CardView}
 use Rattle.upd_core.specs.Reach.{covers, is_flipped, is_reached, is_retaken}
-
-or_left : (a b : Bool) → a ≡ true → (a || b) ≡ true
-or_left true b e = refl
-or_left false b e = absurd (cc)
-
-or_right : (a b : Bool) → b ≡ true → (a || b) ≡ true
-or_right true b e = refl
-or_right false b e = e
-
-either : (a b : Bool) → (a || b) ≡ true → (a ≡ true) ⊎ (b ≡ true)
-either true b e = inl refl
-either false b e = inr e
-
-both : (a b : Bool) → (a && b) ≡ true → (a ≡ true) × (b ≡ true)
-both true b e = (refl, e)
-both false b e = absurd (cc)
 
 -- an entry of an ident is retaken where the ident is, by either of two targets
 retaken : (before now : Target → ℕ) (d z : ℕ) (es : List Entry) → (is_flipped before now (Set z) || is_flipped before now (SetIn z d)) ≡ true →
@@ -45,7 +30,7 @@ reached_by before now d c (Set z) flipped covered =
     or_left (list_any (is_retaken before now d) c.history) (is_flipped before now (Deck d))
     (retaken before now d z c.history (or_left (is_flipped before now (Set z)) (is_flipped before now (SetIn z d)) flipped) covered)
 reached_by before now d c (SetIn z a) flipped covered =
-    let parts = both (list_any (λ e. e.ident == z) c.history) (a == d) covered in
+    let parts = and_parts (list_any (λ e. e.ident == z) c.history) (a == d) covered in
     let deck : a ≡ d = (Decides-eqb a d).0 parts.1 in
     or_left (list_any (is_retaken before now d) c.history) (is_flipped before now (Deck d))
     (retaken before now d z c.history
@@ -73,7 +58,7 @@ from_entries before now d (e ∷ es) is = go (is_retaken before now d e) refl (f
         (found.0, or_right (e.ident == found.0) (list_any (λ x. x.ident == found.0) es) found.1, found.2)
 
 pub reached_from : (before now : Target → ℕ) (d : ℕ) (c : CardView) → is_reached before now d c ≡ true → Covering before now d c
-reached_from before now d c reached = go (either (list_any (is_retaken before now d) c.history) (is_flipped before now (Deck d)) reached)
+reached_from before now d c reached = go (or_cases (list_any (is_retaken before now d) c.history) (is_flipped before now (Deck d)) reached)
   where
     by_ident : (z : ℕ) → list_any (λ e. e.ident == z) c.history ≡ true → (is_flipped before now (Set z) ≡ true) ⊎ (is_flipped before now (SetIn z d) ≡ true) →
         Covering before now d c
@@ -83,5 +68,5 @@ reached_from before now d c reached = go (either (list_any (is_retaken before no
     go : (list_any (is_retaken before now d) c.history ≡ true) ⊎ (is_flipped before now (Deck d) ≡ true) → Covering before now d c
     go (inl some) =
         let found = from_entries before now d c.history some in
-        by_ident found.0 found.1 (either (is_flipped before now (Set found.0)) (is_flipped before now (SetIn found.0 d)) found.2)
+        by_ident found.0 found.1 (or_cases (is_flipped before now (Set found.0)) (is_flipped before now (SetIn found.0 d)) found.2)
     go (inr flipped) = (Deck d, flipped, (Decides-eqb d d).1 refl)

@@ -3,6 +3,7 @@ use Rattle.std.proofs.Common.{◌≡◌, ℕ, ◌<◌, ◌≤◌, ◌^◌, Bool,
 use Rattle.std.proofs.Common.{unwrap_or, inl, inr, refl, ap, sym, ◌∙◌, subst, arith, length-append}
 use Rattle.std.specs.List.{list_any, filter, AllByRecursion}
 use Rattle.std.specs.Map.{update_all}
+use Rattle.std.proofs.lemmas.Bool.{or_parts}
 use Rattle.std.proofs.lemmas.List.{length-map}
 use Rattle.upd_core.proofs.ApartLemmas.{all_by_index}
 use Rattle.upd_yank.proofs.RefLemmas.{ref_same}
@@ -20,7 +21,7 @@ use Rattle.upd_change.specs.Rows.{same_ref}
 use Rattle.upd_change.specs.States.{TakeGone}
 use Rattle.upd_change.proofs.StateLemmas.{any_of}
 use Rattle.upd_text.specs.declared.card_ref.CardRef.{CardRef}
-use Rattle.upd_yank.proofs.FlipLemmas.{or_none, same_active, status_is}
+use Rattle.upd_yank.proofs.FlipLemmas.{same_active, status_is}
 use Rattle.upd_yank.proofs.KeptLemmas.{untouched_status}
 use Rattle.upd_yank.proofs.SettleLemmas.{settled_is}
 use Rattle.upd_yank.proofs.ToldLemmas.{IsSettled}
@@ -175,7 +176,7 @@ known_between old new cache run between = record {
         AllByRecursion (HadStatus new (is_due (is_touched run) before (live_count new)) (kept_status cache.states)) ks
     both [] w has = tt
     both (k ∷ ks) w has = (
-      (λ undue. let parts = or_none (is_touched run k) (is_reached before (live_count new) k.deck k.view) undue in
+      (λ undue. let parts = or_parts (is_touched run k) (is_reached before (live_count new) k.deck k.view) undue in
           between.right.status k.card ∙ w.0 parts.0 ∙ ap Some (same_active before (live_count new) k.deck k.view parts.1) ∙ sym has.0),
       both ks w.1 has.1,
     )
@@ -205,7 +206,7 @@ least old new before run (k ∷ ks) was = go (is_due (is_touched run) before (li
     go true e false f later = rw (e, f) (omega arith)
     go false e false f later = rw (e, f) later
     go false e true f later =
-        let parts = or_none (is_touched run k) (is_reached before (live_count new) k.deck k.view) e in
+        let parts = or_parts (is_touched run k) (is_reached before (live_count new) k.deck k.view) e in
         let status = was.0 parts.0 ∙ ap Some (same_active before (live_count new) k.deck k.view parts.1
         ∙ sym (status_is (live_cards new.yanks) k.deck k.view)) in
         absurd (let q = sym f ∙ ap (is_other (is_active (live_targets new) k.deck k.view)) status ∙ same_not (is_active (live_targets new) k.deck k.view) in cc)
@@ -266,7 +267,7 @@ known_anew run was before known l sound all = record {
   sound = sound;
   kept = all_map (λ k. run k ≡ true) (IsKept run was before) (counted_cards l) (λ k h. record { status = λ none. absurd (let q = sym h ∙ none in cc) }) all;
   had = all_map (λ k. run k ≡ true) (HadStatus l (is_due run before (live_count l)) known) (counted_cards l)
-      (λ k h. λ none. absurd (let q = sym h ∙ (or_none (run k) (is_reached before (live_count l) k.deck k.view) none).0 in cc)) all;
+      (λ k h. λ none. absurd (let q = sym h ∙ (or_parts (run k) (is_reached before (live_count l) k.deck k.view) none).0 in cc)) all;
 }
 
 -- what is found by a set of the touched cards is what is found by these

@@ -4,6 +4,7 @@ use Rattle.std.proofs.Common.{refl, ap, sym, ◌∙◌}
 use Rattle.std.specs.List.{list_any, flat_map, AllByRecursion, Contains}
 use Rattle.std.specs.Map.{update, update_all}
 use Rattle.std.specs.Option.{option_or}
+use Rattle.std.proofs.lemmas.Bool.{or_parts}
 use Rattle.std.proofs.lemmas.List.Folds.{list_any-append}
 use Rattle.upd_core.proofs.ApartLemmas.{all_at, all_of_contained, at_contained, contained_at}
 use Rattle.upd_core.proofs.FoundLemmas.{card_of_place, status_at}
@@ -17,7 +18,7 @@ use Rattle.upd_core.specs.TargetCounts.{live_count}
 use Rattle.upd_core.specs.declared.target.Target.{Target}
 use Rattle.upd_change.specs.Rows.{same_ref}
 use Rattle.upd_text.specs.declared.card_ref.CardRef.{CardRef}
-use Rattle.upd_yank.proofs.FlipLemmas.{or_none, status_is}
+use Rattle.upd_yank.proofs.FlipLemmas.{status_is}
 use Rattle.upd_yank.proofs.FindLemmas.{any_at, cards_found}
 use Rattle.upd_yank.proofs.RefLemmas.{one_ref, ref_same}
 use Rattle.upd_yank.proofs.WorkLemmas.{HasStatus, IsListed, all_both, is_found}
@@ -62,7 +63,7 @@ none_of r l false e other = absurd (other refl)
 
 none_by_card : (r : CardRef) (ks : List CountedCardView) → list_any (λ k. same_ref k.card r) ks ≡ false → AllByRecursion (λ k. same_ref k.card r ≡ false) ks
 none_by_card r [] e = tt
-none_by_card r (k ∷ ks) e = let p = or_none (same_ref k.card r) (list_any (λ k. same_ref k.card r) ks) e in (p.0, none_by_card r ks p.1)
+none_by_card r (k ∷ ks) e = let p = or_parts (same_ref k.card r) (list_any (λ k. same_ref k.card r) ks) e in (p.0, none_by_card r ks p.1)
 
 card_there : (l : LibraryView) (r : CardRef) (p : Place) → IsSound l → place_of r l ≡ Some p → list_any (λ k. same_ref k.card r) (counted_cards l) ≡ true
 card_there l r p sound e =

@@ -3,6 +3,7 @@ use Rattle.std.proofs.Common.{◌≡◌, ℕ, Bool, true, false, not, ◌&&◌, 
 use Rattle.std.proofs.Common.{sym, ◌∙◌, append-nil}
 use Rattle.std.specs.Prelude.{◌==◌}
 use Rattle.std.specs.List.{filter, flat_map, list_any, AllByRecursion}
+use Rattle.std.proofs.lemmas.Bool.{or_parts}
 use Rattle.std.proofs.lemmas.Bool.Decides.{Decides-eqb}
 use Rattle.std.proofs.lemmas.List.Elements.{filter-append}
 use Rattle.std.proofs.lemmas.List.Folds.{list_any-append}
@@ -18,7 +19,6 @@ use Rattle.upd_change.specs.Changes.{StatusNow, CountNow, done, done_all}
 use Rattle.upd_change.specs.Rows.{CountRow, Rows, ShowsStates, StateRow, count_row, same_ref, state_row}
 use Rattle.upd_change.specs.States.{TakeGone, takes_card}
 use Rattle.upd_change.proofs.StateLemmas.{counts_after, filter_gone, filter_kept, state_after, states_gone, states_kept}
-use Rattle.upd_yank.proofs.FlipLemmas.{or_none}
 use Rattle.upd_yank.proofs.RefLemmas.{one_ref, ref_same}
 use Rattle.upd_yank.proofs.UnflippedLemmas.{is_listed, unlisted}
 use Rattle.upd_yank.proofs.WorkLemmas.{all_both, is_found}
@@ -210,7 +210,7 @@ known_status : (l : LibraryView) (known : CardRef → Option Bool) (found : List
     known r ≡ status_of r l
 known_status l known [] r right untold is = absurd (cc)
 known_status l known (p ∷ ps) r right untold is =
-    let parts = or_none (list_any (tells_status r) (status_told known p)) (list_any (tells_status r) (statuses_told known ps))
+    let parts = or_parts (list_any (tells_status r) (status_told known p)) (list_any (tells_status r) (statuses_told known ps))
     (sym (list_any-append (tells_status r) (status_told known p) (statuses_told known ps)) ∙ untold) in
     go (is_other p.1 (known p.0)) refl (same_ref p.0 r) refl parts.0 (λ later. known_status l known ps r right.1 parts.1 later)
   where
@@ -255,7 +255,7 @@ none_again : (now : CardRef → Option Bool) (cs : List ChangeView) (r : CardRef
     list_any (takes_card r) cs ≡ true → now r ≡ None
 none_again now [] r untold taken = absurd (cc)
 none_again now (c ∷ cs) r untold taken =
-    let parts = or_none (list_any (tells_status r) (again_told now c)) (list_any (tells_status r) (all_again_told now cs))
+    let parts = or_parts (list_any (tells_status r) (again_told now c)) (list_any (tells_status r) (all_again_told now cs))
     (sym (list_any-append (tells_status r) (again_told now c) (all_again_told now cs)) ∙ untold) in
     one c parts.0 taken (λ later. none_again now cs r parts.1 later)
   where
@@ -311,7 +311,7 @@ same_count : (before now : Target → ℕ) (ps : List (Target × ℕ)) (t : Targ
     is_listed t ps ≡ true → now t ≡ before t
 same_count before now [] t untold is = absurd (cc)
 same_count before now (p ∷ ps) t untold is =
-    let parts = or_none (list_any (tells_count t) (count_told before now p)) (list_any (tells_count t) (flat_map (count_told before now) ps))
+    let parts = or_parts (list_any (tells_count t) (count_told before now p)) (list_any (tells_count t) (flat_map (count_told before now) ps))
     (sym (list_any-append (tells_count t) (count_told before now p) (flat_map (count_told before now) ps)) ∙ untold) in
     go (is_same t p.0) refl (now p.0 == before p.0) refl parts.0 (λ later. same_count before now ps t parts.1 later)
   where
@@ -328,7 +328,7 @@ none_before : (before now : Target → ℕ) (ps : List (Target × ℕ)) (t : Tar
     is_listed t ps ≡ true → now t ≡ 0 → before t ≡ 0
 none_before before now [] t untold is zero = absurd (cc)
 none_before before now (p ∷ ps) t untold is zero =
-    let parts = or_none (list_any (tells_count t) (zero_told before now p)) (list_any (tells_count t) (flat_map (zero_told before now) ps))
+    let parts = or_parts (list_any (tells_count t) (zero_told before now p)) (list_any (tells_count t) (flat_map (zero_told before now) ps))
     (sym (list_any-append (tells_count t) (zero_told before now p) (flat_map (zero_told before now) ps)) ∙ untold) in
     go (is_same t p.0) refl (before p.0 == 0) refl parts.0 (λ later. none_before before now ps t parts.1 later zero)
   where
@@ -352,7 +352,7 @@ untold_count had has t untold = go (is_listed t has) refl (is_listed t had) refl
     before = count_in had
 
     parts : (list_any (tells_count t) (flat_map (count_told before now) has) ≡ false) × (list_any (tells_count t) (flat_map (zero_told before now) had) ≡ false)
-    parts = or_none (list_any (tells_count t) (flat_map (count_told before now) has)) (list_any (tells_count t) (flat_map (zero_told before now) had))
+    parts = or_parts (list_any (tells_count t) (flat_map (count_told before now) has)) (list_any (tells_count t) (flat_map (zero_told before now) had))
         (sym (list_any-append (tells_count t) (flat_map (count_told before now) has) (flat_map (zero_told before now) had)) ∙ untold)
 
     go : (a : Bool) → is_listed t has ≡ a → (b : Bool) → is_listed t had ≡ b → now t ≡ before t
@@ -423,9 +423,9 @@ settling_shows old new known found kept run had has rows is shown = record {
         cond b (state_row r (status_of r new)) (filter (λ s. same_ref r s.card) (done_all run rows).states) ≡ state_row r (status_of r new)
     state r true e = refl
     state r false e =
-        let front = or_none (list_any (tells_status r) (statuses ++ again)) (list_any (tells_status r) counts)
+        let front = or_parts (list_any (tells_status r) (statuses ++ again)) (list_any (tells_status r) counts)
         (sym (list_any-append (tells_status r) (statuses ++ again) counts) ∙ e) in
-        let parts = or_none (list_any (tells_status r) statuses) (list_any (tells_status r) again)
+        let parts = or_parts (list_any (tells_status r) statuses) (list_any (tells_status r) again)
         (sym (list_any-append (tells_status r) statuses again) ∙ front.0) in
         state_after run rows r is.taken.silent ∙ row r parts.0 parts.1 (list_any (takes_card r) run) refl
 
@@ -433,7 +433,7 @@ settling_shows old new known found kept run had has rows is shown = record {
         cond b (count_row t (live_count new t)) (filter (λ s. is_same t s.target) (done_all run rows).counts) ≡ count_row t (live_count new t)
     count t true e = refl
     count t false e =
-        let parts = or_none (list_any (tells_count t) (statuses ++ again)) (list_any (tells_count t) counts)
+        let parts = or_parts (list_any (tells_count t) (statuses ++ again)) (list_any (tells_count t) counts)
         (sym (list_any-append (tells_count t) (statuses ++ again) counts) ∙ e) in
         ap (filter (λ s. is_same t s.target)) (counts_after run rows is.taken.silent) ∙ shown.counts t
         ∙ ap (count_row t) (sym (is.counted t) ∙ sym (untold_count had has t parts.1) ∙ is.counts t)

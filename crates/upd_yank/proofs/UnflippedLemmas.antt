@@ -1,7 +1,8 @@
--- Where no count that is listed flipped, none did, and no card is reached.
-use Rattle.std.proofs.Common.{◌≡◌, ℕ, Bool, true, false, ◌||◌, if◌then◌else◌, List, [], ◌∷◌, ◌++◌, refl, ap, sym, ◌∙◌, append-nil}
-use Rattle.std.specs.Prelude.{◌==◌}
+-- Some count flipped exactly where a listed one did; where none did, no card is reached.
+use Rattle.std.proofs.Common.{◌≡◌, ℕ, Bool, true, false, ◌||◌, if◌then◌else◌, List, [], ◌∷◌, ◌++◌, inl, inr, refl, ap, sym, ◌∙◌, append-nil}
+use Rattle.std.specs.Prelude.{◌==◌, ◌⊎◌, ◌↔◌}
 use Rattle.std.specs.List.{list_any}
+use Rattle.std.proofs.lemmas.Bool.{false_from_ne_true, iff_false, or_cases, or_parts}
 use Rattle.upd_text.specs.declared.card_ref.CardRef.{CardRef}
 use Rattle.upd_core.proofs.CountedLemmas.{same_target}
 use Rattle.upd_core.specs.Counted.{CountedCardView}
@@ -11,7 +12,6 @@ use Rattle.upd_core.specs.declared.target.Target.TheVariants.{Set, SetIn, Deck}
 use Rattle.upd_core.specs.Reach.{differs, is_flipped, is_retaken}
 use Rattle.upd_core.specs.TargetCounts.{count_in}
 use Rattle.upd_core.specs.Targets.{is_same}
-use Rattle.upd_yank.proofs.FlipLemmas.{or_none}
 use Rattle.upd_yank.specs.Cascade.{found_of, is_due}
 
 -- whether a target is listed
@@ -20,14 +20,14 @@ is_listed t ps = list_any (λ p. is_same t p.0) ps
 
 pub unlisted : (ps : List (Target × ℕ)) (t : Target) → is_listed t ps ≡ false → count_in ps t ≡ 0
 unlisted [] t e = refl
-unlisted (p ∷ ps) t e = let parts = or_none (is_same t p.0) (is_listed t ps) e in rw parts.0 (unlisted ps t parts.1)
+unlisted (p ∷ ps) t e = let parts = or_parts (is_same t p.0) (is_listed t ps) e in rw parts.0 (unlisted ps t parts.1)
 
 -- a target that is listed where none flipped
 listed_unflipped : (before now : Target → ℕ) (ps : List (Target × ℕ)) (t : Target) → list_any (λ p. is_flipped before now p.0) ps ≡ false →
     is_listed t ps ≡ true → is_flipped before now t ≡ false
 listed_unflipped before now [] t none is = absurd (cc)
 listed_unflipped before now (p ∷ ps) t none is =
-    let parts = or_none (is_flipped before now p.0) (list_any (λ p. is_flipped before now p.0) ps) none in
+    let parts = or_parts (is_flipped before now p.0) (list_any (λ p. is_flipped before now p.0) ps) none in
     go (is_same t p.0) refl parts.0 (λ later. listed_unflipped before now ps t parts.1 later)
   where
     go : (s : Bool) → is_same t p.0 ≡ s → is_flipped before now p.0 ≡ false → (is_listed t ps ≡ true → is_flipped before now t ≡ false) →
@@ -44,6 +44,45 @@ none_flipped had has before now t = go (is_listed t had) refl (is_listed t has) 
     go true e b f = listed_unflipped (count_in had) (count_in has) had t before e
     go false e true f = listed_unflipped (count_in had) (count_in has) has t now f
     go false e false f = λ i. differs (unlisted had t e i == 0) (unlisted has t f i == 0)
+
+some_listed : (before now : Target → ℕ) (ps : List (Target × ℕ)) → list_any (λ p. is_flipped before now p.0) ps ≡ true →
+    (t : Target) × (is_flipped before now t ≡ true)
+some_listed before now [] some = absurd (cc)
+some_listed before now (p ∷ ps) some =
+    go (some_listed before now ps) (or_cases (is_flipped before now p.0) (list_any (λ p. is_flipped before now p.0) ps) some)
+  where
+    go : (list_any (λ p. is_flipped before now p.0) ps ≡ true → (t : Target) × (is_flipped before now t ≡ true)) →
+        (is_flipped before now p.0 ≡ true) ⊎ (list_any (λ p. is_flipped before now p.0) ps ≡ true) → (t : Target) × (is_flipped before now t ≡ true)
+    go others (inl here) = (p.0, here)
+    go others (inr later) = others later
+
+-- some target flipped exactly where one of those did that are listed before or now
+pub some_flipped : (had has : List (Target × ℕ)) (flipped : Bool) →
+    flipped ≡ (list_any (λ p. is_flipped (count_in had) (count_in has) p.0) had || list_any (λ p. is_flipped (count_in had) (count_in has) p.0) has) →
+    (flipped ≡ true) ↔ ((t : Target) × (is_flipped (count_in had) (count_in has) t ≡ true))
+some_flipped had has flipped is = (found, told flipped is)
+  where
+    listed : List (Target × ℕ) → Bool
+    listed ps = list_any (λ p. is_flipped (count_in had) (count_in has) p.0) ps
+
+    found : flipped ≡ true → (t : Target) × (is_flipped (count_in had) (count_in has) t ≡ true)
+    found some = go (or_cases (listed had) (listed has) (sym is ∙ some))
+      where
+        go : (listed had ≡ true) ⊎ (listed has ≡ true) → (t : Target) × (is_flipped (count_in had) (count_in has) t ≡ true)
+        go (inl before) = some_listed (count_in had) (count_in has) had before
+        go (inr now) = some_listed (count_in had) (count_in has) has now
+
+    told : (b : Bool) → b ≡ (listed had || listed has) → ((t : Target) × (is_flipped (count_in had) (count_in has) t ≡ true)) → b ≡ true
+    told true e some = refl
+    told false e some =
+        let parts = or_parts (listed had) (listed has) (sym e) in
+        let none = none_flipped had has parts.0 parts.1 some.0 in
+        absurd (let flips = some.1 in cc)
+
+-- what no target does where it is told that none does
+pub none_told : {flipped : Bool} (before now : Target → ℕ) → ((flipped ≡ true) ↔ ((t : Target) × (is_flipped before now t ≡ true))) → flipped ≡ false →
+    (t : Target) → is_flipped before now t ≡ false
+none_told before now told none t = false_from_ne_true (is_flipped before now t) (λ some. iff_false told none (t, some))
 
 none_retaken : (before now : Target → ℕ) (d : ℕ) (es : List Entry) → ((t : Target) → is_flipped before now t ≡ false) →
     list_any (is_retaken before now d) es ≡ false

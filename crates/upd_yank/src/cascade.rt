@@ -1,8 +1,8 @@
 //! The cascade: `YANK$$$` from the youngest card to the oldest, then the other cards. No card is looked at twice, and
 //! none that nothing reaches.
 
-ghost use Rattle.std.specs.Prelude.{◌≡◌, ℕ, ◌+◌, ◌<◌, ◌^◌, [], ◌∷◌, ◌++◌, if◌then◌else◌, length, count_by};
-ghost use Rattle.std.specs.Prelude.{false, true, IfOk, None, OnOk, Some};
+ghost use Rattle.std.specs.Prelude.{◌≡◌, ◌↔◌, ℕ, ◌+◌, ◌<◌, ◌^◌, ◌==◌, [], ◌∷◌, ◌++◌, if◌then◌else◌, length, count_by};
+ghost use Rattle.std.specs.Prelude.{true, IfOk, None, OnOk, Some};
 ghost use Rattle.std.specs.List.{list_any};
 ghost use Rattle.upd_core.specs.Counted.{one_more, others_of, yanks_of};
 ghost use Rattle.upd_core.specs.declared.target.Target.{Target};
@@ -184,10 +184,9 @@ fn settle_yanks<'a>(
 }
 
 /// Whether some count is 0 in one of these and not in the other; memory alone can fail.
-#[tactic(auto, using(crate::proofs::UnflippedLemmas::none_flipped))]
 fn has_flipped(alloc: Global, before: &TargetCounts, now: &TargetCounts) -> Result<bool, AllocError>
-    ensures { IfOk result (λ flipped. flipped ≡ false → (t : Target) →
-        is_flipped (count_in before.now) (count_in now.now) t ≡ false) }
+    ensures { IfOk result (λ flipped. (flipped ≡ true)
+        ↔ ((t : Target) × (is_flipped (count_in before.now) (count_in now.now) t ≡ true))) }
 {
     let had = before.all(alloc)?;
     let has = now.all(alloc)?;
@@ -289,7 +288,7 @@ fn put_found(
 }
 
 fn is_sum(sum: usize, a: usize, b: usize) -> bool
-    ensures { result ≡ true → sum ≡ a + b }
+    ensures { result ≡ (sum == a + b) }
 {
     a <= sum && sum - a == b
 }

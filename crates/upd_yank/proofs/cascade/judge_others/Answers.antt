@@ -2,7 +2,7 @@ use Rattle.std.proofs.Common.{◌≡◌, ◌∙◌, false, arith}
 use Rattle.std.proofs.lemmas.Grind.{common_steps}
 use Rattle.upd_core.specs.TargetCounts.{count_in}
 use Rattle.upd_yank.proofs.TurnLemmas.{others_more, read_more}
-use Rattle.upd_yank.proofs.UnflippedLemmas.{none_found}
+use Rattle.upd_yank.proofs.UnflippedLemmas.{none_found, none_told}
 use Rattle.upd_yank.specs.Affected.{is_touched}
 use Rattle.upd_yank.specs.Cascade.{found_of, is_due}
 use Rattle.upd_yank.proofs.cascade.judge_others.Goals as goal
@@ -33,7 +33,7 @@ loop-card-preserved-then-not-has c =
     let k = c.card-item.result in
     let flipped : c.in_ok-flipped.flipped ≡ false = grind (arith, common_steps) in
     let untouched : is_touched c.args.before.now.touched.now c.card-item.result ≡ false = grind (arith, common_steps) in
-    let none = none_found touched before now k c.loop-card.found.statuses.items (c.in_ok-flipped.ensures flipped) untouched in
+    let none = none_found touched before now k c.loop-card.found.statuses.items (none_told before now c.in_ok-flipped.ensures flipped) untouched in
     record {
       counts = c.loop-card.invariant.counts;
       statuses = others_more touched before now c.args.cards.now c.loop-card.card-index _ k _ _ _ c.loop-card-test.true c.card-item.is none
