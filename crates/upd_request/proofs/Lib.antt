@@ -1,0 +1,4 @@
+pub mod LengthLemmas
+pub mod ParameterLemmas
+pub mod HeadLemmas
+pub mod RequestLemmas

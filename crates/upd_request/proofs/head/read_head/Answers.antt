@@ -1,0 +1,30 @@
+use Rattle.std.proofs.Common.{◌≡◌, ◌≤◌, ◌++◌, inr, ap, sym, ◌∙◌, subst, length, take, arith, List, ℕ, Err}
+use Rattle.std.proofs.lemmas.List.{length-append, length-take-le}
+use Rattle.std.specs.Io.KnownBytes.{Consumes}
+use Rattle.httparse.specs.Spans.{RequestExceeds}
+use Rattle.upd_request.specs.declared.head.TheConstants.{MAX_HEAD_BYTES}
+use Rattle.std.proofs.KnownBytes.{Consumes-nil, Consumes-trans}
+use Rattle.upd_request.proofs.HeadLemmas.{error_says, nothing_has_head, refused_bad}
+use Rattle.upd_request.proofs.head.read_head.Goals as goal
+
+pub head-init : goal.head-init
+head-init g c = rw c.requires.empty (record { most = omega arith; consumed = Consumes-nil (g.R.Read.remaining c.args.reader.now); none = nothing_has_head })
+
+pub returns-in-Err-parse_request-clause-err : goal.returns-in-Err-parse_request-clause-err
+returns-in-Err-parse_request-clause-err g c =
+    let more = take c.in-Ok.count c.read.new.buf in
+    let buf = c.deref.result.now in
+    let items : buf ≡ c.head.buf.items ++ more = c.deref.ensures.value ∙ (rw c.if-is_err.ensures.negation at c.extend_from_slice.ensures.items) in
+    let consumed = Consumes-trans _ _ _ _ _ c.head.invariant.consumed c.in-Ok.ensures.bytes.0 in
+    let Reads : List ℕ → Type 0 = λ l. Consumes (g.R.Read.remaining c.args.reader.now) (g.R.Read.remaining c.read.new.self) l in
+    let room : length c.read.new.buf ≡ c.min-room.result = c.read.auto.buf ∙ length-take-le c.min-room.result c.head.chunk (omega arith) in
+    let few : length (c.head.buf.items ++ more) ≤ MAX_HEAD_BYTES = omega (arith, room, c.in-Ok.ensures.bound, length-append c.head.buf.items more) in
+    let IsFew : List ℕ → Type 0 = λ l. length l ≤ MAX_HEAD_BYTES in
+    let Exceeds : ℕ → Type 0 = λ n. RequestExceeds n buf in
+    refused_bad _ _ buf _ (subst Reads (sym items) consumed) (subst IsFew (sym items) few)
+    (error_says buf c.in-Err-parse_request.field-0 c.in-Err-parse_request.ensures.invalid
+    (λ e. subst Exceeds (c.head.auto.headers ∙ c.requires.room) (c.in-Err-parse_request.ensures.too_many (ap Err e)))) c.of-in-Err-parse_request.ensures
+
+pub returns-clause-err : goal.returns-clause-err
+returns-clause-err g c =
+    refused_bad _ _ c.head.buf.items _ c.head.invariant.consumed c.head.invariant.most (inr (inr (omega arith, c.head.invariant.none))) c.of-2.ensures

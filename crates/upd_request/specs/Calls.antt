@@ -1,0 +1,56 @@
+-- What a request asks of the desk, or why it asks nothing.
+use Rattle.std.specs.Prelude.{◌≡◌, ◌⊎◌, ℕ, List, Result, Ok, Err}
+use Rattle.std.specs.String.{string_bytes}
+use Rattle.upd_text.specs.declared.card_ref.CardRef.{CardRef}
+use Rattle.upd_text.specs.declared.fault.FaultKind.{FaultKind}
+use Rattle.upd_text.specs.declared.fault.FaultKind.TheVariants.{NoMemory, BadFrame, CutFrame, Read}
+use Rattle.upd_text.specs.Faults.{fault_at}
+use Rattle.upd_request.specs.declared.call.Call.{Call}
+use Rattle.upd_request.specs.declared.call.Call.TheVariants.{Run, Settle, Compile, Deck, Card, Idents, Yanks}
+use Rattle.upd_request.specs.declared.call.Refusal.{Refusal}
+use Rattle.upd_request.specs.declared.call.Refusal.TheVariants.{Silent, Told}
+
+-- What is asked of the desk.
+pub data Asked : Type 0 where
+  -- a run arrives: site, number, mode, bytes
+  run : List ℕ → ℕ → List ℕ → List ℕ → Asked
+  -- a site settles its runs up to a number
+  settle : List ℕ → ℕ → Asked
+  -- the full compile file, a deck's listing, a card's, and those of the directory and the yank cards
+  compile : Asked
+  deck : List ℕ → Asked
+  card : CardRef → Asked
+  idents : Asked
+  yanks : Asked
+
+-- a call as it is meant
+abbrev pub asked : Call → Asked
+asked (Run site number mode body) = run (string_bytes site) number (string_bytes mode) body.items
+asked (Settle site number) = settle (string_bytes site) number
+asked Compile = compile
+asked (Deck name) = deck name
+asked (Card c) = card c
+asked Idents = idents
+asked Yanks = yanks
+
+-- the refusals that are told by a fault, which has no line
+abbrev pub told : FaultKind → Refusal
+told kind = Told (fault_at kind 0)
+
+-- want of memory, a request that is no request, one that ends too early, and a failed read
+abbrev pub no_memory : Refusal
+no_memory = told NoMemory
+
+abbrev pub bad_frame : Refusal
+bad_frame = told BadFrame
+
+abbrev pub cut_frame : Refusal
+cut_frame = Silent (fault_at CutFrame 0)
+
+abbrev pub read_failed : Refusal
+read_failed = Silent (fault_at Read 0)
+
+-- A call answered what is defined, as the view shows it, or met the defined refusal; or memory was wanting.
+abbrev pub Gives : {X Y : Type 0} → (X → Y) → Result X Refusal → Result Y Refusal → Type 0
+Gives view (Ok x) defined = defined ≡ Ok (view x)
+Gives view (Err refusal) defined = (refusal ≡ no_memory) ⊎ (defined ≡ Err refusal)

@@ -1,0 +1,7 @@
+pub mod Calls
+pub mod Lengths
+pub mod Verbs
+pub mod Parameters
+pub mod Routes
+pub mod Requests
+pub mod Views

@@ -1,0 +1,113 @@
+-- A request as bytes: its head is what `httparse` reads, and a head with a body asks one thing of the desk, or is refused.
+use Rattle.std.specs.Prelude.{◌≡◌, ◌≤◌, ◌<◌, ◌⊎◌, ℕ, nat_le, if◌then◌else◌, List, ◌++◌, length, take, map, Option, Some, None, Result, Ok, Err}
+use Rattle.std.specs.Str.{bytes_eq}
+use Rattle.httparse.specs.Grammar.{RequestHead, HasNoRequest, NeverHasRequest, ReadsRequest, print_request}
+use Rattle.httparse.specs.Spans.{RequestExceeds, name_and_value}
+use Rattle.upd_text.specs.declared.fault.FaultKind.TheVariants.{RunLong}
+use Rattle.upd_text.specs.Outcome.{◌>>=◌}
+use Rattle.upd_request.specs.Calls.{Asked, bad_frame, cut_frame, no_memory, read_failed, told}
+use Rattle.upd_request.specs.Lengths.{fields_say}
+use Rattle.upd_request.specs.Parameters.{path_of, segments_of}
+use Rattle.upd_request.specs.Routes.{call_of, route_of, verb_of}
+use Rattle.upd_request.specs.Verbs.{verb_text}
+use Rattle.upd_request.specs.declared.call.Refusal.{Refusal}
+use Rattle.upd_request.specs.declared.call.Refusal.TheVariants.{NoRoute, OtherMethod}
+use Rattle.upd_request.specs.declared.head.TheConstants.{MAX_HEAD_BYTES, MAX_HEADERS}
+use Rattle.upd_request.specs.declared.lengths.BodyLength.{BodyLength}
+use Rattle.upd_request.specs.declared.lengths.BodyLength.TheVariants.{Bytes, Long, Bad}
+use Rattle.upd_request.specs.declared.routes.Route.{Route}
+
+-- ---- heads
+
+-- a head that is small enough
+pub record IsSmall (h : RequestHead) : Type 0 where
+  pub bytes : length (print_request h) ≤ MAX_HEAD_BYTES
+  pub fields : length h.fields ≤ MAX_HEADERS
+
+-- No small head stands at the front, whatever comes: a front of the input begins none, or has too many fields, or is as long as a head
+-- may be and holds none.
+abbrev pub HasBadHead : List ℕ → Type 0
+HasBadHead input =
+    (front : List ℕ) × (rest : List ℕ) × (input ≡ front ++ rest) × (length front ≤ MAX_HEAD_BYTES)
+    × (NeverHasRequest front ⊎ (RequestExceeds MAX_HEADERS front ⊎ ((length front ≡ MAX_HEAD_BYTES) × HasNoRequest front)))
+
+-- the input ends before a head does
+abbrev pub HasCutHead : List ℕ → Type 0
+HasCutHead input = (length input < MAX_HEAD_BYTES) × HasNoRequest input
+
+-- ---- what a head says
+
+-- What a request is to be read for: its route, its path, and how many bytes its body has.
+pub record Wanted : Type 0 where
+  pub route : Route
+  pub path : List ℕ
+  pub count : ℕ
+
+-- a head whose fields can't be understood is refused
+abbrev pub understood : BodyLength → Result BodyLength Refusal
+understood Bad = Err bad_frame
+understood said = Ok said
+
+-- the route of a path, if it has one
+abbrev pub routed : Option Route → Result Route Refusal
+routed (Some route) = Ok route
+routed None = Err NoRoute
+
+-- a route has one method
+abbrev pub with_method : Route → List ℕ → Result Route Refusal
+with_method route method = if bytes_eq method (verb_text (verb_of route)) then Ok route else Err (OtherMethod (verb_of route))
+
+-- how many bytes the body has, as many as a run at most
+abbrev pub counted : BodyLength → Result ℕ Refusal
+counted (Bytes n) = Ok n
+counted Long = Err (told RunLong)
+counted said = Ok 0
+
+-- what a head says, or its first refusal
+abbrev pub wanted : RequestHead → Result Wanted Refusal
+wanted h = do
+  said ← understood (fields_say (map name_and_value h.fields))
+  route ← routed (route_of (path_of h.target))
+  _ ← with_method route h.method
+  count ← counted said
+  Ok (record { route = route; path = path_of h.target; count = count })
+
+-- ---- what a request asks
+
+-- a body, of which what stands behind the head may be too short
+abbrev pub body_of : ℕ → List ℕ → Result (List ℕ) Refusal
+body_of count rest = if nat_le count (length rest) then Ok (take count rest) else Err cut_frame
+
+-- what a head asks with what stands behind it, or the first refusal
+abbrev pub judged : RequestHead → List ℕ → Result Asked Refusal
+judged h rest = do
+  w ← wanted h
+  body ← body_of w.count rest
+  call_of w.route (segments_of w.path) body
+
+-- An input says what its head asks with what stands behind it; or it has no head.
+abbrev pub Says : List ℕ → Result Asked Refusal → Type 0
+Says input outcome =
+    ((h : RequestHead) × (rest : List ℕ) × IsSmall h × ReadsRequest input h rest × (outcome ≡ judged h rest))
+    ⊎ ((HasBadHead input × (outcome ≡ Err bad_frame)) ⊎ (HasCutHead input × (outcome ≡ Err cut_frame)))
+
+-- ---- how it is read
+
+-- memory was wanting, or a read failed
+abbrev pub IsFailure : Refusal → Type 0
+IsFailure refusal = (refusal ≡ no_memory) ⊎ (refusal ≡ read_failed)
+
+-- a call answered what is defined, as the view shows it, or met the defined refusal; or it failed
+abbrev pub GivesUnlessFailed : {X Y : Type 0} → (X → Y) → Result X Refusal → Result Y Refusal → Type 0
+GivesUnlessFailed view (Ok x) defined = defined ≡ Ok (view x)
+GivesUnlessFailed view (Err refusal) defined = IsFailure refusal ⊎ (defined ≡ Err refusal)
+
+-- a refusal of a head is the defined one, or a failure
+abbrev pub RefusesHead : List ℕ → Refusal → Type 0
+RefusesHead input refusal =
+    IsFailure refusal ⊎ ((HasBadHead input × (refusal ≡ bad_frame)) ⊎ (HasCutHead input × (refusal ≡ cut_frame)))
+
+-- what an input says was read, or the reading failed
+abbrev pub IsRead : {X : Type 0} → (X → Asked) → List ℕ → Result X Refusal → Type 0
+IsRead view input (Ok x) = Says input (Ok (view x))
+IsRead view input (Err refusal) = IsFailure refusal ⊎ Says input (Err refusal)

@@ -1,0 +1,16 @@
+//! Requests of HTTP: how a head and a body are read, and what they ask of the desk.
+//!
+//! What a request means stands in `specs/`: a head is what `httparse` reads, lengths and parameters are judged here,
+//! and routes are found by `matchit`.
+#![tactic(auto)]
+
+mod call;
+mod head;
+mod lengths;
+mod parameters;
+mod request;
+mod routes;
+
+pub use call::{Call, Refusal, Verb};
+pub use parameters::read_number;
+pub use request::read_call;
