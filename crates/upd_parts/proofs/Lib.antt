@@ -1,0 +1,6 @@
+pub mod PartLemmas
+pub mod StepLemmas
+pub mod RunLemmas
+pub mod AppliedLemmas
+pub mod NeedLemmas
+pub mod StayLemmas

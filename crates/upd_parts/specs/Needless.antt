@@ -1,0 +1,59 @@
+-- Runs on a part of a library: which decks a run can do without.
+use Rattle.std.specs.Prelude.{◌≡◌, ◌==◌, ◌<◌, nat_le, Bool, true, false, not, ◌&&◌, IsTrue, List, [], ◌∷◌, length, Some, Result, Ok, Err}
+use Rattle.std.specs.List.{filter, list_all, AllByRecursion}
+use Rattle.upd_text.specs.declared.card_ref.CardRef.{CardRef}
+use Rattle.upd_text.specs.declared.fault.Fault.{Fault}
+use Rattle.upd_core.specs.Ages.{Age}
+use Rattle.upd_core.specs.declared.library.Place.{Place}
+use Rattle.upd_core.specs.Edits.{is_among}
+use Rattle.upd_core.specs.Library.{DeckView, LibraryView, all_decks, place_of}
+use Rattle.upd_deck.specs.Items.{ItemView, LineView, Insert, Before, Delete, Restore, Yank, SelYank, YankDeck, Purge, PurgeFrom, SelPurge, PurDeck}
+use Rattle.upd_apply.specs.Applying.{Reached}
+use Rattle.upd_rows.specs.Parts.{part}
+
+-- whether a line neither yanks nor purges
+abbrev pub is_plain : ItemView → Bool
+is_plain (Yank ranges) = false
+is_plain (SelYank pairs) = false
+is_plain (YankDeck names) = false
+is_plain (Purge ranges) = false
+is_plain (PurgeFrom name) = false
+is_plain (SelPurge pairs) = false
+is_plain (PurDeck ranges) = false
+is_plain _ = true
+
+-- no line of a run yanks or purges
+abbrev pub are_plain : List LineView → Bool
+are_plain lines = list_all (λ line. is_plain line.item) lines
+
+-- the cards that a line names
+abbrev pub cards_named : ItemView → List CardRef
+cards_named (Insert card) = card ∷ []
+cards_named (Before card) = card ∷ []
+cards_named (Delete first last) = first ∷ last ∷ []
+cards_named (Restore first last) = first ∷ last ∷ []
+cards_named _ = []
+
+-- the ages of a library's directory that aren't among these: those of the decks that a part with these decks alone leaves out
+abbrev pub others_of : List Age → LibraryView → Age → Bool
+others_of ages l d = not (d == 0) && nat_le d (length l.idents) && not (is_among ages d)
+
+-- the decks of the ages that pass a test, `YANK$$$` as a deck of age 0 among them
+abbrev pub left_out : (Age → Bool) → LibraryView → List DeckView
+left_out out l = filter (λ d. out d.ident) (all_decks l)
+
+-- each card that a run names, where there is such a card, stands in a deck of an age that doesn't pass the test
+abbrev pub NamesNone : (Age → Bool) → List LineView → LibraryView → Type 0
+NamesNone out lines l =
+    AllByRecursion (λ line. AllByRecursion (λ card. (p : Place) → place_of card l ≡ Some p → out p.deck ≡ false) (cards_named line.item)) lines
+
+-- A run without yanks and purges does without decks of which it names no card. The test passes no age that is yet to come.
+pub record DoesWithout (out : Age → Bool) (lines : List LineView) (l : LibraryView) : Type 0 where
+  pub plain : IsTrue (are_plain lines)
+  pub listed : (z : Age) → length l.idents < z → out z ≡ false
+  pub cards : NamesNone out lines l
+
+-- what a run reaches, with the same part left out
+abbrev pub reached_in_part : (Age → Bool) → Result Reached Fault → Result Reached Fault
+reached_in_part out (Ok reached) = Ok (record reached { library = part out reached.library })
+reached_in_part out (Err fault) = Err fault
