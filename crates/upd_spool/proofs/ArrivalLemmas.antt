@@ -1,0 +1,82 @@
+-- Arrivals one after the other, and further ones behind them.
+use Rattle.std.proofs.Common.{◌≡◌, ℕ, List, [], ◌∷◌, ◌++◌, length, Result, refl, sym, subst, arith}
+use Rattle.upd_text.specs.declared.fault.Fault.{Fault}
+use Rattle.upd_change.specs.Rows.{Rows}
+use Rattle.upd_desk.specs.Arrivals.{ArrivalView}
+use Rattle.upd_desk.specs.Journal.{Event, Journal}
+use Rattle.upd_desk.specs.Outcomes.{ReplyView}
+use Rattle.upd_desk.specs.Holding.{AreAnswers, ArriveAll, Arrives, HoldsIn, IsLeft, after, after_all, in_hand_after, in_hand_after_all}
+
+after_further : (j : Journal) (list more : List ArrivalView) (results further : List (Result ReplyView Fault)) → length results ≡ length list
+    → after_all j (list ++ more) (results ++ further) ≡ after_all (after_all j list results) more further
+after_further j [] more [] further same = refl
+after_further j [] more (r ∷ results) further same = absurd (omega (arith, same))
+after_further j (a ∷ list) more [] further same = absurd (omega (arith, same))
+after_further j (a ∷ list) more (r ∷ results) further same = after_further (after j a r) list more results further (omega (arith, same))
+
+in_hand_further : (hand : List Event) (list more : List ArrivalView) (results further : List (Result ReplyView Fault)) → length results ≡ length list
+    → in_hand_after_all hand (list ++ more) (results ++ further) ≡ in_hand_after_all (in_hand_after_all hand list results) more further
+in_hand_further hand [] more [] further same = refl
+in_hand_further hand [] more (r ∷ results) further same = absurd (omega (arith, same))
+in_hand_further hand (a ∷ list) more [] further same = absurd (omega (arith, same))
+in_hand_further hand (a ∷ list) more (r ∷ results) further same = in_hand_further (in_hand_after a hand r) list more results further (omega (arith, same))
+
+answers_further : (j : Journal) (list more : List ArrivalView) (results further : List (Result ReplyView Fault))
+    → AreAnswers j list results → AreAnswers (after_all j list results) more further → AreAnswers j (list ++ more) (results ++ further)
+answers_further j [] more [] further are then = then
+answers_further j [] more (r ∷ results) further are then = absurd are
+answers_further j (a ∷ list) more [] further are then = absurd are
+answers_further j (a ∷ list) more (r ∷ results) further are then = (are.0, answers_further (after j a r) list more results further are.1 then)
+
+module _ {S : Type 0} {Image : Type 0} (is_honest is_open : S → Type 0) (image : S → Image) (shows : Image → Rows → Type 0)
+    (may_leave : S → Image → Type 0) (failures : S → ℕ) where
+  -- no arrival does nothing
+  pub none_arrived : (s : S) → ArriveAll is_honest is_open image shows may_leave failures [] [] s s
+  none_arrived s = record {
+    honest = λ honest. honest;
+    was_open = λ honest is. is;
+    counts = grind arith;
+    answers = λ honest j held. tt;
+    holds = λ honest j held is. held is;
+    leaves = λ honest j hand guards i may. guards.left i may;
+  }
+
+  -- one arrival alone
+  pub one_arrived : (a : ArrivalView) (result : Result ReplyView Fault) (old new : S)
+      → Arrives is_honest is_open image shows may_leave failures a result old new
+      → ArriveAll is_honest is_open image shows may_leave failures (a ∷ []) (result ∷ []) old new
+  one_arrived a result old new went = record {
+    honest = went.honest;
+    was_open = went.was_open;
+    counts = went.counts;
+    answers = λ honest j held. (went.answers honest j held, tt);
+    holds = went.holds;
+    leaves = went.leaves;
+  }
+
+  -- further arrivals
+  pub further_arrived : (list more : List ArrivalView) (results further : List (Result ReplyView Fault)) (old mid new : S) → length results ≡ length list
+      → ArriveAll is_honest is_open image shows may_leave failures list results old mid
+      → ArriveAll is_honest is_open image shows may_leave failures more further mid new
+      → ArriveAll is_honest is_open image shows may_leave failures (list ++ more) (results ++ further) old new
+  further_arrived list more results further old mid new same all went = record {
+    honest = λ honest. all.honest (went.honest honest);
+    was_open = λ honest is. all.was_open (went.honest honest) (went.was_open honest is);
+    counts = (let less = all.counts in let later = went.counts in grind arith);
+    answers = λ honest j held. answers_further j list more results further (all.answers (went.honest honest) j held)
+        (went.answers honest (after_all j list results) (all.holds (went.honest honest) j held));
+    holds = λ honest j held is. subst (λ k. HoldsIn shows k (image new)) (sym (after_further j list more results further same))
+        (went.holds honest (after_all j list results) (all.holds (went.honest honest) j held) is);
+    leaves = λ honest j hand guards i may.
+        left j hand (went.leaves honest (after_all j list results) (in_hand_after_all hand list results) (record {
+          shown = all.holds (went.honest honest) j guards.shown;
+          left = all.leaves (went.honest honest) j hand guards;
+        }) i may);
+  }
+    where
+      left : (j : Journal) (hand : List Event) {i : Image}
+          → IsLeft shows (after_all (after_all j list results) more further) (in_hand_after_all (in_hand_after_all hand list results) more further) i
+          → IsLeft shows (after_all j (list ++ more) (results ++ further)) (in_hand_after_all hand (list ++ more) (results ++ further)) i
+      left j hand {i} was =
+          subst (λ k. IsLeft shows k (in_hand_after_all hand (list ++ more) (results ++ further)) i) (sym (after_further j list more results further same))
+          (subst (λ h. IsLeft shows (after_all (after_all j list results) more further) h i) (sym (in_hand_further hand list more results further same)) was)

@@ -1,0 +1,7 @@
+pub mod HeaderLemmas
+pub mod FrameLemmas
+pub mod WriteLemmas
+pub mod ReadLemmas
+pub mod ArrivalLemmas
+pub mod SpoolLemmas
+pub mod LawLemmas

@@ -1,0 +1,3 @@
+pub mod Header
+pub mod Frames
+pub mod Spools

@@ -1,0 +1,107 @@
+//! The answer to a frame: one line.
+ghost use Rattle.std.specs.Prelude.{◌≡◌, ◌∷◌, ◌++◌, [], false, IfErr, IfOk, OnOk, IsTrue, Result, Err, List, ℕ};
+ghost use Rattle.std.specs.Io.KnownBytes.{Appends};
+ghost use Rattle.upd_desk.specs.Holding.{Arrives, is_lost};
+ghost use Rattle.upd_desk.specs.Outcomes.{ReplyView};
+ghost use Rattle.upd_reply.specs.Texts.{fault_text};
+ghost use Rattle.upd_rows.specs.Keeping.{MoreFailures};
+ghost use Rattle.upd_spool.specs.Frames.{arrival_of};
+ghost use Rattle.upd_spool.specs.Spools.{AppendsFront, GetsNoLine, Unanswered, answer_line, is_answered};
+ghost use Rattle.upd_text.specs.declared.fault.Fault.{Fault};
+ghost use Rattle.upd_text.specs.declared.fault.FaultKind.TheVariants.{Store};
+
+use crate::header::Header;
+use std::alloc::Global;
+use std::io;
+use std::io::{ErrorKind, Write};
+use upd_desk::Desk;
+use upd_rows::RowStore;
+use upd_text::{Fault, FaultKind};
+
+/// Lets a run arrive, and writes the line that answers it. All memory is taken before the line is written.
+pub(crate) fn answer<W: Write, S: RowStore>(
+    alloc: Global,
+    writer: &mut W,
+    desk: &mut Desk<S>,
+    header: &Header<'_>,
+    run: &[u8],
+) -> Result<(), FaultKind>
+    ensures ok { OnOk result ((r : Result ReplyView Fault)
+        × Arrives S.is_honest S.is_open S.image S.shows S.may_leave S.failures_of (arrival_of header.now run.now) r desk.old.store desk.new.store
+        × IsTrue (is_answered r) × Appends (W.contents writer.old) (W.contents writer.new) (answer_line r)) }
+    ensures err { IfErr result (λ kind. Unanswered S.is_honest S.is_open S.image S.shows S.may_leave S.failures_of
+        kind (arrival_of header.now run.now) desk.old.store desk.new.store (W.contents writer.old) (W.contents writer.new)) }
+{
+    let text = match answer_text(alloc, desk, header, run) {
+        Ok(text) => text,
+        Err(kind) => return Err(kind),
+    };
+    match write_line(writer, &text) {
+        Ok(()) => Ok(()),
+        Err(_) => Err(FaultKind::Write),
+    }
+}
+
+/// Lets a run arrive, and answers its reply, or the text of its fault.
+fn answer_text<S: RowStore>(
+    alloc: Global,
+    desk: &mut Desk<S>,
+    header: &Header<'_>,
+    run: &[u8],
+) -> Result<Vec<u8>, FaultKind>
+    ensures ok { IfOk result (λ text. (r : Result ReplyView Fault)
+        × Arrives S.is_honest S.is_open S.image S.shows S.may_leave S.failures_of (arrival_of header.now run.now) r desk.old.store desk.new.store
+        × IsTrue (is_answered r) × (answer_line r ≡ text.items ++ 10 ∷ [])) }
+    ensures err { IfErr result (λ kind. (fault : Fault)
+        × Arrives S.is_honest S.is_open S.image S.shows S.may_leave S.failures_of (arrival_of header.now run.now) (Err fault) desk.old.store desk.new.store
+        × GetsNoLine kind fault × (kind ≡ Store → MoreFailures (S.failures_of desk.old.store) (S.failures_of desk.new.store))) }
+{
+    let number = u64::from(header.number);
+    match desk.arrive(alloc, header.site, number, header.mode, run) {
+        Ok(reply) => Ok(reply.text),
+        Err(fault) => match fault_answer(alloc, fault) {
+            Ok(text) => Ok(text),
+            Err(kind) => Err(kind),
+        },
+    }
+}
+
+/// The text of a fault that leaves an arrival answered.
+fn fault_answer(alloc: Global, fault: Fault) -> Result<Vec<u8>, FaultKind>
+    ensures ok { IfOk result (λ text. (is_lost fault.kind ≡ false) × (text.items ≡ fault_text fault)) }
+    ensures err { IfErr result (λ kind. GetsNoLine kind fault) }
+{
+    match fault.kind {
+        FaultKind::NoMemory | FaultKind::Store => Err(fault.kind),
+        _ => match upd_reply::fault(alloc, fault) {
+            Ok(text) => Ok(text),
+            Err(_) => Err(FaultKind::NoMemory),
+        },
+    }
+}
+
+/// Writes a text and LF, and flushes. An error leaves a beginning of them, or all.
+fn write_line<W: Write>(writer: &mut W, text: &[u8]) -> io::Result<()>
+    ensures ok { OnOk result (Appends (W.contents writer.old) (W.contents writer.new) (text.now ++ 10 ∷ [])) }
+    ensures front { AppendsFront (W.contents writer.old) (W.contents writer.new) (text.now ++ 10 ∷ []) }
+{
+    write_bytes(writer, text)?;
+    write_bytes(writer, b"\n")?;
+    writer.flush()
+}
+
+/// Writes all bytes. An error leaves at most a beginning of them.
+fn write_bytes<W: Write>(writer: &mut W, bytes: &[u8]) -> io::Result<()>
+    ensures ok { OnOk result (Appends (W.contents writer.old) (W.contents writer.new) bytes.now) }
+    ensures front { AppendsFront (W.contents writer.old) (W.contents writer.new) bytes.now }
+{
+    let mut rest = bytes;
+    'bytes: while !rest.is_empty() {
+        match writer.write(rest) {
+            Ok(0) => return Err(io::Error::from(ErrorKind::WriteZero)),
+            Ok(count) => rest = &rest[count..],
+            Err(error) => return Err(error),
+        }
+    }
+    Ok(())
+}

@@ -1,0 +1,41 @@
+//! One frame: it is read, its run arrives, and the answer goes out.
+ghost use Rattle.upd_spool.specs.Spools.{Exchanges};
+
+use crate::answer::answer;
+use crate::header::read_header;
+use crate::read::{read_line, read_run};
+use std::alloc::Global;
+use std::io::{Read, Write};
+use upd_desk::Desk;
+use upd_rows::RowStore;
+use upd_text::FaultKind;
+
+/// Reads a frame, lets its run arrive, and writes the answer. `false`: the input ends before the frame.
+pub(crate) fn exchange<R: Read, W: Write, S: RowStore>(
+    alloc: Global,
+    reader: &mut R,
+    writer: &mut W,
+    desk: &mut Desk<S>,
+) -> Result<bool, FaultKind>
+    ensures { Exchanges S.is_honest S.is_open S.image S.shows S.may_leave S.failures_of desk.old.store desk.new.store
+        (R.remaining reader.old) (R.remaining reader.new) (W.contents writer.old) (W.contents writer.new) result }
+{
+    let mut line = Vec::new(alloc);
+    match read_line(reader, &mut line) {
+        Ok(true) => {}
+        Ok(false) => return Ok(false),
+        Err(kind) => return Err(kind),
+    }
+    let Some(header) = read_header(&line) else {
+        return Err(FaultKind::BadFrame);
+    };
+    let mut run = Vec::new(alloc);
+    match read_run(reader, header.size, &mut run) {
+        Ok(()) => {}
+        Err(kind) => return Err(kind),
+    }
+    match answer(alloc, writer, desk, &header, &run) {
+        Ok(()) => Ok(true),
+        Err(kind) => Err(kind),
+    }
+}

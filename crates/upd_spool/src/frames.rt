@@ -1,0 +1,49 @@
+//! The frames of a spool, one after the other.
+ghost use Rattle.upd_spool.specs.Spools.{Ends};
+
+use crate::exchange::exchange;
+use crate::read::read_nothing;
+use std::alloc::Global;
+use std::io::{Read, Write};
+use upd_desk::Desk;
+use upd_rows::RowStore;
+use upd_text::Fault;
+
+/// The most frames of a spool.
+pub const MAX_FRAMES: u32 = 100_000;
+
+/// Lets the runs of a spool arrive in order, and writes a line for each: its reply, or the text of BadSite, BadNumber,
+/// BadMode, RunChanged or Settled. The answer to a frame is out before the next frame is read.
+///
+/// Answers the number of frames at the end of the input. A fault has the number of its frame, counted from 1, want of
+/// memory too, and undoes nothing of the frames before it. After Write the run of that frame is kept, if its reply said
+/// so.
+pub fn spool<R: Read, W: Write, S: RowStore>(
+    alloc: Global,
+    reader: &mut R,
+    writer: &mut W,
+    desk: &mut Desk<S>,
+) -> Result<u32, Fault>
+    ensures { Ends S.is_honest S.is_open S.image S.shows S.may_leave S.failures_of desk.old.store desk.new.store
+        (R.remaining reader.old) (R.remaining reader.new) (W.contents writer.old) (W.contents writer.new) result }
+{
+    for count in 0..MAX_FRAMES {
+        match exchange(alloc, reader, writer, desk) {
+            Ok(true) => {}
+            Ok(false) => return Ok(count),
+            Err(kind) => {
+                return Err(Fault {
+                    kind,
+                    at: count + 1,
+                });
+            }
+        }
+    }
+    match read_nothing(reader) {
+        Ok(()) => Ok(MAX_FRAMES),
+        Err(kind) => Err(Fault {
+            kind,
+            at: MAX_FRAMES + 1,
+        }),
+    }
+}
