@@ -1,0 +1,69 @@
+-- What the texts that complete a file make of its tables.
+use Rattle.std.proofs.Common.{◌≡◌, ℕ, ◌+◌, pos, true, if◌then◌else◌, List, [], ◌∷◌, ◌++◌, drop, codes, Ok, refl, ap, subst, ◌∙◌}
+use Rattle.std.specs.List.{list_all}
+use Rattle.sqlite_value.specs.declared.value.Value.TheVariants.{Null, Int, Text}
+use Rattle.sqlite_value.specs.declared.keys.Collation.TheVariants.{Binary}
+use Rattle.sqlite_value.specs.Order.{Row}
+use Rattle.sqlite_sql.specs.Term.{Term, lit, col, op2, holds, eval_all}
+use Rattle.sqlite_sql.specs.declared.ops.CompareOp.TheVariants.{Eq}
+use Rattle.sqlite_sql.specs.declared.ops.BinaryOp.TheVariants.{Compare}
+use Rattle.sqlite_schema.specs.declared.command.Command.TheVariants.{Update}
+use Rattle.sqlite_rules.specs.Cast.{cast_all}
+use Rattle.sqlite_tied.specs.Compute.{everything}
+use Rattle.sqlite.specs.Given.{IsPlain}
+use Rattle.sqlite.specs.Listing.{understood}
+use Rattle.sqlite.specs.State.{State, Executes}
+use Rattle.sqlite.proofs.Callers.{command_of, runs_as}
+use Rattle.upd_change.specs.Rows.{Rows}
+use Rattle.upd_tables.specs.Keyed.{plain_query}
+use Rattle.upd_tables.specs.Stored.{Holds}
+use Rattle.upd_tables.proofs.Shapes.{creates, cast_int}
+use Rattle.upd_tables.proofs.Tests.{eq_text, one_test}
+use Rattle.upd_sql.specs.Encoded.{stored, version_row}
+use Rattle.upd_sql.specs.Making.{schema_up_to, MakesNext}
+use Rattle.upd_sql.specs.Schema.{library_schema, meta_columns}
+use Rattle.upd_sql.specs.Stands.{Stands}
+use Rattle.upd_sql.proofs.Typed.{changes}
+use Rattle.upd_migrate.specs.declared.version.Version.{Version}
+use Rattle.upd_migrate.specs.Older.{HasTables, version_row_of}
+
+-- the next table is made, and the others have their rows
+pub next_made : (n : ℕ) (sql : List ℕ) → MakesNext n sql → (all : List (List Row)) (old new : State) (count : ℕ) → Executes sql [] old new (Ok count)
+    → Holds (schema_up_to n) all old.now
+    → Holds (schema_up_to (n + 1)) (all ++ [] ∷ []) new.now
+next_made n sql m all old new count ran h =
+    let w = runs_as sql [] old new (schema_up_to n) h.schema_is _ m.is m.plain count ran in
+    subst (λ s. Holds s (all ++ [] ∷ []) new.now) m.next (creates (schema_up_to n) m.table old new all _ [] count m.defined m.lacks h w)
+
+abbrev pub set_version : List ℕ
+set_version = codes "UPDATE meta SET v = 3 WHERE k = 'version'"
+
+abbrev set_tests : List Term
+set_tests = op2 (Compare Eq Binary) (col 1 1) (lit (Text (codes "version"))) ∷ []
+
+abbrev set_news : List Term
+set_news = col 1 1 ∷ lit (Int (pos 3)) ∷ []
+
+set_version_is : command_of (understood library_schema set_version)
+    ≡ Update 0 (record { lets = []; body = plain_query 0 set_tests (col 1 0 ∷ col 1 0 ∷ set_news) [] })
+unfolding understood everything
+set_version_is = refl
+
+set_version_plain : IsPlain (understood library_schema set_version)
+unfolding understood everything
+set_version_plain = (refl, refl)
+
+-- the row that tells a version passes the test, whatever the version, and becomes that of the present schema
+version_becomes : (version : Version) → (if list_all (holds ([] ∷ (Null ∷ version_row_of version) ∷ [])) set_tests
+    then cast_all meta_columns (eval_all set_news ([] ∷ (Null ∷ version_row_of version) ∷ [])) else version_row_of version) ≡ version_row
+version_becomes version =
+    let named : list_all (holds ([] ∷ (Null ∷ version_row_of version) ∷ [])) set_tests ≡ true = one_test (eq_text (codes "version") (codes "version")) in
+    ap (λ b. if b then cast_all meta_columns (Text (codes "version") ∷ Int (pos 3) ∷ []) else version_row_of version) named ∙ (rw (cast_int (pos 3)) refl)
+
+-- the version is set
+pub version_set : (version : Version) (it : Rows) (old new : State) (count : ℕ) → Executes set_version [] old new (Ok count) → HasTables version it old.now
+    → Stands it new.now
+version_set version it old new count ran h =
+    changes 0 0 (codes "meta") meta_columns (1 ∷ []) refl refl (λ _ _. refl) (λ v. v) ((version_row_of version ∷ []) ∷ drop 1 (stored it))
+    (version_row_of version ∷ []) refl set_version [] set_version_plain old new count ran h set_tests set_news set_version_is refl refl
+    (λ _. version_row) (version_becomes version, tt)

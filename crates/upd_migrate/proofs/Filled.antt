@@ -1,0 +1,64 @@
+-- The steps that fill a file's tables, one after another.
+use Rattle.std.proofs.Common.{◌≡◌, List, Result, Ok, Err, sym, subst, true}
+use Rattle.std.specs.List.{AllByRecursion}
+use Rattle.sqlite.specs.declared.error.Error.{Error}
+use Rattle.sqlite.specs.State.{State}
+use Rattle.upd_core.specs.Library.{LibraryView}
+use Rattle.upd_core.specs.Sound.{IsSound, IsWhole}
+use Rattle.upd_change.specs.Changes.{ChangeView, done_all}
+use Rattle.upd_change.specs.Fits.{AllFit}
+use Rattle.upd_change.specs.Rows.{Rows, Shows, ShowsStates}
+use Rattle.upd_change.specs.States.{tells_state}
+use Rattle.upd_change.proofs.FitLemmas.{states_fit}
+use Rattle.upd_rows.specs.Assembling.{AreRowsOf}
+use Rattle.upd_rows.specs.declared.rows.LibraryRows.{LibraryRows}
+use Rattle.upd_tables.specs.Stored.{Holds}
+use Rattle.upd_tables.specs.Steps.{Makes}
+use Rattle.upd_tables.proofs.Chains.{clean_before, steps_then}
+use Rattle.upd_sql.specs.Commits.{Looks}
+use Rattle.upd_sql.specs.Making.{Leads}
+use Rattle.upd_sql.specs.Stands.{Stands}
+use Rattle.upd_sql.proofs.MakingLemmas.{leads_then}
+use Rattle.upd_migrate.specs.declared.version.Version.TheVariants.{First}
+use Rattle.upd_migrate.specs.Migrated.{AreLibraryRows, IsFilled, IsMigrated, StandsAfter, completed}
+use Rattle.upd_migrate.specs.Older.{schema_of, stored_in}
+use Rattle.upd_migrate.proofs.Told.{all_else_stays}
+
+-- what is read is told, and what is told is carried out
+pub states_filled : (l library : LibraryView) (it : Rows) (cs : List ChangeView) (old mid new : State) (rows : LibraryRows) {X : Type 0} (r : Result X Error)
+    → AreLibraryRows l it → Looks AreRowsOf old mid (Ok rows)
+    → ((tables : Rows) (m : LibraryView) → IsSound m → IsWhole m → Shows tables m → AreRowsOf tables rows → library ≡ m)
+    → (IsSound library → ShowsStates (done_all cs it) library) → AllByRecursion (λ c. tells_state c ≡ true) cs
+    → Makes Stands (AllFit cs) (done_all cs) mid new r → Leads (Stands it) (StandsAfter (IsFilled l it)) old new r
+states_filled l library it cs old mid new rows (Ok x) lib looks assembles tells only makes = record {
+  steps = steps_then old mid new rows (Ok x) looks.steps makes.steps;
+  led = λ clean inside h.
+      let early = clean_before mid new _ makes.steps.survives clean in
+      let still = looks.same early h.schema_is in
+      let is = assembles it l lib.sound lib.whole lib.shows (looks.found early it h) in
+      let shown = subst (ShowsStates (done_all cs it)) is (tells (subst IsSound (sym is) lib.sound)) in (
+        done_all cs it,
+        record { same = all_else_stays cs it only; states = shown },
+        makes.made clean (looks.steps.going early inside) it (states_fit cs it only) (subst (Stands it) (sym still) h),
+      );
+}
+states_filled l library it cs old mid new rows (Err e) lib looks assembles tells only makes = record {
+  steps = steps_then old mid new rows (Err e) looks.steps makes.steps;
+  led = λ clean. tt;
+}
+
+-- a file of the first version is filled once it is completed
+pub first_filled : (l : LibraryView) (it : Rows) (old mid new : State) {X Y : Type 0} (x : X) (r : Result Y Error)
+    → Leads {X = X} (Holds (schema_of First) (stored_in First it)) (Stands (completed First it)) old mid (Ok x)
+    → Leads (Stands (completed First it)) (StandsAfter (IsFilled l (completed First it))) mid new r
+    → Leads (Holds (schema_of First) (stored_in First it)) (StandsAfter (IsMigrated First l it)) old new r
+first_filled l it old mid new x r complete fill =
+    leads_then (Holds (schema_of First) (stored_in First it)) (Stands (completed First it)) (StandsAfter (IsMigrated First l it)) old mid new x r complete fill
+
+-- rows of a library, without statuses, counts and settled marks
+pub bare_rows : (l : LibraryView) (it : Rows) → AreLibraryRows l it → AreLibraryRows l (completed First it)
+bare_rows l it lib = record {
+  sound = lib.sound;
+  whole = lib.whole;
+  shows = record { idents = lib.shows.idents; cards = lib.shows.cards; entries = lib.shows.entries; targets = lib.shows.targets };
+}

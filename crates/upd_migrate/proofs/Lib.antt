@@ -1,0 +1,6 @@
+pub mod Versions
+pub mod Completed
+pub mod Loaded
+pub mod Told
+pub mod Filled
+pub mod Migrates

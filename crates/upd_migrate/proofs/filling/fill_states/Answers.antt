@@ -1,0 +1,19 @@
+use Rattle.std.proofs.Common.{List, map, subst}
+use Rattle.sqlite.specs.Held.{state}
+use Rattle.upd_change.specs.declared.change.Change.{Change}
+use Rattle.upd_change.specs.Changes.{change_seen, done_all}
+use Rattle.upd_change.specs.Fits.{AllFit}
+use Rattle.upd_tables.specs.Steps.{Makes}
+use Rattle.upd_sql.specs.Stands.{Stands}
+use Rattle.upd_migrate.proofs.Filled.{states_filled}
+use Rattle.upd_migrate.proofs.filling.fill_states.Goals as goal
+
+pub returns-clause-leads : goal.returns-clause-leads
+returns-clause-leads g c l it lib states counts =
+    let old = state g.S.Store c.args.tx.now.conn.now in
+    let mid = state g.S.Store c.library_in.new.tx.conn.now in
+    let new = state g.S.Store c.make_all.new.tx.conn.now in
+    let makes = subst (λ (xs : List Change). Makes Stands (AllFit (map change_seen xs)) (done_all (map change_seen xs)) mid new c.make_all.result)
+    c.deref.ensures.value c.make_all.ensures.makes in
+    states_filled l c.in_ok-library.library it (map change_seen c.in-Ok.changes.items) old mid new c.in_ok-rows.rows c.make_all.result lib
+    c.in_ok-rows.ensures.looks c.in_ok-library.ensures.whole (λ sound. c.in-Ok.ensures.states sound it states counts) c.in-Ok.ensures.only makes

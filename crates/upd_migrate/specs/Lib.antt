@@ -1,0 +1,2 @@
+pub mod Older
+pub mod Migrated

@@ -1,0 +1,96 @@
+//! The tables that a file of an older schema lacks.
+ghost use Rattle.std.specs.Prelude.{◌≡◌, ◌+◌, ◌++◌, ℕ, List, [], ◌∷◌};
+ghost use Rattle.sqlite_value.specs.Order.{Row};
+ghost use Rattle.sqlite.specs.Held.{state};
+ghost use Rattle.upd_change.specs.Rows.{Rows};
+ghost use Rattle.upd_tables.specs.Steps.{Steps};
+ghost use Rattle.upd_tables.specs.Stored.{Holds};
+ghost use Rattle.upd_sql.specs.Commits.{WasOpen};
+ghost use Rattle.upd_sql.specs.Making.{schema_up_to, Leads, MakesNext};
+ghost use Rattle.upd_sql.specs.Stands.{Stands};
+ghost use Rattle.upd_migrate.specs.Migrated.{completed};
+ghost use Rattle.upd_migrate.specs.Older.{HasTables, schema_of, stored_in};
+ghost use Rattle.upd_migrate.specs.declared.version.Version.{Version};
+
+use crate::version::Version;
+use sqlite::{Alter, Error, Transaction};
+use upd_tables::run;
+
+/// Makes the next table, whatever rows the others have.
+fn create<S: Alter>(tx: &mut Transaction<'_, S>, sql: &str) -> Result<(), Error>
+    ensures same_reference { tx.new.conn.ghost_name ≡ tx.old.conn.ghost_name }
+    ensures leads { (n : ℕ) (all : List (List Row)) → MakesNext n sql.now → Leads (Holds (schema_up_to n) all)
+        (Holds (schema_up_to (n + 1)) (all ++ [] ∷ [])) (state S.Store tx.old.conn.now)
+        (state S.Store tx.new.conn.now) result }
+{
+    run(tx, sql, &[])
+}
+
+/// The tables of statuses and counts.
+fn create_states<S: Alter>(tx: &mut Transaction<'_, S>) -> Result<(), Error>
+    ensures same_reference { tx.new.conn.ghost_name ≡ tx.old.conn.ghost_name }
+    ensures leads { (all : List (List Row)) → Leads (Holds (schema_up_to 6) all)
+        (Holds (schema_up_to 8) ((all ++ [] ∷ []) ++ [] ∷ [])) (state S.Store tx.old.conn.now)
+        (state S.Store tx.new.conn.now) result }
+{
+    create(
+        tx,
+        "CREATE TABLE states (ident TEXT NOT NULL, num INT NOT NULL, active INT NOT NULL, PRIMARY KEY (ident, num)) STRICT",
+    )?;
+    create(
+        tx,
+        "CREATE TABLE counts (kind INT NOT NULL, target INT NOT NULL, deck INT NOT NULL, n INT NOT NULL, PRIMARY KEY (kind, target, deck)) STRICT",
+    )
+}
+
+/// The table of settled marks.
+fn create_settled<S: Alter>(tx: &mut Transaction<'_, S>) -> Result<(), Error>
+    ensures same_reference { tx.new.conn.ghost_name ≡ tx.old.conn.ghost_name }
+    ensures leads { (all : List (List Row)) → Leads (Holds (schema_up_to 8) all)
+        (Holds (schema_up_to 9) (all ++ [] ∷ [])) (state S.Store tx.old.conn.now)
+        (state S.Store tx.new.conn.now) result }
+{
+    create(
+        tx,
+        "CREATE TABLE settled (site TEXT NOT NULL, mark INT NOT NULL, PRIMARY KEY (site)) STRICT",
+    )
+}
+
+/// The tables that a version lacks, with no rows.
+fn create_missing<S: Alter>(tx: &mut Transaction<'_, S>, version: Version) -> Result<(), Error>
+    ensures same_reference { tx.new.conn.ghost_name ≡ tx.old.conn.ghost_name }
+    ensures leads { (it : Rows) → Leads (Holds (schema_of version) (stored_in version it))
+        (HasTables version (completed version it))
+        (state S.Store tx.old.conn.now) (state S.Store tx.new.conn.now) result }
+{
+    match version {
+        Version::First => {
+            create_states(tx)?;
+            create_settled(tx)
+        }
+        Version::Second => create_settled(tx),
+        Version::Third => Ok(()),
+    }
+}
+
+/// The version of the present schema takes the place of the one before it.
+fn set_version<S: Alter>(tx: &mut Transaction<'_, S>) -> Result<(), Error>
+    ensures same_reference { tx.new.conn.ghost_name ≡ tx.old.conn.ghost_name }
+    ensures leads { (version : Version) (it : Rows) → Leads (HasTables version it) (Stands it)
+        (state S.Store tx.old.conn.now) (state S.Store tx.new.conn.now) result }
+    ensures was_open { WasOpen (state S.Store tx.old.conn.now) (state S.Store tx.new.conn.now) result }
+{
+    run(tx, "UPDATE meta SET v = 3 WHERE k = 'version'", &[])
+}
+
+/// Makes the tables that a version lacks, with no rows, and sets the version of the present schema; the rows stay.
+pub(crate) fn complete<S: Alter>(tx: &mut Transaction<'_, S>, version: Version) -> Result<(), Error>
+    ensures same_reference { tx.new.conn.ghost_name ≡ tx.old.conn.ghost_name }
+    ensures steps { Steps (state S.Store tx.old.conn.now) (state S.Store tx.new.conn.now) result }
+    ensures leads { (it : Rows) → Leads (Holds (schema_of version) (stored_in version it))
+        (Stands (completed version it)) (state S.Store tx.old.conn.now) (state S.Store tx.new.conn.now) result }
+    ensures was_open { WasOpen (state S.Store tx.old.conn.now) (state S.Store tx.new.conn.now) result }
+{
+    create_missing(tx, version)?;
+    set_version(tx)
+}

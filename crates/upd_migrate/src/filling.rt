@@ -1,0 +1,57 @@
+//! What a file of an older schema lacks, made and filled inside a transaction.
+ghost use Rattle.std.specs.Prelude.{◌≡◌, []};
+ghost use Rattle.sqlite.specs.Held.{state};
+ghost use Rattle.upd_core.specs.Library.{LibraryView};
+ghost use Rattle.upd_change.specs.Rows.{Rows};
+ghost use Rattle.upd_tables.specs.Steps.{Steps};
+ghost use Rattle.upd_tables.specs.Stored.{Holds};
+ghost use Rattle.upd_sql.specs.Commits.{WasOpen};
+ghost use Rattle.upd_sql.specs.Making.{Leads};
+ghost use Rattle.upd_sql.specs.Stands.{Stands};
+ghost use Rattle.upd_migrate.specs.Migrated.{AreLibraryRows, IsFilled, IsMigrated, StandsAfter};
+ghost use Rattle.upd_migrate.specs.Older.{schema_of, stored_in};
+
+use crate::completing::complete;
+use crate::telling::statuses;
+use crate::version::Version;
+use sqlite::{Alter, Error, ErrorCode, Transaction};
+use std::alloc::Global;
+use upd_rows::assembled;
+use upd_sql::{library_in, make_all};
+
+/// The statuses and counts of the library that the tables show, where they have none.
+fn fill_states<S: Alter>(tx: &mut Transaction<'_, S>, alloc: Global) -> Result<(), Error>
+    ensures same_reference { tx.new.conn.ghost_name ≡ tx.old.conn.ghost_name }
+    ensures steps { Steps (state S.Store tx.old.conn.now) (state S.Store tx.new.conn.now) result }
+    ensures leads { (l : LibraryView) (it : Rows) → AreLibraryRows l it → it.states ≡ [] → it.counts ≡ []
+        → Leads (Stands it) (StandsAfter (IsFilled l it))
+        (state S.Store tx.old.conn.now) (state S.Store tx.new.conn.now) result }
+{
+    let rows = library_in(tx, alloc)?;
+    let library = assembled(alloc, rows)?;
+    let changes = match statuses(alloc, &library) {
+        Ok(changes) => changes,
+        Err(_) => return Err(Error::SqliteFailure(ErrorCode::OutOfMemory)),
+    };
+    make_all(tx, &changes)
+}
+
+/// Makes what a version lacks, fills it, and sets the version of the present schema.
+pub(crate) fn fill<S: Alter>(
+    tx: &mut Transaction<'_, S>,
+    alloc: Global,
+    version: Version,
+) -> Result<(), Error>
+    ensures same_reference { tx.new.conn.ghost_name ≡ tx.old.conn.ghost_name }
+    ensures steps { Steps (state S.Store tx.old.conn.now) (state S.Store tx.new.conn.now) result }
+    ensures leads { (l : LibraryView) (rows : Rows) → AreLibraryRows l rows
+        → Leads (Holds (schema_of version) (stored_in version rows)) (StandsAfter (IsMigrated version l rows))
+        (state S.Store tx.old.conn.now) (state S.Store tx.new.conn.now) result }
+    ensures was_open { WasOpen (state S.Store tx.old.conn.now) (state S.Store tx.new.conn.now) result }
+{
+    complete(tx, version)?;
+    match version {
+        Version::First => fill_states(tx, alloc),
+        Version::Second | Version::Third => Ok(()),
+    }
+}

@@ -1,0 +1,75 @@
+//! The library that the tables of a file show, whichever schema it has.
+ghost use Rattle.std.specs.Prelude.{◌≡◌, false, IfErr, IfOk, IsTrue};
+ghost use Rattle.sqlite.specs.Held.{state};
+ghost use Rattle.sqlite.specs.State.{HasCleanDisk, Survives};
+ghost use Rattle.upd_core.specs.Library.{LibraryView};
+ghost use Rattle.upd_change.specs.Rows.{Rows};
+ghost use Rattle.upd_rows.specs.Assembling.{AreRowsOf};
+ghost use Rattle.upd_rows.specs.Keeping.{IsLost};
+ghost use Rattle.upd_migrate.specs.Migrated.{AreLibraryRows};
+ghost use Rattle.upd_migrate.specs.Older.{ShowsAs};
+ghost use Rattle.upd_migrate.specs.declared.version.Version.{Version};
+
+use crate::completing::complete;
+use crate::version::{Version, version_in};
+use sqlite::{Connection, Error};
+use std::alloc::Global;
+use upd_core::Library;
+use upd_order::{Rising, note_settled};
+use upd_rows::{LibraryRows, assembled};
+use upd_sql::library_in;
+use upd_store::{fault_of, store_at};
+use upd_text::{Fault, FaultKind};
+
+/// The rows of the four tables that a library is made of, read in a transaction that is given up.
+fn rows_of<S: Rising>(
+    conn: &mut Connection<S>,
+    alloc: Global,
+    version: Version,
+) -> Result<LibraryRows, Error>
+    requires { conn.old.in_transaction ≡ false }
+    ensures outside { conn.new.in_transaction ≡ false }
+    ensures was_open { HasCleanDisk (state S.Store conn.new) → IsTrue (state S.Store conn.new).is_open
+        → IsTrue (state S.Store conn.old).is_open }
+    ensures same { HasCleanDisk (state S.Store conn.new) → IsTrue (state S.Store conn.new).is_open
+        → (state S.Store conn.new).committed ≡ (state S.Store conn.old).committed }
+    ensures survives { Survives (state S.Store conn.old) (state S.Store conn.new) (λ _. ⊥) }
+    ensures found { HasCleanDisk (state S.Store conn.new) → IfOk result (λ found. (it : Rows)
+        → ShowsAs version it (state S.Store conn.old).committed → AreRowsOf it found) }
+{
+    note_settled(conn);
+    let _outside = conn.is_autocommit();
+    let mut tx = conn.transaction();
+    complete(&mut tx, version)?;
+    let found = library_in(&mut tx, alloc)?;
+    tx.rollback();
+    Ok(found)
+}
+
+/// The library that the tables of a file show, of the present schema or an older one. No row is changed. Where the
+/// file has no schema of the library's the fault is Store, at the version that the file tells, 0 where there is none.
+pub fn load_rows<S: Rising>(alloc: Global, conn: &mut Connection<S>) -> Result<Library, Fault>
+    ensures shown { HasCleanDisk (state S.Store conn.new) → IsTrue (state S.Store conn.new).is_open → IfOk result
+        (λ library. (version : Version) (l : LibraryView) (rows : Rows) → AreLibraryRows l rows
+        → ShowsAs version rows (state S.Store conn.old).committed → library ≡ l) }
+    ensures same { HasCleanDisk (state S.Store conn.new) → IsTrue (state S.Store conn.new).is_open
+        → (state S.Store conn.new).committed ≡ (state S.Store conn.old).committed }
+    ensures mode { conn.new.in_transaction ≡ conn.old.in_transaction }
+    ensures survives { Survives (state S.Store conn.old) (state S.Store conn.new) (λ _. ⊥) }
+    ensures lost { IfErr result IsLost }
+{
+    if !conn.is_autocommit() {
+        return Err(store_at(0));
+    }
+    let version = match version_in(conn) {
+        Ok(version) => version,
+        Err(fault) => return Err(fault),
+    };
+    match rows_of(conn, alloc, version) {
+        Ok(rows) => match assembled(alloc, rows) {
+            Ok(library) => Ok(library),
+            Err(_) => Err(FaultKind::NoMemory.without_line()),
+        },
+        Err(error) => Err(fault_of(error)),
+    }
+}

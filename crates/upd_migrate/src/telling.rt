@@ -1,0 +1,41 @@
+//! The statuses and counts of a library, told as row changes.
+ghost use Rattle.std.specs.Prelude.{◌≡◌, [], map, true, IfOk};
+ghost use Rattle.std.specs.List.{AllByRecursion};
+ghost use Rattle.std.specs.Result.{IsOkUnless};
+ghost use Rattle.upd_core.specs.Sound.{IsSound};
+ghost use Rattle.upd_change.specs.Changes.{change_seen, done_all};
+ghost use Rattle.upd_change.specs.Rows.{Rows, ShowsStates};
+ghost use Rattle.upd_change.specs.States.{tells_state};
+ghost use Rattle.upd_text.specs.Faults.{fault_at};
+ghost use Rattle.upd_text.specs.declared.fault.FaultKind.TheVariants.{NoMemory};
+
+use std::alloc::Global;
+use upd_apply::Applied;
+use upd_change::{Change, compare};
+use upd_core::{Counted, Library};
+use upd_text::{Fault, FaultKind};
+use upd_yank::Cache;
+
+/// The changes that tell the status of each card of a library and the count of each target: those of a settling after
+/// one run that brought it all. Memory alone can fail, where there are 2^32 yank cards or more as well.
+pub(crate) fn statuses(alloc: Global, library: &Library) -> Result<Vec<Change>, Fault>
+    ensures states { IsSound library.now → (rows : Rows) → rows.states ≡ [] → rows.counts ≡ [] → IfOk result
+        (λ changes. ShowsStates (done_all (map change_seen changes.items) rows) library.now) }
+    ensures only { IfOk result (λ changes. AllByRecursion (λ c. tells_state c ≡ true) (map change_seen changes.items)) }
+    ensures err { IsOkUnless result (fault_at NoMemory 0) }
+{
+    if u32::try_from(library.yanks().len()).is_err() {
+        return Err(FaultKind::NoMemory.without_line());
+    }
+    let nothing = Library::new(alloc);
+    let brought = compare(alloc, &nothing, library)?;
+    let run = Applied {
+        idents: Vec::new(alloc),
+        compile: Vec::new(alloc),
+        touched: brought.touched,
+        changes: Vec::new(alloc),
+    };
+    let mut cache = Cache::build(alloc, &nothing)?;
+    let changes = cache.settle(&mut Counted::new(library), &run)?;
+    Ok(changes)
+}

@@ -1,0 +1,75 @@
+//! Which schema a file has.
+ghost use Rattle.std.specs.Prelude.{◌≡◌, ◌≤◌, false, IfErr, IfOk, IfSome, IsTrue};
+ghost use Rattle.sqlite.specs.Held.{state};
+ghost use Rattle.sqlite.specs.State.{HasCleanDisk, Survives};
+ghost use Rattle.upd_rows.specs.Keeping.{IsLost};
+ghost use Rattle.upd_migrate.specs.Older.{schema_of, tables_of};
+
+use sqlite::Connection;
+use sqlite_schema::schema::Schema;
+use upd_order::Rising;
+use upd_sql::has_first_tables;
+use upd_store::{fault_of, store_at, version_of};
+use upd_text::Fault;
+
+/// A version of the schema. The third is the present one.
+#[derive(Clone, Copy, Debug)]
+pub enum Version {
+    First,
+    Second,
+    Third,
+}
+
+/// How many tables a version has.
+fn table_count(version: Version) -> usize
+    ensures value { result ≡ tables_of version }
+    ensures few { result ≤ 9 }
+{
+    match version {
+        Version::First => 6,
+        Version::Second => 8,
+        Version::Third => 9,
+    }
+}
+
+/// The version of a number, where the schema has its tables and nothing else.
+fn version_with(number: u32, schema: &Schema) -> Option<Version>
+    ensures { IfSome result (λ version. schema.now ≡ schema_of version) }
+{
+    let version = match number {
+        1 => Version::First,
+        2 => Version::Second,
+        3 => Version::Third,
+        _ => return None,
+    };
+    if has_first_tables(schema, table_count(version)) {
+        Some(version)
+    } else {
+        None
+    }
+}
+
+/// The version that a file tells and whose tables it has. Else the fault is Store, at the version that the file
+/// tells, 0 where there is none. Nothing is written.
+pub(crate) fn version_in<S: Rising>(conn: &mut Connection<S>) -> Result<Version, Fault>
+    requires { conn.old.in_transaction ≡ false }
+    ensures outside { conn.new.in_transaction ≡ false }
+    ensures found { IfOk result (λ version. IsTrue (state S.Store conn.new).is_open
+        → (state S.Store conn.new).committed.schema ≡ schema_of version) }
+    ensures was_open { HasCleanDisk (state S.Store conn.new) → IsTrue (state S.Store conn.new).is_open
+        → IsTrue (state S.Store conn.old).is_open }
+    ensures same { HasCleanDisk (state S.Store conn.new) → IsTrue (state S.Store conn.new).is_open
+        → (state S.Store conn.new).committed ≡ (state S.Store conn.old).committed }
+    ensures survives { Survives (state S.Store conn.old) (state S.Store conn.new) (λ _. ⊥) }
+    ensures lost { IfErr result IsLost }
+{
+    let number = match version_of(conn) {
+        Ok(number) => number,
+        Err(error) => return Err(fault_of(error)),
+    };
+    let _outside = conn.is_autocommit();
+    match version_with(number, conn.schema()) {
+        Some(version) => Ok(version),
+        None => Err(store_at(number)),
+    }
+}
