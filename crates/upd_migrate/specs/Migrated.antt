@@ -1,5 +1,5 @@
 -- What a migration makes of the tables.
-use Rattle.std.specs.Prelude.{◌≡◌, [], IsTrue}
+use Rattle.std.specs.Prelude.{◌≡◌, ℕ, [], IsTrue}
 use Rattle.sqlite_trees.specs.Tree.{Trees}
 use Rattle.sqlite.specs.Effect.{Database}
 use Rattle.sqlite.specs.State.{State}
@@ -8,9 +8,10 @@ use Rattle.upd_core.specs.Sound.{IsSound, IsWhole}
 use Rattle.upd_change.specs.Rows.{Rows, Shows, ShowsStates}
 use Rattle.upd_sql.specs.Commits.{ShowsIn}
 use Rattle.upd_sql.specs.Stands.{ShowsTables, Stands}
+use Rattle.upd_store.specs.Version.{TellsVersion}
 use Rattle.upd_migrate.specs.declared.version.Version.{Version}
 use Rattle.upd_migrate.specs.declared.version.Version.TheVariants.{First, Second, Third}
-use Rattle.upd_migrate.specs.Older.{ShowsAs, schema_of}
+use Rattle.upd_migrate.specs.Older.{ShowsAs, number_of, schema_of}
 
 -- the tables of a version with those that it lacks, which have no rows
 abbrev pub completed : Version → Rows → Rows
@@ -63,6 +64,6 @@ MayMigrate old trees = IsTrue old.is_open × ((version : Version) (l : LibraryVi
     → ShowsAs version rows old.committed
     → (after : Rows) × IsMigrated version l rows after × ShowsIn trees after)
 
--- the schema of the database is that of some version
+-- The database has the schema of some version, and where it tells a version it tells that one.
 abbrev pub HasKnown : Database → Type 0
-HasKnown db = (version : Version) × (db.schema ≡ schema_of version)
+HasKnown db = (version : Version) × (db.schema ≡ schema_of version) × ((n : ℕ) → TellsVersion n db → n ≡ number_of version)

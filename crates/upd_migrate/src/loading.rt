@@ -1,11 +1,12 @@
 //! The library that the tables of a file show, whichever schema it has.
-ghost use Rattle.std.specs.Prelude.{◌≡◌, false, IfErr, IfOk, IsTrue};
+ghost use Rattle.std.specs.Prelude.{◌≡◌, ◌⊎◌, ℕ, false, IfErr, IfOk, IsTrue};
 ghost use Rattle.sqlite.specs.Held.{state};
 ghost use Rattle.sqlite.specs.State.{HasCleanDisk, Survives};
 ghost use Rattle.upd_core.specs.Library.{LibraryView};
 ghost use Rattle.upd_change.specs.Rows.{Rows};
 ghost use Rattle.upd_rows.specs.Assembling.{AreRowsOf};
 ghost use Rattle.upd_rows.specs.Keeping.{IsLost};
+ghost use Rattle.upd_store.specs.Version.{TellsVersion};
 ghost use Rattle.upd_migrate.specs.Migrated.{AreLibraryRows};
 ghost use Rattle.upd_migrate.specs.Older.{ShowsAs};
 ghost use Rattle.upd_migrate.specs.declared.version.Version.{Version};
@@ -54,6 +55,8 @@ pub fn load_rows<S: Rising>(alloc: Global, conn: &mut Connection<S>) -> Result<L
         → ShowsAs version rows (state S.Store conn.old).committed → library ≡ l) }
     ensures same { HasCleanDisk (state S.Store conn.new) → IsTrue (state S.Store conn.new).is_open
         → (state S.Store conn.new).committed ≡ (state S.Store conn.old).committed }
+    ensures version { IfErr result (λ e. HasCleanDisk (state S.Store conn.new) → (v : ℕ)
+        → TellsVersion v (state S.Store conn.old).committed → (e.at ≡ v) ⊎ (e.at ≡ 0)) }
     ensures mode { conn.new.in_transaction ≡ conn.old.in_transaction }
     ensures survives { Survives (state S.Store conn.old) (state S.Store conn.new) (λ _. ⊥) }
     ensures lost { IfErr result IsLost }

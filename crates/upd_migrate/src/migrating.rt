@@ -1,9 +1,10 @@
 //! Leading a file to the present schema.
-ghost use Rattle.std.specs.Prelude.{◌≡◌, false, IfErr, IsTrue, OnErr, OnOk};
+ghost use Rattle.std.specs.Prelude.{◌≡◌, ◌⊎◌, ℕ, false, IfErr, IsTrue, OnErr, OnOk};
 ghost use Rattle.sqlite.specs.Held.{state};
 ghost use Rattle.sqlite.specs.State.{HasCleanDisk, Survives};
 ghost use Rattle.upd_rows.specs.Keeping.{IsLost};
 ghost use Rattle.upd_sql.specs.Schema.{library_schema};
+ghost use Rattle.upd_store.specs.Version.{TellsVersion};
 ghost use Rattle.upd_migrate.specs.Migrated.{HasKnown, MayMigrate, MayMigrateFrom, Migrates, MigratesFrom};
 
 use crate::filling::fill;
@@ -26,7 +27,8 @@ fn migrate_from<S: Rising>(
         × IsTrue (state S.Store conn.old).is_open
         × MigratesFrom version (state S.Store conn.old) (state S.Store conn.new)) }
     ensures undone { HasCleanDisk (state S.Store conn.new) → IsTrue (state S.Store conn.new).is_open → OnErr result
-        (IsTrue (state S.Store conn.old).is_open × ((state S.Store conn.new).committed ≡ (state S.Store conn.old).committed)) }
+        (IsTrue (state S.Store conn.old).is_open × ((state S.Store conn.new).committed
+        ≡ (state S.Store conn.old).committed)) }
     ensures crash { Survives (state S.Store conn.old) (state S.Store conn.new)
         (MayMigrateFrom version (state S.Store conn.old)) }
 {
@@ -53,6 +55,8 @@ pub fn migrate<S: Rising>(alloc: Global, conn: &mut Connection<S>) -> Result<(),
         → (state S.Store conn.new).committed ≡ (state S.Store conn.old).committed }
     ensures undone { HasCleanDisk (state S.Store conn.new) → IsTrue (state S.Store conn.new).is_open → OnErr result
         ((state S.Store conn.new).committed ≡ (state S.Store conn.old).committed) }
+    ensures version { IfErr result (λ e. HasCleanDisk (state S.Store conn.new) → (v : ℕ)
+        → TellsVersion v (state S.Store conn.old).committed → (e.at ≡ v) ⊎ (e.at ≡ 0)) }
     ensures mode { conn.new.in_transaction ≡ conn.old.in_transaction }
     ensures crash { Survives (state S.Store conn.old) (state S.Store conn.new) (MayMigrate (state S.Store conn.old)) }
     ensures lost { IfErr result IsLost }

@@ -21,7 +21,8 @@ use upd_yank::Cache;
 pub(crate) fn statuses(alloc: Global, library: &Library) -> Result<Vec<Change>, Fault>
     ensures states { IsSound library.now → (rows : Rows) → rows.states ≡ [] → rows.counts ≡ [] → IfOk result
         (λ changes. ShowsStates (done_all (map change_seen changes.items) rows) library.now) }
-    ensures only { IfOk result (λ changes. AllByRecursion (λ c. tells_state c ≡ true) (map change_seen changes.items)) }
+    ensures only { IfOk result (λ changes.
+        AllByRecursion (λ c. tells_state c ≡ true) (map change_seen changes.items)) }
     ensures err { IsOkUnless result (fault_at NoMemory 0) }
 {
     if u32::try_from(library.yanks().len()).is_err() {

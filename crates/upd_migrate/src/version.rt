@@ -1,9 +1,10 @@
 //! Which schema a file has.
-ghost use Rattle.std.specs.Prelude.{◌≡◌, ◌≤◌, false, IfErr, IfOk, IfSome, IsTrue};
+ghost use Rattle.std.specs.Prelude.{◌≡◌, ◌≤◌, ◌⊎◌, ℕ, false, IfErr, IfOk, IfSome, IsTrue};
 ghost use Rattle.sqlite.specs.Held.{state};
 ghost use Rattle.sqlite.specs.State.{HasCleanDisk, Survives};
 ghost use Rattle.upd_rows.specs.Keeping.{IsLost};
-ghost use Rattle.upd_migrate.specs.Older.{schema_of, tables_of};
+ghost use Rattle.upd_store.specs.Version.{TellsVersion};
+ghost use Rattle.upd_migrate.specs.Older.{number_of, schema_of, tables_of};
 
 use sqlite::Connection;
 use sqlite_schema::schema::Schema;
@@ -34,7 +35,8 @@ fn table_count(version: Version) -> usize
 
 /// The version of a number, where the schema has its tables and nothing else.
 fn version_with(number: u32, schema: &Schema) -> Option<Version>
-    ensures { IfSome result (λ version. schema.now ≡ schema_of version) }
+    ensures schema { IfSome result (λ version. schema.now ≡ schema_of version) }
+    ensures number { IfSome result (λ version. number ≡ number_of version) }
 {
     let version = match number {
         1 => Version::First,
@@ -56,6 +58,10 @@ pub(crate) fn version_in<S: Rising>(conn: &mut Connection<S>) -> Result<Version,
     ensures outside { conn.new.in_transaction ≡ false }
     ensures found { IfOk result (λ version. IsTrue (state S.Store conn.new).is_open
         → (state S.Store conn.new).committed.schema ≡ schema_of version) }
+    ensures told { IfOk result (λ version. HasCleanDisk (state S.Store conn.new) → (v : ℕ)
+        → TellsVersion v (state S.Store conn.old).committed → v ≡ number_of version) }
+    ensures fault { IfErr result (λ e. HasCleanDisk (state S.Store conn.new) → (v : ℕ)
+        → TellsVersion v (state S.Store conn.old).committed → (e.at ≡ v) ⊎ (e.at ≡ 0)) }
     ensures was_open { HasCleanDisk (state S.Store conn.new) → IsTrue (state S.Store conn.new).is_open
         → IsTrue (state S.Store conn.old).is_open }
     ensures same { HasCleanDisk (state S.Store conn.new) → IsTrue (state S.Store conn.new).is_open

@@ -1,4 +1,6 @@
+use Rattle.std.proofs.Common.{sym, ap, ◌∙◌}
 use Rattle.sqlite.specs.Held.{state}
+use Rattle.sqlite.specs.Effect.{Database}
 use Rattle.upd_tables.proofs.Chains.{clean_before}
 use Rattle.upd_migrate.proofs.Migrates.{any_leaves, migrates_any}
 use Rattle.upd_migrate.proofs.migrating.migrate.Goals as goal
@@ -21,3 +23,12 @@ pub returns-in-Err-migrate_from-clause-crash : goal.returns-in-Err-migrate_from-
 returns-in-Err-migrate_from-clause-crash g c =
     any_leaves c.in-Ok.version (state g.S.Store c.args.conn.now) (state g.S.Store c.version_in.new.conn) c.in-Ok.ensures.found c.in-Ok.ensures.same
     (state g.S.Store c.migrate_from.new.conn) c.in-Ok.ensures.was_open c.in-Ok.ensures.survives c.in-Err-migrate_from.ensures.crash
+
+pub returns-in-Ok-migrate_from-clause-known : goal.returns-in-Ok-migrate_from-clause-known
+returns-in-Ok-migrate_from-clause-known g c clean o =
+    let mid = state g.S.Store c.version_in.new.conn in
+    let new = state g.S.Store c.migrate_from.new.conn in
+    let early = clean_before mid new _ c.in-Ok-migrate_from.ensures.crash clean in
+    let was_open = (c.in-Ok-migrate_from.ensures.done clean).1 in
+    let schema = ap (λ (d : Database). d.schema) (sym (c.in-Ok.ensures.same early was_open)) ∙ c.in-Ok.ensures.found was_open in
+    (c.in-Ok.version, schema, c.in-Ok.ensures.told early)
