@@ -1,0 +1,47 @@
+-- Questions to the desk and their answers.
+use Rattle.std.proofs.Common.{◌≡◌, ◌⊎◌, inl, inr, ℕ, List, [], ◌∷◌, ◌++◌, Bool, true, Option, Some, None, Result, Ok, Err, IfOk, IfErr, IsErr, IsTrue, refl}
+use Rattle.std.proofs.Common.{sym, ap, ◌∙◌, subst}
+use Rattle.std.specs.Result.{result_map_both}
+use Rattle.upd_change.specs.Rows.{Rows}
+use Rattle.upd_core.specs.Library.{LibraryView}
+use Rattle.upd_desk.specs.Holding.{Tells}
+use Rattle.upd_request.specs.Calls.{Asked}
+use Rattle.upd_rows.specs.Keeping.{Keeps, MoreFailures}
+use Rattle.upd_text.specs.declared.fault.Fault.{Fault}
+use Rattle.upd_text.specs.declared.fault.FaultKind.TheVariants.{Store}
+use Rattle.upd_http.specs.Responses.{Response, fault_response, page, response_of}
+use Rattle.upd_http.specs.Serving.{Asks, CountsFailure, Does, IsAnswer, Leads, Made, Queries, no_memory}
+use Rattle.upd_http.specs.Views.{answer_seen, response}
+use Rattle.upd_http.specs.declared.answer.Answer.{Answer}
+
+ok_is_no_err : {A : Type 0} {x : A} {e : Fault} → Ok x ≡ Err e → ⊥
+ok_is_no_err is = cc
+
+-- an answer that was told
+pub answered_told : {A : Type 0} (f : A → Response) (result : Result A Fault) (x : A) (answer : Response) → result ≡ Ok x → answer ≡ f x
+    → IsAnswer (result_map_both f (λ fault. fault) result) (Ok answer)
+answered_told f result x answer is same =
+    inl (ap Ok (same ∙ sym (ap (λ r. response_of (result_map_both f (λ fault. fault) r)) is)))
+
+-- a fault that was told, or want of memory for its text
+pub answered_fault : {A : Type 0} (f : A → Response) (result : Result A Fault) (fault : Fault) (answer : Result Answer Fault) → result ≡ Err fault
+    → IfOk answer (λ a. response a ≡ fault_response fault) → IfErr answer (λ e. e ≡ no_memory)
+    → IsAnswer (result_map_both f (λ e. e) result) (answer_seen answer)
+answered_fault f result fault (Ok a) is ok err =
+    inl (ap Ok (ok ∙ sym (ap (λ r. response_of (result_map_both f (λ e. e) r)) is)))
+answered_fault {A = A} f result fault (Err e) is ok err = inr (fails result is, ap Err err)
+  where
+    fails : (r : Result A Fault) → r ≡ Err fault → IsErr (result_map_both f (λ e. e) r)
+    fails (Ok x) is = absurd (ok_is_no_err is)
+    fails (Err e) is = refl
+
+-- a result that is seen another way fails alike
+pub fails_alike : {A B : Type 0} (seen : A → B) (P : Fault → Type 0) (result : Result A Fault) → IfErr result P → IfErr (result_map_both seen (λ e. e) result) P
+fails_alike seen P (Ok x) fails = tt
+fails_alike seen P (Err e) fails = fails
+
+pub seen_ok : {A B : Type 0} (seen : A → B) (result : Result A Fault) (x : A) → result ≡ Ok x → result_map_both seen (λ e. e) result ≡ Ok (seen x)
+seen_ok seen result x is = ap (λ r. result_map_both seen (λ e. e) r) is
+
+pub seen_err : {A B : Type 0} (seen : A → B) (result : Result A Fault) (fault : Fault) → result ≡ Err fault → result_map_both seen (λ e. e) result ≡ Err fault
+seen_err seen result fault is = ap (λ r. result_map_both seen (λ e. e) r) is

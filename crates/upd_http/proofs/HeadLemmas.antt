@@ -1,0 +1,41 @@
+-- Texts that are put together piece by piece.
+use Rattle.std.proofs.Common.{◌≡◌, ℕ, nat_le, Bool, true, false, ◌&&◌, ◌||◌, ◌==◌, IsTrue, List, [], ◌∷◌, ◌++◌, length, codes, decimal, refl, sym, ap, ap₂}
+use Rattle.std.proofs.Common.{◌∙◌, arith, append_assoc, append-nil}
+use Rattle.std.proofs.lemmas.Bool.{false≢true}
+use Rattle.std.proofs.lemmas.Bool.Decides.{nat_tests}
+use Rattle.std.specs.List.{concat, flat_map, list_all}
+use Rattle.upd_desk.specs.Arrivals.{is_site, is_site_byte}
+use Rattle.upd_reply.specs.Texts.{escaped, settled_text}
+
+-- a piece is put behind what stands there
+pub put_on : (old new piece : List ℕ) (front said : List ℕ) → new ≡ old ++ piece → old ≡ front → piece ≡ said → new ≡ front ++ said
+put_on old new piece front said is before what = is ∙ ap₂ (λ a b. a ++ b) before what
+
+pub of_eight : (a b c d e f g h : List ℕ) → ((((((([] ++ a) ++ b) ++ c) ++ d) ++ e) ++ f) ++ g) ++ h ≡ concat (a ∷ b ∷ c ∷ d ∷ e ∷ f ∷ g ∷ h ∷ [])
+of_eight a b c d e f g h = simp (append_assoc, append-nil)
+
+pub of_five : (a b c d e : List ℕ) → (((([] ++ a) ++ b) ++ c) ++ d) ++ e ≡ a ++ (b ++ (c ++ (d ++ e)))
+of_five a b c d e = simp append_assoc
+
+both_true : (x y : Bool) → (x && y) ≡ true → (x ≡ true) × (y ≡ true)
+both_true true true is = (refl, refl)
+both_true true false is = absurd (false≢true is)
+both_true false y is = absurd (false≢true is)
+
+-- a byte of a site stands for itself
+site_byte_is_plain : (b : ℕ) → is_site_byte b ≡ true → escaped b ≡ b ∷ []
+site_byte_is_plain b is = grind (arith, nat_tests)
+
+pub site_is_plain : (site : List ℕ) → list_all is_site_byte site ≡ true → flat_map escaped site ≡ site
+site_is_plain [] is = refl
+site_is_plain (b ∷ site) is =
+    let (first, rest) = both_true (is_site_byte b) (list_all is_site_byte site) is in
+    ap₂ (λ x y. x ++ y) (site_byte_is_plain b first) (site_is_plain site rest)
+
+-- the text of a mark, where the site is one
+pub mark_text : (site : List ℕ) (mark : ℕ) → IsTrue (is_site site)
+    → codes "{\"settled\":" ++ (decimal mark ++ (codes ",\"site\":\"" ++ (site ++ codes "\"}"))) ≡ settled_text site mark
+mark_text site mark is =
+    let plain = site_is_plain site (both_true _ (list_all is_site_byte site) is).1 in
+    ap (λ l. codes "{\"settled\":" ++ (decimal mark ++ (codes ",\"site\":\"" ++ l)))
+    (sym (append_assoc site (codes "\"") (codes "}")) ∙ ap (λ s. (s ++ codes "\"") ++ codes "}") (sym plain))

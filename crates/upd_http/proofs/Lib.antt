@@ -1,0 +1,4 @@
+pub mod WriteLemmas
+pub mod AskLemmas
+pub mod HeadLemmas
+pub mod AnswerLemmas

@@ -1,0 +1,4 @@
+pub mod Statuses
+pub mod Responses
+pub mod Views
+pub mod Serving

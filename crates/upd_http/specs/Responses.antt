@@ -1,0 +1,75 @@
+-- Answers: what they are, and their bytes.
+use Rattle.std.specs.Prelude.{ℕ, Bool, true, false, List, [], ◌∷◌, ◌++◌, length, codes, decimal, Option, Some, None, Result, Ok, Err}
+use Rattle.std.specs.List.{concat}
+use Rattle.upd_text.specs.Faults.{fault_at}
+use Rattle.upd_text.specs.declared.fault.Fault.{Fault}
+use Rattle.upd_text.specs.declared.fault.FaultKind.TheVariants.{BadFrame}
+use Rattle.upd_reply.specs.Texts.{fault_text, settled_text}
+use Rattle.upd_desk.specs.Outcomes.{ReplyView}
+use Rattle.upd_request.specs.Verbs.{verb_text}
+use Rattle.upd_request.specs.declared.call.Refusal.{Refusal}
+use Rattle.upd_request.specs.declared.call.Refusal.TheVariants.{Silent, Told, NoRoute, OtherMethod}
+use Rattle.upd_request.specs.declared.call.Verb.{Verb}
+use Rattle.upd_http.specs.Statuses.{fault_status, media_text, status_line}
+use Rattle.upd_http.specs.declared.status.Media.{Media}
+use Rattle.upd_http.specs.declared.status.Media.TheVariants.{Json, Plain}
+use Rattle.upd_http.specs.declared.status.Status.{Status}
+use Rattle.upd_http.specs.declared.status.Status.TheVariants.{Done, Unprocessable, NotFound, MethodNotAllowed}
+
+-- An answer: its status, what its body is, the method that its path has where another was asked, and the body.
+pub record Response : Type 0 where
+  pub status : Status
+  pub media : Media
+  pub allow : Option Verb
+  pub body : List ℕ
+
+-- ---- bytes
+
+-- the line that names the method of a path
+abbrev pub allow_line : Option Verb → List ℕ
+allow_line None = []
+allow_line (Some verb) = codes "\r\nAllow: " ++ verb_text verb
+
+-- the head of an answer: its lines, each with CR LF, and an empty line
+abbrev pub head_text : Response → List ℕ
+head_text r =
+    concat (codes "HTTP/1.1 " ∷ status_line r.status ∷ codes "\r\nContent-Type: " ∷ media_text r.media ∷ codes "\r\nContent-Length: "
+    ∷ decimal (length r.body) ∷ allow_line r.allow ∷ codes "\r\nConnection: close\r\n\r\n" ∷ [])
+
+-- the bytes of an answer
+abbrev pub response_text : Response → List ℕ
+response_text r = head_text r ++ r.body
+
+-- ---- what is answered
+
+-- a reply to a run: a refused run can't be carried out
+abbrev pub reply_status : Bool → Status
+reply_status true = Done
+reply_status false = Unprocessable
+
+abbrev pub reply_response : ReplyView → Response
+reply_response reply = record { status = reply_status reply.accepted; media = Json; allow = None; body = reply.text }
+
+-- the mark of a site that has settled
+abbrev pub mark_response : List ℕ → ℕ → Response
+mark_response site mark = record { status = Done; media = Json; allow = None; body = settled_text site mark }
+
+-- a compile file or a listing
+abbrev pub page : List ℕ → Response
+page bytes = record { status = Done; media = Plain; allow = None; body = bytes }
+
+-- a fault, by its own status
+abbrev pub fault_response : Fault → Response
+fault_response fault = record { status = fault_status fault.kind; media = Json; allow = None; body = fault_text fault }
+
+-- what is told, or the fault that is told in its place
+abbrev pub response_of : Result Response Fault → Response
+response_of (Ok response) = response
+response_of (Err fault) = fault_response fault
+
+-- how a refused request is answered; nothing is said where it was cut or couldn't be read
+abbrev pub refusal_answer : Refusal → Result Response Fault
+refusal_answer (Silent fault) = Err fault
+refusal_answer (Told fault) = Ok (fault_response fault)
+refusal_answer NoRoute = Ok (record (fault_response (fault_at BadFrame 0)) { status = NotFound })
+refusal_answer (OtherMethod verb) = Ok (record (fault_response (fault_at BadFrame 0)) { status = MethodNotAllowed; allow = Some verb })

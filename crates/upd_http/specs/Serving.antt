@@ -1,0 +1,124 @@
+-- One request and its answer: what is asked of the desk, what it does, and what is written.
+use Rattle.std.specs.Prelude.{◌≡◌, ◌⊎◌, ◌≤◌, ℕ, IsTrue, List, [], ◌∷◌, ◌++◌, Option, Some, None, Result, Ok, Err, IfErr, IsErr}
+use Rattle.std.specs.Io.KnownBytes.{Appends}
+use Rattle.std.specs.Result.{result_map_both}
+use Rattle.upd_change.specs.Rows.{Rows}
+use Rattle.upd_core.specs.Library.{LibraryView}
+use Rattle.upd_compile.specs.File.{FileView, compile_file_of}
+use Rattle.upd_compile.specs.Listings.{card_listing, deck_listing, ident_listing, yank_listing}
+use Rattle.upd_compile.specs.declared.mode.Mode.TheVariants.{Full}
+use Rattle.upd_desk.specs.Arrivals.{is_site}
+use Rattle.upd_desk.specs.Holding.{Arrives, Settles, Tells}
+use Rattle.upd_desk.specs.Outcomes.{ReplyView}
+use Rattle.upd_reply.specs.Texts.{settled_text}
+use Rattle.upd_request.specs.Calls.{Asked, run, settle, compile, deck, card, idents, yanks}
+use Rattle.upd_request.specs.Requests.{Says}
+use Rattle.upd_request.specs.declared.call.Refusal.{Refusal}
+use Rattle.upd_rows.specs.Keeping.{Keeps, MoreFailures}
+use Rattle.upd_text.specs.Faults.{fault_at}
+use Rattle.upd_text.specs.declared.fault.Fault.{Fault}
+use Rattle.upd_text.specs.declared.fault.FaultKind.TheVariants.{NoMemory, Store, Read, Write}
+use Rattle.upd_http.specs.Responses.{Response, fault_response, mark_response, page, refusal_answer, reply_response, response_of, response_text}
+
+-- want of memory, and reads and writes that failed
+abbrev pub no_memory : Fault
+no_memory = fault_at NoMemory 0
+
+abbrev pub read_failed : Fault
+read_failed = fault_at Read 0
+
+abbrev pub write_failed : Fault
+write_failed = fault_at Write 0
+
+-- what the desk was asked, and what it told; or it was asked nothing
+abbrev pub Made : Type 0
+Made = Option (Asked × Result Response Fault)
+
+-- what was told is answered, or memory is wanting for the text of a fault
+abbrev pub IsAnswer : Result Response Fault → Result Response Fault → Type 0
+IsAnswer told answer = (answer ≡ Ok (response_of told)) ⊎ (IsErr told × (answer ≡ Err no_memory))
+
+-- what was made of a question, and its answer: what was told is answered, or nothing was asked for want of memory
+abbrev pub IsAsked : Asked → Made → Result Response Fault → Type 0
+IsAsked asked made answer =
+    ((told : Result Response Fault) × (made ≡ Some (asked, told)) × IsAnswer told answer) ⊎ ((made ≡ None) × (answer ≡ Err no_memory))
+
+-- ---- the desk
+
+-- a mark is told by its text, as far as the site is one: of another the desk has no mark
+abbrev pub TellsMark : List ℕ → Result ℕ Fault → Result Response Fault → Type 0
+TellsMark site (Ok mark) told = (body : List ℕ) × (told ≡ Ok (record (mark_response site mark) { body = body }))
+    × (IsTrue (is_site site) → body ≡ settled_text site mark)
+TellsMark site (Err fault) told = told ≡ Err fault
+
+module _ {S : Type 0} {Image : Type 0} (is_honest is_open : S → Type 0) (image : S → Image) (shows : Image → Rows → Type 0)
+    (may_leave : S → Image → Type 0) (failures : S → ℕ) where
+  -- a store is said to have failed only where it counted a failure
+  abbrev pub CountsFailure : {A : Type 0} → Result A Fault → S → S → Type 0
+  CountsFailure result old new = IfErr result (λ fault. fault.kind ≡ Store → MoreFailures (failures old) (failures new))
+
+  -- a query told what the desk answered, as a page of these bytes
+  abbrev pub Queries : {A : Type 0} → (LibraryView → Result A Fault) → (A → List ℕ) → Result Response Fault → S → S → Type 0
+  Queries {A} defined bytes told old new =
+      (result : Result A Fault) × Tells is_honest is_open image shows may_leave failures defined result old new
+      × Keeps is_honest is_open image shows may_leave failures old new × CountsFailure result old new
+      × (told ≡ result_map_both (λ x. page (bytes x)) (λ fault. fault) result)
+
+  -- The desk was asked this and told so, and its store went from the one to the other.
+  abbrev pub Does : Asked → Result Response Fault → S → S → Type 0
+  Does (run site number mode bytes) told old new =
+      (result : Result ReplyView Fault)
+      × Arrives is_honest is_open image shows may_leave failures (record { site = site; number = number; mode = mode; bytes = bytes }) result old new
+      × CountsFailure result old new × (told ≡ result_map_both reply_response (λ fault. fault) result)
+  Does (settle site number) told old new =
+      (result : Result ℕ Fault) × Settles is_honest is_open image shows may_leave failures site number result old new
+      × CountsFailure result old new × TellsMark site result told
+  Does compile told old new = Queries (λ l. compile_file_of Full [] l l) (λ file. file.bytes) told old new
+  Does (deck name) told old new = Queries (deck_listing name) (λ text. text) told old new
+  Does (card c) told old new = Queries (card_listing c) (λ text. text) told old new
+  Does idents told old new = Queries (λ l. Ok (ident_listing l)) (λ text. text) told old new
+  Does yanks told old new = Queries (λ l. Ok (yank_listing l)) (λ text. text) told old new
+
+  -- what was made of a request led the store from the one to the other
+  abbrev pub Leads : Made → S → S → Type 0
+  Leads None old new = new ≡ old
+  Leads (Some (asked, told)) old new = Does asked told old new
+
+  -- requests one after the other, the latest first, led it from the one to the other
+  abbrev pub LeadsThrough : List Made → S → S → Type 0
+  LeadsThrough [] old new = new ≡ old
+  LeadsThrough (made ∷ earlier) old new = (mid : S) × LeadsThrough earlier old mid × Leads made mid new
+
+  -- a question to the desk and its answer
+  abbrev pub Asks : Asked → Result Response Fault → S → S → Type 0
+  Asks asked answer old new = (made : Made) × Leads made old new × IsAsked asked made answer
+
+-- ---- the answer
+
+-- memory was wanting, or a read failed, before the desk was asked
+abbrev pub IsFailed : Result Response Fault → Type 0
+IsFailed answer = (answer ≡ Ok (fault_response no_memory)) ⊎ ((answer ≡ Err no_memory) ⊎ (answer ≡ Err read_failed))
+
+-- The answer to a request, or the fault that says why there is none: a refused request asks nothing of the desk, another one asks what it
+-- says and is answered what the desk told.
+abbrev pub Answers : List ℕ → Made → Result Response Fault → Type 0
+Answers input made answer =
+    ((refusal : Refusal) × Says input (Err refusal) × (made ≡ None) × (answer ≡ refusal_answer refusal))
+    ⊎ (((asked : Asked) × (told : Result Response Fault) × Says input (Ok asked) × (made ≡ Some (asked, told)) × IsAnswer told answer)
+    ⊎ ((made ≡ None) × IsFailed answer))
+
+-- ---- what is written
+
+-- a beginning of these bytes was written, or all of them
+abbrev pub AppendsFront : Option (List ℕ) → Option (List ℕ) → List ℕ → Type 0
+AppendsFront old new bytes = (front : List ℕ) × (rest : List ℕ) × (bytes ≡ front ++ rest) × Appends old new front
+
+-- these bytes were written, or a beginning of them before a write failed
+abbrev pub Puts : {U : Type 0} → Result U Fault → Option (List ℕ) → Option (List ℕ) → List ℕ → Type 0
+Puts (Ok u) old new bytes = Appends old new bytes
+Puts (Err fault) old new bytes = (fault ≡ write_failed) × AppendsFront old new bytes
+
+-- an answer is written, and a fault without one leaves the output as it was
+abbrev pub Sends : {U : Type 0} → Result Response Fault → Result U Fault → Option (List ℕ) → Option (List ℕ) → Type 0
+Sends (Ok response) result old new = Puts result old new (response_text response)
+Sends (Err fault) result old new = (result ≡ Err fault) × Appends old new []

@@ -1,0 +1,14 @@
+-- What a value of the code stands for.
+use Rattle.std.specs.Prelude.{Result, Ok, Err}
+use Rattle.std.specs.Result.{result_map_both}
+use Rattle.upd_text.specs.declared.fault.Fault.{Fault}
+use Rattle.upd_http.specs.Responses.{Response}
+use Rattle.upd_http.specs.declared.answer.Answer.{Answer}
+
+-- an answer
+abbrev pub response : Answer → Response
+response a = record { status = a.status; media = a.media; allow = a.allow; body = a.body.items }
+
+-- an answer, or the fault in its place
+abbrev pub answer_seen : Result Answer Fault → Result Response Fault
+answer_seen result = result_map_both response (λ fault. fault) result

@@ -1,0 +1,159 @@
+//! What a request asks of the desk, asked.
+
+ghost use Rattle.std.specs.Prelude.{◌≡◌, ◌≤◌, ◌+◌, [], IsTrue, length, vec_capacity};
+ghost use Rattle.upd_request.specs.Calls.{asked, card, compile, deck, idents, run, settle, yanks};
+ghost use Rattle.upd_desk.specs.Arrivals.{is_site};
+ghost use Rattle.upd_reply.specs.Texts.{settled_text};
+ghost use Rattle.upd_http.specs.Serving.{Asks};
+ghost use Rattle.upd_http.specs.Views.{answer_seen};
+
+use crate::answer::{Answer, put};
+use crate::status::{Media, Status};
+use itoa::Buffer;
+use std::alloc::Global;
+use upd_core::{CardRef, Name};
+use upd_desk::Desk;
+use upd_request::Call;
+use upd_rows::RowStore;
+use upd_text::{Fault, FaultKind};
+
+/// Asks the desk, and answers what it tells. Want of memory for the text of a fault is the one error.
+pub(crate) fn ask<S: RowStore>(
+    alloc: Global,
+    desk: &mut Desk<S>,
+    call: &Call,
+) -> Result<Answer, Fault>
+    ensures { Asks S.is_honest S.is_open S.image S.shows S.may_leave S.failures_of
+        (asked call.now) (answer_seen result) desk.old.store desk.new.store }
+{
+    match call {
+        Call::Run {
+            site,
+            number,
+            mode,
+            body,
+        } => arrive(alloc, desk, site, *number, mode, body),
+        Call::Settle { site, number } => settle(alloc, desk, site, *number),
+        Call::Compile => full_compile(alloc, desk),
+        Call::Deck(name) => deck_list(alloc, desk, name),
+        Call::Card(card) => card_list(alloc, desk, *card),
+        Call::Idents => ident_list(alloc, desk),
+        Call::Yanks => yank_list(alloc, desk),
+    }
+}
+
+fn arrive<S: RowStore>(
+    alloc: Global,
+    desk: &mut Desk<S>,
+    site: &str,
+    number: u64,
+    mode: &str,
+    body: &[u8],
+) -> Result<Answer, Fault>
+    ensures { Asks S.is_honest S.is_open S.image S.shows S.may_leave S.failures_of
+        (run site.now number mode.now body.now) (answer_seen result) desk.old.store desk.new.store }
+{
+    match desk.arrive(alloc, site, number, mode, body) {
+        Ok(reply) => Ok(Answer::reply(reply)),
+        Err(fault) => Answer::fault(alloc, fault),
+    }
+}
+
+/// The room that the text of a mark needs beside its site, in bytes.
+pub const MARK_ROOM: usize = 64;
+
+/// All memory for the text is taken before the desk is asked, so that none can be wanting once a mark is kept.
+fn settle<S: RowStore>(
+    alloc: Global,
+    desk: &mut Desk<S>,
+    site: &str,
+    number: u64,
+) -> Result<Answer, Fault>
+    ensures { Asks S.is_honest S.is_open S.image S.shows S.may_leave S.failures_of
+        (settle site.now number) (answer_seen result) desk.old.store desk.new.store }
+{
+    let mut body = match Vec::with_capacity(alloc, site.len() + MARK_ROOM) {
+        Ok(body) => body,
+        Err(_) => return Err(FaultKind::NoMemory.without_line()),
+    };
+    match desk.settle_site(alloc, site, number) {
+        Ok(mark) => {
+            write_mark(&mut body, site, mark);
+            Ok(Answer {
+                status: Status::Done,
+                media: Media::Json,
+                allow: None,
+                body,
+            })
+        }
+        Err(fault) => Answer::fault(alloc, fault),
+    }
+}
+
+/// The text of a mark, where there is room. A site stands in it as it is.
+fn write_mark(out: &mut Vec<u8>, site: &str, mark: u64)
+    requires empty { out.old.items ≡ [] }
+    requires room { length site.now + MARK_ROOM ≤ vec_capacity out.old }
+    ensures { IsTrue (is_site site.now) → out.new.items ≡ settled_text site.now mark }
+{
+    let mut number = Buffer::new();
+    put(out, b"{\"settled\":");
+    put(out, number.format(mark).as_bytes());
+    put(out, b",\"site\":\"");
+    put(out, site.as_bytes());
+    put(out, b"\"}");
+}
+
+fn full_compile<S: RowStore>(alloc: Global, desk: &mut Desk<S>) -> Result<Answer, Fault>
+    ensures { Asks S.is_honest S.is_open S.image S.shows S.may_leave S.failures_of
+        compile (answer_seen result) desk.old.store desk.new.store }
+{
+    match desk.full_compile(alloc) {
+        Ok(text) => Ok(Answer::page(text.bytes)),
+        Err(fault) => Answer::fault(alloc, fault),
+    }
+}
+
+fn deck_list<S: RowStore>(alloc: Global, desk: &mut Desk<S>, name: &Name) -> Result<Answer, Fault>
+    ensures { Asks S.is_honest S.is_open S.image S.shows S.may_leave S.failures_of
+        (deck name.now) (answer_seen result) desk.old.store desk.new.store }
+{
+    match desk.deck_list(alloc, name) {
+        Ok(text) => Ok(Answer::page(text)),
+        Err(fault) => Answer::fault(alloc, fault),
+    }
+}
+
+fn card_list<S: RowStore>(
+    alloc: Global,
+    desk: &mut Desk<S>,
+    shown: CardRef,
+) -> Result<Answer, Fault>
+    ensures { Asks S.is_honest S.is_open S.image S.shows S.may_leave S.failures_of
+        (card shown) (answer_seen result) desk.old.store desk.new.store }
+{
+    match desk.card_list(alloc, shown) {
+        Ok(text) => Ok(Answer::page(text)),
+        Err(fault) => Answer::fault(alloc, fault),
+    }
+}
+
+fn ident_list<S: RowStore>(alloc: Global, desk: &mut Desk<S>) -> Result<Answer, Fault>
+    ensures { Asks S.is_honest S.is_open S.image S.shows S.may_leave S.failures_of
+        idents (answer_seen result) desk.old.store desk.new.store }
+{
+    match desk.ident_list(alloc) {
+        Ok(text) => Ok(Answer::page(text)),
+        Err(fault) => Answer::fault(alloc, fault),
+    }
+}
+
+fn yank_list<S: RowStore>(alloc: Global, desk: &mut Desk<S>) -> Result<Answer, Fault>
+    ensures { Asks S.is_honest S.is_open S.image S.shows S.may_leave S.failures_of
+        yanks (answer_seen result) desk.old.store desk.new.store }
+{
+    match desk.yank_list(alloc) {
+        Ok(text) => Ok(Answer::page(text)),
+        Err(fault) => Answer::fault(alloc, fault),
+    }
+}

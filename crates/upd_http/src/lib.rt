@@ -1,0 +1,12 @@
+//! The desk over HTTP: one request for each connection, and its answer.
+#![tactic(auto)]
+
+mod answer;
+mod ask;
+mod connections;
+mod exchange;
+mod status;
+mod write;
+
+pub use connections::serve_on;
+pub use exchange::serve_one;
