@@ -10,8 +10,8 @@ mod StoreLemmas
 mod ArrivesLemmas
 mod ArriveAllLemmas
 mod SettlesLemmas
+mod RefusedLemmas
 mod QueryLemmas
 mod LeadLemmas
-mod RefusedLemmas
 mod WorkLemmas
 mod LawLemmas

@@ -5,10 +5,7 @@ use Rattle.std.specs.Prelude.{count_by}
 use Rattle.std.specs.List.{enumerate_from, filter_map, flat_map}
 use Rattle.upd_text.specs.declared.fault.Fault.{Fault}
 use Rattle.upd_text.specs.declared.fault.FaultKind.{FaultKind}
-use Rattle.upd_text.specs.declared.fault.FaultKind.TheVariants.{RunLong, TooManyLines, BadByte, LineLong, BadName, BadCard, BadField, NoIdent, TextNowhere}
-use Rattle.upd_text.specs.declared.fault.FaultKind.TheVariants.{NameTaken, IdentUnknown, DeckUnknown, CardUnknown, RangeOrder, DeckCard, YankText, YankSelf}
-use Rattle.upd_text.specs.declared.fault.FaultKind.TheVariants.{Reserved, Full, CallUnknown, CallDepth, CompileLong, BadSite, BadNumber, BadMode, RunChanged}
-use Rattle.upd_text.specs.declared.fault.FaultKind.TheVariants.{Settled, NoMemory, Store, BadFrame, CutFrame, Read, Write}
+use Rattle.upd_text.specs.declared.fault.FaultKind.TheVariants.{CompileLong, NoMemory, Store}
 use Rattle.upd_text.specs.Outcome.{FailsAt, FailsOf}
 use Rattle.upd_text.specs.declared.limits.TheConstants.{MAX_COMPILE_LINES, MAX_CALLS, MAX_DEPTH}
 use Rattle.upd_core.specs.Actives.{actives_of}
@@ -23,45 +20,15 @@ use Rattle.upd_rows.specs.Keeping.{Keeps}
 use Rattle.upd_desk.specs.Journal.{Journal, world}
 use Rattle.upd_desk.specs.Made.{IsMade}
 use Rattle.upd_desk.specs.Holding.{HoldsIn, IsOwed, Tells, is_lost}
+use Rattle.upd_desk.proofs.RefusedLemmas.{fails_by}
 
 -- a call that failed as defined, but for want of memory, met what is owed or was lost
 pub fails_owed : {A : Type 0} (f : Fault) (defined : Result A Fault) → FailsAt f defined → IsTrue (is_lost f.kind) ⊎ (defined ≡ Err f)
-fails_owed f defined = go f.kind
+fails_owed f defined fails = by (fails_by f defined fails)
   where
-    go : (k : FaultKind) → FailsOf k f defined → IsTrue (is_lost k) ⊎ (defined ≡ Err f)
-    go RunLong fails = inr fails
-    go TooManyLines fails = inr fails
-    go BadByte fails = inr fails
-    go LineLong fails = inr fails
-    go BadName fails = inr fails
-    go BadCard fails = inr fails
-    go BadField fails = inr fails
-    go NoIdent fails = inr fails
-    go TextNowhere fails = inr fails
-    go NameTaken fails = inr fails
-    go IdentUnknown fails = inr fails
-    go DeckUnknown fails = inr fails
-    go CardUnknown fails = inr fails
-    go RangeOrder fails = inr fails
-    go DeckCard fails = inr fails
-    go YankText fails = inr fails
-    go YankSelf fails = inr fails
-    go Reserved fails = inr fails
-    go Full fails = inr fails
-    go CallUnknown fails = inr fails
-    go CallDepth fails = inr fails
-    go CompileLong fails = inr fails
-    go BadSite fails = inr fails
-    go BadNumber fails = inr fails
-    go BadMode fails = inr fails
-    go RunChanged fails = inr fails
-    go Settled fails = inr fails
-    go NoMemory fails = inl refl
-    go Store fails = inr fails
-    go BadFrame fails = inr fails
-    go CutFrame fails = inr fails
-    go Read fails = inr fails
-    go Write fails = inr fails
+    by : ((f.kind ≡ NoMemory) × (f.at ≡ 0)) ⊎ (defined ≡ Err f) → IsTrue (is_lost f.kind) ⊎ (defined ≡ Err f)
+    by (inl lost) = inl (ap is_lost lost.0)
+    by (inr met) = inr met
 
 -- a call that failed as a store does met what is defined
 pub store_fails : {A : Type 0} (f : Fault) (defined : Result A Fault) → f.kind ≡ Store → FailsAt f defined → defined ≡ Err f
@@ -119,8 +86,12 @@ compile_keeps mode named before after f is = go (walk_faults events) refl
     events = flat_map (walk MAX_DEPTH (actives_of after)) (chosen mode named (actives_of before) (actives_of after))
 
     go : (ks : List FaultKind) → walk_faults events ≡ ks → is_lost f.kind ≡ false
-    go [] none = let clash : Ok (record { bytes = flat_map (event_line (actives_of after).idents) events; lines = count_by is_line events }) ≡ Err f
-        = rw none at is in grind rules
+    go [] none =
+        let clash : ◌≡◌ {A = Result FileView Fault} (Ok (record {
+          bytes = flat_map (event_line (actives_of after).idents) events;
+          lines = count_by is_line events;
+        })) (Err f) = rw none at is in
+        grind rules
     go (k ∷ ks) some =
         let refused : Err (record { kind = k; at = 0 }) ≡ Err f = rw some at is in
         let kind : k ≡ f.kind = ap kind_of refused in

@@ -1,5 +1,5 @@
 -- A run that is refused: its fault is the defined one, and no card has another status.
-use Rattle.std.proofs.Common.{◌≡◌, ℕ, ◌≤◌, Bool, true, false, List, [], ◌∷◌, length, Some, Result, Err, refl, ap, sym, ◌∙◌, subst, arith}
+use Rattle.std.proofs.Common.{◌≡◌, ℕ, ◌≤◌, ◌⊎◌, inl, inr, Bool, true, false, List, [], ◌∷◌, length, Some, Result, Err, refl, ap, sym, ◌∙◌, subst, arith}
 use Rattle.std.specs.List.{filter, AllByRecursion}
 use Rattle.upd_text.specs.declared.fault.Fault.{Fault}
 use Rattle.upd_text.specs.declared.fault.FaultKind.{FaultKind}
@@ -16,85 +16,52 @@ use Rattle.upd_yank.proofs.StateLemmas.{all_counted}
 use Rattle.upd_desk.specs.Arrivals.{ArrivalView}
 use Rattle.upd_desk.specs.Outcomes.{compiled, outcome, outcome_by}
 
--- a fault that is no want of memory is the defined one
-fails_of : {A : Type 0} (kind : FaultKind) (fault : Fault) (defined : Result A Fault) → (kind ≡ kinds.NoMemory → ⊥) → FailsOf kind fault defined
-    → defined ≡ Err fault
-fails_of kinds.RunLong fault defined other fails = fails
-fails_of kinds.TooManyLines fault defined other fails = fails
-fails_of kinds.BadByte fault defined other fails = fails
-fails_of kinds.LineLong fault defined other fails = fails
-fails_of kinds.BadName fault defined other fails = fails
-fails_of kinds.BadCard fault defined other fails = fails
-fails_of kinds.BadField fault defined other fails = fails
-fails_of kinds.NoIdent fault defined other fails = fails
-fails_of kinds.TextNowhere fault defined other fails = fails
-fails_of kinds.NameTaken fault defined other fails = fails
-fails_of kinds.IdentUnknown fault defined other fails = fails
-fails_of kinds.DeckUnknown fault defined other fails = fails
-fails_of kinds.CardUnknown fault defined other fails = fails
-fails_of kinds.RangeOrder fault defined other fails = fails
-fails_of kinds.DeckCard fault defined other fails = fails
-fails_of kinds.YankText fault defined other fails = fails
-fails_of kinds.YankSelf fault defined other fails = fails
-fails_of kinds.Reserved fault defined other fails = fails
-fails_of kinds.Full fault defined other fails = fails
-fails_of kinds.CallUnknown fault defined other fails = fails
-fails_of kinds.CallDepth fault defined other fails = fails
-fails_of kinds.CompileLong fault defined other fails = fails
-fails_of kinds.BadSite fault defined other fails = fails
-fails_of kinds.BadNumber fault defined other fails = fails
-fails_of kinds.BadMode fault defined other fails = fails
-fails_of kinds.RunChanged fault defined other fails = fails
-fails_of kinds.Settled fault defined other fails = fails
-fails_of kinds.NoMemory fault defined other fails = absurd (other refl)
-fails_of kinds.Store fault defined other fails = fails
-fails_of kinds.BadFrame fault defined other fails = fails
-fails_of kinds.CutFrame fault defined other fails = fails
-fails_of kinds.Read fault defined other fails = fails
-fails_of kinds.Write fault defined other fails = fails
+-- a fault is want of memory, at no line, or the defined one
+pub fails_by : {A : Type 0} (fault : Fault) (defined : Result A Fault) → FailsAt fault defined
+    → ((fault.kind ≡ kinds.NoMemory) × (fault.at ≡ 0)) ⊎ (defined ≡ Err fault)
+fails_by fault defined fails = go fault.kind fails
+  where
+    go : (kind : FaultKind) → FailsOf kind fault defined → ((kind ≡ kinds.NoMemory) × (fault.at ≡ 0)) ⊎ (defined ≡ Err fault)
+    go kinds.RunLong fails = inr fails
+    go kinds.TooManyLines fails = inr fails
+    go kinds.BadByte fails = inr fails
+    go kinds.LineLong fails = inr fails
+    go kinds.BadName fails = inr fails
+    go kinds.BadCard fails = inr fails
+    go kinds.BadField fails = inr fails
+    go kinds.NoIdent fails = inr fails
+    go kinds.TextNowhere fails = inr fails
+    go kinds.NameTaken fails = inr fails
+    go kinds.IdentUnknown fails = inr fails
+    go kinds.DeckUnknown fails = inr fails
+    go kinds.CardUnknown fails = inr fails
+    go kinds.RangeOrder fails = inr fails
+    go kinds.DeckCard fails = inr fails
+    go kinds.YankText fails = inr fails
+    go kinds.YankSelf fails = inr fails
+    go kinds.Reserved fails = inr fails
+    go kinds.Full fails = inr fails
+    go kinds.CallUnknown fails = inr fails
+    go kinds.CallDepth fails = inr fails
+    go kinds.CompileLong fails = inr fails
+    go kinds.BadSite fails = inr fails
+    go kinds.BadNumber fails = inr fails
+    go kinds.BadMode fails = inr fails
+    go kinds.RunChanged fails = inr fails
+    go kinds.Settled fails = inr fails
+    go kinds.NoMemory fails = inl (refl, fails)
+    go kinds.Store fails = inr fails
+    go kinds.BadFrame fails = inr fails
+    go kinds.CutFrame fails = inr fails
+    go kinds.Read fails = inr fails
+    go kinds.Write fails = inr fails
 
 pub fails_is : {A : Type 0} (fault : Fault) (defined : Result A Fault) → (fault.kind ≡ kinds.NoMemory → ⊥) → FailsAt fault defined → defined ≡ Err fault
-fails_is fault defined other fails = fails_of fault.kind fault defined other fails
-
--- want of memory stands at no line
-lost_of : {A : Type 0} (kind : FaultKind) (fault : Fault) (defined : Result A Fault) → kind ≡ kinds.NoMemory → FailsOf kind fault defined → fault.at ≡ 0
-lost_of kinds.NoMemory fault defined is fails = fails
-lost_of kinds.RunLong fault defined is fails = absurd (cc)
-lost_of kinds.TooManyLines fault defined is fails = absurd (cc)
-lost_of kinds.BadByte fault defined is fails = absurd (cc)
-lost_of kinds.LineLong fault defined is fails = absurd (cc)
-lost_of kinds.BadName fault defined is fails = absurd (cc)
-lost_of kinds.BadCard fault defined is fails = absurd (cc)
-lost_of kinds.BadField fault defined is fails = absurd (cc)
-lost_of kinds.NoIdent fault defined is fails = absurd (cc)
-lost_of kinds.TextNowhere fault defined is fails = absurd (cc)
-lost_of kinds.NameTaken fault defined is fails = absurd (cc)
-lost_of kinds.IdentUnknown fault defined is fails = absurd (cc)
-lost_of kinds.DeckUnknown fault defined is fails = absurd (cc)
-lost_of kinds.CardUnknown fault defined is fails = absurd (cc)
-lost_of kinds.RangeOrder fault defined is fails = absurd (cc)
-lost_of kinds.DeckCard fault defined is fails = absurd (cc)
-lost_of kinds.YankText fault defined is fails = absurd (cc)
-lost_of kinds.YankSelf fault defined is fails = absurd (cc)
-lost_of kinds.Reserved fault defined is fails = absurd (cc)
-lost_of kinds.Full fault defined is fails = absurd (cc)
-lost_of kinds.CallUnknown fault defined is fails = absurd (cc)
-lost_of kinds.CallDepth fault defined is fails = absurd (cc)
-lost_of kinds.CompileLong fault defined is fails = absurd (cc)
-lost_of kinds.BadSite fault defined is fails = absurd (cc)
-lost_of kinds.BadNumber fault defined is fails = absurd (cc)
-lost_of kinds.BadMode fault defined is fails = absurd (cc)
-lost_of kinds.RunChanged fault defined is fails = absurd (cc)
-lost_of kinds.Settled fault defined is fails = absurd (cc)
-lost_of kinds.Store fault defined is fails = absurd (cc)
-lost_of kinds.BadFrame fault defined is fails = absurd (cc)
-lost_of kinds.CutFrame fault defined is fails = absurd (cc)
-lost_of kinds.Read fault defined is fails = absurd (cc)
-lost_of kinds.Write fault defined is fails = absurd (cc)
-
-pub lost_is : {A : Type 0} (fault : Fault) (defined : Result A Fault) → fault.kind ≡ kinds.NoMemory → FailsAt fault defined
-    → fault ≡ record { kind = kinds.NoMemory; at = 0 }
-lost_is fault defined is fails = let at = lost_of fault.kind fault defined is fails in rw (← is, ← at) refl
+fails_is fault defined other fails = by (fails_by fault defined fails)
+  where
+    by : ((fault.kind ≡ kinds.NoMemory) × (fault.at ≡ 0)) ⊎ (defined ≡ Err fault) → defined ≡ Err fault
+    by (inl lost) = absurd (other lost.0)
+    by (inr met) = met
 
 -- ---- statuses
 
