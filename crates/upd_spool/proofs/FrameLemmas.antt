@@ -97,6 +97,10 @@ frame_is_read a behind is =
         → (let p : Option (ArrivalView × List ℕ) = Some (arrival_of (header_for a) bytes, rest) in p) ≡ Some (a, behind)
     parts bytes rest e f = ap₂ (λ (x y : List ℕ). let p : Option (ArrivalView × List ℕ) = Some (arrival_of (header_for a) x, y) in p) e f
 
+-- what stands before a place, the byte there, and what stands behind it
+pub parted_at : (n : ℕ) (rest : List ℕ) (b : ℕ) → n < length rest → get_or rest n 0 ≡ b → rest ≡ take n rest ++ b ∷ drop (n + 1) rest
+parted_at n rest b within is = grind (arith, common_steps, drop-cons rest n 0, take-append-drop n rest)
+
 -- a header and as many bytes as it calls for are a frame
 pub frame_made : (h : HeaderView) (bytes behind : List ℕ) → IsHeader h → length bytes ≡ h.size
     → IsFrame (arrival_of h bytes) × (header_text h ++ 10 ∷ (bytes ++ 10 ∷ behind) ≡ frame_text (arrival_of h bytes) ++ behind)
@@ -111,9 +115,6 @@ frame_is_spelled text behind a e =
     bind_then _ _ _ _ e (λ line e1 r1. bind_then _ _ _ _ r1 (λ h e2 r2.
     of line.0 line.1 h (cut_whole 10 text line e1) (header_is_spelled line.0 h e2) (passes _ _ _ r2)))
   where
-    split : (n : ℕ) (rest : List ℕ) → n < length rest → get_or rest n 0 ≡ 10 → rest ≡ take n rest ++ 10 ∷ drop (n + 1) rest
-    split n rest within last = grind (arith, common_steps, drop-cons rest n 0, take-append-drop n rest)
-
     to : (found : ArrivalView × List ℕ) → found ≡ (a, behind) → IsFrame found.0 × (text ≡ frame_text found.0 ++ found.1) → IsFrame a × (text ≡ frame_text a ++ behind)
     to found e is = subst (λ (p : ArrivalView × List ℕ). IsFrame p.0 × (text ≡ frame_text p.0 ++ p.1)) e is
 
@@ -126,7 +127,7 @@ frame_is_spelled text behind a e =
         let within : h.size < length rest = ltb-true _ _ tests.0 in
         let last : get_or rest h.size 0 ≡ 10 = eqb-true _ _ tests.1 in
         let made = frame_made h (take h.size rest) (drop (h.size + 1) rest) spelled.0 (length-take-le h.size rest (omega arith)) in
-        to _ found.1 (made.0, whole ∙ ap₂ (λ (x y : List ℕ). x ++ 10 ∷ y) spelled.1 (split h.size rest within last) ∙ made.1)
+        to _ found.1 (made.0, whole ∙ ap₂ (λ (x y : List ℕ). x ++ 10 ∷ y) spelled.1 (parted_at h.size rest 10 within last) ∙ made.1)
 
 -- ---- where none begins
 

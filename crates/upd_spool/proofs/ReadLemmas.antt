@@ -12,7 +12,8 @@ use Rattle.upd_spool.specs.Header.{HeaderView, IsHeader, header_of, header_text}
 use Rattle.upd_spool.specs.Frames.{IsBad, IsFrame, arrival_of, frame_text, has_lf}
 use Rattle.upd_spool.specs.Frames.IsBad.{no_lf, no_end}
 use Rattle.upd_spool.specs.Frames.IsCut.{in_run}
-use Rattle.upd_spool.specs.Spools.{Stops, StopsEnd, StopsRun}
+use Rattle.upd_spool.specs.Exchange.{StopsEnd, StopsRun}
+use Rattle.upd_spool.specs.Spools.{Stops}
 use Rattle.upd_spool.proofs.FrameLemmas.{cut_is_no_frame, frame_made}
 use Rattle.upd_spool.proofs.HeaderLemmas.{header_is_spelled}
 

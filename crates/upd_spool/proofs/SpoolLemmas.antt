@@ -1,5 +1,5 @@
 -- What one frame does, and further frames behind it.
-use Rattle.std.proofs.Common.{◌≡◌, ℕ, ◌+◌, ◌≢◌, true, ◌⊎◌, inl, inr, IsTrue, List, [], ◌∷◌, ◌++◌, length, Option, Result, Err}
+use Rattle.std.proofs.Common.{◌≡◌, ℕ, ◌+◌, ◌<◌, ◌≤◌, ◌≢◌, true, ◌⊎◌, inl, inr, IsTrue, List, [], ◌∷◌, ◌++◌, length, Option, Result, Err}
 use Rattle.std.proofs.Common.{refl, sym, ap, ap₂, ◌∙◌, subst, arith, rules, append_assoc, append-nil, length-append}
 use Rattle.std.specs.Io.KnownBytes.{Appends, Consumes}
 use Rattle.std.proofs.KnownBytes.{Appends-nil, Appends-trans, Consumes-trans}
@@ -15,7 +15,8 @@ use Rattle.upd_desk.specs.Outcomes.{ReplyView}
 use Rattle.upd_desk.specs.Holding.{Arrives, is_lost}
 use Rattle.upd_spool.specs.declared.frames.TheConstants.{MAX_FRAMES}
 use Rattle.upd_spool.specs.Frames.{IsBad, IsFrame, frame_of, frame_text, frames_text}
-use Rattle.upd_spool.specs.Spools.{Answered, EndsBy, GetsNoLine, Handled, LosesOne, Stops, StopsNothing, Unanswered, WritesFront}
+use Rattle.upd_spool.specs.Exchange.{StopsNothing, Unanswered}
+use Rattle.upd_spool.specs.Spools.{Answered, EndsBy, GetsNoLine, Handled, LosesOne, Stops, WritesFront}
 use Rattle.upd_spool.specs.Spools.{answer_line, answer_lines, is_answered}
 use Rattle.upd_spool.proofs.ArrivalLemmas.{further_arrived, none_arrived, one_arrived}
 use Rattle.upd_spool.proofs.FrameLemmas.{no_lf_no_frame}
@@ -35,6 +36,7 @@ module _ {S : Type 0} {Image : Type 0} (is_honest is_open : S → Type 0) (image
       → Handled is_honest is_open image shows may_leave failures [] [] taken [] s s input input' output output
   nothing_handled s input input' output taken consumed = record {
     are_frames = All-nil _;
+    few = omega arith;
     each = refl;
     arrived = none_arrived is_honest is_open image shows may_leave failures s;
     read = consumed;
@@ -52,6 +54,7 @@ module _ {S : Type 0} {Image : Type 0} (is_honest is_open : S → Type 0) (image
       → Appends output output' out → Handled is_honest is_open image shows may_leave failures (a ∷ []) (result ∷ []) [] out old new input input' output output'
   one_handled a result out old new input input' output output' is went consumed appended = record {
     are_frames = All-push IsFrame [] a (All-nil _) is;
+    few = omega arith;
     each = refl;
     arrived = one_arrived is_honest is_open image shows may_leave failures a result old new went;
     read = subst (Consumes input input') (sym (append-nil (frame_text a ++ []) ∙ append-nil (frame_text a))) consumed;
@@ -62,9 +65,11 @@ module _ {S : Type 0} {Image : Type 0} (is_honest is_open : S → Type 0) (image
   further_handled : (frames more : List ArrivalView) (results further : List (Result ReplyView Fault)) (taken out later : List ℕ) (old mid new : S)
       (i0 i1 i2 o0 o1 o2 : Option (List ℕ)) → Handled is_honest is_open image shows may_leave failures frames results [] out old mid i0 i1 o0 o1
       → Handled is_honest is_open image shows may_leave failures more further taken later mid new i1 i2 o1 o2
+      → length frames + length more ≤ MAX_FRAMES
       → Handled is_honest is_open image shows may_leave failures (frames ++ more) (results ++ further) taken (out ++ later) old new i0 i2 o0 o2
-  further_handled frames more results further taken out later old mid new i0 i1 i2 o0 o1 o2 first then = record {
+  further_handled frames more results further taken out later old mid new i0 i1 i2 o0 o1 o2 first then few = record {
     are_frames = All-append IsFrame frames more first.are_frames then.are_frames;
+    few = omega (arith, few, length-append frames more);
     each = length-append results further ∙ ap₂ (λ m n. m + n) first.each then.each ∙ sym (length-append frames more);
     arrived = further_arrived is_honest is_open image shows may_leave failures frames more results further old mid new first.each first.arrived then.arrived;
     read = subst (Consumes i0 i2) (read_further (frames_text frames) (frames_text more) taken ∙ ap (λ l. l ++ taken) (sym (flat_map-append frame_text frames more)))
@@ -145,14 +150,14 @@ module _ {S : Type 0} {Image : Type 0} (is_honest is_open : S → Type 0) (image
   module _ (old mid new : S) (i0 i1 i2 o0 o1 o2 : Option (List ℕ)) where
     -- one frame more
     pub one_more : (frames : List ArrivalView) (results : List (Result ReplyView Fault)) (a : ArrivalView) (result : Result ReplyView Fault)
-        → Answered is_honest is_open image shows may_leave failures old mid i0 i1 o0 o1 frames results []
+        → length frames < MAX_FRAMES → Answered is_honest is_open image shows may_leave failures old mid i0 i1 o0 o1 frames results []
         → Answered is_honest is_open image shows may_leave failures mid new i1 i2 o1 o2 (a ∷ []) (result ∷ []) []
         → Answered is_honest is_open image shows may_leave failures old new i0 i2 o0 o2 (frames ++ a ∷ []) (results ++ result ∷ []) []
-    one_more frames results a result first then = record {
+    one_more frames results a result few first then = record {
       handled = subst (λ out. Handled is_honest is_open image shows may_leave failures (frames ++ a ∷ []) (results ++ result ∷ []) [] out old new i0 i2 o0 o2)
           (sym (flat_map-append answer_line results (result ∷ [])))
           (further_handled frames (a ∷ []) results (result ∷ []) [] (answer_lines results) (answer_lines (result ∷ [])) old mid new i0 i1 i2 o0 o1 o2
-          first.handled then.handled);
+          first.handled then.handled (omega (arith, few)));
       answered = All-append (λ r. IsTrue (is_answered r)) results (result ∷ []) first.answered then.answered;
     }
 
@@ -163,7 +168,8 @@ module _ {S : Type 0} {Image : Type 0} (is_honest is_open : S → Type 0) (image
         → Answered is_honest is_open image shows may_leave failures old new i0 i2 o0 o2 frames results taken
     bytes_more frames results taken first then = record {
       handled = same (append-nil frames) (append-nil results) (append-nil (answer_lines results))
-          (further_handled frames [] results [] taken (answer_lines results) [] old mid new i0 i1 i2 o0 o1 o2 first.handled then.handled);
+          (further_handled frames [] results [] taken (answer_lines results) [] old mid new i0 i1 i2 o0 o1 o2 first.handled then.handled
+          (let few = first.handled.few in omega (arith, few)));
       answered = first.answered;
     }
       where
@@ -177,23 +183,24 @@ module _ {S : Type 0} {Image : Type 0} (is_honest is_open : S → Type 0) (image
 
     -- a frame more that got no line
     loses_more : (kind : FaultKind) (frames : List ArrivalView) (results : List (Result ReplyView Fault)) (a : ArrivalView) (fault : Fault)
-        → Answered is_honest is_open image shows may_leave failures old mid i0 i1 o0 o1 frames results []
+        → length frames < MAX_FRAMES → Answered is_honest is_open image shows may_leave failures old mid i0 i1 o0 o1 frames results []
         → LosesOne is_honest is_open image shows may_leave failures mid new i1 i2 o1 o2 kind [] [] a fault
         → LosesOne is_honest is_open image shows may_leave failures old new i0 i2 o0 o2 kind frames results a fault
-    loses_more kind frames results a fault first then = record {
+    loses_more kind frames results a fault few first then = record {
       handled = subst (λ out. Handled is_honest is_open image shows may_leave failures (frames ++ a ∷ []) (results ++ Err fault ∷ []) [] out old new i0 i2 o0 o2)
           (append-nil (answer_lines results))
-          (further_handled frames (a ∷ []) results (Err fault ∷ []) [] (answer_lines results) [] old mid new i0 i1 i2 o0 o1 o2 first.handled then.handled);
+          (further_handled frames (a ∷ []) results (Err fault ∷ []) [] (answer_lines results) [] old mid new i0 i1 i2 o0 o1 o2 first.handled then.handled
+          (omega (arith, few)));
       answered = first.answered;
       lost = then.lost;
     }
 
     -- the end behind further frames
     pub ends_further : (kind : FaultKind) (frames : List ArrivalView) (results : List (Result ReplyView Fault))
-        → Answered is_honest is_open image shows may_leave failures old mid i0 i1 o0 o1 frames results []
+        → length frames < MAX_FRAMES → Answered is_honest is_open image shows may_leave failures old mid i0 i1 o0 o1 frames results []
         → EndsBy is_honest is_open image shows may_leave failures mid new i1 i2 o1 o2 kind [] []
         → EndsBy is_honest is_open image shows may_leave failures old new i0 i2 o0 o2 kind frames results
-    ends_further Write frames results first end = writes end.0 end.1 end.2 end.3 end.4
+    ends_further Write frames results few first end = writes end.0 end.1 end.2 end.3 end.4
       where
         writes : (a : ArrivalView) (result : Result ReplyView Fault) (front rest : List ℕ)
             → WritesFront is_honest is_open image shows may_leave failures mid new i1 i2 o1 o2 [] [] a result front rest
@@ -205,25 +212,25 @@ module _ {S : Type 0} {Image : Type 0} (is_honest is_open : S → Type 0) (image
           rest,
           record {
             handled = further_handled frames (a ∷ []) results (result ∷ []) [] (answer_lines results) front old mid new i0 i1 i2 o0 o1 o2 first.handled
-                then.handled;
+                then.handled (omega (arith, few));
             answered = All-append (λ r. IsTrue (is_answered r)) results (result ∷ []) first.answered then.answered;
             line = then.line;
           },
         )
-    ends_further Store frames results first end =
-        (end.0, end.1, loses_more Store frames results end.0 end.1 first end.2, (let counts = first.handled.arrived.counts in let more = end.3 in grind (arith, rules)))
-    ends_further NoMemory frames results first end = by end
+    ends_further Store frames results few first end =
+        (end.0, end.1, loses_more Store frames results end.0 end.1 few first end.2, (let counts = first.handled.arrived.counts in let more = end.3 in grind (arith, rules)))
+    ends_further NoMemory frames results few first end = by end
       where
         by : EndsBy is_honest is_open image shows may_leave failures mid new i1 i2 o1 o2 NoMemory [] []
             → EndsBy is_honest is_open image shows may_leave failures old new i0 i2 o0 o2 NoMemory frames results
         by (inl (taken, then, stops)) = inl (taken, bytes_more frames results taken first then, stops)
-        by (inr (a, fault, then)) = inr (a, fault, loses_more NoMemory frames results a fault first then)
-    ends_further BadFrame frames results first end = (end.0, bytes_more frames results end.0 first end.1, by end.0 end.2)
+        by (inr (a, fault, then)) = inr (a, fault, loses_more NoMemory frames results a fault few first then)
+    ends_further BadFrame frames results few first end = (end.0, bytes_more frames results end.0 first end.1, by end.0 end.2)
       where
         by : (taken : List ℕ) → IsBad taken ⊎ ((0 ≡ MAX_FRAMES) × (taken ≢ [])) → IsBad taken ⊎ ((length frames ≡ MAX_FRAMES) × (taken ≢ []))
         by taken (inl bad) = inl bad
         by taken (inr (none, some)) = absurd (omega (arith, none))
-    ends_further _ frames results first end = (end.0, bytes_more frames results end.0 first end.1, end.2)
+    ends_further _ frames results few first end = (end.0, bytes_more frames results end.0 first end.1, end.2)
 
     -- the end behind the most frames
     pub ends_at_most : (kind : FaultKind) (frames : List ArrivalView) (results : List (Result ReplyView Fault)) (taken : List ℕ)

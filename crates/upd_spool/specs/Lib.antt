@@ -1,3 +1,4 @@
 pub mod Header
 pub mod Frames
 pub mod Spools
+pub mod Exchange

@@ -10,9 +10,9 @@ use Rattle.upd_reply.specs.Texts.{fault_text}
 use Rattle.upd_rows.specs.Keeping.{MoreFailures}
 use Rattle.upd_desk.specs.Arrivals.{ArrivalView}
 use Rattle.upd_desk.specs.Outcomes.{ReplyView}
-use Rattle.upd_desk.specs.Holding.{ArriveAll, Arrives, is_lost}
+use Rattle.upd_desk.specs.Holding.{ArriveAll, is_lost}
 use Rattle.upd_spool.specs.declared.frames.TheConstants.{MAX_FRAMES}
-use Rattle.upd_spool.specs.Frames.{IsBad, IsCut, IsFrame, frame_of, frames_text, has_lf}
+use Rattle.upd_spool.specs.Frames.{IsBad, IsCut, IsFrame, frame_of, frames_text}
 
 -- ---- the text of a spool
 
@@ -48,10 +48,6 @@ abbrev pub GetsNoLine : FaultKind → Fault → Type 0
 GetsNoLine kind fault =
     ((is_lost fault.kind ≡ true) × (fault.kind ≡ kind)) ⊎ ((is_lost fault.kind ≡ false) × (kind ≡ NoMemory))
 
--- a beginning of these bytes was written, or all of them
-abbrev pub AppendsFront : Option (List ℕ) → Option (List ℕ) → List ℕ → Type 0
-AppendsFront output output' bytes = (front : List ℕ) × (rest : List ℕ) × (bytes ≡ front ++ rest) × Appends output output' front
-
 -- ---- what a spool does
 
 -- why no whole frame was read, of which so much was taken
@@ -62,51 +58,18 @@ Stops Read taken input' = frame_of taken ≡ None
 Stops NoMemory taken input' = frame_of taken ≡ None
 Stops _ taken input' = ⊥
 
--- a line was read up to its LF, or the input has ended before it
-abbrev pub LineRead : Bool → List ℕ → Option (List ℕ) → Option (List ℕ) → Type 0
-LineRead true line input input' = Consumes input input' (line ++ 10 ∷ []) × (has_lf line ≡ false)
-LineRead false line input input' = Consumes input input' [] × IsAtEnd input'
-
--- why no run was read, of which so much was taken: another byte stands behind it, the input ended, or a failure came first
-abbrev pub StopsRun : FaultKind → ℕ → List ℕ → Option (List ℕ) → Type 0
-StopsRun BadFrame size taken input' = (run : List ℕ) × (b : ℕ) × (taken ≡ run ++ b ∷ []) × (length run ≡ size) × (b ≢ 10)
-StopsRun CutFrame size taken input' = (length taken ≤ size) × IsAtEnd input'
-StopsRun Read size taken input' = length taken ≤ size
-StopsRun NoMemory size taken input' = length taken ≤ size
-StopsRun _ size taken input' = ⊥
-
--- the same of the LF behind a run
-abbrev pub StopsEnd : FaultKind → List ℕ → Option (List ℕ) → Type 0
-StopsEnd BadFrame taken input' = (b : ℕ) × (taken ≡ b ∷ []) × (b ≢ 10)
-StopsEnd CutFrame taken input' = (taken ≡ []) × IsAtEnd input'
-StopsEnd Read taken input' = taken ≡ []
-StopsEnd _ taken input' = ⊥
-
--- the same of the end of a spool with the most frames
-abbrev pub StopsNothing : FaultKind → List ℕ → Type 0
-StopsNothing BadFrame taken = taken ≢ []
-StopsNothing Read taken = taken ≡ []
-StopsNothing _ taken = ⊥
-
 module _ {S : Type 0} {Image : Type 0} (is_honest is_open : S → Type 0) (image : S → Image) (shows : Image → Rows → Type 0)
     (may_leave : S → Image → Type 0) (failures : S → ℕ) where
-  -- Frames were read one after the other and arrived, with these results. Of the input so much is taken beyond them, and these bytes are out.
+  -- At most so many frames were read one after the other and arrived, with these results. Of the input so much is taken beyond them, and these
+  -- bytes are out.
   pub record Handled (frames : List ArrivalView) (results : List (Result ReplyView Fault)) (taken out : List ℕ) (old new : S)
       (input input' output output' : Option (List ℕ)) : Type 0 where
     pub are_frames : All IsFrame frames
+    pub few : length frames ≤ MAX_FRAMES
     pub each : length results ≡ length frames
     pub arrived : ArriveAll is_honest is_open image shows may_leave failures frames results old new
     pub read : Consumes input input' (frames_text frames ++ taken)
     pub written : Appends output output' out
-
-  -- An arrival got no line: only a beginning of it, or all of it without the answer to the last write; or nothing, where it was lost.
-  abbrev pub Unanswered : FaultKind → ArrivalView → S → S → Option (List ℕ) → Option (List ℕ) → Type 0
-  Unanswered Write a old new output output' =
-      (result : Result ReplyView Fault) × Arrives is_honest is_open image shows may_leave failures a result old new × IsTrue (is_answered result)
-      × AppendsFront output output' (answer_line result)
-  Unanswered kind a old new output output' =
-      (fault : Fault) × Arrives is_honest is_open image shows may_leave failures a (Err fault) old new × GetsNoLine kind fault
-      × (kind ≡ Store → MoreFailures (failures old) (failures new)) × Appends output output' []
 
   module _ (old new : S) (input input' output output' : Option (List ℕ)) where
     -- each frame so far was answered, and its line is out; nothing else is
@@ -145,13 +108,6 @@ module _ {S : Type 0} {Image : Type 0} (is_honest is_open : S → Type 0) (image
     abbrev pub Ends : Result ℕ Fault → Type 0
     Ends (Ok count) =
         (frames : List ArrivalView) × (results : List (Result ReplyView Fault)) × Answered frames results [] × (count ≡ length frames)
-        × (count ≤ MAX_FRAMES) × IsAtEnd input'
+        × IsAtEnd input'
     Ends (Err fault) =
         (frames : List ArrivalView) × (results : List (Result ReplyView Fault)) × EndsBy fault.kind frames results × (fault.at ≡ length frames + 1)
-        × (length frames ≤ MAX_FRAMES)
-
-    -- How one frame goes: it was answered, or the input has ended before it, or it ends the spool.
-    abbrev pub Exchanges : Result Bool FaultKind → Type 0
-    Exchanges (Ok true) = (frame : ArrivalView) × (result : Result ReplyView Fault) × Answered (frame ∷ []) (result ∷ []) []
-    Exchanges (Ok false) = Answered [] [] [] × IsAtEnd input'
-    Exchanges (Err kind) = EndsBy kind [] []

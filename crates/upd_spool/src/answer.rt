@@ -5,8 +5,9 @@ ghost use Rattle.upd_desk.specs.Holding.{Arrives, is_lost};
 ghost use Rattle.upd_desk.specs.Outcomes.{ReplyView};
 ghost use Rattle.upd_reply.specs.Texts.{fault_text};
 ghost use Rattle.upd_rows.specs.Keeping.{MoreFailures};
+ghost use Rattle.upd_spool.specs.Exchange.{AppendsFront, Unanswered};
 ghost use Rattle.upd_spool.specs.Frames.{arrival_of};
-ghost use Rattle.upd_spool.specs.Spools.{AppendsFront, GetsNoLine, Unanswered, answer_line, is_answered};
+ghost use Rattle.upd_spool.specs.Spools.{GetsNoLine, answer_line, is_answered};
 ghost use Rattle.upd_text.specs.declared.fault.Fault.{Fault};
 ghost use Rattle.upd_text.specs.declared.fault.FaultKind.TheVariants.{Store};
 

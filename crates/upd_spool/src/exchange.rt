@@ -1,5 +1,5 @@
 //! One frame: it is read, its run arrives, and the answer goes out.
-ghost use Rattle.upd_spool.specs.Spools.{Exchanges};
+ghost use Rattle.upd_spool.specs.Exchange.{Exchanges};
 
 use crate::answer::answer;
 use crate::header::read_header;

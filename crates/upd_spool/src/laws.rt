@@ -14,8 +14,9 @@ pub fn frames_are_as_spelled()
         → frame_text b ≡ frame_text a ++ behind → a ≡ b }
 {}
 
-/// No other list of frames fits the text of a spool.
-pub fn spools_are_read_in_one_way()
-    ensures { (text : List ℕ) (frames others : List ArrivalView) (rest other : List ℕ)
+/// Each text is that of a spool, and no other list of frames fits it.
+pub fn texts_are_spools_in_one_way()
+    ensures some { (text : List ℕ) → (frames : List ArrivalView) × (rest : List ℕ) × IsSpool text frames rest }
+    ensures one { (text : List ℕ) (frames others : List ArrivalView) (rest other : List ℕ)
         → IsSpool text frames rest → IsSpool text others other → (frames ≡ others) × (rest ≡ other) }
 {}

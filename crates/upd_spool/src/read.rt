@@ -1,7 +1,8 @@
 //! Reads the parts of a frame. A read that was interrupted counts as failed, like any other.
 ghost use Rattle.std.specs.Prelude.{◌≡◌, List, ℕ, [], ◌∷◌, ◌++◌, IfErr, IfOk, OnOk, length};
 ghost use Rattle.std.specs.Io.KnownBytes.{Consumes, IsAtEnd};
-ghost use Rattle.upd_spool.specs.Spools.{LineRead, Stops, StopsEnd, StopsNothing, StopsRun};
+ghost use Rattle.upd_spool.specs.Exchange.{LineRead, StopsEnd, StopsNothing, StopsRun};
+ghost use Rattle.upd_spool.specs.Spools.{Stops};
 
 use crate::header::MAX_HEADER_BYTES;
 use std::io::Read;

@@ -2,7 +2,7 @@ use Rattle.std.proofs.Common.{◌∷◌, ◌++◌, [], sym, ap, ◌∙◌, refl,
 use Rattle.upd_spool.specs.Header.{HeaderView, header_of, header_text}
 use Rattle.upd_spool.specs.Frames.{arrival_of}
 use Rattle.upd_spool.specs.Frames.IsBad.{no_header}
-use Rattle.upd_spool.specs.Spools.{StopsRun}
+use Rattle.upd_spool.specs.Exchange.{StopsRun}
 use Rattle.upd_spool.proofs.ReadLemmas.{behind_header, frame_taken, header_found, run_stops}
 use Rattle.upd_spool.proofs.SpoolLemmas.{bad_stops, line_missing, line_out, stopped}
 use Rattle.upd_spool.proofs.exchange.exchange.Goals as goal
