@@ -1,5 +1,5 @@
 #!/usr/bin/env python3
-"""Measures libraries at their limits: the processor time of tests of crates/upd_tests and crates/upd_desk_tests.
+"""Measures libraries at their limits, and a desk on 500 cards: the processor time of tests of crates/upd_tests and crates/upd_desk_tests.
 
     python3 bench/apply.py [--times N]
 
@@ -32,6 +32,10 @@ TESTS = {
     ("upd_desk_tests", "settling::settles_4_runs_of_1900_deletions_on_48000_cards"): "the same, each settled",
     ("upd_desk_tests", "settling::has_900_yanks_in_a_row"): "900 sets, each of which yanks the one before it",
     ("upd_desk_tests", "settling::takes_back_the_last_of_900_yanks_10_times"): "the same, and 10 runs that change the last one, each settled",
+    ("upd_desk_tests", "keeping::holds_500_cards"): "a desk over lists, and the run that brings 500 cards",
+    ("upd_desk_tests", "keeping::takes_50_runs_of_three_lines_on_500_cards"): "the same, and 50 runs of three lines",
+    ("upd_desk_tests", "keeping::answers_10000_repeats_of_one_of_50_runs"): "the same, and 10,000 repeats of the first of them",
+    ("upd_desk_tests", "keeping::settles_5000_times"): "the 50 runs, and 5,000 settlements, each of one number more",
 }
 
 # A run or a settling alone is a test less the one without it, by how often it comes; seconds of processor time.
@@ -44,6 +48,9 @@ BUDGETS = [
     ("settling one card", "settling::settles_20_deletions_of_one_card_of_48000", "settling::applies_20_deletions_of_one_card_to_48000", 20, 0.004),
     ("settling 1,900 cards", "settling::settles_4_runs_of_1900_deletions_on_48000_cards",
      "settling::applies_4_runs_of_1900_deletions_to_48000_cards", 4, 0.03),
+    ("a run of three lines on 500 cards", "keeping::takes_50_runs_of_three_lines_on_500_cards", "keeping::holds_500_cards", 50, 0.002),
+    ("a repeat", "keeping::answers_10000_repeats_of_one_of_50_runs", "keeping::takes_50_runs_of_three_lines_on_500_cards", 10000, 0.00005),
+    ("a settlement", "keeping::settles_5000_times", "keeping::takes_50_runs_of_three_lines_on_500_cards", 5000, 0.0001),
     ("a run on 900 yanks in a row", "settling::takes_back_the_last_of_900_yanks_10_times", "settling::has_900_yanks_in_a_row", 10, 0.005),
 ]
 
@@ -70,7 +77,7 @@ def main():
     for what, test, before, times, budget in BUDGETS:
         alone = (medians[test] - medians[before]) / times
         late = late or alone > budget
-        print(f"{what} alone: {alone * 1000:.1f} ms (budget {budget * 1000:.0f} ms)")
+        print(f"{what} alone: {alone * 1000:.3f} ms (budget {budget * 1000:g} ms)")
     return 1 if late else 0
 
 

@@ -10,6 +10,8 @@ mod changes;
 #[cfg(test)]
 mod dice;
 #[cfg(test)]
+mod keeping;
+#[cfg(test)]
 mod plain;
 #[cfg(test)]
 mod settling;

@@ -1,0 +1,84 @@
+//! A desk over lists that keeps a library of 500 cards: what `bench/apply.py` times.
+use std::alloc::Global;
+use std::process::Abort;
+use std::test::Fail;
+use upd_desk::{Desk, Reply};
+use upd_rows::ListStore;
+
+/// A run that brings ten decks of 50 cards each.
+fn ten_decks(alloc: Global) -> Result<String, Fail> {
+    let mut text = String::new(alloc);
+    for deck in 0..10_u32 {
+        write!(text, "*DECK DECK{deck}\n")?;
+        for line in 2..51_u32 {
+            write!(text, "LINE {line}\n")?;
+        }
+    }
+    Ok(text)
+}
+
+fn with_500_cards(rt: &impl Abort, alloc: Global) -> Result<Desk<ListStore>, Fail> {
+    let mut desk = Desk::open(ListStore::new(alloc));
+    let text = ten_decks(alloc)?;
+    let reply = desk.arrive(alloc, "BASE", 1, "normal", text.as_bytes())?;
+    assert!(rt; reply.accepted);
+    assert_eq!(rt; desk.work(), 500);
+    Ok(desk)
+}
+
+/// The run of three lines that replaces one card of a deck by another.
+fn replace(desk: &mut Desk<ListStore>, alloc: Global, number: u32) -> Result<Reply, Fail> {
+    let deck = number % 10;
+    let card = number % 49 + 2;
+    let text = format!(in alloc; "*IDENT X{number}\n*DELETE DECK{deck}.{card}\nNEW\n")?;
+    Ok(desk.arrive(alloc, "LYON", u64::from(number), "quick", text.as_bytes())?)
+}
+
+fn replaced(
+    rt: &impl Abort,
+    alloc: Global,
+    runs: u32,
+    repeats: u32,
+) -> Result<Desk<ListStore>, Fail> {
+    let mut desk = with_500_cards(rt, alloc)?;
+    for number in 0..runs {
+        let number = number.saturating_add(1);
+        let reply = replace(&mut desk, alloc, number)?;
+        assert!(rt; reply.accepted, "{number}");
+        assert_eq!(rt; desk.work(), 2, "{number}");
+    }
+    for _ in 0..repeats {
+        let reply = replace(&mut desk, alloc, 1)?;
+        assert!(rt; reply.accepted);
+        assert_eq!(rt; desk.work(), 0);
+    }
+    Ok(desk)
+}
+
+#[test]
+fn holds_500_cards(rt: HostRuntime) -> Result<(), Fail> {
+    with_500_cards(&rt, rt.alloc())?;
+    Ok(())
+}
+
+#[test]
+fn takes_50_runs_of_three_lines_on_500_cards(rt: HostRuntime) -> Result<(), Fail> {
+    replaced(&rt, rt.alloc(), 50, 0)?;
+    Ok(())
+}
+
+#[test]
+fn answers_10000_repeats_of_one_of_50_runs(rt: HostRuntime) -> Result<(), Fail> {
+    replaced(&rt, rt.alloc(), 50, 10_000)?;
+    Ok(())
+}
+
+#[test]
+fn settles_5000_times(rt: HostRuntime) -> Result<(), Fail> {
+    let mut desk = replaced(&rt, rt.alloc(), 50, 0)?;
+    for number in 0..5000_u64 {
+        let number = number.saturating_add(1);
+        assert_eq!(&rt; desk.settle_site(rt.alloc(), "LYON", number)?, number);
+    }
+    Ok(())
+}
