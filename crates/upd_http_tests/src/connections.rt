@@ -1,0 +1,59 @@
+//! Connections on this machine.
+use crate::streams::empty_desk;
+use std::io::{Read, Write};
+use std::net::{Shutdown, TcpListener, TcpStream};
+use std::test::Fail;
+use upd_http::serve_on;
+
+const QUICK: &str =
+    "POST /sites/LYON/runs/1/quick HTTP/1.1\r\nHost: lib\r\nContent-Length: 0\r\n\r\n";
+
+const QUICK_ANSWER: &str =
+    "HTTP/1.1 200 OK\r\nContent-Type: application/json\r\nContent-Length: 92\r\n\
+Connection: close\r\n\r\n{\"compile\":\"\",\"idents\":[],\"lines\":0,\"mode\":\"quick\",\"run\":1,\"site\":\"LYON\",\
+\"state\":\"accepted\"}";
+
+/// A client connects and writes, then the connection is served, then the client reads. One that goes away before its
+/// request is whole takes nobody else's answer.
+#[test]
+fn connections_are_served(rt: HostRuntime) -> Result<(), Fail> {
+    let alloc = rt.alloc();
+    let mut desk = empty_desk(alloc);
+    let listener = TcpListener::bind(&rt, "127.0.0.1:0")?;
+    let address = listener.local_addr()?;
+    let mut gone = TcpStream::connect(&rt, address)?;
+    gone.write_all(&QUICK.as_bytes()[..30])?;
+    gone.shutdown(Shutdown::Write)?;
+    let mut client = TcpStream::connect(&rt, address)?;
+    client.write_all(QUICK.as_bytes())?;
+    client.shutdown(Shutdown::Write)?;
+    serve_on(alloc, &listener, 2, &mut desk)?;
+    let mut nothing = Vec::new(alloc);
+    gone.read_to_end(&mut nothing)?;
+    assert!(&rt; nothing.is_empty());
+    let mut answer = Vec::new(alloc);
+    client.read_to_end(&mut answer)?;
+    assert_eq!(&rt; std::str::from_utf8(&answer)?, QUICK_ANSWER);
+    Ok(())
+}
+
+/// A client that sends more than it may has its answer all the same.
+#[test]
+fn a_long_body_is_answered(rt: HostRuntime) -> Result<(), Fail> {
+    let alloc = rt.alloc();
+    let mut desk = empty_desk(alloc);
+    let listener = TcpListener::bind(&rt, "127.0.0.1:0")?;
+    let mut client = TcpStream::connect(&rt, listener.local_addr()?)?;
+    client.write_all(b"POST /sites/LYON/runs/1/quick HTTP/1.1\r\nContent-Length: 65537\r\n\r\n")?;
+    client.write_all(&[b'x'; 65_537])?;
+    client.shutdown(Shutdown::Write)?;
+    serve_on(alloc, &listener, 1, &mut desk)?;
+    let mut answer = Vec::new(alloc);
+    client.read_to_end(&mut answer)?;
+    assert_eq!(&rt;
+        std::str::from_utf8(&answer)?,
+        "HTTP/1.1 413 Payload Too Large\r\nContent-Type: application/json\r\nContent-Length: 35\r\n\
+Connection: close\r\n\r\n{\"at\":0,\"fault\":1,\"name\":\"RunLong\"}"
+    );
+    Ok(())
+}

@@ -1,0 +1,138 @@
+//! Readers and writers over memory, and a desk that is asked through them.
+use std::alloc::Global;
+use std::io;
+use std::io::{ErrorKind, Read, Write};
+use std::process::Abort;
+use std::test::Fail;
+use upd_desk::Desk;
+use upd_http::serve_one;
+use upd_rows::ListStore;
+use upd_text::Fault;
+
+/// Gives bytes a few at a time; read number `fails_at` fails.
+#[derive(Drop)]
+pub struct Pieces<'a> {
+    rest: &'a [u8],
+    most: usize,
+    reads: usize,
+    fails_at: usize,
+}
+
+impl<'a> Pieces<'a> {
+    pub fn new(bytes: &'a [u8], most: usize, fails_at: usize) -> Pieces<'a> {
+        Pieces {
+            rest: bytes,
+            most,
+            reads: 0,
+            fails_at,
+        }
+    }
+}
+
+impl<'a> Read for Pieces<'a> {
+    fn read(&mut self, buf: &mut [u8]) -> io::Result<usize> {
+        self.reads = self.reads.saturating_add(1);
+        if self.reads == self.fails_at {
+            return Err(io::Error::from(ErrorKind::Other));
+        }
+        let count = self.rest.len().min(self.most).min(buf.len());
+        let (given, rest) = self.rest.split_at(count);
+        buf[..count].copy_from_slice(given);
+        self.rest = rest;
+        Ok(count)
+    }
+}
+
+/// Takes a byte at a write, so many times.
+#[derive(Drop)]
+pub struct Narrow {
+    pub taken: Vec<u8>,
+    room: usize,
+}
+
+impl Narrow {
+    pub fn new(alloc: Global, room: usize) -> Narrow {
+        Narrow {
+            taken: Vec::new(alloc),
+            room,
+        }
+    }
+}
+
+impl Write for Narrow {
+    fn write(&mut self, buf: &[u8]) -> io::Result<usize> {
+        if self.room == 0 || buf.is_empty() {
+            return Err(io::Error::from(ErrorKind::BrokenPipe));
+        }
+        self.taken.push(buf[0])?;
+        self.room -= 1;
+        Ok(1)
+    }
+
+    fn flush(&mut self) -> io::Result<()> {
+        Ok(())
+    }
+}
+
+pub type Lists = Desk<ListStore>;
+
+/// A desk over an empty library.
+pub fn empty_desk(alloc: Global) -> Lists {
+    Desk::open(ListStore::new(alloc))
+}
+
+/// What is written for a request, read so many bytes at a time.
+pub fn answer_to(
+    alloc: Global,
+    desk: &mut Lists,
+    request: &[u8],
+    most: usize,
+) -> Result<Vec<u8>, Fault> {
+    let mut output = Vec::new(alloc);
+    let mut input = Pieces::new(request, most, 0);
+    serve_one(alloc, &mut input, &mut output, desk)?;
+    Ok(output)
+}
+
+/// The answer to a request is this text.
+pub fn expect(
+    rt: &impl Abort,
+    alloc: Global,
+    desk: &mut Lists,
+    request: &str,
+    wanted: &str,
+) -> Result<(), Fail> {
+    let answer = answer_to(alloc, desk, request.as_bytes(), 65_536)?;
+    assert_eq!(rt; std::str::from_utf8(&answer)?, wanted, "{request}");
+    Ok(())
+}
+
+/// The answer to a request without headers and body is this text.
+pub fn expect_plain(
+    rt: &impl Abort,
+    alloc: Global,
+    desk: &mut Lists,
+    line: &str,
+    wanted: &str,
+) -> Result<(), Fail> {
+    let request = format!(in alloc; "{line} HTTP/1.1\r\n\r\n")?;
+    expect(rt, alloc, desk, &request, wanted)
+}
+
+/// A run is posted, and its answer is accepted.
+pub fn post(
+    rt: &impl Abort,
+    alloc: Global,
+    desk: &mut Lists,
+    number: u32,
+    mode: &str,
+    run: &str,
+) -> Result<(), Fail> {
+    let length = run.len();
+    let request = format!(in alloc;
+        "POST /sites/LYON/runs/{number}/{mode} HTTP/1.1\r\nContent-Length: {length}\r\n\r\n{run}"
+    )?;
+    let answer = answer_to(alloc, desk, request.as_bytes(), 65_536)?;
+    assert!(rt; answer.starts_with(b"HTTP/1.1 200 OK\r\n"), "{run}");
+    Ok(())
+}
