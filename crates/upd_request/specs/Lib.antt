@@ -5,3 +5,4 @@ pub mod Parameters
 pub mod Routes
 pub mod Requests
 pub mod Views
+pub mod Paths

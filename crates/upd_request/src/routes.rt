@@ -3,6 +3,7 @@
 ghost use Rattle.std.specs.Prelude.{◌≡◌, ℕ, true, List, IfOk, OnOk};
 ghost use Rattle.upd_request.specs.Calls.{Gives, asked};
 ghost use Rattle.upd_request.specs.Parameters.{segments_of};
+ghost use Rattle.upd_request.specs.Paths.{AreBytes, ArePlain};
 ghost use Rattle.upd_request.specs.Routes.{call_of, is_free, route_of, routes, verb_of, with_route};
 
 use crate::call::{Call, Refusal, Verb};
@@ -134,3 +135,9 @@ fn settle_call(alloc: Global, path: &str) -> Result<Call, Refusal>
     let number = number_at(alloc, path, 4)?;
     Ok(Call::Settle { site, number })
 }
+
+/// A path has a route exactly where its segments fit the parts of that route, as words and parameters: so what the
+/// router finds is told without it, and no path has two routes.
+pub fn routes_are_plain()
+    ensures { (path : List ℕ) → AreBytes path → (route : Route) → ArePlain path route }
+{}

@@ -24,12 +24,39 @@ add-requires-5 c = rw (c.in_ok-add-4.ensures, c.in_ok-add-3.ensures, c.in_ok-add
 
 pub add-requires-6 : goal.add-requires-6
 unfolding matchit_on_literals
-add-requires-6 c = rw (c.in_ok-add-5.ensures, c.in_ok-add-4.ensures, c.in_ok-add-3.ensures, c.in_ok-add-2.ensures, c.in_ok-add.ensures, c.new-router.ensures) refl
+add-requires-6 c =
+    rw (
+      c.in_ok-add-5.ensures,
+      c.in_ok-add-4.ensures,
+      c.in_ok-add-3.ensures,
+      c.in_ok-add-2.ensures,
+      c.in_ok-add.ensures,
+      c.new-router.ensures,
+    ) refl
 
 pub add-requires-7 : goal.add-requires-7
 unfolding matchit_on_literals
-add-requires-7 c = rw (c.in_ok-add-6.ensures, c.in_ok-add-5.ensures, c.in_ok-add-4.ensures, c.in_ok-add-3.ensures, c.in_ok-add-2.ensures, c.in_ok-add.ensures, c.new-router.ensures) refl
+add-requires-7 c =
+    rw (
+      c.in_ok-add-6.ensures,
+      c.in_ok-add-5.ensures,
+      c.in_ok-add-4.ensures,
+      c.in_ok-add-3.ensures,
+      c.in_ok-add-2.ensures,
+      c.in_ok-add.ensures,
+      c.new-router.ensures,
+    ) refl
 
 pub returns : goal.returns
 unfolding matchit_on_literals
-returns c = rw (c.in_ok-add-7.ensures, c.in_ok-add-6.ensures, c.in_ok-add-5.ensures, c.in_ok-add-4.ensures, c.in_ok-add-3.ensures, c.in_ok-add-2.ensures, c.in_ok-add.ensures, c.new-router.ensures) refl
+returns c =
+    rw (
+      c.in_ok-add-7.ensures,
+      c.in_ok-add-6.ensures,
+      c.in_ok-add-5.ensures,
+      c.in_ok-add-4.ensures,
+      c.in_ok-add-3.ensures,
+      c.in_ok-add-2.ensures,
+      c.in_ok-add.ensures,
+      c.new-router.ensures,
+    ) refl
