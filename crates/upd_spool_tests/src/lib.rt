@@ -1,0 +1,9 @@
+//! The tests of spool files. Expected bytes are worked by hand from `docs/rules.md`.
+#![tactic(auto)]
+
+#[cfg(test)]
+mod frames;
+#[cfg(test)]
+mod streams;
+#[cfg(test)]
+mod worked;
