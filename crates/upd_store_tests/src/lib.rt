@@ -1,4 +1,5 @@
-//! Tests of the store over SQLite in memory: what runs leave in it is there again when the connection is taken up anew.
+//! Tests of the store over SQLite in memory: what runs leave in it is there again when the connection is taken up anew;
+//! and files in memory as large as a library may be, for their times.
 //!
 //! Expected values are worked by hand from `docs/rules.md`.
 #![tactic(auto)]
@@ -7,3 +8,5 @@
 mod shelf;
 #[cfg(test)]
 mod stored;
+#[cfg(test)]
+mod times;

@@ -12,7 +12,7 @@ use upd_rows::RowStore;
 use upd_text::Name;
 
 /// The row of a run that was accepted, with an empty reply.
-fn row_of(alloc: Global, site: &str, number: u64, text: &str) -> Result<RunRow, Fail>
+pub fn row_of(alloc: Global, site: &str, number: u64, text: &str) -> Result<RunRow, Fail>
     ensures { IfOk result (λ row. (row.site ≡ site.now) × (row.number ≡ number)) }
 {
     Ok(RunRow {
