@@ -7,11 +7,9 @@
 mod arrivals;
 #[cfg(test)]
 mod changes;
-#[cfg(test)]
-mod dice;
+pub mod dice;
 #[cfg(test)]
 mod keeping;
-#[cfg(test)]
-mod plain;
+pub mod plain;
 #[cfg(test)]
 mod settling;

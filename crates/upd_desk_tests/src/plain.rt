@@ -20,12 +20,12 @@ pub struct Sent<'a> {
 
 /// A run with its answer.
 #[derive(Drop)]
-struct Kept {
-    site: String,
-    number: u64,
-    mode: String,
-    text: String,
-    answer: String,
+pub struct Kept {
+    pub site: String,
+    pub number: u64,
+    pub mode: String,
+    pub text: String,
+    pub answer: String,
 }
 
 #[derive(Drop)]
@@ -33,7 +33,8 @@ pub struct Plain {
     pub library: Library,
     /// How many cards a cache made anew looks at when it settles the last accepted run.
     pub work: u64,
-    kept: Vec<Kept>,
+    /// Each run that has a reply, settled or not.
+    pub kept: Vec<Kept>,
     marks: Vec<(String, u64)>,
 }
 

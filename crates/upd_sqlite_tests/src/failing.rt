@@ -1,0 +1,216 @@
+//! A store over lists of which one commit fails: what was in hand is lost, and may arrive again.
+ghost use Rattle.std.specs.Prelude.{◌≡◌, refl};
+ghost use Rattle.std.proofs.Common.{sym, ◌∙◌};
+ghost use Rattle.upd_change.specs.Rows.{Rows};
+ghost use Rattle.upd_rows.specs.Keeping.{IsLost};
+
+use crate::talk::{Ask, Talk, accepted, lyon, refused, told};
+use std::alloc::Global;
+use std::process::Abort;
+use std::test::Fail;
+use upd_change::{Change, RunRow};
+use upd_core::{Library, Serial, States};
+use upd_desk::{Arrival, Desk};
+use upd_desk_tests::plain::Sent;
+use upd_rows::{ListStore, RowStore};
+use upd_text::{Fault, FaultKind};
+
+/// Lists of which one commit fails.
+#[derive(Drop)]
+struct Failing {
+    lists: ListStore,
+    /// How many commits come before the one that fails.
+    passing: u64,
+    failures: u64,
+}
+
+impl Failing {
+    fn new(alloc: Global, passing: u64) -> Failing {
+        Failing {
+            lists: ListStore::new(alloc),
+            passing,
+            failures: 0,
+        }
+    }
+}
+
+fn store_failed() -> Fault
+    ensures { IsLost result }
+{
+    FaultKind::Store.without_line()
+}
+
+impl RowStore for Failing {
+    ghost Image = { Rows };
+
+    ghost shows = { λ image rows. image ≡ rows };
+
+    ghost image = { λ s. s.lists };
+
+    ghost is_open = { λ _. Unit {0} };
+
+    ghost is_honest = { λ _. Unit {0} };
+
+    ghost may_leave = { λ s image. image ≡ s.lists };
+
+    ghost failures_of = { λ s. s.failures };
+
+    ghost caused = { λ _ _. Unit {0} };
+
+    fn load(&mut self, alloc: Global) -> Result<Library, Fault> {
+        self.lists.load(alloc)
+    }
+
+    fn load_decks(&mut self, alloc: Global, decks: &[Serial]) -> Result<Library, Fault> {
+        self.lists.load_decks(alloc, decks)
+    }
+
+    fn load_states(&mut self, alloc: Global) -> Result<States, Fault> {
+        self.lists.load_states(alloc)
+    }
+
+    fn kept_run(
+        &mut self,
+        alloc: Global,
+        site: &str,
+        number: u64,
+    ) -> Result<Option<RunRow>, Fault> {
+        self.lists.kept_run(alloc, site, number)
+    }
+
+    fn mark(&mut self, alloc: Global, site: &str) -> Result<u64, Fault> {
+        self.lists.mark(alloc, site)
+    }
+
+    fn commit(&mut self, alloc: Global, changes: &[Change], run: RunRow) -> Result<(), Fault> {
+        if self.passing == 0 && self.failures == 0 {
+            self.failures = 1;
+            return Err(store_failed());
+        }
+        self.passing = self.passing.saturating_sub(1);
+        self.lists.commit(alloc, changes, run)
+    }
+
+    fn settle_to(&mut self, alloc: Global, site: &str, number: u64) -> Result<u64, Fault> {
+        self.lists.settle_to(alloc, site, number)
+    }
+
+    fn failures(&self) -> u64 {
+        self.failures
+    }
+
+    ghost one = { λ i a b shown other. sym shown ∙ other };
+
+    ghost settled = { λ s i _ _ left. left };
+
+    ghost stays = { λ s _ _. refl };
+
+    ghost survives = { λ s _. ∣ (_, refl) ∣₁ };
+}
+
+const DECK_A: &str = "*DECK A\nONE\nTWO\nTHREE\n";
+
+/// The run that fails is lost: its key isn't known, and it acts when it arrives again.
+fn loses_one(
+    rt: &impl Abort,
+    alloc: Global,
+    list: &[Sent<'_>],
+    passing: usize,
+) -> Result<(), Fail> {
+    let mut talk = Talk::new(alloc, Failing::new(alloc, passing as u64));
+    for (commits, sent) in list.iter().enumerate() {
+        if commits == passing {
+            talk = after_loss(rt, talk, *sent)?;
+        }
+        talk.ask_both(rt, Ask::Run(*sent))?;
+    }
+    Ok(())
+}
+
+/// A run is lost: its key isn't known.
+fn after_loss(
+    rt: &impl Abort,
+    mut talk: Talk<Failing>,
+    sent: Sent<'_>,
+) -> Result<Talk<Failing>, Fail> {
+    let answer = talk.ask(Ask::Run(sent))?;
+    assert_eq!(rt; answer.as_str(), "Store (29) at 0", "{sent:?}");
+    let alloc = talk.alloc;
+    let Talk { desk, plain, .. } = talk;
+    let mut store = desk.close();
+    let kept = store.kept_run(alloc, sent.site, sent.number)?;
+    assert!(rt; kept.is_none(), "{sent:?}");
+    assert_eq!(rt; store.failures(), 1);
+    Ok(Talk::over(store, plain))
+}
+
+#[test]
+fn a_failed_commit_keeps_no_run(rt: HostRuntime) -> Result<(), Fail> {
+    let list = [
+        lyon(1, "full", DECK_A),
+        lyon(2, "full", "*IDENT X\n*DELETE A.2\nNEW\n"),
+        lyon(3, "full", "*IDENT Y\n*YANK X\n"),
+        lyon(4, "full", "*IDENT Z\n*YANK Y\n"),
+        lyon(5, "full", "*IDENT W\n*DELETE Z.1\n"),
+    ];
+    for passing in 0..5 {
+        loses_one(&rt, rt.alloc(), &list, passing)?;
+    }
+    Ok(())
+}
+
+/// The answers of a desk whose store fails after so many commits, one a line.
+fn run_all(alloc: Global, list: &[Arrival<'_>], passing: u64) -> Result<String, Fail> {
+    let mut desk = Desk::open(Failing::new(alloc, passing));
+    let mut text = String::new(alloc);
+    for answer in desk.run_all(alloc, list)? {
+        let answer = told(alloc, answer.map(|reply| reply.text))?;
+        write!(text, "{answer}\n")?;
+    }
+    Ok(text)
+}
+
+fn arrival(sent: Sent<'_>) -> Arrival<'_> {
+    Arrival {
+        site: sent.site,
+        number: sent.number,
+        mode: sent.mode,
+        bytes: sent.text.as_bytes(),
+    }
+}
+
+#[test]
+fn a_lost_run_is_passed_over(rt: HostRuntime) -> Result<(), Fail> {
+    let alloc = rt.alloc();
+    let deck = lyon(7, "full", DECK_A);
+    let deleted = lyon(6, "full", "*IDENT X\n*DELETE A.3\n");
+    let list = [
+        arrival(deck),
+        arrival(deleted),
+        arrival(deck),
+        arrival(deleted),
+    ];
+    let made = accepted(
+        alloc,
+        deck,
+        &["A"],
+        &[("ONE", "A", 2), ("TWO", "A", 3), ("THREE", "A", 4)],
+    )?;
+    let corrected = accepted(
+        alloc,
+        deleted,
+        &["X"],
+        &[("ONE", "A", 2), ("THREE", "A", 4)],
+    )?;
+    let unknown = refused(alloc, deleted, "CardUnknown 13 at 2")?;
+    let answers = run_all(alloc, &list, 0)?;
+    let wanted = format!(in alloc; "Store (29) at 0\n{unknown}\n{made}\n{unknown}\n")?;
+    assert_eq!(&rt; answers.as_str(), wanted.as_str());
+    let answers = run_all(alloc, &list, 1)?;
+    let wanted = format!(in alloc; "{made}\nStore (29) at 0\n{made}\n{corrected}\n")?;
+    assert_eq!(&rt; answers.as_str(), wanted.as_str());
+    let answers = run_all(alloc, &list, 2)?;
+    let wanted = format!(in alloc; "{made}\n{corrected}\n{made}\n{corrected}\n")?;
+    assert_eq!(&rt; answers.as_str(), wanted.as_str());
+    Ok(())
+}
