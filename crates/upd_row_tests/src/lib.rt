@@ -1,11 +1,12 @@
 //! Tests of stores of rows: a library that runs change is followed by its tables.
 //!
-//! They stand in a crate of their own, since a crate with tests is proved once more with them. Each is written for any
-//! store.
+//! They stand in a crate of their own, since a crate with tests is proved once more with them. What a store answers is
+//! asked of any store; the tables themselves are those that a store over lists prints.
 #![tactic(auto)]
 
 #[cfg(test)]
 mod commits;
+pub mod dice;
 #[cfg(test)]
 mod follower;
 #[cfg(test)]

@@ -7,6 +7,7 @@ use upd_apply::apply;
 use upd_core::ident::name_at;
 use upd_core::{Card, CardRef, Counted, Library, Serial, Target};
 use upd_deck::read_run;
+use upd_row_tests::dice::{DECKS, Dice, random_run};
 use upd_text::Name;
 use upd_yank::Cache;
 
@@ -180,47 +181,10 @@ fn follows_900_yanks_in_a_row(rt: HostRuntime) -> Result<(), Fail> {
     Ok(())
 }
 
-/// Numbers that look random, the same each time.
-#[derive(Drop)]
-struct Dice(u32);
-
-impl Dice {
-    /// A number below another one.
-    fn below(&mut self, limit: u32) -> u32 {
-        self.0 = self.0.wrapping_mul(1_664_525).wrapping_add(1_013_904_223);
-        (self.0 >> 8).checked_rem(limit).unwrap_or(0)
-    }
-}
-
-/// The `n`th run: some lines on sets and decks that may be there.
-fn random_run(alloc: Global, dice: &mut Dice, n: u32) -> Result<String, Fail> {
-    let mut text = format!(in alloc; "*IDENT S{n}\n")?;
-    for _ in 0..3 {
-        let set = dice.below(n.saturating_add(1));
-        let deck = dice.below(3);
-        let card = dice.below(4).saturating_add(1);
-        match dice.below(12) {
-            0 | 1 => write!(text, "*INSERT P{deck}.{card}\nTEXT\n")?,
-            2 | 3 => write!(text, "*DELETE P{deck}.{card}\n")?,
-            4 => write!(text, "*RESTORE P{deck}.{card}\n")?,
-            5 => write!(text, "*YANK S{set}\n")?,
-            6 => write!(text, "*SELYANK P{deck}.S{set}\n")?,
-            7 => write!(text, "*YANKDECK P{deck}\n")?,
-            8 | 9 => write!(text, "*DELETE S{set}.1\n")?,
-            10 => write!(text, "*RESTORE S{set}.1\n")?,
-            _ => write!(text, "*PURGE S{set}\n*IDENT T{n}\n")?,
-        }
-    }
-    Ok(text)
-}
-
 /// A list of runs: how many of them were accepted.
 fn random_runs(rt: &impl Abort, alloc: Global, dice: &mut Dice) -> Result<u32, Fail> {
     let mut kept = Kept::new(alloc)?;
-    kept.work(
-        rt,
-        "*DECK P0\nONE\nTWO\nTHREE\n*DECK P1\nONE\nTWO\nTHREE\n*COMDECK P2\nONE\nTWO\nTHREE\n",
-    )?;
+    kept.work(rt, DECKS)?;
     let mut accepted: u32 = 0;
     for n in 0..24 {
         let text = random_run(alloc, dice, n)?;
