@@ -112,8 +112,8 @@ frame_made h bytes behind is all =
 pub frame_is_spelled : (text behind : List ℕ) (a : ArrivalView) → frame_of text ≡ Some (a, behind) → IsFrame a × (text ≡ frame_text a ++ behind)
 unfolding frame_of
 frame_is_spelled text behind a e =
-    bind_then _ _ _ _ e (λ line e1 r1. bind_then _ _ _ _ r1 (λ h e2 r2.
-    of line.0 line.1 h (cut_whole 10 text line e1) (header_is_spelled line.0 h e2) (passes _ _ _ r2)))
+    bind_then _ _ _ _ e (λ line e1 q1. bind_then _ _ _ _ q1 (λ h e2 q2.
+    of line.0 line.1 h (cut_whole 10 text line e1) (header_is_spelled line.0 h e2) (passes _ _ _ q2)))
   where
     to : (found : ArrivalView × List ℕ) → found ≡ (a, behind) → IsFrame found.0 × (text ≡ frame_text found.0 ++ found.1) → IsFrame a × (text ≡ frame_text a ++ behind)
     to found e is = subst (λ (p : ArrivalView × List ℕ). IsFrame p.0 × (text ≡ frame_text p.0 ++ p.1)) e is

@@ -228,12 +228,12 @@ joined text line command run site number mode size word1 word2 a b c e1 e2 e3 e4
 pub header_is_spelled : (text : List ℕ) (h : HeaderView) → header_of text ≡ Some h → IsHeader h × (text ≡ header_text h)
 unfolding header_of
 header_is_spelled text h e =
-    bind_then _ _ h _ e (λ line e1 r1. bind_then _ _ h _ r1 (λ run e2 r2. bind_then _ _ h _ r2 (λ command e3 r3. bind_then _ _ h _ r3 (λ site e4 r4.
-    bind_then _ _ h _ r4 (λ word1 e5 r5. bind_then _ _ h _ r5 (λ number e6 r6. bind_then _ _ h _ r6 (λ n e7 r7. bind_then _ _ h _ r7 (λ mode e8 r8.
-    bind_then _ _ h _ r8 (λ word2 e9 r9. bind_then _ _ h _ r9 (λ m e10 r10.
+    bind_then _ _ h _ e (λ line e1 q1. bind_then _ _ h _ q1 (λ run e2 q2. bind_then _ _ h _ q2 (λ command e3 q3. bind_then _ _ h _ q3 (λ site e4 q4.
+    bind_then _ _ h _ q4 (λ word1 e5 q5. bind_then _ _ h _ q5 (λ number e6 q6. bind_then _ _ h _ q6 (λ n e7 q7. bind_then _ _ h _ q7 (λ mode e8 q8.
+    bind_then _ _ h _ q8 (λ word2 e9 q9. bind_then _ _ h _ q9 (λ m e10 q10.
     of line run command site word1 number n mode word2 m (passes _ _ line e1) (cut_whole 32 line run e2) (passes _ _ command e3) (cut_whole 32 run.1 site e4)
     (passes _ _ word1 e5) (cut_whole 32 site.1 number e6) (number_is number.0 n e7) (cut_whole 32 number.1 mode e8) (passes _ _ word2 e9)
-    (size_is mode.1 m e10) r10))))))))))
+    (size_is mode.1 m e10) q10))))))))))
   where
     some_is : (a b : HeaderView) → Some a ≡ Some b → a ≡ b
     some_is a b e = cc
