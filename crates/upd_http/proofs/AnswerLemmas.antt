@@ -1,11 +1,11 @@
 -- A request and its answer.
-use Rattle.std.proofs.Common.{◌≡◌, ◌⊎◌, inl, inr, ℕ, List, [], Option, Some, None, Result, Ok, Err, IfOk, IfErr, IfSome, refl, sym, ap, ◌∙◌, subst}
-use Rattle.upd_request.specs.Calls.{Asked, no_memory as no_memory_refusal, read_failed as read_failed_refusal}
+use Rattle.std.proofs.Common.{◌≡◌, ◌⊎◌, inl, inr, ℕ, List, Option, Some, None, Result, Ok, Err, IfOk, IfErr, IfSome, refl, sym, ap, ◌∙◌}
+use Rattle.upd_request.specs.Calls.{Asked}
 use Rattle.upd_request.specs.Requests.{IsFailure, Says}
 use Rattle.upd_request.specs.declared.call.Refusal.{Refusal}
 use Rattle.upd_text.specs.declared.fault.Fault.{Fault}
 use Rattle.upd_http.specs.Responses.{Response, refusal_answer}
-use Rattle.upd_http.specs.Serving.{Answers, IsAsked, IsFailed, Made, no_memory}
+use Rattle.upd_http.specs.Serving.{Answers, IsAsked, Made, no_memory}
 use Rattle.upd_http.specs.Views.{answer_seen, response}
 use Rattle.upd_http.specs.declared.answer.Answer.{Answer}
 

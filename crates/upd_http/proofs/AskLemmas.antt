@@ -1,16 +1,10 @@
 -- Questions to the desk and their answers.
-use Rattle.std.proofs.Common.{◌≡◌, ◌⊎◌, inl, inr, ℕ, List, [], ◌∷◌, ◌++◌, Bool, true, Option, Some, None, Result, Ok, Err, IfOk, IfErr, IsErr, IsTrue, refl}
-use Rattle.std.proofs.Common.{sym, ap, ◌∙◌, subst}
+use Rattle.std.proofs.Common.{◌≡◌, inl, inr, Result, Ok, Err, IfOk, IfErr, IsErr, refl}
+use Rattle.std.proofs.Common.{sym, ap, ◌∙◌}
 use Rattle.std.specs.Result.{result_map_both}
-use Rattle.upd_change.specs.Rows.{Rows}
-use Rattle.upd_core.specs.Library.{LibraryView}
-use Rattle.upd_desk.specs.Holding.{Tells}
-use Rattle.upd_request.specs.Calls.{Asked}
-use Rattle.upd_rows.specs.Keeping.{Keeps, MoreFailures}
 use Rattle.upd_text.specs.declared.fault.Fault.{Fault}
-use Rattle.upd_text.specs.declared.fault.FaultKind.TheVariants.{Store}
-use Rattle.upd_http.specs.Responses.{Response, fault_response, page, response_of}
-use Rattle.upd_http.specs.Serving.{Asks, CountsFailure, Does, IsAnswer, Leads, Made, Queries, no_memory}
+use Rattle.upd_http.specs.Responses.{Response, fault_response, response_of}
+use Rattle.upd_http.specs.Serving.{IsAnswer, no_memory}
 use Rattle.upd_http.specs.Views.{answer_seen, response}
 use Rattle.upd_http.specs.declared.answer.Answer.{Answer}
 

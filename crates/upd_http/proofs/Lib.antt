@@ -2,3 +2,4 @@ pub mod WriteLemmas
 pub mod AskLemmas
 pub mod HeadLemmas
 pub mod AnswerLemmas
+pub mod OwedLemmas

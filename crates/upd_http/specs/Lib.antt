@@ -2,3 +2,4 @@ pub mod Statuses
 pub mod Responses
 pub mod Views
 pub mod Serving
+pub mod Owed

@@ -1,10 +1,10 @@
 -- One request and its answer: what is asked of the desk, what it does, and what is written.
-use Rattle.std.specs.Prelude.{◌≡◌, ◌⊎◌, ◌≤◌, ℕ, IsTrue, List, [], ◌∷◌, ◌++◌, Option, Some, None, Result, Ok, Err, IfErr, IsErr}
+use Rattle.std.specs.Prelude.{◌≡◌, ◌⊎◌, ℕ, IsTrue, List, [], ◌∷◌, ◌++◌, Option, Some, None, Result, Ok, Err, IfErr, IsErr}
 use Rattle.std.specs.Io.KnownBytes.{Appends}
 use Rattle.std.specs.Result.{result_map_both}
 use Rattle.upd_change.specs.Rows.{Rows}
 use Rattle.upd_core.specs.Library.{LibraryView}
-use Rattle.upd_compile.specs.File.{FileView, compile_file_of}
+use Rattle.upd_compile.specs.File.{compile_file_of}
 use Rattle.upd_compile.specs.Listings.{card_listing, deck_listing, ident_listing, yank_listing}
 use Rattle.upd_compile.specs.declared.mode.Mode.TheVariants.{Full}
 use Rattle.upd_desk.specs.Arrivals.{is_site}

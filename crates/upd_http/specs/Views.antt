@@ -1,5 +1,5 @@
 -- What a value of the code stands for.
-use Rattle.std.specs.Prelude.{Result, Ok, Err}
+use Rattle.std.specs.Prelude.{Result}
 use Rattle.std.specs.Result.{result_map_both}
 use Rattle.upd_text.specs.declared.fault.Fault.{Fault}
 use Rattle.upd_http.specs.Responses.{Response}

@@ -5,8 +5,10 @@ mod answer;
 mod ask;
 mod connections;
 mod exchange;
+mod laws;
 mod status;
 mod write;
 
 pub use connections::serve_on;
 pub use exchange::serve_one;
+pub use laws::answers_are_owed;

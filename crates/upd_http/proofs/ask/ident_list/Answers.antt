@@ -11,7 +11,12 @@ returns-in-Ok g c =
     let told = result_map_both page (λ fault. fault) result in (
       Some (idents, told),
       (result, c.ident_list.ensures.text, c.ident_list.ensures.same, fails_alike _ _ c.ident_list.result c.ident_list.ensures.failed, refl),
-      inl (told, refl, answered_told page result c.in-Ok.text.items _ (seen_ok (λ text. text.items) c.ident_list.result c.in-Ok.text c.in-Ok.is) c.page.ensures),
+      inl (
+        told,
+        refl,
+        answered_told page result c.in-Ok.text.items _ (seen_ok
+            (λ text. text.items) c.ident_list.result c.in-Ok.text c.in-Ok.is) c.page.ensures,
+      ),
     )
 
 pub returns-in-Err : goal.returns-in-Err

@@ -1,4 +1,4 @@
-use Rattle.std.proofs.Common.{ℕ, List, inl, refl, sym, subst, None, Some, Result, Ok, Err}
+use Rattle.std.proofs.Common.{ℕ, inl, refl, sym, subst, None, Some, Result, Ok, Err}
 use Rattle.upd_request.specs.Calls.{settle}
 use Rattle.upd_text.specs.declared.fault.Fault.{Fault}
 use Rattle.upd_http.specs.Responses.{Response}

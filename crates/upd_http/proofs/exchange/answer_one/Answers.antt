@@ -10,5 +10,9 @@ returns-in-Ok g c =
     (made, leads, answers_call (g.R.Read.remaining c.args.reader.now) (asked c.in-Ok.call) made (answer_seen c.ask.result) c.in-Ok.ensures asks)
 
 pub returns-in-Err : goal.returns-in-Err
-returns-in-Err g c =
-    (None, refl, answers_refusal (g.R.Read.remaining c.args.reader.now) c.in-Err.refusal c.refusal.result c.in-Err.ensures c.refusal.ensures.ok c.refusal.ensures.err)
+returns-in-Err g c = (
+  None,
+  refl,
+  answers_refusal (g.R.Read.remaining c.args.reader.now) c.in-Err.refusal c.refusal.result c.in-Err.ensures
+      c.refusal.ensures.ok c.refusal.ensures.err,
+)

@@ -1,6 +1,5 @@
-use Rattle.std.proofs.Common.{◌≡◌, ◌++◌, ap, ap₂, sym, ◌∙◌, subst, None, Ok, Err, refl, List, ℕ}
+use Rattle.std.proofs.Common.{◌++◌, ap, ap₂, ◌∙◌, subst, None, Ok, Err, refl, List, ℕ}
 use Rattle.std.proofs.KnownBytes.{Appends-nil}
-use Rattle.upd_http.specs.Responses.{response_text}
 use Rattle.upd_http.specs.Serving.{Puts, no_memory}
 use Rattle.upd_http.specs.Views.{response}
 use Rattle.upd_http.proofs.AnswerLemmas.{answers_wanting}

@@ -1,0 +1,22 @@
+//! Laws of answers.
+
+ghost use Rattle.std.specs.Prelude.{Result};
+ghost use Rattle.upd_desk.specs.Holding.{HoldsIn, IsOwed};
+ghost use Rattle.upd_desk.specs.Journal.{Journal};
+ghost use Rattle.upd_request.specs.Calls.{Asked};
+ghost use Rattle.upd_text.specs.declared.fault.Fault.{Fault};
+ghost use Rattle.upd_http.specs.Owed.{owed};
+ghost use Rattle.upd_http.specs.Responses.{Response};
+ghost use Rattle.upd_http.specs.Serving.{Does};
+
+use upd_rows::RowStore;
+
+/// What the desk told, and an answer says, is what is owed after every journal that its store held: the reply, the
+/// mark, the compile file or the listing, or the refusal; or the question was lost to want of memory or a failure of
+/// the store.
+pub fn answers_are_owed<S: RowStore>()
+    ensures { (asked : Asked) (told : Result Response Fault) (old new : S)
+        → Does S.is_honest S.is_open S.image S.shows S.may_leave S.failures_of asked told old new → S.is_honest new
+        → (journal : Journal) → (S.is_open old → HoldsIn S.shows journal (S.image old))
+        → IsOwed (owed journal asked) told }
+{}
