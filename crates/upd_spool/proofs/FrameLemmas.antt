@@ -1,6 +1,7 @@
 -- Frames are read as they are spelled, and where none begins none is read.
 use Rattle.std.proofs.Common.{◌≡◌, ℕ, ◌+◌, ◌^◌, ◌<◌, ◌≤◌, ◌==◌, nat_lt, zero, suc, Bool, true, false, ◌&&◌, ◌||◌, List, [], ◌∷◌, ◌++◌, length, take, drop}
-use Rattle.std.proofs.Common.{get_or, decimal, Option, Some, None, sym, ap, ap₂, ◌∙◌, refl, subst, arith, lit<, append_assoc, append-nil, take-append-drop, length-append}
+use Rattle.std.proofs.Common.{get_or, decimal, Option, Some, None, sym, ap, ap₂, ◌∙◌, refl, subst, arith, lit<, append_assoc, append-nil, take-append-drop}
+use Rattle.std.proofs.Common.{length-append}
 use Rattle.std.proofs.lemmas.Bool.{and_parts, and_from, cond-true, eqb-true, eq-eqb, false≢true, lt-ltb, ltb-true}
 use Rattle.std.proofs.lemmas.Bool.Decides.{nat_tests}
 use Rattle.std.proofs.lemmas.Grind.{common_steps}
@@ -115,7 +116,8 @@ frame_is_spelled text behind a e =
     bind_then _ _ _ _ e (λ line e1 q1. bind_then _ _ _ _ q1 (λ h e2 q2.
     of line.0 line.1 h (cut_whole 10 text line e1) (header_is_spelled line.0 h e2) (passes _ _ _ q2)))
   where
-    to : (found : ArrivalView × List ℕ) → found ≡ (a, behind) → IsFrame found.0 × (text ≡ frame_text found.0 ++ found.1) → IsFrame a × (text ≡ frame_text a ++ behind)
+    to : (found : ArrivalView × List ℕ) → found ≡ (a, behind) → IsFrame found.0 × (text ≡ frame_text found.0 ++ found.1)
+        → IsFrame a × (text ≡ frame_text a ++ behind)
     to found e is = subst (λ (p : ArrivalView × List ℕ). IsFrame p.0 × (text ≡ frame_text p.0 ++ p.1)) e is
 
     of : (line rest : List ℕ) (h : HeaderView) → text ≡ line ++ 10 ∷ rest → IsHeader h × (line ≡ header_text h)
@@ -151,7 +153,8 @@ same_front (x ∷ a) b (y ∷ c) d same e = same_front a b c d (omega (arith, sa
 -- a header and what stands behind it, which begins with no run
 no_frame_behind : (h : HeaderView) (rest : List ℕ) → IsHeader h
     → ((bytes behind : List ℕ) → length bytes ≡ h.size → rest ≡ bytes ++ 10 ∷ behind → ⊥) → frame_of (header_text h ++ 10 ∷ rest) ≡ None
-no_frame_behind h rest is not = no_frame _ (λ a behind frame e. of a behind frame (parted _ _ _ _ (header_has_no_lf h is) (header_has_no_lf (header_for a) frame) e))
+no_frame_behind h rest is not =
+    no_frame _ (λ a behind frame e. of a behind frame (parted _ _ _ _ (header_has_no_lf h is) (header_has_no_lf (header_for a) frame) e))
   where
     some_is : (x y : HeaderView) → Some x ≡ Some y → x ≡ y
     some_is x y e = cc
@@ -174,7 +177,8 @@ bad_is_no_frame text (no_header line behind none is e) = no_frame text (λ a lat
     of : (a : ArrivalView) → IsFrame a → line ≡ header_text (header_for a) → ⊥
     of a frame same = let both : None ≡ Some (header_for a) = sym is ∙ ap header_of same ∙ header_is_read (header_for a) frame in absurd (cc)
 bad_is_no_frame text (no_end h run b behind is all other e) =
-    ap frame_of e ∙ no_frame_behind h (run ++ b ∷ behind) is (λ bytes later size f. other (ap (λ l. get_or l 0 0) (same_front run (b ∷ behind) bytes (10 ∷ later) (all ∙ sym size) f)))
+    ap frame_of e ∙ no_frame_behind h (run ++ b ∷ behind) is (λ bytes later size f.
+    other (ap (λ l. get_or l 0 0) (same_front run (b ∷ behind) bytes (10 ∷ later) (all ∙ sym size) f)))
 
 pub cut_is_no_frame : (text : List ℕ) → IsCut text → frame_of text ≡ None
 cut_is_no_frame text (in_line some short none) = no_lf_no_frame text none

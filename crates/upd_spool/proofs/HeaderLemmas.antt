@@ -97,7 +97,8 @@ cut_whole at text parts e =
     let test : ℕ → Bool = λ b. b == at in
     let within = place_within test text some in
     let found : get_or text (position_or_len test text) 0 ≡ at = eqb-true _ at (passes_at_first test text 0 within) in
-    whole (before_first test text) (after_first test text) same (split_at_first test text 0 within ∙ ap (λ b. before_first test text ++ b ∷ after_first test text) found)
+    whole (before_first test text) (after_first test text) same (split_at_first test text 0 within
+    ∙ ap (λ b. before_first test text ++ b ∷ after_first test text) found)
   where
     whole : (before behind : List ℕ) → (let p : List ℕ × List ℕ = (before, behind) in p) ≡ parts → text ≡ before ++ at ∷ behind → text ≡ parts.0 ++ at ∷ parts.1
     whole before behind same e = e ∙ ap (λ (p : List ℕ × List ℕ). p.0 ++ at ∷ p.1) same
@@ -248,7 +249,8 @@ header_is_spelled text h e =
         → (is_word site.0 ≡ true) × (site.0 ≡ word1) → site.1 ≡ number.0 ++ 32 ∷ number.1
         → (number.0 ≡ decimal n) × (n < 10 ^ 9) → number.1 ≡ mode.0 ++ 32 ∷ mode.1
         → (is_word mode.0 ≡ true) × (mode.0 ≡ word2) → (mode.1 ≡ decimal m) × (m ≤ MAX_RUN_BYTES)
-        → (let found : Option HeaderView = Some (record { site = word1; number = n; mode = word2; size = m }) in found) ≡ Some h → IsHeader h × (text ≡ header_text h)
+        → (let found : Option HeaderView = Some (record { site = word1; number = n; mode = word2; size = m }) in found) ≡ Some h
+        → IsHeader h × (text ≡ header_text h)
     of line run command site word1 number n mode word2 m fits e2 is_run e4 first e6 digits e8 second length_is same =
         let whole : text ≡ header_text (record { site = word1; number = n; mode = word2; size = m }) =
         joined text line run.0 (codes "RUN") site.0 number.0 mode.0 mode.1 word1 word2 run.1 site.1 number.1 fits.1 e2 (same_bytes _ _ is_run.0) e4 first.1

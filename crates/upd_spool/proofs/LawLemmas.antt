@@ -1,5 +1,6 @@
 -- Each text is that of a spool, and in one way.
-use Rattle.std.proofs.Common.{◌≡◌, ℕ, ◌+◌, ◌<◌, ◌≤◌, ◌==◌, zero, suc, Bool, true, false, cond, not, ◌||◌, ◌⊎◌, inl, inr, List, [], ◌∷◌, ◌++◌, length, take, drop}
+use Rattle.std.proofs.Common.{◌≡◌, ℕ, ◌+◌, ◌<◌, ◌≤◌, ◌==◌, zero, suc, Bool, true, false, cond, not, ◌||◌, ◌⊎◌, inl, inr, List, [], ◌∷◌, ◌++◌, length, take}
+use Rattle.std.proofs.Common.{drop}
 use Rattle.std.proofs.Common.{get_or, Option, Some, None, refl, sym, ap, ap₂, ◌∙◌, subst, arith, append_assoc, take-append-drop}
 use Rattle.std.specs.List.{AllByRecursion, after_first, before_first, position_or_len}
 use Rattle.std.proofs.lemmas.Bool.{cases_Bool, cases_eq, cases_lt, cond-true}
@@ -162,7 +163,8 @@ frames_in zero text = ([], text, record { whole = refl; are_frames = tt; few = o
 frames_in (suc n) text = by (frames_in n) (frame_of text) refl
   where
     more : (a : ArrivalView) (behind : List ℕ) → IsFrame a × (text ≡ frame_text a ++ behind)
-        → (frames : List ArrivalView) × (rest : List ℕ) × Begins n behind frames rest → (frames : List ArrivalView) × (rest : List ℕ) × Begins (suc n) text frames rest
+        → (frames : List ArrivalView) × (rest : List ℕ) × Begins n behind frames rest
+        → (frames : List ArrivalView) × (rest : List ℕ) × Begins (suc n) text frames rest
     more a behind is (frames, rest, begun) = (
       a ∷ frames,
       rest,
@@ -192,7 +194,8 @@ text_is_spool text = of (frames_in MAX_FRAMES text)
     rest_of frames rest (inl (inr (inr cut))) = inr (inr (inl cut))
     rest_of frames rest (inr most) = inr (inr (inr most))
 
-    of : (frames : List ArrivalView) × (rest : List ℕ) × Begins MAX_FRAMES text frames rest → (frames : List ArrivalView) × (rest : List ℕ) × IsSpool text frames rest
+    of : (frames : List ArrivalView) × (rest : List ℕ) × Begins MAX_FRAMES text frames rest
+        → (frames : List ArrivalView) × (rest : List ℕ) × IsSpool text frames rest
     of (frames, rest, begun) = (
       frames,
       rest,

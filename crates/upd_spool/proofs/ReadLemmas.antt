@@ -1,5 +1,6 @@
 -- What is read of a frame before it stops.
-use Rattle.std.proofs.Common.{◌≡◌, ℕ, ◌<◌, ◌≤◌, ◌≢◌, ◌==◌, zero, suc, Bool, false, ◌||◌, List, [], ◌∷◌, ◌++◌, length, take, get_or, Option, Some, refl, sym, ap, ◌∙◌, subst, arith, append_assoc, append-nil}
+use Rattle.std.proofs.Common.{◌≡◌, ℕ, ◌<◌, ◌≤◌, ◌≢◌, ◌==◌, zero, suc, Bool, false, ◌||◌, List, [], ◌∷◌, ◌++◌, length, take, get_or, Option, Some, refl, sym, ap}
+use Rattle.std.proofs.Common.{◌∙◌, subst, arith, append_assoc, append-nil}
 use Rattle.std.proofs.lemmas.Bool.{ne_eqb}
 use Rattle.std.proofs.lemmas.Bool.Decides.{nat_tests}
 use Rattle.std.proofs.lemmas.List.{take_all}

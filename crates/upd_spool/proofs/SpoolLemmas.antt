@@ -72,7 +72,8 @@ module _ {S : Type 0} {Image : Type 0} (is_honest is_open : S → Type 0) (image
     few = omega (arith, few, length-append frames more);
     each = length-append results further ∙ ap₂ (λ m n. m + n) first.each then.each ∙ sym (length-append frames more);
     arrived = further_arrived is_honest is_open image shows may_leave failures frames more results further old mid new first.each first.arrived then.arrived;
-    read = subst (Consumes i0 i2) (read_further (frames_text frames) (frames_text more) taken ∙ ap (λ l. l ++ taken) (sym (flat_map-append frame_text frames more)))
+    read = subst (Consumes i0 i2) (read_further (frames_text frames) (frames_text more) taken
+        ∙ ap (λ l. l ++ taken) (sym (flat_map-append frame_text frames more)))
         (Consumes-trans i0 i1 i2 _ _ first.read then.read);
     written = Appends-trans o0 o1 o2 out later first.written then.written;
   }
@@ -187,7 +188,8 @@ module _ {S : Type 0} {Image : Type 0} (is_honest is_open : S → Type 0) (image
         → LosesOne is_honest is_open image shows may_leave failures mid new i1 i2 o1 o2 kind [] [] a fault
         → LosesOne is_honest is_open image shows may_leave failures old new i0 i2 o0 o2 kind frames results a fault
     loses_more kind frames results a fault few first then = record {
-      handled = subst (λ out. Handled is_honest is_open image shows may_leave failures (frames ++ a ∷ []) (results ++ Err fault ∷ []) [] out old new i0 i2 o0 o2)
+      handled = subst (λ out. Handled is_honest is_open image shows may_leave failures (frames ++ a ∷ []) (results ++ Err fault ∷ []) [] out old new
+          i0 i2 o0 o2)
           (append-nil (answer_lines results))
           (further_handled frames (a ∷ []) results (Err fault ∷ []) [] (answer_lines results) [] old mid new i0 i1 i2 o0 o1 o2 first.handled then.handled
           (omega (arith, few)));
@@ -217,8 +219,12 @@ module _ {S : Type 0} {Image : Type 0} (is_honest is_open : S → Type 0) (image
             line = then.line;
           },
         )
-    ends_further Store frames results few first end =
-        (end.0, end.1, loses_more Store frames results end.0 end.1 few first end.2, (let counts = first.handled.arrived.counts in let more = end.3 in grind (arith, rules)))
+    ends_further Store frames results few first end = (
+      end.0,
+      end.1,
+      loses_more Store frames results end.0 end.1 few first end.2,
+      (let counts = first.handled.arrived.counts in let more = end.3 in grind (arith, rules)),
+    )
     ends_further NoMemory frames results few first end = by end
       where
         by : EndsBy is_honest is_open image shows may_leave failures mid new i1 i2 o1 o2 NoMemory [] []

@@ -28,10 +28,12 @@ pub(crate) fn answer<W: Write, S: RowStore>(
     run: &[u8],
 ) -> Result<(), FaultKind>
     ensures ok { OnOk result ((r : Result ReplyView Fault)
-        × Arrives S.is_honest S.is_open S.image S.shows S.may_leave S.failures_of (arrival_of header.now run.now) r desk.old.store desk.new.store
+        × Arrives S.is_honest S.is_open S.image S.shows S.may_leave S.failures_of (arrival_of header.now run.now) r
+        desk.old.store desk.new.store
         × IsTrue (is_answered r) × Appends (W.contents writer.old) (W.contents writer.new) (answer_line r)) }
     ensures err { IfErr result (λ kind. Unanswered S.is_honest S.is_open S.image S.shows S.may_leave S.failures_of
-        kind (arrival_of header.now run.now) desk.old.store desk.new.store (W.contents writer.old) (W.contents writer.new)) }
+        kind (arrival_of header.now run.now) desk.old.store desk.new.store (W.contents writer.old)
+        (W.contents writer.new)) }
 {
     let text = match answer_text(alloc, desk, header, run) {
         Ok(text) => text,
@@ -51,11 +53,14 @@ fn answer_text<S: RowStore>(
     run: &[u8],
 ) -> Result<Vec<u8>, FaultKind>
     ensures ok { IfOk result (λ text. (r : Result ReplyView Fault)
-        × Arrives S.is_honest S.is_open S.image S.shows S.may_leave S.failures_of (arrival_of header.now run.now) r desk.old.store desk.new.store
+        × Arrives S.is_honest S.is_open S.image S.shows S.may_leave S.failures_of (arrival_of header.now run.now) r
+        desk.old.store desk.new.store
         × IsTrue (is_answered r) × (answer_line r ≡ text.items ++ 10 ∷ [])) }
     ensures err { IfErr result (λ kind. (fault : Fault)
-        × Arrives S.is_honest S.is_open S.image S.shows S.may_leave S.failures_of (arrival_of header.now run.now) (Err fault) desk.old.store desk.new.store
-        × GetsNoLine kind fault × (kind ≡ Store → MoreFailures (S.failures_of desk.old.store) (S.failures_of desk.new.store))) }
+        × Arrives S.is_honest S.is_open S.image S.shows S.may_leave S.failures_of (arrival_of header.now run.now)
+        (Err fault) desk.old.store desk.new.store
+        × GetsNoLine kind fault
+        × (kind ≡ Store → MoreFailures (S.failures_of desk.old.store) (S.failures_of desk.new.store))) }
 {
     let number = u64::from(header.number);
     match desk.arrive(alloc, header.site, number, header.mode, run) {

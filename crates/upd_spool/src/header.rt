@@ -3,7 +3,8 @@
 ghost use Rattle.std.specs.Prelude.{◌≡◌, ◌≤◌, List, ℕ, Some, length, true};
 ghost use Rattle.std.specs.List.{list_all};
 ghost use Rattle.std.specs.Option.{option_map};
-ghost use Rattle.upd_spool.specs.Header.{IsHeader, HeaderView, cut, header_of, header_text, is_number, is_visible, is_word};
+ghost use Rattle.upd_spool.specs.Header.{IsHeader, HeaderView, cut, header_of, header_text, is_number, is_visible};
+ghost use Rattle.upd_spool.specs.Header.{is_word};
 ghost use Rattle.upd_spool.specs.Header.{number_of, size_of, where_true};
 ghost use Rattle.upd_text.specs.Names.{is_digit, number_behind};
 

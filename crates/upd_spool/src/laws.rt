@@ -7,7 +7,8 @@ ghost use Rattle.upd_spool.specs.Spools.{IsSpool};
 /// A frame is read from the one text that it is written as, and from no other; and no frame is the beginning of
 /// another.
 pub fn frames_are_as_spelled()
-    ensures read { (a : ArrivalView) (behind : List ℕ) → IsFrame a → frame_of (frame_text a ++ behind) ≡ Some (a, behind) }
+    ensures read { (a : ArrivalView) (behind : List ℕ) → IsFrame a
+        → frame_of (frame_text a ++ behind) ≡ Some (a, behind) }
     ensures spelled { (text behind : List ℕ) (a : ArrivalView) → frame_of text ≡ Some (a, behind)
         → IsFrame a × (text ≡ frame_text a ++ behind) }
     ensures no_prefix { (a b : ArrivalView) (behind : List ℕ) → IsFrame a → IsFrame b

@@ -11,9 +11,11 @@ use upd_text::FaultKind;
 /// Reads a line of at most `MAX_HEADER_BYTES` into an empty vector, without its LF. `false`: the input ends before it.
 pub(crate) fn read_line<R: Read>(reader: &mut R, line: &mut Vec<u8>) -> Result<bool, FaultKind>
     requires { line.old.items ≡ [] }
-    ensures ok { IfOk result (λ found. LineRead found line.new.items (R.remaining reader.old) (R.remaining reader.new)) }
+    ensures ok { IfOk result (λ found.
+        LineRead found line.new.items (R.remaining reader.old) (R.remaining reader.new)) }
     ensures err { IfErr result (λ kind. (taken : List ℕ)
-        × Consumes (R.remaining reader.old) (R.remaining reader.new) taken × Stops kind taken (R.remaining reader.new)) }
+        × Consumes (R.remaining reader.old) (R.remaining reader.new) taken
+        × Stops kind taken (R.remaining reader.new)) }
 {
     let mut byte = [0u8; 1];
     'line: while line.len() <= MAX_HEADER_BYTES {
@@ -43,7 +45,8 @@ pub(crate) fn read_run<R: Read>(
     ensures ok { OnOk result (Consumes (R.remaining reader.old) (R.remaining reader.new) (run.new.items ++ 10 ∷ [])) }
     ensures size { OnOk result (length run.new.items ≡ size) }
     ensures err { IfErr result (λ kind. (taken : List ℕ)
-        × Consumes (R.remaining reader.old) (R.remaining reader.new) taken × StopsRun kind size taken (R.remaining reader.new)) }
+        × Consumes (R.remaining reader.old) (R.remaining reader.new) taken
+        × StopsRun kind size taken (R.remaining reader.new)) }
 {
     match read_bytes(reader, size, run) {
         Ok(()) => {}
@@ -61,7 +64,8 @@ fn read_bytes<R: Read>(reader: &mut R, size: usize, run: &mut Vec<u8>) -> Result
     ensures ok { OnOk result (Consumes (R.remaining reader.old) (R.remaining reader.new) run.new.items) }
     ensures size { OnOk result (length run.new.items ≡ size) }
     ensures err { IfErr result (λ kind. (taken : List ℕ)
-        × Consumes (R.remaining reader.old) (R.remaining reader.new) taken × StopsRun kind size taken (R.remaining reader.new)) }
+        × Consumes (R.remaining reader.old) (R.remaining reader.new) taken
+        × StopsRun kind size taken (R.remaining reader.new)) }
 {
     let mut chunk = [0u8; 4096];
     'run: while run.len() < size {
@@ -84,7 +88,8 @@ fn read_bytes<R: Read>(reader: &mut R, size: usize, run: &mut Vec<u8>) -> Result
 fn read_end<R: Read>(reader: &mut R) -> Result<(), FaultKind>
     ensures ok { OnOk result (Consumes (R.remaining reader.old) (R.remaining reader.new) (10 ∷ [])) }
     ensures err { IfErr result (λ kind. (taken : List ℕ)
-        × Consumes (R.remaining reader.old) (R.remaining reader.new) taken × StopsEnd kind taken (R.remaining reader.new)) }
+        × Consumes (R.remaining reader.old) (R.remaining reader.new) taken
+        × StopsEnd kind taken (R.remaining reader.new)) }
 {
     let mut byte = [0u8; 1];
     match reader.read(&mut byte) {
@@ -97,7 +102,8 @@ fn read_end<R: Read>(reader: &mut R) -> Result<(), FaultKind>
 
 /// Whether the input ends here: another byte is BadFrame.
 pub(crate) fn read_nothing<R: Read>(reader: &mut R) -> Result<(), FaultKind>
-    ensures ok { OnOk result (Consumes (R.remaining reader.old) (R.remaining reader.new) [] × IsAtEnd (R.remaining reader.new)) }
+    ensures ok { OnOk result (Consumes (R.remaining reader.old) (R.remaining reader.new) []
+        × IsAtEnd (R.remaining reader.new)) }
     ensures err { IfErr result (λ kind. (taken : List ℕ)
         × Consumes (R.remaining reader.old) (R.remaining reader.new) taken × StopsNothing kind taken) }
 {

@@ -13,7 +13,8 @@ returns-then-is_err-clause-err g c =
     let count = c.in-Ok.field-0 in (
       c.line.line.items ++ take count c.read.new.buf,
       Consumes-trans _ _ _ _ _ c.line.invariant.consumed c.in-Ok.ensures.bytes.0,
-      no_lf_no_frame _ (byte_without c.line.line.items c.read.new.buf count c.line.invariant.none (c.read.auto.buf ∙ c.line.invariant.one) c.if-byte-eq10.false),
+      no_lf_no_frame _ (byte_without c.line.line.items c.read.new.buf count c.line.invariant.none
+          (c.read.auto.buf ∙ c.line.invariant.one) c.if-byte-eq10.false),
     )
 
 pub returns-clause-err : goal.returns-clause-err
