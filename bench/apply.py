@@ -4,12 +4,11 @@
     python3 bench/apply.py [--times N]
 
 `rt test` in those crates makes their executables, crates/NAME/out/NAME_tests. Each test is run N times (5 where none is said), in a process of its
-own, and the medians are printed. The exit status is 1 where a run is past its budget.
+own, and the least of its times is printed, since other work on the machine only adds to them. The exit status is 1 where a run is past its budget.
 """
 
 import argparse
 import os
-import statistics
 import subprocess
 import sys
 from pathlib import Path
@@ -28,6 +27,8 @@ TESTS = {
     ("upd_desk_tests", "changes::purges_40000_of_48000_cards"): "the same, and a purge of 40,000 cards",
     ("upd_desk_tests", "settling::applies_20_deletions_of_one_card_to_48000"): "48,000 cards, and 20 runs that delete one card",
     ("upd_desk_tests", "settling::settles_20_deletions_of_one_card_of_48000"): "the same, each settled",
+    ("upd_desk_tests", "settling::keeps_48000_statuses"): "48,000 cards, and a map of their statuses",
+    ("upd_desk_tests", "settling::copies_48000_statuses_20_times"): "the same, copied 20 times",
     ("upd_desk_tests", "settling::applies_4_runs_of_1900_deletions_to_48000_cards"): "48,000 cards, and 4 runs that delete 1,900 cards",
     ("upd_desk_tests", "settling::settles_4_runs_of_1900_deletions_on_48000_cards"): "the same, each settled",
     ("upd_desk_tests", "settling::has_900_yanks_in_a_row"): "900 sets, each of which yanks the one before it",
@@ -38,14 +39,15 @@ TESTS = {
     ("upd_desk_tests", "keeping::settles_5000_times"): "the 50 runs, and 5,000 settlements, each of one number more",
 }
 
-# A run or a settling alone is a test less the one without it, by how often it comes; seconds of processor time.
+# A run or a settling alone is a test less the one without it, by how often it comes; seconds of processor time, None where no budget is asked.
 CHANGES = "changes::holds_48000_cards"
+COPY = "a copy of 48,000 statuses"
 BUDGETS = [
     ("1,999 corrections", "limits::takes_1999_corrections_on_50000_cards", "limits::holds_50000_cards", 1, 0.3),
     ("1,998 texts at one place", "changes::takes_1998_texts_at_one_place_of_48000_cards", CHANGES, 1, 0.1),
     ("a purge of 40,000 cards", "changes::purges_40000_of_48000_cards", CHANGES, 1, 0.3),
-    # 2 ms beside the copy of the cache
-    ("settling one card", "settling::settles_20_deletions_of_one_card_of_48000", "settling::applies_20_deletions_of_one_card_to_48000", 20, 0.004),
+    (COPY, "settling::copies_48000_statuses_20_times", "settling::keeps_48000_statuses", 20, None),
+    ("settling one card", "settling::settles_20_deletions_of_one_card_of_48000", "settling::applies_20_deletions_of_one_card_to_48000", 20, 0.002),
     ("settling 1,900 cards", "settling::settles_4_runs_of_1900_deletions_on_48000_cards",
      "settling::applies_4_runs_of_1900_deletions_to_48000_cards", 4, 0.03),
     ("a run of three lines on 500 cards", "keeping::takes_50_runs_of_three_lines_on_500_cards", "keeping::holds_500_cards", 50, 0.002),
@@ -53,6 +55,9 @@ BUDGETS = [
     ("a settlement", "keeping::settles_5000_times", "keeping::takes_50_runs_of_three_lines_on_500_cards", 5000, 0.0001),
     ("a run on 900 yanks in a row", "settling::takes_back_the_last_of_900_yanks_10_times", "settling::has_900_yanks_in_a_row", 10, 0.005),
 ]
+
+# What copies the statuses, and has its budget beside that copy.
+BESIDE_COPY = {"settling one card"}
 
 
 def measured(crate, test):
@@ -69,15 +74,24 @@ def main():
     parser = argparse.ArgumentParser(description=__doc__.splitlines()[0])
     parser.add_argument("--times", type=int, default=5)
     given = parser.parse_args()
-    medians = {}
+    least = {}
     for (crate, test), what in TESTS.items():
-        medians[test] = statistics.median(measured(crate, test) for _ in range(given.times))
-        print(f"{medians[test] * 1000:8.1f} ms  {what}")
+        least[test] = min(measured(crate, test) for _ in range(given.times))
+        print(f"{least[test] * 1000:8.1f} ms  {what}")
     late = False
+    alone = {}
     for what, test, before, times, budget in BUDGETS:
-        alone = (medians[test] - medians[before]) / times
-        late = late or alone > budget
-        print(f"{what} alone: {alone * 1000:.3f} ms (budget {budget * 1000:g} ms)")
+        alone[what] = (least[test] - least[before]) / times
+        print(f"{what} alone: {alone[what] * 1000:.3f} ms", end="")
+        taken = alone[what]
+        if what in BESIDE_COPY:
+            taken -= alone[COPY]
+            print(f", {taken * 1000:.3f} ms beside {COPY}", end="")
+        if budget is None:
+            print()
+        else:
+            late = late or taken > budget
+            print(f" (budget {budget * 1000:g} ms)")
     return 1 if late else 0
 
 

@@ -1,10 +1,12 @@
 //! Settlings at the limits of a library: what `bench/apply.py` times.
 use crate::changes::with_decks;
 use std::alloc::Global;
+use std::collections::BTreeMap;
 use std::process::Abort;
 use std::test::Fail;
 use upd_apply::{Applied, apply};
-use upd_core::{CardRef, Counted, Library};
+use upd_core::ident::name_at;
+use upd_core::{Card, CardRef, Counted, Library};
 use upd_deck::read_run;
 use upd_yank::Cache;
 
@@ -69,6 +71,42 @@ fn applies_4_runs_of_1900_deletions_to_48000_cards(rt: HostRuntime) -> Result<()
 #[test]
 fn settles_4_runs_of_1900_deletions_on_48000_cards(rt: HostRuntime) -> Result<(), Fail> {
     settled(&rt, rt.alloc(), 4, 1900, true)
+}
+
+/// A card of a library as it is named.
+fn reference(library: &Library, card: &Card) -> Result<CardRef, Fail> {
+    Ok(CardRef {
+        name: name_at(library.idents(), card.ident).ok_or("no name")?,
+        number: card.number,
+    })
+}
+
+/// The statuses of 48,000 cards by card, as a cache keeps them, copied so many times.
+fn copied(rt: &impl Abort, alloc: Global, copies: u32) -> Result<(), Fail> {
+    let library = with_decks(alloc, 24)?;
+    let cache = Cache::build(alloc, &library)?;
+    let mut statuses = BTreeMap::new(alloc);
+    for deck in library.decks() {
+        for card in &deck.cards {
+            let active = cache.active(reference(&library, card)?).ok_or("no status")?;
+            statuses.insert(reference(&library, card)?, active)?;
+        }
+    }
+    for _ in 0..copies {
+        let copy = statuses.clone()?;
+        assert_eq!(rt; copy.len(), 48_000);
+    }
+    Ok(())
+}
+
+#[test]
+fn keeps_48000_statuses(rt: HostRuntime) -> Result<(), Fail> {
+    copied(&rt, rt.alloc(), 0)
+}
+
+#[test]
+fn copies_48000_statuses_20_times(rt: HostRuntime) -> Result<(), Fail> {
+    copied(&rt, rt.alloc(), 20)
 }
 
 /// Whether the first line of deck A is active.
