@@ -75,9 +75,7 @@ pub enum Older {
 impl Older {
     /// Makes the file's tables and rows.
     pub fn make<S: Alter>(self, conn: &mut Connection<S>) -> Result<(), Fail> {
-        for text in FIRST_TABLES {
-            conn.execute(text, &[])?;
-        }
+        make_tables(conn)?;
         match self {
             Older::First => run_all(conn, &FIRST_ROWS),
             Older::Second => {
@@ -108,6 +106,11 @@ impl Older {
             }
         }
     }
+}
+
+/// The tables of the first schema.
+pub fn make_tables<S: Alter>(conn: &mut Connection<S>) -> Result<(), Fail> {
+    run_all(conn, &FIRST_TABLES)
 }
 
 fn run_all<S: Alter>(conn: &mut Connection<S>, texts: &[&str]) -> Result<(), Fail> {
