@@ -4,8 +4,6 @@
 #![tactic(auto)]
 
 #[cfg(test)]
-mod full;
-#[cfg(test)]
 mod led;
 #[cfg(test)]
 mod older;

@@ -75,7 +75,9 @@ pub enum Older {
 impl Older {
     /// Makes the file's tables and rows.
     pub fn make<S: Alter>(self, conn: &mut Connection<S>) -> Result<(), Fail> {
-        make_tables(conn)?;
+        for text in FIRST_TABLES {
+            conn.execute(text, &[])?;
+        }
         match self {
             Older::First => run_all(conn, &FIRST_ROWS),
             Older::Second => {
@@ -106,11 +108,6 @@ impl Older {
             }
         }
     }
-}
-
-/// The tables of the first schema.
-pub fn make_tables<S: Alter>(conn: &mut Connection<S>) -> Result<(), Fail> {
-    run_all(conn, &FIRST_TABLES)
 }
 
 fn run_all<S: Alter>(conn: &mut Connection<S>, texts: &[&str]) -> Result<(), Fail> {
