@@ -25,9 +25,8 @@ pub(crate) fn library_fates<'a>(
     Ok(found)
 }
 
-/// What became of decks: those that stand in both libraries are taken in order, the others are gone. The index from
-/// which on decks are left
-/// that have come.
+/// What became of decks: those that stand in both libraries are taken in order, the others are gone. Answers the index
+/// from which on decks are left that have come.
 fn add_decks<'a>(
     alloc: Global,
     found: &mut Vec<DeckFates<'a>>,

@@ -100,8 +100,7 @@ pub trait RowStore {
         ensures cause { IfErr result (λ e. e.kind ≡ Store → caused self.old self.new) };
 
     /// Carries out row changes and keeps the run that brought them, in one transaction. The changes have to fit the
-    /// tables: no
-    /// clause says what others leave.
+    /// tables: no clause says what others leave.
     fn commit(&mut self, alloc: Global, changes: &[Change], run: RunRow) -> Result<(), Fault>
         requires new_key { is_honest self.old → is_open self.old → (rows : Rows) → shows (image self.old) rows
             → run_at run.site run.number rows ≡ None }
