@@ -8,7 +8,7 @@ use upd_cli::{report_words, run_command};
 fn main(rt: HostRuntime) -> ExitCode {
     let (mut input, mut output, mut faults) = (rt.stdin(), rt.stdout(), rt.stderr());
     let status = match words(&rt) {
-        Ok(words) => run_command(rt.alloc(), &words, &mut input, &mut output, &mut faults),
+        Ok(words) => run_command(&rt, &words, &mut input, &mut output, &mut faults),
         Err(error) => report_words(&error, &mut faults),
     };
     ExitCode::from(status)

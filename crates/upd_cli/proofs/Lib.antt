@@ -2,3 +2,4 @@ pub mod StreamLemmas
 pub mod TrialLemmas
 pub mod CommandLemmas
 pub mod WordLemmas
+pub mod RequestLemmas

@@ -3,3 +3,5 @@ pub mod Streams
 pub mod Words
 pub mod Trial
 pub mod Command
+pub mod Inputs
+pub mod Running

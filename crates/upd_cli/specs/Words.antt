@@ -1,45 +1,93 @@
 -- What the words of a command line ask for, by the rules of `clap`.
-use Rattle.std.specs.Prelude.{◌≡◌, ◌⊎◌, ◌==◌, true, false, List, [], ◌∷◌, codes, Option, Some, unwrap_or}
+use Rattle.std.specs.Prelude.{◌≡◌, ◌⊎◌, ◌==◌, true, false, List, [], ◌∷◌, codes, map, Option, Some, IsSomeAnd, unwrap_or}
 use Rattle.std.specs.Option.{option_and_then, option_map}
-use Rattle.clap.specs.Words.{App, IsAmong, Row, Rule, Text, fault_of, first_of, new_app, new_rule, subcommand_of, with_rule, with_subcommand}
+use Rattle.clap.specs.Simple.{new_shape}
+use Rattle.clap.specs.Words.{App, IsAmong, Row, Rule, Shape, Text, fault_of, first_of, new_app, new_rule, subcommand_of}
 use Rattle.clap.specs.declared.builder.action.ArgAction.TheVariants.{Set}
 use Rattle.clap.specs.declared.error.kind.ErrorKind.{ErrorKind}
 use Rattle.clap.specs.declared.error.kind.ErrorKind.TheVariants.{DisplayHelp, DisplayVersion}
 use Rattle.upd_cli.specs.declared.words.Request.{Request}
-use Rattle.upd_cli.specs.declared.words.Request.TheVariants.{Trial, Shown, Unread}
+use Rattle.upd_cli.specs.declared.words.Request.TheVariants.{Trial, Library, Serve, Shown, Unread}
+use Rattle.upd_cli.specs.declared.words.Asked.{Asked}
+use Rattle.upd_cli.specs.declared.words.Asked.TheVariants as asks
 
 -- a required word that is named by its place
 abbrev pub operand_rule : Text → Rule
 operand_rule name = record (new_rule name) { action = Some Set; required = true }
 
--- `trial MODE`
-abbrev pub trial_app : App
-trial_app = with_rule (new_app (codes "trial")) (operand_rule (codes "MODE"))
+-- a command with its operands in order
+abbrev pub command_shape : Text → List Text → Shape
+command_shape name operands = record (new_shape name) { rules = map operand_rule operands }
 
--- the commands, without a command `help`
+-- the commands in order, each with its operands
+abbrev pub upd_commands : List (Text × List Text)
+upd_commands =
+    (codes "trial", codes "MODE" ∷ [])
+    ∷ (codes "init", codes "FILE" ∷ [])
+    ∷ (codes "run", codes "FILE" ∷ codes "SITE" ∷ codes "NUMBER" ∷ codes "MODE" ∷ [])
+    ∷ (codes "settle", codes "FILE" ∷ codes "SITE" ∷ codes "NUMBER" ∷ [])
+    ∷ (codes "spool", codes "FILE" ∷ [])
+    ∷ (codes "serve", codes "FILE" ∷ codes "ADDRESS" ∷ codes "COUNT" ∷ [])
+    ∷ (codes "compile", codes "FILE" ∷ [])
+    ∷ (codes "list", codes "FILE" ∷ codes "DECK" ∷ [])
+    ∷ (codes "history", codes "FILE" ∷ codes "CARD" ∷ [])
+    ∷ (codes "idents", codes "FILE" ∷ [])
+    ∷ (codes "yanks", codes "FILE" ∷ [])
+    ∷ (codes "migrate", codes "FILE" ∷ [])
+    ∷ []
+
+-- a name is that of one of these commands
+abbrev pub IsOneOf : Text → List (Text × List Text) → Type 0
+IsOneOf name [] = ⊥
+IsOneOf name (command ∷ commands) = (name ≡ command.0) ⊎ IsOneOf name commands
+
+-- the program before its first command, without a command `help`
 abbrev pub upd_top : App
-upd_top = let a = new_app (codes "upd") in
-    record a { top = record a.top { has_version = true; disable_help_subcommand = true; subcommand_required = true } }
+upd_top = let app = new_app (codes "upd") in
+    record app { top = record app.top { has_version = true; disable_help_subcommand = true; subcommand_required = true } }
 
 abbrev pub upd_app : App
-upd_app = with_subcommand upd_top trial_app.top
+upd_app = record { top = record upd_top.top { is_leaf = false }; subs = map (λ c. command_shape c.0 c.1) upd_commands }
 
 -- why the words are not read, if they are not: a mistake, or a request for help or the version
 abbrev pub word_faults : List Text → List ErrorKind
 word_faults words = fault_of upd_app words
 
--- the mode that a command names
-abbrev pub mode_in : Option (Text × List Row) → Text
-mode_in command = unwrap_or (option_and_then (first_of (codes "MODE")) (option_map (λ c. c.1) command)) []
+-- the command that words name which are read, and the operand of a name that they give it
+abbrev pub command_word : List Text → Text
+command_word words = unwrap_or (option_map (λ c. c.0) (subcommand_of upd_app words)) []
 
--- the mode that words name which are read
-abbrev pub mode_word : List Text → Text
-mode_word words = mode_in (subcommand_of upd_app words)
+abbrev pub operand_word : Text → List Text → Text
+operand_word name words = unwrap_or (option_and_then (first_of name) (option_map (λ c. c.1) (subcommand_of upd_app words))) []
 
--- a request for a trial in the mode of this word
-abbrev pub IsTrial : Text → Request → Type 0
-IsTrial text (Trial mode) = mode.now ≡ text
-IsTrial text _ = ⊥
+-- the operand of a name in the matches of a command
+abbrev pub operand_in : Text → List Row → Text
+operand_in name rows = unwrap_or (first_of name rows) []
+
+-- what is asked of a library by the command of this name with these operands
+abbrev pub IsAskedBy : Text → List Row → Asked → Type 0
+IsAskedBy name rows asks.Init = name ≡ codes "init"
+IsAskedBy name rows (asks.Run site number mode) =
+    (name ≡ codes "run") × (site.now ≡ operand_in (codes "SITE") rows) × (number.now ≡ operand_in (codes "NUMBER") rows)
+    × (mode.now ≡ operand_in (codes "MODE") rows)
+IsAskedBy name rows (asks.Settle site number) =
+    (name ≡ codes "settle") × (site.now ≡ operand_in (codes "SITE") rows) × (number.now ≡ operand_in (codes "NUMBER") rows)
+IsAskedBy name rows asks.Spool = name ≡ codes "spool"
+IsAskedBy name rows asks.Compile = name ≡ codes "compile"
+IsAskedBy name rows (asks.List deck) = (name ≡ codes "list") × (deck.now ≡ operand_in (codes "DECK") rows)
+IsAskedBy name rows (asks.History card) = (name ≡ codes "history") × (card.now ≡ operand_in (codes "CARD") rows)
+IsAskedBy name rows asks.Idents = name ≡ codes "idents"
+IsAskedBy name rows asks.Yanks = name ≡ codes "yanks"
+IsAskedBy name rows asks.Migrate = name ≡ codes "migrate"
+
+-- the request of the command of this name with these operands
+abbrev pub IsRequest : Text × List Row → Request → Type 0
+IsRequest (name, rows) (Trial mode) = (name ≡ codes "trial") × (mode.now ≡ operand_in (codes "MODE") rows)
+IsRequest (name, rows) (Library file asked) = (file.now ≡ operand_in (codes "FILE") rows) × IsAskedBy name rows asked
+IsRequest (name, rows) (Serve file address count) =
+    (name ≡ codes "serve") × (file.now ≡ operand_in (codes "FILE") rows) × (address.now ≡ operand_in (codes "ADDRESS") rows)
+    × (count.now ≡ operand_in (codes "COUNT") rows)
+IsRequest _ _ = ⊥
 
 -- a request for a text: help or the version
 abbrev pub AsksText : ErrorKind → Type 0
@@ -47,14 +95,19 @@ AsksText kind = (kind ≡ DisplayHelp) ⊎ (kind ≡ DisplayVersion)
 
 -- the request for what clap says of words that it does not read
 abbrev pub IsTold : ErrorKind → Request → Type 0
-IsTold kind (Trial mode) = ⊥
 IsTold kind (Shown text) = AsksText kind
 IsTold kind (Unread text) = ¬ (AsksText kind)
+IsTold kind _ = ⊥
+
+-- the request for the command that words name which are read
+abbrev pub IsCommand : List Text → Request → Type 0
+IsCommand words request = (word_faults words ≡ []) × IsSomeAnd (subcommand_of upd_app words) (λ command. IsRequest command request)
 
 -- the request is what the words ask for
 abbrev pub IsAsked : List Text → Request → Type 0
-IsAsked words (Trial mode) = (word_faults words ≡ []) × (mode.now ≡ mode_word words)
-IsAsked words told = (kind : ErrorKind) × IsAmong kind (word_faults words) × IsTold kind told
+IsAsked words (Shown text) = (kind : ErrorKind) × IsAmong kind (word_faults words) × AsksText kind
+IsAsked words (Unread text) = (kind : ErrorKind) × IsAmong kind (word_faults words) × ¬ (AsksText kind)
+IsAsked words request = IsCommand words request
 
 -- a word that does not begin with a hyphen
 abbrev pub IsPlain : Text → Type 0

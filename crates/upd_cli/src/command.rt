@@ -1,18 +1,22 @@
 //! Carries out a command line over any input, output and fault stream.
-ghost use Rattle.std.specs.Prelude.{◌≡◌, ◌≢◌, ◌⊎◌, ◌+◌, IfErr, IfSome, None, map, []};
+ghost use Rattle.std.specs.Prelude.{◌≡◌, ◌≢◌, ◌⊎◌, ◌+◌, IfErr, IfSome, None, codes, map, []};
 ghost use Rattle.std.specs.IoError.{error_kind};
 ghost use Rattle.upd_compile.specs.Modes.{mode_named};
 ghost use Rattle.upd_cli.specs.Command.{Answers, Ends, GivesUnlessFailed, IsEnd, IsTold, IsToldOf, answer_to};
+ghost use Rattle.upd_cli.specs.Running.{IsSpool, MayTell};
 ghost use Rattle.upd_cli.specs.Status.{exit_status, fault_line, no_memory, no_words_line};
 ghost use Rattle.upd_cli.specs.Streams.{TakesFront};
 ghost use Rattle.upd_text.specs.declared.limits.TheConstants.{MAX_RUN_BYTES};
 ghost use Rattle.upd_cli.specs.Trial.{trial_named};
-ghost use Rattle.upd_cli.specs.Words.{mode_word, word_faults};
+ghost use Rattle.upd_cli.specs.Words.{command_word, operand_word, word_faults};
+ghost use Rattle.upd_cli.specs.Inputs.{HandsIn, ReadsInput};
 
+use crate::library::{carry_out, serve};
+use crate::operands::{read_address, read_count};
 use crate::status::{DONE, FAILED, UNREAD, exit_status, write_fault};
-use crate::streams::{read_input, write_out};
+use crate::streams::{read_input, write_out, write_parts};
 use crate::trial_run::{read_mode, trial};
-use crate::words::{Request, read_words};
+use crate::words::{Asked, Request, read_words};
 use std::alloc::{AllocError, Global};
 use std::convert::AsStr;
 use std::io;
@@ -21,39 +25,47 @@ use upd_compile::CompileFile;
 use upd_text::Fault;
 
 /// Carries out the command line `words`, the program's own name first, and answers the exit status: 0 where all is
-/// done; 1 for a refusal, whose line goes to `faults`; 2 where the words are no command line; 3 where memory, a read or
-/// a write failed.
+/// done; 1 for a refusal, whose line goes to `faults`, or to the output where `run` is refused; 2 where the words are no
+/// command line; 3 where memory, the store, a read or a write failed.
 pub fn run_command<S: AsStr, R: Read, W: Write, E: Write>(
-    alloc: Global,
+    rt: &HostRuntime,
     words: &[S],
     input: &mut R,
     output: &mut W,
     faults: &mut E,
 ) -> u8
-    ensures trial { word_faults (map S.text words.entry.now) ≡ [] → IfSome (R.remaining input.old) (λ bytes.
-        Answers (answer_to (trial_named (mode_word (map S.text words.entry.now)) bytes)) result
+    ensures trial { word_faults (map S.text words.entry.now) ≡ [] → command_word (map S.text words.entry.now) ≡ codes "trial"
+        → IfSome (R.remaining input.old) (λ bytes.
+        Answers (answer_to (trial_named (operand_word (codes "MODE") (map S.text words.entry.now)) bytes)) result
         (W.contents output.old) (W.contents output.new) (E.contents faults.old) (E.contents faults.new)) }
     ensures unread { word_faults (map S.text words.entry.now) ≢ [] → IsToldOf (map S.text words.entry.now) result }
     // Of a run that is too long, no more is read than tells so.
-    ensures front { TakesFront (MAX_RUN_BYTES + 1) (R.remaining input.old) (R.remaining input.new) }
-    ensures waits { (word_faults (map S.text words.entry.now) ≢ [])
-        ⊎ (mode_named (mode_word (map S.text words.entry.now)) ≡ None) → input.new ≡ input.old }
-    ensures silent { (result ≡ 1) ⊎ (result ≡ 2) → output.new ≡ output.old }
+    ensures front { command_word (map S.text words.entry.now) ≢ codes "spool"
+        → TakesFront (MAX_RUN_BYTES + 1) (R.remaining input.old) (R.remaining input.new) }
+    ensures waits { ¬ ReadsInput (map S.text words.entry.now) → input.new ≡ input.old }
+    ensures silent { (result ≡ 2) ⊎ ((result ≡ 1) × ¬ HandsIn (map S.text words.entry.now)) → output.new ≡ output.old }
     ensures clean { result ≡ 0 → faults.new ≡ faults.old }
 {
-    match read_words(alloc, words) {
+    match read_words(rt.alloc(), words) {
         Ok(Request::Trial { mode }) => {
-            let ended = carry_out_trial(alloc, mode, input, output);
+            let ended = carry_out_trial(rt.alloc(), mode, input, output);
             finish(ended, faults)
         }
+        Ok(Request::Library { file, asked }) => {
+            carry_out_library(rt, file, &asked, input, output, faults)
+        }
+        Ok(
+            Request::Serve {
+                file,
+                address,
+                count,
+            },
+        ) => carry_out_serving(rt, file, address, count, faults),
         Ok(Request::Shown(text)) => {
             let ended = write_out(output, text.as_bytes());
             finish(ended, faults)
         }
-        Ok(Request::Unread(text)) => match write_out(faults, text.as_bytes()) {
-            Ok(()) => UNREAD,
-            Err(_) => FAILED,
-        },
+        Ok(Request::Unread(text)) => tell_unread(&[text.as_bytes()], faults),
         Err(fault) => finish(Err(fault), faults),
     }
 }
@@ -75,6 +87,62 @@ pub fn report_words<E: Write>(error: &io::Error, faults: &mut E) -> u8
     ) {
         Ok(()) => UNREAD,
         Err(_) => FAILED,
+    }
+}
+
+/// The exit status where the words are no command line; a text says why.
+fn tell_unread<E: Write>(text: &[&[u8]], faults: &mut E) -> u8
+    ensures { (result ≡ 2) ⊎ (result ≡ 3) }
+{
+    match write_parts(faults, text) {
+        Ok(()) => UNREAD,
+        Err(_) => FAILED,
+    }
+}
+
+/// A command on the library in a file.
+fn carry_out_library<R: Read, W: Write, E: Write>(
+    rt: &HostRuntime,
+    file: &str,
+    asked: &Asked<'_>,
+    input: &mut R,
+    output: &mut W,
+    faults: &mut E,
+) -> u8
+    ensures front { ¬ IsSpool asked.now → TakesFront (MAX_RUN_BYTES + 1) (R.remaining input.old) (R.remaining input.new) }
+    ensures waits { ¬ MayTell asked.now → input.new ≡ input.old }
+    ensures silent { (result ≡ 2) ⊎ ((result ≡ 1) × ¬ MayTell asked.now) → output.new ≡ output.old }
+    ensures clean { result ≡ 0 → faults.new ≡ faults.old }
+{
+    match carry_out(rt, file, asked, input, output) {
+        Ok(status) => status,
+        Err(fault) => finish(Err(fault), faults),
+    }
+}
+
+/// `serve`: an address or a count that is none is a command line that isn't read.
+fn carry_out_serving<E: Write>(
+    rt: &HostRuntime,
+    file: &str,
+    address: &str,
+    count: &str,
+    faults: &mut E,
+) -> u8
+    ensures { result ≡ 0 → faults.new ≡ faults.old }
+{
+    const BEGINNING: &[u8] = b"error: invalid value '";
+    const END: &[u8] = b"\n\nFor more information, try '--help'.\n";
+    let Some(reachable) = read_address(address) else {
+        let why: &[u8] = b"' for '<ADDRESS>': no IP address and port";
+        return tell_unread(&[BEGINNING, address.as_bytes(), why, END], faults);
+    };
+    let Some(connections) = read_count(count) else {
+        let why: &[u8] = b"' for '<COUNT>': not in 1..=1000000";
+        return tell_unread(&[BEGINNING, count.as_bytes(), why, END], faults);
+    };
+    match serve(rt, file, reachable, connections) {
+        Ok(status) => status,
+        Err(fault) => finish(Err(fault), faults),
     }
 }
 

@@ -1,7 +1,12 @@
 //! The commands of the program: what is read, what is written, and the exit status.
 #![tactic(auto)]
 
+mod arriving;
+mod asking;
 mod command;
+mod help;
+mod library;
+mod operands;
 mod status;
 mod streams;
 mod trial_run;

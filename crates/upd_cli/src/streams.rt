@@ -73,6 +73,20 @@ pub(crate) fn write_out<W: Write>(output: &mut W, bytes: &[u8]) -> Result<(), Fa
     }
 }
 
+/// The same of several parts, one after the other.
+pub(crate) fn write_parts_out<W: Write>(output: &mut W, parts: &[&[u8]]) -> Result<(), Fault>
+    ensures ok { OnOk result (Appends (W.contents output.old) (W.contents output.new)
+        (flat_map (λ part. part.now) parts.now)) }
+    ensures front { AppendsFront (W.contents output.old) (W.contents output.new)
+        (flat_map (λ part. part.now) parts.now) }
+    ensures err { IfErr result (λ fault. fault ≡ write_failed) }
+{
+    match write_parts(output, parts) {
+        Ok(()) => Ok(()),
+        Err(_) => Err(FaultKind::Write.without_line()),
+    }
+}
+
 /// Writes all parts, one after the other, and flushes. An error leaves at most a beginning of them.
 pub(crate) fn write_parts<W: Write>(output: &mut W, parts: &[&[u8]]) -> io::Result<()>
     ensures ok { OnOk result (Appends (W.contents output.old) (W.contents output.new)

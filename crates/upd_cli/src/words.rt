@@ -1,12 +1,14 @@
 //! What the words of a command line ask for.
-ghost use Rattle.std.specs.Prelude.{[], ◌∷◌, ◌≡◌, ◌≢◌, IfErr, IfOk, Some, codes, false, map};
-ghost use Rattle.clap.specs.Words.{Text, app_of, kind_of, rule_of, subcommand_name_of, subcommand_rows_of};
+ghost use Rattle.std.specs.Prelude.{[], ◌∷◌, ◌≡◌, ◌≢◌, IfErr, IfOk, IfSome, IsSomeAnd, codes, false, map, true};
+ghost use Rattle.clap.specs.Words.{Text, app_of, found_of, has_subcommand, kind_of, rows_of, rule_of, subcommand_rows_of};
 ghost use Rattle.clap.specs.declared.builder.command.Command.TheViews.{out-Command as fields_of};
 ghost use Rattle.clap.specs.declared.error.kind.ErrorKind.TheVariants.{OutOfMemory};
 ghost use Rattle.upd_cli.specs.Status.{no_memory};
-ghost use Rattle.upd_cli.specs.Words.{IsAsked, IsPlain, IsTold, IsTrial, mode_in, mode_word, word_faults};
-ghost use Rattle.upd_cli.specs.Words.{operand_rule, trial_app, upd_app};
+ghost use Rattle.clap.specs.Simple.{new_app};
+ghost use Rattle.upd_cli.specs.Words.{IsAsked, IsAskedBy, IsOneOf, IsPlain, IsRequest, IsTold, command_shape, command_word};
+ghost use Rattle.upd_cli.specs.Words.{operand_in, operand_rule, operand_word, upd_app, upd_commands, upd_top, word_faults};
 
+use crate::help;
 use clap::error::ErrorKind;
 use clap::{Arg, ArgAction, ArgMatches, Command, Error};
 use std::alloc::{AllocError, Global};
@@ -17,32 +19,113 @@ use upd_text::Fault;
 #[derive(Drop)]
 pub enum Request<'a> {
     /// `trial MODE`
-    Trial { mode: &'a str },
+    Trial {
+        mode: &'a str,
+    },
+    /// A command on the library in a file.
+    Library {
+        file: &'a str,
+        asked: Asked<'a>,
+    },
+    /// `serve FILE ADDRESS COUNT`, its address and count as they were written.
+    Serve {
+        file: &'a str,
+        address: &'a str,
+        count: &'a str,
+    },
     /// Help or the version, which goes to the output.
     Shown(String),
     /// The words are not read: why, for the fault stream.
     Unread(String),
 }
 
+/// What is asked of the library in a file, its operands as they were written.
+#[derive(Drop)]
+pub enum Asked<'a> {
+    Init,
+    Run {
+        site: &'a str,
+        number: &'a str,
+        mode: &'a str,
+    },
+    Settle {
+        site: &'a str,
+        number: &'a str,
+    },
+    Spool,
+    Compile,
+    List {
+        deck: &'a str,
+    },
+    History {
+        card: &'a str,
+    },
+    Idents,
+    Yanks,
+    Migrate,
+}
+
+/// An operand's name, and what help says of it.
+type Operand = (&'static str, &'static str);
+
+const FILE: Operand = ("FILE", "the file of a library");
+
+const SITE: Operand = ("SITE", "1 to 8 of A-Z and 0-9");
+
+const MODE: Operand = ("MODE", "full, quick or normal");
+
 /// The commands of the program, one level deep.
 fn commands<'a>(alloc: Global) -> Result<Command<'a>, AllocError>
     ensures { IfOk result (λ c. app_of c ≡ upd_app) }
+{
+    const NUMBER: Operand = ("NUMBER", "1 to 999999999");
+    const ADDRESS: Operand = ("ADDRESS", "an IP address and a port, as 127.0.0.1:8080");
+    const COUNT: Operand = ("COUNT", "how many connections are served, 1 to 1000000");
+    const DECK: Operand = ("DECK", "the name of a deck, or YANK$$$");
+    const CARD: Operand = ("CARD", "a card, as A.2");
+    program(alloc)
+        .subcommand(command(alloc, "trial", help::TRIAL, &[MODE])?)?
+        .subcommand(command(alloc, "init", help::INIT, &[FILE])?)?
+        .subcommand(command(alloc, "run", help::RUN, &[FILE, SITE, NUMBER, MODE])?)?
+        .subcommand(command(alloc, "settle", help::SETTLE, &[FILE, SITE, NUMBER])?)?
+        .subcommand(command(alloc, "spool", help::SPOOL, &[FILE])?)?
+        .subcommand(command(alloc, "serve", help::SERVE, &[FILE, ADDRESS, COUNT])?)?
+        .subcommand(command(alloc, "compile", help::COMPILE, &[FILE])?)?
+        .subcommand(command(alloc, "list", help::LIST, &[FILE, DECK])?)?
+        .subcommand(command(alloc, "history", help::HISTORY, &[FILE, CARD])?)?
+        .subcommand(command(alloc, "idents", help::IDENTS, &[FILE])?)?
+        .subcommand(command(alloc, "yanks", help::YANKS, &[FILE])?)?
+        .subcommand(command(alloc, "migrate", help::MIGRATE, &[FILE])?)
+}
+
+/// The program before its first command.
+fn program<'a>(alloc: Global) -> Command<'a>
+    ensures { app_of result ≡ upd_top }
 {
     Command::new(alloc, "upd")
         .version("1.0")
         .about("The desk of a program library")
         .disable_help_subcommand(true)
         .subcommand_required(true)
-        .subcommand(trial_command(alloc)?)
 }
 
-fn trial_command<'a>(alloc: Global) -> Result<Command<'a>, AllocError>
-    ensures app { IfOk result (λ c. app_of c ≡ trial_app) }
+/// A command with its help and its operands in order.
+fn command<'a>(
+    alloc: Global,
+    name: &'a str,
+    help: help::Text,
+    operands: &[Operand],
+) -> Result<Command<'a>, AllocError>
+    ensures app { IfOk result (λ c. app_of c ≡ record (new_app []) { top = command_shape name.entry.now (map (λ o. o.0.now) operands.now) }) }
     ensures local { IfOk result (λ c. (fields_of c).has_globals ≡ false) }
 {
-    Command::new(alloc, "trial")
-        .about("Applies the run on standard input to an empty library and writes its compile file")
-        .arg(operand(alloc, "MODE", "full, quick or normal"))
+    let mut command = Command::new(alloc, name)
+        .about(help.about)
+        .after_help(help.more);
+    for (operand_name, text) in operands {
+        command = command.arg(operand(alloc, operand_name, text))?;
+    }
+    Ok(command)
 }
 
 /// A required word that is named by its place.
@@ -62,19 +145,69 @@ pub(crate) fn read_words<'a, S: AsStr>(alloc: Global, words: &'a [S]) -> Result<
     ensures err { IfErr result (λ fault. fault ≡ no_memory) }
 {
     match commands(alloc)?.try_get_matches_from(words) {
-        Ok(matches) => Ok(trial_request(&matches)),
+        Ok(matches) => Ok(read_request(&matches)),
         Err(error) => told(alloc, &error),
     }
 }
 
-fn trial_request<'a>(matches: &ArgMatches<'a>) -> Request<'a>
-    requires { subcommand_name_of matches.now ≡ Some (codes "trial") }
-    ensures { IsTrial (mode_in (subcommand_rows_of matches.now)) result }
+fn read_request<'a>(matches: &ArgMatches<'a>) -> Request<'a>
+    requires used { has_subcommand matches.now ≡ true }
+    requires known { IfSome (subcommand_rows_of matches.now) (λ command. IsOneOf command.0 upd_commands) }
+    ensures { IsSomeAnd (subcommand_rows_of matches.now) (λ command. IsRequest command result) }
 {
-    let operands = matches.subcommand_matches("trial").unwrap();
-    Request::Trial {
-        mode: operands.get_str("MODE").unwrap_or(""),
+    match matches.subcommand() {
+        Some(("trial", operands)) => Request::Trial {
+            mode: word(operands, "MODE"),
+        },
+        Some(("serve", operands)) => Request::Serve {
+            file: word(operands, "FILE"),
+            address: word(operands, "ADDRESS"),
+            count: word(operands, "COUNT"),
+        },
+        Some((name, operands)) => Request::Library {
+            file: word(operands, "FILE"),
+            asked: read_asked(name, operands),
+        },
+        None => unreachable!(),
     }
+}
+
+/// What a command asks of a library.
+fn read_asked<'a>(name: &str, operands: &ArgMatches<'a>) -> Asked<'a>
+    requires known { IsOneOf name.now upd_commands }
+    requires other { (name.now ≢ codes "trial") × (name.now ≢ codes "serve") }
+    ensures { IsAskedBy name.now (rows_of (found_of operands.now)) result }
+{
+    match name {
+        "init" => Asked::Init,
+        "run" => Asked::Run {
+            site: word(operands, "SITE"),
+            number: word(operands, "NUMBER"),
+            mode: word(operands, "MODE"),
+        },
+        "settle" => Asked::Settle {
+            site: word(operands, "SITE"),
+            number: word(operands, "NUMBER"),
+        },
+        "spool" => Asked::Spool,
+        "compile" => Asked::Compile,
+        "list" => Asked::List {
+            deck: word(operands, "DECK"),
+        },
+        "history" => Asked::History {
+            card: word(operands, "CARD"),
+        },
+        "idents" => Asked::Idents,
+        "yanks" => Asked::Yanks,
+        _ => Asked::Migrate,
+    }
+}
+
+/// The word that stands for an operand, which is required.
+fn word<'a>(operands: &ArgMatches<'a>, name: &str) -> &'a str
+    ensures { result.now ≡ operand_in name.now (rows_of (found_of operands.now)) }
+{
+    operands.get_str(name).unwrap_or("")
 }
 
 /// What clap says where the words are not read or ask for a text.
@@ -97,5 +230,6 @@ fn told<'a>(alloc: Global, error: &Error) -> Result<Request<'a>, Fault>
 /// mode.
 pub fn trial_is_read()
     ensures read { (name mode : Text) → IsPlain mode → word_faults (name ∷ codes "trial" ∷ mode ∷ []) ≡ [] }
-    ensures mode { (name mode : Text) → IsPlain mode → mode_word (name ∷ codes "trial" ∷ mode ∷ []) ≡ mode }
+    ensures asks { (name mode : Text) → IsPlain mode → command_word (name ∷ codes "trial" ∷ mode ∷ []) ≡ codes "trial" }
+    ensures mode { (name mode : Text) → IsPlain mode → operand_word (codes "MODE") (name ∷ codes "trial" ∷ mode ∷ []) ≡ mode }
 {}

@@ -31,6 +31,6 @@ fn writes(rt: &HostRuntime, run: &str, mode: &str, wanted: &str) -> io::Result<b
     let (mut output, mut faults) = (Vec::new(rt.alloc()), Vec::new(rt.alloc()));
     let mut input = run.as_slice();
     let words = ["upd", "trial", mode];
-    let status = run_command(rt.alloc(), &words, &mut input, &mut output, &mut faults);
+    let status = run_command(rt, &words, &mut input, &mut output, &mut faults);
     Ok(status == 0 && output.as_slice() == wanted.as_slice() && faults.is_empty())
 }

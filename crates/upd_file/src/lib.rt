@@ -36,9 +36,6 @@ pub fn open<S: Start>(rt: &HostRuntime, path: &str, start: S) -> Result<FileLibr
         → FindsIn (image_at S.Start) (file_state s.conn)) }
     ensures lost { IfErr result IsLost }
 {
-    if !begins_as_database(rt, path).unwrap_or(false) {
-        return Err(store_at(0));
-    }
     let conn = match connect(rt, path, start) {
         Ok(conn) => conn,
         Err(fault) => return Err(fault),
@@ -57,7 +54,7 @@ pub fn create<S: Start>(rt: &HostRuntime, path: &str, start: S) -> Result<FileLi
         → IsTrue (file_state s.conn).is_open × ShowsTables no_rows (file_state s.conn).committed) }
     ensures lost { IfErr result IsLost }
 {
-    let conn = match connect(rt, path, start) {
+    let conn = match connect_or_make(rt, path, start) {
         Ok(conn) => conn,
         Err(fault) => return Err(fault),
     };
@@ -82,8 +79,23 @@ pub fn close<D: Disk + Drop>(library: SqlStore<FileStore<D>>) -> Result<Files<D>
     }
 }
 
-/// A connection to the file, which is made where there is none.
-fn connect<S: Start>(
+/// A connection to a file of SQLite, whatever its tables are. A file that isn't there isn't made.
+pub fn connect<S: Start>(
+    rt: &HostRuntime,
+    path: &str,
+    start: S,
+) -> Result<Connection<FileStore<FileFrom<S>>>, Fault>
+    ensures found { IfOk result (λ c. HasCleanDisk (file_state c) → FindsIn (image_at S.Start) (file_state c)) }
+    ensures lost { IfErr result IsLost }
+{
+    if begins_as_database(rt, path).unwrap_or(false) {
+        connect_or_make(rt, path, start)
+    } else {
+        Err(store_at(0))
+    }
+}
+
+fn connect_or_make<S: Start>(
     rt: &HostRuntime,
     path: &str,
     start: S,

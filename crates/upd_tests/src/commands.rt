@@ -94,9 +94,9 @@ struct Answer {
     faults: Vec<u8>,
 }
 
-fn run_input<R: Read>(alloc: Global, words: &[&str], input: &mut R) -> Answer {
-    let (mut output, mut faults) = (Vec::new(alloc), Vec::new(alloc));
-    let status = run_command(alloc, words, input, &mut output, &mut faults);
+fn run_input<R: Read>(rt: &HostRuntime, words: &[&str], input: &mut R) -> Answer {
+    let (mut output, mut faults) = (Vec::new(rt.alloc()), Vec::new(rt.alloc()));
+    let status = run_command(rt, words, input, &mut output, &mut faults);
     Answer {
         status,
         output,
@@ -104,8 +104,8 @@ fn run_input<R: Read>(alloc: Global, words: &[&str], input: &mut R) -> Answer {
     }
 }
 
-fn run_words(alloc: Global, words: &[&str], mut run: &[u8]) -> Answer {
-    run_input(alloc, words, &mut run)
+fn run_words(rt: &HostRuntime, words: &[&str], mut run: &[u8]) -> Answer {
+    run_input(rt, words, &mut run)
 }
 
 fn assert_answer(rt: &impl Abort, found: &Answer, status: u8, output: &[u8], faults: &[u8]) {
@@ -136,9 +136,9 @@ type Case = (
     &'static str,
 );
 
-fn check(rt: &impl Abort, alloc: Global, cases: &[Case]) {
+fn check(rt: &HostRuntime, cases: &[Case]) {
     for (words, run, status, output, faults) in cases {
-        let found = run_words(alloc, words, run.as_bytes());
+        let found = run_words(rt, words, run.as_bytes());
         assert_answer(rt, &found, *status, output.as_bytes(), faults.as_bytes());
     }
 }
@@ -164,14 +164,14 @@ fn runs_give_compile_files_or_refusals(rt: HostRuntime) {
         (FULL, CYCLE, 1, "", "upd: CallDepth (21) at 0\n"),
         (QUICK, CYCLE, 0, "", ""),
     ];
-    check(&rt, rt.alloc(), CASES);
+    check(&rt, CASES);
 }
 
 #[test]
 fn the_mode_is_looked_at_before_the_input(rt: HostRuntime) {
     const SLOW: &[&str] = &["upd", "trial", "slow"];
     let mut input = Dribble::new(1);
-    let found = run_input(rt.alloc(), SLOW, &mut input);
+    let found = run_input(&rt, SLOW, &mut input);
     assert_answer(&rt, &found, 1, b"", b"upd: BadMode (25) at 0\n");
     assert_eq!(rt; input.reads, 0);
 }
@@ -179,31 +179,31 @@ fn the_mode_is_looked_at_before_the_input(rt: HostRuntime) {
 #[test]
 fn a_run_that_is_too_long_is_not_read_to_its_end(rt: HostRuntime) {
     let mut input = Endless { given: 0 };
-    let found = run_input(rt.alloc(), FULL, &mut input);
+    let found = run_input(&rt, FULL, &mut input);
     assert_answer(&rt, &found, 1, b"", b"upd: RunLong (1) at 0\n");
     assert_eq!(rt; input.given, 65_537);
 }
 
 #[test]
 fn bytes_that_come_singly_are_the_same_run(rt: HostRuntime) {
-    let found = run_input(rt.alloc(), FULL, &mut Dribble::new(0));
+    let found = run_input(&rt, FULL, &mut Dribble::new(0));
     assert_answer(&rt, &found, 0, INSERTED.as_bytes(), b"");
 }
 
 #[test]
 fn a_failed_read_ends_the_run(rt: HostRuntime) {
     for given in 0..INSERTION.len() {
-        let found = run_input(rt.alloc(), FULL, &mut Dribble::new(given + 1));
+        let found = run_input(&rt, FULL, &mut Dribble::new(given + 1));
         assert_answer(&rt, &found, 3, b"", b"upd: Read (32) at 0\n");
     }
 }
 
 /// The answer where the writer of the output takes so many bytes.
-fn run_into(alloc: Global, room: usize) -> Answer {
-    let mut output = Narrow::new(alloc, room);
-    let mut faults = Vec::new(alloc);
+fn run_into(rt: &HostRuntime, room: usize) -> Answer {
+    let mut output = Narrow::new(rt.alloc(), room);
+    let mut faults = Vec::new(rt.alloc());
     let mut run = INSERTION.as_bytes();
-    let status = run_command(alloc, FULL, &mut run, &mut output, &mut faults);
+    let status = run_command(rt, FULL, &mut run, &mut output, &mut faults);
     Answer {
         status,
         output: output.taken,
@@ -214,18 +214,18 @@ fn run_into(alloc: Global, room: usize) -> Answer {
 #[test]
 fn a_failed_write_leaves_the_front_of_the_output(rt: HostRuntime) {
     for room in 0..INSERTED.len() {
-        let found = run_into(rt.alloc(), room);
+        let found = run_into(&rt, room);
         let front = &INSERTED.as_bytes()[..room];
         assert_answer(&rt, &found, 3, front, b"upd: Write (33) at 0\n");
     }
 }
 
 /// The answer where the writer of the fault takes so many bytes.
-fn tell_into(alloc: Global, room: usize) -> Answer {
-    let mut output = Vec::new(alloc);
-    let mut faults = Narrow::new(alloc, room);
+fn tell_into(rt: &HostRuntime, room: usize) -> Answer {
+    let mut output = Vec::new(rt.alloc());
+    let mut faults = Narrow::new(rt.alloc(), room);
     let mut run = b"HELLO".as_slice();
-    let status = run_command(alloc, FULL, &mut run, &mut output, &mut faults);
+    let status = run_command(rt, FULL, &mut run, &mut output, &mut faults);
     Answer {
         status,
         output,
@@ -237,7 +237,7 @@ fn tell_into(alloc: Global, room: usize) -> Answer {
 fn a_fault_that_cannot_be_written(rt: HostRuntime) {
     const FAULT: &[u8] = b"upd: TextNowhere (9) at 1\n";
     for room in 0..FAULT.len() {
-        let found = tell_into(rt.alloc(), room);
+        let found = tell_into(&rt, room);
         assert_answer(&rt, &found, 3, b"", &FAULT[..room]);
     }
 }
@@ -252,6 +252,14 @@ Arguments:
 
 Options:
   -h, --help  Print help
+
+Reads a run of at most 65536 bytes, and writes the compile file in lines of 97 bytes. Keeps nothing.
+
+Exit status: 0 done, 1 the run is refused, 2 no command line, 3 want of memory or a failed read or
+write. What is refused or failed is one line on standard error.
+
+Example:
+  printf '*DECK A\\nONE\\n' | upd trial full
 ";
 
 #[test]
@@ -260,8 +268,8 @@ fn words_that_ask_for_a_text_get_it_on_the_output(rt: HostRuntime) {
         (&["upd", "--version"], "", 0, "upd 1.0\n", ""),
         (&["upd", "trial", "--help"], "", 0, TRIAL_HELP, ""),
     ];
-    check(&rt, rt.alloc(), CASES);
-    let help = run_words(rt.alloc(), &["upd", "--help"], b"");
+    check(&rt, CASES);
+    let help = run_words(&rt, &["upd", "--help"], b"");
     let front = b"The desk of a program library\n\nUsage: upd <COMMAND>\n";
     assert!(rt; help.status == 0 && help.faults.is_empty());
     assert!(rt; help.output.starts_with(front));
@@ -301,8 +309,8 @@ fn words_that_are_no_command_line_are_told_on_the_fault_stream(rt: HostRuntime) 
         (&["upd", "trial", "full", "A"], "", 2, "", ONE_MORE),
         (&["upd", "trail", "full"], "", 2, "", MISSPELT),
     ];
-    check(&rt, rt.alloc(), CASES);
-    let unread = run_words(rt.alloc(), &["upd"], b"");
+    check(&rt, CASES);
+    let unread = run_words(&rt, &["upd"], b"");
     let front = b"error: 'upd' requires a subcommand but one was not provided\n";
     assert!(rt; unread.status == 2 && unread.output.is_empty());
     assert!(rt; unread.faults.starts_with(front));

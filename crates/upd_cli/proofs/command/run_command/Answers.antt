@@ -1,10 +1,12 @@
-use Rattle.std.proofs.Common.{rules, ℕ, List, IfSome, map, subst}
+use Rattle.std.proofs.Common.{◌≡◌, ◌⊎◌, inl, inr, arith, ℕ, List, IfSome, codes, map, ap, sym, ◌∙◌, subst}
 use Rattle.clap.specs.Words.{Text}
+use Rattle.upd_compile.specs.Modes.{mode_named}
 use Rattle.upd_cli.specs.Command.{Answers, answer_to}
 use Rattle.upd_cli.specs.Trial.{trial_named}
-use Rattle.upd_cli.specs.Words.{IsAsked, mode_word}
-use Rattle.upd_cli.specs.declared.words.Request.TheVariants.{Trial}
+use Rattle.upd_cli.specs.Words.{IsAsked, command_word, operand_word}
+use Rattle.upd_cli.specs.declared.words.Request.TheVariants.{Trial, Library, Serve}
 use Rattle.upd_cli.proofs.CommandLemmas.{answered_at_once, answered_of_known}
+use Rattle.upd_cli.proofs.RequestLemmas.{begins_otherwise, none_of, of_library, serve_command, trial_command, trial_mode}
 use Rattle.upd_cli.proofs.command.run_command.Goals as goal
 
 pub returns-in-Ok-Trial-clause-trial : goal.returns-in-Ok-Trial-clause-trial
@@ -18,15 +20,80 @@ returns-in-Ok-Trial-clause-trial g c =
     let faults' = g.E.Write.contents c.finish.new.faults in
     let IsAnswered : List ℕ → Type 0 =
     λ word. IfSome input (λ bytes. Answers (answer_to (trial_named word bytes)) c.finish.result output output' faults faults') in
-    λ none. subst IsAnswered asked.1
+    λ none is_trial. subst IsAnswered (trial_mode words c.in-Ok-Trial.mode asked)
     (answered_of_known c.carry_out_trial-ended.result c.finish.result input (trial_named c.in-Ok-Trial.mode.now) output output' faults faults'
     c.carry_out_trial-ended.ensures.ends c.finish.ensures.told)
 
-pub returns-in-Ok-clause-silent : goal.returns-in-Ok-clause-silent
-returns-in-Ok-clause-silent g c = search rules
+pub returns-in-Ok-Trial-clause-waits : goal.returns-in-Ok-Trial-clause-waits
+returns-in-Ok-Trial-clause-waits g c = λ no.
+    let words : List Text = map g.S.AsStr.text c.args.words.now in
+    let asked : IsAsked words (Trial c.in-Ok-Trial.mode) = subst (IsAsked words) c.in-Ok-Trial.field-0-is c.in-Ok-Trial.ensures.ok in
+    c.carry_out_trial-ended.ensures.waits (none_of (mode_named c.in-Ok-Trial.mode.now)
+    (λ some. no (
+      asked.0,
+      inl (
+        trial_command words c.in-Ok-Trial.mode asked,
+        λ none. some (ap mode_named (trial_mode words c.in-Ok-Trial.mode asked) ∙ none),
+      ),
+    )))
 
-pub returns-clause-trial : goal.returns-clause-trial
-returns-clause-trial g c = λ none.
-    answered_at_once (g.R.Read.remaining c.args.input.now) (trial_named (mode_word (map g.S.AsStr.text c.args.words.now))) c.in-Err.fault c.finish-in-Err.result
+pub returns-in-Ok-Library-clause-trial : goal.returns-in-Ok-Library-clause-trial
+returns-in-Ok-Library-clause-trial g c =
+    let words : List Text = map g.S.AsStr.text c.args.words.now in
+    let request = Library c.in-Ok-Library.file c.in-Ok-Library.asked in
+    let asked : IsAsked words request = subst (IsAsked words) c.in-Ok-Library.field-0-is c.in-Ok-Library.ensures.ok in
+    λ none is_trial. absurd ((of_library words c.in-Ok-Library.file c.in-Ok-Library.asked asked).other is_trial)
+
+pub returns-in-Ok-Library-clause-unread : goal.returns-in-Ok-Library-clause-unread
+returns-in-Ok-Library-clause-unread g c =
+    let words : List Text = map g.S.AsStr.text c.args.words.now in
+    let request = Library c.in-Ok-Library.file c.in-Ok-Library.asked in
+    let asked : IsAsked words request = subst (IsAsked words) c.in-Ok-Library.field-0-is c.in-Ok-Library.ensures.ok in
+    λ bad. absurd (bad asked.0)
+
+pub returns-in-Ok-Library-clause-front : goal.returns-in-Ok-Library-clause-front
+returns-in-Ok-Library-clause-front g c =
+    let words : List Text = map g.S.AsStr.text c.args.words.now in
+    let request = Library c.in-Ok-Library.file c.in-Ok-Library.asked in
+    let asked : IsAsked words request = subst (IsAsked words) c.in-Ok-Library.field-0-is c.in-Ok-Library.ensures.ok in
+    λ other. c.carry_out_library.ensures.front (λ spools. other ((of_library words c.in-Ok-Library.file c.in-Ok-Library.asked asked).spools spools))
+
+pub returns-in-Ok-Library-clause-waits : goal.returns-in-Ok-Library-clause-waits
+returns-in-Ok-Library-clause-waits g c =
+    let words : List Text = map g.S.AsStr.text c.args.words.now in
+    let request = Library c.in-Ok-Library.file c.in-Ok-Library.asked in
+    let asked : IsAsked words request = subst (IsAsked words) c.in-Ok-Library.field-0-is c.in-Ok-Library.ensures.ok in
+    λ no. c.carry_out_library.ensures.waits
+    (λ may. no (asked.0, inr ((of_library words c.in-Ok-Library.file c.in-Ok-Library.asked asked).tells may)))
+
+pub returns-in-Ok-Library-clause-silent : goal.returns-in-Ok-Library-clause-silent
+returns-in-Ok-Library-clause-silent g c =
+    let words : List Text = map g.S.AsStr.text c.args.words.now in
+    let request = Library c.in-Ok-Library.file c.in-Ok-Library.asked in
+    let asked : IsAsked words request = subst (IsAsked words) c.in-Ok-Library.field-0-is c.in-Ok-Library.ensures.ok in
+    λ quiet. c.carry_out_library.ensures.silent (elim quiet [
+      | inl two ↦ inl two
+      | inr one ↦ inr (one.0, λ may. one.1 ((of_library words c.in-Ok-Library.file c.in-Ok-Library.asked asked).tells may))
+    ])
+
+pub returns-in-Ok-Serve-clause-trial : goal.returns-in-Ok-Serve-clause-trial
+returns-in-Ok-Serve-clause-trial g c =
+    let words : List Text = map g.S.AsStr.text c.args.words.now in
+    let request = Serve c.in-Ok-Serve.file c.in-Ok-Serve.address c.in-Ok-Serve.count in
+    let asked : IsAsked words request = subst (IsAsked words) c.in-Ok-Serve.field-0-is c.in-Ok-Serve.ensures.ok in
+    λ none is_trial. absurd (begins_otherwise (codes "serve") (λ (e : 116 ≡ 115). omega (arith, e))
+    (sym is_trial ∙ serve_command words c.in-Ok-Serve.file c.in-Ok-Serve.address c.in-Ok-Serve.count asked))
+
+pub returns-in-Ok-Serve-clause-unread : goal.returns-in-Ok-Serve-clause-unread
+returns-in-Ok-Serve-clause-unread g c =
+    let words : List Text = map g.S.AsStr.text c.args.words.now in
+    let request = Serve c.in-Ok-Serve.file c.in-Ok-Serve.address c.in-Ok-Serve.count in
+    let asked : IsAsked words request = subst (IsAsked words) c.in-Ok-Serve.field-0-is c.in-Ok-Serve.ensures.ok in
+    λ bad. absurd (bad asked.0)
+
+pub returns-in-Err-clause-trial : goal.returns-in-Err-clause-trial
+returns-in-Err-clause-trial g c = λ none is_trial.
+    answered_at_once (g.R.Read.remaining c.args.input.now)
+    (trial_named (operand_word (codes "MODE") (map g.S.AsStr.text c.args.words.now))) c.in-Err.fault c.finish-in-Err.result
     (g.W.Write.contents c.args.output.now) (g.E.Write.contents c.args.faults.now)
     (g.E.Write.contents c.finish-in-Err.new.faults) c.in-Err.ensures.err c.finish-in-Err.ensures.told

@@ -1,11 +1,13 @@
-use Rattle.std.proofs.Common.{◌≡◌, ◌≢◌, ◌⊎◌, List, [], inl, inr, refl, ap, sym, ◌∙◌, subst, true, map}
+use Rattle.std.proofs.Common.{◌≡◌, ◌≢◌, ◌⊎◌, List, [], inl, inr, refl, ap, sym, ◌∙◌, subst, true, map, IfSome, IsSomeAnd, Option, Some, None}
 use Rattle.std.proofs.lemmas.Result.{IfOk-weaker}
+use Rattle.clap.specs.Walk.{Row}
 use Rattle.clap.specs.Words.{App, HasKind, IsAmong, Text, app_of, fault_of, is_simple, is_simple_and_free, kind_of, subcommand_of, subcommand_rows_of}
 use Rattle.clap.specs.declared.error.kind.ErrorKind.{ErrorKind}
 use Rattle.clap.specs.declared.error.kind.ErrorKind.TheVariants.{OutOfMemory}
-use Rattle.upd_cli.specs.Words.{IsAsked, IsTold, IsTrial, mode_in, mode_word, upd_app, word_faults}
+use Rattle.upd_cli.specs.Words.{IsAsked, IsOneOf, IsRequest, IsTold, upd_app, upd_commands, word_faults}
 use Rattle.upd_cli.specs.declared.words.Request.{Request}
-use Rattle.upd_cli.specs.declared.words.Request.TheVariants.{Trial, Shown, Unread}
+use Rattle.upd_cli.specs.declared.words.Request.TheVariants.{Trial, Library, Serve, Shown, Unread}
+use Rattle.upd_cli.proofs.WordLemmas.{known_command}
 use Rattle.upd_cli.proofs.words.read_words.Goals as goal
 
 is_simple_upd : is_simple upd_app ≡ true
@@ -14,13 +16,20 @@ is_simple_upd = refl
 is_free_upd : is_simple_and_free upd_app ≡ true
 is_free_upd = refl
 
-asked_trial : (words : List Text) (request : Request) → word_faults words ≡ [] → IsTrial (mode_word words) request → IsAsked words request
-asked_trial words (Trial mode) none is = (none, is)
-asked_trial words (Shown text) none is = absurd is
-asked_trial words (Unread text) none is = absurd is
+asked_command : (words : List Text) (command : Option (Text × List Row)) (request : Request) → subcommand_of upd_app words ≡ command
+    → word_faults words ≡ [] → IsSomeAnd command (λ found. IsRequest found request) → IsAsked words request
+asked_command words command (Trial mode) same none is = (none, rw same is)
+asked_command words command (Library file asked) same none is = (none, rw same is)
+asked_command words command (Serve file address count) same none is = (none, rw same is)
+asked_command words None (Shown text) same none is = absurd is
+asked_command words (Some (name, rows)) (Shown text) same none is = absurd is
+asked_command words None (Unread text) same none is = absurd is
+asked_command words (Some (name, rows)) (Unread text) same none is = absurd is
 
 asked_told : (words : List Text) (kind : ErrorKind) (request : Request) → IsAmong kind (word_faults words) → IsTold kind request → IsAsked words request
 asked_told words kind (Trial mode) among is = absurd is
+asked_told words kind (Library file asked) among is = absurd is
+asked_told words kind (Serve file address count) among is = absurd is
 asked_told words kind (Shown text) among is = (kind, among, is)
 asked_told words kind (Unread text) among is = (kind, among, is)
 
@@ -35,7 +44,16 @@ returns-in-Ok-clause-ok g c =
     let none : word_faults words ≡ [] = sym (ap (λ (a : App). fault_of a words) app_is) ∙ c.in-Ok.ensures.kinds (ap is_simple_and_free app_is ∙ is_free_upd) in
     let rows : subcommand_rows_of c.in-Ok.matches ≡ subcommand_of upd_app words = (c.in-Ok.ensures.matches (ap is_simple app_is ∙ is_simple_upd)).1
     ∙ ap (λ (a : App). subcommand_of a words) app_is in
-    asked_trial words c.trial_request.result none (rw (ap mode_in rows) at c.trial_request.ensures)
+    asked_command words (subcommand_rows_of c.in-Ok.matches) c.read_request.result (sym rows) none c.read_request.ensures
+
+pub read_request-requires-clause-known : goal.read_request-requires-clause-known
+read_request-requires-clause-known g c =
+    let words : List Text = map g.S.AsStr.text c.args.words.now in
+    let IsKnown : Option (Text × List Row) → Type 0 = λ o. IfSome o (λ command. IsOneOf command.0 upd_commands) in
+    let rows : subcommand_rows_of c.in-Ok.matches ≡ subcommand_of upd_app words =
+    (c.in-Ok.ensures.matches (ap is_simple c.in_ok-commands.ensures ∙ is_simple_upd)).1
+    ∙ ap (λ (a : App). subcommand_of a words) c.in_ok-commands.ensures in
+    subst IsKnown (sym rows) (known_command words)
 
 pub returns-in-Err-clause-ok : goal.returns-in-Err-clause-ok
 returns-in-Err-clause-ok g c =

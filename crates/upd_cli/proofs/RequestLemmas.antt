@@ -1,0 +1,106 @@
+-- What the request says of the words that were read.
+use Rattle.std.proofs.Common.{◌≡◌, ◌≢◌, ◌⊎◌, refl, inl, inr, List, [], codes, Option, Some, None, Bor, ℕ, IsSomeAnd, unwrap_or, option_and_then, option_map, slice_index, ap, subst, arith}
+use Rattle.clap.specs.Walk.{Row, first_of}
+use Rattle.clap.specs.Words.{Text, subcommand_of}
+use Rattle.upd_cli.specs.Inputs.{HandsIn}
+use Rattle.upd_cli.specs.Running.{IsSpool, MayTell}
+use Rattle.upd_cli.specs.Words.{IsAsked, IsAskedBy, IsRequest, command_word, operand_word, upd_app, word_faults}
+use Rattle.upd_cli.specs.declared.words.Asked.{Asked}
+use Rattle.upd_cli.specs.declared.words.Asked.TheVariants as asks
+use Rattle.upd_cli.specs.declared.words.Request.TheVariants.{Trial, Library, Serve}
+
+-- a trial's mode is the operand of that name
+pub trial_mode : (words : List Text) (mode : Bor (List ℕ)) → IsAsked words (Trial mode) → mode.now ≡ operand_word (codes "MODE") words
+trial_mode words mode asked = of (subcommand_of upd_app words) asked.1
+  where
+    of : (command : Option (Text × List Row)) → IsSomeAnd command (λ found. IsRequest found (Trial mode))
+        → mode.now ≡ unwrap_or (option_and_then (first_of (codes "MODE")) (option_map (λ c. c.1) command)) []
+    of None is = absurd is
+    of (Some (name, rows)) is = is.1
+
+-- and the command is `trial`
+pub trial_command : (words : List Text) (mode : Bor (List ℕ)) → IsAsked words (Trial mode) → command_word words ≡ codes "trial"
+trial_command words mode asked = of (subcommand_of upd_app words) asked.1
+  where
+    of : (command : Option (Text × List Row)) → IsSomeAnd command (λ found. IsRequest found (Trial mode))
+        → unwrap_or (option_map (λ c. c.0) command) [] ≡ codes "trial"
+    of None is = absurd is
+    of (Some (name, rows)) is = is.0
+
+-- serving is no trial
+pub serve_command : (words : List Text) (file address count : Bor (List ℕ)) → IsAsked words (Serve file address count)
+    → command_word words ≡ codes "serve"
+serve_command words file address count asked = of (subcommand_of upd_app words) asked.1
+  where
+    of : (command : Option (Text × List Row)) → IsSomeAnd command (λ found. IsRequest found (Serve file address count))
+        → unwrap_or (option_map (λ c. c.0) command) [] ≡ codes "serve"
+    of None is = absurd is
+    of (Some (name, rows)) is = is.0
+
+pub none_of : {X : Type 0} (o : Option X) → ¬ (o ≢ None) → o ≡ None
+none_of None some = refl
+none_of {X} (Some x) some = absurd (some (λ is. subst (λ (o : Option X). IsSomeAnd o (λ _. Unit {0})) is tt))
+
+-- a word that begins otherwise is not `trial`
+pub begins_otherwise : (name : Text) → (116 ≡ slice_index name 0 → ⊥) → codes "trial" ≡ name → ⊥
+begins_otherwise name other is = other (ap (λ (l : List ℕ). slice_index l 0) is)
+
+-- no command on a library is called `trial`, and `run` and `spool` alone may tell refusals on the output
+not_trial : (rows : List Row) (asked : Asked) → IsAskedBy (codes "trial") rows asked → ⊥
+not_trial rows asks.Init is = begins_otherwise (codes "init") (λ (e : 116 ≡ 105). omega (arith, e)) is
+not_trial rows (asks.Run site number mode) is = begins_otherwise (codes "run") (λ (e : 116 ≡ 114). omega (arith, e)) is.0
+not_trial rows (asks.Settle site number) is = begins_otherwise (codes "settle") (λ (e : 116 ≡ 115). omega (arith, e)) is.0
+not_trial rows asks.Spool is = begins_otherwise (codes "spool") (λ (e : 116 ≡ 115). omega (arith, e)) is
+not_trial rows asks.Compile is = begins_otherwise (codes "compile") (λ (e : 116 ≡ 99). omega (arith, e)) is
+not_trial rows (asks.List deck) is = begins_otherwise (codes "list") (λ (e : 116 ≡ 108). omega (arith, e)) is.0
+not_trial rows (asks.History card) is = begins_otherwise (codes "history") (λ (e : 116 ≡ 104). omega (arith, e)) is.0
+not_trial rows asks.Idents is = begins_otherwise (codes "idents") (λ (e : 116 ≡ 105). omega (arith, e)) is
+not_trial rows asks.Yanks is = begins_otherwise (codes "yanks") (λ (e : 116 ≡ 121). omega (arith, e)) is
+not_trial rows asks.Migrate is = begins_otherwise (codes "migrate") (λ (e : 116 ≡ 109). omega (arith, e)) is
+
+tells : (name : Text) (rows : List Row) (asked : Asked) → IsAskedBy name rows asked → MayTell asked → (name ≡ codes "run") ⊎ (name ≡ codes "spool")
+tells name rows (asks.Run site number mode) is may = inl is.0
+tells name rows asks.Spool is may = inr is
+tells name rows asks.Init is may = absurd may
+tells name rows (asks.Settle site number) is may = absurd may
+tells name rows asks.Compile is may = absurd may
+tells name rows (asks.List deck) is may = absurd may
+tells name rows (asks.History card) is may = absurd may
+tells name rows asks.Idents is may = absurd may
+tells name rows asks.Yanks is may = absurd may
+tells name rows asks.Migrate is may = absurd may
+
+spools : (name : Text) (rows : List Row) (asked : Asked) → IsAskedBy name rows asked → IsSpool asked → name ≡ codes "spool"
+spools name rows asks.Spool is may = is
+spools name rows asks.Init is may = absurd may
+spools name rows (asks.Run site number mode) is may = absurd may
+spools name rows (asks.Settle site number) is may = absurd may
+spools name rows asks.Compile is may = absurd may
+spools name rows (asks.List deck) is may = absurd may
+spools name rows (asks.History card) is may = absurd may
+spools name rows asks.Idents is may = absurd may
+spools name rows asks.Yanks is may = absurd may
+spools name rows asks.Migrate is may = absurd may
+
+-- what is asked of a library, by the words
+pub record OfLibrary (words : List Text) (asked : Asked) : Type 0 where
+  pub none : word_faults words ≡ []
+  pub other : ¬ (command_word words ≡ codes "trial")
+  pub tells : MayTell asked → HandsIn words
+  pub spools : IsSpool asked → command_word words ≡ codes "spool"
+
+pub of_library : (words : List Text) (file : Bor (List ℕ)) (asked : Asked) → IsAsked words (Library file asked) → OfLibrary words asked
+of_library words file asked is =
+    let found = of (subcommand_of upd_app words) is.1 in
+    record { none = is.0; other = found.0; tells = found.1; spools = found.2 }
+  where
+    of : (command : Option (Text × List Row)) → IsSomeAnd command (λ found. IsRequest found (Library file asked))
+        → (¬ (unwrap_or (option_map (λ c. c.0) command) [] ≡ codes "trial"))
+        × (MayTell asked → (unwrap_or (option_map (λ c. c.0) command) [] ≡ codes "run") ⊎ (unwrap_or (option_map (λ c. c.0) command) [] ≡ codes "spool"))
+        × (IsSpool asked → unwrap_or (option_map (λ c. c.0) command) [] ≡ codes "spool")
+    of None is = absurd is
+    of (Some (name, rows)) is = (
+      λ same. not_trial rows asked (subst (λ n. IsAskedBy n rows asked) same is.1),
+      tells name rows asked is.1,
+      spools name rows asked is.1,
+    )

@@ -1,0 +1,136 @@
+//! Commands on the library in a file: it is opened, something is done, and it is closed.
+ghost use Rattle.std.specs.Prelude.{◌≡◌, ◌⊎◌, ◌+◌, IfErr, IfOk};
+ghost use Rattle.upd_cli.specs.Running.{IsSpool, MayTell};
+ghost use Rattle.upd_cli.specs.Status.{exit_status};
+ghost use Rattle.upd_cli.specs.Streams.{TakesFront};
+ghost use Rattle.upd_text.specs.declared.limits.TheConstants.{MAX_RUN_BYTES};
+
+use crate::arriving::{hand_in, settle};
+use crate::asking::{Question, ask};
+use crate::operands::{read_card, read_deck, read_number};
+use crate::status::DONE;
+use crate::streams::write_out;
+use crate::words::Asked;
+use sqlite_disk::Unknown;
+use std::io::{Read, Write};
+use std::net::{SocketAddr, TcpListener};
+use upd_desk::Desk;
+use upd_file::{FileLibrary, close, connect, create, open};
+use upd_http::serve_on;
+use upd_migrate::migrate;
+use upd_spool::spool;
+use upd_text::{Fault, FaultKind};
+
+/// A desk over the library in a file.
+type FileDesk = Desk<FileLibrary<Unknown>>;
+
+/// Carries out a command on the library in a file, and answers the exit status. Operands are read before the file is
+/// opened, and the file is opened before the input is read.
+pub(crate) fn carry_out<R: Read, W: Write>(
+    rt: &HostRuntime,
+    file: &str,
+    asked: &Asked<'_>,
+    input: &mut R,
+    output: &mut W,
+) -> Result<u8, Fault>
+    ensures front { ¬ IsSpool asked.now → TakesFront (MAX_RUN_BYTES + 1) (R.remaining input.old) (R.remaining input.new) }
+    ensures waits { ¬ MayTell asked.now → input.new ≡ input.old }
+    ensures status { IfOk result (λ status. (status ≡ 0) ⊎ ((status ≡ 1) × MayTell asked.now)) }
+    ensures silent { IfErr result (λ fault. exit_status fault.kind ≡ 1 → MayTell asked.now ⊎ (output.new ≡ output.old)) }
+{
+    match asked {
+        Asked::Init => make(rt, file),
+        Asked::Run { site, number, mode } => {
+            let number = read_number(number)?;
+            let mut desk = open_desk(rt, file)?;
+            let ended = hand_in(rt.alloc(), &mut desk, site, number, mode, input, output);
+            close_desk(desk);
+            ended
+        }
+        Asked::Settle { site, number } => {
+            let number = read_number(number)?;
+            let mut desk = open_desk(rt, file)?;
+            let ended = settle(rt.alloc(), &mut desk, site, number, output);
+            close_desk(desk);
+            ended
+        }
+        Asked::Spool => {
+            let mut desk = open_desk(rt, file)?;
+            let ended = spool(rt.alloc(), input, output, &mut desk);
+            close_desk(desk);
+            ended?;
+            Ok(DONE)
+        }
+        Asked::Compile => answer(rt, file, &Question::Compile, output),
+        Asked::List { deck } => answer(rt, file, &Question::Deck(read_deck(deck)?), output),
+        Asked::History { card } => answer(rt, file, &Question::Card(read_card(card)?), output),
+        Asked::Idents => answer(rt, file, &Question::Idents, output),
+        Asked::Yanks => answer(rt, file, &Question::Yanks, output),
+        Asked::Migrate => bring_up(rt, file),
+    }
+}
+
+/// Serves so many connections at an address, which is bound once the file is open. Read, at 0, where it can't be bound.
+pub(crate) fn serve(
+    rt: &HostRuntime,
+    file: &str,
+    address: SocketAddr,
+    count: u32,
+) -> Result<u8, Fault>
+    ensures { IfOk result (λ status. status ≡ 0) }
+{
+    let mut desk = open_desk(rt, file)?;
+    let ended = match TcpListener::bind(rt, address) {
+        Ok(listener) => serve_on(rt.alloc(), &listener, count, &mut desk),
+        Err(_) => Err(FaultKind::Read.without_line()),
+    };
+    close_desk(desk);
+    ended?;
+    Ok(DONE)
+}
+
+fn make(rt: &HostRuntime, file: &str) -> Result<u8, Fault>
+    ensures { IfOk result (λ status. status ≡ 0) }
+{
+    let library = create(rt, file, Unknown)?;
+    close_desk(Desk::open(library));
+    Ok(DONE)
+}
+
+/// Brings the file to the present schema.
+fn bring_up(rt: &HostRuntime, file: &str) -> Result<u8, Fault>
+    ensures { IfOk result (λ status. status ≡ 0) }
+{
+    let mut conn = connect(rt, file, Unknown)?;
+    let ended = migrate(rt.alloc(), &mut conn);
+    let _ = conn.close();
+    ended?;
+    Ok(DONE)
+}
+
+fn answer<W: Write>(
+    rt: &HostRuntime,
+    file: &str,
+    question: &Question,
+    output: &mut W,
+) -> Result<u8, Fault>
+    ensures status { IfOk result (λ status. status ≡ 0) }
+    ensures silent { IfErr result (λ fault. exit_status fault.kind ≡ 1 → output.new ≡ output.old) }
+{
+    let mut desk = open_desk(rt, file)?;
+    let text = ask(rt.alloc(), &mut desk, question);
+    close_desk(desk);
+    write_out(output, &text?)?;
+    Ok(DONE)
+}
+
+fn open_desk(rt: &HostRuntime, file: &str) -> Result<FileDesk, Fault> {
+    let library = open(rt, file, Unknown)?;
+    Ok(Desk::open(library))
+}
+
+/// Closes the library. Where that fails nothing is lost, since the log then holds what it held: so the command's own
+/// end is told, and not this one.
+fn close_desk(desk: FileDesk) {
+    let _ = close(desk.close());
+}

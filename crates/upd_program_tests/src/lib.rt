@@ -1,0 +1,11 @@
+//! Tests of whole command lines on a library in a file, which is made in the folder of temporary files.
+//!
+//! Expected values are worked by hand from `docs/rules.md`.
+#![tactic(auto)]
+
+#[cfg(test)]
+mod console;
+#[cfg(test)]
+mod library;
+#[cfg(test)]
+mod refusals;
