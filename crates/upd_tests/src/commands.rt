@@ -136,10 +136,10 @@ type Case = (
     &'static str,
 );
 
-fn check(rt: &HostRuntime, cases: &[Case]) {
+fn check(abort: &impl Abort, rt: &HostRuntime, cases: &[Case]) {
     for (words, run, status, output, faults) in cases {
         let found = run_words(rt, words, run.as_bytes());
-        assert_answer(rt, &found, *status, output.as_bytes(), faults.as_bytes());
+        assert_answer(abort, &found, *status, output.as_bytes(), faults.as_bytes());
     }
 }
 
@@ -164,7 +164,7 @@ fn runs_give_compile_files_or_refusals(rt: HostRuntime) {
         (FULL, CYCLE, 1, "", "upd: CallDepth (21) at 0\n"),
         (QUICK, CYCLE, 0, "", ""),
     ];
-    check(&rt, CASES);
+    check(&rt, &rt, CASES);
 }
 
 #[test]
@@ -268,7 +268,7 @@ fn words_that_ask_for_a_text_get_it_on_the_output(rt: HostRuntime) {
         (&["upd", "--version"], "", 0, "upd 1.0\n", ""),
         (&["upd", "trial", "--help"], "", 0, TRIAL_HELP, ""),
     ];
-    check(&rt, CASES);
+    check(&rt, &rt, CASES);
     let help = run_words(&rt, &["upd", "--help"], b"");
     let front = b"The desk of a program library\n\nUsage: upd <COMMAND>\n";
     assert!(rt; help.status == 0 && help.faults.is_empty());
@@ -309,7 +309,7 @@ fn words_that_are_no_command_line_are_told_on_the_fault_stream(rt: HostRuntime) 
         (&["upd", "trial", "full", "A"], "", 2, "", ONE_MORE),
         (&["upd", "trail", "full"], "", 2, "", MISSPELT),
     ];
-    check(&rt, CASES);
+    check(&rt, &rt, CASES);
     let unread = run_words(&rt, &["upd"], b"");
     let front = b"error: 'upd' requires a subcommand but one was not provided\n";
     assert!(rt; unread.status == 2 && unread.output.is_empty());
