@@ -1,0 +1,280 @@
+#!/usr/bin/env python3
+"""Tries the lasting executable as sites do: curl and plain sockets against `upd serve`, spools, and the sqlite3 shell on the file.
+
+    python3 bench/wire.py [--upd PATH] [--times]
+
+Each line tells a request, what it got and whether that is what docs/rules.md says. With --times the processor time of `upd` is told too: of the
+requests to a library of 500 cards, of spools of 10,000 runs, of a run on a full library, and of the start. The exit status is 1 where an answer differs or a budget is passed.
+"""
+
+import argparse
+import json
+import os
+import resource
+import socket
+import subprocess
+import sys
+import tempfile
+import time
+from pathlib import Path
+
+UPD = Path(__file__).resolve().parent.parent / "crates/upd/out/upd"
+PORT = 8491
+RUN = b"*DECK A/B\nONE\nTWO\nTHREE\n"
+bad = 0
+
+
+def told(what, found, wanted):
+    global bad
+    right = found == wanted
+    bad += not right
+    print(f"{'ok ' if right else 'BAD'} {what}: {found if right else f'{found!r}, and not {wanted!r}'}")
+
+
+class Server:
+    """`upd serve` for so many connections, with the processor time that it took."""
+
+    def __init__(self, upd, file, count):
+        self.process = subprocess.Popen([upd, "serve", file, f"127.0.0.1:{PORT}", str(count)], stderr=subprocess.PIPE)
+        self.count = count
+        for _ in range(200):
+            sockets = [line.split() for line in Path("/proc/net/tcp").read_text().splitlines()[1:]]
+            if any(words[1].endswith(f":{PORT:04X}") and words[3] == "0A" for words in sockets):
+                return
+            time.sleep(0.01)
+
+    def __enter__(self):
+        return self
+
+    def seconds(self):
+        fields = Path(f"/proc/{self.process.pid}/stat").read_text().rsplit(")", 1)[1].split()
+        return (int(fields[11]) + int(fields[12])) / os.sysconf("SC_CLK_TCK")
+
+    def __exit__(self, *_):
+        try:
+            status = self.process.wait(timeout=20)
+        except subprocess.TimeoutExpired:
+            self.process.kill()
+            status = "still there"
+        told(f"upd serve ends after {self.count} connections with status", status, 0)
+        time.sleep(0.05)
+
+
+def exchange(request, cut=False):
+    """Sends bytes, then reads all that comes; with cut the client goes away before it reads."""
+    with socket.create_connection(("127.0.0.1", PORT)) as client:
+        client.sendall(request)
+        if cut:
+            return b""
+        client.shutdown(socket.SHUT_WR)
+        answer = b""
+        while piece := client.recv(65536):
+            answer += piece
+        return answer
+
+
+def head(length):
+    """A whole head of so many bytes."""
+    start = b"GET /idents HTTP/1.1\r\nX: "
+    return start + b"x" * (length - len(start) - 4) + b"\r\n\r\n"
+
+
+def curl(*words):
+    found = subprocess.run(["curl", "-s", "-i", *words], capture_output=True, check=False).stdout
+    return found.replace(b"\r\n", b"\n")
+
+
+def status(answer):
+    return answer.split(b"\n", 1)[0].strip().decode()
+
+
+def body(answer):
+    return answer.replace(b"\r\n", b"\n").split(b"\n\n", 1)[-1].decode()
+
+
+def try_curl(upd, file):
+    at = f"http://127.0.0.1:{PORT}"
+    (file.parent / "run").write_bytes(RUN)
+    (file.parent / "other").write_bytes(b"*IDENT X\n*DELETE A/B.9\n")
+    (file.parent / "full").write_bytes(b"x\n" * 32768)
+    (file.parent / "long").write_bytes(b"x\n" * 32768 + b"x")
+    (file.parent / "call").write_bytes(b"*DECK C\n*CALL NONE\n")
+    run, other, full, long, call = (f"@{file.parent / name}" for name in ("run", "other", "full", "long", "call"))
+    cases = [
+        ("POST a run", ["--data-binary", run, f"{at}/sites/LYON/runs/1/full"], "200 OK"),
+        ("POST it again", ["--data-binary", run, f"{at}/sites/LYON/runs/1/full"], "200 OK"),
+        ("POST it in another mode", ["--data-binary", run, f"{at}/sites/LYON/runs/1/quick"], "409 Conflict"),
+        ("POST a refused run", ["--data-binary", other, f"{at}/sites/LYON/runs/2/full"], "422 Unprocessable Entity"),
+        ("POST a site that is none", ["--data-binary", run, f"{at}/sites/lyon/runs/1/full"], "400 Bad Request"),
+        ("POST a number that is none", ["--data-binary", run, f"{at}/sites/LYON/runs/01/full"], "400 Bad Request"),
+        ("POST number 0", ["--data-binary", run, f"{at}/sites/LYON/runs/0/full"], "400 Bad Request"),
+        ("POST a mode that is none", ["--data-binary", run, f"{at}/sites/LYON/runs/3/slow"], "400 Bad Request"),
+        ("POST 65,536 bytes", ["--data-binary", full, f"{at}/sites/LYON/runs/3/full"], "422 Unprocessable Entity"),
+        ("POST 65,537 bytes", ["--data-binary", long, f"{at}/sites/LYON/runs/4/full"], "413 Payload Too Large"),
+        ("GET the compile file", [f"{at}/compile"], "200 OK"),
+        ("GET a deck", [f"{at}/decks/A%2FB"], "200 OK"),
+        ("GET a deck that isn't there", [f"{at}/decks/NOPE"], "404 Not Found"),
+        ("GET a deck that is no name", [f"{at}/decks/nope"], "400 Bad Request"),
+        ("GET a card", [f"{at}/cards/A%2FB/2"], "200 OK"),
+        ("GET a card that isn't there", [f"{at}/cards/A%2FB/9"], "404 Not Found"),
+        ("GET a card that is none", [f"{at}/cards/A%2FB/x"], "400 Bad Request"),
+        ("GET the idents", [f"{at}/idents"], "200 OK"),
+        ("GET the idents by HTTP/1.0", ["-0", f"{at}/idents?x=1"], "200 OK"),
+        ("GET the yanks", [f"{at}/yanks"], "200 OK"),
+        ("GET no route", [f"{at}/idents/"], "404 Not Found"),
+        ("HEAD of the idents", ["-X", "HEAD", "--max-time", "2", f"{at}/idents"], "405 Method Not Allowed"),
+        ("DELETE a deck", ["-X", "DELETE", f"{at}/decks/A%2FB"], "405 Method Not Allowed"),
+        ("GET a run's route", [f"{at}/sites/LYON/runs/1/full"], "405 Method Not Allowed"),
+        ("POST by pieces", ["-H", "Transfer-Encoding: chunked", "--data-binary", run, f"{at}/sites/LYON/runs/5/full"], "400 Bad Request"),
+        ("POST a settlement", ["-X", "POST", f"{at}/sites/LYON/settled/1"], "200 OK"),
+        ("POST a settled run", ["--data-binary", run, f"{at}/sites/LYON/runs/1/full"], "410 Gone"),
+        ("POST a call of nothing, quick", ["--data-binary", call, f"{at}/sites/LYON/runs/6/quick"], "200 OK"),
+        ("GET a compile file with it", [f"{at}/compile"], "422 Unprocessable Entity"),
+    ]
+    answers = {}
+    with Server(upd, file, len(cases)):
+        for what, words, wanted in cases:
+            answers[what] = curl(*words)
+            told(what, status(answers[what]), f"HTTP/1.1 {wanted}")
+    told("the repeat is the first reply", answers["POST it again"] == answers["POST a run"], True)
+    told("the mark", body(answers["POST a settlement"]), '{"settled":1,"site":"LYON"}')
+    told("the settled run", body(answers["POST a settled run"]), '{"at":0,"fault":27,"name":"Settled"}')
+    told("the changed run", body(answers["POST it in another mode"]), '{"at":0,"fault":26,"name":"RunChanged"}')
+    told("the idents", body(answers["GET the idents"]), "1 A/B deck held\n")
+    told("the deck", body(answers["GET a deck"]), "DECK A/B\nA A/B.1 *DECK A/B\nA A/B.2 ONE\nA A/B.3 TWO\nA A/B.4 THREE\n")
+    told("what is allowed", "Allow: POST" in answers["GET a run's route"].decode(), True)
+
+
+def try_sockets(upd, file):
+    bad_frame = '{"at":0,"fault":30,"name":"BadFrame"}'
+    post = b"POST /sites/PARIS/runs/%d/quick HTTP/1.1\r\nHost: l\r\nContent-Length: %d\r\n\r\n%s"
+    cases = [
+        ("a head of 8,192 bytes", head(8192), "200 OK"),
+        ("a head of 8,193 bytes", head(8193), "400 Bad Request"),
+        ("32 headers", b"GET /idents HTTP/1.1\r\n" + b"X: y\r\n" * 32 + b"\r\n", "200 OK"),
+        ("33 headers", b"GET /idents HTTP/1.1\r\n" + b"X: y\r\n" * 33 + b"\r\n", "400 Bad Request"),
+        ("two lengths", b"POST /sites/PARIS/runs/1/quick HTTP/1.1\r\nContent-Length: 0\r\ncontent-length: 0\r\n\r\n", "400 Bad Request"),
+        ("a signed length", b"POST /sites/PARIS/runs/1/quick HTTP/1.1\r\nContent-Length: +0\r\n\r\n", "400 Bad Request"),
+        ("bytes behind the body", post % (1, 0, b"GET /idents HTTP/1.1\r\n\r\n"), "200 OK"),
+        ("no head", b"hello\r\n\r\n", "400 Bad Request"),
+        ("an expectation", b"GET /idents HTTP/1.1\r\nExpect: 100-continue\r\n\r\n", "200 OK"),
+    ]
+    with Server(upd, file, len(cases) + 4):
+        for what, request, wanted in cases:
+            answer = exchange(request)
+            told(what, status(answer), f"HTTP/1.1 {wanted}")
+            if wanted.startswith("400"):
+                told(f"{what}, its text", body(answer), bad_frame)
+        told("a body that is cut", exchange(post % (2, 30, b"*DECK")), b"")
+        told("nothing at all", exchange(b""), b"")
+        exchange(post % (3, len(RUN), RUN.replace(b"A/B", b"D/E")), cut=True)
+        told("a client that went away is answered when it comes again",
+             json.loads(body(exchange(post % (3, len(RUN), RUN.replace(b"A/B", b"D/E")))))["idents"], ["D/E"])
+
+
+def try_sqlite3(file):
+    shell = subprocess.run(["sqlite3", file, "SELECT site, num, mode, accepted FROM runs ORDER BY site, num; PRAGMA integrity_check;"],
+                           capture_output=True, check=False, text=True)
+    told("sqlite3 on the runs", shell.stdout.split(), ["LYON|2|0|0", "LYON|3|0|0", "LYON|6|1|1", "PARIS|1|1|1", "PARIS|3|1|1", "ok"])
+
+
+def spent(words, data=b""):
+    """Processor seconds of a command, and its output."""
+    before = resource.getrusage(resource.RUSAGE_CHILDREN)
+    done = subprocess.run(words, input=data, capture_output=True, check=False)
+    after = resource.getrusage(resource.RUSAGE_CHILDREN)
+    return after.ru_utime + after.ru_stime - before.ru_utime - before.ru_stime, done
+
+
+def within(what, seconds, budget):
+    global bad
+    right = seconds <= budget
+    bad += not right
+    print(f"{'ok ' if right else 'BAD'} {what}: {1000 * seconds:.3f} ms of processor time, and {1000 * budget:g} may be")
+
+
+def try_times(upd, folder):
+    file = folder / "timed.db"
+    subprocess.run([upd, "init", file], check=True)
+    decks = b"".join(b"*DECK D%d\n" % n + b"".join(b"LINE %d\n" % k for k in range(49)) for n in range(10))
+    told("500 cards", json.loads(spent([upd, "run", file, "A", "1", "quick"], decks)[1].stdout)["state"], "accepted")
+    within("upd --help", min(spent([upd, "--help"])[0] for _ in range(20)), 0.002)
+    within("upd run, three lines on 500 cards", min(spent([upd, "run", file, "B", str(n), "quick"], b"*IDENT R%d\n*INSERT D1.2\nX\n" % n)[0]
+                                                 for n in range(1, 11)), 0.03)
+    count = 400
+    cases = [
+        ("POST of three lines", [b"*IDENT P%d\n*INSERT D2.2\nX\n" % n for n in range(count)], "/sites/C/runs/%d/quick", 0.0025),
+        ("POST of a repeat", [b"*IDENT P0\n*INSERT D2.2\nX\n"] * count, "/sites/C/runs/1/quick", None),
+        ("POST of a settlement", [b""] * count, "/sites/D/settled/%d", None),
+        ("GET /idents", None, "/idents", 0.0005),
+    ]
+    with Server(upd, file, count * len(cases)) as server:
+        for what, bodies, path, budget in cases:
+            before = server.seconds()
+            for n in range(count):
+                if bodies is None:
+                    request = f"GET {path} HTTP/1.1\r\n\r\n".encode()
+                else:
+                    target = path % (n + 1) if "%d" in path else path
+                    request = f"POST {target} HTTP/1.1\r\nContent-Length: {len(bodies[n])}\r\n\r\n".encode() + bodies[n]
+                exchange(request)
+            each = (server.seconds() - before) / count
+            if budget is None:
+                print(f"    {what}: {1000 * each:.3f} ms of processor time")
+            else:
+                within(what, each, budget)
+    for what, cards, budget in [("an empty library", b"", 0.001), ("500 cards", decks, None)]:
+        file = folder / f"spool{len(cards)}.db"
+        subprocess.run([upd, "init", file], check=True)
+        spent([upd, "run", file, "A", "1", "quick"], cards)
+        frames = b"".join(b"RUN S %d quick %d\n%s\n" % (n, len(b"*/ %d\n" % n), b"*/ %d\n" % n) for n in range(1, 10_001))
+        start = time.monotonic()
+        taken, done = spent([upd, "spool", file], frames)
+        wall = time.monotonic() - start
+        told(f"answers of a spool of 10,000 frames on {what}", done.stdout.count(b"\n"), 10_000)
+        print(f"    {10_000 / wall:.0f} frames a second")
+        if budget is None:
+            print(f"    a frame on {what}: {taken / 10:.3f} ms of processor time")
+        else:
+            within(f"a frame on {what}", taken / 10_000, budget)
+
+    try_full(upd, folder)
+
+
+def spooled(upd, file, site, runs):
+    """Processor seconds of a spool of quick runs, each accepted."""
+    frames = b"".join(b"RUN %s %d quick %d\n%s\n" % (site, n, len(run), run) for n, run in enumerate(runs, 1))
+    taken, done = spent([upd, "spool", file], frames)
+    told(f"accepted runs of {site.decode()}", done.stdout.count(b'"state":"accepted"}\n'), len(runs))
+    return taken
+
+
+def try_full(upd, folder):
+    """A library of some 49,900 cards with some 192,000 entries."""
+    file = folder / "full.db"
+    subprocess.run([upd, "init", file], check=True)
+    spooled(upd, file, b"DECKS", [b"*DECK D%d\n" % k + b"".join(b"LINE %d\n" % n for n in range(1995)) for k in range(25)])
+    spooled(upd, file, b"HIST", [b"*IDENT H%d\n" % k + b"".join(b"*DELETE D%d.2,D%d.1900\n" % (d, d) for d in range(25)) for k in range(3)])
+    one = spooled(upd, file, b"ONE", [b"*IDENT ONE\n*INSERT D1.2\nX\n"])
+    more = spooled(upd, file, b"MORE", [b"*IDENT S%d\n*INSERT D1.2\nX\n" % k for k in range(6)])
+    within("a run of three lines on a full library", (more - one) / 5, 0.6)
+
+
+def main():
+    words = argparse.ArgumentParser()
+    words.add_argument("--upd", default=UPD)
+    words.add_argument("--times", action="store_true")
+    words = words.parse_args()
+    with tempfile.TemporaryDirectory() as folder:
+        file = Path(folder) / "library.db"
+        subprocess.run([words.upd, "init", file], check=True)
+        try_curl(words.upd, file)
+        try_sockets(words.upd, file)
+        try_sqlite3(file)
+        if words.times:
+            try_times(words.upd, Path(folder))
+    sys.exit(bad > 0)
+
+
+if __name__ == "__main__":
+    main()
