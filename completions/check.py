@@ -1,0 +1,50 @@
+#!/usr/bin/env python3
+"""Holds the completions and the man page against what the executable says of itself.
+
+    python3 completions/check.py [UPD]
+
+Each command of `upd --help` stands in each of them, and no other; the man page has each command's words as its `--help` has them. The exit status is 1
+where one differs.
+"""
+
+import re
+import subprocess
+import sys
+from pathlib import Path
+
+ROOT = Path(__file__).resolve().parent.parent
+UPD = sys.argv[1] if len(sys.argv) > 1 else ROOT / "crates/upd/out/upd"
+
+
+def said(*words):
+    return subprocess.run([UPD, *words], capture_output=True, check=True, text=True).stdout
+
+
+def main():
+    commands = re.findall(r"^  ([a-z]+) ", said("--help").split("Options:")[0], re.M)
+    page = (ROOT / "man/upd.1").read_text()
+    synopsis = dict(re.findall(r"^\.B upd ([a-z]+)\n\.I ([A-Z ]+)$", page, re.M))
+    bash = (ROOT / "completions/upd.bash").read_text()
+    zsh = (ROOT / "completions/_upd").read_text()
+    fish = (ROOT / "completions/upd.fish").read_text()
+    found = {
+        "man/upd.1, synopsis": list(synopsis),
+        "man/upd.1, commands": re.findall(r'^\.BI ([a-z]+) "', page, re.M),
+        "upd.bash": re.search(r'1,\*\) words="([a-z ]+) --help', bash)[1].split(),
+        "_upd": re.findall(r"^        '([a-z]+):", zsh, re.M),
+        "upd.fish": re.findall(r"-a ([a-z]+) -d", fish),
+    }
+    wrong = [where for where, names in found.items() if names != commands]
+    for command in commands:
+        words = " ".join(re.findall(r"<([A-Z]+)>", re.search(r"Usage: upd .*", said(command, "--help"))[0]))
+        if synopsis.get(command) != words:
+            wrong.append(f"man/upd.1, {command}: {synopsis.get(command)}, and not {words}")
+    page_fault = subprocess.run(["groff", "-man", "-Tutf8", "-ww", ROOT / "man/upd.1"], capture_output=True, check=False, text=True).stderr
+    for line in wrong + page_fault.splitlines():
+        print(line)
+    print(f"{len(commands)} commands, {len(wrong)} differences")
+    sys.exit(bool(wrong or page_fault))
+
+
+if __name__ == "__main__":
+    main()

@@ -1,0 +1,12 @@
+# bash completion of upd
+_upd() {
+    local word=${COMP_WORDS[COMP_CWORD]} command=${COMP_WORDS[1]} words=
+    COMPREPLY=()
+    case $COMP_CWORD,$command in
+        1,*) words="trial init run settle spool serve compile list history idents yanks migrate --help --version" ;;
+        2,trial | 5,run) words="full quick normal --help" ;;
+        2,*) mapfile -t COMPREPLY < <(compgen -f -- "$word"; compgen -W --help -- "$word"); return ;;
+    esac
+    mapfile -t COMPREPLY < <(compgen -W "$words" -- "$word")
+}
+complete -o filenames -F _upd upd
