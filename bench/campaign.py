@@ -1,0 +1,182 @@
+#!/usr/bin/env python3
+"""Treats the lasting executable badly: mutated requests, mutated spools, and a desk that is killed in the middle of a spool.
+
+    python3 bench/campaign.py [--upd PATH] [--seed N] [--requests N] [--spools N] [--kills N]
+
+Each answer has to be one of those that docs/rules.md defines, and what was answered has to be there afterwards. The exit status is 1 where it isn't.
+"""
+
+import argparse
+import json
+import random
+import re
+import subprocess
+import sys
+import tempfile
+from pathlib import Path
+
+sys.dont_write_bytecode = True
+from wire import UPD, Server, exchange  # noqa: E402
+
+FAULTS = {
+    1: "RunLong", 2: "TooManyLines", 3: "BadByte", 4: "LineLong", 5: "BadName", 6: "BadCard", 7: "BadField", 8: "NoIdent", 9: "TextNowhere",
+    10: "NameTaken", 11: "IdentUnknown", 12: "DeckUnknown", 13: "CardUnknown", 14: "RangeOrder", 15: "DeckCard", 16: "YankText", 17: "YankSelf",
+    18: "Reserved", 19: "Full", 20: "CallUnknown", 21: "CallDepth", 22: "CompileLong", 23: "BadSite", 24: "BadNumber", 25: "BadMode",
+    26: "RunChanged", 27: "Settled", 28: "NoMemory", 29: "Store", 30: "BadFrame", 31: "CutFrame", 32: "Read", 33: "Write",
+}
+STATUSES = {200, 400, 404, 405, 409, 410, 413, 422}
+RUNS = [
+    b"*DECK A\nONE\nTWO\nTHREE\n", b"*IDENT X\n*DELETE A.2\nNEW\n", b"*IDENT Y\n*YANK X\n", b"*IDENT Z\n*YANK Y\n*INSERT A.3,\n", b"*PURGE Z\n",
+    b"*COMDECK C,NOPROP\nCEE\n*DECK B\n*CALL C\n", b"*IDENT W\n*RESTORE A.2,A.4\n*SELYANK A.X\n*YANKDECK B\n*COMPILE A.B\n",
+]
+REQUESTS = [
+    b"POST /sites/LYON/runs/%d/quick HTTP/1.1\r\nHost: lib\r\nContent-Length: %d\r\n\r\n%s", b"GET /idents HTTP/1.1\r\nHost: lib\r\n\r\n",
+    b"GET /decks/A HTTP/1.0\r\n\r\n", b"GET /cards/A/2 HTTP/1.1\r\nAccept: */*\r\n\r\n", b"GET /yanks HTTP/1.1\r\n\r\n",
+    b"POST /sites/PARIS/settled/%d HTTP/1.1\r\nContent-Length: 0\r\n\r\n", b"GET /compile HTTP/1.1\r\n\r\n",
+]
+
+
+def is_answer(text):
+    """Whether a text is a reply, the text of a fault, or of a mark."""
+    try:
+        said = json.loads(text)
+    except ValueError:
+        return False
+    if said.get("state") == "accepted":
+        return sorted(said) == ["compile", "idents", "lines", "mode", "run", "site", "state"]
+    if "settled" in said:
+        return sorted(said) == ["settled", "site"]
+    return FAULTS.get(said.get("fault")) == said.get("name") and set(said) - {"mode", "run", "site", "state"} == {"at", "fault", "name"}
+
+
+def mutated(dice, text):
+    text = bytearray(text)
+    for _ in range(dice.choice([0, 1, 1, 1, 2, 3, 8])):
+        at = dice.randrange(len(text) + 1)
+        to = min(len(text), at + dice.choice([1, 1, 1, 4, 20]))
+        piece = bytes(dice.choice([dice.randrange(256), *b"\r\n 0/*,.%:Z"]) for _ in range(dice.choice([0, 1, 1, 2])))
+        text[at:to if dice.random() < 0.6 else at] = dice.choice([piece, piece, bytes(text[at:to]) * 2])
+    return bytes(text)
+
+
+def request(dice):
+    text = dice.choice(REQUESTS)
+    if b"%s" in text:
+        run = mutated(dice, dice.choice(RUNS))
+        text = text % (dice.randrange(1, 4000), len(run), run)
+    elif b"%d" in text:
+        text = text % dice.randrange(1, 9)
+    return mutated(dice, text)
+
+
+def try_requests(upd, folder, dice, count):
+    file = folder / "requests.db"
+    subprocess.run([upd, "init", file], check=True)
+    found, bad = {}, 0
+    with Server(upd, file, count):
+        for _ in range(count):
+            sent = request(dice)
+            got = exchange(sent)
+            if not got:
+                found["none"] = found.get("none", 0) + 1
+                continue
+            head, body = got.split(b"\r\n\r\n", 1)
+            status = int(head.split(b" ", 2)[1])
+            found[status] = found.get(status, 0) + 1
+            length = int(re.search(rb"Content-Length: ([0-9]+)", head)[1])
+            right = status in STATUSES and length == len(body) and (b"text/plain" in head or is_answer(body))
+            if not right:
+                bad += 1
+                print("BAD", sent, got)
+    print(f"{count} mutated requests: {dict(sorted(found.items(), key=str))}")
+    return bad + sound(upd, file)
+
+
+def sound(upd, file):
+    """Whether a library still opens and lists, and SQLite finds nothing wrong with it; 1 where not."""
+    listed = subprocess.run([upd, "idents", file], capture_output=True, check=False)
+    checked = subprocess.run(["sqlite3", file, "PRAGMA integrity_check"], capture_output=True, check=False)
+    right = listed.returncode == 0 and checked.stdout == b"ok\n"
+    if not right:
+        print("BAD library", file, listed, checked)
+    return int(not right)
+
+
+def frames(dice, count, numbers):
+    text = b""
+    for _ in range(count):
+        run = mutated(dice, dice.choice(RUNS))
+        mode = dice.choice([b"full", b"quick", b"normal"])
+        text += b"RUN %s %d %s %d\n%s\n" % (dice.choice([b"LYON", b"PARIS"]), dice.choice(numbers), mode, len(run), run)
+    return text
+
+
+def try_spools(upd, folder, dice, count):
+    file = folder / "spools.db"
+    subprocess.run([upd, "init", file], check=True)
+    found, bad = {}, 0
+    for _ in range(count):
+        text = mutated(dice, frames(dice, dice.randrange(1, 4), range(1, 3 * count)))
+        done = subprocess.run([upd, "spool", file], input=text, capture_output=True, check=False)
+        fault = re.fullmatch(rb"upd: ([A-Za-z]+) \(([0-9]+)\) at [0-9]+\n", done.stderr)
+        lines = done.stdout.splitlines()
+        right = all(map(is_answer, lines)) and (done.returncode == 0) == (done.stderr == b"")
+        if done.returncode:
+            right = right and done.returncode == 1 and fault and FAULTS[int(fault[2])] == fault[1].decode() and int(fault[2]) in (30, 31)
+        found[done.returncode] = found.get(done.returncode, 0) + 1
+        if not right:
+            bad += 1
+            print("BAD", text, done)
+    print(f"{count} mutated spools, by exit status: {found}")
+    return bad + sound(upd, file)
+
+
+def try_kills(upd, folder, dice, count):
+    text = frames(dice, 1000, range(1, 700))
+    calm, file = folder / "calm.db", folder / "killed.db"
+    subprocess.run([upd, "init", calm], check=True)
+    wanted = subprocess.run([upd, "spool", calm], input=text, capture_output=True, check=True).stdout
+    bad, killed, libraries = 0, 0, 0
+    while killed < count:
+        libraries += 1
+        for old in folder.glob("killed.db*"):
+            old.unlink()
+        subprocess.run([upd, "init", file], check=True)
+        for _ in range(20):
+            process = subprocess.Popen([upd, "spool", file], stdin=subprocess.PIPE, stdout=subprocess.PIPE, stderr=subprocess.PIPE)
+            try:
+                out = process.communicate(text, timeout=dice.uniform(0.005, 0.25))[0]
+            except subprocess.TimeoutExpired:
+                process.kill()
+                out = process.communicate()[0]
+                killed += 1
+            if not wanted.startswith(out):
+                bad += 1
+                print("BAD beginning of the answers", len(out))
+        end = subprocess.run([upd, "spool", file], input=text, capture_output=True, check=False)
+        lists = [[subprocess.run([upd, what, one], capture_output=True, check=False).stdout for what in ("idents", "yanks", "compile")] for one in (calm, file)]
+        if end.stdout != wanted or lists[0] != lists[1]:
+            bad += 1
+            print("BAD end", end.returncode, end.stderr)
+    print(f"{killed} desks killed in a spool of 1,000 frames, on {libraries} libraries: each went on to the undisturbed end" if not bad else "BAD kills")
+    return bad + sound(upd, file)
+
+
+def main():
+    words = argparse.ArgumentParser()
+    words.add_argument("--upd", default=UPD)
+    for name, count in [("seed", 1), ("requests", 10_000), ("spools", 10_000), ("kills", 200)]:
+        words.add_argument(f"--{name}", type=int, default=count)
+    words = words.parse_args()
+    dice = random.Random(words.seed)
+    with tempfile.TemporaryDirectory() as folder:
+        folder = Path(folder)
+        bad = try_requests(words.upd, folder, dice, words.requests) if words.requests else 0
+        bad += try_spools(words.upd, folder, dice, words.spools) if words.spools else 0
+        bad += try_kills(words.upd, folder, dice, words.kills) if words.kills else 0
+    print(f"{bad} wrong")
+    sys.exit(bad > 0)
+
+
+if __name__ == "__main__":
+    main()
