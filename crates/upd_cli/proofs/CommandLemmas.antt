@@ -8,7 +8,7 @@ use Rattle.upd_text.specs.declared.fault.FaultKind.TheVariants.{Write}
 use Rattle.upd_compile.specs.File.{FileView}
 use Rattle.upd_cli.specs.Command.{Answers, Ends, IsEnd, LeavesOutput, answer_to}
 use Rattle.upd_cli.specs.Status.{exit_status, fault_line, no_memory}
-use Rattle.upd_cli.proofs.StreamLemmas.{front_all}
+use Rattle.upd_streams.proofs.FrontLemmas.{front_all}
 
 -- nothing may be left by any fault
 pub nothing_left : (kind : FaultKind) (output output' : Option (List ℕ)) (bytes : List ℕ) → Appends output output' [] → LeavesOutput kind output output' bytes

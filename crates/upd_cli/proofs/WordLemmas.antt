@@ -1,7 +1,7 @@
 -- The command lines of `trial` are read, and a command that was entered is one of the program's.
 use Rattle.std.proofs.Common.{◌≡◌, ◌⊎◌, inl, inr, if◌then◌else◌, Bool, true, false, List, [], ◌∷◌, codes, find, Option, Some, None, IfSome, option_and_then, option_map, refl}
 use Rattle.clap.specs.Simple.{argument_words, built, label_of, names_of, rows_at}
-use Rattle.clap.specs.Walk.{Row, answers_to, stop_after}
+use Rattle.clap.specs.Walk.{answers_to, stop_after}
 use Rattle.clap.specs.Words.{Shape, Text, subcommand_of}
 use Rattle.clap.proofs.OnLiterals.{clap_on_literals}
 use Rattle.upd_cli.specs.Words.{IsOneOf, IsPlain, command_word, operand_word, upd_app, upd_commands, word_faults}

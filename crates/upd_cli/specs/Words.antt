@@ -1,5 +1,5 @@
 -- What the words of a command line ask for, by the rules of `clap`.
-use Rattle.std.specs.Prelude.{◌≡◌, ◌⊎◌, ◌==◌, true, false, List, [], ◌∷◌, codes, map, Option, Some, IsSomeAnd, unwrap_or}
+use Rattle.std.specs.Prelude.{◌≡◌, ◌⊎◌, ◌==◌, true, false, List, [], ◌∷◌, codes, map, Some, IsSomeAnd, unwrap_or}
 use Rattle.std.specs.Option.{option_and_then, option_map}
 use Rattle.clap.specs.Simple.{new_shape}
 use Rattle.clap.specs.Words.{App, IsAmong, Row, Rule, Shape, Text, fault_of, first_of, new_app, new_rule, subcommand_of}

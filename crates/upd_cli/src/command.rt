@@ -14,7 +14,7 @@ ghost use Rattle.upd_cli.specs.Inputs.{HandsIn, ReadsInput};
 use crate::library::{carry_out, serve};
 use crate::operands::{read_address, read_count};
 use crate::status::{DONE, FAILED, UNREAD, exit_status, write_fault};
-use crate::streams::{read_input, write_out, write_parts};
+use crate::streams::{read_input, write_out};
 use crate::trial_run::{read_mode, trial};
 use crate::words::{Asked, Request, read_words};
 use std::alloc::{AllocError, Global};
@@ -22,6 +22,7 @@ use std::convert::AsStr;
 use std::io;
 use std::io::{ErrorKind, Read, Write};
 use upd_compile::CompileFile;
+use upd_streams::write_parts;
 use upd_text::Fault;
 
 /// Carries out the command line `words`, the program's own name first, and answers the exit status: 0 where all is

@@ -8,7 +8,10 @@ const MAX_CONNECTIONS: u32 = 1_000_000;
 
 /// A run number: 1 to 9 digits without a leading zero, or `0`, which the desk refuses. Another word is BadNumber, at 0.
 pub(crate) fn read_number(word: &str) -> Result<u64, Fault> {
-    upd_request::read_number(word.as_bytes()).ok_or(FaultKind::BadNumber.without_line())
+    match upd_streams::read_number(word.as_bytes()) {
+        Some(number) => Ok(u64::from(number)),
+        None => Err(FaultKind::BadNumber.without_line()),
+    }
 }
 
 /// The name of a deck. Another word is BadName, at 0.

@@ -3,11 +3,13 @@ ghost use Rattle.std.specs.Prelude.{◌≡◌, ◌≤◌, ◌⊎◌, ◌+◌, []
 ghost use Rattle.std.specs.Io.KnownBytes.{Appends, Consumes, IsAtEnd};
 ghost use Rattle.std.specs.List.{flat_map};
 ghost use Rattle.upd_cli.specs.Status.{no_memory, read_failed, write_failed};
-ghost use Rattle.upd_cli.specs.Streams.{AppendsFront, TakesFront};
+ghost use Rattle.upd_cli.specs.Streams.{TakesFront};
+ghost use Rattle.upd_streams.specs.Fronts.{AppendsFront};
 
 use std::alloc::{AllocError, Global};
 use std::io;
 use std::io::{ErrorKind, Read, Write};
+use upd_streams::write_parts;
 use upd_text::limits::MAX_RUN_BYTES;
 use upd_text::{Fault, FaultKind};
 
@@ -85,33 +87,4 @@ pub(crate) fn write_parts_out<W: Write>(output: &mut W, parts: &[&[u8]]) -> Resu
         Ok(()) => Ok(()),
         Err(_) => Err(FaultKind::Write.without_line()),
     }
-}
-
-/// Writes all parts, one after the other, and flushes. An error leaves at most a beginning of them.
-pub(crate) fn write_parts<W: Write>(output: &mut W, parts: &[&[u8]]) -> io::Result<()>
-    ensures ok { OnOk result (Appends (W.contents output.old) (W.contents output.new)
-        (flat_map (λ part. part.now) parts.now)) }
-    ensures front { AppendsFront (W.contents output.old) (W.contents output.new)
-        (flat_map (λ part. part.now) parts.now) }
-{
-    for part in parts {
-        write_part(output, part)?;
-    }
-    output.flush()
-}
-
-/// Writes all bytes. An error leaves at most a beginning of them.
-fn write_part<W: Write>(output: &mut W, bytes: &[u8]) -> io::Result<()>
-    ensures ok { OnOk result (Appends (W.contents output.old) (W.contents output.new) bytes.now) }
-    ensures front { AppendsFront (W.contents output.old) (W.contents output.new) bytes.now }
-{
-    let mut rest = bytes;
-    'output: while !rest.is_empty() {
-        match output.write(rest) {
-            Ok(0) => return Err(io::Error::from(ErrorKind::WriteZero)),
-            Ok(count) => rest = &rest[count..],
-            Err(error) => return Err(error),
-        }
-    }
-    Ok(())
 }

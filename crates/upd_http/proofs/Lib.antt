@@ -1,4 +1,3 @@
-pub mod WriteLemmas
 pub mod AskLemmas
 pub mod HeadLemmas
 pub mod AnswerLemmas

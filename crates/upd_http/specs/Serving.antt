@@ -1,5 +1,5 @@
 -- One request and its answer: what is asked of the desk, what it does, and what is written.
-use Rattle.std.specs.Prelude.{◌≡◌, ◌⊎◌, ℕ, IsTrue, List, [], ◌∷◌, ◌++◌, Option, Some, None, Result, Ok, Err, IfErr, IsErr}
+use Rattle.std.specs.Prelude.{◌≡◌, ◌⊎◌, ℕ, IsTrue, List, [], ◌∷◌, Option, Some, None, Result, Ok, Err, IfErr, IsErr}
 use Rattle.std.specs.Io.KnownBytes.{Appends}
 use Rattle.std.specs.Result.{result_map_both}
 use Rattle.upd_change.specs.Rows.{Rows}
@@ -15,6 +15,7 @@ use Rattle.upd_request.specs.Calls.{Asked, run, settle, compile, deck, card, ide
 use Rattle.upd_request.specs.Requests.{Says}
 use Rattle.upd_request.specs.declared.call.Refusal.{Refusal}
 use Rattle.upd_rows.specs.Keeping.{Keeps, MoreFailures}
+use Rattle.upd_streams.specs.Fronts.{AppendsFront}
 use Rattle.upd_text.specs.Faults.{fault_at}
 use Rattle.upd_text.specs.declared.fault.Fault.{Fault}
 use Rattle.upd_text.specs.declared.fault.FaultKind.TheVariants.{NoMemory, Store, Read, Write}
@@ -108,10 +109,6 @@ Answers input made answer =
     ⊎ ((made ≡ None) × IsFailed answer))
 
 -- ---- what is written
-
--- a beginning of these bytes was written, or all of them
-abbrev pub AppendsFront : Option (List ℕ) → Option (List ℕ) → List ℕ → Type 0
-AppendsFront old new bytes = (front : List ℕ) × (rest : List ℕ) × (bytes ≡ front ++ rest) × Appends old new front
 
 -- these bytes were written, or a beginning of them before a write failed
 abbrev pub Puts : {U : Type 0} → Result U Fault → Option (List ℕ) → Option (List ℕ) → List ℕ → Type 0

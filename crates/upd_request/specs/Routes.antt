@@ -6,11 +6,12 @@ use Rattle.matchit.specs.Route.{Scan, parse_route}
 use Rattle.matchit.specs.Router.{RouteOf, nearest, route_from}
 use Rattle.matchit.specs.Rows.{RowsOf}
 use Rattle.matchit.specs.Seek.{first}
+use Rattle.upd_streams.specs.Numbers.{number_of}
 use Rattle.upd_text.specs.declared.fault.FaultKind.TheVariants.{BadName, BadCard, BadNumber, BadSite, BadMode}
 use Rattle.upd_text.specs.Names.{card_of}
 use Rattle.upd_text.specs.Outcome.{◌>>=◌}
 use Rattle.upd_request.specs.Calls.{Asked, run, settle, compile, deck, card, idents, yanks}
-use Rattle.upd_request.specs.Parameters.{name_of, number_of, or_told, parameter, text_of}
+use Rattle.upd_request.specs.Parameters.{name_of, or_told, parameter, text_of}
 use Rattle.upd_request.specs.declared.call.Refusal.{Refusal}
 use Rattle.upd_request.specs.declared.call.Verb.{Verb}
 use Rattle.upd_request.specs.declared.call.Verb.TheVariants.{Get, Post}

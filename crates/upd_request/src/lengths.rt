@@ -1,12 +1,12 @@
 //! How long a body is.
 
 ghost use Rattle.std.specs.Prelude.{◌≡◌, ◌<◌, ◌≤◌, ◌+◌, ◌*◌, All, IsTrue, length, map};
-ghost use Rattle.std.specs.List.{list_all};
 ghost use Rattle.httparse.specs.Spans.{IsHeaderWithin, header_bytes};
-ghost use Rattle.upd_text.specs.Names.{is_digit, number_behind};
+ghost use Rattle.upd_text.specs.Names.{number_behind};
 ghost use Rattle.upd_request.specs.Lengths.{both_say, field_says, fields_say, is_named, length_said};
 
 use httparse::spans::HeaderSpan;
+use upd_streams::all_digits;
 use upd_text::limits::MAX_RUN_BYTES;
 
 /// What fields of a head say of the length of the body.
@@ -79,10 +79,4 @@ fn read_length(text: &[u8]) -> BodyLength
         }
     }
     BodyLength::Bytes(number)
-}
-
-pub(crate) fn all_digits(text: &[u8]) -> bool
-    ensures { result ≡ list_all is_digit text.now }
-{
-    text.iter().all(|byte| byte.is_ascii_digit())
 }

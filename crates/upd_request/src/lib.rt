@@ -12,6 +12,5 @@ mod request;
 mod routes;
 
 pub use call::{Call, Refusal, Verb};
-pub use parameters::read_number;
 pub use request::read_call;
 pub use routes::routes_are_plain;

@@ -1,17 +1,18 @@
 //! The parameters in a path.
 
-ghost use Rattle.std.specs.Prelude.{◌≡◌, ◌++◌, ◌∷◌, [], get_or, IfOk, IsTrue};
+ghost use Rattle.std.specs.Prelude.{◌≡◌, ◌++◌, ◌∷◌, [], get_or, IfOk};
 ghost use Rattle.std.specs.String.{string_bytes};
-ghost use Rattle.upd_text.specs.Names.{card_of, number_behind};
+ghost use Rattle.upd_streams.specs.Numbers.{number_of};
+ghost use Rattle.upd_text.specs.Names.{card_of};
 ghost use Rattle.upd_text.specs.declared.fault.FaultKind.TheVariants.{BadCard, BadName, BadNumber};
 ghost use Rattle.upd_request.specs.Calls.{Gives};
-ghost use Rattle.upd_request.specs.Parameters.{is_number, name_of, number_of, or_told, parameter, path_of};
+ghost use Rattle.upd_request.specs.Parameters.{name_of, or_told, parameter, path_of};
 ghost use Rattle.upd_request.specs.Parameters.{segments_of, text_of};
 
 use crate::call::Refusal;
-use crate::lengths::all_digits;
 use percent_encoding::{DecodeError, percent_decode_str};
 use std::alloc::{AllocError, Global};
+use upd_streams::read_number;
 use upd_text::{CardRef, FaultKind, Name};
 
 /// The path of a target: what stands before its query.
@@ -65,7 +66,7 @@ pub(crate) fn number_at(alloc: Global, path: &str, place: usize) -> Result<u64, 
 {
     let text = parameter(alloc, path, place)?;
     match read_number(&text) {
-        Some(number) => Ok(number),
+        Some(number) => Ok(u64::from(number)),
         None => Err(Refusal::of(FaultKind::BadNumber)),
     }
 }
@@ -99,33 +100,4 @@ pub(crate) fn card_at(
         Some(card) => Ok(card),
         None => Err(Refusal::of(FaultKind::BadCard)),
     }
-}
-
-/// Reads a number as a request and a command line write one: 1 to 9 digits without a leading zero, or `0` alone.
-pub fn read_number(text: &[u8]) -> Option<u64>
-    ensures { result ≡ number_of text.now }
-{
-    if is_number(text) {
-        Some(value_of(text))
-    } else {
-        None
-    }
-}
-
-fn is_number(text: &[u8]) -> bool
-    ensures { result ≡ is_number text.now }
-{
-    !text.is_empty() && text.len() <= 9 && all_digits(text) && (text.len() == 1 || text[0] != b'0')
-}
-
-/// The number that digits spell. It fits: there are 9 of them at most.
-fn value_of(digits: &[u8]) -> u64
-    requires { IsTrue (is_number digits.now) }
-    ensures { result ≡ number_behind 0 digits.now }
-{
-    let mut number = 0;
-    'digits: for digit in digits {
-        number = 10 * number + u64::from(digit - b'0');
-    }
-    number
 }

@@ -16,7 +16,8 @@ use Rattle.std.proofs.Math.Seq.{take-append_seam, drop-append-add}
 use Rattle.upd_text.specs.declared.limits.TheConstants.{MAX_RUN_BYTES}
 use Rattle.upd_text.specs.Names.{is_digit, number_behind}
 use Rattle.upd_spool.specs.declared.header.TheConstants.{MAX_HEADER_BYTES}
-use Rattle.upd_spool.specs.Header.{HeaderView, IsHeader, ◌>>=◌, cut, header_of, header_text, is_number, is_visible, is_word, number_of, size_of, where_true}
+use Rattle.upd_streams.specs.Numbers.{is_number, number_of}
+use Rattle.upd_spool.specs.Header.{HeaderView, IsHeader, ◌>>=◌, cut, header_of, header_text, is_visible, is_word, size_of, where_true}
 
 -- ---- words
 

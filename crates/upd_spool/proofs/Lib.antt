@@ -1,6 +1,5 @@
 pub mod HeaderLemmas
 pub mod FrameLemmas
-pub mod WriteLemmas
 pub mod ReadLemmas
 pub mod ArrivalLemmas
 pub mod SpoolLemmas

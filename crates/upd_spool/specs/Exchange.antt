@@ -1,6 +1,7 @@
 -- One frame: how its parts are read, and how it is answered.
 use Rattle.std.specs.Prelude.{◌≡◌, ℕ, ◌≤◌, ◌≢◌, Bool, true, false, IsTrue, List, [], ◌∷◌, ◌++◌, length, Option, Result, Ok, Err}
 use Rattle.std.specs.Io.KnownBytes.{Appends, Consumes, IsAtEnd}
+use Rattle.upd_streams.specs.Fronts.{AppendsFront}
 use Rattle.upd_text.specs.declared.fault.Fault.{Fault}
 use Rattle.upd_text.specs.declared.fault.FaultKind.{FaultKind}
 use Rattle.upd_text.specs.declared.fault.FaultKind.TheVariants.{NoMemory, Store, BadFrame, CutFrame, Read, Write}
@@ -41,10 +42,6 @@ StopsNothing Read taken = taken ≡ []
 StopsNothing _ taken = ⊥
 
 -- ---- answering
-
--- a beginning of these bytes was written, or all of them
-abbrev pub AppendsFront : Option (List ℕ) → Option (List ℕ) → List ℕ → Type 0
-AppendsFront output output' bytes = (front : List ℕ) × (rest : List ℕ) × (bytes ≡ front ++ rest) × Appends output output' front
 
 module _ {S : Type 0} {Image : Type 0} (is_honest is_open : S → Type 0) (image : S → Image) (shows : Image → Rows → Type 0)
     (may_leave : S → Image → Type 0) (failures : S → ℕ) where

@@ -1,12 +1,13 @@
 -- Headers of frames: how they are spelled, and how they are read.
-use Rattle.std.specs.Prelude.{ℕ, ◌<◌, ◌≤◌, ◌^◌, ◌==◌, nat_le, Bool, not, ◌&&◌, ◌||◌, if◌then◌else◌, IsTrue, List, ◌∷◌, ◌++◌, length, slice_index, codes}
-use Rattle.std.specs.Prelude.{decimal}
+use Rattle.std.specs.Prelude.{ℕ, ◌<◌, ◌≤◌, ◌^◌, ◌==◌, nat_le, Bool, ◌&&◌, if◌then◌else◌, IsTrue, List, ◌∷◌, ◌++◌, length, codes, decimal}
 use Rattle.std.specs.Prelude.{Option, Some, None}
 use Rattle.std.specs.List.{list_all, list_any, before_first, after_first}
 use Rattle.std.specs.Str.{bytes_eq}
-use Rattle.upd_text.specs.Names.{is_between, is_digit, number_behind}
+use Rattle.upd_streams.specs.Numbers.{number_of}
+use Rattle.upd_streams.specs.declared.numbers.TheConstants.{MAX_DIGITS}
+use Rattle.upd_text.specs.Names.{is_between}
 use Rattle.upd_text.specs.declared.limits.TheConstants.{MAX_RUN_BYTES}
-use Rattle.upd_spool.specs.declared.header.TheConstants.{MAX_HEADER_BYTES, MAX_DIGITS}
+use Rattle.upd_spool.specs.declared.header.TheConstants.{MAX_HEADER_BYTES}
 
 -- What a header says of a run: its site, its number, its mode as a word, and how many bytes it has.
 pub record HeaderView : Type 0 where
@@ -52,15 +53,6 @@ where_true passes x = if passes then Some x else None
 -- what stands before the first of a byte, and behind it
 abbrev pub cut : ℕ → List ℕ → Option (List ℕ × List ℕ)
 cut at text = where_true (list_any (λ b. b == at) text) (before_first (λ b. b == at) text, after_first (λ b. b == at) text)
-
--- 1 to 9 digits without a leading zero, or `0`
-abbrev pub is_number : List ℕ → Bool
-is_number digits =
-    is_between 1 MAX_DIGITS (length digits) && list_all is_digit digits && (not (slice_index digits 0 == 48) || (length digits == 1))
-
--- the number that digits spell
-abbrev pub number_of : List ℕ → Option ℕ
-number_of digits = where_true (is_number digits) (number_behind 0 digits)
 
 -- a number that may be the length of a run
 abbrev pub size_of : List ℕ → Option ℕ

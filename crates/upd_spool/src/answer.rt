@@ -5,18 +5,20 @@ ghost use Rattle.upd_desk.specs.Holding.{Arrives, is_lost};
 ghost use Rattle.upd_desk.specs.Outcomes.{ReplyView};
 ghost use Rattle.upd_reply.specs.Texts.{fault_text};
 ghost use Rattle.upd_rows.specs.Keeping.{MoreFailures};
-ghost use Rattle.upd_spool.specs.Exchange.{AppendsFront, Unanswered};
+ghost use Rattle.upd_spool.specs.Exchange.{Unanswered};
 ghost use Rattle.upd_spool.specs.Frames.{arrival_of};
 ghost use Rattle.upd_spool.specs.Spools.{GetsNoLine, answer_line, is_answered};
+ghost use Rattle.upd_streams.specs.Fronts.{AppendsFront};
 ghost use Rattle.upd_text.specs.declared.fault.Fault.{Fault};
 ghost use Rattle.upd_text.specs.declared.fault.FaultKind.TheVariants.{Store};
 
 use crate::header::Header;
 use std::alloc::Global;
 use std::io;
-use std::io::{ErrorKind, Write};
+use std::io::Write;
 use upd_desk::Desk;
 use upd_rows::RowStore;
+use upd_streams::write_parts;
 use upd_text::{Fault, FaultKind};
 
 /// Lets a run arrive, and writes the line that answers it. All memory is taken before the line is written.
@@ -91,23 +93,5 @@ fn write_line<W: Write>(writer: &mut W, text: &[u8]) -> io::Result<()>
     ensures ok { OnOk result (Appends (W.contents writer.old) (W.contents writer.new) (text.now ++ 10 ∷ [])) }
     ensures front { AppendsFront (W.contents writer.old) (W.contents writer.new) (text.now ++ 10 ∷ []) }
 {
-    write_bytes(writer, text)?;
-    write_bytes(writer, b"\n")?;
-    writer.flush()
-}
-
-/// Writes all bytes. An error leaves at most a beginning of them.
-fn write_bytes<W: Write>(writer: &mut W, bytes: &[u8]) -> io::Result<()>
-    ensures ok { OnOk result (Appends (W.contents writer.old) (W.contents writer.new) bytes.now) }
-    ensures front { AppendsFront (W.contents writer.old) (W.contents writer.new) bytes.now }
-{
-    let mut rest = bytes;
-    'bytes: while !rest.is_empty() {
-        match writer.write(rest) {
-            Ok(0) => return Err(io::Error::from(ErrorKind::WriteZero)),
-            Ok(count) => rest = &rest[count..],
-            Err(error) => return Err(error),
-        }
-    }
-    Ok(())
+    write_parts(writer, &[text, b"\n"])
 }

@@ -1,23 +1,20 @@
 //! The header of a frame.
 
-ghost use Rattle.std.specs.Prelude.{◌≡◌, ◌≤◌, List, ℕ, Some, length, true};
+ghost use Rattle.std.specs.Prelude.{◌≡◌, List, ℕ, Some};
 ghost use Rattle.std.specs.List.{list_all};
 ghost use Rattle.std.specs.Option.{option_map};
-ghost use Rattle.upd_spool.specs.Header.{IsHeader, HeaderView, cut, header_of, header_text, is_number, is_visible};
+ghost use Rattle.upd_spool.specs.Header.{IsHeader, HeaderView, cut, header_of, header_text, is_visible};
 ghost use Rattle.upd_spool.specs.Header.{is_word};
-ghost use Rattle.upd_spool.specs.Header.{number_of, size_of, where_true};
-ghost use Rattle.upd_text.specs.Names.{is_digit, number_behind};
+ghost use Rattle.upd_spool.specs.Header.{size_of, where_true};
 
 use std::marker::Model;
 use std::str;
+use upd_streams::read_number;
 use upd_text::limits::MAX_RUN_BYTES;
 use upd_text::line::split_once;
 
 /// The longest header, in bytes, without its LF.
 pub const MAX_HEADER_BYTES: usize = 63;
-
-/// The most digits of a number in a header.
-pub const MAX_DIGITS: usize = 9;
 
 /// What a frame's header says of its run. Site, number and mode are judged by the desk.
 #[derive(Debug, Drop)]
@@ -105,45 +102,6 @@ fn read_size(digits: &[u8]) -> Option<usize>
     } else {
         None
     }
-}
-
-/// The number that digits spell.
-fn read_number(digits: &[u8]) -> Option<u32>
-    ensures { result ≡ number_of digits.now }
-{
-    if is_number(digits) {
-        Some(value_of(digits))
-    } else {
-        None
-    }
-}
-
-fn is_number(digits: &[u8]) -> bool
-    ensures { result ≡ is_number digits.now }
-{
-    !digits.is_empty()
-        && digits.len() <= MAX_DIGITS
-        && all_digits(digits)
-        && (digits[0] != b'0' || digits.len() == 1)
-}
-
-fn all_digits(text: &[u8]) -> bool
-    ensures { result ≡ list_all is_digit text.now }
-{
-    text.iter().all(|byte| byte.is_ascii_digit())
-}
-
-/// The number that digits spell. It fits: there are 9 of them at most.
-fn value_of(digits: &[u8]) -> u32
-    requires short { length digits.now ≤ MAX_DIGITS }
-    requires digits { list_all is_digit digits.now ≡ true }
-    ensures { result ≡ number_behind 0 digits.now }
-{
-    let mut number = 0;
-    for digit in digits {
-        number = 10 * number + u32::from(digit - b'0');
-    }
-    number
 }
 
 /// A header is read from the one text that it is written as, and from no other.

@@ -1,9 +1,9 @@
-use Rattle.std.proofs.Common.{◌≡◌, ◌⊎◌, inl, inr, arith, ℕ, List, IfSome, codes, map, ap, sym, ◌∙◌, subst}
+use Rattle.std.proofs.Common.{◌≡◌, inl, inr, arith, ℕ, List, IfSome, codes, map, ap, sym, ◌∙◌, subst}
 use Rattle.clap.specs.Words.{Text}
 use Rattle.upd_compile.specs.Modes.{mode_named}
 use Rattle.upd_cli.specs.Command.{Answers, answer_to}
 use Rattle.upd_cli.specs.Trial.{trial_named}
-use Rattle.upd_cli.specs.Words.{IsAsked, command_word, operand_word}
+use Rattle.upd_cli.specs.Words.{IsAsked, operand_word}
 use Rattle.upd_cli.specs.declared.words.Request.TheVariants.{Trial, Library, Serve}
 use Rattle.upd_cli.proofs.CommandLemmas.{answered_at_once, answered_of_known}
 use Rattle.upd_cli.proofs.RequestLemmas.{begins_otherwise, none_of, of_library, serve_command, trial_command, trial_mode}

@@ -2,7 +2,7 @@ use Rattle.std.proofs.Common.{◌≡◌, ◌||◌, ◌<◌, ◌+◌, ◌++◌, [
 use Rattle.std.proofs.Math.Seq.{take-suc}
 use Rattle.std.proofs.lemmas.List.{map-append}
 use Rattle.clap.specs.Simple.{new_app}
-use Rattle.clap.specs.Words.{App, Rule, app_of, with_rule}
+use Rattle.clap.specs.Words.{Rule, with_rule}
 use Rattle.upd_cli.specs.Words.{command_shape, operand_rule}
 use Rattle.upd_cli.proofs.words.command.Goals as goal
 

@@ -1,6 +1,6 @@
 use Rattle.std.proofs.Common.{◌≡◌, ◌++◌, ℕ, List, length}
 use Rattle.std.specs.Io.KnownBytes.{Appends}
-use Rattle.upd_http.proofs.write.write_part.Given as goal
+use Rattle.upd_streams.proofs.writing.write_part.Given as goal
 
 abbrev pub invariant-output : goal.invariant-output
 invariant-output g l = (done : List ℕ) × (l.bytes ≡ done ++ l.rest) × Appends (g.W.Write.contents l.initial.writer) (g.W.Write.contents l.writer) done

@@ -1,6 +1,6 @@
 use Rattle.std.proofs.Common.{arith, ◌<◌, ◌≤◌, ◌^◌, ℕ, lit<}
 use Rattle.std.proofs.Math.Nat.{pow-le-pow_right}
-use Rattle.upd_spool.proofs.header.value_of.Goals as goal
+use Rattle.upd_streams.proofs.numbers.value_of.Goals as goal
 
 below : (i n : ℕ) → i < 9 → n < 10 ^ i → n < 100000000
 below i n h p = let most : 10 ^ i ≤ 10 ^ 8 = pow-le-pow_right {n = 10} (lit< tt) {i = i} {j = 8} (omega arith) in omega arith

@@ -1,7 +1,7 @@
 use Rattle.std.proofs.Common.{◌++◌, take}
 use Rattle.std.proofs.KnownBytes.{Appends-trans}
-use Rattle.upd_http.proofs.WriteLemmas.{front_further}
-use Rattle.upd_http.proofs.write.write_part.Goals as goal
+use Rattle.upd_streams.proofs.FrontLemmas.{front_further}
+use Rattle.upd_streams.proofs.writing.write_part.Goals as goal
 
 pub output-preserved : goal.output-preserved
 output-preserved g c =

@@ -1,5 +1,5 @@
-use Rattle.upd_cli.proofs.StreamLemmas.{front_of_parts}
-use Rattle.upd_cli.proofs.streams.write_parts.Goals as goal
+use Rattle.upd_streams.proofs.FrontLemmas.{front_of_parts}
+use Rattle.upd_streams.proofs.writing.write_parts.Goals as goal
 
 pub returns-in_err-write_part-clause-front : goal.returns-in_err-write_part-clause-front
 returns-in_err-write_part-clause-front g c =

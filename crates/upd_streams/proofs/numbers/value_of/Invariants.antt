@@ -1,6 +1,6 @@
 use Rattle.std.proofs.Common.{◌≡◌, ◌<◌, ◌^◌, drop}
 use Rattle.upd_text.specs.Names.{number_behind}
-use Rattle.upd_spool.proofs.header.value_of.Given as goal
+use Rattle.upd_streams.proofs.numbers.value_of.Given as goal
 
 abbrev pub invariant-loop-digit : goal.invariant-loop-digit
 invariant-loop-digit l =

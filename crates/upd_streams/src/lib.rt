@@ -1,0 +1,8 @@
+//! What all wires of the desk do alike: parts are written until a write fails, and numbers are read from digits.
+#![tactic(auto)]
+
+pub mod numbers;
+pub mod writing;
+
+pub use numbers::{all_digits, read_number};
+pub use writing::write_parts;
