@@ -1,0 +1,124 @@
+#!/usr/bin/env python3
+"""Holds the sessions that stand in documents against the executable: each command is typed again, and must answer what stands there.
+
+    python3 bench/sessions.py [--executable FILE] [--write] DOCUMENT..
+
+A session is a fenced block whose first line begins with `$ `: a command, up to the end of its here-document if it has one; what follows, up to the next
+command, is what it writes to both streams. Blanks are held as one, and so is ` .. `, which stands for blanks that are left out. All sessions of a document are
+one shell in a new folder, with the executable (crates/upd/out/upd where none is named) on the path as `upd`. A block whose first line names files `1.run`,
+`2.run`, .. at the heads of columns gives these files. --write puts what was answered in the place of what stands there; read it before you keep it. The exit
+status is 1 where an answer differs.
+"""
+
+import argparse
+import os
+import re
+import subprocess
+import sys
+import tempfile
+from pathlib import Path
+
+HERE = Path(__file__).resolve().parent.parent
+MARK = "@@ end of answer"
+
+
+def blocks(lines):
+    """The fenced blocks: (index of the first line inside, index of the closing fence)."""
+    start = None
+    for at, line in enumerate(lines):
+        if line.startswith("```"):
+            if start is None:
+                start = at + 1
+            else:
+                yield start, at
+                start = None
+
+
+def commands(lines, start, end):
+    """The commands of a session, each with the range of lines that it is answered with."""
+    at = start
+    while at < end:
+        first = at
+        heredoc = re.search(r"<<'?(\w+)'?", lines[at])
+        at += 1
+        if heredoc:
+            while lines[at] != heredoc.group(1):
+                at += 1
+            at += 1
+        answer = at
+        while at < end and not lines[at].startswith("$ "):
+            at += 1
+        yield "\n".join([lines[first][2:]] + lines[first + 1:answer]), answer, at
+
+
+def files(lines, start, end):
+    """The files that stand side by side in a block, whose names head their columns."""
+    heads = [(m.group(), m.start()) for m in re.finditer(r"\S+\.run", lines[start])]
+    found = {}
+    for place, (name, left) in enumerate(heads):
+        right = heads[place + 1][1] if place + 1 < len(heads) else None
+        column = [line[left:right].rstrip() for line in lines[start + 1:end]]
+        found[name] = "".join(text + "\n" for text in column if text)
+    return found
+
+
+def answers(typed, folder, executable):
+    """What each command writes, in one shell."""
+    script = "".join(f"{command}\nsleep 0.2\nprintf '\\n%s\\n' '{MARK}'\n" for command in typed)
+    path = f"{Path(executable).resolve().parent}:{os.environ['PATH']}"
+    shell = subprocess.run(["bash", "-c", script], cwd=folder, env=dict(os.environ, PATH=path), stdin=subprocess.DEVNULL,
+                           stdout=subprocess.PIPE, stderr=subprocess.STDOUT, timeout=120)
+    parts = shell.stdout.decode().split(f"\n{MARK}\n")
+    return [part.rstrip("\n").split("\n") if part.strip("\n") else [] for part in parts[:-1]]
+
+
+def plain(line):
+    """A line with its blanks as one."""
+    return re.sub(r" +(\.\. +)?", " ", line.replace("\r", ""))
+
+
+def shortened(line):
+    """A line whose compile lines have most of their blanks left out."""
+    return re.sub(r" {9,}(\S+?) +(\d)", r" .. \1 \2", line.replace("\r", ""))
+
+
+def held(document, executable, write):
+    """Whether each answer is the one that stands in the document."""
+    lines = Path(document).read_text().split("\n")
+    sessions, typed = [], []
+    with tempfile.TemporaryDirectory() as folder:
+        for start, end in blocks(lines):
+            if re.match(r"\S+\.run\s", lines[start]):
+                for name, text in files(lines, start, end).items():
+                    (Path(folder) / name).write_text(text)
+            elif lines[start].startswith("$ ") and "cat insert.run" not in lines[start]:
+                sessions += list(commands(lines, start, end))
+        typed = [command for command, _, _ in sessions]
+        given = answers(typed, folder, executable)
+    same = len(given) == len(typed)
+    for (command, start, end), answer in reversed(list(zip(sessions, given))):
+        expected = lines[start:end]
+        if list(map(plain, expected)) == list(map(plain, answer)):
+            continue
+        same = False
+        if write:
+            lines[start:end] = map(shortened, answer)
+        else:
+            print(f"{document}:{start}: $ {command}", *(f"- {e}" for e in expected), *(f"+ {a}" for a in answer), sep="\n")
+    if write:
+        Path(document).write_text("\n".join(lines))
+    print(f"{document}: {len(given)} of {len(typed)} commands typed, {'all answered as it says' if same else 'not as it says'}")
+    return same
+
+
+def main():
+    parser = argparse.ArgumentParser(description=__doc__.splitlines()[0])
+    parser.add_argument("--executable", default=HERE / "crates/upd/out/upd")
+    parser.add_argument("--write", action="store_true")
+    parser.add_argument("documents", nargs="+", metavar="DOCUMENT")
+    given = parser.parse_args()
+    sys.exit(not all([held(document, given.executable, given.write) for document in given.documents]))
+
+
+if __name__ == "__main__":
+    main()
