@@ -9,7 +9,6 @@ requests to a library of 500 cards, of spools of 10,000 runs, of a run on a full
 
 import argparse
 import json
-import os
 import resource
 import socket
 import subprocess
@@ -47,8 +46,7 @@ class Server:
         return self
 
     def seconds(self):
-        fields = Path(f"/proc/{self.process.pid}/stat").read_text().rsplit(")", 1)[1].split()
-        return (int(fields[11]) + int(fields[12])) / os.sysconf("SC_CLK_TCK")
+        return int(Path(f"/proc/{self.process.pid}/schedstat").read_text().split()[0]) / 1e9
 
     def __exit__(self, *_):
         try:
@@ -238,7 +236,7 @@ def try_times(upd, folder):
         else:
             within(f"a frame on {what}", taken / 10_000, budget)
 
-    try_full(upd, folder)
+    try_large(upd, folder)
 
 
 def spooled(upd, file, site, runs):
@@ -249,15 +247,55 @@ def spooled(upd, file, site, runs):
     return taken
 
 
-def try_full(upd, folder):
-    """A library of some 49,900 cards with some 192,000 entries."""
-    file = folder / "full.db"
+def large_library(upd, file):
+    """25 decks of 1,996 cards with some 198,000 entries in all; a full compile file has some 9,000 lines."""
     subprocess.run([upd, "init", file], check=True)
     spooled(upd, file, b"DECKS", [b"*DECK D%d\n" % k + b"".join(b"LINE %d\n" % n for n in range(1995)) for k in range(25)])
-    spooled(upd, file, b"HIST", [b"*IDENT H%d\n" % k + b"".join(b"*DELETE D%d.2,D%d.1900\n" % (d, d) for d in range(25)) for k in range(3)])
-    one = spooled(upd, file, b"ONE", [b"*IDENT ONE\n*INSERT D1.2\nX\n"])
-    more = spooled(upd, file, b"MORE", [b"*IDENT S%d\n*INSERT D1.2\nX\n" % k for k in range(6)])
-    within("a run of three lines on a full library", (more - one) / 5, 0.6)
+    deleted = [1640, 1640, 1640, 1000]
+    spooled(upd, file, b"HIST", [b"*IDENT H%d\n" % k + b"".join(b"*DELETE D%d.2,D%d.%d\n" % (d, d, last) for d in range(25)) for k, last in enumerate(deleted)])
+
+
+def small_library(upd, file):
+    """10 decks of 50 cards."""
+    subprocess.run([upd, "init", file], check=True)
+    spooled(upd, file, b"DECKS", [b"*DECK D%d\n" % k + b"".join(b"LINE %d\n" % n for n in range(49)) for k in range(10)])
+
+
+# a run as it is told, its mode, its text with a number of its own, and its budget on the large library
+RUNS = [
+    ("a plain quick run on one deck", "quick", "*IDENT Q%d\n*DELETE D2.3\nX\n", 0.06),
+    ("a plain quick run that names the deck to compile", "quick", "*IDENT C%d\n*DELETE D2.3\nX\n*COMPILE D2\n", None),
+    ("a plain normal run on one deck", "normal", "*IDENT N%d\n*DELETE D2.3\nX\n", None),
+    ("a full run", "full", "*IDENT F%d\n*DELETE D2.3\nX\n", None),
+    ("a yank", "quick", "*IDENT Y%d\n*YANK Q1\n", None),
+]
+
+
+def try_large(upd, folder, times=5):
+    """Runs on a large library beside the same on a small one, the desk open: processor time of one."""
+    taken = {}
+    for size, make in [("small", small_library), ("large", large_library)]:
+        file = folder / f"{size}.db"
+        make(upd, file)
+        with Server(upd, file, times * (len(RUNS) + 1)) as server:
+            for case, (what, mode, run, _) in enumerate(RUNS):
+                before = server.seconds()
+                answers = []
+                for n in range(1, times + 1):
+                    body = (run % n).encode()
+                    answers.append(exchange(b"POST /sites/T%d/runs/%d/%s HTTP/1.1\r\nContent-Length: %d\r\n\r\n" % (case, n, mode.encode(), len(body)) + body))
+                taken[size, what] = (server.seconds() - before) / times
+                told(f"{what}, {size} library", {status(answer) for answer in answers}, {"HTTP/1.1 200 OK"})
+            before = server.seconds()
+            for n in range(times):
+                exchange(b"GET /idents HTTP/1.1\r\n\r\n")
+            taken[size, "idents"] = (server.seconds() - before) / times
+    for what, _, _, budget in RUNS + [("idents", None, None, None)]:
+        beside = f"{what}, large library (on 500 cards {1000 * taken['small', what]:.2f} ms)"
+        if budget is None:
+            print(f"    {beside}: {1000 * taken['large', what]:.1f} ms of processor time")
+        else:
+            within(beside, taken["large", what], budget)
 
 
 def main():
