@@ -3,3 +3,5 @@ pub mod TrialLemmas
 pub mod CommandLemmas
 pub mod WordLemmas
 pub mod RequestLemmas
+pub mod TellingLemmas
+pub mod AskingLemmas

@@ -5,3 +5,5 @@ pub mod Trial
 pub mod Command
 pub mod Inputs
 pub mod Running
+pub mod Telling
+pub mod Errands

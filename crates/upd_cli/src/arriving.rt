@@ -1,7 +1,11 @@
 //! Commands that change a library: runs that arrive, and settlements.
-ghost use Rattle.std.specs.Prelude.{◌≡◌, ◌⊎◌, ◌+◌, IfErr, IfOk};
+ghost use Rattle.std.specs.Prelude.{◌≡◌, ◌⊎◌, ◌+◌, ◌∷◌, ◌++◌, [], false, Err, IfErr, IfOk, Ok};
+ghost use Rattle.upd_cli.specs.Errands.{HandsIn, SettlesSite};
 ghost use Rattle.upd_cli.specs.Status.{exit_status};
 ghost use Rattle.upd_cli.specs.Streams.{TakesFront};
+ghost use Rattle.upd_cli.specs.Telling.{IsUntold, TellsMark, TellsRun, Writes};
+ghost use Rattle.upd_desk.specs.Holding.{is_lost};
+ghost use Rattle.upd_reply.specs.Texts.{fault_text};
 ghost use Rattle.upd_text.specs.declared.limits.TheConstants.{MAX_RUN_BYTES};
 
 use crate::status::{DONE, REFUSED};
@@ -24,34 +28,63 @@ pub(crate) fn hand_in<S: RowStore, R: Read, W: Write>(
     input: &mut R,
     output: &mut W,
 ) -> Result<u8, Fault>
+    ensures tells { HandsIn S.is_honest S.is_open S.image S.shows S.may_leave S.failures_of site.now number mode.now
+        (R.remaining input.old) result desk.old.store desk.new.store (W.contents output.old) (W.contents output.new) }
     ensures front { TakesFront (MAX_RUN_BYTES + 1) (R.remaining input.old) (R.remaining input.new) }
     ensures status { IfOk result (λ status. (status ≡ 0) ⊎ (status ≡ 1)) }
 {
-    let run = read_input(alloc, input)?;
-    let status = match desk.arrive(alloc, site, number, mode, &run) {
-        Ok(reply) => tell(&reply, output)?,
-        Err(fault) => tell_fault(alloc, fault, output)?,
+    let run = match read_input(alloc, input) {
+        Ok(run) => run,
+        Err(fault) => return Err(fault),
     };
-    Ok(status)
+    match desk.arrive(alloc, site, number, mode, &run) {
+        Ok(reply) => tell(&reply, output),
+        Err(fault) => tell_fault(alloc, fault, output),
+    }
 }
 
 fn tell<W: Write>(reply: &Reply, output: &mut W) -> Result<u8, Fault>
-    ensures { IfOk result (λ status. (status ≡ 0) ⊎ (status ≡ 1)) }
+    ensures tells { TellsRun (Ok reply.now) result (W.contents output.old) (W.contents output.new) }
+    ensures status { IfOk result (λ status. (status ≡ 0) ⊎ (status ≡ 1)) }
 {
-    write_parts_out(output, &[&reply.text, b"\n"])?;
-    Ok(if reply.accepted { DONE } else { REFUSED })
+    if reply.accepted {
+        write_line(output, &reply.text, DONE)
+    } else {
+        write_line(output, &reply.text, REFUSED)
+    }
 }
 
 fn tell_fault<W: Write>(alloc: Global, fault: Fault, output: &mut W) -> Result<u8, Fault>
-    ensures { IfOk result (λ status. (status ≡ 0) ⊎ (status ≡ 1)) }
+    ensures tells { TellsRun (Err fault) result (W.contents output.old) (W.contents output.new) }
+    ensures status { IfOk result (λ status. (status ≡ 0) ⊎ (status ≡ 1)) }
+{
+    match told_text(alloc, fault) {
+        Ok(text) => write_line(output, &text, REFUSED),
+        Err(untold) => Err(untold),
+    }
+}
+
+/// The text of a fault that leaves a run answered; or the fault, where the run was lost.
+fn told_text(alloc: Global, fault: Fault) -> Result<Vec<u8>, Fault>
+    ensures ok { IfOk result (λ text. (is_lost fault.kind ≡ false) × (text.items ≡ fault_text fault)) }
+    ensures err { IfErr result (IsUntold (Err fault)) }
 {
     match fault.kind {
         FaultKind::NoMemory | FaultKind::Store => Err(fault),
-        _ => {
-            let text = upd_reply::fault(alloc, fault)?;
-            write_parts_out(output, &[&text, b"\n"])?;
-            Ok(REFUSED)
-        }
+        _ => match upd_reply::fault(alloc, fault) {
+            Ok(text) => Ok(text),
+            Err(_) => Err(FaultKind::NoMemory.without_line()),
+        },
+    }
+}
+
+/// Writes a text and LF, and answers the exit status that is given.
+fn write_line<W: Write>(output: &mut W, text: &[u8], status: u8) -> Result<u8, Fault>
+    ensures { Writes status (text.now ++ 10 ∷ []) result (W.contents output.old) (W.contents output.new) }
+{
+    match write_parts_out(output, &[text, b"\n"]) {
+        Ok(()) => Ok(status),
+        Err(fault) => Err(fault),
     }
 }
 
@@ -64,11 +97,23 @@ pub(crate) fn settle<S: RowStore, W: Write>(
     number: u64,
     output: &mut W,
 ) -> Result<u8, Fault>
+    ensures tells { SettlesSite S.is_honest S.is_open S.image S.shows S.may_leave S.failures_of site.now number
+        result desk.old.store desk.new.store (W.contents output.old) (W.contents output.new) }
     ensures status { IfOk result (λ status. status ≡ 0) }
     ensures silent { IfErr result (λ fault. exit_status fault.kind ≡ 1 → output.new ≡ output.old) }
 {
-    let mark = desk.settle_site(alloc, site, number)?;
-    // The site is of A-Z and 0-9, or it would have been refused.
+    match desk.settle_site(alloc, site, number) {
+        Ok(mark) => write_mark(output, site, mark),
+        Err(fault) => Err(fault),
+    }
+}
+
+/// Writes the text of a mark, and LF. A site stands in it as it is: it is of A-Z and 0-9.
+fn write_mark<W: Write>(output: &mut W, site: &str, mark: u64) -> Result<u8, Fault>
+    ensures tells { TellsMark site.now (Ok mark) result (W.contents output.old) (W.contents output.new) }
+    ensures status { IfOk result (λ status. status ≡ 0) }
+    ensures silent { IfErr result (λ fault. exit_status fault.kind ≡ 1 → output.new ≡ output.old) }
+{
     let mut digits = Buffer::new();
     let parts: [&[u8]; 5] = [
         b"{\"settled\":",
@@ -77,6 +122,8 @@ pub(crate) fn settle<S: RowStore, W: Write>(
         site.as_bytes(),
         b"\"}\n",
     ];
-    write_parts_out(output, &parts)?;
-    Ok(DONE)
+    match write_parts_out(output, &parts) {
+        Ok(()) => Ok(DONE),
+        Err(fault) => Err(fault),
+    }
 }

@@ -1,5 +1,13 @@
 //! Commands that ask: the compile file and the listings.
+ghost use Rattle.std.specs.Prelude.{◌≡◌, IfErr, IfOk};
+ghost use Rattle.std.specs.Result.{result_map_both};
+ghost use Rattle.upd_cli.specs.Errands.{Asks, IsAnswered};
+ghost use Rattle.upd_cli.specs.Status.{exit_status};
+
+use crate::status::DONE;
+use crate::streams::write_out;
 use std::alloc::Global;
+use std::io::Write;
 use upd_core::{CardRef, Name};
 use upd_desk::Desk;
 use upd_rows::RowStore;
@@ -15,17 +23,41 @@ pub(crate) enum Question {
     Yanks,
 }
 
-/// The text that answers a question. Nothing is changed.
-pub(crate) fn ask<S: RowStore>(
+/// The text that answers a question goes to the output. Nothing is changed.
+pub(crate) fn inquire<S: RowStore, W: Write>(
     alloc: Global,
     desk: &mut Desk<S>,
     question: &Question,
-) -> Result<Vec<u8>, Fault> {
+    output: &mut W,
+) -> Result<u8, Fault>
+    ensures asks { Asks S.is_honest S.is_open S.image S.shows S.may_leave S.failures_of question.now
+        result desk.old.store desk.new.store (W.contents output.old) (W.contents output.new) }
+    ensures status { IfOk result (λ status. status ≡ 0) }
+    ensures silent { IfErr result (λ fault. exit_status fault.kind ≡ 1 → output.new ≡ output.old) }
+{
+    match ask(alloc, desk, question) {
+        Ok(text) => match write_out(output, &text) {
+            Ok(()) => Ok(DONE),
+            Err(fault) => Err(fault),
+        },
+        Err(fault) => Err(fault),
+    }
+}
+
+/// The text that answers a question. Nothing is changed.
+fn ask<S: RowStore>(
+    alloc: Global,
+    desk: &mut Desk<S>,
+    question: &Question,
+) -> Result<Vec<u8>, Fault>
+    ensures { IsAnswered S.is_honest S.is_open S.image S.shows S.may_leave S.failures_of question.now
+        (result_map_both (λ text. text.items) (λ fault. fault) result) desk.old.store desk.new.store }
+{
     match question {
-        Question::Compile => {
-            let file = desk.full_compile(alloc)?;
-            Ok(file.bytes)
-        }
+        Question::Compile => match desk.full_compile(alloc) {
+            Ok(file) => Ok(file.bytes),
+            Err(fault) => Err(fault),
+        },
         Question::Deck(name) => desk.deck_list(alloc, name),
         Question::Card(card) => desk.card_list(alloc, *card),
         Question::Idents => desk.ident_list(alloc),

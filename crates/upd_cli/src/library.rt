@@ -6,10 +6,9 @@ ghost use Rattle.upd_cli.specs.Streams.{TakesFront};
 ghost use Rattle.upd_text.specs.declared.limits.TheConstants.{MAX_RUN_BYTES};
 
 use crate::arriving::{hand_in, settle};
-use crate::asking::{Question, ask};
+use crate::asking::{Question, inquire};
 use crate::operands::{read_card, read_deck, read_number};
 use crate::status::DONE;
-use crate::streams::write_out;
 use crate::words::Asked;
 use sqlite_disk::Unknown;
 use std::io::{Read, Write};
@@ -118,10 +117,9 @@ fn answer<W: Write>(
     ensures silent { IfErr result (λ fault. exit_status fault.kind ≡ 1 → output.new ≡ output.old) }
 {
     let mut desk = open_desk(rt, file)?;
-    let text = ask(rt.alloc(), &mut desk, question);
+    let ended = inquire(rt.alloc(), &mut desk, question, output);
     close_desk(desk);
-    write_out(output, &text?)?;
-    Ok(DONE)
+    ended
 }
 
 fn open_desk(rt: &HostRuntime, file: &str) -> Result<FileDesk, Fault> {

@@ -1,0 +1,61 @@
+-- What commands do at a desk: what they ask, what the desk answers, and how that is told.
+use Rattle.std.specs.Prelude.{◌≡◌, ◌⊎◌, ℕ, ◌+◌, List, [], Option, Result, Ok, IfSome, IsErrAnd, take}
+use Rattle.std.specs.Io.KnownBytes.{Appends}
+use Rattle.std.specs.Result.{result_map_both}
+use Rattle.upd_text.specs.declared.fault.Fault.{Fault}
+use Rattle.upd_text.specs.declared.limits.TheConstants.{MAX_RUN_BYTES}
+use Rattle.upd_core.specs.Library.{LibraryView}
+use Rattle.upd_change.specs.Rows.{Rows}
+use Rattle.upd_rows.specs.Keeping.{Keeps}
+use Rattle.upd_compile.specs.File.{compile_file_of}
+use Rattle.upd_compile.specs.Listings.{card_listing, deck_listing, ident_listing, yank_listing}
+use Rattle.upd_compile.specs.declared.mode.Mode.TheVariants as mode
+use Rattle.upd_desk.specs.Holding.{Arrives, Settles, Tells}
+use Rattle.upd_desk.specs.Outcomes.{ReplyView}
+use Rattle.upd_http.specs.Serving.{CountsFailure}
+use Rattle.upd_cli.specs.Status.{no_memory, read_failed}
+use Rattle.upd_cli.specs.Telling.{TellsMark, TellsRun, TellsText}
+use Rattle.upd_cli.specs.declared.asking.Question.{Question}
+use Rattle.upd_cli.specs.declared.asking.Question.TheVariants.{Compile, Deck, Card, Idents, Yanks}
+
+-- what a question is answered of a library
+abbrev pub text_of : Question → LibraryView → Result (List ℕ) Fault
+text_of Compile l = result_map_both (λ file. file.bytes) (λ fault. fault) (compile_file_of mode.Full [] l l)
+text_of (Deck name) l = deck_listing name l
+text_of (Card card) l = card_listing card l
+text_of Idents l = Ok (ident_listing l)
+text_of Yanks l = Ok (yank_listing l)
+
+-- The bytes of the run on an input: all, or so many that they tell that the run is too long. Nothing is said of an input that isn't known.
+abbrev pub IsRunOf : Option (List ℕ) → List ℕ → Type 0
+IsRunOf input bytes = IfSome input (λ all. bytes ≡ take (MAX_RUN_BYTES + 1) all)
+
+-- the input can't be read, or there is no memory for it
+abbrev pub IsUnread : Result ℕ Fault → Type 0
+IsUnread result = IsErrAnd result (λ fault. (fault ≡ no_memory) ⊎ (fault ≡ read_failed))
+
+module _ {S : Type 0} {Image : Type 0} (is_honest is_open : S → Type 0) (image : S → Image) (shows : Image → Rows → Type 0)
+    (may_leave : S → Image → Type 0) (failures : S → ℕ) where
+  -- The run on the input arrived, and its answer was told; or the input wasn't read, and nothing was asked or told.
+  abbrev pub HandsIn : List ℕ → ℕ → List ℕ → Option (List ℕ) → Result ℕ Fault → S → S → Option (List ℕ) → Option (List ℕ) → Type 0
+  HandsIn site number mode input result old new output output' =
+      ((bytes : List ℕ) × (answer : Result ReplyView Fault) × IsRunOf input bytes
+      × Arrives is_honest is_open image shows may_leave failures (record { site = site; number = number; mode = mode; bytes = bytes }) answer old new
+      × CountsFailure is_honest is_open image shows may_leave failures answer old new × TellsRun answer result output output')
+      ⊎ ((new ≡ old) × IsUnread result × Appends output output' [])
+
+  -- a site was settled, and its mark was told
+  abbrev pub SettlesSite : List ℕ → ℕ → Result ℕ Fault → S → S → Option (List ℕ) → Option (List ℕ) → Type 0
+  SettlesSite site number result old new output output' =
+      (answer : Result ℕ Fault) × Settles is_honest is_open image shows may_leave failures site number answer old new
+      × CountsFailure is_honest is_open image shows may_leave failures answer old new × TellsMark site answer result output output'
+
+  -- a question was answered, and nothing is changed
+  pub record IsAnswered (question : Question) (answer : Result (List ℕ) Fault) (old new : S) : Type 0 where
+    pub tells : Tells is_honest is_open image shows may_leave failures (text_of question) answer old new
+    pub same : Keeps is_honest is_open image shows may_leave failures old new
+    pub counts : CountsFailure is_honest is_open image shows may_leave failures answer old new
+
+  -- a question was answered, and the answer was told
+  abbrev pub Asks : Question → Result ℕ Fault → S → S → Option (List ℕ) → Option (List ℕ) → Type 0
+  Asks question result old new output output' = (answer : Result (List ℕ) Fault) × IsAnswered question answer old new × TellsText answer result output output'

@@ -1,0 +1,43 @@
+-- How an answer of the desk is told: by its bytes on the output and an exit status, or by a fault that the caller puts on the fault stream.
+use Rattle.std.specs.Prelude.{◌≡◌, ◌⊎◌, ℕ, true, false, if◌then◌else◌, IsTrue, List, [], ◌∷◌, ◌++◌, Option, Result, Ok, Err, IsErrAnd}
+use Rattle.std.specs.Io.KnownBytes.{Appends}
+use Rattle.upd_text.specs.declared.fault.Fault.{Fault}
+use Rattle.upd_reply.specs.Texts.{settled_text}
+use Rattle.upd_desk.specs.Arrivals.{is_site}
+use Rattle.upd_desk.specs.Holding.{is_lost}
+use Rattle.upd_desk.specs.Outcomes.{ReplyView}
+use Rattle.upd_spool.specs.Spools.{answer_line, is_answered}
+use Rattle.upd_streams.specs.Fronts.{AppendsFront}
+use Rattle.upd_cli.specs.Status.{no_memory, write_failed}
+
+-- These bytes went to the output, and the command ends with this status; or the write failed, and at most a beginning of them is there.
+abbrev pub Writes : ℕ → List ℕ → Result ℕ Fault → Option (List ℕ) → Option (List ℕ) → Type 0
+Writes meant bytes (Ok status) output output' = (status ≡ meant) × Appends output output' bytes
+Writes meant bytes (Err fault) output output' = (fault ≡ write_failed) × AppendsFront output output' bytes
+
+-- the exit status of a run that was answered: 0 where it is accepted, and 1 where it is refused
+abbrev pub run_status : Result ReplyView Fault → ℕ
+run_status (Ok reply) = if reply.accepted then 0 else 1
+run_status (Err fault) = 1
+
+-- why the answer to a run is not told: the run was lost, or there was no memory for the text of its fault
+abbrev pub IsUntold : Result ReplyView Fault → Fault → Type 0
+IsUntold (Ok reply) fault = ⊥
+IsUntold (Err told) fault = ((is_lost told.kind ≡ true) × (fault ≡ told)) ⊎ ((is_lost told.kind ≡ false) × (fault ≡ no_memory))
+
+-- a run's reply, or the fault that refused it at the door, is told by its line; or nothing is told
+abbrev pub TellsRun : Result ReplyView Fault → Result ℕ Fault → Option (List ℕ) → Option (List ℕ) → Type 0
+TellsRun answer result output output' =
+    (IsTrue (is_answered answer) × Writes (run_status answer) (answer_line answer) result output output')
+    ⊎ (IsErrAnd result (IsUntold answer) × Appends output output' [])
+
+-- a site's mark is told by its line, as far as the site is one: of another the desk has no mark
+abbrev pub TellsMark : List ℕ → Result ℕ Fault → Result ℕ Fault → Option (List ℕ) → Option (List ℕ) → Type 0
+TellsMark site (Ok mark) result output output' =
+    (line : List ℕ) × (IsTrue (is_site site) → line ≡ settled_text site mark ++ 10 ∷ []) × Writes 0 line result output output'
+TellsMark site (Err fault) result output output' = (result ≡ Err fault) × Appends output output' []
+
+-- a compile file or a listing is told as it is
+abbrev pub TellsText : Result (List ℕ) Fault → Result ℕ Fault → Option (List ℕ) → Option (List ℕ) → Type 0
+TellsText (Ok text) result output output' = Writes 0 text result output output'
+TellsText (Err fault) result output output' = (result ≡ Err fault) × Appends output output' []
