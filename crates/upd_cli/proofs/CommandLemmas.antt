@@ -1,5 +1,5 @@
 -- A command that ended so, and is told so, has answered what is defined.
-use Rattle.std.proofs.Common.{◌≡◌, inl, inr, ℕ, List, [], Option, Some, None, Result, Ok, Err, IfSome, refl, ap, sym, ◌∙◌, subst}
+use Rattle.std.proofs.Common.{◌≡◌, inl, inr, ℕ, List, [], Option, Some, None, Result, Ok, Err, IsErrAnd, IfSome, refl, ap, sym, ◌∙◌, subst}
 use Rattle.std.specs.Io.KnownBytes.{Appends}
 use Rattle.std.proofs.KnownBytes.{Appends-nil}
 use Rattle.upd_text.specs.declared.fault.Fault.{Fault}
@@ -9,6 +9,11 @@ use Rattle.upd_compile.specs.File.{FileView}
 use Rattle.upd_cli.specs.Command.{Answers, Ends, IsEnd, LeavesOutput, answer_to}
 use Rattle.upd_cli.specs.Status.{exit_status, fault_line, no_memory}
 use Rattle.upd_streams.proofs.FrontLemmas.{front_all}
+
+-- a result that is this error
+pub error_is : {T : Type 0} (result : Result T Fault) (fault : Fault) → IsErrAnd result (λ e. e ≡ fault) → result ≡ Err fault
+error_is (Ok x) fault is = absurd is
+error_is (Err e) fault is = ap Err is
 
 -- nothing may be left by any fault
 pub nothing_left : (kind : FaultKind) (output output' : Option (List ℕ)) (bytes : List ℕ) → Appends output output' [] → LeavesOutput kind output output' bytes

@@ -5,3 +5,4 @@ pub mod WordLemmas
 pub mod RequestLemmas
 pub mod TellingLemmas
 pub mod AskingLemmas
+pub mod LeavingLemmas

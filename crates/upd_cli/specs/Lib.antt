@@ -7,3 +7,4 @@ pub mod Inputs
 pub mod Running
 pub mod Telling
 pub mod Errands
+pub mod Commands

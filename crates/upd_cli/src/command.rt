@@ -3,6 +3,7 @@ ghost use Rattle.std.specs.Prelude.{◌≡◌, ◌≢◌, ◌⊎◌, ◌+◌, If
 ghost use Rattle.std.specs.IoError.{error_kind};
 ghost use Rattle.upd_compile.specs.Modes.{mode_named};
 ghost use Rattle.upd_cli.specs.Command.{Answers, Ends, GivesUnlessFailed, IsEnd, IsTold, IsToldOf, answer_to};
+ghost use Rattle.upd_cli.specs.Commands.{CarriesOut, IsCarriedOut};
 ghost use Rattle.upd_cli.specs.Running.{IsSpool, MayTell};
 ghost use Rattle.upd_cli.specs.Status.{exit_status, fault_line, no_memory, no_words_line};
 ghost use Rattle.upd_cli.specs.Streams.{TakesFront};
@@ -39,6 +40,8 @@ pub fn run_command<S: AsStr, R: Read, W: Write, E: Write>(
         → IfSome (R.remaining input.old) (λ bytes.
         Answers (answer_to (trial_named (operand_word (codes "MODE") (map S.text words.entry.now)) bytes)) result
         (W.contents output.old) (W.contents output.new) (E.contents faults.old) (E.contents faults.new)) }
+    ensures told { CarriesOut (map S.text words.entry.now) result
+        (W.contents output.old) (W.contents output.new) (E.contents faults.old) (E.contents faults.new) }
     ensures unread { word_faults (map S.text words.entry.now) ≢ [] → IsToldOf (map S.text words.entry.now) result }
     // Of a run that is too long, no more is read than tells so.
     ensures front { command_word (map S.text words.entry.now) ≢ codes "spool"
@@ -110,6 +113,8 @@ fn carry_out_library<R: Read, W: Write, E: Write>(
     output: &mut W,
     faults: &mut E,
 ) -> u8
+    ensures told { IsCarriedOut asked.now result
+        (W.contents output.old) (W.contents output.new) (E.contents faults.old) (E.contents faults.new) }
     ensures front { ¬ IsSpool asked.now → TakesFront (MAX_RUN_BYTES + 1) (R.remaining input.old) (R.remaining input.new) }
     ensures waits { ¬ MayTell asked.now → input.new ≡ input.old }
     ensures silent { (result ≡ 2) ⊎ ((result ≡ 1) × ¬ MayTell asked.now) → output.new ≡ output.old }

@@ -1,8 +1,14 @@
 //! Commands on the library in a file: it is opened, something is done, and it is closed.
-ghost use Rattle.std.specs.Prelude.{◌≡◌, ◌⊎◌, ◌+◌, IfErr, IfOk};
+ghost use Rattle.std.specs.Prelude.{◌≡◌, ◌⊎◌, ◌+◌, ℕ, List, Result, IfErr, IfOk};
+ghost use Rattle.upd_cli.specs.Commands.{Leaves, TellsNumbered};
 ghost use Rattle.upd_cli.specs.Running.{IsSpool, MayTell};
 ghost use Rattle.upd_cli.specs.Status.{exit_status};
 ghost use Rattle.upd_cli.specs.Streams.{TakesFront};
+ghost use Rattle.upd_cli.specs.Telling.{TellsMark, TellsRun, TellsText};
+ghost use Rattle.upd_desk.specs.Outcomes.{ReplyView};
+ghost use Rattle.upd_rows.specs.Keeping.{IsLost};
+ghost use Rattle.upd_streams.specs.Numbers.{number_of};
+ghost use Rattle.upd_text.specs.declared.fault.Fault.{Fault};
 ghost use Rattle.upd_text.specs.declared.limits.TheConstants.{MAX_RUN_BYTES};
 
 use crate::arriving::{hand_in, settle};
@@ -34,25 +40,14 @@ pub(crate) fn carry_out<R: Read, W: Write>(
 ) -> Result<u8, Fault>
     ensures front { ¬ IsSpool asked.now → TakesFront (MAX_RUN_BYTES + 1) (R.remaining input.old) (R.remaining input.new) }
     ensures waits { ¬ MayTell asked.now → input.new ≡ input.old }
+    ensures leaves { Leaves result (W.contents output.old) (W.contents output.new) asked.now }
     ensures status { IfOk result (λ status. (status ≡ 0) ⊎ ((status ≡ 1) × MayTell asked.now)) }
     ensures silent { IfErr result (λ fault. exit_status fault.kind ≡ 1 → MayTell asked.now ⊎ (output.new ≡ output.old)) }
 {
     match asked {
         Asked::Init => make(rt, file),
-        Asked::Run { site, number, mode } => {
-            let number = read_number(number)?;
-            let mut desk = open_desk(rt, file)?;
-            let ended = hand_in(rt.alloc(), &mut desk, site, number, mode, input, output);
-            close_desk(desk);
-            ended
-        }
-        Asked::Settle { site, number } => {
-            let number = read_number(number)?;
-            let mut desk = open_desk(rt, file)?;
-            let ended = settle(rt.alloc(), &mut desk, site, number, output);
-            close_desk(desk);
-            ended
-        }
+        Asked::Run { site, number, mode } => { run_on(rt, file, site, number, mode, input, output) }
+        Asked::Settle { site, number } => settle_on(rt, file, site, number, output),
         Asked::Spool => {
             let mut desk = open_desk(rt, file)?;
             let ended = spool(rt.alloc(), input, output, &mut desk);
@@ -67,6 +62,60 @@ pub(crate) fn carry_out<R: Read, W: Write>(
         Asked::Yanks => answer(rt, file, &Question::Yanks, output),
         Asked::Migrate => bring_up(rt, file),
     }
+}
+
+/// `run`: its number is read, then the file is opened, and then the input is read.
+fn run_on<R: Read, W: Write>(
+    rt: &HostRuntime,
+    file: &str,
+    site: &str,
+    number: &str,
+    mode: &str,
+    input: &mut R,
+    output: &mut W,
+) -> Result<u8, Fault>
+    ensures leaves { TellsNumbered result (W.contents output.old) (W.contents output.new) (number_of number.now)
+        ((answer : Result ReplyView Fault) × TellsRun answer result (W.contents output.old) (W.contents output.new)) }
+    ensures front { TakesFront (MAX_RUN_BYTES + 1) (R.remaining input.old) (R.remaining input.new) }
+    ensures status { IfOk result (λ status. (status ≡ 0) ⊎ (status ≡ 1)) }
+{
+    let number = match read_number(number) {
+        Ok(number) => number,
+        Err(fault) => return Err(fault),
+    };
+    let mut desk = match open_desk(rt, file) {
+        Ok(desk) => desk,
+        Err(fault) => return Err(fault),
+    };
+    let ended = hand_in(rt.alloc(), &mut desk, site, number, mode, input, output);
+    close_desk(desk);
+    ended
+}
+
+/// `settle`: its number is read before the file is opened.
+fn settle_on<W: Write>(
+    rt: &HostRuntime,
+    file: &str,
+    site: &str,
+    number: &str,
+    output: &mut W,
+) -> Result<u8, Fault>
+    ensures leaves { TellsNumbered result (W.contents output.old) (W.contents output.new) (number_of number.now)
+        ((answer : Result ℕ Fault) × TellsMark site.now answer result (W.contents output.old) (W.contents output.new)) }
+    ensures status { IfOk result (λ status. status ≡ 0) }
+    ensures silent { IfErr result (λ fault. exit_status fault.kind ≡ 1 → output.new ≡ output.old) }
+{
+    let number = match read_number(number) {
+        Ok(number) => number,
+        Err(fault) => return Err(fault),
+    };
+    let mut desk = match open_desk(rt, file) {
+        Ok(desk) => desk,
+        Err(fault) => return Err(fault),
+    };
+    let ended = settle(rt.alloc(), &mut desk, site, number, output);
+    close_desk(desk);
+    ended
 }
 
 /// Serves so many connections at an address, which is bound once the file is open. Read, at 0, where it can't be bound.
@@ -113,18 +162,27 @@ fn answer<W: Write>(
     question: &Question,
     output: &mut W,
 ) -> Result<u8, Fault>
+    ensures leaves { (answer : Result (List ℕ) Fault)
+        × TellsText answer result (W.contents output.old) (W.contents output.new) }
     ensures status { IfOk result (λ status. status ≡ 0) }
     ensures silent { IfErr result (λ fault. exit_status fault.kind ≡ 1 → output.new ≡ output.old) }
 {
-    let mut desk = open_desk(rt, file)?;
+    let mut desk = match open_desk(rt, file) {
+        Ok(desk) => desk,
+        Err(fault) => return Err(fault),
+    };
     let ended = inquire(rt.alloc(), &mut desk, question, output);
     close_desk(desk);
     ended
 }
 
-fn open_desk(rt: &HostRuntime, file: &str) -> Result<FileDesk, Fault> {
-    let library = open(rt, file, Unknown)?;
-    Ok(Desk::open(library))
+fn open_desk(rt: &HostRuntime, file: &str) -> Result<FileDesk, Fault>
+    ensures { IfErr result IsLost }
+{
+    match open(rt, file, Unknown) {
+        Ok(library) => Ok(Desk::open(library)),
+        Err(fault) => Err(fault),
+    }
 }
 
 /// Closes the library. Where that fails nothing is lost, since the log then holds what it held: so the command's own

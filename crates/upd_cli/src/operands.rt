@@ -1,4 +1,9 @@
 //! Operands of commands, as they are written.
+ghost use Rattle.std.specs.Prelude.{◌≡◌};
+ghost use Rattle.upd_streams.specs.Numbers.{number_of};
+ghost use Rattle.upd_text.specs.Outcome.{at_line, need};
+ghost use Rattle.upd_text.specs.declared.fault.FaultKind.TheVariants.{BadNumber};
+
 use std::net::SocketAddr;
 use upd_core::{CardRef, Name};
 use upd_text::{Fault, FaultKind};
@@ -7,7 +12,9 @@ use upd_text::{Fault, FaultKind};
 const MAX_CONNECTIONS: u32 = 1_000_000;
 
 /// A run number: 1 to 9 digits without a leading zero, or `0`, which the desk refuses. Another word is BadNumber, at 0.
-pub(crate) fn read_number(word: &str) -> Result<u64, Fault> {
+pub(crate) fn read_number(word: &str) -> Result<u64, Fault>
+    ensures { result ≡ at_line 0 (need BadNumber (number_of word.now)) }
+{
     match upd_streams::read_number(word.as_bytes()) {
         Some(number) => Ok(u64::from(number)),
         None => Err(FaultKind::BadNumber.without_line()),

@@ -1,7 +1,10 @@
 use Rattle.std.proofs.Common.{◌≡◌, inl, inr, arith, ℕ, List, IfSome, codes, map, ap, sym, ◌∙◌, subst}
 use Rattle.clap.specs.Words.{Text}
 use Rattle.upd_compile.specs.Modes.{mode_named}
-use Rattle.upd_cli.specs.Command.{Answers, answer_to}
+use Rattle.std.proofs.KnownBytes.{Appends-nil}
+use Rattle.upd_text.specs.declared.fault.Fault.{Fault}
+use Rattle.upd_cli.specs.Command.{Answers, IsTold, answer_to}
+use Rattle.upd_cli.specs.Status.{exit_status, fault_line}
 use Rattle.upd_cli.specs.Trial.{trial_named}
 use Rattle.upd_cli.specs.Words.{IsAsked, operand_word}
 use Rattle.upd_cli.specs.declared.words.Request.TheVariants.{Trial, Library, Serve}
@@ -97,3 +100,28 @@ returns-in-Err-clause-trial g c = λ none is_trial.
     (trial_named (operand_word (codes "MODE") (map g.S.AsStr.text c.args.words.now))) c.in-Err.fault c.finish-in-Err.result
     (g.W.Write.contents c.args.output.now) (g.E.Write.contents c.args.faults.now)
     (g.E.Write.contents c.finish-in-Err.new.faults) c.in-Err.ensures.err c.finish-in-Err.ensures.told
+
+pub returns-in-Ok-Trial-clause-told : goal.returns-in-Ok-Trial-clause-told
+returns-in-Ok-Trial-clause-told g c =
+    let words : List Text = map g.S.AsStr.text c.args.words.now in
+    let request = Trial c.in-Ok-Trial.mode in
+    inl (request, subst (IsAsked words) c.in-Ok-Trial.field-0-is c.in-Ok-Trial.ensures.ok, tt)
+
+pub returns-in-Ok-Library-clause-told : goal.returns-in-Ok-Library-clause-told
+returns-in-Ok-Library-clause-told g c =
+    let words : List Text = map g.S.AsStr.text c.args.words.now in
+    let request = Library c.in-Ok-Library.file c.in-Ok-Library.asked in
+    inl (request, subst (IsAsked words) c.in-Ok-Library.field-0-is c.in-Ok-Library.ensures.ok, c.carry_out_library.ensures.told)
+
+pub returns-in-Ok-Serve-clause-told : goal.returns-in-Ok-Serve-clause-told
+returns-in-Ok-Serve-clause-told g c =
+    let words : List Text = map g.S.AsStr.text c.args.words.now in
+    let request = Serve c.in-Ok-Serve.file c.in-Ok-Serve.address c.in-Ok-Serve.count in
+    inl (request, subst (IsAsked words) c.in-Ok-Serve.field-0-is c.in-Ok-Serve.ensures.ok, Appends-nil (g.W.Write.contents c.args.output.now))
+
+pub returns-in-Err-clause-told : goal.returns-in-Err-clause-told
+returns-in-Err-clause-told g c =
+    let IsLine : Fault → Type 0 =
+    λ fault. IsTold (exit_status fault.kind) (fault_line fault) c.finish-in-Err.result (g.E.Write.contents c.args.faults.now)
+    (g.E.Write.contents c.finish-in-Err.new.faults) in
+    inr (subst IsLine c.in-Err.ensures.err c.finish-in-Err.ensures.told, Appends-nil (g.W.Write.contents c.args.output.now))

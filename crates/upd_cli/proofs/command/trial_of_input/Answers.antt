@@ -1,15 +1,12 @@
-use Rattle.std.proofs.Common.{rules, ◌≡◌, ◌+◌, ℕ, List, take, IfSome, IsErrAnd, Result, Ok, Err, ap, sym, ◌∙◌, subst}
+use Rattle.std.proofs.Common.{rules, ◌≡◌, ◌+◌, ℕ, List, take, IfSome, Result, Ok, sym, ◌∙◌, subst}
 use Rattle.upd_text.specs.declared.fault.Fault.{Fault}
 use Rattle.upd_text.specs.declared.limits.TheConstants.{MAX_RUN_BYTES}
 use Rattle.upd_text.specs.Outcome.{GivesAt}
 use Rattle.upd_compile.specs.File.{FileView}
 use Rattle.upd_cli.specs.Trial.{trial_of}
+use Rattle.upd_cli.proofs.CommandLemmas.{error_is}
 use Rattle.upd_cli.proofs.TrialLemmas.{given_of_front}
 use Rattle.upd_cli.proofs.command.trial_of_input.Goals as goal
-
-error_is : (result : Result FileView Fault) (fault : Fault) → IsErrAnd result (λ e. e ≡ fault) → result ≡ Err fault
-error_is (Ok file) fault is = absurd is
-error_is (Err e) fault is = ap Err is
 
 pub returns-in_err-file-clause-gives : goal.returns-in_err-file-clause-gives
 returns-in_err-file-clause-gives g c =

@@ -1,0 +1,28 @@
+-- What commands on a library leave on the output.
+use Rattle.std.proofs.Common.{◌≡◌, ◌⊎◌, inl, inr, ℕ, List, Option, Some, None, Result, Ok, Err, IsErrAnd, ap}
+use Rattle.std.proofs.KnownBytes.{Appends-nil}
+use Rattle.upd_text.specs.Outcome.{at_line, need}
+use Rattle.upd_text.specs.declared.fault.Fault.{Fault}
+use Rattle.upd_text.specs.declared.fault.FaultKind.TheVariants.{BadNumber}
+use Rattle.upd_rows.specs.Keeping.{IsLost}
+use Rattle.upd_rows.specs.Keeping.IsLost.{OfMemory, OfStore}
+use Rattle.upd_cli.specs.Commands.{TellsNothing, TellsNumbered}
+use Rattle.upd_cli.specs.Errands.{IsUnread}
+use Rattle.upd_cli.specs.Status.{exit_status}
+
+-- a number that was read
+pub number_read : (read : Option ℕ) (n : ℕ) (ended : Result ℕ Fault) (output output' : Option (List ℕ)) (told : Type 0)
+    → Ok n ≡ at_line 0 (need BadNumber read) → told ⊎ TellsNothing ended output output' → TellsNumbered ended output output' read told
+number_read (Some m) n ended output output' told is tells = tells
+number_read None n ended output output' told is tells = absurd (cc)
+
+-- nothing is told where the file isn't opened
+pub lost_tells_nothing : (fault : Fault) (output : Option (List ℕ)) → IsLost fault → TellsNothing (Err fault) output output
+lost_tells_nothing fault output (OfMemory f is at) = (ap exit_status is, Appends-nil output)
+lost_tells_nothing fault output (OfStore f is) = (ap exit_status is, Appends-nil output)
+
+-- nor where the input isn't read
+pub unread_fails : (result : Result ℕ Fault) → IsUnread result → IsErrAnd result (λ fault. exit_status fault.kind ≡ 3)
+unread_fails (Ok status) unread = absurd unread
+unread_fails (Err fault) (inl is) = ap (λ (f : Fault). exit_status f.kind) is
+unread_fails (Err fault) (inr is) = ap (λ (f : Fault). exit_status f.kind) is

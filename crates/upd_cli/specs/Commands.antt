@@ -1,0 +1,62 @@
+-- How commands on the library in a file end, and what they leave on the output.
+use Rattle.std.specs.Prelude.{◌≡◌, ◌⊎◌, ℕ, List, [], Option, Some, None, Result, Ok, Err, IfOk, IsErrAnd}
+use Rattle.std.specs.Io.KnownBytes.{Appends}
+use Rattle.upd_text.specs.declared.fault.Fault.{Fault}
+use Rattle.upd_text.specs.declared.fault.FaultKind.TheVariants.{BadNumber}
+use Rattle.upd_desk.specs.Outcomes.{ReplyView}
+use Rattle.upd_streams.specs.Numbers.{number_of}
+use Rattle.clap.specs.Words.{Text}
+use Rattle.upd_cli.specs.Command.{IsTold}
+use Rattle.upd_cli.specs.Status.{exit_status, fault_line, no_memory}
+use Rattle.upd_cli.specs.Telling.{TellsMark, TellsRun, TellsText}
+use Rattle.upd_cli.specs.Words.{IsAsked}
+use Rattle.upd_cli.specs.declared.words.Request.{Request}
+use Rattle.upd_cli.specs.declared.words.Request.TheVariants.{Library, Serve, Unread}
+use Rattle.upd_cli.specs.declared.words.Asked.{Asked}
+use Rattle.upd_cli.specs.declared.words.Asked.TheVariants as asks
+
+-- the fault of a NUMBER that is none
+abbrev pub no_number : Fault
+no_number = record { kind = BadNumber; at = 0 }
+
+module _ (ended : Result ℕ Fault) (output output' : Option (List ℕ)) where
+  -- nothing was told, since memory, the store or a read failed
+  abbrev pub TellsNothing : Type 0
+  TellsNothing = IsErrAnd ended (λ fault. exit_status fault.kind ≡ 3) × Appends output output' []
+
+  -- a command that asks with a number was told so; a NUMBER that is none is refused, and nothing is asked
+  abbrev pub TellsNumbered : Option ℕ → Type 0 → Type 0
+  TellsNumbered (Some number) told = told ⊎ TellsNothing
+  TellsNumbered None told = (ended ≡ Err no_number) × Appends output output' []
+
+  -- What a command leaves on the output, as it ends: an answer to what it asks, and of `spool` nothing is said here.
+  abbrev pub Leaves : Asked → Type 0
+  Leaves (asks.Run site number mode) = TellsNumbered (number_of number.now) ((answer : Result ReplyView Fault) × TellsRun answer ended output output')
+  Leaves (asks.Settle site number) = TellsNumbered (number_of number.now) ((answer : Result ℕ Fault) × TellsMark site.now answer ended output output')
+  Leaves asks.Spool = Unit {0}
+  Leaves asks.Init = IfOk ended (λ status. status ≡ 0) × Appends output output' []
+  Leaves asks.Migrate = IfOk ended (λ status. status ≡ 0) × Appends output output' []
+  Leaves _ = (answer : Result (List ℕ) Fault) × TellsText answer ended output output'
+
+-- a command that ended so has this exit status, and its fault, if any, is told by its line
+abbrev pub IsEndOf : Result ℕ Fault → ℕ → Option (List ℕ) → Option (List ℕ) → Type 0
+IsEndOf (Ok meant) status faults faults' = (status ≡ meant) × Appends faults faults' []
+IsEndOf (Err fault) status faults faults' = IsTold (exit_status fault.kind) (fault_line fault) status faults faults'
+
+-- a command on a library ended, and output, fault stream and status tell how
+abbrev pub IsCarriedOut : Asked → ℕ → Option (List ℕ) → Option (List ℕ) → Option (List ℕ) → Option (List ℕ) → Type 0
+IsCarriedOut asked status output output' faults faults' =
+    (ended : Result ℕ Fault) × Leaves ended output output' asked × IsEndOf ended status faults faults'
+
+-- how a request was carried out: a command on a library as is defined, and what serves or can't be read leaves nothing on the output
+abbrev pub IsDone : Request → ℕ → Option (List ℕ) → Option (List ℕ) → Option (List ℕ) → Option (List ℕ) → Type 0
+IsDone (Library file asked) status output output' faults faults' = IsCarriedOut asked status output output' faults faults'
+IsDone (Serve file address count) status output output' faults faults' = Appends output output' []
+IsDone (Unread text) status output output' faults faults' = Appends output output' []
+IsDone _ status output output' faults faults' = Unit {0}
+
+-- What the words ask for was carried out; or there was no memory to read them, and that is told.
+abbrev pub CarriesOut : List Text → ℕ → Option (List ℕ) → Option (List ℕ) → Option (List ℕ) → Option (List ℕ) → Type 0
+CarriesOut words status output output' faults faults' =
+    ((request : Request) × IsAsked words request × IsDone request status output output' faults faults')
+    ⊎ (IsTold 3 (fault_line no_memory) status faults faults' × Appends output output' [])
