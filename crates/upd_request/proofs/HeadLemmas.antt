@@ -1,13 +1,12 @@
 -- Heads that are read.
-use Rattle.std.proofs.Common.{◌≡◌, ◌≢◌, ◌⊎◌, ◌≤◌, ◌<◌, inl, inr, ℕ, List, [], ◌++◌, length, Option, Some, None, IfSome, refl, sym, ap, ◌∙◌, subst, arith}
-use Rattle.std.proofs.Common.{append-nil}
+use Rattle.std.proofs.Common.{◌≡◌, ◌≢◌, ◌⊎◌, ◌≤◌, ◌<◌, inl, inr, ℕ, List, [], length, Option, Some, None, IfSome, refl, ap, arith}
 use Rattle.std.proofs.lemmas.List.{length-append}
-use Rattle.std.specs.Io.KnownBytes.{Consumes, IsAtEnd}
+use Rattle.std.specs.Io.KnownBytes.{Consumes}
 use Rattle.httparse.specs.declared.Error.{Error}
 use Rattle.httparse.specs.declared.Error.TheVariants.{HeaderName, HeaderValue, NewLine, Status, Token, TooManyHeaders, Version}
 use Rattle.httparse.specs.Grammar.{HasNoRequest, NeverHasRequest, print_request}
 use Rattle.httparse.specs.Spans.{RequestExceeds}
-use Rattle.upd_request.specs.Calls.{bad_frame, cut_frame}
+use Rattle.upd_request.specs.Calls.{bad_frame}
 use Rattle.upd_request.specs.Requests.{RefusesHead}
 use Rattle.upd_request.specs.declared.call.Refusal.{Refusal}
 use Rattle.upd_request.specs.declared.head.TheConstants.{MAX_HEAD_BYTES, MAX_HEADERS}
@@ -26,16 +25,6 @@ pub refused_bad : (old new : Option (List ℕ)) (front : List ℕ) (refusal : Re
 refused_bad None new front refusal consumed most why is = tt
 refused_bad (Some input) None front refusal consumed most why is = absurd consumed
 refused_bad (Some input) (Some rest) front refusal consumed most why is = inr (inl ((front, rest, consumed, most, why), is))
-
--- an input that ended without a head
-pub refused_cut : (old new : Option (List ℕ)) (front : List ℕ) (refusal : Refusal) → Consumes old new front → IsAtEnd new → length front < MAX_HEAD_BYTES
-    → HasNoRequest front → refusal ≡ cut_frame → IfSome old (λ input. RefusesHead input refusal)
-refused_cut None new front refusal consumed end most none is = tt
-refused_cut (Some input) None front refusal consumed end most none is = absurd consumed
-refused_cut (Some input) (Some rest) front refusal consumed end most none is =
-    let whole : input ≡ front = consumed ∙ ap (λ l. front ++ l) end ∙ append-nil front in
-    let P : List ℕ → Type 0 = λ l. (length l < MAX_HEAD_BYTES) × HasNoRequest l in
-    inr (inr (subst P (sym whole) (most, none), is))
 
 -- why a parser refused a front
 pub error_says : (front : List ℕ) (e : Error) → (e ≢ TooManyHeaders → NeverHasRequest front) → (e ≡ TooManyHeaders → RequestExceeds MAX_HEADERS front)

@@ -5,3 +5,4 @@ pub mod RequestLemmas
 pub mod SeekLemmas
 pub mod PathLemmas
 pub mod RouteLemmas
+pub mod SaysLemmas

@@ -1,7 +1,7 @@
 -- A request as bytes: its head is what `httparse` reads, and a head with a body asks one thing of the desk, or is refused.
-use Rattle.std.specs.Prelude.{◌≡◌, ◌≤◌, ◌<◌, ◌⊎◌, ℕ, nat_le, if◌then◌else◌, List, ◌++◌, length, take, map, Option, Some, None, Result, Ok, Err}
+use Rattle.std.specs.Prelude.{◌≡◌, ◌≤◌, ◌<◌, ◌⊎◌, ℕ, nat_le, if◌then◌else◌, List, [], ◌++◌, length, take, map, Option, Some, None, Result, Ok, Err}
 use Rattle.std.specs.Str.{bytes_eq}
-use Rattle.httparse.specs.Grammar.{RequestHead, HasNoRequest, NeverHasRequest, ReadsRequest, print_request}
+use Rattle.httparse.specs.Grammar.{RequestHead, HasNoRequest, MayBecomeRequest, NeverHasRequest, ReadsRequest, print_request}
 use Rattle.httparse.specs.Spans.{RequestExceeds, name_and_value}
 use Rattle.upd_text.specs.declared.fault.FaultKind.TheVariants.{RunLong}
 use Rattle.upd_text.specs.Outcome.{◌>>=◌}
@@ -31,9 +31,9 @@ HasBadHead input =
     (front : List ℕ) × (rest : List ℕ) × (input ≡ front ++ rest) × (length front ≤ MAX_HEAD_BYTES)
     × (NeverHasRequest front ⊎ (RequestExceeds MAX_HEADERS front ⊎ ((length front ≡ MAX_HEAD_BYTES) × HasNoRequest front)))
 
--- the input ends before a head does
+-- The input ends before a head does: it holds none, and what is there is nothing, or may go on to be one, or ends inside a target.
 abbrev pub HasCutHead : List ℕ → Type 0
-HasCutHead input = (length input < MAX_HEAD_BYTES) × HasNoRequest input
+HasCutHead input = (length input < MAX_HEAD_BYTES) × HasNoRequest input × ((input ≡ []) ⊎ MayBecomeRequest input)
 
 -- ---- what a head says
 

@@ -6,11 +6,13 @@
 
 mod call;
 mod head;
+mod laws;
 mod lengths;
 mod parameters;
 mod request;
 mod routes;
 
 pub use call::{Call, Refusal, Verb};
+pub use laws::requests_ask_one_thing;
 pub use request::read_call;
 pub use routes::routes_are_plain;

@@ -1,4 +1,4 @@
-use Rattle.std.proofs.Common.{◌≡◌, ◌≤◌, ◌++◌, inr, ap, sym, ◌∙◌, subst, length, take, arith, List, ℕ, Err}
+use Rattle.std.proofs.Common.{◌≡◌, ◌≤◌, ◌++◌, inl, inr, refl, ap, sym, ◌∙◌, subst, length, take, arith, List, ℕ, Err}
 use Rattle.std.proofs.lemmas.List.{length-append, length-take-le}
 use Rattle.std.specs.Io.KnownBytes.{Consumes}
 use Rattle.httparse.specs.Spans.{RequestExceeds}
@@ -8,7 +8,7 @@ use Rattle.upd_request.proofs.HeadLemmas.{error_says, nothing_has_head, refused_
 use Rattle.upd_request.proofs.head.read_head.Goals as goal
 
 pub head-init : goal.head-init
-head-init g c = rw c.requires.empty (record { most = omega arith; consumed = Consumes-nil (g.R.Read.remaining c.args.reader.now); none = nothing_has_head })
+head-init g c = rw c.requires.empty (record { most = omega arith; consumed = Consumes-nil (g.R.Read.remaining c.args.reader.now); none = nothing_has_head; unfinished = inl refl })
 
 pub returns-in-Err-parse_request-clause-err : goal.returns-in-Err-parse_request-clause-err
 returns-in-Err-parse_request-clause-err g c =
