@@ -1,0 +1,286 @@
+//! Input that is cut, garbled, or can't be read or answered to its end, and runs whose compile files have no end.
+use crate::streams::{Room, Single};
+use std::alloc::Global;
+use std::process::Abort;
+use std::test::Fail;
+use upd_deck::read_run;
+use upd_desk::Desk;
+use upd_http::serve_one;
+use upd_rows::{ListStore, RowStore};
+use upd_spool::spool;
+use upd_text::{Fault, FaultKind};
+
+const RUN: &str = "*ID X cleanup\n*D A.2 , A.3 old lines\n*/ note\nNEW\n*FOO\n";
+
+/// The fronts of the run that are refused: the least and the most bytes, and the refusal.
+const REFUSED_FRONTS: [(usize, usize, &str); 5] = [
+    (2, 4, "BadField (7) at 1"),
+    (16, 17, "BadField (7) at 2"),
+    (18, 19, "BadCard (6) at 2"),
+    (22, 23, "BadField (7) at 2"),
+    (24, 25, "BadCard (6) at 2"),
+];
+
+/// How a text is read: the number of its lines, or the refusal.
+fn read(alloc: Global, text: &[u8]) -> Result<String, Fail> {
+    match read_run(alloc, text) {
+        Ok(run) => Ok(format!(in alloc; "{} lines", run.lines().len())?),
+        Err(fault) => Ok(format!(in alloc; "{fault}")?),
+    }
+}
+
+/// How a front of the run is to be read. A comment is no line.
+fn wanted_of_front(alloc: Global, front: &str) -> Result<String, Fail> {
+    for (least, most, refusal) in REFUSED_FRONTS {
+        if least <= front.len() && front.len() <= most {
+            return Ok(String::from_str(alloc, refusal)?);
+        }
+    }
+    let mut lines: usize = 0;
+    for line in front.split('\n') {
+        if !line.is_empty() && !line.starts_with("*/") {
+            lines = lines.saturating_add(1);
+        }
+    }
+    Ok(format!(in alloc; "{lines} lines")?)
+}
+
+#[test]
+fn each_front_of_a_run_is_read_as_a_run(rt: HostRuntime) -> Result<(), Fail> {
+    let alloc = rt.alloc();
+    for length in 0..=RUN.len() {
+        let front = RUN.get(..length).ok_or("no front")?;
+        let wanted = wanted_of_front(alloc, front)?;
+        assert_eq!(&rt;
+            read(alloc, front.as_bytes())?.as_str(),
+            wanted.as_str(),
+            "{length}"
+        );
+    }
+    Ok(())
+}
+
+#[test]
+fn a_zero_byte_is_refused_at_its_line(rt: HostRuntime) -> Result<(), Fail> {
+    let alloc = rt.alloc();
+    let mut line: u32 = 1;
+    for at in 0..RUN.len() {
+        let mut text = Vec::from_slice(alloc, RUN.as_bytes())?;
+        text[at] = 0;
+        let wanted = format!(in alloc; "BadByte (3) at {line}")?;
+        assert_eq!(&rt; read(alloc, &text)?.as_str(), wanted.as_str(), "{at}");
+        if RUN.as_bytes()[at] == b'\n' {
+            line = line.saturating_add(1);
+        }
+    }
+    assert_eq!(&rt; line, 6);
+    Ok(())
+}
+
+const FIRST: &str = "RUN LYON 1 full 22\n*DECK A\nONE\nTWO\nTHREE\n\n";
+
+const SECOND: &str = "RUN LYON 2 quick 0\n\n";
+
+const THIRD: &str = "RUN LYON 3 full 21\n*IDENT X\n*DELETE A.3\n\n";
+
+/// Where the answers to each of the frames end.
+const ANSWER_ENDS: [usize; 4] = [0, 389, 482, 773];
+
+/// The whole spool, and the answers to it.
+fn worked(alloc: Global) -> Result<(String, Vec<u8>), Fail> {
+    let text = format!(in alloc; "{FIRST}{SECOND}{THIRD}")?;
+    let mut answers = Vec::new(alloc);
+    let mut desk = Desk::open(ListStore::new(alloc));
+    let count = spool(alloc, &mut text.as_bytes(), &mut answers, &mut desk)?;
+    if count != 3 || answers.len() != ANSWER_ENDS[3] {
+        return Err("the spool isn't answered".into());
+    }
+    Ok((text, answers))
+}
+
+/// How many frames are whole in so many bytes.
+fn whole_frames(bytes: usize) -> u32 {
+    let second = FIRST.len().saturating_add(SECOND.len());
+    let third = second.saturating_add(THIRD.len());
+    u32::from(bytes >= FIRST.len())
+        .saturating_add(u32::from(bytes >= second))
+        .saturating_add(u32::from(bytes >= third))
+}
+
+/// The answers to so many frames.
+fn answers_of(answers: &[u8], frames: u32) -> Result<&[u8], Fail> {
+    let end = ANSWER_ENDS.get(frames as usize).ok_or("no such frame")?;
+    Ok(answers.get(..*end).ok_or("no such answer")?)
+}
+
+/// How a front of the spool is to end that has so many bytes.
+fn wanted_end(bytes: usize) -> Result<u32, Fault> {
+    let whole = whole_frames(bytes);
+    let second = FIRST.len().saturating_add(SECOND.len());
+    let third = second.saturating_add(THIRD.len());
+    if [0, FIRST.len(), second, third].contains(&bytes) {
+        Ok(whole)
+    } else {
+        Err(Fault {
+            kind: FaultKind::CutFrame,
+            at: whole.saturating_add(1),
+        })
+    }
+}
+
+/// The runs that are kept are those of the first so many frames.
+fn keeps(
+    rt: &impl Abort,
+    alloc: Global,
+    desk: Desk<ListStore>,
+    frames: u32,
+) -> Result<Desk<ListStore>, Fail> {
+    let mut store = desk.close();
+    for number in 1..=3_u32 {
+        let kept = store.kept_run(alloc, "LYON", u64::from(number))?;
+        assert_eq!(rt; kept.is_some(), number <= frames, "{number}");
+    }
+    Ok(Desk::open(store))
+}
+
+/// All at once and byte by byte, the same comes out.
+#[test]
+fn each_front_of_a_spool_answers_its_whole_frames(rt: HostRuntime) -> Result<(), Fail> {
+    let alloc = rt.alloc();
+    let (text, answers) = worked(alloc)?;
+    for length in 0..=text.len() {
+        let front = &text.as_bytes()[..length];
+        let whole = whole_frames(length);
+        let wanted = answers_of(&answers, whole)?;
+        let mut desk = Desk::open(ListStore::new(alloc));
+        let mut output = Vec::new(alloc);
+        let ended = spool(alloc, &mut Single::new(front, 0), &mut output, &mut desk);
+        assert_eq!(&rt; ended, wanted_end(length), "{length}");
+        assert!(&rt; output.as_slice() == wanted, "{length}");
+        desk = keeps(&rt, alloc, desk, whole)?;
+        let mut output = Room::new(Vec::new(alloc), answers.len());
+        let mut rest = front;
+        let ended = spool(alloc, &mut rest, &mut output, &mut desk);
+        assert_eq!(&rt; ended, wanted_end(length), "{length}");
+        assert!(&rt; output.taken.as_slice() == wanted, "{length}");
+    }
+    Ok(())
+}
+
+/// The answers of the frames before are out, and their runs alone are kept.
+#[test]
+fn a_failed_read_keeps_no_run_of_its_frame(rt: HostRuntime) -> Result<(), Fail> {
+    let alloc = rt.alloc();
+    let (text, answers) = worked(alloc)?;
+    for fails_at in 1..=text.len().saturating_add(1) {
+        let whole = whole_frames(fails_at.saturating_sub(1));
+        let mut desk = Desk::open(ListStore::new(alloc));
+        let mut output = Vec::new(alloc);
+        let mut input = Single::new(text.as_bytes(), fails_at);
+        let ended = spool(alloc, &mut input, &mut output, &mut desk);
+        let fault = Fault {
+            kind: FaultKind::Read,
+            at: whole.saturating_add(1),
+        };
+        assert_eq!(&rt; ended, Err(fault), "{fails_at}");
+        assert!(&rt;
+            output.as_slice() == answers_of(&answers, whole)?,
+            "{fails_at}"
+        );
+        keeps(&rt, alloc, desk, whole)?;
+    }
+    Ok(())
+}
+
+/// The request of a run of no bytes, and its answer.
+pub const QUICK: &str =
+    "POST /sites/LYON/runs/1/quick HTTP/1.1\r\nHost: lib\r\nContent-Length: 0\r\n\r\n";
+
+pub const QUICK_ANSWER: &str =
+    "HTTP/1.1 200 OK\r\nContent-Type: application/json\r\nContent-Length: 92\r\n\
+Connection: close\r\n\r\n{\"compile\":\"\",\"idents\":[],\"lines\":0,\"mode\":\"quick\",\"run\":1,\"site\":\"LYON\",\
+\"state\":\"accepted\"}";
+
+/// A request that ends as it does, answered by nothing, keeps no run.
+fn is_not_answered(
+    rt: &impl Abort,
+    alloc: Global,
+    mut input: Single<'_>,
+    kind: FaultKind,
+) -> Result<(), Fail> {
+    let mut desk = Desk::open(ListStore::new(alloc));
+    let mut output = Vec::new(alloc);
+    let ended = serve_one(alloc, &mut input, &mut output, &mut desk);
+    assert_eq!(rt; ended, Err(kind.without_line()));
+    assert!(rt; output.is_empty());
+    keeps(rt, alloc, desk, 0)?;
+    Ok(())
+}
+
+#[test]
+fn a_request_that_is_cut_or_cannot_be_read_keeps_no_run(rt: HostRuntime) -> Result<(), Fail> {
+    let alloc = rt.alloc();
+    for length in 0..QUICK.len() {
+        let front = Single::new(&QUICK.as_bytes()[..length], 0);
+        is_not_answered(&rt, alloc, front, FaultKind::CutFrame)?;
+        let failing = Single::new(QUICK.as_bytes(), length.saturating_add(1));
+        is_not_answered(&rt, alloc, failing, FaultKind::Read)?;
+    }
+    Ok(())
+}
+
+#[test]
+fn a_failed_write_keeps_the_run_and_its_answer(rt: HostRuntime) -> Result<(), Fail> {
+    let alloc = rt.alloc();
+    let answer = QUICK_ANSWER.as_bytes();
+    for room in 0..answer.len() {
+        let mut desk = Desk::open(ListStore::new(alloc));
+        let mut output = Room::new(Vec::new(alloc), room);
+        let ended = serve_one(alloc, &mut QUICK.as_bytes(), &mut output, &mut desk);
+        assert_eq!(&rt; ended, Err(FaultKind::Write.without_line()), "{room}");
+        assert!(&rt; output.taken.as_slice() == &answer[..room], "{room}");
+        desk = keeps(&rt, alloc, desk, 1)?;
+        let mut output = Vec::new(alloc);
+        serve_one(alloc, &mut QUICK.as_bytes(), &mut output, &mut desk)?;
+        assert!(&rt; output.as_slice() == answer, "{room}");
+    }
+    Ok(())
+}
+
+/// A run in full mode is refused by its compile file, and so is its repeat; nothing of it is in the library.
+fn is_refused(rt: &impl Abort, alloc: Global, text: &str, wanted: &str) -> Result<(), Fail> {
+    let mut desk = Desk::open(ListStore::new(alloc));
+    for _ in 0..2 {
+        let reply = desk.arrive(alloc, "LYON", 1, "full", text.as_bytes())?;
+        assert!(rt; !reply.accepted);
+        assert_eq!(rt; std::str::from_utf8(&reply.text)?, wanted);
+        assert!(rt; desk.ident_list(alloc)?.is_empty());
+    }
+    desk = keeps(rt, alloc, desk, 1)?;
+    let reply = desk.arrive(alloc, "LYON", 2, "quick", text.as_bytes())?;
+    assert!(rt; reply.accepted && reply.text.starts_with(b"{\"compile\":\"\","));
+    Ok(())
+}
+
+#[test]
+fn a_deck_that_calls_itself_is_refused_and_kept(rt: HostRuntime) -> Result<(), Fail> {
+    let wanted = "{\"at\":0,\"fault\":21,\"mode\":\"full\",\"name\":\"CallDepth\",\"run\":1,\
+\"site\":\"LYON\",\"state\":\"refused\"}";
+    let text = "*COMDECK C\n*CALL C\n*DECK A\n*CALL C\n";
+    is_refused(&rt, rt.alloc(), text, wanted)
+}
+
+#[test]
+fn decks_that_call_each_other_ten_times_are_refused_and_kept(rt: HostRuntime) -> Result<(), Fail> {
+    let alloc = rt.alloc();
+    let wanted = "{\"at\":0,\"fault\":22,\"mode\":\"full\",\"name\":\"CompileLong\",\"run\":1,\
+\"site\":\"LYON\",\"state\":\"refused\"}";
+    let mut text = String::new(alloc);
+    for deck in 1..=7_u32 {
+        write!(text, "*COMDECK C{deck}\n")?;
+        let call = format!(in alloc; "*CALL C{}\n", deck.saturating_add(1))?;
+        text.push_str(&call.repeat(alloc, 10)?)?;
+    }
+    text.push_str("*COMDECK C8\n*DECK A\n*CALL C1\n")?;
+    is_refused(&rt, alloc, &text, wanted)
+}

@@ -1,0 +1,346 @@
+//! A desk that is refused memory once answers as with ample memory, or NoMemory, and nothing has changed then.
+//!
+//! Two desks are asked the same. At most one call meets the refusal: its desk is then as the other one, which isn't
+//! asked yet, and what it answers next is what the other one does.
+use std::alloc::Global;
+use std::process::Abort;
+use std::test::Fail;
+use upd_apply::apply;
+use upd_compile::{Mode, compile_file, list_idents};
+use upd_core::Library;
+use upd_deck::read_run;
+use upd_desk::{Arrival, Desk, Reply};
+use upd_rows::{ListStore, RowStore};
+use upd_text::{Fault, FaultKind};
+
+/// What is asked of a desk: a run of the site LYON, with its number and mode; a settlement; a listing.
+#[derive(Clone, Copy, Debug)]
+enum Ask<'a> {
+    Run(u64, &'a str, &'a str),
+    Settle(u64),
+    Compile,
+    Idents,
+    Yanks,
+}
+
+/// An answer, and how many cards the desk has looked at.
+#[derive(Drop)]
+struct Answer {
+    text: Result<Vec<u8>, Fault>,
+    work: u64,
+}
+
+impl Answer {
+    fn is_lost(&self) -> bool {
+        matches!(&self.text, Err(fault) if fault.kind == FaultKind::NoMemory)
+    }
+
+    fn is(&self, other: &Answer) -> bool {
+        let same = match (&self.text, &other.text) {
+            (Ok(one), Ok(two)) => one.as_slice() == two.as_slice(),
+            (Err(one), Err(two)) => one == two,
+            _ => false,
+        };
+        same && self.work == other.work
+    }
+}
+
+/// Asks a desk over a store.
+fn put(alloc: Global, store: ListStore, asked: Ask<'_>) -> (ListStore, Answer) {
+    let mut desk = Desk::open(store);
+    let text = match asked {
+        Ask::Run(number, mode, text) => desk
+            .arrive(alloc, "LYON", number, mode, text.as_bytes())
+            .map(|reply| reply.text),
+        Ask::Settle(number) => desk
+            .settle_site(alloc, "LYON", number)
+            .map(|_| Vec::new(alloc)),
+        Ask::Compile => desk.full_compile(alloc).map(|file| file.bytes),
+        Ask::Idents => desk.ident_list(alloc),
+        Ask::Yanks => desk.yank_list(alloc),
+    };
+    let work = desk.work();
+    (desk.close(), Answer { text, work })
+}
+
+/// Asks, and once more where memory is refused.
+fn put_again(alloc: Global, store: ListStore, asked: Ask<'_>) -> (ListStore, Answer) {
+    let (store, answer) = put(alloc, store, asked);
+    if answer.is_lost() {
+        put(alloc, store, asked)
+    } else {
+        (store, answer)
+    }
+}
+
+/// Two stores that show the same.
+#[derive(Drop)]
+struct Twins {
+    first: ListStore,
+    second: ListStore,
+}
+
+impl Twins {
+    fn new(alloc: Global) -> Twins {
+        Twins {
+            first: ListStore::new(alloc),
+            second: ListStore::new(alloc),
+        }
+    }
+
+    /// Asks both: the answer, which both give.
+    fn ask(self, rt: &impl Abort, alloc: Global, asked: Ask<'_>) -> Result<(Twins, Answer), Fail> {
+        let (first, answer) = put(alloc, self.first, asked);
+        let second = self.second;
+        let (twins, answer) = if answer.is_lost() {
+            let twins = Twins { first, second }.are_alike(rt, alloc)?;
+            let (first, answer) = put(alloc, twins.first, asked);
+            let second = twins.second;
+            (Twins { first, second }, answer)
+        } else {
+            (Twins { first, second }, answer)
+        };
+        let (second, wanted) = put_again(alloc, twins.second, asked);
+        assert!(rt; answer.is(&wanted), "{asked:?}");
+        let first = twins.first;
+        Ok((Twins { first, second }, answer))
+    }
+
+    /// Both show the same library, and the same runs are known to both.
+    fn are_alike(self, rt: &impl Abort, alloc: Global) -> Result<Twins, Fail> {
+        let mut twins = self;
+        for asked in [Ask::Idents, Ask::Yanks, Ask::Compile] {
+            let (first, answer) = put_again(alloc, twins.first, asked);
+            let (second, wanted) = put_again(alloc, twins.second, asked);
+            assert!(rt; answer.is(&wanted), "{asked:?}");
+            twins = Twins { first, second };
+        }
+        let mark = twins.first.mark(alloc, "LYON")?;
+        assert_eq!(rt; mark, twins.second.mark(alloc, "LYON")?);
+        twins.know_the_same(rt, alloc)
+    }
+
+    fn know_the_same(self, rt: &impl Abort, alloc: Global) -> Result<Twins, Fail> {
+        let mut twins = self;
+        for number in 1..=9 {
+            let first = twins.first.kept_run(alloc, "LYON", number)?;
+            let second = twins.second.kept_run(alloc, "LYON", number)?;
+            assert_eq!(rt; first.is_some(), second.is_some(), "{number}");
+        }
+        Ok(twins)
+    }
+}
+
+/// Asks both a list: the last answer.
+fn ask_all(rt: &impl Abort, alloc: Global, list: &[Ask<'_>]) -> Result<Answer, Fail> {
+    let mut twins = Twins::new(alloc);
+    let mut last = Answer {
+        text: Ok(Vec::new(alloc)),
+        work: 0,
+    };
+    for asked in list {
+        (twins, last) = twins.ask(rt, alloc, *asked)?;
+    }
+    Ok(last)
+}
+
+/// The last answer to a list is this text.
+fn says(rt: &impl Abort, alloc: Global, list: &[Ask<'_>], wanted: &str) -> Result<(), Fail> {
+    let answer = ask_all(rt, alloc, list)?;
+    assert_eq!(rt; std::str::from_utf8(&answer.text?)?, wanted);
+    Ok(())
+}
+
+const DECK_A: &str = "*DECK A\nONE\nTWO\nTHREE\n";
+
+const TRIAL: &str = "*DECK A\nONE\nTWO\nTHREE\n*IDENT X\n*INSERT A.2\nNEW\n";
+
+fn is_memory(rt: &impl Abort, fault: Fault) {
+    assert_eq!(rt; fault, FaultKind::NoMemory.without_line());
+}
+
+/// A run that is read, applied to an empty library and compiled, each again where memory is refused.
+#[test]
+fn one_run(rt: HostRuntime) -> Result<(), Fail> {
+    let alloc = rt.alloc();
+    let run = match read_run(alloc, TRIAL.as_bytes()) {
+        Ok(run) => run,
+        Err(fault) => {
+            is_memory(&rt, fault);
+            read_run(alloc, TRIAL.as_bytes())?
+        }
+    };
+    let before = Library::new(alloc);
+    let mut after = Library::new(alloc);
+    let applied = match apply(alloc, &mut after, &run) {
+        Ok(applied) => applied,
+        Err(fault) => {
+            is_memory(&rt, fault);
+            assert!(&rt; list_idents(alloc, &after)?.is_empty());
+            apply(alloc, &mut after, &run)?
+        }
+    };
+    let file = match compile_file(alloc, &after, &before, Mode::Full, &applied.compile) {
+        Ok(file) => file,
+        Err(fault) => {
+            is_memory(&rt, fault);
+            compile_file(alloc, &after, &before, Mode::Full, &applied.compile)?
+        }
+    };
+    assert!(&rt; file.lines == 4 && file.bytes.len() == 388);
+    assert!(&rt; file.bytes.starts_with(b"ONE "));
+    Ok(())
+}
+
+/// A set is yanked, its yank is yanked, and the second yank is taken back.
+#[test]
+fn yanks_of_yanks(rt: HostRuntime) -> Result<(), Fail> {
+    let list = [
+        Ask::Run(1, "full", DECK_A),
+        Ask::Run(2, "full", "*IDENT X\n*DELETE A.2\nNEW\n"),
+        Ask::Run(3, "full", "*IDENT Y\n*YANK X\n"),
+        Ask::Run(4, "full", "*IDENT Z\n*YANK Y\n"),
+        Ask::Compile,
+        Ask::Run(5, "full", "*IDENT W\n*DELETE Z.1\n"),
+        Ask::Run(4, "full", "*IDENT Z\n*YANK Y\n"),
+        Ask::Yanks,
+    ];
+    let wanted = "live Y.1 *YANK X\n set X\ndead Z.1 *YANK Y\n set Y\n";
+    says(&rt, rt.alloc(), &list, wanted)
+}
+
+/// Idents are purged back to one.
+#[test]
+fn purges(rt: HostRuntime) -> Result<(), Fail> {
+    let brought = "*IDENT X\n*INSERT A.4\nEND\n*DECK B\nBEE\n*IDENT Y\n*YANK A\n";
+    let list = [
+        Ask::Run(1, "full", DECK_A),
+        Ask::Run(2, "full", brought),
+        Ask::Run(3, "full", "*PURGE X,*\n"),
+        Ask::Compile,
+        Ask::Idents,
+    ];
+    let wanted = "1 A deck held\n2 X set purged\n3 B deck purged\n4 Y set purged\n";
+    says(&rt, rt.alloc(), &list, wanted)
+}
+
+/// Decks that call a common deck, in normal and in quick mode.
+fn calls(rt: &impl Abort, alloc: Global, commons: &str) -> Result<(), Fail> {
+    let list = [
+        Ask::Run(1, "normal", commons),
+        Ask::Run(2, "normal", "*IDENT X\n*INSERT C.2\nMORE\n"),
+        Ask::Run(3, "quick", "*COMPILE B\n"),
+        Ask::Compile,
+        Ask::Idents,
+    ];
+    let wanted = "1 C comdeck held\n2 A deck held\n3 B deck held\n4 X set held\n";
+    says(rt, alloc, &list, wanted)
+}
+
+#[test]
+fn calls_of_a_common_deck(rt: HostRuntime) -> Result<(), Fail> {
+    let commons = "*COMDECK C\nCEE\n*DECK A\n*CALL C\n*DECK B\nBEE\n";
+    calls(&rt, rt.alloc(), commons)?;
+    let commons = "*COMDECK C,NOPROP\nCEE\n*DECK A\n*CALL C\n*DECK B\nBEE\n";
+    calls(&rt, rt.alloc(), commons)
+}
+
+/// The last of six yanks in a row is taken back: six yank cards and one text are looked at.
+#[test]
+fn six_yanks_in_a_row(rt: HostRuntime) -> Result<(), Fail> {
+    let yanks = "*IDENT Y1\n*YANK X\n*IDENT Y2\n*YANK Y1\n*IDENT Y3\n*YANK Y2\n\
+*IDENT Y4\n*YANK Y3\n*IDENT Y5\n*YANK Y4\n*IDENT Y6\n*YANK Y5\n";
+    let list = [
+        Ask::Run(1, "quick", DECK_A),
+        Ask::Run(2, "quick", "*IDENT X\n*DELETE A.2\n"),
+        Ask::Run(3, "quick", yanks),
+        Ask::Run(4, "full", "*IDENT W\n*DELETE Y6.1\n"),
+    ];
+    let answer = ask_all(&rt, rt.alloc(), &list)?;
+    assert_eq!(&rt; answer.work, 7);
+    let text = answer.text?;
+    assert!(&rt; text.starts_with(b"{\"compile\":\"ONE "));
+    assert!(&rt;
+        text.ends_with(
+            b"\"lines\":3,\"mode\":\"full\",\"run\":4,\"site\":\"LYON\",\"state\":\"accepted\"}"
+        )
+    );
+    Ok(())
+}
+
+/// A run that is settled, then one that isn't there yet, then one of a lower number.
+#[test]
+fn settlements(rt: HostRuntime) -> Result<(), Fail> {
+    let list = [
+        Ask::Run(1, "full", DECK_A),
+        Ask::Run(2, "full", "*IDENT X\n*DELETE A.3\n"),
+        Ask::Settle(1),
+        Ask::Run(1, "full", DECK_A),
+        Ask::Run(2, "full", "*IDENT X\n*DELETE A.3\n"),
+        Ask::Settle(3),
+        Ask::Settle(2),
+        Ask::Run(3, "full", ""),
+    ];
+    let answer = ask_all(&rt, rt.alloc(), &list)?;
+    assert!(&rt; matches!(answer.text, Err(fault) if fault == FaultKind::Settled.without_line()));
+    Ok(())
+}
+
+fn arrival<'a>(number: u64, text: &'a str) -> Arrival<'a> {
+    Arrival {
+        site: "LYON",
+        number,
+        mode: "full",
+        bytes: text.as_bytes(),
+    }
+}
+
+/// A list of runs and their repeats that arrive together. One that is refused memory is as good as not sent.
+#[test]
+fn runs_that_arrive_together(rt: HostRuntime) -> Result<(), Fail> {
+    let alloc = rt.alloc();
+    let corrected = "*IDENT X\n*DELETE A.3\n";
+    let list = [
+        arrival(7, DECK_A),
+        arrival(6, corrected),
+        arrival(7, DECK_A),
+        arrival(6, corrected),
+    ];
+    let Twins { first, second } = Twins::new(alloc);
+    let mut desk = Desk::open(first);
+    let answers = desk.run_all(alloc, &list);
+    let first = desk.close();
+    let second = match answers {
+        Ok(answers) => arrive_beside(&rt, alloc, second, &list, &answers)?,
+        Err(fault) => {
+            is_memory(&rt, fault);
+            second
+        }
+    };
+    Twins { first, second }.are_alike(&rt, alloc)?;
+    Ok(())
+}
+
+/// Those that were answered arrive at another desk one by one, and are answered alike.
+fn arrive_beside(
+    rt: &impl Abort,
+    alloc: Global,
+    mut store: ListStore,
+    list: &[Arrival<'_>],
+    answers: &[Result<Reply, Fault>],
+) -> Result<ListStore, Fail> {
+    assert_eq!(rt; answers.len(), list.len());
+    for (arrival, answer) in list.iter().zip(answers) {
+        match answer {
+            Ok(reply) => {
+                let text = std::str::from_utf8(arrival.bytes)?;
+                let asked = Ask::Run(arrival.number, "full", text);
+                let (left, wanted) = put_again(alloc, store, asked);
+                store = left;
+                assert!(rt; reply.text.as_slice() == wanted.text?.as_slice());
+            }
+            Err(fault) => is_memory(rt, *fault),
+        }
+    }
+    Ok(store)
+}

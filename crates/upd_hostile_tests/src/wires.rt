@@ -1,0 +1,149 @@
+//! Spools and requests that are refused memory once.
+use crate::cut::{QUICK, QUICK_ANSWER};
+use crate::streams::Room;
+use std::alloc::Global;
+use std::process::Abort;
+use std::test::Fail;
+use upd_desk::Desk;
+use upd_http::serve_one;
+use upd_rows::{ListStore, RowStore};
+use upd_spool::spool;
+use upd_text::{Fault, FaultKind};
+
+const FRAMES: &str = "RUN LYON 1 full 22\n*DECK A\nONE\nTWO\nTHREE\n\n\
+RUN LYON 2 quick 0\n\nRUN LYON 3 full 21\n*IDENT X\n*DELETE A.3\n\n";
+
+const ROOM: usize = 1_000;
+
+/// The spool on a desk over a store: how it ended, and the answers.
+fn spooled(
+    alloc: Global,
+    store: ListStore,
+) -> Result<(ListStore, Result<u32, Fault>, Vec<u8>), Fail> {
+    let mut output = Room::new(Vec::with_capacity(alloc, ROOM)?, ROOM);
+    let mut desk = Desk::open(store);
+    let ended = spool(alloc, &mut FRAMES.as_bytes(), &mut output, &mut desk);
+    Ok((desk.close(), ended, output.taken))
+}
+
+fn count_lines(text: &[u8]) -> u32 {
+    let mut lines: u32 = 0;
+    for byte in text {
+        if *byte == b'\n' {
+            lines = lines.saturating_add(1);
+        }
+    }
+    lines
+}
+
+/// The runs of so many frames are kept, and no others.
+fn keeps(
+    rt: &impl Abort,
+    alloc: Global,
+    mut store: ListStore,
+    frames: u64,
+) -> Result<ListStore, Fail> {
+    for number in 1..=3 {
+        let kept = store.kept_run(alloc, "LYON", number)?;
+        assert_eq!(rt; kept.is_some(), number <= frames, "{number}");
+    }
+    Ok(store)
+}
+
+/// The frames before the one that is refused memory are answered and kept; the whole spool, sent again, is answered.
+#[test]
+fn a_spool(rt: HostRuntime) -> Result<(), Fail> {
+    let alloc = rt.alloc();
+    let (store, ended, before) = spooled(alloc, ListStore::new(alloc))?;
+    let frames = match ended {
+        Ok(count) => count,
+        Err(fault) => {
+            assert_eq!(&rt; fault.kind, FaultKind::NoMemory);
+            fault.at.saturating_sub(1)
+        }
+    };
+    assert_eq!(&rt; count_lines(&before), frames);
+    let store = keeps(&rt, alloc, store, u64::from(frames))?;
+    let (store, ended, answers) = spooled(alloc, store)?;
+    let (store, answers) = match ended {
+        Ok(_) => (store, answers),
+        Err(fault) => {
+            assert_eq!(&rt; fault.kind, FaultKind::NoMemory);
+            let (store, _, answers) = spooled(alloc, store)?;
+            (store, answers)
+        }
+    };
+    assert_eq!(&rt; count_lines(&answers), 3);
+    assert!(&rt; answers.starts_with(&before));
+    keeps(&rt, alloc, store, 3)?;
+    Ok(())
+}
+
+const NO_MEMORY: &str =
+    "HTTP/1.1 503 Service Unavailable\r\nContent-Type: application/json\r\nContent-Length: 37\r\n\
+Connection: close\r\n\r\n{\"at\":0,\"fault\":28,\"name\":\"NoMemory\"}";
+
+const CHANGED: &str =
+    "HTTP/1.1 409 Conflict\r\nContent-Type: application/json\r\nContent-Length: 39\r\n\
+Connection: close\r\n\r\n{\"at\":0,\"fault\":26,\"name\":\"RunChanged\"}";
+
+const UNKNOWN: &str =
+    "HTTP/1.1 404 Not Found\r\nContent-Type: application/json\r\nContent-Length: 40\r\n\
+Connection: close\r\n\r\n{\"at\":0,\"fault\":12,\"name\":\"DeckUnknown\"}";
+
+/// What is written for a request, nothing where no memory is left for the answer.
+fn answered(
+    rt: &impl Abort,
+    alloc: Global,
+    store: ListStore,
+    request: &str,
+) -> Result<(ListStore, Vec<u8>), Fail> {
+    let mut output = Room::new(Vec::with_capacity(alloc, ROOM)?, ROOM);
+    let mut desk = Desk::open(store);
+    let ended = serve_one(alloc, &mut request.as_bytes(), &mut output, &mut desk);
+    if let Err(fault) = ended {
+        assert_eq!(rt; fault, FaultKind::NoMemory.without_line());
+        assert!(rt; output.taken.is_empty());
+    }
+    Ok((desk.close(), output.taken))
+}
+
+/// A request is answered by this text; where it is refused memory, the run of number 1 is known as before, and the
+/// request is answered when it comes again.
+fn says(
+    rt: &impl Abort,
+    alloc: Global,
+    store: ListStore,
+    request: &str,
+    known: u64,
+    wanted: &str,
+) -> Result<ListStore, Fail> {
+    let (store, answer) = answered(rt, alloc, store, request)?;
+    let (store, answer) = if answer.is_empty() || answer.as_slice() == NO_MEMORY.as_bytes() {
+        let store = keeps(rt, alloc, store, known)?;
+        answered(rt, alloc, store, request)?
+    } else {
+        (store, answer)
+    };
+    assert_eq!(rt; std::str::from_utf8(&answer)?, wanted);
+    Ok(store)
+}
+
+/// A run, its repeat, its number with another mode, and a deck that isn't there.
+#[test]
+fn requests(rt: HostRuntime) -> Result<(), Fail> {
+    let alloc = rt.alloc();
+    let store = says(&rt, alloc, ListStore::new(alloc), QUICK, 0, QUICK_ANSWER)?;
+    let store = says(&rt, alloc, store, QUICK, 1, QUICK_ANSWER)?;
+    let changed = "POST /sites/LYON/runs/1/full HTTP/1.1\r\nHost: lib\r\nContent-Length: 0\r\n\r\n";
+    let store = says(&rt, alloc, store, changed, 1, CHANGED)?;
+    says(
+        &rt,
+        alloc,
+        store,
+        "GET /decks/NOPE HTTP/1.1\r\n\r\n",
+        1,
+        UNKNOWN,
+    )?;
+    Ok(())
+}
