@@ -1,7 +1,7 @@
 #!/usr/bin/env python3
-"""Treats the lasting executable badly: mutated requests, mutated spools, and a desk that is killed in the middle of a spool.
+"""Treats the lasting executable badly: mutated requests, mutated spools, a desk that is killed in the middle of a spool, and very many frames.
 
-    python3 bench/campaign.py [--upd PATH] [--seed N] [--requests N] [--spools N] [--kills N]
+    python3 bench/campaign.py [--upd PATH] [--seed N] [--requests N] [--spools N] [--kills N] [--frames N]
 
 Each answer has to be one of those that docs/rules.md defines, and what was answered has to be there afterwards. The exit status is 1 where it isn't.
 """
@@ -13,6 +13,7 @@ import re
 import subprocess
 import sys
 import tempfile
+import threading
 from pathlib import Path
 
 sys.dont_write_bytecode = True
@@ -162,10 +163,61 @@ def try_kills(upd, folder, dice, count):
     return bad + sound(upd, file)
 
 
+MOST_FRAMES = 100_000
+REPLY = b'{"compile":"","idents":[],"lines":0,"mode":"quick","run":%d,"site":"LYON","state":"accepted"}\n'
+
+
+def numbered(dice, count):
+    """The numbers of so many runs, in order; every tenth comes a second time instead."""
+    new = 0
+    for frame in range(1, count + 1):
+        again = frame % 10 == 0
+        new += not again
+        yield dice.randint(1, new) if again else new
+
+
+def memory(process, field):
+    """What a process has of memory, in KiB."""
+    return int(re.search(field + r":\s+([0-9]+) kB", Path(f"/proc/{process.pid}/status").read_text())[1])
+
+
+def feed(pipe, numbers):
+    for at in range(0, len(numbers), 1000):
+        pipe.write(b"".join(b"RUN LYON %d quick 0\n\n" % number for number in numbers[at:at + 1000]))
+    pipe.flush()
+
+
+def spool_them(upd, file, numbers, before, marks):
+    """Lets one spool arrive: how many answers are wrong. At its first frame and at each mark the process's memory is told."""
+    process = subprocess.Popen([upd, "spool", file], stdin=subprocess.PIPE, stdout=subprocess.PIPE)
+    feeder = threading.Thread(target=feed, args=(process.stdin, numbers))
+    feeder.start()
+    bad = 0
+    for at, number in enumerate(numbers, before + 1):
+        bad += process.stdout.readline() != REPLY % number
+        if at in marks or at == before + 1:
+            now, most, held = memory(process, "VmRSS"), memory(process, "VmHWM"), file.stat().st_size >> 10
+            print(f"at frame {at}: {now} KiB, {most} at most; the file has {held} KiB", flush=True)
+    feeder.join()
+    process.stdin.close()
+    return bad + (process.wait() != 0)
+
+
+def try_frames(upd, folder, dice, count):
+    file = folder / "frames.db"
+    subprocess.run([upd, "init", file], check=True)
+    numbers, bad = list(numbered(dice, count)), 0
+    marks = {count // 10, count // 2, count, *range(MOST_FRAMES, count, MOST_FRAMES)}
+    for before in range(0, count, MOST_FRAMES):
+        bad += spool_them(upd, file, numbers[before:before + MOST_FRAMES], before, marks)
+    print(f"{count} frames, a tenth of them repeats: {bad} wrong answers")
+    return bad + sound(upd, file)
+
+
 def main():
     words = argparse.ArgumentParser()
     words.add_argument("--upd", default=UPD)
-    for name, count in [("seed", 1), ("requests", 10_000), ("spools", 10_000), ("kills", 200)]:
+    for name, count in [("seed", 1), ("requests", 10_000), ("spools", 10_000), ("kills", 200), ("frames", 1_000_000)]:
         words.add_argument(f"--{name}", type=int, default=count)
     words = words.parse_args()
     dice = random.Random(words.seed)
@@ -174,6 +226,7 @@ def main():
         bad = try_requests(words.upd, folder, dice, words.requests) if words.requests else 0
         bad += try_spools(words.upd, folder, dice, words.spools) if words.spools else 0
         bad += try_kills(words.upd, folder, dice, words.kills) if words.kills else 0
+        bad += try_frames(words.upd, folder, dice, words.frames) if words.frames else 0
     print(f"{bad} wrong")
     sys.exit(bad > 0)
 
