@@ -18,11 +18,11 @@ const RUN_CHANGED: &str = "{\"at\":0,\"fault\":26,\"name\":\"RunChanged\"}\n";
 
 const SETTLED: &str = "{\"at\":0,\"fault\":27,\"name\":\"Settled\"}\n";
 
-const NOWHERE: &str =
-    "{\"at\":1,\"fault\":9,\"mode\":\"full\",\"name\":\"TextNowhere\",\"run\":1,\"site\":\"LYON\",\"state\":\"refused\"}\n";
+const NOWHERE: &str = "{\"at\":1,\"fault\":9,\"mode\":\"full\",\"name\":\"TextNowhere\",\"run\":1,\
+\"site\":\"LYON\",\"state\":\"refused\"}\n";
 
-const FULL_EMPTY: &str =
-    "{\"compile\":\"\",\"idents\":[],\"lines\":0,\"mode\":\"full\",\"run\":2,\"site\":\"LYON\",\"state\":\"accepted\"}\n";
+const FULL_EMPTY: &str = "{\"compile\":\"\",\"idents\":[],\"lines\":0,\"mode\":\"full\",\"run\":2,\
+\"site\":\"LYON\",\"state\":\"accepted\"}\n";
 
 fn desk(alloc: Global) -> Desk<ListStore> {
     Desk::open(ListStore::new(alloc))

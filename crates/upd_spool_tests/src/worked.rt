@@ -32,18 +32,21 @@ pub fn first_answer(alloc: Global) -> Result<String, Fail> {
     let two = compile_line(alloc, "TWO", 3)?;
     let three = compile_line(alloc, "THREE", 4)?;
     Ok(format!(in alloc;
-        "{{\"compile\":\"{one}{two}{three}\",\"idents\":[\"A\"],\"lines\":3,\"mode\":\"full\",\"run\":1,\"site\":\"LYON\",\"state\":\"accepted\"}}\n"
+        "{{\"compile\":\"{one}{two}{three}\",\"idents\":[\"A\"],\"lines\":3,\"mode\":\"full\",\
+\"run\":1,\"site\":\"LYON\",\"state\":\"accepted\"}}\n"
     )?)
 }
 
 pub const SECOND_ANSWER: &str =
-    "{\"compile\":\"\",\"idents\":[],\"lines\":0,\"mode\":\"quick\",\"run\":2,\"site\":\"LYON\",\"state\":\"accepted\"}\n";
+    "{\"compile\":\"\",\"idents\":[],\"lines\":0,\"mode\":\"quick\",\"run\":2,\
+\"site\":\"LYON\",\"state\":\"accepted\"}\n";
 
 fn third_answer(alloc: Global) -> Result<String, Fail> {
     let one = compile_line(alloc, "ONE", 2)?;
     let three = compile_line(alloc, "THREE", 4)?;
     Ok(format!(in alloc;
-        "{{\"compile\":\"{one}{three}\",\"idents\":[\"X\"],\"lines\":2,\"mode\":\"full\",\"run\":3,\"site\":\"LYON\",\"state\":\"accepted\"}}\n"
+        "{{\"compile\":\"{one}{three}\",\"idents\":[\"X\"],\"lines\":2,\"mode\":\"full\",\
+\"run\":3,\"site\":\"LYON\",\"state\":\"accepted\"}}\n"
     )?)
 }
 
