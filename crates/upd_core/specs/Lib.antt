@@ -9,6 +9,7 @@ pub mod Counted
 pub mod Limits
 pub mod Counts
 pub mod Edits
+pub mod EditParts
 pub mod Parts
 pub mod Gone
 pub mod Sound

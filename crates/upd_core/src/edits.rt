@@ -3,7 +3,7 @@
 ghost use Rattle.std.specs.Prelude.{◌≡◌, ◌==◌, ◌-◌, ◌+◌, ◌<◌, ◌≤◌, length, map, take, insert};
 ghost use Rattle.std.specs.Prelude.{find, is_some, IfOk, IfSome, OnOk, OnErr};
 ghost use Rattle.std.specs.Option.{option_map_or};
-ghost use Rattle.upd_core.specs.Parts.{entered_count, entered_in, inserted_in, without_last};
+ghost use Rattle.upd_core.specs.EditParts.{entered_count, entered_in, inserted_in, without_last};
 ghost use Rattle.upd_core.specs.Edits.{introduced, with_deck, with_card, with_yank, entered, entered_range};
 ghost use Rattle.upd_core.specs.Edits.{with_entries, without_idents, purged, purged_in, purged_back, is_among};
 ghost use Rattle.upd_core.specs.First.{index_from, at_first};

@@ -12,7 +12,7 @@ use Rattle.upd_core.specs.Library.{CardView, DeckView, LibraryView, all_decks, i
 use Rattle.upd_core.specs.Sound.{IsOfHeld, IsSound, is_held_deck}
 use Rattle.upd_core.proofs.FoundLemmas.{card_place, place_found}
 use Rattle.upd_deck.specs.Items.{LineView}
-use Rattle.upd_rows.specs.Parts.{cards_of_decks, entries_of_decks, part, part_of}
+use Rattle.upd_core.specs.Parts.{cards_of_decks, entries_of_decks, part, part_of}
 use Rattle.upd_laws.proofs.SoundIdentLemmas.{held_deck_held, held_within}
 use Rattle.upd_laws.proofs.SoundListLemmas.{all_each, all_filter, all_weaker, and_left, and_right, same_number}
 use Rattle.upd_parts.specs.Needless.{NamesNone, cards_named, left_out, others_of}

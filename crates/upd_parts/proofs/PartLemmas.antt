@@ -13,7 +13,7 @@ use Rattle.upd_core.specs.First.{index_from, at_first}
 use Rattle.upd_core.specs.Edits.{with_deck}
 use Rattle.upd_core.specs.Library.{CardView, DeckView, LibraryView, all_decks, cards_of, ident_of, is_card, is_deck, place_in, place_of, with_cards}
 use Rattle.upd_core.specs.Limits.{card_count, entry_count, is_within_limits}
-use Rattle.upd_rows.specs.Parts.{cards_of_decks, entries_of_decks, part}
+use Rattle.upd_core.specs.Parts.{cards_of_decks, entries_of_decks, part}
 use Rattle.upd_laws.proofs.SoundListLemmas.{same_number}
 use Rattle.upd_parts.specs.Needless.{cards_named, left_out}
 use Rattle.upd_deck.specs.Items.{LineView}

@@ -9,7 +9,7 @@ use Rattle.upd_core.specs.Edits.{is_among}
 use Rattle.upd_core.specs.Library.{DeckView, LibraryView, all_decks, place_of}
 use Rattle.upd_deck.specs.Items.{ItemView, LineView, Insert, Before, Delete, Restore, Yank, SelYank, YankDeck, Purge, PurgeFrom, SelPurge, PurDeck}
 use Rattle.upd_apply.specs.Applying.{Reached}
-use Rattle.upd_rows.specs.Parts.{part}
+use Rattle.upd_core.specs.Parts.{part}
 
 -- whether a line neither yanks nor purges
 abbrev pub is_plain : ItemView → Bool

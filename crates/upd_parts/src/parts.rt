@@ -9,7 +9,7 @@ ghost use Rattle.upd_change.specs.Rows.{same_ref};
 ghost use Rattle.upd_change.specs.Touched.{touched};
 ghost use Rattle.upd_deck.specs.Items.{LineView};
 ghost use Rattle.upd_apply.specs.Applying.{Reached, applied};
-ghost use Rattle.upd_rows.specs.Parts.{part_of};
+ghost use Rattle.upd_core.specs.Parts.{part_of};
 ghost use Rattle.upd_parts.specs.Needless.{DoesWithout, NamesNone, are_plain, left_out, others_of, reached_in_part};
 
 /// Loaded with the decks that hold the cards which a run names, a library gives the same refusal as the whole one, or

@@ -18,7 +18,7 @@ use Rattle.upd_change.proofs.CountLemmas.{count_cons, same_trans}
 use Rattle.upd_change.specs.Rows.{IsSame, Rows, Shows, card_rows, entry_rows, rows_of}
 use Rattle.upd_rows.specs.Assembling.{AreRowsOf, library_of}
 use Rattle.upd_rows.specs.declared.rows.LibraryRows.{LibraryRows}
-use Rattle.upd_rows.specs.Parts.{cards_of_decks, entries_of_decks, part_of}
+use Rattle.upd_core.specs.Parts.{cards_of_decks, entries_of_decks, part_of}
 
 -- one more element of those that are counted, or of the others
 pub left_more : {A : Type 0} (left : A → Bool) (size : A → ℕ) (xs : List A) (i : ℕ) (d x : A) (count more : ℕ) → i < length xs → x ≡ get_or xs i d

@@ -8,7 +8,7 @@ ghost use Rattle.upd_change.specs.Rows.{Rows, Shows, same_ref};
 ghost use Rattle.upd_rows.specs.Assembling.{AreAgesOf, AreByAge, AreByCard, AreByPlace, AreRowsOf};
 ghost use Rattle.upd_rows.specs.Assembling.{AreTargetsByCard, age_named, card_in, decks_in, entries_of, library_of};
 ghost use Rattle.upd_rows.specs.Assembling.{targets_of};
-ghost use Rattle.upd_rows.specs.Parts.{part_of};
+ghost use Rattle.upd_core.specs.Parts.{part_of};
 
 use crate::parts::part_of;
 use crate::rows::{CardRow, EntryRow, LibraryRows, TargetRow};

@@ -11,7 +11,7 @@ ghost use Rattle.upd_change.specs.Changes.{change_seen};
 ghost use Rattle.upd_change.specs.Fits.{AllFit};
 ghost use Rattle.upd_change.specs.Rows.{Rows, Shows};
 ghost use Rattle.upd_rows.specs.Assembling.{AreRowsOf};
-ghost use Rattle.upd_rows.specs.Parts.{part_of};
+ghost use Rattle.upd_core.specs.Parts.{part_of};
 ghost use Rattle.upd_rows.specs.Tables.{AreRead, committed, count_pair, is_mark_of, is_settled, mark_at, run_at};
 ghost use Rattle.upd_rows.specs.Tables.{settled_to, state_pair};
 

@@ -7,7 +7,7 @@ ghost use Rattle.upd_change.specs.Changes.{change_seen};
 ghost use Rattle.upd_change.specs.Rows.{Rows, Shows};
 ghost use Rattle.upd_change.specs.Fits.{AllFit};
 ghost use Rattle.upd_rows.specs.Keeping.{IsLost, Keeps, MoreFailures, Tries};
-ghost use Rattle.upd_rows.specs.Parts.{part_of};
+ghost use Rattle.upd_core.specs.Parts.{part_of};
 ghost use Rattle.upd_rows.specs.Tables.{AreRead, committed, mark_at, run_at, settled_to};
 
 use std::alloc::Global;
