@@ -12,6 +12,7 @@ mod ArriveAllLemmas
 mod SettlesLemmas
 mod RefusedLemmas
 mod QueryLemmas
+mod ListedLemmas
 mod LeadLemmas
 mod WorkLemmas
 mod LawLemmas

@@ -16,6 +16,7 @@ ghost use Rattle.upd_yank.specs.Affected.{altered};
 
 use crate::arrival::Arrival;
 use crate::arrive::arrive_at;
+use crate::loading::load_deck_named;
 use crate::reply::Reply;
 use crate::settle::settle_at;
 use std::alloc::Global;
@@ -186,7 +187,7 @@ impl<S: RowStore> Desk<S> {
         ensures failed { IfErr result (λ fault. fault.kind ≡ Store
             → MoreFailures (S.failures_of self.old.store) (S.failures_of self.new.store)) }
     {
-        let library = match self.store.load(alloc) {
+        let library = match load_deck_named(&mut self.store, alloc, name) {
             Ok(library) => library,
             Err(fault) => return Err(fault),
         };
@@ -228,11 +229,11 @@ impl<S: RowStore> Desk<S> {
         ensures failed { IfErr result (λ fault. fault.kind ≡ Store
             → MoreFailures (S.failures_of self.old.store) (S.failures_of self.new.store)) }
     {
-        let library = match self.store.load(alloc) {
-            Ok(library) => library,
+        let head = match self.store.load_decks(alloc, &[]) {
+            Ok(head) => head,
             Err(fault) => return Err(fault),
         };
-        match list_idents(alloc, &library) {
+        match list_idents(alloc, &head) {
             Ok(text) => Ok(text),
             Err(fault) => Err(fault),
         }
@@ -249,11 +250,11 @@ impl<S: RowStore> Desk<S> {
         ensures failed { IfErr result (λ fault. fault.kind ≡ Store
             → MoreFailures (S.failures_of self.old.store) (S.failures_of self.new.store)) }
     {
-        let library = match self.store.load(alloc) {
-            Ok(library) => library,
+        let head = match self.store.load_decks(alloc, &[]) {
+            Ok(head) => head,
             Err(fault) => return Err(fault),
         };
-        match list_yanks(alloc, &library) {
+        match list_yanks(alloc, &head) {
             Ok(text) => Ok(text),
             Err(fault) => Err(fault),
         }
