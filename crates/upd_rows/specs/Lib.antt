@@ -2,3 +2,4 @@ pub mod Tables
 pub mod Keeping
 pub mod Lists
 pub mod Assembling
+pub mod Asked

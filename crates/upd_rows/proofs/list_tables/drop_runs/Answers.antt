@@ -2,7 +2,7 @@ use Rattle.std.proofs.Common.{Bool, not, rules}
 use Rattle.std.proofs.lemmas.Fn.{filter_same}
 use Rattle.upd_change.specs.Rows.{RunView}
 use Rattle.upd_rows.specs.Tables.{is_settled}
-use Rattle.upd_rows.proofs.list_store.drop_runs.Goals as goal
+use Rattle.upd_rows.proofs.list_tables.drop_runs.Goals as goal
 
 pub returns : goal.returns
 returns c =

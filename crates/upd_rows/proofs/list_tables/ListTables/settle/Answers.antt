@@ -2,7 +2,7 @@ use Rattle.std.proofs.Common.{◌≡◌, nat_le, false, sym, arith}
 use Rattle.std.proofs.lemmas.Bool.Decides.{nat_tests}
 use Rattle.upd_rows.specs.Tables.{mark_at}
 use Rattle.upd_rows.proofs.TableLemmas.{settled_mark}
-use Rattle.upd_rows.proofs.list_store.ListStore.settle.Goals as goal
+use Rattle.upd_rows.proofs.list_tables.ListTables.settle.Goals as goal
 
 pub returns-clause-mark : goal.returns-clause-mark
 returns-clause-mark c =

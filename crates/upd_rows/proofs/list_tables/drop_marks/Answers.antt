@@ -2,7 +2,7 @@ use Rattle.std.proofs.Common.{Bool, not, rules}
 use Rattle.std.proofs.lemmas.Fn.{filter_same}
 use Rattle.upd_change.specs.Rows.{MarkRow}
 use Rattle.upd_rows.specs.Tables.{is_mark_of}
-use Rattle.upd_rows.proofs.list_store.drop_marks.Goals as goal
+use Rattle.upd_rows.proofs.list_tables.drop_marks.Goals as goal
 
 pub returns-clause-rest : goal.returns-clause-rest
 returns-clause-rest c =

@@ -1,7 +1,7 @@
 use Rattle.std.proofs.Common.{◌≡◌, map, drop}
 use Rattle.upd_change.specs.Changes.{change_seen, done_all}
 use Rattle.upd_change.specs.Fits.{AllFit}
-use Rattle.upd_rows.proofs.list_store.ListStore.carry_out_all.Given as goal
+use Rattle.upd_rows.proofs.list_tables.ListTables.carry_out_all.Given as goal
 
 abbrev pub invariant-loop-change : goal.invariant-loop-change
 invariant-loop-change l =

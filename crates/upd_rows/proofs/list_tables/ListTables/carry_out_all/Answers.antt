@@ -1,6 +1,6 @@
 use Rattle.std.proofs.Common.{◌∙◌}
 use Rattle.upd_rows.proofs.ListLemmas.{next_change}
-use Rattle.upd_rows.proofs.list_store.ListStore.carry_out_all.Goals as goal
+use Rattle.upd_rows.proofs.list_tables.ListTables.carry_out_all.Goals as goal
 
 pub loop-change-preserved : goal.loop-change-preserved
 loop-change-preserved c = λ fit.
