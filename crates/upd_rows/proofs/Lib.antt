@@ -7,3 +7,5 @@ mod SortLemmas
 mod RowLemmas
 mod PlaceLemmas
 mod AssembleLemmas
+pub mod HolderLemmas
+mod KeyLemmas

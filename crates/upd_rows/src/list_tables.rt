@@ -204,7 +204,12 @@ impl ListTables {
     }
 
     /// One settlement: where memory runs out nothing is changed.
-    pub(crate) fn settle(&mut self, alloc: Global, site: &str, number: u64) -> Result<u64, AllocError>
+    pub(crate) fn settle(
+        &mut self,
+        alloc: Global,
+        site: &str,
+        number: u64,
+    ) -> Result<u64, AllocError>
         ensures mark { IfOk result (λ mark. mark ≡ mark_at site.now (settled_to site.now number self.old)) }
         ensures done { OnOk result (self.new ≡ settled_to site.now number self.old) }
         ensures undone { OnErr result (self.new ≡ self.old) }

@@ -9,9 +9,9 @@ use crate::sql_store::SqlStore;
 use sqlite::Connection;
 use std::alloc::Global;
 use upd_change::{Change, RunRow};
-use upd_core::{Library, Serial, States};
+use upd_core::{CardRef, Library, Serial, States};
 use upd_order::Rising;
-use upd_rows::{RowStore, assembled, assembled_part};
+use upd_rows::{RowStore, assembled, assembled_part, reads_with, states_by_key};
 use upd_sql::{
     commit_changes, is_library_schema, kept_library, kept_mark, kept_run, kept_states, settle_site,
 };
@@ -49,6 +49,8 @@ impl<S: Rising> RowStore for SqlStore<S> {
 
     ghost failures_of = { λ s. s.failures };
 
+    ghost reads_of = { λ s. s.decks_read };
+
     ghost caused = { λ _ _. Unit {0} };
 
     fn load(&mut self, alloc: Global) -> Result<Library, Fault> {
@@ -57,7 +59,10 @@ impl<S: Rising> RowStore for SqlStore<S> {
         }
         match kept_library(&mut self.conn, alloc) {
             Ok(rows) => match assembled(alloc, rows) {
-                Ok(library) => Ok(library),
+                Ok(library) => {
+                    self.decks_read = reads_with(self.decks_read, &library);
+                    Ok(library)
+                }
                 Err(_) => Err(no_memory()),
             },
             Err(error) => Err(counted(error, &mut self.failures)),
@@ -70,11 +75,18 @@ impl<S: Rising> RowStore for SqlStore<S> {
         }
         match kept_library(&mut self.conn, alloc) {
             Ok(rows) => match assembled_part(alloc, rows, decks) {
-                Ok(library) => Ok(library),
+                Ok(library) => {
+                    self.decks_read = reads_with(self.decks_read, &library);
+                    Ok(library)
+                }
                 Err(_) => Err(no_memory()),
             },
             Err(error) => Err(counted(error, &mut self.failures)),
         }
+    }
+
+    fn decks_of(&mut self, _: Global, _: &[CardRef]) -> Result<Vec<Serial>, Fault> {
+        Err(no_memory())
     }
 
     fn load_states(&mut self, alloc: Global) -> Result<States, Fault> {
@@ -82,7 +94,7 @@ impl<S: Rising> RowStore for SqlStore<S> {
             return Err(refused(&mut self.failures));
         }
         match kept_states(&mut self.conn, alloc) {
-            Ok(states) => Ok(states),
+            Ok(states) => Ok(states_by_key(states)),
             Err(error) => Err(counted(error, &mut self.failures)),
         }
     }
@@ -129,6 +141,10 @@ impl<S: Rising> RowStore for SqlStore<S> {
 
     fn failures(&self) -> u64 {
         self.failures
+    }
+
+    fn decks_read(&self) -> u64 {
+        self.decks_read
     }
 
     ghost one = { shows_one };
