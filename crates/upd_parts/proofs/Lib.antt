@@ -3,4 +3,5 @@ pub mod StepLemmas
 pub mod RunLemmas
 pub mod AppliedLemmas
 pub mod NeedLemmas
+pub mod NeededLemmas
 pub mod StayLemmas

@@ -3,4 +3,5 @@
 //! Each function has an empty body, and each clause of it is a law about the definitions that other contracts cite.
 #![tactic(auto)]
 
+pub mod needs;
 pub mod parts;
