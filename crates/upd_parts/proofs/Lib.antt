@@ -4,4 +4,5 @@ pub mod RunLemmas
 pub mod AppliedLemmas
 pub mod NeedLemmas
 pub mod NeededLemmas
+pub mod CountLemmas
 pub mod StayLemmas
