@@ -1,10 +1,10 @@
 -- How many decks stand in a part, and the whole as a part.
-use Rattle.std.proofs.Common.{◌≡◌, ℕ, ◌+◌, ◌≤◌, Bool, true, false, not, cond, ◌||◌, List, [], ◌∷◌, length, map, refl, sym, ap, ◌∙◌, subst, arith}
-use Rattle.std.proofs.lemmas.Bool.Decides.{nat_tests, Decides-eqb}
+use Rattle.std.proofs.Common.{◌≡◌, ℕ, ◌+◌, ◌≤◌, Bool, true, false, not, cond, ◌||◌, List, [], ◌∷◌, length, map, refl, sym, ap, subst, arith}
+use Rattle.std.proofs.lemmas.Bool.Decides.{Decides-eqb}
 use Rattle.std.specs.Prelude.{◌==◌}
 use Rattle.std.specs.List.{filter, AllByRecursion}
 use Rattle.upd_core.specs.Edits.{is_among}
-use Rattle.upd_core.specs.Library.{DeckView, LibraryView, all_decks}
+use Rattle.upd_core.specs.Library.{DeckView, LibraryView}
 use Rattle.upd_core.specs.Parts.{cards_of_decks, entries_of_decks, part_of}
 use Rattle.upd_core.specs.Sound.{AreApart, IsSound}
 use Rattle.upd_core.proofs.FoundLemmas.{deck_ages_apart}
