@@ -6,3 +6,6 @@ pub mod NeedLemmas
 pub mod NeededLemmas
 pub mod CountLemmas
 pub mod StayLemmas
+pub mod WeaveLemmas
+pub mod WholeLemmas
+pub mod PartSoundLemmas

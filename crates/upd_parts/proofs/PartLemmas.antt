@@ -60,7 +60,7 @@ place_in_kept out (d ∷ ds) z n p none found = go (out d.ident) refl (index_fro
     go false e (Some i) f later = let same : d.ident ≡ p.deck = (let h = rw f at found in cc) in rw (sym same) e
     go false e None f later = later (rw e at none) (rw f at found)
 
-kept_all : (out : ℕ → Bool) (l : LibraryView) → out 0 ≡ false → all_decks (part out l) ≡ kept_of out (all_decks l)
+pub kept_all : (out : ℕ → Bool) (l : LibraryView) → out 0 ≡ false → all_decks (part out l) ≡ kept_of out (all_decks l)
 kept_all out l yanks = rw yanks refl
 
 pub place_same : (out : ℕ → Bool) (l : LibraryView) (card : CardRef) → out 0 ≡ false → IsNotIn (left_out out l) l card
