@@ -10,4 +10,5 @@ pub mod YankLemmas
 pub mod LiveLemmas
 pub mod FlatLemmas
 pub mod CountedLemmas
+pub mod ActiveLemmas
 mod EnterLemmas

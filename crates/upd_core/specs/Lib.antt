@@ -14,5 +14,6 @@ pub mod Parts
 pub mod Gone
 pub mod Sound
 pub mod Actives
+pub mod ActiveTexts
 pub mod Order
 pub mod Entries

@@ -9,7 +9,8 @@ ghost use Rattle.upd_text.specs.declared.fault.FaultKind.TheVariants.{NoMemory};
 ghost use Rattle.upd_core.specs.Library.{empty, held_named, ident_of, deck_of, place_of, cards_of, card_in};
 ghost use Rattle.upd_core.specs.Status.{live_of, status_of};
 
-use crate::actives::{Actives, active_decks};
+use crate::active_refs::{ActivesRef, active_decks};
+use crate::actives::Actives;
 use crate::card::{Card, copy_cards};
 use crate::counts::Counts;
 use crate::deck::{Deck, card_index, copy_decks, deck_aged, place_in};
@@ -228,15 +229,25 @@ impl Library {
         Some(is_active(&live.targets, place.deck, card))
     }
 
-    /// The active cards of all decks other than `YANK$$$`; memory alone can fail.
-    pub fn actives(&self) -> Result<Actives<'_>, Fault>
+    /// The active cards of all decks other than `YANK$$$`, copied; memory alone can fail.
+    pub fn actives(&self) -> Result<Actives, Fault>
+        ensures ok { IfOk result (λ actives. actives ≡ actives_of self.now) }
+        ensures err { IsOkUnless result (fault_at NoMemory 0) }
+    {
+        let shown = self.actives_shown()?;
+        let actives = shown.copy()?;
+        Ok(actives)
+    }
+
+    /// The same where they stand: no text is copied.
+    pub fn actives_shown(&self) -> Result<ActivesRef<'_>, Fault>
         ensures ok { IfOk result (λ actives. actives ≡ actives_of self.now) }
         ensures err { IsOkUnless result (fault_at NoMemory 0) }
     {
         let alloc = *self.decks.allocator();
         let (_, live) = swept(alloc, &self.yanks)?;
         let decks = active_decks(alloc, &live, &self.decks)?;
-        Ok(Actives {
+        Ok(ActivesRef {
             idents: &self.idents,
             decks,
         })

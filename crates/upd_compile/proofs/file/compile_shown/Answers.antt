@@ -1,6 +1,6 @@
 use Rattle.std.proofs.Common.{arith}
 use Rattle.std.proofs.lemmas.Grind.{common_steps}
-use Rattle.upd_compile.proofs.file.compile_active.Goals as goal
+use Rattle.upd_compile.proofs.file.compile_shown.Goals as goal
 
 pub returns-in_err-source : goal.returns-in_err-source
 returns-in_err-source c = grind (arith, common_steps)
