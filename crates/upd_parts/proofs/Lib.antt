@@ -9,3 +9,4 @@ pub mod StayLemmas
 pub mod WeaveLemmas
 pub mod WholeLemmas
 pub mod PartSoundLemmas
+pub mod LeftLemmas

@@ -89,12 +89,12 @@ part_of_others ages l sound = λ i. record {
 
 -- ---- what is left out holds no card that is found elsewhere
 
-record IsIn (test : DeckView → Bool) (d : DeckView) (ds : List DeckView) : Type 0 where
-  index : ℕ
-  found : slice_get ds index ≡ Some d
-  passes : test d ≡ true
+pub record IsIn (test : DeckView → Bool) (d : DeckView) (ds : List DeckView) : Type 0 where
+  pub index : ℕ
+  pub found : slice_get ds index ≡ Some d
+  pub passes : test d ≡ true
 
-among : (test : DeckView → Bool) (ds : List DeckView) (k : ℕ) (d : DeckView) → slice_get (filter test ds) k ≡ Some d → IsIn test d ds
+pub among : (test : DeckView → Bool) (ds : List DeckView) (k : ℕ) (d : DeckView) → slice_get (filter test ds) k ≡ Some d → IsIn test d ds
 among test [] k d e = absurd (cc)
 among test (x ∷ ds) k d e = go (test x) refl k e (λ j. among test ds j d)
   where

@@ -1,5 +1,5 @@
 //! What a run without yanks and purges makes of decks of which it names no card: nothing.
-ghost use Rattle.std.specs.Prelude.{◌≡◌, Bool, true, false, List, IsTrue, Ok};
+ghost use Rattle.std.specs.Prelude.{◌≡◌, ◌==◌, Bool, true, false, List, IsTrue, Ok};
 ghost use Rattle.std.specs.List.{Contains, list_any};
 ghost use Rattle.upd_core.specs.Ages.{Age};
 ghost use Rattle.upd_core.specs.Library.{CardView, DeckView, LibraryView, all_decks, ref_of};
@@ -15,6 +15,7 @@ ghost use Rattle.upd_change.specs.Touched.{touched};
 ghost use Rattle.upd_deck.specs.Items.{LineView};
 ghost use Rattle.upd_apply.specs.Applying.{Reached, applied};
 ghost use Rattle.upd_core.specs.Parts.{part, part_of};
+ghost use Rattle.upd_parts.specs.Needed.{all_named, is_yank_card};
 ghost use Rattle.upd_parts.specs.Needless.{DoesWithout, IsOnWhole, NamesNone, are_plain, left_out, others_of};
 ghost use Rattle.upd_parts.specs.Needless.{reached_in_part};
 
@@ -84,4 +85,19 @@ pub fn changes_lead_to_what_is_reached()
     ensures states { (lines : List LineView) (l : LibraryView) (reached : Reached) (changes : List ChangeView)
         → IsSound l → applied lines l ≡ Ok reached → Told l reached.library changes
         → TakeGone l reached.library changes }
+{}
+
+/// A run without yanks and purges that names no yank card leaves `YANK$$$` as it is, and the cards in decks that it does
+/// without keep their statuses.
+pub fn cards_left_out_keep_their_statuses()
+    ensures named { (lines : List LineView) (l : LibraryView) → list_any (is_yank_card l) (all_named lines) ≡ false
+        → NamesNone (λ d. d == 0) lines l }
+    ensures yanks { (lines : List LineView) (l : LibraryView) (reached : Reached) → IsSound l
+        → IsTrue (are_plain lines) → list_any (is_yank_card l) (all_named lines) ≡ false
+        → applied lines l ≡ Ok reached → reached.library.yanks ≡ l.yanks }
+    ensures statuses { (out : Age → Bool) (lines : List LineView) (l : LibraryView) (reached : Reached) → IsSound l
+        → DoesWithout out lines l → list_any (is_yank_card l) (all_named lines) ≡ false
+        → applied lines l ≡ Ok reached
+        → (d : DeckView) (c : CardView) → Contains (left_out out l) d → Contains d.cards c
+        → status_of (ref_of l.idents c) reached.library ≡ status_of (ref_of l.idents c) l }
 {}
