@@ -8,7 +8,7 @@ use Rattle.upd_core.specs.Order.{key_order, target_key, target_order}
 use Rattle.upd_core.specs.declared.target.Target.{Target}
 use Rattle.upd_core.specs.declared.target.Target.TheVariants.{Set, SetIn, Deck}
 
-then_equal : (r : Ordering) → r ≡ ordering_then r Equal
+pub then_equal : (r : Ordering) → r ≡ ordering_then r Equal
 then_equal Less = refl
 then_equal Equal = refl
 then_equal Greater = refl

@@ -8,4 +8,5 @@ mod RowLemmas
 mod PlaceLemmas
 mod AssembleLemmas
 pub mod HolderLemmas
-mod KeyLemmas
+pub mod KeyLemmas
+mod ActiveLemmas

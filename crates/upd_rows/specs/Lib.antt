@@ -3,3 +3,4 @@ pub mod Keeping
 pub mod Lists
 pub mod Assembling
 pub mod Asked
+pub mod Activating

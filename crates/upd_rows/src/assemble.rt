@@ -18,7 +18,7 @@ use std::mem;
 use upd_core::{Card, CardRef, Deck, Entry, Ident, Library, Rest, Serial, Target};
 use upd_text::Name;
 
-fn by_age(idents: Vec<Ident>) -> Vec<Ident>
+pub(crate) fn by_age(idents: Vec<Ident>) -> Vec<Ident>
     ensures permutation { IsPermutation idents.items result.items }
     ensures sorted { AreByAge result.items }
 {
@@ -27,7 +27,7 @@ fn by_age(idents: Vec<Ident>) -> Vec<Ident>
     idents
 }
 
-fn by_place(rows: Vec<CardRow>) -> Vec<CardRow>
+pub(crate) fn by_place(rows: Vec<CardRow>) -> Vec<CardRow>
     ensures permutation { IsPermutation rows.items result.items }
     ensures sorted { AreByPlace result.items }
 {
@@ -99,7 +99,10 @@ fn targets_of(alloc: Global, rows: &[TargetRow], card: &CardRef) -> Result<Vec<T
 }
 
 /// The ages of held idents, by name.
-fn held_ages(alloc: Global, idents: &[Ident]) -> Result<BTreeMap<Name, Serial>, AllocError>
+pub(crate) fn held_ages(
+    alloc: Global,
+    idents: &[Ident],
+) -> Result<BTreeMap<Name, Serial>, AllocError>
     ensures { IfOk result (λ ages. AreAgesOf idents.now ages) }
 {
     let mut ages = BTreeMap::new(alloc);
@@ -113,7 +116,7 @@ fn held_ages(alloc: Global, idents: &[Ident]) -> Result<BTreeMap<Name, Serial>, 
 }
 
 /// The age of the held ident of a name, 0 where there is none.
-fn age_of(ages: &BTreeMap<Name, Serial>, name: &Name) -> Serial
+pub(crate) fn age_of(ages: &BTreeMap<Name, Serial>, name: &Name) -> Serial
     ensures { (idents : List Ident) → AreAgesOf idents ages.now → result ≡ age_named idents name.now }
 {
     match ages.get(name) {

@@ -1,6 +1,7 @@
 //! The library in rows: what a store of rows promises, and a store over lists.
 #![tactic(auto)]
 
+pub mod active;
 pub mod asked;
 pub mod assemble;
 mod list_changes;
@@ -10,6 +11,7 @@ mod parts;
 pub mod rows;
 pub mod store;
 
+pub use active::assembled_active;
 pub use asked::{decks_by_age, reads_with, states_by_key};
 pub use assemble::{assembled, assembled_part};
 pub use list_store::ListStore;

@@ -10,7 +10,7 @@ use crate::rows::copy_run;
 use crate::store::RowStore;
 use std::alloc::Global;
 use upd_change::{Change, RunRow};
-use upd_core::{CardRef, Library, Serial, States};
+use upd_core::{Actives, CardRef, Library, Serial, States};
 use upd_text::Fault;
 
 /// Tables that are lists. Nothing but want of memory fails here.
@@ -91,6 +91,11 @@ impl RowStore for ListStore {
     fn load_states(&mut self, alloc: Global) -> Result<States, Fault> {
         let states = self.tables.all_states(alloc)?;
         Ok(states)
+    }
+
+    fn load_active(&mut self, alloc: Global) -> Result<Actives, Fault> {
+        let actives = self.tables.actives(alloc)?;
+        Ok(actives)
     }
 
     fn kept_run(

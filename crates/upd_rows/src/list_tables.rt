@@ -4,17 +4,19 @@ ghost use Rattle.std.specs.Prelude.{◌≡◌, ◌≤◌, [], ◌∷◌, ◌++�
 ghost use Rattle.std.specs.List.{filter};
 ghost use Rattle.std.specs.Option.{option_copied};
 ghost use Rattle.std.specs.Vec.{vec_capacity, vec_len};
+ghost use Rattle.upd_core.specs.Actives.{actives_of};
 ghost use Rattle.upd_core.specs.Library.{LibraryView};
 ghost use Rattle.upd_core.specs.Sound.{IsSound, IsWhole};
 ghost use Rattle.upd_change.specs.Changes.{change_seen};
 ghost use Rattle.upd_change.specs.Fits.{AllFit};
-ghost use Rattle.upd_change.specs.Rows.{Rows, Shows};
+ghost use Rattle.upd_change.specs.Rows.{Rows, Shows, ShowsStates};
 ghost use Rattle.upd_rows.specs.Asked.{decks_with};
 ghost use Rattle.upd_rows.specs.Assembling.{AreRowsOf};
 ghost use Rattle.upd_core.specs.Parts.{part_of};
-ghost use Rattle.upd_rows.specs.Tables.{AreByKey, AreRead, committed, count_pair, is_mark_of, is_settled, mark_at, run_at};
-ghost use Rattle.upd_rows.specs.Tables.{settled_to, state_pair};
+ghost use Rattle.upd_rows.specs.Tables.{AreByKey, AreRead, committed, count_pair, is_mark_of, is_settled, mark_at};
+ghost use Rattle.upd_rows.specs.Tables.{run_at, settled_to, state_pair};
 
+use crate::active::assembled_active;
 use crate::asked::{ages_of_decks, decks_by_age, states_by_key};
 use crate::assemble::{assembled, assembled_part};
 use crate::rows::{
@@ -23,7 +25,7 @@ use crate::rows::{
 use std::alloc::{AllocError, Global};
 use std::marker::Model;
 use upd_change::{Change, RunRow};
-use upd_core::{CardRef, Ident, Library, Serial, States, Target};
+use upd_core::{Actives, CardRef, Ident, Library, Serial, States, Target};
 
 /// The tables as lists.
 #[derive(Debug, Drop)]
@@ -183,6 +185,18 @@ impl ListTables {
     {
         let ages = ages_of_decks(alloc, &self.cards, cards)?;
         Ok(decks_by_age(ages))
+    }
+
+    /// The active cards, by the table of statuses; memory alone can fail.
+    pub(crate) fn actives(&self, alloc: Global) -> Result<Actives, AllocError>
+        ensures { (l : LibraryView) → IsSound l → Shows self.now l → ShowsStates self.now l
+            → IfOk result (λ found. found ≡ actives_of l) }
+    {
+        let idents = Vec::from_slice(alloc, &self.idents)?;
+        let cards = copy_cards(alloc, &self.cards)?;
+        let states = Vec::from_slice(alloc, &self.states)?;
+        let actives = assembled_active(alloc, idents, cards, states)?;
+        Ok(actives)
     }
 
     /// One commit: where memory runs out nothing is changed.

@@ -1,10 +1,11 @@
 //! What a store of rows promises.
 ghost use Rattle.std.specs.Prelude.{◌≡◌, ℕ, None, IfErr, IfOk, OnErr, OnOk, map};
 ghost use Rattle.upd_text.specs.declared.fault.FaultKind.TheVariants.{Store};
+ghost use Rattle.upd_core.specs.Actives.{actives_of};
 ghost use Rattle.upd_core.specs.Library.{LibraryView};
 ghost use Rattle.upd_core.specs.Sound.{IsSound, IsWhole};
 ghost use Rattle.upd_change.specs.Changes.{change_seen};
-ghost use Rattle.upd_change.specs.Rows.{Rows, Shows};
+ghost use Rattle.upd_change.specs.Rows.{Rows, Shows, ShowsStates};
 ghost use Rattle.upd_change.specs.Fits.{AllFit};
 ghost use Rattle.upd_rows.specs.Asked.{decks_with};
 ghost use Rattle.upd_rows.specs.Keeping.{IsLost, Keeps, MoreFailures, Tries, reads_after};
@@ -13,7 +14,7 @@ ghost use Rattle.upd_rows.specs.Tables.{AreByKey, AreRead, committed, mark_at, r
 
 use std::alloc::Global;
 use upd_change::{Change, RunRow};
-use upd_core::{CardRef, Library, Serial, States};
+use upd_core::{Actives, CardRef, Library, Serial, States};
 use upd_text::Fault;
 
 /// Tables of rows that are changed by commits, each of which is all or nothing, also where the machine stops.
@@ -90,6 +91,19 @@ pub trait RowStore {
             → AreRead rows found) }
         ensures order { is_honest self.new → IfOk result (λ found. (rows : Rows) → shows (image self.old) rows
             → AreByKey found) }
+        ensures open { is_honest self.new → OnOk result (is_open self.new) }
+        ensures same { Keeps is_honest is_open image shows may_leave failures_of self.old self.new }
+        ensures lost { IfErr result IsLost }
+        ensures failed { IfErr result (λ e. e.kind ≡ Store
+            → MoreFailures (failures_of self.old) (failures_of self.new)) }
+        ensures unread { reads_of self.new ≡ reads_of self.old }
+        ensures cause { IfErr result (λ e. e.kind ≡ Store → caused self.old self.new) };
+
+    /// The directory, and the active cards of each deck other than `YANK$$$` by the table of statuses.
+    fn load_active(&mut self, alloc: Global) -> Result<Actives, Fault>
+        ensures found { is_honest self.new → IfOk result (λ found. (l : LibraryView) → IsSound l → IsWhole l
+            → (rows : Rows) → shows (image self.old) rows → Shows rows l → ShowsStates rows l
+            → found ≡ actives_of l) }
         ensures open { is_honest self.new → OnOk result (is_open self.new) }
         ensures same { Keeps is_honest is_open image shows may_leave failures_of self.old self.new }
         ensures lost { IfErr result IsLost }

@@ -9,7 +9,7 @@ use std::alloc::Global;
 use std::process::Abort;
 use std::test::Fail;
 use upd_change::{Change, RunRow};
-use upd_core::{CardRef, Library, Serial, States};
+use upd_core::{Actives, CardRef, Library, Serial, States};
 use upd_desk::{Arrival, Desk};
 use upd_desk_tests::plain::Sent;
 use upd_rows::{ListStore, RowStore};
@@ -73,6 +73,10 @@ impl RowStore for Failing {
 
     fn load_states(&mut self, alloc: Global) -> Result<States, Fault> {
         self.lists.load_states(alloc)
+    }
+
+    fn load_active(&mut self, alloc: Global) -> Result<Actives, Fault> {
+        self.lists.load_active(alloc)
     }
 
     fn kept_run(

@@ -9,7 +9,7 @@ use crate::sql_store::SqlStore;
 use sqlite::Connection;
 use std::alloc::Global;
 use upd_change::{Change, RunRow};
-use upd_core::{CardRef, Library, Serial, States};
+use upd_core::{Actives, CardRef, Library, Serial, States};
 use upd_order::Rising;
 use upd_rows::{RowStore, assembled, assembled_part, reads_with, states_by_key};
 use upd_sql::{
@@ -97,6 +97,10 @@ impl<S: Rising> RowStore for SqlStore<S> {
             Ok(states) => Ok(states_by_key(states)),
             Err(error) => Err(counted(error, &mut self.failures)),
         }
+    }
+
+    fn load_active(&mut self, _: Global) -> Result<Actives, Fault> {
+        Err(no_memory())
     }
 
     fn kept_run(&mut self, _: Global, site: &str, number: u64) -> Result<Option<RunRow>, Fault> {
