@@ -1,4 +1,5 @@
 pub mod Cascade
 pub mod Right
 pub mod Affected
+pub mod Enough
 pub mod Told
