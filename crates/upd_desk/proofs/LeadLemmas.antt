@@ -1,6 +1,6 @@
 -- The row changes of a run, and those of its settling behind them, lead tables to the library that it leaves.
 use Rattle.std.proofs.Common.{◌≡◌, ℕ, ◌+◌, ◌<◌, ◌≤◌, ◌^◌, nat_le, true, ◌&&◌, List, [], ◌∷◌, ◌++◌, length, map, sum_by, Ok, ap, sym}
-use Rattle.std.proofs.Common.{subst, arith}
+use Rattle.std.proofs.Common.{inl, subst, arith}
 use Rattle.std.specs.List.{AllByRecursion}
 use Rattle.std.proofs.lemmas.Bool.Decides.{nat_tests}
 use Rattle.std.proofs.lemmas.List.{map-append}
@@ -20,6 +20,7 @@ use Rattle.upd_apply.specs.Applying.{touched}
 use Rattle.upd_compile.specs.declared.mode.Mode.{Mode}
 use Rattle.upd_laws.proofs.SoundListLemmas.{all_weaker, and_left, and_right}
 use Rattle.upd_laws.proofs.SoundRunLemmas.{run_goes}
+use Rattle.upd_yank.specs.Enough.{IsEnough}
 use Rattle.upd_yank.specs.Right.{CacheView, IsRight, IsRunBetween}
 use Rattle.upd_desk.specs.declared.outcome.CompiledRun.{CompiledRun}
 use Rattle.upd_desk.specs.Compiling.{IsRunOf, compiled_seen}
@@ -115,6 +116,10 @@ module _ (mode : Mode) (bytes : List ℕ) (l : LibraryView) (run : CompiledRun) 
         touched = of_run.touched;
         few = few_yanks run.library left.within;
       }
+
+  -- the library that was reached is enough to settle the run
+  pub enough : (counted : LibraryView) → counted ≡ run.library → IsEnough run.applied.touched.items l run.library counted
+  enough counted same = inl (same, left.whole)
 
   pub lead : (settled : List Change) (rows : Rows) → Shows rows l → AllByRecursion (λ c. tells_state c ≡ true) (map change_seen settled)
       → ShowsStates (done_all (map change_seen settled) (done_all (map change_seen run.applied.changes.items) rows)) run.library
