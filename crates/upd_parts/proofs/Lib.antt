@@ -10,3 +10,4 @@ pub mod WeaveLemmas
 pub mod WholeLemmas
 pub mod PartSoundLemmas
 pub mod LeftLemmas
+pub mod IdleLemmas

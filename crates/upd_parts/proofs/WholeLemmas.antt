@@ -41,7 +41,7 @@ no_purge (SelPurge pairs) plain = absurd (cc)
 no_purge (PurDeck ranges) plain = absurd (cc)
 no_purge _ plain = refl
 
-no_purges : (lines : List LineView) → are_plain lines ≡ true → purges_nothing lines ≡ true
+pub no_purges : (lines : List LineView) → are_plain lines ≡ true → purges_nothing lines ≡ true
 no_purges [] plain = refl
 no_purges (line ∷ lines) plain =
     both (not (is_purge line.item)) (purges_nothing lines) (no_purge line.item (and_left (is_plain line.item) _ plain))
@@ -98,7 +98,7 @@ same_history_own [] = refl
 same_history_own (e ∷ es) = both (same_entry e e) (same_history es es) (same_entry_own e) (same_history_own es)
 
 -- a card of a deck stood in it
-stood : (cards : List CardView) (k : ℕ) (c : CardView) → slice_get cards k ≡ Some c → stood_in cards c ≡ true
+pub stood : (cards : List CardView) (k : ℕ) (c : CardView) → slice_get cards k ≡ Some c → stood_in cards c ≡ true
 stood cards k c at =
     any_of (λ b. is_card c.ident c.number b && same_history b.history c.history) cards k c at
     (both (is_card c.ident c.number c) (same_history c.history c.history)

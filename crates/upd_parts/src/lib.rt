@@ -6,3 +6,4 @@
 
 pub mod needs;
 pub mod parts;
+pub mod settling;

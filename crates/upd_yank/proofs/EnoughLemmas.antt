@@ -4,6 +4,7 @@ use Rattle.std.proofs.Common.{subst, arith}
 use Rattle.std.specs.List.{filter, flat_map, AllByRecursion}
 use Rattle.std.proofs.lemmas.List.Elements.{filter-append}
 use Rattle.std.proofs.lemmas.List.Sums.{sum_by-cons}
+use Rattle.upd_core.proofs.ApartLemmas.{all_back, all_front}
 use Rattle.upd_core.specs.Ages.{Age}
 use Rattle.upd_core.specs.Counted.{CountedCardView, counted_card, others_of, yanks_of}
 use Rattle.upd_core.specs.declared.ident.Ident.{Ident}
@@ -13,7 +14,6 @@ use Rattle.upd_core.specs.Parts.{cards_of_decks, entries_of_decks, part}
 use Rattle.upd_core.specs.Status.{status_of}
 use Rattle.upd_core.specs.TargetCounts.{live_count}
 use Rattle.upd_text.specs.declared.card_ref.CardRef.{CardRef}
-use Rattle.upd_yank.proofs.WorkLemmas.{split_back, split_front}
 use Rattle.upd_yank.specs.Affected.{is_touched}
 use Rattle.upd_yank.specs.Cascade.{is_due}
 use Rattle.upd_yank.specs.Enough.{IsEnough}
@@ -55,8 +55,8 @@ same_pass test out idents (d ∷ ds) all = go (out d.ident) refl (same_pass test
     both : AllByRecursion (λ k. out k.deck ≡ false) (filter test here) × AllByRecursion (λ k. out k.deck ≡ false) (filter test (cards_with idents ds))
     both =
         let split = subst (AllByRecursion (λ k. out k.deck ≡ false)) parts all in (
-          split_front (λ k. out k.deck ≡ false) (filter test here) (filter test (cards_with idents ds)) split,
-          split_back (λ k. out k.deck ≡ false) (filter test here) (filter test (cards_with idents ds)) split,
+          all_front (λ k. out k.deck ≡ false) (filter test here) (filter test (cards_with idents ds)) split,
+          all_back (λ k. out k.deck ≡ false) (filter test here) (filter test (cards_with idents ds)) split,
         )
 
     go : (b : Bool) → out d.ident ≡ b → filter test (cards_with idents kept) ≡ filter test (cards_with idents ds) →
@@ -121,7 +121,7 @@ sees run old new l (inr (out, is, idle)) = subst (Sees run old new) (sym is) (re
   idents = refl;
   yanks = refl;
   due = same_pass due out new.idents new.decks
-      (split_back (λ k. out k.deck ≡ false) (filter due (yanks_of new)) (filter due (others_of new))
+      (all_back (λ k. out k.deck ≡ false) (filter due (yanks_of new)) (filter due (others_of new))
       (subst (AllByRecursion (λ k. out k.deck ≡ false)) (filter-append due (yanks_of new) (others_of new)) idle.unaffected));
   others = λ none. same_cards out new.idents new.decks (omega (arith, none));
   staying = λ _. idle.staying;

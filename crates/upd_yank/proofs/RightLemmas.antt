@@ -5,7 +5,7 @@ use Rattle.std.specs.List.{list_any, filter, AllByRecursion}
 use Rattle.std.specs.Map.{update_all}
 use Rattle.std.proofs.lemmas.Bool.{or_parts}
 use Rattle.std.proofs.lemmas.List.{length-map}
-use Rattle.upd_core.proofs.ApartLemmas.{all_by_index}
+use Rattle.upd_core.proofs.ApartLemmas.{all_back, all_by_index, all_front}
 use Rattle.upd_yank.proofs.RefLemmas.{ref_same}
 use Rattle.std.proofs.lemmas.List.Elements.{filter-append}
 use Rattle.upd_core.specs.Counted.{CountedCardView, counted_card, counted_cards, others_of, yanks_of}
@@ -29,7 +29,7 @@ use Rattle.upd_yank.proofs.ToldLemmas.{IsSettled}
 use Rattle.upd_yank.proofs.WholeLemmas.{whole_right}
 use Rattle.upd_yank.proofs.StateLemmas.{HadStatus, all_counted, put_all, stay_right, statuses_are, unfound_stayed}
 use Rattle.upd_yank.proofs.WorkLemmas.{Agrees, HasStatus, IsListed, is_found, all_agree, all_both, all_listed_back, all_listed_others, all_map, found_back, length_back}
-use Rattle.upd_yank.proofs.WorkLemmas.{listed_back, listed_front, right_back, right_others, split_back, split_front, takes_no_yanks, yanks_found}
+use Rattle.upd_yank.proofs.WorkLemmas.{listed_back, listed_front, right_back, right_others, takes_no_yanks, yanks_found}
 use Rattle.upd_yank.specs.Affected.{affected, altered, is_other, is_touched}
 use Rattle.upd_yank.specs.Cascade.{ArePut, AreYanks, IsKept, TakesNoYanks, found_of, found_of_all, found_others, found_yanks, is_active_by, is_due, settled}
 use Rattle.upd_yank.specs.Cascade.{stay}
@@ -66,7 +66,7 @@ pub live_is : (touched was : CountedCardView → Bool) (before : Target → ℕ)
 live_is touched was before known l is =
     let yanks = views_are l in
     settled_is touched was before (yanks_of l) (are_yanks l) (subst TakesNoYanks (sym yanks) (takes_no_yanks l.yanks is.sound.yanks))
-    (split_front (IsKept touched was before) (yanks_of l) (others_of l) is.kept)
+    (all_front (IsKept touched was before) (yanks_of l) (others_of l) is.kept)
     ∙ ap live_cards yanks
 
 -- what is found, by the counts of the library
@@ -80,7 +80,7 @@ found_is touched was before known l is =
     subst (λ ys. AllByRecursion (Agrees (live_count l) (count_on (live_cards ys))) ys) (sym yanks) (all_agree (live_count l) l.yanks) in
     let aged : IsAged (views (yanks_of l)) = subst IsAged (sym yanks) is.sound.yanks in
     let front = yanks_found touched was before (live_count l) (yanks_of l) (are_yanks l) aged
-    (split_front (IsKept touched was before) (yanks_of l) (others_of l) is.kept) agrees in
+    (all_front (IsKept touched was before) (yanks_of l) (others_of l) is.kept) agrees in
     λ i. front i ++ found_others touched before (count_on (live_is touched was before known l is i)) (others_of l)
 
 pub found_count : (touched : CountedCardView → Bool) (before now : Target → ℕ) (l : LibraryView) →
@@ -114,8 +114,8 @@ found_right touched was before known l is =
     let others = found_others touched before now (others_of l) in
     let has = statuses_are l is.sound in (
       all_both (λ p. status_of p.0 l ≡ Some p.1) back others
-          (right_back touched before now l (yanks_of l) (split_front (HasStatus l now) (yanks_of l) (others_of l) has))
-          (right_others touched before now l (others_of l) (split_back (HasStatus l now) (yanks_of l) (others_of l) has)),
+          (right_back touched before now l (yanks_of l) (all_front (HasStatus l now) (yanks_of l) (others_of l) has))
+          (right_others touched before now l (others_of l) (all_back (HasStatus l now) (yanks_of l) (others_of l) has)),
       all_both (IsListed due (back ++ others)) (yanks_of l) (others_of l)
           (all_map (IsListed due back) (IsListed due (back ++ others)) (yanks_of l) (λ k h. listed_front due back others k h)
           (all_listed_back touched before now (yanks_of l)))

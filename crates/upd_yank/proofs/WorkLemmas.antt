@@ -31,14 +31,6 @@ pub all_both : {A : Type 0} (P : A → Type 0) (xs ys : List A) → AllByRecursi
 all_both P [] ys front back = back
 all_both P (x ∷ xs) ys front back = (front.0, all_both P xs ys front.1 back)
 
-pub split_front : {A : Type 0} (P : A → Type 0) (xs ys : List A) → AllByRecursion P (xs ++ ys) → AllByRecursion P xs
-split_front P [] ys all = tt
-split_front P (x ∷ xs) ys all = (all.0, split_front P xs ys all.1)
-
-pub split_back : {A : Type 0} (P : A → Type 0) (xs ys : List A) → AllByRecursion P (xs ++ ys) → AllByRecursion P ys
-split_back P [] ys all = all
-split_back P (x ∷ xs) ys all = split_back P xs ys all.1
-
 -- ---- targets that are older
 
 older_set : (age z : ℕ) (ts : List Target) → age ≤ z → AllByRecursion (TakesOlder age) ts → list_any (is_same (Set z)) ts ≡ false
