@@ -2,6 +2,7 @@ pub mod MakingLemmas
 pub mod Texts
 pub mod Bare
 pub mod Typed
+pub mod Listed
 pub mod Casts
 pub mod Conditions
 pub mod Effects

@@ -3,6 +3,7 @@ pub mod Encoded
 pub mod Stands
 pub mod Parts
 pub mod Commits
+pub mod Listed
 pub mod First
 pub mod Making
 pub mod Wanted

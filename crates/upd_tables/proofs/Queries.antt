@@ -1,6 +1,6 @@
 -- The answer of a plain query: the rows that pass, each shown, in some order.
 use Rattle.std.proofs.Common.{Less, Equal, subst, ◌≡◌, ℕ, Bool, true, false, if◌then◌else◌, List, [], ◌∷◌, ◌++◌, map, filter, flat_map, refl, sym, ap, ◌∙◌}
-use Rattle.std.proofs.Common.{IsPermutation}
+use Rattle.std.proofs.Common.{IsPermutation, IsSorted}
 use Rattle.std.specs.List.{list_all}
 use Rattle.std.proofs.lemmas.List.Sorted.{IsPermutation-trans, IsPermutation-map}
 use Rattle.sqlite_value.specs.declared.keys.Key.{Key}
@@ -32,18 +32,26 @@ module _ (tree : ℕ) (tests project : List Term) (order : List (Term × Key)) (
   abbrev put_out : Row → Output
   put_out r = output (plain_query tree tests project order) (params ∷ r ∷ [])
 
-  pub any_order : (rows : List Row) → IsSureAnswer (plain_query tree tests project order) (overlay trees []) params rows
-      → IsPermutation (map shown (filter passes (trees tree))) rows
-  any_order rows sure =
+  -- what is put out of the rows that pass, in an order that ORDER BY allows, and what is shown of it
+  pub outputs : (rows : List Row) → IsSureAnswer (plain_query tree tests project order) (overlay trees []) params rows
+      → (outs : List Output) × IsPermutation (map put_out (filter passes (trees tree))) outs × IsSorted (output_cmp (plain_query tree tests project order)) outs
+      × (rows ≡ map (λ (o : Output). o.1) outs)
+  outputs rows sure =
       let a : IsAnswer (plain_query tree tests project order) (overlay trees []) params rows = sure Null in
       let staged : a.staged ≡ map (λ r. params ∷ r ∷ []) (filter passes (trees tree)) =
       a.grouped ∙ pick_as_filter passes (λ r. params ∷ r ∷ []) (overlay trees [] tree) ∙ ap (λ rs. map (λ r. params ∷ r ∷ []) (filter passes rs)) own in
       let kept : a.kept ≡ map put_out (filter passes (trees tree)) = a.distinct ∙ ap (map (output (plain_query tree tests project order))) staged
       ∙ map-map _ _ _ in
-      let outs : IsPermutation (map (λ (o : Output). o.1) a.kept) (map (λ (o : Output). o.1) a.ordered) = IsPermutation-map _ a.kept a.ordered a.same in
-      let first : map shown (filter passes (trees tree)) ≡ map (λ (o : Output). o.1) a.kept = sym (map-map (λ (o : Output). o.1) put_out _)
-      ∙ ap (map (λ (o : Output). o.1)) (sym kept) in
-      IsPermutation-trans _ _ _ (IsPermutation-same _ _ first) (IsPermutation-trans _ _ _ outs (IsPermutation-same _ _ (sym a.shown)))
+      (a.ordered, subst (λ k. IsPermutation k a.ordered) kept a.same, a.sorted, a.shown)
+
+  pub any_order : (rows : List Row) → IsSureAnswer (plain_query tree tests project order) (overlay trees []) params rows
+      → IsPermutation (map shown (filter passes (trees tree))) rows
+  any_order rows sure =
+      let found = outputs rows sure in
+      let outs : IsPermutation (map (λ (o : Output). o.1) (map put_out (filter passes (trees tree)))) (map (λ (o : Output). o.1) found.0) =
+      IsPermutation-map _ _ found.0 found.1 in
+      IsPermutation-trans _ _ _ (IsPermutation-same _ _ (sym (map-map (λ (o : Output). o.1) put_out _)))
+      (IsPermutation-trans _ _ _ outs (IsPermutation-same _ _ (sym found.3)))
 
 -- by rowid the answer is the rows that pass, in the order of the table
 module _ (tree : ℕ) (tests project : List Term) (params : Row) (trees : Trees) (own : overlay trees [] tree ≡ trees tree) (rise : IsTable (trees tree)) where
