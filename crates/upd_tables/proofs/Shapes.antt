@@ -1,8 +1,9 @@
 -- What an INSERT, a DELETE, an UPDATE, a SELECT and a CREATE TABLE of the plain kinds do to the rows of the tables.
-use Rattle.std.proofs.Common.{◌≡◌, ◌≢◌, ◌⊎◌, inl, inr, ℕ, ◌/◌, ℤ, Bool, true, false, not, if◌then◌else◌, cond, List, [], ◌∷◌, ◌++◌, map, drop, length, filter}
+use Rattle.std.proofs.Common.{◌≡◌, ◌≢◌, ◌⊎◌, inl, inr, ℕ, ◌/◌, ℤ, pos, Bool, true, false, not, if◌then◌else◌, cond, List, [], ◌∷◌, ◌++◌, map, drop, length, filter}
 use Rattle.std.proofs.Common.{slice_get, Some, None, Result, Ok, Err, refl, sym, ap, subst, ◌∙◌, IsPermutation, IsSorted, IsTrue}
 use Rattle.std.specs.List.{AllByRecursion, list_all}
 use Rattle.std.specs.Ordering.{on}
+use Rattle.std.proofs.lemmas.List.{length-map}
 use Rattle.std.proofs.lemmas.List.Sorted.{IsPermutation-map, IsPermutation-sym, IsPermutation-trans}
 use Rattle.sqlite_value.specs.declared.keys.Key.{Key}
 use Rattle.sqlite_value.specs.declared.value.Value.{Value}
@@ -41,10 +42,10 @@ use Rattle.sqlite.specs.Rows.{Written}
 use Rattle.sqlite.specs.Does.{Tally, Does, AtPlace, OnRows, lacks_sequence}
 use Rattle.sqlite.specs.State.{State, mode_of, Writes}
 use Rattle.sqlite.proofs.Callers.{one_step}
-use Rattle.upd_tables.specs.Keyed.{keyed, plain_query, row_order}
+use Rattle.upd_tables.specs.Keyed.{at_most_64, keyed, plain_query, row_count, row_order}
 use Rattle.upd_tables.specs.Stored.{Shows, Holds, rows_at, with_rows}
 use Rattle.upd_tables.proofs.Trees.{has_mapped, mapped_from, has_permuted, put_new, left_is, in_place, replaced_is, replaced_shaped}
-use Rattle.upd_tables.proofs.Queries.{any_order, outputs, row_order_is}
+use Rattle.upd_tables.proofs.Queries.{any_order, count_is, outputs, row_order_is}
 use Rattle.upd_tables.proofs.Frames.{is_lone, framed, rows_there, shown_there, with_table}
 
 -- ---- casts of the values that such a table takes
@@ -265,6 +266,14 @@ selects schema k tree alone db all params h tests project order q f g names own 
     ap (map (λ v. (g v, f v))) passing ∙ map-map (λ v. (g v, f v)) (drop 1) _
     ∙ Rattle.sqlite_keyed.proofs.ListLemmas.map_same _ _ (λ r. λ i. (sym (orders r) i, sym (shows r) i)) _ in
     (found.0, subst (λ l. IsPermutation l found.0) (sym first) found.1, found.2, found.3)
+
+-- a SELECT of the number of rows
+pub counts : (schema : Schema) (k tree : ℕ) → is_lone tree k schema.tables ≡ true → (db : Database) (all : List (List Row)) (params : Row)
+    → Shows schema all db → (names : List (List ℕ)) → overlay db.trees [] tree ≡ db.trees tree → (rows : List Row)
+    → Reads (Select (record { lets = []; body = row_count tree }) names) db params rows → rows ≡ (Int (pos (at_most_64 (length (rows_at k all)))) ∷ []) ∷ []
+counts schema k tree alone db all params h names own rows reads =
+    count_is tree params db.trees own rows reads.answer
+    ∙ ap (λ n. (Int (pos (at_most_64 n)) ∷ []) ∷ []) (sym (length-map (db.trees tree) (drop 1)) ∙ ap length (shown_there tree db.trees k schema.tables all alone h.rows_are))
 
 -- a SELECT of the rows that pass a test, in the order of the table
 pub reads_in_order : (schema : Schema) (k tree : ℕ) → is_lone tree k schema.tables ≡ true → (db : Database) (all : List (List Row)) (params : Row)
