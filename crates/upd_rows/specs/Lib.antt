@@ -4,3 +4,4 @@ pub mod Lists
 pub mod Assembling
 pub mod Asked
 pub mod Activating
+pub mod PartRows

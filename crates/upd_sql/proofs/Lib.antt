@@ -9,6 +9,7 @@ pub mod Effects
 pub mod Finds
 pub mod SchemaLemmas
 pub mod WholeLemmas
+pub mod PartLemmas
 pub mod Turns
 pub mod CommitLemmas
 pub mod MarkLemmas

@@ -79,7 +79,7 @@ ordered_as cmp other xs ys us same are h =
 
 -- ---- the answer of a query on records
 
-pub lists : (k tree : ℕ) (alone : is_lone tree k library_schema.tables ≡ true) {X : Type 0} (row : X → Row) (all : List (List Row)) (xs : List X)
+pub lists : (k tree : ℕ) (alone : is_lone tree k library_schema.tables ≡ true) {X : Type 0} (row out : X → Row) (all : List (List Row)) (xs : List X)
     (are : rows_at k all ≡ map row xs)
     (sql : List ℕ) (params : Row) (plain : IsPlain (understood library_schema sql)) (unlisted : reads_listing library_schema sql ≡ false) (old new : State)
     (rows : List Row)
@@ -88,10 +88,10 @@ pub lists : (k tree : ℕ) (alone : is_lone tree k library_schema.tables ≡ tru
     → command_of (understood library_schema sql) ≡ Select (record { lets = []; body = plain_query tree tests project order }) names
     → list_all is_bare tests ≡ true → list_all is_bare project ≡ true → list_all is_bare (map (λ o. o.0) order) ≡ true
     → (q : X → Bool) → ((x : X) → list_all (holds (params ∷ (Null ∷ row x) ∷ [])) tests ≡ q x)
-    → ((x : X) → eval_all project (params ∷ (Null ∷ row x) ∷ []) ≡ row x)
-    → (us : List X) × (rows ≡ map row us)
+    → ((x : X) → eval_all project (params ∷ (Null ∷ row x) ∷ []) ≡ out x)
+    → (us : List X) × (rows ≡ map out us)
     × AreInOrder (λ x y. sort_cmp order (params ∷ (Null ∷ row x) ∷ []) (params ∷ (Null ∷ row y) ∷ [])) (filter q xs) us
-lists k tree alone row all xs are sql params plain unlisted old new rows shown h tests project order names is bare bare_shown bare_order q means whole =
+lists k tree alone row out all xs are sql params plain unlisted old new rows shown h tests project order names is bare bare_shown bare_order q means whole =
     let reads = reads_as sql params old new library_schema h.schema_is _ is plain unlisted rows shown in
     let p = λ (v : Row). list_all (holds (params ∷ (Null ∷ v) ∷ [])) tests in
     let f = λ (v : Row). eval_all project (params ∷ (Null ∷ v) ∷ []) in
@@ -106,6 +106,6 @@ lists k tree alone row all xs are sql params plain unlisted old new rows shown h
     let from = unmapped put (filter q xs) found.0 (subst (λ l. IsPermutation l found.0) passing found.1) in
     let cmp = on (λ (o : Output). o.0) (key_cmp 0 (map (λ k. k.1) order)) in (
       from.0,
-      found.3 ∙ ap (map (λ (o : Output). o.1)) from.1 ∙ map-map (λ (o : Output). o.1) put from.0 ∙ map_same _ row whole from.0,
+      found.3 ∙ ap (map (λ (o : Output). o.1)) from.1 ∙ map-map (λ (o : Output). o.1) put from.0 ∙ map_same _ out whole from.0,
       record { same = from.2; sorted = sorted_under put cmp from.0 (subst (IsSorted cmp) from.1 found.2) },
     )

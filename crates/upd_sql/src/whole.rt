@@ -8,7 +8,7 @@ ghost use Rattle.sqlite.specs.State.{HasCleanDisk, Shown};
 ghost use Rattle.sqlite.specs.Values.{bound};
 ghost use Rattle.std.specs.declared.cmp.Ordering.{Ordering};
 ghost use Rattle.upd_change.specs.Rows.{Rows};
-ghost use Rattle.upd_rows.specs.Tables.{AreRead, count_pair, state_pair};
+ghost use Rattle.upd_rows.specs.Tables.{AreByKey, AreRead, count_pair, state_pair};
 ghost use Rattle.upd_tables.specs.Steps.{Steps};
 ghost use Rattle.upd_sql.specs.Commits.{LeavesTables, Looks, WasOpen};
 ghost use Rattle.upd_sql.specs.Listed.{AreInOrder, by_age, by_count, by_entry, by_place, by_state, by_target};
@@ -25,7 +25,7 @@ use upd_rows::{CardRow, EntryRow, LibraryRows, TargetRow};
 use upd_tables::ask;
 
 /// The answer of a text.
-fn rows_of<S: Alter>(
+pub(crate) fn rows_of<S: Alter>(
     tx: &mut Transaction<'_, S>,
     sql: &str,
     params: &[ValueRef<'_>],
@@ -42,7 +42,7 @@ fn rows_of<S: Alter>(
 }
 
 /// The records that a text answers.
-fn all_of<S: Alter, T: Record + Drop>(
+pub(crate) fn all_of<S: Alter, T: Record + Drop>(
     tx: &mut Transaction<'_, S>,
     alloc: Global,
     sql: &str,
@@ -60,7 +60,10 @@ fn all_of<S: Alter, T: Record + Drop>(
     each(alloc, &rows)
 }
 
-fn idents_in<S: Alter>(tx: &mut Transaction<'_, S>, alloc: Global) -> Result<Vec<Ident>, Error>
+pub(crate) fn idents_in<S: Alter>(
+    tx: &mut Transaction<'_, S>,
+    alloc: Global,
+) -> Result<Vec<Ident>, Error>
     ensures same_reference { tx.new.conn.ghost_name ≡ tx.old.conn.ghost_name }
     ensures looks { Looks (λ it found. AreInOrder by_age it.idents found.items)
         (state S.Store tx.old.conn.now) (state S.Store tx.new.conn.now) result }
@@ -73,7 +76,10 @@ fn idents_in<S: Alter>(tx: &mut Transaction<'_, S>, alloc: Global) -> Result<Vec
     )
 }
 
-fn cards_in<S: Alter>(tx: &mut Transaction<'_, S>, alloc: Global) -> Result<Vec<CardRow>, Error>
+pub(crate) fn cards_in<S: Alter>(
+    tx: &mut Transaction<'_, S>,
+    alloc: Global,
+) -> Result<Vec<CardRow>, Error>
     ensures same_reference { tx.new.conn.ghost_name ≡ tx.old.conn.ghost_name }
     ensures looks { Looks (λ it found. AreInOrder by_place it.cards found.items)
         (state S.Store tx.old.conn.now) (state S.Store tx.new.conn.now) result }
@@ -99,7 +105,10 @@ fn entries_in<S: Alter>(tx: &mut Transaction<'_, S>, alloc: Global) -> Result<Ve
     )
 }
 
-fn targets_in<S: Alter>(tx: &mut Transaction<'_, S>, alloc: Global) -> Result<Vec<TargetRow>, Error>
+pub(crate) fn targets_in<S: Alter>(
+    tx: &mut Transaction<'_, S>,
+    alloc: Global,
+) -> Result<Vec<TargetRow>, Error>
     ensures same_reference { tx.new.conn.ghost_name ≡ tx.old.conn.ghost_name }
     ensures looks { Looks (λ it found. AreInOrder by_target it.targets found.items)
         (state S.Store tx.old.conn.now) (state S.Store tx.new.conn.now) result }
@@ -164,13 +173,14 @@ pub fn library_in<S: Alter>(
     })
 }
 
-/// The status of each card and the count of each target that a live yank card has.
+/// The status of each card and the count of each target that a live yank card has, by the keys of their tables.
 pub(crate) fn all_states_in<S: Alter>(
     tx: &mut Transaction<'_, S>,
     alloc: Global,
 ) -> Result<States, Error>
     ensures same_reference { tx.new.conn.ghost_name ≡ tx.old.conn.ghost_name }
-    ensures looks { Looks AreRead (state S.Store tx.old.conn.now) (state S.Store tx.new.conn.now) result }
+    ensures looks { Looks (λ it found. AreRead it found × AreByKey found) (state S.Store tx.old.conn.now)
+        (state S.Store tx.new.conn.now) result }
 {
     let states = states_in(tx, alloc)?;
     let counts = counts_in(tx, alloc)?;
