@@ -1,27 +1,22 @@
 -- Reading the rows of some decks and cards.
 use Rattle.std.proofs.Common.{◌≡◌, ℕ, ◌+◌, ◌<◌, ◌≤◌, ◌==◌, ◌&&◌, ◌||◌, Bool, true, false, cond, List, [], ◌∷◌, ◌++◌, map, filter, take, length, get_or, drop, nat_lt}
-use Rattle.std.proofs.Common.{Result, Ok, refl, sym, ap, ap₂, subst, ◌∙◌, arith, codes}
+use Rattle.std.proofs.Common.{refl, sym, ap, ap₂, subst, ◌∙◌, arith, codes}
 use Rattle.std.specs.List.{count_by, list_any}
 use Rattle.std.proofs.lemmas.Bool.Decides.{nat_tests}
 use Rattle.std.proofs.lemmas.List.{length-map, take-append-drop, take_more}
-use Rattle.sqlite_value.specs.declared.value.Value.TheVariants.{Int, Null}
+use Rattle.sqlite_value.specs.declared.value.Value.TheVariants.{Null}
 use Rattle.sqlite_value.specs.Order.{Row}
 use Rattle.sqlite_sql.specs.Query.{sort_cmp}
-use Rattle.sqlite_sql.specs.Ops.{binary, is_true, truth}
-use Rattle.sqlite_sql.specs.Program.{overlay}
 use Rattle.sqlite.specs.State.{State, Shown}
 use Rattle.sqlite.proofs.Callers.{reads_as}
 use Rattle.upd_text.specs.declared.card_ref.CardRef.{CardRef}
-use Rattle.upd_core.specs.Edits.{is_among}
 use Rattle.upd_change.specs.Rows.{CardRow, EntryRow, IsSame, Rows, same_ref}
-use Rattle.upd_change.proofs.CountLemmas.{count_append, count_cons, count_filter, same_append, same_filter, same_map, same_trans}
-use Rattle.upd_change.proofs.GoneLemmas.{same_ref_is, same_ref_own}
+use Rattle.upd_change.proofs.CountLemmas.{count_append, count_cons, count_filter, same_append, same_map, same_trans}
 use Rattle.upd_rows.specs.Asked.{AreDecksOf, is_asked}
 use Rattle.upd_rows.specs.PartRows.{AreApart, is_in, is_of}
 use Rattle.upd_tables.specs.Keyed.{at_most_64}
 use Rattle.upd_tables.proofs.Frames.{showing}
 use Rattle.upd_tables.proofs.Shapes.{counts}
-use Rattle.upd_tables.proofs.Tests.{eq_nat, one_test}
 use Rattle.upd_sql.specs.Schema.{library_schema}
 use Rattle.upd_sql.specs.Encoded.{card_row, entry_row, num, stored}
 use Rattle.upd_sql.specs.Listed.{AreInOrder, by_ord, by_place, in_any_order}

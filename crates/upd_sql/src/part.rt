@@ -21,17 +21,19 @@ ghost use Rattle.upd_sql.specs.Stands.{Stands};
 use crate::reads::mark_in;
 use crate::values::{name, number};
 use crate::whole::{all_of, cards_in, idents_in, rows_of, targets_in};
-use sqlite::{Alter, Error, Row, Transaction};
+use sqlite::{Alter, Error, ErrorCode, Row, Transaction};
 use std::alloc::Global;
 use upd_core::{CardRef, Serial};
 use upd_rows::{CardRow, EntryRow, LibraryRows};
+
+/// The last number to which SQLite counts.
+const LAST: u64 = 0x7fff_ffff_ffff_ffff;
 
 /// The rows of some decks, and how many cards and entries there are in all.
 #[derive(Debug, Drop)]
 pub struct Part {
     /// Whole but for the cards of other decks, and their entries.
     pub rows: LibraryRows,
-    /// Up to 2^63 - 1, as all counts of SQLite.
     pub cards: u64,
     pub entries: u64,
 }
@@ -184,32 +186,43 @@ fn entries_of_cards<S: Alter>(
     Ok(entries)
 }
 
-/// The number that the first row begins with, 0 where there is no row.
-fn first_number(rows: &[Row]) -> Result<u64, Error>
-    ensures { IfOk result (λ n. (count : ℕ) → rows.now ≡ (num count ∷ []) ∷ [] → n ≡ count) }
+/// The number that the first row begins with, 0 where there is no row. A count that stands at its last value is refused.
+fn first_count(rows: &[Row]) -> Result<u64, Error>
+    ensures { IfOk result (λ n. (count : ℕ) → rows.now ≡ (num (at_most_64 count) ∷ []) ∷ [] → n ≡ count) }
 {
     match rows.first() {
-        Some(row) => row.get(0),
+        Some(row) => below_last(row.get(0)?),
         None => Ok(0),
     }
 }
 
-/// The number that a text answers.
+/// A number that is a count; the last one stands for all that are above it, too.
+fn below_last(n: u64) -> Result<u64, Error>
+    ensures { IfOk result (λ m. (count : ℕ) → n ≡ at_most_64 count → m ≡ count) }
+{
+    if n < LAST {
+        Ok(n)
+    } else {
+        Err(Error::SqliteFailure(ErrorCode::TooBig))
+    }
+}
+
+/// The number that a text counts.
 fn number_of<S: Alter>(tx: &mut Transaction<'_, S>, sql: &str) -> Result<u64, Error>
     ensures same_reference { tx.new.conn.ghost_name ≡ tx.old.conn.ghost_name }
     ensures looks { (size : Rows → ℕ) → IsPlain (understood library_schema sql.now)
         → ((it : Rows) → Stands it (state S.Store tx.old.conn.now).now → (rows : List SqlRow)
         → Shown sql.now [] (state S.Store tx.old.conn.now) (state S.Store tx.new.conn.now) rows
-        → rows ≡ (num (size it) ∷ []) ∷ [])
+        → rows ≡ (num (at_most_64 (size it)) ∷ []) ∷ [])
         → Looks (λ it n. n ≡ size it) (state S.Store tx.old.conn.now) (state S.Store tx.new.conn.now) result }
 {
     let rows = rows_of(tx, sql, &[])?;
-    first_number(&rows)
+    first_count(&rows)
 }
 
 fn card_count<S: Alter>(tx: &mut Transaction<'_, S>) -> Result<u64, Error>
     ensures same_reference { tx.new.conn.ghost_name ≡ tx.old.conn.ghost_name }
-    ensures looks { Looks (λ it n. n ≡ at_most_64 (length it.cards)) (state S.Store tx.old.conn.now)
+    ensures looks { Looks (λ it n. n ≡ length it.cards) (state S.Store tx.old.conn.now)
         (state S.Store tx.new.conn.now) result }
 {
     number_of(tx, "SELECT count(*) FROM cards")
@@ -217,7 +230,7 @@ fn card_count<S: Alter>(tx: &mut Transaction<'_, S>) -> Result<u64, Error>
 
 fn entry_count<S: Alter>(tx: &mut Transaction<'_, S>) -> Result<u64, Error>
     ensures same_reference { tx.new.conn.ghost_name ≡ tx.old.conn.ghost_name }
-    ensures looks { Looks (λ it n. n ≡ at_most_64 (length it.entries)) (state S.Store tx.old.conn.now)
+    ensures looks { Looks (λ it n. n ≡ length it.entries) (state S.Store tx.old.conn.now)
         (state S.Store tx.new.conn.now) result }
 {
     number_of(tx, "SELECT count(*) FROM entries")

@@ -11,9 +11,10 @@ use std::alloc::Global;
 use upd_change::{Change, RunRow};
 use upd_core::{Actives, CardRef, Library, Serial, States};
 use upd_order::Rising;
-use upd_rows::{RowStore, assembled, assembled_part, reads_with, states_by_key};
+use upd_rows::{RowStore, assembled, assembled_active, assembled_part, decks_by_age, reads_with};
 use upd_sql::{
-    commit_changes, is_library_schema, kept_library, kept_mark, kept_run, kept_states, settle_site,
+    commit_changes, is_library_schema, kept_active, kept_decks_of, kept_library, kept_mark,
+    kept_run, kept_states, settle_site,
 };
 use upd_text::Fault;
 
@@ -85,8 +86,14 @@ impl<S: Rising> RowStore for SqlStore<S> {
         }
     }
 
-    fn decks_of(&mut self, _: Global, _: &[CardRef]) -> Result<Vec<Serial>, Fault> {
-        Err(no_memory())
+    fn decks_of(&mut self, alloc: Global, cards: &[CardRef]) -> Result<Vec<Serial>, Fault> {
+        if !is_ours(&self.conn) {
+            return Err(refused(&mut self.failures));
+        }
+        match kept_decks_of(&mut self.conn, alloc, cards) {
+            Ok(ages) => Ok(decks_by_age(ages)),
+            Err(error) => Err(counted(error, &mut self.failures)),
+        }
     }
 
     fn load_states(&mut self, alloc: Global) -> Result<States, Fault> {
@@ -94,13 +101,22 @@ impl<S: Rising> RowStore for SqlStore<S> {
             return Err(refused(&mut self.failures));
         }
         match kept_states(&mut self.conn, alloc) {
-            Ok(states) => Ok(states_by_key(states)),
+            Ok(states) => Ok(states),
             Err(error) => Err(counted(error, &mut self.failures)),
         }
     }
 
-    fn load_active(&mut self, _: Global) -> Result<Actives, Fault> {
-        Err(no_memory())
+    fn load_active(&mut self, alloc: Global) -> Result<Actives, Fault> {
+        if !is_ours(&self.conn) {
+            return Err(refused(&mut self.failures));
+        }
+        match kept_active(&mut self.conn, alloc) {
+            Ok(rows) => match assembled_active(alloc, rows.idents, rows.cards, rows.states) {
+                Ok(actives) => Ok(actives),
+                Err(_) => Err(no_memory()),
+            },
+            Err(error) => Err(counted(error, &mut self.failures)),
+        }
     }
 
     fn kept_run(&mut self, _: Global, site: &str, number: u64) -> Result<Option<RunRow>, Fault> {

@@ -1,4 +1,4 @@
-use Rattle.std.proofs.Common.{[], ◌+◌, ◌++◌, filter, take, Ok, ◌∙◌, sym, ap, subst}
+use Rattle.std.proofs.Common.{[], ◌+◌, ◌++◌, filter, take, ◌∙◌, sym, ap, subst}
 use Rattle.sqlite.specs.Held.{state}
 use Rattle.upd_change.specs.Rows.{IsSame, same_ref}
 use Rattle.upd_rows.specs.PartRows.{AreApart, is_of}

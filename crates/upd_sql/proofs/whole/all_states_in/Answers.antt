@@ -1,4 +1,4 @@
-use Rattle.std.proofs.Common.{map, Ok}
+use Rattle.std.proofs.Common.{map}
 use Rattle.sqlite.specs.Held.{state}
 use Rattle.upd_rows.specs.Tables.{AreByKey, AreRead, count_pair, state_pair}
 use Rattle.upd_sql.specs.Listed.{AreInOrder, by_count, by_state}
