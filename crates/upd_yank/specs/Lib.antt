@@ -3,3 +3,4 @@ pub mod Right
 pub mod Affected
 pub mod Enough
 pub mod Told
+pub mod Renewed

@@ -14,9 +14,11 @@ ghost use Rattle.upd_change.specs.Rows.{Rows, ShowsStates};
 ghost use Rattle.upd_change.specs.States.{TakeGone, tells_state};
 ghost use Rattle.upd_yank.specs.Affected.{affected, altered};
 ghost use Rattle.upd_yank.specs.Enough.{IsEnough};
+ghost use Rattle.upd_yank.specs.Renewed.{renewed};
 ghost use Rattle.upd_yank.specs.Right.{IsRight, IsRunBetween, ShowStates, kept_status, put_counts};
 
 use crate::cascade::{Before, settling};
+use crate::renewing::renewed_decks;
 use crate::statuses::Statuses;
 use crate::told::tell;
 use crate::touched::Touched;
@@ -24,7 +26,7 @@ use std::alloc::{AllocError, Global};
 use std::marker::Model;
 use upd_apply::Applied;
 use upd_change::Change;
-use upd_core::{CardRef, Counted, Fault, Library, States, Target, TargetCounts};
+use upd_core::{Actives, CardRef, Counted, Fault, Library, States, Target, TargetCounts};
 
 /// The status of each card and the count of each target, kept from run to run.
 #[derive(Drop)]
@@ -128,6 +130,17 @@ impl Cache {
         self.statuses = left.statuses;
         self.counts = left.found.counts;
         Ok(changes)
+    }
+
+    /// The active cards of the library that a run has reached, of which this is a part: of the decks that it has those
+    /// that are active now, of each other held deck those of before. Memory alone can fail.
+    pub fn renew(&self, part: &Library, before: &Actives) -> Result<Actives, Fault>
+        ensures ok { IfOk result (λ actives. actives ≡ renewed self.now.states part.now before.now) }
+        ensures err { IsOkUnless result (fault_at NoMemory 0) }
+    {
+        let idents = Vec::from_slice(self.alloc, part.idents())?;
+        let decks = renewed_decks(self.alloc, &self.statuses, part, before)?;
+        Ok(Actives { idents, decks })
     }
 
     /// Whether a card is active, for a yank card live; none where there is no such card.
