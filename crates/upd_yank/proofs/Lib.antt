@@ -15,3 +15,4 @@ pub mod ToldLemmas
 pub mod WholeLemmas
 pub mod OnlyLemmas
 pub mod EnoughLemmas
+pub mod RenewLemmas

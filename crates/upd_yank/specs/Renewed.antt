@@ -1,13 +1,14 @@
 -- The active cards after a run: anew where a deck was loaded, as before where it wasn't.
-use Rattle.std.specs.Prelude.{◌==◌, Bool, ◌&&◌, if◌then◌else◌, List, [], ◌∷◌, map, Option, Some, None}
-use Rattle.std.specs.List.{filter, find, flat_map}
+use Rattle.std.specs.Prelude.{◌≡◌, ◌==◌, Bool, ◌&&◌, if◌then◌else◌, List, [], ◌∷◌, map, Option, Some, None}
+use Rattle.std.specs.List.{filter, find, flat_map, Contains}
 use Rattle.std.specs.Option.{option_map}
 use Rattle.upd_text.specs.declared.card_ref.CardRef.{CardRef}
-use Rattle.upd_core.specs.Actives.{ActiveDeckView, ActivesView, without_past}
+use Rattle.upd_core.specs.Actives.{ActiveDeckView, ActivesView, active_deck, without_past}
 use Rattle.upd_core.specs.Ages.{Age}
 use Rattle.upd_core.specs.Counted.{counted_card}
 use Rattle.upd_core.specs.declared.ident.Ident.{Ident}
 use Rattle.upd_core.specs.Library.{DeckView, LibraryView, is_deck, is_deck_kind}
+use Rattle.upd_core.specs.Status.{live_targets}
 use Rattle.upd_yank.specs.Right.{was_active}
 
 -- the cards of a deck that are active by kept statuses
@@ -39,3 +40,7 @@ deck_renewed states part before i = if i.held && is_deck_kind i.kind then deck_o
 -- the directory of a part, and each held deck by age: with the cards that are active by kept statuses where it is loaded, else as it was before
 abbrev pub renewed : List (CardRef × Bool) → LibraryView → ActivesView → ActivesView
 renewed states part before = record { idents = part.idents; decks = flat_map (deck_renewed states part before) part.idents }
+
+-- a deck that stood before a run, with the same active cards
+abbrev pub IsAsBefore : LibraryView → LibraryView → DeckView → Type 0
+IsAsBefore old new d = Contains old.decks d × (active_deck (live_targets old) d ≡ active_deck (live_targets new) d)
