@@ -224,20 +224,26 @@ unaffected out l m old new same yanks =
         ap (λ (n : Target → ℕ). is_reached (live_count l) n d.ident c) counts ∙ unreached (live_count l) d.ident c in
         absurd (let q : (false || false) ≡ true = sym (λ i. card i || reach i) ∙ due in cc)
 
+-- a run without yanks and purges that names no yank card leaves the yank cards as they are
+pub yanks_as_before : (out : ℕ → Bool) (lines : List LineView) (l : LibraryView) (reached : Reached) → IsSound l → DoesWithout out lines l →
+    NamesNone (λ d. d == 0) lines l → applied lines l ≡ Ok reached → reached.library.yanks ≡ l.yanks
+yanks_as_before out lines l reached sound does no_yank is =
+    yanks_stay (λ d. d == 0) lines l reached sound (record { plain = does.plain; listed = young; cards = no_yank }) is refl
+  where
+    young : (z : ℕ) → length l.idents < z → (z == 0) ≡ false
+    young z more = grind (arith, nat_tests)
+
 -- The decks that a run without yanks and purges does without are idle in its settling where it names no yank card.
 pub idle_in : (out : ℕ → Bool) (lines : List LineView) (l : LibraryView) (reached : Reached) → IsSound l → DoesWithout out lines l →
     NamesNone (λ d. d == 0) lines l → applied lines l ≡ Ok reached → AreIdle (touched l reached.library) l reached.library out
 idle_in out lines l reached sound does no_yank is = record {
   unaffected = unaffected out l reached.library sound later (applied_left out lines l reached sound does is)
-      (yanks_stay (λ d. d == 0) lines l reached sound (record { plain = does.plain; listed = young; cards = no_yank }) is refl);
+      (yanks_as_before out lines l reached sound does no_yank is);
   staying = λ card none. still_there (next_age l) l reached.library card sound later (run_goes lines l reached is) grown none;
 }
   where
     later : IsSound reached.library
     later = run_sound lines l reached sound is
-
-    young : (z : ℕ) → length l.idents < z → (z == 0) ≡ false
-    young z more = grind (arith, nat_tests)
 
     grown : Grows (next_age l) l reached.library
     grown =

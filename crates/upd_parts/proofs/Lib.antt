@@ -11,3 +11,4 @@ pub mod WholeLemmas
 pub mod PartSoundLemmas
 pub mod LeftLemmas
 pub mod IdleLemmas
+pub mod RenewLemmas
