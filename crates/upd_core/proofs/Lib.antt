@@ -11,4 +11,5 @@ pub mod LiveLemmas
 pub mod FlatLemmas
 pub mod CountedLemmas
 pub mod ActiveLemmas
+pub mod HomeLemmas
 mod EnterLemmas

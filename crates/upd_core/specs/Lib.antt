@@ -11,6 +11,7 @@ pub mod Counts
 pub mod Edits
 pub mod EditParts
 pub mod Parts
+pub mod Homes
 pub mod Gone
 pub mod Sound
 pub mod Actives

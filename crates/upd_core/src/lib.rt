@@ -11,6 +11,7 @@ pub mod card;
 pub mod counted;
 mod counts;
 pub mod deck;
+mod decks;
 pub mod edits;
 mod gone;
 pub mod ident;
