@@ -9,7 +9,7 @@ use Rattle.std.specs.List.Sorted.{IsSortedBy}
 use Rattle.std.specs.Ordering.{is_lt}
 use Rattle.upd_text.specs.Order.{card_order}
 use Rattle.upd_text.specs.declared.card_ref.CardRef.{CardRef}
-use Rattle.upd_core.proofs.ApartLemmas.{all_back, all_front}
+use Rattle.upd_core.proofs.ApartLemmas.{all_back, all_by_index, all_front, at_contained}
 use Rattle.upd_core.proofs.FoundLemmas.{held_found, status_at}
 use Rattle.upd_core.specs.Actives.{ActiveCardView, ActiveDeckView, active_deck, actives_of, without_past}
 use Rattle.upd_core.specs.declared.ident.Ident.{Ident}
@@ -31,11 +31,6 @@ pub ordered_rows : {A : Type 0} (card : A → CardRef) (xs : List A) → IsSorte
     → IsSortedBy (row_below card (λ a. 0)) xs
 ordered_rows card xs up = λ k d low within.
     ap is_lt (sym (then_equal (card_order (card (slice_index_or xs (k + 1) d)) (card (slice_index_or xs k d))))) ∙ up k d low within
-
-all_contained : {A : Type 0} (P : A → Type 0) (xs : List A) → ((x : A) → Contains xs x → P x) → AllByRecursion P xs
-all_contained P [] each = tt
-all_contained P (x ∷ xs) each =
-    (each x (0, omega arith, refl), all_contained P xs (λ y is. each y (suc is.0, omega (arith, is.1), is.2)))
 
 all_two : {A : Type 0} {P Q R : A → Type 0} (xs : List A) → ((x : A) → P x → Q x → R x) → AllByRecursion P xs → AllByRecursion Q xs → AllByRecursion R xs
 all_two [] so p q = tt
@@ -72,9 +67,9 @@ module _ (l : LibraryView) (sound : IsSound l) (states : List StateRow) where
   cards_shown rows shows same =
       all_two (all_decks l)
       (λ d status age. all_two d.cards (λ c s a. (s, λ p. λ i. record { ident = a i; number = c.number; text = c.text })) status age)
-      (all_contained _ (all_decks l)
-      (λ d in_l. all_contained (λ c. is_active_in states (ref_of l.idents c) ≡ is_active (live_targets l) d.ident c) d.cards
-      (λ c in_d. status_shown rows shows same d c in_l in_d))) (ages_shown (all_decks l) sound.cards)
+      (all_by_index (all_decks l) (λ k d in_l. all_by_index {P = λ c. is_active_in states (ref_of l.idents c) ≡ is_active (live_targets l) d.ident c} d.cards
+      (λ i c in_d. status_shown rows shows same d c (at_contained (all_decks l) k d in_l) (at_contained d.cards i c in_d))))
+      (ages_shown (all_decks l) sound.cards)
 
   put_cards : (d : ActiveDeckView) (p : ℕ) (cs : List CardView) (rows : List CardRow) → AllByRecursion (IsShown d.ident) cs
       → actives_from l.idents states d (card_rows l.idents d.ident p cs ++ rows)
@@ -103,7 +98,8 @@ module _ (l : LibraryView) (sound : IsSound l) (states : List StateRow) where
       go : (b : Bool) → grow (record d { cards = d.cards ++ without_past c ∷ [] }) ≡ with_cards ((d.cards ++ without_past c ∷ []) ++ later)
           → grow d ≡ with_cards (d.cards ++ later)
           → grow (cond b (record d { cards = d.cards ++ active_card l.idents states row ∷ [] }) d)
-          ≡ with_cards (d.cards ++ map without_past (cond b (c ∷ filter (is_active (live_targets l) d.ident) cs) (filter (is_active (live_targets l) d.ident) cs)))
+          ≡ with_cards (d.cards ++ map without_past
+          (cond b (c ∷ filter (is_active (live_targets l) d.ident) cs) (filter (is_active (live_targets l) d.ident) cs)))
       go true grown same =
           ap (λ x. grow (record d { cards = d.cards ++ x ∷ [] })) (all.0.1 p) ∙ grown ∙ ap with_cards (append_assoc d.cards (without_past c ∷ []) later)
       go false grown same = same
@@ -129,7 +125,8 @@ module _ (l : LibraryView) (sound : IsSound l) (states : List StateRow) where
       go : (cs : List CardView) → e.cards ≡ cs
           → actives_from l.idents states (record { ident = e.ident; cards = [] }) (deck_rows (e ∷ ds))
           ≡ actives_from l.idents states (active_deck (live_targets l) e) (deck_rows ds)
-          → actives_from l.idents states (active_deck (live_targets l) e) (deck_rows ds) ≡ active_deck (live_targets l) e ∷ map (active_deck (live_targets l)) ds
+          → actives_from l.idents states (active_deck (live_targets l) e) (deck_rows ds)
+          ≡ active_deck (live_targets l) e ∷ map (active_deck (live_targets l)) ds
           → actives_from l.idents states d (deck_rows (e ∷ ds)) ≡ d ∷ active_deck (live_targets l) e ∷ map (active_deck (live_targets l)) ds
       go [] none here later = absurd (subst (λ cs. BeginsWithItsOwn (record { ident = e.ident; cards = cs })) none begins.0)
       go (c ∷ cs) some here later =

@@ -80,7 +80,7 @@ any_counted test (x ∷ xs) = rw (count_cons test x xs) (go (test x) (any_counte
 pub any_same : {A : Type 0} (test : A → Bool) {xs ys : List A} → IsSame xs ys → list_any test xs ≡ list_any test ys
 any_same test {xs = xs} {ys = ys} same = any_counted test xs ∙ ap (λ n. not (n == 0)) (same.passes test) ∙ sym (any_counted test ys)
 
-and_false : (b : Bool) → false ≡ (b && false)
+pub and_false : (b : Bool) → false ≡ (b && false)
 and_false true = refl
 and_false false = refl
 
@@ -166,7 +166,7 @@ module _ (cards : List CardRef) (idents : List Ident) (d : ℕ) where
 
 -- ---- the decks of a library
 
-ages_above : (n : ℕ) (keep : DeckView → Bool) (ds : List DeckView) → AllByRecursion (λ m. n < m) (map (λ d. d.ident) ds)
+pub ages_above : (n : ℕ) (keep : DeckView → Bool) (ds : List DeckView) → AllByRecursion (λ m. n < m) (map (λ d. d.ident) ds)
     → AllByRecursion (λ m. n < m) (map (λ d. d.ident) (filter keep ds))
 ages_above n keep [] all = tt
 ages_above n keep (d ∷ ds) all = go (keep d) (ages_above n keep ds all.1)
@@ -176,7 +176,7 @@ ages_above n keep (d ∷ ds) all = go (keep d) (ages_above n keep ds all.1)
     go true later = (all.0, later)
     go false later = later
 
-ages_rising : (keep : DeckView → Bool) (ds : List DeckView) → AreRising (map (λ d. d.ident) ds) → AreRising (map (λ d. d.ident) (filter keep ds))
+pub ages_rising : (keep : DeckView → Bool) (ds : List DeckView) → AreRising (map (λ d. d.ident) ds) → AreRising (map (λ d. d.ident) (filter keep ds))
 ages_rising keep [] up = tt
 ages_rising keep (d ∷ ds) up = go (keep d) (ages_rising keep ds up.1)
   where

@@ -10,3 +10,4 @@ mod AssembleLemmas
 pub mod HolderLemmas
 pub mod KeyLemmas
 mod ActiveLemmas
+mod RestLemmas

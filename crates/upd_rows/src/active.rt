@@ -94,8 +94,8 @@ fn behind_yanks(idents: Vec<Ident>, decks: Vec<ActiveDeck>) -> Actives
     Actives { idents, decks }
 }
 
-/// The active cards of the library of rows that come in any order, by its rows of statuses; memory alone can fail. Where
-/// they are no library's rows it is some directory and decks, of which nothing is promised.
+/// The active cards of the library of rows that come in any order, by its rows of statuses; memory alone can fail.
+/// Where they are no library's rows it is some directory and decks, of which nothing is promised.
 pub fn assembled_active(
     alloc: Global,
     idents: Vec<Ident>,

@@ -1,5 +1,5 @@
 //! A library out of its rows, which come in any order.
-ghost use Rattle.std.specs.Prelude.{◌≡◌, List, IfOk, IsPermutation};
+ghost use Rattle.std.specs.Prelude.{◌≡◌, ℕ, List, IfOk, IsPermutation, length};
 ghost use Rattle.std.specs.List.{filter};
 ghost use Rattle.upd_core.specs.Library.{LibraryView, empty};
 ghost use Rattle.upd_core.specs.Sound.{IsSound, IsWhole};
@@ -9,6 +9,7 @@ ghost use Rattle.upd_rows.specs.Assembling.{AreAgesOf, AreByAge, AreByCard, AreB
 ghost use Rattle.upd_rows.specs.Assembling.{AreTargetsByCard, age_named, card_in, decks_in, entries_of, library_of};
 ghost use Rattle.upd_rows.specs.Assembling.{targets_of};
 ghost use Rattle.upd_core.specs.Parts.{part_of};
+ghost use Rattle.upd_rows.specs.PartRows.{AreApart, part_rows};
 
 use crate::parts::part_of;
 use crate::rows::{CardRow, EntryRow, LibraryRows, TargetRow};
@@ -178,20 +179,27 @@ fn decks_of(alloc: Global, rows: &LibraryRows) -> Result<Vec<Deck>, AllocError>
     Ok(decks)
 }
 
-/// The library of a directory and decks, of which the first is `YANK$$$`.
-fn library_of(alloc: Global, idents: Vec<Ident>, decks: Vec<Deck>) -> Library
-    ensures { result ≡ library_of idents.items decks.items }
+/// The library of a directory and decks, of which the first is `YANK$$$`, with a rest.
+fn library_with(alloc: Global, idents: Vec<Ident>, decks: Vec<Deck>, rest: Rest) -> Library
+    ensures { result ≡ record (library_of idents.items decks.items) { rest = rest } }
 {
     let mut decks = decks;
-    let rest = Rest {
-        cards: 0,
-        entries: 0,
-    };
     if decks.is_empty() {
         return Library::of_parts(idents, decks, Vec::new(alloc), rest);
     }
     let yanks = decks.remove(0);
     Library::of_parts(idents, decks, yanks.cards, rest)
+}
+
+/// The same, of which no deck is left out.
+fn library_of(alloc: Global, idents: Vec<Ident>, decks: Vec<Deck>) -> Library
+    ensures { result ≡ library_of idents.items decks.items }
+{
+    let rest = Rest {
+        cards: 0,
+        entries: 0,
+    };
+    library_with(alloc, idents, decks, rest)
 }
 
 /// The directory and the decks of rows that come in any order.
@@ -232,4 +240,23 @@ pub fn assembled_part(
 {
     let (idents, decks) = idents_and_decks(alloc, rows)?;
     Ok(part_of(alloc, idents, decks, ages))
+}
+
+/// The same from the rows of these decks and of `YANK$$$` alone, and the numbers of all cards and entries.
+pub fn assembled_rest(
+    alloc: Global,
+    rows: LibraryRows,
+    cards: u64,
+    entries: u64,
+) -> Result<Library, AllocError>
+    ensures { (ages : List ℕ) (tables : Rows) (l : LibraryView) → IsSound l → IsWhole l → Shows tables l
+        → (AreApart tables.cards → AreRowsOf (part_rows ages tables) rows) → cards ≡ length tables.cards
+        → entries ≡ length tables.entries → IfOk result (λ found. found ≡ part_of ages l) }
+{
+    let rest = Rest {
+        cards: (cards as usize).saturating_sub(rows.cards.len()),
+        entries: (entries as usize).saturating_sub(rows.entries.len()),
+    };
+    let (idents, decks) = idents_and_decks(alloc, rows)?;
+    Ok(library_with(alloc, idents, decks, rest))
 }

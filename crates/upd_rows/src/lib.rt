@@ -13,7 +13,7 @@ pub mod store;
 
 pub use active::assembled_active;
 pub use asked::{decks_by_age, reads_with, states_by_key};
-pub use assemble::{assembled, assembled_part};
+pub use assemble::{assembled, assembled_part, assembled_rest};
 pub use list_store::ListStore;
 pub use list_tables::ListTables;
 pub use rows::{CardRow, CountRow, EntryRow, LibraryRows, MarkRow, StateRow, TargetRow};
