@@ -11,10 +11,10 @@ use std::alloc::Global;
 use upd_change::{Change, RunRow};
 use upd_core::{Actives, CardRef, Library, Serial, States};
 use upd_order::Rising;
-use upd_rows::{RowStore, assembled, assembled_active, assembled_part, decks_by_age, reads_with};
+use upd_rows::{RowStore, assembled, assembled_active, assembled_rest, decks_by_age, reads_with};
 use upd_sql::{
     commit_changes, is_library_schema, kept_active, kept_decks_of, kept_library, kept_mark,
-    kept_run, kept_states, settle_site,
+    kept_part, kept_run, kept_states, settle_site,
 };
 use upd_text::Fault;
 
@@ -74,8 +74,8 @@ impl<S: Rising> RowStore for SqlStore<S> {
         if !is_ours(&self.conn) {
             return Err(refused(&mut self.failures));
         }
-        match kept_library(&mut self.conn, alloc) {
-            Ok(rows) => match assembled_part(alloc, rows, decks) {
+        match kept_part(&mut self.conn, alloc, decks) {
+            Ok(part) => match assembled_rest(alloc, part.rows, part.cards, part.entries) {
                 Ok(library) => {
                     self.decks_read = reads_with(self.decks_read, &library);
                     Ok(library)
