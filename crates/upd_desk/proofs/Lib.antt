@@ -13,6 +13,9 @@ mod SettlesLemmas
 mod RefusedLemmas
 mod QueryLemmas
 mod ListedLemmas
+mod LoadingLemmas
+mod NeededLemmas
+mod FileLemmas
 mod LeadLemmas
 mod WorkLemmas
 mod LawLemmas

@@ -102,6 +102,10 @@ none_out : (ages : List ℕ) (ds : List DeckView) → AreAmong ages ds → filte
 none_out ages [] all = refl
 none_out ages (d ∷ ds) all = let is = all.0 in rw is (none_out ages ds all.1)
 
+-- the part with all decks leaves none out
+pub none_left_out : (l : LibraryView) → filter (λ (d : DeckView). not (is_among (map (λ (d : DeckView). d.ident) l.decks) d.ident)) l.decks ≡ []
+none_left_out l = none_out (map (λ (d : DeckView). d.ident) l.decks) l.decks (all_among l.decks)
+
 same_plus : (n m : ℕ) → m ≡ 0 → n + m ≡ n
 same_plus n m none = omega (arith, none)
 
@@ -118,4 +122,4 @@ whole_part l = λ i. record {
 }
   where
     none : filter (λ (d : DeckView). not (is_among (map (λ (d : DeckView). d.ident) l.decks) d.ident)) l.decks ≡ []
-    none = none_out (map (λ (d : DeckView). d.ident) l.decks) l.decks (all_among l.decks)
+    none = none_left_out l
