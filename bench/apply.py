@@ -43,7 +43,7 @@ TESTS = {
 CHANGES = "changes::holds_48000_cards"
 COPY = "a copy of 48,000 statuses"
 BUDGETS = [
-    ("1,999 corrections", "limits::takes_1999_corrections_on_50000_cards", "limits::holds_50000_cards", 1, 0.3),
+    ("1,999 corrections", "limits::takes_1999_corrections_on_50000_cards", "limits::holds_50000_cards", 1, 0.04),
     ("1,998 texts at one place", "changes::takes_1998_texts_at_one_place_of_48000_cards", CHANGES, 1, 0.1),
     ("a purge of 40,000 cards", "changes::purges_40000_of_48000_cards", CHANGES, 1, 0.3),
     (COPY, "settling::copies_48000_statuses_20_times", "settling::keeps_48000_statuses", 20, None),

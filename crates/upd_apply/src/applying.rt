@@ -5,6 +5,7 @@ ghost use Rattle.upd_change.specs.Changes.{change_seen, done_all};
 ghost use Rattle.upd_change.specs.Fits.{AllFit};
 ghost use Rattle.upd_change.specs.Rows.{Rows, Shows};
 ghost use Rattle.upd_change.specs.States.{TakeGone};
+ghost use Rattle.upd_change.specs.Told.{Told};
 ghost use Rattle.upd_core.specs.Sound.{AreApart, Continues, IsSound, all_cards, key_of};
 ghost use Rattle.upd_text.specs.Outcome.{DoesAt, FailsAt, GivesAt, at_line};
 ghost use Rattle.upd_apply.specs.Applying.{applied, brought, stepped, touched};
@@ -40,6 +41,7 @@ pub fn apply(alloc: Global, library: &mut Library, run: &Run) -> Result<Applied,
         ≡ Ok (record { library = library.new; idents = a.idents.items; compile = a.compile.items })) }
     ensures touched { AreApart (map key_of (all_cards library.old))
         → IfOk result (λ a. a.touched.items ≡ touched library.old library.new) }
+    ensures told { IfOk result (λ a. Told library.old library.new (map change_seen a.changes.items)) }
     ensures changes { (rows : Rows) → IsSound library.old → Shows rows library.old
         → IfOk result (λ a. Shows (done_all (map change_seen a.changes.items) rows) library.new) }
     ensures states { IsSound library.old → IsSound library.new
@@ -67,6 +69,7 @@ fn outcome(
     ensures compile { GivesAt (λ a. a.compile.items) result (named_decks lines.now after.now) }
     ensures touched { AreApart (map key_of (all_cards before.now))
         → IfOk result (λ a. a.touched.items ≡ touched before.now after.now) }
+    ensures told { IfOk result (λ a. Told before.now after.now (map change_seen a.changes.items)) }
     ensures changes { (rows : Rows) → IsSound before.now → Continues before.now.idents after.now.idents
         → Shows rows before.now
         → IfOk result (λ a. Shows (done_all (map change_seen a.changes.items) rows) after.now) }

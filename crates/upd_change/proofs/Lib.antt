@@ -9,6 +9,7 @@ pub mod FateLemmas
 pub mod LoopLemmas
 pub mod LeadLemmas
 pub mod StateLemmas
+pub mod TellLemmas
 pub mod AllLemmas
 pub mod KindLemmas
 pub mod FitLemmas

@@ -1,5 +1,5 @@
 -- What became of the cards of a library, deck by deck.
-use Rattle.std.specs.Prelude.{◌≡◌, ℕ, ◌<◌, ◌^◌, Bool, true, List, [], ◌∷◌, map, length}
+use Rattle.std.specs.Prelude.{◌≡◌, ℕ, ◌<◌, ◌^◌, ◌⊎◌, Bool, true, List, [], ◌∷◌, ◌++◌, map, length}
 use Rattle.std.specs.List.{list_any, filter, flat_map, AllByRecursion}
 use Rattle.upd_core.specs.Library.{CardView, DeckView}
 use Rattle.upd_change.specs.declared.fates.Fate.{Fate}
@@ -71,6 +71,29 @@ pub record Lead (before after : List DeckView) (decks : List DeckFatesView) : Ty
   pub news : standing (map deck_after decks) ≡ standing after
   pub kept : AllByRecursion (λ k. AllByRecursion IsKept k.fates) decks
   pub short : AllByRecursion IsShort decks
+
+-- Fates of a deck: of its age, from the cards that stood in it to those that stand in it, and few enough.
+pub record AreOfDeck (age : ℕ) (before after : List CardView) (k : DeckFatesView) : Type 0 where
+  pub deck : k.deck ≡ age
+  pub fates : AreFates before after k.fates
+  pub short : IsShort k
+
+-- Fates of decks, in order: of a deck that stood and of the next one that stands, where these are of one age; else the deck is gone. Those
+-- that stand behind all of these are new.
+abbrev pub Paired : List DeckView → List DeckView → List DeckFatesView → Type 0
+Paired [] [] [] = Unit {0}
+Paired [] [] (k ∷ ks) = ⊥
+Paired [] (e ∷ news) [] = ⊥
+Paired [] (e ∷ news) (k ∷ ks) = AreOfDeck e.ident [] e.cards k × Paired [] news ks
+Paired (d ∷ olds) news [] = ⊥
+Paired (d ∷ olds) [] (k ∷ ks) = AreOfDeck d.ident d.cards [] k × Paired olds [] ks
+Paired (d ∷ olds) (e ∷ news) (k ∷ ks) =
+    ((e.ident ≡ d.ident) × AreOfDeck d.ident d.cards e.cards k × Paired olds news ks)
+    ⊎ ((e.ident ≡ d.ident → ⊥) × AreOfDeck d.ident d.cards [] k × Paired olds (e ∷ news) ks)
+
+-- Fates so far of decks: followed by any that pair the decks which are left, they pair all.
+abbrev pub Await : List DeckView → List DeckView → List DeckFatesView → List DeckView → List DeckView → Type 0
+Await before after decks olds news = (rest : List DeckFatesView) → Paired olds news rest → Paired before after (decks ++ rest)
 
 -- a fate of the next card before or of the next card after, or of both where these are one
 abbrev pub IsNextOf : CardView → CardView → FateView → Type 0

@@ -1,14 +1,14 @@
 -- The row changes by which fates are told: idents, then all that goes, then moves, then all that comes.
-use Rattle.std.specs.Prelude.{ℕ, ◌+◌, ◌-◌, ◌==◌, nat_lt, ℤ, pos, negsuc, Bool, true, false, not, ◌&&◌, if◌then◌else◌, List, [], ◌∷◌, ◌++◌, map, length, drop}
+use Rattle.std.specs.Prelude.{◌≡◌, ℕ, ◌+◌, ◌-◌, ◌==◌, nat_lt, ℤ, pos, negsuc, Bool, true, false, not, ◌&&◌, if◌then◌else◌, List, [], ◌∷◌, ◌++◌, map, length, drop}
 use Rattle.std.specs.List.{flat_map}
 use Rattle.upd_core.specs.declared.card.Entry.{Entry}
 use Rattle.upd_text.specs.declared.card_ref.CardRef.{CardRef}
 use Rattle.upd_core.specs.declared.ident.Ident.{Ident}
 use Rattle.upd_core.specs.declared.target.Target.{Target}
 use Rattle.upd_core.specs.Entries.{same_entry}
-use Rattle.upd_core.specs.Library.{CardView, ref_of}
+use Rattle.upd_core.specs.Library.{CardView, LibraryView, all_decks, ref_of}
 use Rattle.upd_change.specs.Changes.{ChangeView, IdentNew, IdentPurged, CardNew, CardGone, CardsMoved, EntryNew, EntriesGone, TargetNew, TargetsGone}
-use Rattle.upd_change.specs.Fates.{FateView, DeckFatesView, Kept, Gone, New}
+use Rattle.upd_change.specs.Fates.{FateView, DeckFatesView, Kept, Gone, New, Paired}
 
 -- idents that are no longer held, and those that have come
 abbrev pub idents_told : List Ident → List Ident → List ChangeView
@@ -85,3 +85,9 @@ cards_told idents decks =
 -- the changes that lead from one directory and its cards to another
 abbrev pub told : List Ident → List Ident → List DeckFatesView → List ChangeView
 told old new decks = idents_told old new ++ cards_told new decks
+
+-- Changes lead from one library to another: they tell fates of the cards of their decks.
+pub record Told (before after : LibraryView) (changes : List ChangeView) : Type 0 where
+  pub decks : List DeckFatesView
+  pub paired : Paired (all_decks before) (all_decks after) decks
+  pub are : changes ≡ told before.idents after.idents decks

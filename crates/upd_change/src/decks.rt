@@ -1,8 +1,8 @@
 //! What became of all decks of a library.
-ghost use Rattle.std.specs.Prelude.{◌≡◌, ◌<◌, ◌≤◌, List, [], ◌∷◌, ◌++◌, length, take, drop, slice_index_or, IfOk, OnOk};
-ghost use Rattle.std.specs.Prelude.{MatchOption, ⊤};
+ghost use Rattle.std.specs.Prelude.{◌≡◌, ◌<◌, ◌≤◌, List, [], ◌∷◌, length, drop, slice_get, Some};
+ghost use Rattle.std.specs.Prelude.{slice_index_or, IfOk, OnOk, MatchOption};
 ghost use Rattle.upd_core.specs.Library.{DeckView, all_decks};
-ghost use Rattle.upd_change.specs.Fates.{Lead};
+ghost use Rattle.upd_change.specs.Fates.{Await, Paired};
 
 use crate::fates::{DeckFates, deck_fates};
 use std::alloc::{AllocError, Global};
@@ -15,7 +15,7 @@ pub(crate) fn library_fates<'a>(
     before: &'a Library,
     after: &'a Library,
 ) -> Result<Vec<DeckFates<'a>>, AllocError>
-    ensures { IfOk result (λ decks. Lead (all_decks before.now) (all_decks after.now) decks.items) }
+    ensures { IfOk result (λ decks. Paired (all_decks before.now) (all_decks after.now) decks.items) }
 {
     let mut found = Vec::new(alloc);
     found.push(deck_fates(alloc, 0, youngest, before.yanks(), after.yanks())?)?;
@@ -35,8 +35,8 @@ fn add_decks<'a>(
     after: &'a [Deck],
 ) -> Result<usize, AllocError>
     ensures within { IfOk result (λ next. next ≤ length after.now) }
-    ensures lead { (olds news : List DeckView) → Lead olds news found.old.items
-        → IfOk result (λ next. Lead (olds ++ before.now) (news ++ take next after.now) found.new.items) }
+    ensures paired { (olds news : List DeckView) → Await olds news found.old.items before.now after.now
+        → IfOk result (λ next. Await olds news found.new.items [] (drop next after.now)) }
 {
     let mut next = 0;
     for deck in before {
@@ -55,8 +55,9 @@ fn add_deck<'a>(
 ) -> Result<usize, AllocError>
     requires { next ≤ length after.now }
     ensures within { IfOk result (λ n. n ≤ length after.now) }
-    ensures lead { (olds news : List DeckView) → Lead olds (news ++ take next after.now) found.old.items
-        → IfOk result (λ n. Lead (olds ++ deck.now ∷ []) (news ++ take n after.now) found.new.items) }
+    ensures paired { (olds news before : List DeckView)
+        → Await olds news found.old.items (deck.now ∷ before) (drop next after.now)
+        → IfOk result (λ n. Await olds news found.new.items before (drop n after.now)) }
 {
     match partner(deck, after, next) {
         Some(later) => {
@@ -74,7 +75,9 @@ fn add_deck<'a>(
 
 /// The deck at an index, if it is the same one.
 fn partner<'a>(deck: &Deck, after: &'a [Deck], next: usize) -> Option<&'a Deck>
-    ensures { MatchOption result ⊤ (λ d. (next < length after.now) × (slice_index_or after.now next d.now ≡ d.now)
+    ensures { MatchOption result
+        ((d : DeckView) → slice_get after.now next ≡ Some d → d.ident ≡ deck.now.ident → ⊥)
+        (λ d. (next < length after.now) × (slice_index_or after.now next d.now ≡ d.now)
         × (d.now.ident ≡ deck.now.ident)) }
 {
     let later = after.get(next)?;
@@ -91,8 +94,8 @@ fn add_new_decks<'a>(
     youngest: Serial,
     decks: &'a [Deck],
 ) -> Result<(), AllocError>
-    ensures { (olds news : List DeckView) → Lead olds news found.old.items
-        → OnOk result (Lead olds (news ++ decks.now) found.new.items) }
+    ensures { (olds news : List DeckView) → Await olds news found.old.items [] decks.now
+        → OnOk result (Paired olds news found.new.items) }
 {
     for deck in decks {
         let fates = deck_fates(alloc, deck.ident, youngest, &[], &deck.cards)?;

@@ -6,6 +6,7 @@ ghost use Rattle.upd_change.specs.Changes.{change_seen, done_all};
 ghost use Rattle.upd_change.specs.Fits.{AllFit};
 ghost use Rattle.upd_change.specs.Rows.{Rows, Shows};
 ghost use Rattle.upd_change.specs.States.{TakeGone};
+ghost use Rattle.upd_change.specs.Told.{Told};
 ghost use Rattle.upd_change.specs.Touched.{touched};
 
 use crate::change::Change;
@@ -29,6 +30,7 @@ pub struct Compared {
 /// that goes, then moves, then all that comes. What comes or goes at one place of a deck is one move. Memory alone can
 /// fail, where a deck has 2^32 cards or more as well.
 pub fn compare(alloc: Global, before: &Library, after: &Library) -> Result<Compared, AllocError>
+    ensures told { IfOk result (λ d. Told before.now after.now (map change_seen d.changes.items)) }
     ensures shows { (rows : Rows) → IsSound before.now → Continues before.now.idents after.now.idents
         → Shows rows before.now
         → IfOk result (λ d. Shows (done_all (map change_seen d.changes.items) rows) after.now) }

@@ -15,7 +15,7 @@ use crate::marks::{both, calls_marked};
 use crate::reach::reached_positions;
 use crate::walk::is_first;
 use std::alloc::{AllocError, Global};
-use upd_core::{ActiveCard, ActiveDeck, Ident, Serial};
+use upd_core::{ActiveCardRef, ActiveDeckRef, Ident, Serial};
 use upd_text::line::{called, is_call};
 
 /// A deck has a chain to a changed common deck where a path of calls leads there, and only there, however long it is.
@@ -27,7 +27,7 @@ pub fn chains_are_paths()
 fn called_positions(
     alloc: Global,
     source: &Indexed,
-    deck: &ActiveDeck,
+    deck: &ActiveDeckRef,
 ) -> Result<Vec<usize>, AllocError>
     ensures { IfOk result (λ positions. positions.items ≡ called_positions source.now deck.now) }
 {
@@ -39,7 +39,7 @@ fn called_positions(
 }
 
 /// The position of the held common deck that a card calls.
-fn called_position(source: &Indexed, card: &ActiveCard) -> Option<usize>
+fn called_position(source: &Indexed, card: &ActiveCardRef) -> Option<usize>
     ensures { result ≡ called_position source.now card.now }
 {
     if is_call(card.text) {

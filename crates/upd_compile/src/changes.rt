@@ -10,7 +10,7 @@ ghost use Rattle.upd_compile.specs.Chosen.{changed, is_changed, same_card, same_
 
 use crate::indexed::Indexed;
 use std::alloc::{AllocError, Global};
-use upd_core::{ActiveCard, ActiveDeck, Actives, Library, Serial};
+use upd_core::{ActiveCardRef, ActiveDeckRef, ActivesRef, Library, Serial};
 use upd_text::Fault;
 
 /// The decks that changed from one library to another, by age; memory alone can fail.
@@ -20,16 +20,16 @@ pub fn changed(alloc: Global, before: &Library, after: &Library) -> Result<Vec<S
     ensures ok { IfOk result (λ ages. ages.items ≡ changed (actives_of before.now) (actives_of after.now)) }
     ensures err { IsOkUnless result (fault_at NoMemory 0) }
 {
-    let before = before.actives()?;
-    let after = after.actives()?;
+    let before = before.actives_shown()?;
+    let after = after.actives_shown()?;
     let ages = changed_ages(alloc, &before, &after.decks)?;
     Ok(ages)
 }
 
 fn changed_ages(
     alloc: Global,
-    before: &Actives,
-    decks: &[ActiveDeck],
+    before: &ActivesRef,
+    decks: &[ActiveDeckRef],
 ) -> Result<Vec<Serial>, AllocError>
     ensures { IfOk result (λ ages. ages.items ≡ map (λ d. d.ident) (filter (is_changed before.now) decks.now)) }
 {
@@ -40,7 +40,7 @@ fn changed_ages(
 fn ages_changed_since(
     alloc: Global,
     before: &Indexed,
-    decks: &[ActiveDeck],
+    decks: &[ActiveDeckRef],
 ) -> Result<Vec<Serial>, AllocError>
     ensures { IfOk result (λ ages. ages.items ≡ map (λ d. d.ident) (filter (is_changed before.now) decks.now)) }
 {
@@ -56,8 +56,8 @@ fn ages_changed_since(
 /// Whether each of these decks changed.
 pub(crate) fn change_marks(
     alloc: Global,
-    before: &Actives,
-    decks: &[ActiveDeck],
+    before: &ActivesRef,
+    decks: &[ActiveDeckRef],
 ) -> Result<Vec<bool>, AllocError>
     ensures { IfOk result (λ marks. marks.items ≡ map (is_changed before.now) decks.now) }
 {
@@ -69,7 +69,7 @@ pub(crate) fn change_marks(
     Ok(marks)
 }
 
-fn is_changed(before: &Indexed, deck: &ActiveDeck) -> bool
+fn is_changed(before: &Indexed, deck: &ActiveDeckRef) -> bool
     ensures { result ≡ is_changed before.now deck.now }
 {
     match before.deck_aged(deck.ident) {
@@ -78,7 +78,7 @@ fn is_changed(before: &Indexed, deck: &ActiveDeck) -> bool
     }
 }
 
-fn same_cards(was: &[ActiveCard], cards: &[ActiveCard]) -> bool
+fn same_cards(was: &[ActiveCardRef], cards: &[ActiveCardRef]) -> bool
     ensures { result ≡ same_cards was.now cards.now }
 {
     if was.len() != cards.len() {
@@ -92,7 +92,7 @@ fn same_cards(was: &[ActiveCard], cards: &[ActiveCard]) -> bool
     true
 }
 
-fn same_card(was: &ActiveCard, card: &ActiveCard) -> bool
+fn same_card(was: &ActiveCardRef, card: &ActiveCardRef) -> bool
     ensures { result ≡ same_card was.now card.now }
 {
     was.ident == card.ident && was.number == card.number && was.text == card.text

@@ -17,16 +17,16 @@ use crate::marks::any_of;
 use crate::mode::Mode;
 use std::alloc::{AllocError, Global};
 use std::collections::HashSet;
-use upd_core::{ActiveDeck, Actives, Ident, Serial};
+use upd_core::{ActiveDeckRef, ActivesRef, Ident, Serial};
 
 /// The decks of a compile file, in library order.
 pub(crate) fn chosen_decks<'a, 'b>(
     alloc: Global,
     mode: Mode,
     named: &[Serial],
-    before: &Actives,
+    before: &ActivesRef,
     after: &Indexed<'a, 'b>,
-) -> Result<Vec<&'a ActiveDeck<'b>>, AllocError>
+) -> Result<Vec<&'a ActiveDeckRef<'b>>, AllocError>
     ensures { IfOk result (λ decks. map (λ d. d.now) decks.items ≡ chosen mode named.now before.now after.now) }
 {
     let choices = choices(alloc, mode, named, before, after)?;
@@ -38,7 +38,7 @@ fn picked_decks<'a, 'b>(
     alloc: Global,
     source: &Indexed<'a, 'b>,
     marks: &[bool],
-) -> Result<Vec<&'a ActiveDeck<'b>>, AllocError>
+) -> Result<Vec<&'a ActiveDeckRef<'b>>, AllocError>
     requires { length marks.now ≡ length source.now.decks }
     ensures { IfOk result (λ found. (test : ActiveDeckView → Bool) → marks.now ≡ map test source.now.decks
         → map (λ d. d.now) found.items ≡ filter (λ d. not (is_common_deck source.now d) && test d) source.now.decks) }
@@ -67,7 +67,7 @@ fn choices(
     alloc: Global,
     mode: Mode,
     named: &[Serial],
-    before: &Actives,
+    before: &ActivesRef,
     after: &Indexed,
 ) -> Result<Vec<bool>, AllocError>
     ensures { IfOk result
@@ -84,7 +84,7 @@ fn choices(
 fn normal_marks(
     alloc: Global,
     named: &[Serial],
-    before: &Actives,
+    before: &ActivesRef,
     after: &Indexed,
 ) -> Result<Vec<bool>, AllocError>
     ensures { IfOk result
@@ -96,7 +96,7 @@ fn normal_marks(
     any_of(alloc, &named, &changed, &chained)
 }
 
-fn all_marks(alloc: Global, decks: &[ActiveDeck]) -> Result<Vec<bool>, AllocError>
+fn all_marks(alloc: Global, decks: &[ActiveDeckRef]) -> Result<Vec<bool>, AllocError>
     ensures { IfOk result (λ marks. marks.items ≡ map (λ d. true) decks.now) }
 {
     decks.iter().map(|_| true).collect(alloc)
@@ -106,7 +106,7 @@ fn all_marks(alloc: Global, decks: &[ActiveDeck]) -> Result<Vec<bool>, AllocErro
 fn named_marks(
     alloc: Global,
     named: &[Serial],
-    decks: &[ActiveDeck],
+    decks: &[ActiveDeckRef],
 ) -> Result<Vec<bool>, AllocError>
     ensures { IfOk result (λ marks. marks.items ≡ map (λ d. is_among named.now d.ident) decks.now) }
 {

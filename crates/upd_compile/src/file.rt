@@ -1,7 +1,8 @@
 //! Compile files.
 
-ghost use Rattle.std.specs.Prelude.{◌≡◌, map};
+ghost use Rattle.std.specs.Prelude.{◌≡◌, [], map, Ok};
 ghost use Rattle.std.specs.List.{flat_map};
+ghost use Rattle.upd_core.specs.Actives.{ActivesView};
 ghost use Rattle.upd_text.specs.Outcome.{GivesAt};
 ghost use Rattle.upd_compile.specs.File.{compile_file_of, file_of, written};
 ghost use Rattle.upd_compile.specs.Walk.{walk};
@@ -13,7 +14,7 @@ use crate::progress::Progress;
 use crate::walk::walk_all;
 use std::alloc::Global;
 use std::marker::Model;
-use upd_core::{ActiveDeck, Actives, Library, Serial};
+use upd_core::{ActiveDeckRef, Actives, ActivesRef, Library, Serial};
 use upd_text::Fault;
 use upd_text::limits::MAX_DEPTH;
 
@@ -44,16 +45,37 @@ pub fn compile_file(
 ) -> Result<CompileFile, Fault>
     ensures { GivesAt (λ f. f) result (compile_file_of mode named.now before.now after.now) }
 {
-    let after = after.actives()?;
-    let before = before.actives()?;
-    compile_active(alloc, &after, &before, mode, named)
+    let after = after.actives_shown()?;
+    let before = before.actives_shown()?;
+    compile_shown(alloc, &after, &before, mode, named)
 }
+
+/// A quick compile file of no decks is empty, whatever the libraries hold: a run that calls for none needs no active
+/// cards.
+pub fn quick_file_of_no_decks_is_empty()
+    ensures { (before after : ActivesView)
+        → file_of Mode.Quick [] before after ≡ Ok (record { bytes = []; lines = 0 }) }
+{}
 
 /// The same from the active cards alone.
 pub fn compile_active(
     alloc: Global,
     after: &Actives,
     before: &Actives,
+    mode: Mode,
+    named: &[Serial],
+) -> Result<CompileFile, Fault>
+    ensures { GivesAt (λ f. f) result (file_of mode named.now before.now after.now) }
+{
+    let after = after.shown()?;
+    let before = before.shown()?;
+    compile_shown(alloc, &after, &before, mode, named)
+}
+
+fn compile_shown(
+    alloc: Global,
+    after: &ActivesRef,
+    before: &ActivesRef,
     mode: Mode,
     named: &[Serial],
 ) -> Result<CompileFile, Fault>
@@ -68,7 +90,7 @@ pub fn compile_active(
 fn file_of_walks(
     alloc: Global,
     source: &Indexed,
-    decks: &[&ActiveDeck],
+    decks: &[&ActiveDeckRef],
 ) -> Result<CompileFile, Fault>
     ensures { GivesAt (λ f. f) result
         (written source.now.idents (flat_map (walk MAX_DEPTH source.now) (map (λ d. d.now) decks.now))) }

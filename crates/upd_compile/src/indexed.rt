@@ -10,12 +10,12 @@ ghost use Rattle.upd_compile.specs.Walk.{common_named, deck_aged};
 use std::alloc::{AllocError, Global};
 use std::collections::HashMap;
 use std::marker::Model;
-use upd_core::{ActiveDeck, Actives, Ident, Kind, Serial};
+use upd_core::{ActiveDeckRef, ActivesRef, Ident, Kind, Serial};
 
 /// Active cards, with an index of held idents by name and of decks by age.
 #[derive(Drop)]
 pub(crate) struct Indexed<'a, 'b> {
-    actives: &'a Actives<'b>,
+    actives: &'a ActivesRef<'b>,
     names: HashMap<&'a [u8], (Kind, Serial)>,
     positions: HashMap<Serial, usize>,
 }
@@ -35,7 +35,7 @@ impl<'a, 'b> Model for Indexed<'a, 'b> {
 impl<'a, 'b> Indexed<'a, 'b> {
     pub(crate) fn new(
         alloc: Global,
-        actives: &'a Actives<'b>,
+        actives: &'a ActivesRef<'b>,
     ) -> Result<Indexed<'a, 'b>, AllocError>
         ensures { IfOk result (λ indexed. indexed ≡ actives.now) }
     {
@@ -57,7 +57,7 @@ impl<'a, 'b> Indexed<'a, 'b> {
     }
 
     /// The decks.
-    pub(crate) fn decks(&self) -> &'a [ActiveDeck<'b>]
+    pub(crate) fn decks(&self) -> &'a [ActiveDeckRef<'b>]
         ensures { result.now ≡ self.now.decks }
     {
         let actives = self.actives;
@@ -84,7 +84,7 @@ impl<'a, 'b> Indexed<'a, 'b> {
     }
 
     /// The deck of an age.
-    pub(crate) fn deck_aged(&self, age: Serial) -> Option<&'a ActiveDeck<'b>>
+    pub(crate) fn deck_aged(&self, age: Serial) -> Option<&'a ActiveDeckRef<'b>>
         ensures { option_copied result ≡ deck_aged age self.now }
     {
         let position = self.position_aged(age)?;
@@ -93,7 +93,7 @@ impl<'a, 'b> Indexed<'a, 'b> {
     }
 
     /// The held common deck of a name.
-    pub(crate) fn common_named(&self, name: &[u8]) -> Option<&'a ActiveDeck<'b>>
+    pub(crate) fn common_named(&self, name: &[u8]) -> Option<&'a ActiveDeckRef<'b>>
         ensures { option_copied result ≡ common_named name.now self.now }
     {
         let position = self.position_named(name)?;
@@ -119,7 +119,10 @@ fn held_names(alloc: Global, idents: &[Ident]) -> Result<HashMap<&[u8], (Kind, S
 }
 
 /// The position of the deck of each age, the first of them.
-fn deck_positions(alloc: Global, decks: &[ActiveDeck]) -> Result<HashMap<Serial, usize>, AllocError>
+fn deck_positions(
+    alloc: Global,
+    decks: &[ActiveDeckRef],
+) -> Result<HashMap<Serial, usize>, AllocError>
     ensures { IfOk result
         (λ positions. (age : ℕ) → hash.get nat_eq positions age ≡ position_aged age decks.now) }
 {

@@ -18,7 +18,7 @@ mod walk;
 
 pub use chains::chains_are_paths;
 pub use changes::changed;
-pub use file::{CompileFile, compile_active, compile_file};
+pub use file::{CompileFile, compile_active, compile_file, quick_file_of_no_decks_is_empty};
 pub use listings::{list_card, list_deck, list_idents, list_yanks};
 pub use mode::Mode;
 pub use walk::walks_go_by_depth;

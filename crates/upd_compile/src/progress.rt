@@ -12,7 +12,7 @@ use crate::idents::name_of;
 use itoa::Buffer;
 use std::alloc::{AllocError, Global};
 use std::marker::Model;
-use upd_core::{ActiveCard, Ident};
+use upd_core::{ActiveCardRef, Ident};
 use upd_text::FaultKind;
 use upd_text::limits::{MAX_CALLS, MAX_COMPILE_LINES};
 
@@ -44,7 +44,7 @@ impl Progress {
     }
 
     /// Writes the line of a card.
-    pub(crate) fn line(&mut self, idents: &[Ident], card: &ActiveCard) -> Result<(), FaultKind>
+    pub(crate) fn line(&mut self, idents: &[Ident], card: &ActiveCardRef) -> Result<(), FaultKind>
         ensures { Does result self.new (after_event idents.now (Line card.now) self.old) }
     {
         if self.lines as usize >= MAX_COMPILE_LINES {
@@ -88,7 +88,7 @@ const BLANKS: &[u8; TEXT_COLUMNS] = &[b' '; TEXT_COLUMNS];
 pub(crate) fn push_line(
     bytes: &mut Vec<u8>,
     idents: &[Ident],
-    card: &ActiveCard,
+    card: &ActiveCardRef,
 ) -> Result<(), AllocError>
     ensures { OnOk result (bytes.new.items ≡ bytes.old.items ++ card_line idents.now card.now) }
 {

@@ -11,7 +11,7 @@ ghost use Rattle.upd_compile.specs.Walk.{Event, card_events, walk};
 
 use crate::indexed::Indexed;
 use crate::progress::Progress;
-use upd_core::{ActiveCard, ActiveDeck, Serial};
+use upd_core::{ActiveCardRef, ActiveDeckRef, Serial};
 use upd_text::FaultKind;
 use upd_text::line::{called, is_call};
 
@@ -25,7 +25,7 @@ pub fn walks_go_by_depth()
 /// Walks through decks, one after the other, where calls may go so deep.
 pub(crate) fn walk_all(
     source: &Indexed,
-    decks: &[&ActiveDeck],
+    decks: &[&ActiveDeckRef],
     deep: usize,
     progress: &mut Progress,
 ) -> Result<(), FaultKind>
@@ -42,7 +42,7 @@ pub(crate) fn walk_all(
 #[cycle(walk)]
 pub(crate) fn walk(
     source: &Indexed,
-    deck: &ActiveDeck,
+    deck: &ActiveDeckRef,
     deep: usize,
     progress: &mut Progress,
 ) -> Result<(), FaultKind>
@@ -61,7 +61,7 @@ pub(crate) fn walk(
 #[cycle(walk)]
 fn meet(
     source: &Indexed,
-    card: &ActiveCard,
+    card: &ActiveCardRef,
     deep: usize,
     progress: &mut Progress,
 ) -> Result<(), FaultKind>
@@ -82,7 +82,7 @@ fn meet(
 }
 
 /// Whether a card is the first of the deck of an ident.
-pub(crate) fn is_first(card: &ActiveCard, deck: Serial) -> bool
+pub(crate) fn is_first(card: &ActiveCardRef, deck: Serial) -> bool
     ensures { result ≡ (card.now.ident == deck) && (card.now.number == 1) }
 {
     card.ident == deck && card.number == 1

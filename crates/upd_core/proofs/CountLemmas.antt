@@ -11,7 +11,7 @@ use Rattle.upd_core.specs.Counts.{capped, AreOf}
 use Rattle.upd_core.specs.Edits.{entered, entered_range}
 use Rattle.upd_core.specs.First.{at_first}
 use Rattle.upd_core.specs.Library.{CardView, DeckView, LibraryView, is_deck}
-use Rattle.upd_core.specs.Parts.{entered_count, entered_in, inserted_in}
+use Rattle.upd_core.specs.EditParts.{entered_count, entered_in, inserted_in}
 
 -- where the first element that passes is changed, a sum gains what that element gains
 pub sum_by-at_first : {A : Type 0} (test : A → Bool) (change : A → A) (f gain : A → ℕ) (xs : List A) → ((x : A) → f (change x) ≡ f x + gain x) →

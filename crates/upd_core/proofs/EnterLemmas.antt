@@ -5,7 +5,7 @@ use Rattle.std.proofs.lemmas.List.{length-map, length-take-le, set-get_or, take-
 use Rattle.upd_core.specs.declared.card.Entry.{Entry}
 use Rattle.upd_core.specs.Edits.{entered}
 use Rattle.upd_core.specs.Library.{CardView}
-use Rattle.upd_core.specs.Parts.{without_last}
+use Rattle.upd_core.specs.EditParts.{without_last}
 
 pushed_left : (es : List Entry) (e : Entry) → take (length (es ++ e ∷ []) - 1) (es ++ e ∷ []) ≡ es
 pushed_left es e = grind (arith, common_steps)

@@ -10,4 +10,6 @@ pub mod YankLemmas
 pub mod LiveLemmas
 pub mod FlatLemmas
 pub mod CountedLemmas
+pub mod ActiveLemmas
+pub mod HomeLemmas
 mod EnterLemmas

@@ -9,9 +9,12 @@ pub mod Counted
 pub mod Limits
 pub mod Counts
 pub mod Edits
+pub mod EditParts
 pub mod Parts
+pub mod Homes
 pub mod Gone
 pub mod Sound
 pub mod Actives
+pub mod ActiveTexts
 pub mod Order
 pub mod Entries

@@ -1,23 +1,27 @@
--- What the edits do to one deck: what the helpers of the edits promise.
-use Rattle.std.specs.Prelude.{ℕ, ◌+◌, ◌-◌, List, length, take, drop, insert}
-use Rattle.upd_core.specs.declared.card.Entry.{Entry}
-use Rattle.upd_core.specs.Edits.{entered_range}
-use Rattle.upd_core.specs.First.{at_first}
-use Rattle.upd_core.specs.Library.{CardView, DeckView, is_deck}
-use Rattle.upd_core.specs.Ages.{Age}
+-- A library of which some decks aren't loaded.
+use Rattle.std.specs.Prelude.{ℕ, ◌+◌, Bool, not, List, length, sum_by}
+use Rattle.std.specs.List.{filter}
+use Rattle.upd_core.specs.Edits.{is_among}
+use Rattle.upd_core.specs.Library.{DeckView, LibraryView}
 
--- decks with a card in the first one of an age
-abbrev pub inserted_in : Age → ℕ → CardView → List DeckView → List DeckView
-inserted_in age behind c decks = at_first (is_deck age) (λ d. record d { cards = insert d.cards (length d.cards - behind) c }) decks
+-- how many cards decks have
+abbrev pub cards_of_decks : List DeckView → ℕ
+cards_of_decks decks = sum_by (λ d. length d.cards) decks
 
--- how many cards there are from one index to another
-abbrev pub entered_count : ℕ → ℕ → List CardView → ℕ
-entered_count from to cards = length (drop from (take (to + 1) cards))
+-- how many entries their histories have
+abbrev pub entries_of_decks : List DeckView → ℕ
+entries_of_decks decks = sum_by (λ d. sum_by (λ c. length c.history) d.cards) decks
 
--- a card without its last entry
-abbrev pub without_last : CardView → CardView
-without_last c = record c { history = take (length c.history - 1) c.history }
+-- the library without the decks that pass a test; what these hold is counted in the rest
+abbrev pub part : (ℕ → Bool) → LibraryView → LibraryView
+part out l = record l {
+  decks = filter (λ d. not (out d.ident)) l.decks;
+  rest = record {
+    cards = l.rest.cards + cards_of_decks (filter (λ d. out d.ident) l.decks);
+    entries = l.rest.entries + entries_of_decks (filter (λ d. out d.ident) l.decks);
+  };
+}
 
--- decks with the entry in the first one of an age
-abbrev pub entered_in : Age → ℕ → ℕ → Entry → List DeckView → List DeckView
-entered_in age from to e decks = at_first (is_deck age) (λ d. record d { cards = entered_range from to e d.cards }) decks
+-- the library with the decks of these ages alone, and `YANK$$$`
+abbrev pub part_of : List ℕ → LibraryView → LibraryView
+part_of ages l = part (λ d. not (is_among ages d)) l

@@ -1,104 +1,191 @@
-//! The active cards of a library, without their past.
+//! The active cards of a library, without their past, with texts of their own.
 
-ghost use Rattle.std.specs.Prelude.{◌≡◌, IfOk, map};
-ghost use Rattle.std.specs.List.{filter};
-ghost use Rattle.upd_core.specs.Actives.{without_past, active_deck};
-ghost use Rattle.upd_core.specs.Status.{is_active};
+ghost use Rattle.std.specs.Prelude.{◌≡◌, [], ◌∷◌, ◌++◌, All, map, IfOk, OnOk};
+ghost use Rattle.upd_core.specs.ActiveTexts.{LiesIn, card_in_texts};
 
-use crate::card::Card;
-use crate::deck::Deck;
+use crate::active_refs::{ActiveCardRef, ActiveDeckRef, ActivesRef};
 use crate::ident::{Ident, Serial};
-use crate::live::is_active;
-use crate::targets::Targets;
 use std::alloc::{AllocError, Global};
 use std::marker::Model;
 
-/// An active card, without its past.
-#[derive(Debug, Drop)]
-pub struct ActiveCard<'a> {
-    /// The age of the ident that brought the card.
-    pub ident: Serial,
-    pub number: u32,
-    pub text: &'a [u8],
-}
-
-impl<'a> Model for ActiveCard<'a> {
-    ghost use Rattle.upd_core.specs.Actives.{ActiveCardView};
-
-    ghost Value = { ActiveCardView };
-
-    ghost view = { λ c. record { ident = c.ident; number = c.number; text = c.text.now } };
+/// An active card whose text is a range of the texts of its deck.
+#[derive(Clone, Copy, Debug)]
+struct Ranged {
+    ident: Serial,
+    number: u32,
+    start: usize,
+    end: usize,
 }
 
 /// The active cards of a deck, in order.
 #[derive(Debug, Drop)]
-pub struct ActiveDeck<'a> {
+pub struct ActiveDeck {
     /// The age of the deck's own ident.
     pub ident: Serial,
-    pub cards: Vec<ActiveCard<'a>>,
+    cards: Vec<Ranged>,
+    /// The texts of the cards, one after the other.
+    texts: Vec<u8>,
 }
 
-impl<'a> Model for ActiveDeck<'a> {
+impl Model for ActiveDeck {
     ghost use Rattle.upd_core.specs.Actives.{ActiveDeckView};
 
     ghost Value = { ActiveDeckView };
 
-    ghost view = { λ d. record { ident = d.ident; cards = d.cards.items } };
+    ghost use Rattle.upd_core.specs.ActiveTexts.{AreWithin, deck_in_texts};
+
+    ghost view = { deck_in_texts };
+
+    ghost invariant = { AreWithin };
 }
 
 /// A directory and the active cards of its decks: all that a compile file is made of.
 #[derive(Debug, Drop)]
-pub struct Actives<'a> {
-    pub idents: &'a [Ident],
+pub struct Actives {
+    pub idents: Vec<Ident>,
     /// All decks other than `YANK$$$`, by age, also those with no active card.
-    pub decks: Vec<ActiveDeck<'a>>,
+    pub decks: Vec<ActiveDeck>,
 }
 
-impl<'a> Model for Actives<'a> {
+impl Model for Actives {
     ghost use Rattle.upd_core.specs.Actives.{ActivesView};
 
     ghost Value = { ActivesView };
 
-    ghost view = { λ a. record { idents = a.idents.now; decks = a.decks.items } };
+    ghost view = { λ a. record { idents = a.idents.items; decks = a.decks.items } };
 }
 
-/// The active ones of the cards of a deck.
-pub(crate) fn active_cards<'a>(
-    alloc: Global,
-    live: &Targets,
-    deck: Serial,
-    cards: &'a [Card],
-) -> Result<Vec<ActiveCard<'a>>, AllocError>
-    ensures { IfOk result (λ found. found.items ≡ map without_past (filter (is_active live.now deck) cards.now)) }
-{
-    let mut found = Vec::with_capacity(alloc, cards.len())?;
-    for card in cards {
-        if is_active(live, deck, card) {
-            found.push(ActiveCard {
-                ident: card.ident,
-                number: card.number,
-                text: &card.text,
-            })?;
+impl ActiveDeck {
+    /// A deck with no active card. It takes no memory.
+    pub fn new(alloc: Global, ident: Serial) -> ActiveDeck
+        ensures { result ≡ record { ident = ident; cards = [] } }
+    {
+        ActiveDeck {
+            ident,
+            cards: Vec::new(alloc),
+            texts: Vec::new(alloc),
         }
     }
-    Ok(found)
+
+    /// Adds a card at the end.
+    pub fn push(&mut self, ident: Serial, number: u32, text: &[u8]) -> Result<(), AllocError>
+        ensures { OnOk result (self.new ≡ record self.old {
+          cards = self.old.cards ++ record { ident = ident; number = number; text = text.now } ∷ [];
+        }) }
+    {
+        self.cards.reserve(1)?;
+        let start = self.texts.len();
+        self.texts.extend_from_slice(text)?;
+        let end = self.texts.len();
+        self.cards.push_reserved(Ranged {
+            ident,
+            number,
+            start,
+            end,
+        });
+        Ok(())
+    }
+
+    /// The cards where they stand.
+    pub fn shown(&self) -> Result<ActiveDeckRef<'_>, AllocError>
+        ensures { IfOk result (λ shown. shown ≡ self.now) }
+    {
+        let cards = shown_cards(*self.cards.allocator(), &self.texts, &self.cards)?;
+        Ok(ActiveDeckRef {
+            ident: self.ident,
+            cards,
+        })
+    }
+
+    /// A copy; memory alone can fail.
+    pub fn copy(&self) -> Result<ActiveDeck, AllocError>
+        ensures { IfOk result (λ copy. copy ≡ self.now) }
+    {
+        let alloc = *self.cards.allocator();
+        let cards = Vec::from_slice(alloc, &self.cards)?;
+        let texts = Vec::from_slice(alloc, &self.texts)?;
+        Ok(ActiveDeck {
+            ident: self.ident,
+            cards,
+            texts,
+        })
+    }
 }
 
-/// The active cards of each of these decks.
-pub(crate) fn active_decks<'a>(
+/// The cards whose texts are ranges of these.
+fn shown_cards<'a>(
     alloc: Global,
-    live: &Targets,
-    decks: &'a [Deck],
-) -> Result<Vec<ActiveDeck<'a>>, AllocError>
-    ensures { IfOk result (λ found. found.items ≡ map (active_deck live.now) decks.now) }
+    texts: &'a [u8],
+    cards: &[Ranged],
+) -> Result<Vec<ActiveCardRef<'a>>, AllocError>
+    requires { All (LiesIn texts.now) cards.now }
+    ensures { IfOk result (λ shown. shown.items ≡ map (card_in_texts texts.now) cards.now) }
 {
-    let mut found = Vec::with_capacity(alloc, decks.len())?;
-    for deck in decks {
-        let cards = active_cards(alloc, live, deck.ident, &deck.cards)?;
-        found.push(ActiveDeck {
-            ident: deck.ident,
-            cards,
+    let mut shown = Vec::with_capacity(alloc, cards.len())?;
+    for card in cards {
+        shown.push(ActiveCardRef {
+            ident: card.ident,
+            number: card.number,
+            text: &texts[card.start..card.end],
         })?;
     }
-    Ok(found)
+    Ok(shown)
+}
+
+impl Actives {
+    /// The same decks and cards where they stand: no text is copied.
+    pub fn shown(&self) -> Result<ActivesRef<'_>, AllocError>
+        ensures { IfOk result (λ shown. shown ≡ self.now) }
+    {
+        let decks = shown_decks(*self.decks.allocator(), &self.decks)?;
+        Ok(ActivesRef {
+            idents: &self.idents,
+            decks,
+        })
+    }
+}
+
+fn shown_decks(alloc: Global, decks: &[ActiveDeck]) -> Result<Vec<ActiveDeckRef<'_>>, AllocError>
+    ensures { IfOk result (λ shown. shown.items ≡ decks.now) }
+{
+    let mut shown = Vec::with_capacity(alloc, decks.len())?;
+    for deck in decks {
+        shown.push(deck.shown()?)?;
+    }
+    Ok(shown)
+}
+
+impl<'a> ActiveDeckRef<'a> {
+    /// A copy with texts of its own; memory alone can fail.
+    pub fn copy(&self) -> Result<ActiveDeck, AllocError>
+        ensures { IfOk result (λ copy. copy ≡ self.now) }
+    {
+        let mut deck = ActiveDeck::new(*self.cards.allocator(), self.ident);
+        for card in &self.cards {
+            deck.push(card.ident, card.number, card.text)?;
+        }
+        Ok(deck)
+    }
+}
+
+impl<'a> ActivesRef<'a> {
+    /// A copy with texts of its own; memory alone can fail.
+    pub fn copy(&self) -> Result<Actives, AllocError>
+        ensures { IfOk result (λ copy. copy ≡ self.now) }
+    {
+        let alloc = *self.decks.allocator();
+        let idents = Vec::from_slice(alloc, self.idents)?;
+        let decks = copied_decks(alloc, &self.decks)?;
+        Ok(Actives { idents, decks })
+    }
+}
+
+fn copied_decks(alloc: Global, decks: &[ActiveDeckRef]) -> Result<Vec<ActiveDeck>, AllocError>
+    ensures { IfOk result (λ copies. copies.items ≡ decks.now) }
+{
+    let mut copies = Vec::with_capacity(alloc, decks.len())?;
+    for deck in decks {
+        copies.push(deck.copy()?)?;
+    }
+    Ok(copies)
 }

@@ -14,7 +14,7 @@ ghost use Rattle.upd_core.specs.TargetCounts.{count_in};
 use crate::card::{Card, Entry};
 use crate::deck::Deck;
 use crate::ident::{Ident, Serial, name_at};
-use crate::library::{Library, Place};
+use crate::library::{Library, Place, Rest};
 use crate::target::Target;
 use crate::target_counts::TargetCounts;
 use std::alloc::{AllocError, Global};
@@ -112,6 +112,14 @@ impl<'a> Counted<'a> {
         ensures { result ≡ self.now.reads }
     {
         self.reads
+    }
+
+    /// What the decks hold that aren't loaded: nothing in a whole library.
+    pub fn rest(&self) -> Rest
+        ensures { result ≡ self.now.library.rest }
+    {
+        let library = self.library;
+        library.rest()
     }
 
     /// The age of the held ident of a name.

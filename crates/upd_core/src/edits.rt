@@ -3,7 +3,7 @@
 ghost use Rattle.std.specs.Prelude.{◌≡◌, ◌==◌, ◌-◌, ◌+◌, ◌<◌, ◌≤◌, length, map, take, insert};
 ghost use Rattle.std.specs.Prelude.{find, is_some, IfOk, IfSome, OnOk, OnErr};
 ghost use Rattle.std.specs.Option.{option_map_or};
-ghost use Rattle.upd_core.specs.Parts.{entered_count, entered_in, inserted_in, without_last};
+ghost use Rattle.upd_core.specs.EditParts.{entered_count, entered_in, inserted_in, without_last};
 ghost use Rattle.upd_core.specs.Edits.{introduced, with_deck, with_card, with_yank, entered, entered_range};
 ghost use Rattle.upd_core.specs.Edits.{with_entries, without_idents, purged, purged_in, purged_back, is_among};
 ghost use Rattle.upd_core.specs.First.{index_from, at_first};
@@ -13,7 +13,7 @@ ghost use Rattle.upd_core.specs.Library.{is_deck};
 use crate::card::{Card, Entry};
 use crate::counts::Counts;
 use crate::deck::Deck;
-use crate::gone::{Gone, purge_cards, purge_decks, unhold};
+use crate::gone::{Gone, purge_cards, unhold};
 use crate::ident::{Ident, Kind, Serial};
 use crate::library::Library;
 use std::alloc::{AllocError, Global};
@@ -67,7 +67,7 @@ impl Library {
         if deck == 0 {
             insert_behind(&mut self.yanks, behind, card)?;
             self.counts = self.counts.with_card(entries, targets);
-        } else if insert_in(&mut self.decks, deck, behind, card)? {
+        } else if self.decks.insert(deck, behind, card)? {
             self.counts = self.counts.with_card(entries, 0);
         }
         Ok(())
@@ -127,7 +127,7 @@ impl Library {
         ensures ok { OnOk result (self.new ≡ record self.old { decks = entered_in deck from to entry self.old.decks }) }
         ensures err { OnErr result (self.new ≡ self.old) }
     {
-        let count = enter_in(&mut self.decks, deck, from, to, entry)?;
+        let count = self.decks.enter(deck, from, to, entry)?;
         self.counts.entries = self.counts.entries.saturating_add(count);
         Ok(())
     }
@@ -153,9 +153,9 @@ impl Library {
         ensures { self.new ≡ purged (is_gone gone.now) self.old }
     {
         unhold(&mut self.idents, gone);
-        purge_decks(&mut self.decks, gone);
+        self.decks.purge(gone);
         purge_cards(&mut self.yanks, gone);
-        self.counts = Counts::of(&self.idents, &self.decks, &self.yanks, self.rest);
+        self.counts = Counts::of(&self.idents, self.decks.as_slice(), &self.yanks, self.rest);
     }
 
     /// Purges an ident in one deck, 0 for `YANK$$$`; it stays held. It takes no memory.
@@ -165,9 +165,9 @@ impl Library {
         if deck == 0 {
             purge_cards(&mut self.yanks, &Gone::Only(ident));
         } else {
-            purge_deck(&mut self.decks, deck, ident);
+            self.decks.purge_in(deck, ident);
         }
-        self.counts = Counts::of(&self.idents, &self.decks, &self.yanks, self.rest);
+        self.counts = Counts::of(&self.idents, self.decks.as_slice(), &self.yanks, self.rest);
     }
 }
 
@@ -195,7 +195,7 @@ fn insert_behind(cards: &mut Vec<Card>, behind: usize, card: Card) -> Result<(),
 }
 
 /// The same in the deck of an age; whether there is such a deck.
-fn insert_in(
+pub(crate) fn insert_in(
     decks: &mut Vec<Deck>,
     age: Serial,
     behind: usize,
@@ -288,7 +288,7 @@ fn enter_range(
 }
 
 /// The same in the deck of an age; no card has it where there is no such deck.
-fn enter_in(
+pub(crate) fn enter_in(
     decks: &mut Vec<Deck>,
     age: Serial,
     from: usize,
@@ -311,7 +311,7 @@ fn enter_in(
 }
 
 /// Purges an ident in the deck of an age.
-fn purge_deck(decks: &mut Vec<Deck>, age: Serial, ident: Serial)
+pub(crate) fn purge_deck(decks: &mut Vec<Deck>, age: Serial, ident: Serial)
     ensures { decks.new.items
         ≡ at_first (is_deck age) (λ d. record d { cards = without_idents (λ x. x == ident) d.cards }) decks.old.items }
 {

@@ -5,11 +5,13 @@
 //! definition says.
 #![tactic(auto)]
 
+pub mod active_refs;
 pub mod actives;
 pub mod card;
 pub mod counted;
 mod counts;
 pub mod deck;
+mod decks;
 pub mod edits;
 mod gone;
 pub mod ident;
@@ -23,7 +25,8 @@ pub mod target;
 pub mod target_counts;
 mod targets;
 
-pub use actives::{ActiveCard, ActiveDeck, Actives};
+pub use active_refs::{ActiveCardRef, ActiveDeckRef, ActivesRef};
+pub use actives::{ActiveDeck, Actives};
 pub use card::{Card, Entry};
 pub use counted::{Counted, CountedCard};
 pub use deck::Deck;

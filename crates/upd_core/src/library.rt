@@ -9,10 +9,12 @@ ghost use Rattle.upd_text.specs.declared.fault.FaultKind.TheVariants.{NoMemory};
 ghost use Rattle.upd_core.specs.Library.{empty, held_named, ident_of, deck_of, place_of, cards_of, card_in};
 ghost use Rattle.upd_core.specs.Status.{live_of, status_of};
 
-use crate::actives::{Actives, active_decks};
+use crate::active_refs::{ActivesRef, active_decks};
+use crate::actives::Actives;
 use crate::card::{Card, copy_cards};
 use crate::counts::Counts;
-use crate::deck::{Deck, card_index, copy_decks, deck_aged, place_in};
+use crate::deck::{Deck, card_index, deck_aged};
+use crate::decks::Decks;
 use crate::ident::{Ident, Serial, held_named};
 use crate::live::{Live, is_active, swept};
 use std::alloc::Global;
@@ -37,7 +39,7 @@ pub struct Rest {
 #[derive(Debug, Drop)]
 pub struct Library {
     pub(crate) idents: Vec<Ident>,
-    pub(crate) decks: Vec<Deck>,
+    pub(crate) decks: Decks,
     pub(crate) yanks: Vec<Card>,
     pub(crate) rest: Rest,
     /// How much it holds: each edit keeps them.
@@ -52,14 +54,14 @@ impl Model for Library {
 
     ghost view = { λ l. record {
       idents = l.idents.items;
-      decks = l.decks.items;
+      decks = l.decks;
       yanks = l.yanks.items;
       rest = l.rest;
     } };
 
     ghost invariant = { λ l. AreOf (record {
       idents = l.idents.items;
-      decks = l.decks.items;
+      decks = l.decks;
       yanks = l.yanks.items;
       rest = l.rest;
     }) l.counts };
@@ -72,7 +74,7 @@ impl Library {
     {
         Library {
             idents: Vec::new(alloc),
-            decks: Vec::new(alloc),
+            decks: Decks::of(Vec::new(alloc)),
             yanks: Vec::new(alloc),
             rest: Rest {
                 cards: 0,
@@ -94,7 +96,7 @@ impl Library {
         let counts = Counts::of(&idents, &decks, &yanks, rest);
         Library {
             idents,
-            decks,
+            decks: Decks::of(decks),
             yanks,
             rest,
             counts,
@@ -108,7 +110,7 @@ impl Library {
     {
         let alloc = *self.idents.allocator();
         let idents = Vec::from_slice(alloc, &self.idents)?;
-        let decks = copy_decks(alloc, &self.decks)?;
+        let decks = self.decks.copy()?;
         let yanks = copy_cards(alloc, &self.yanks)?;
         Ok(Library {
             idents,
@@ -180,7 +182,7 @@ impl Library {
         if age == 0 {
             return &self.yanks;
         }
-        match deck_aged(&self.decks, age) {
+        match deck_aged(self.decks(), age) {
             Some(deck) => &deck.cards,
             None => &[],
         }
@@ -193,7 +195,7 @@ impl Library {
         let ident = self.ident_of(&card.name)?;
         match card_index(&self.yanks, ident, card.number) {
             Some(index) => Some(Place { deck: 0, index }),
-            None => place_in(&self.decks, ident, card.number),
+            None => self.decks.place_of(ident, card.number),
         }
     }
 
@@ -228,15 +230,25 @@ impl Library {
         Some(is_active(&live.targets, place.deck, card))
     }
 
-    /// The active cards of all decks other than `YANK$$$`; memory alone can fail.
-    pub fn actives(&self) -> Result<Actives<'_>, Fault>
+    /// The active cards of all decks other than `YANK$$$`, copied; memory alone can fail.
+    pub fn actives(&self) -> Result<Actives, Fault>
         ensures ok { IfOk result (λ actives. actives ≡ actives_of self.now) }
         ensures err { IsOkUnless result (fault_at NoMemory 0) }
     {
-        let alloc = *self.decks.allocator();
+        let shown = self.actives_shown()?;
+        let actives = shown.copy()?;
+        Ok(actives)
+    }
+
+    /// The same where they stand: no text is copied.
+    pub fn actives_shown(&self) -> Result<ActivesRef<'_>, Fault>
+        ensures ok { IfOk result (λ actives. actives ≡ actives_of self.now) }
+        ensures err { IsOkUnless result (fault_at NoMemory 0) }
+    {
+        let alloc = *self.idents.allocator();
         let (_, live) = swept(alloc, &self.yanks)?;
-        let decks = active_decks(alloc, &live, &self.decks)?;
-        Ok(Actives {
+        let decks = active_decks(alloc, &live, self.decks())?;
+        Ok(ActivesRef {
             idents: &self.idents,
             decks,
         })

@@ -7,7 +7,7 @@ use Rattle.std.proofs.lemmas.Bool.Decides.{nat_tests}
 use Rattle.upd_text.specs.declared.fault.Fault.{Fault}
 use Rattle.upd_text.specs.declared.fault.FaultKind.TheVariants as fault
 use Rattle.upd_core.specs.Library.{LibraryView, empty}
-use Rattle.upd_change.specs.Rows.{RunView, Rows, Shows}
+use Rattle.upd_change.specs.Rows.{RunView, Rows, Shows, ShowsStates}
 use Rattle.upd_compile.specs.declared.mode.Mode.{Mode}
 use Rattle.upd_rows.specs.Keeping.{IsLost, Keeps, MoreFailures, OfMemory, OfStore}
 use Rattle.upd_rows.specs.Tables.{mark_at, run_at}
@@ -164,7 +164,8 @@ module _ {S : Type 0} {Image : Type 0} (is_honest is_open : S → Type 0) (image
       (settles : (s : S) (i : Image) → is_honest s → is_open s → may_leave s i → i ≡ image s) (mode : Mode) (a : ArrivalView) (reply : ReplyView)
       (old new : S) → TriesRun is_honest is_open image shows may_leave failures mode a old new → (is_honest old → IsAsked mode a None old)
       → (is_honest new → is_open new) → (is_honest new → Becomes shows mode a (image old) (image new))
-      → (is_honest new → (l : LibraryView) → IsMade l → (rows : Rows) → shows (image old) rows → Shows rows l → reply ≡ (outcome mode a l).reply)
+      → (is_honest new → (l : LibraryView) → IsMade l → (rows : Rows) → shows (image old) rows → Shows rows l → ShowsStates rows l
+      → reply ≡ (outcome mode a l).reply)
       → Went a (Ok reply) old new
   keeps_new made settles mode a reply old new tries is_new opens becomes replies = record {
     honest = tries.honest;
@@ -187,7 +188,7 @@ module _ {S : Type 0} {Image : Type 0} (is_honest is_open : S → Type 0) (image
       owed honest j (rows, shown, held) =
           let new = is_new (tries.honest honest) in
           let first = answer_new j a mode rows held new.passed (new.above (was_open honest) rows shown) (new.found (was_open honest) rows shown) in
-          first ∙ ap Ok (sym (replies honest (world j) (made j) rows shown held.library))
+          first ∙ ap Ok (sym (replies honest (world j) (made j) rows shown held.library held.states))
 
   -- ---- calls before that only read
 

@@ -1,31 +1,42 @@
 -- The row changes of a run, and those of its settling behind them, lead tables to the library that it leaves.
-use Rattle.std.proofs.Common.{◌≡◌, ℕ, ◌+◌, ◌<◌, ◌≤◌, ◌^◌, nat_le, true, ◌&&◌, List, [], ◌∷◌, ◌++◌, length, map, sum_by, Ok, ap, sym}
+use Rattle.std.proofs.Common.{◌≡◌, ℕ, ◌+◌, ◌<◌, ◌≤◌, ◌^◌, nat_le, true, ◌&&◌, List, [], ◌∷◌, ◌++◌, length, map, sum_by, None, Ok, Err, refl, ap, sym, ◌∙◌}
 use Rattle.std.proofs.Common.{subst, arith}
 use Rattle.std.specs.List.{AllByRecursion}
 use Rattle.std.proofs.lemmas.Bool.Decides.{nat_tests}
 use Rattle.std.proofs.lemmas.List.{map-append}
 use Rattle.std.proofs.lemmas.List.Sums.{sum_by-cons}
+use Rattle.upd_text.specs.declared.fault.Fault.{Fault}
 use Rattle.upd_text.specs.declared.limits.TheConstants.{MAX_CARDS, MAX_ENTRIES, MAX_HELD, MAX_INTRODUCED, MAX_TARGETS}
 use Rattle.upd_core.specs.Library.{DeckView, LibraryView}
-use Rattle.upd_core.specs.Sound.{AreApart, IsSound, all_cards, key_of}
 use Rattle.upd_core.specs.Limits.{card_count, entry_count, held_count, is_within_limits, target_count}
 use Rattle.upd_change.specs.declared.change.Change.{Change}
 use Rattle.upd_change.specs.Changes.{ChangeView, IdentNew, IdentPurged, CardNew, CardGone, CardsMoved, EntryNew, EntriesGone, TargetNew, TargetsGone}
 use Rattle.upd_change.specs.Changes.{StatusNow, CountNow, change_seen, done, done_all}
 use Rattle.upd_change.specs.Fits.{AllFit}
-use Rattle.upd_change.specs.Rows.{Rows, Shows, ShowsStates}
+use Rattle.upd_change.specs.Rows.{Rows, RunView, Shows, ShowsStates}
 use Rattle.upd_change.specs.States.{TakeGone, tells_state}
 use Rattle.upd_change.proofs.FitLemmas.{FitsAny, any_fit, done_append, fit_append}
-use Rattle.upd_apply.specs.Applying.{touched}
+use Rattle.upd_change.proofs.TellLemmas.{tells_fits, tells_shows, tells_take}
+use Rattle.upd_deck.specs.Items.{LineView}
+use Rattle.upd_deck.specs.Reading.{reading}
+use Rattle.upd_apply.specs.Applying.{Reached, applied, touched}
 use Rattle.upd_compile.specs.declared.mode.Mode.{Mode}
+use Rattle.upd_compile.specs.File.{FileView, compile_file_of}
 use Rattle.upd_laws.proofs.SoundListLemmas.{all_weaker, and_left, and_right}
-use Rattle.upd_laws.proofs.SoundRunLemmas.{run_goes}
+use Rattle.upd_laws.proofs.SoundRunLemmas.{run_goes, run_sound, run_within}
+use Rattle.upd_rows.specs.Tables.{committed}
+use Rattle.upd_yank.specs.Affected.{affected, altered}
 use Rattle.upd_yank.specs.Right.{CacheView, IsRight, IsRunBetween}
-use Rattle.upd_desk.specs.declared.outcome.CompiledRun.{CompiledRun}
-use Rattle.upd_desk.specs.Compiling.{IsRunOf, compiled_seen}
-use Rattle.upd_desk.specs.Made.{IsMade, LeadTo}
-use Rattle.upd_desk.specs.Outcomes.{compiled}
-use Rattle.upd_desk.proofs.MadeLemmas.{accepted, accepted_made}
+use Rattle.upd_desk.specs.declared.outcome.AppliedRun.{AppliedRun}
+use Rattle.upd_desk.specs.declared.outcome.Outcome.{Outcome}
+use Rattle.upd_desk.specs.Arrivals.{ArrivalView}
+use Rattle.upd_desk.specs.Compiling.{IsOutcomeOf, IsRunOf}
+use Rattle.upd_desk.specs.Holding.{AddsRun}
+use Rattle.upd_desk.specs.Journal.{Heard, run_of}
+use Rattle.upd_desk.specs.Made.{IsMade, LeadTo, looked_at}
+use Rattle.upd_desk.specs.Outcomes.{Compiled, compiled, outcome, outcome_by}
+use Rattle.upd_desk.proofs.RefusedLemmas.{least_refused}
+use Rattle.upd_desk.proofs.StoreLemmas.{commits_run}
 
 -- ---- changes that tell statuses and counts alone
 
@@ -76,58 +87,97 @@ few_yanks l within =
     small : (y d r n : ℕ) → n ≡ r + (y + d) → nat_le n MAX_CARDS ≡ true → y < 2 ^ 32
     small y d r n is most = let le : n ≤ MAX_CARDS = grind (arith, nat_tests) in omega arith
 
--- ---- a run that was accepted
+-- ---- a run that was applied
 
--- what is known of a run from the steps that it went through on a copy of the library
-pub run_of : (mode : Mode) (bytes : List ℕ) (l copied : LibraryView) (run : CompiledRun) → copied ≡ l → IsMade l
-    → compiled mode bytes l ≡ Ok (compiled_seen run)
-    → (AreApart (map key_of (all_cards copied)) → run.applied.touched.items ≡ touched copied run.library)
-    → (IsSound copied → IsSound run.library → TakeGone copied run.library (map change_seen run.applied.changes.items))
-    → ((rows : Rows) → IsSound copied → Shows rows copied → AllFit (map change_seen run.applied.changes.items) rows)
-    → ((rows : Rows) → IsSound copied → Shows rows copied → Shows (done_all (map change_seen run.applied.changes.items) rows) run.library)
-    → IsRunOf mode bytes l run
-run_of mode bytes l copied run same made compiles touches goes fits shows = subst (λ (x : LibraryView). IsRunOf mode bytes x run) same (record {
-  compiled = subst (λ (x : LibraryView). compiled mode bytes x ≡ Ok (compiled_seen run)) (sym same) compiles;
-  touched = touches sound.keys;
-  gone = goes sound later.sound;
-  fit = λ rows. fits rows sound;
-  shows = λ rows. shows rows sound;
-})
-  where
-    sound : IsSound copied
-    sound = subst IsSound (sym same) made.sound
+-- what was defined of it by the steps that it went through
+pub unread_is : (mode : Mode) (bytes : List ℕ) (l : LibraryView) (f : Fault) → reading bytes ≡ Err f → compiled mode bytes l ≡ Err f
+unread_is mode bytes l f read = rw read refl
 
-    later : IsMade run.library
-    later = accepted_made mode bytes l (compiled_seen run) made compiles
+pub unapplied_is : (mode : Mode) (bytes : List ℕ) (l : LibraryView) (lines : List LineView) (f : Fault) → reading bytes ≡ Ok lines
+    → applied lines l ≡ Err f → compiled mode bytes l ≡ Err f
+unapplied_is mode bytes l lines f read is = rw read (rw is refl)
 
-module _ (mode : Mode) (bytes : List ℕ) (l : LibraryView) (run : CompiledRun) (made : IsMade l) (of_run : IsRunOf mode bytes l run) where
-  left : IsMade run.library
-  left = accepted_made mode bytes l (compiled_seen run) made of_run.compiled
+pub unfiled_is : (mode : Mode) (bytes : List ℕ) (l : LibraryView) (lines : List LineView) (reached : Reached) (f : Fault) → reading bytes ≡ Ok lines
+    → applied lines l ≡ Ok reached → compile_file_of mode reached.compile l reached.library ≡ Err f → compiled mode bytes l ≡ Err f
+unfiled_is mode bytes l lines reached f read is file = rw read (rw is (rw file refl))
 
-  pub between : (cache : CacheView) → IsRight l cache → IsRunBetween l run.library cache run.applied.touched.items
-  between cache right =
-      let steps = accepted mode bytes l (compiled_seen run) of_run.compiled in
-      record {
-        before = made.sound;
-        after = left.sound;
-        goes_on = run_goes steps.lines l (compiled_seen run).reached steps.applied;
-        right = right;
-        touched = of_run.touched;
-        few = few_yanks run.library left.within;
-      }
+pub compiled_is : (mode : Mode) (bytes : List ℕ) (l : LibraryView) (lines : List LineView) (reached : Reached) (file : FileView)
+    → reading bytes ≡ Ok lines → applied lines l ≡ Ok reached → compile_file_of mode reached.compile l reached.library ≡ Ok file
+    → compiled mode bytes l ≡ Ok (record { reached = reached; file = file })
+compiled_is mode bytes l lines reached file read is written = rw read (rw is (rw written refl))
+
+module _ (lines : List LineView) (l : LibraryView) (reached : Reached) (run : AppliedRun) (made : IsMade l) (of_run : IsRunOf lines l reached run) where
+  pub between : (cache : CacheView) → IsRight l cache → IsRunBetween l reached.library cache run.applied.touched.items
+  between cache right = record {
+    before = made.sound;
+    after = run_sound lines l reached made.sound of_run.applied;
+    goes_on = run_goes lines l reached of_run.applied;
+    right = right;
+    touched = of_run.touched;
+    few = few_yanks reached.library (run_within lines l reached made.within of_run.applied);
+  }
+
+  pub takes : TakeGone l reached.library (map change_seen run.applied.changes.items)
+  takes =
+      tells_take l reached.library (map change_seen run.applied.changes.items) made.sound (run_sound lines l reached made.sound of_run.applied)
+      (run_goes lines l reached of_run.applied) of_run.told
 
   pub lead : (settled : List Change) (rows : Rows) → Shows rows l → AllByRecursion (λ c. tells_state c ≡ true) (map change_seen settled)
-      → ShowsStates (done_all (map change_seen settled) (done_all (map change_seen run.applied.changes.items) rows)) run.library
-      → LeadTo (map change_seen (run.applied.changes.items ++ settled)) rows run.library
+      → ShowsStates (done_all (map change_seen settled) (done_all (map change_seen run.applied.changes.items) rows)) reached.library
+      → LeadTo (map change_seen (run.applied.changes.items ++ settled)) rows reached.library
   lead settled rows shows only states =
       let first = map change_seen run.applied.changes.items in
       let second = map change_seen settled in
       let both : map change_seen (run.applied.changes.items ++ settled) ≡ first ++ second = map-append change_seen run.applied.changes.items settled in
       let carried = done_append first second rows in
-      subst (λ cs. LeadTo cs rows run.library) (sym both) (record {
-        fit = fit_append first second rows (of_run.fit rows shows)
+      let goes = run_goes lines l reached of_run.applied in
+      subst (λ cs. LeadTo cs rows reached.library) (sym both) (record {
+        fit = fit_append first second rows (tells_fits l reached.library first made.sound goes of_run.told rows shows)
             (any_fit second (done_all first rows) (all_weaker (λ c. tells_state c ≡ true) FitsAny second fits_any only));
-        library = subst (λ (x : Rows). Shows x run.library) (sym carried)
-            (all_show_still second (done_all first rows) run.library only (of_run.shows rows shows));
-        states = subst (λ (x : Rows). ShowsStates x run.library) (sym carried) states;
+        library = subst (λ (x : Rows). Shows x reached.library) (sym carried)
+            (all_show_still second (done_all first rows) reached.library only
+            (tells_shows l reached.library first made.sound goes of_run.told rows shows));
+        states = subst (λ (x : Rows). ShowsStates x reached.library) (sym carried) states;
       })
+
+-- ---- outcomes
+
+-- what is known of the outcome of a run that is accepted
+pub accepted_outcome : (mode : Mode) (a : ArrivalView) (l : LibraryView) (rows : Rows) (done : Compiled) (changes : List Change) (o : Outcome)
+    → compiled mode a.bytes l ≡ Ok done → o.reply ≡ (outcome_by a l (Ok done)).reply → o.changes.items ≡ changes
+    → LeadTo (map change_seen changes) rows done.reached.library → o.work ≡ length (affected (touched l done.reached.library) l done.reached.library)
+    → length (altered l done.reached.library) ≤ o.work → IsOutcomeOf mode a l rows o
+accepted_outcome mode a l rows done changes o is reply are leads work least = record {
+  reply = reply ∙ ap (λ r. (outcome_by a l r).reply) (sym is);
+  leads = subst (λ r. LeadTo (map change_seen o.changes.items) rows (outcome_by a l r).library) (sym is)
+      (subst (λ cs. LeadTo (map change_seen cs) rows done.reached.library) (sym are) leads);
+  work = work ∙ ap (looked_at l) (sym is);
+  least = subst (λ r. length (altered l (outcome_by a l r).library) ≤ o.work) (sym is) least;
+}
+
+-- what is known of the outcome of a run that is refused
+pub refused_outcome : (mode : Mode) (a : ArrivalView) (l : LibraryView) (rows : Rows) (f : Fault) (o : Outcome) → IsMade l → Shows rows l
+    → ShowsStates rows l → compiled mode a.bytes l ≡ Err f → o.reply ≡ (outcome_by a l (Err f)).reply → o.changes.items ≡ [] → o.work ≡ 0
+    → IsOutcomeOf mode a l rows o
+refused_outcome mode a l rows f o made shows states is reply none idle = record {
+  reply = reply ∙ ap (λ r. (outcome_by a l r).reply) (sym is);
+  leads = subst (λ r. LeadTo (map change_seen o.changes.items) rows (outcome_by a l r).library) (sym is)
+      (subst (λ cs. LeadTo (map change_seen cs) rows l) (sym none) (record { fit = tt; library = shows; states = states }));
+  work = idle ∙ ap (looked_at l) (sym is);
+  least = least_refused mode a l f o.work made.sound is;
+}
+
+-- the changes of a new run fit the tables of its library, and a commit of them adds the run
+pub outcome_adds : (mode : Mode) (a : ArrivalView) (l : LibraryView) (rows : Rows) (o : Outcome) (cs : List ChangeView) (run : RunView)
+    → IsOutcomeOf mode a l rows o → map change_seen o.changes.items ≡ cs
+    → run ≡ run_of (record { arrival = a; mode = mode; carried = None }) o.reply
+    → AllFit cs rows × AddsRun mode a l rows (committed cs run rows)
+outcome_adds mode a l rows o cs run of_run are is =
+    let leads : LeadTo cs rows (outcome mode a l).library = subst (λ cs. LeadTo cs rows (outcome mode a l).library) are of_run.leads in
+    let row : run ≡ run_of h (outcome mode a l).reply = is ∙ ap (run_of h) of_run.reply in (
+      leads.fit,
+      subst (λ r. AddsRun mode a l rows (committed cs r rows)) (sym row) (commits_run mode a l cs rows leads),
+    )
+  where
+    h : Heard
+    h = record { arrival = a; mode = mode; carried = None }

@@ -12,6 +12,10 @@ mod ArriveAllLemmas
 mod SettlesLemmas
 mod RefusedLemmas
 mod QueryLemmas
+mod ListedLemmas
+mod LoadingLemmas
+mod NeededLemmas
+mod FileLemmas
 mod LeadLemmas
 mod WorkLemmas
 mod LawLemmas

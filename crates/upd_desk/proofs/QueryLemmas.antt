@@ -1,6 +1,6 @@
 -- What a query of a desk tells.
 use Rattle.std.proofs.Common.{◌≡◌, ℕ, nat_lt, Bool, true, false, ◌⊎◌, if◌then◌else◌, IsTrue, List, [], ◌∷◌, take, Option, Some, None, Result, Ok, Err}
-use Rattle.std.proofs.Common.{inl, inr, refl, ap, ◌∙◌, subst, rules}
+use Rattle.std.proofs.Common.{inl, inr, refl, ap, sym, ◌∙◌, subst, rules}
 use Rattle.std.specs.Prelude.{count_by}
 use Rattle.std.specs.List.{enumerate_from, filter_map, flat_map}
 use Rattle.upd_text.specs.declared.fault.Fault.{Fault}
@@ -14,8 +14,7 @@ use Rattle.upd_compile.specs.Chosen.{chosen}
 use Rattle.upd_compile.specs.File.{FileView, compile_file_of, event_fault, event_line, is_follow, is_line, walk_faults}
 use Rattle.upd_compile.specs.Walk.{Event, Line, Follow, Depth, Unknown, walk}
 use Rattle.upd_compile.specs.declared.mode.Mode.{Mode}
-use Rattle.upd_core.specs.Sound.{IsSound, IsWhole}
-use Rattle.upd_change.specs.Rows.{Rows, Shows}
+use Rattle.upd_change.specs.Rows.{Rows, Shows, ShowsStates}
 use Rattle.upd_rows.specs.Keeping.{Keeps}
 use Rattle.upd_desk.specs.Journal.{Journal, world}
 use Rattle.upd_desk.specs.Made.{IsMade}
@@ -36,17 +35,21 @@ store_fails f defined is fails = subst (λ k. FailsOf k f defined) is fails
 
 module _ {S : Type 0} {Image : Type 0} (is_honest is_open : S → Type 0) (image : S → Image) (shows : Image → Rows → Type 0)
     (may_leave : S → Image → Type 0) (failures : S → ℕ) where
-  -- what is owed of the library that was loaded is owed of the library after the journal
-  pub tells_loaded : (made : (j : Journal) → IsMade (world j)) {A : Type 0} (defined : LibraryView → Result A Fault) (result : Result A Fault)
-      (library : LibraryView) (old new : S) → Keeps is_honest is_open image shows may_leave failures old new → (is_honest new → is_open new)
-      → (is_honest new → (l : LibraryView) → IsSound l → IsWhole l → (rows : Rows) → shows (image old) rows → Shows rows l → library ≡ l)
-      → IsOwed (defined library) result → Tells is_honest is_open image shows may_leave failures defined result old new
-  tells_loaded made defined result library old new keeps opens found owed honest j held = by (held (keeps.was_open honest (opens honest)))
+  -- what is owed of what was loaded is owed of the library after the journal, where the same is defined of both
+  pub tells_same : (made : (j : Journal) → IsMade (world j)) {A : Type 0} (defined : LibraryView → Result A Fault) (owed result : Result A Fault)
+      (old new : S) → Keeps is_honest is_open image shows may_leave failures old new → (is_honest new → is_open new)
+      → (is_honest new → (l : LibraryView) → IsMade l → (rows : Rows) → shows (image old) rows → Shows rows l → ShowsStates rows l → owed ≡ defined l)
+      → IsOwed owed result → Tells is_honest is_open image shows may_leave failures defined result old new
+  tells_same made defined owed result old new keeps opens same meets honest j held = by (held (keeps.was_open honest (opens honest)))
     where
       by : HoldsIn shows j (image old) → IsOwed (defined (world j)) result
       by (rows, shown, holds) =
-          let is = found honest (world j) (made j).sound (made j).whole rows shown holds.library in
-          subst (λ l. IsOwed (defined l) result) is owed
+          subst (λ o. IsOwed o result) (same honest (world j) (made j) rows shown holds.library holds.states) meets
+
+  -- what tables showed before a call that only read them they show after it
+  pub shown_there : (old mid : S) → Keeps is_honest is_open image shows may_leave failures old mid → is_honest mid → is_open mid → (rows : Rows)
+      → shows (image old) rows → shows (image mid) rows
+  shown_there old mid keeps honest is rows shown = subst (λ i. shows i rows) (sym (keeps.same honest is)) shown
 
 -- ---- compile files
 

@@ -4,6 +4,7 @@ use Rattle.std.specs.List.{filter, AllByRecursion}
 use Rattle.upd_text.specs.declared.fault.Fault.{Fault}
 use Rattle.upd_text.specs.declared.fault.FaultKind.{FaultKind}
 use Rattle.upd_text.specs.declared.fault.FaultKind.TheVariants as kinds
+use Rattle.upd_text.specs.Faults.{fault_at}
 use Rattle.upd_text.specs.Outcome.{FailsAt, FailsOf}
 use Rattle.upd_core.specs.Counted.{CountedCardView, counted_cards}
 use Rattle.upd_core.specs.Library.{LibraryView}
@@ -11,6 +12,7 @@ use Rattle.upd_core.specs.Sound.{IsSound}
 use Rattle.upd_core.specs.Status.{is_active, live_targets, status_of}
 use Rattle.upd_core.proofs.FoundLemmas.{status_at}
 use Rattle.upd_compile.specs.declared.mode.Mode.{Mode}
+use Rattle.upd_rows.specs.Keeping.{IsLost, OfMemory}
 use Rattle.upd_yank.specs.Affected.{altered, is_other}
 use Rattle.upd_yank.proofs.StateLemmas.{all_counted}
 use Rattle.upd_desk.specs.Arrivals.{ArrivalView}
@@ -62,6 +64,14 @@ fails_is fault defined other fails = by (fails_by fault defined fails)
     by : ((fault.kind ≡ kinds.NoMemory) × (fault.at ≡ 0)) ⊎ (defined ≡ Err fault) → defined ≡ Err fault
     by (inl lost) = absurd (other lost.0)
     by (inr met) = met
+
+-- a refusal that can't be kept is want of memory
+pub refused_lost : {A : Type 0} (f e : Fault) (defined : Result A Fault) → FailsAt f defined
+    → (e ≡ fault_at kinds.NoMemory 0) ⊎ ((e ≡ f) × (f.kind ≡ kinds.NoMemory)) → IsLost e
+refused_lost f e defined fails (inl is) = OfMemory e (ap (λ g. g.kind) is) (ap (λ g. g.at) is)
+refused_lost f e defined fails (inr (same, kind)) =
+    let at : f.at ≡ 0 = subst (λ k. FailsOf k f defined) kind fails in
+    OfMemory e (ap (λ g. g.kind) same ∙ kind) (ap (λ g. g.at) same ∙ at)
 
 -- ---- statuses
 

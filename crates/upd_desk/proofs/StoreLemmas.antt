@@ -1,22 +1,20 @@
 -- What calls of a store, one after the other, make of what it keeps.
-use Rattle.std.proofs.Common.{◌≡◌, ℕ, ◌≤◌, ◌⊎◌, List, None, Ok, inl, inr, ap, sym, ◌∙◌, subst, arith}
+use Rattle.std.proofs.Common.{◌≡◌, ℕ, ◌≤◌, ◌⊎◌, List, None, inl, inr, ap, subst, arith}
 use Rattle.upd_text.specs.declared.fault.Fault.{Fault}
 use Rattle.upd_text.specs.declared.fault.FaultKind.TheVariants.{NoMemory}
 use Rattle.upd_text.specs.Faults.{fault_at}
 use Rattle.upd_change.specs.Rows.{RunView, Rows, Shows, ShowsStates}
 use Rattle.upd_change.specs.Changes.{ChangeView}
 use Rattle.upd_change.specs.Fits.{AllFit}
-use Rattle.upd_core.specs.declared.states.States.{States}
 use Rattle.upd_core.specs.Library.{LibraryView}
-use Rattle.upd_core.specs.Sound.{IsSound, IsWhole}
 use Rattle.upd_compile.specs.declared.mode.Mode.{Mode}
 use Rattle.upd_rows.specs.Keeping.{IsLost, Keeps, MoreFailures, OfMemory, Tries}
-use Rattle.upd_rows.specs.Tables.{AreRead, committed}
+use Rattle.upd_rows.specs.Tables.{committed}
 use Rattle.upd_rows.proofs.TableLemmas.{shows_committed, states_committed, runs_committed, marks_stay}
-use Rattle.upd_desk.specs.Arrivals.{ArrivalView, door}
-use Rattle.upd_desk.specs.Journal.{Heard, run_of}
+use Rattle.upd_desk.specs.Arrivals.{ArrivalView}
+use Rattle.upd_desk.specs.Journal.{run_of}
 use Rattle.upd_desk.specs.Made.{IsMade, LeadTo}
-use Rattle.upd_desk.specs.Outcomes.{ReplyView, outcome}
+use Rattle.upd_desk.specs.Outcomes.{outcome}
 use Rattle.upd_desk.specs.Holding.{AddsRun, Becomes, TriesRun}
 
 -- a commit of changes that lead to the library of a new run adds that run
@@ -107,33 +105,3 @@ module _ {S : Type 0} {Image : Type 0} {is_honest is_open : S → Type 0} {image
       becomes_by shows mode a cs run (image old) (image new)
       (subst (λ j. (rows : Rows) → shows j rows → AllFit cs rows → shows (image new) (committed cs run rows)) (keeps.same before is) (writes honest))
       (makes before)
-
-  -- The changes of a new run fit the tables that its library and its statuses were loaded from, and lead to what the run makes of them.
-  pub loaded_makes : (mode : Mode) (a : ArrivalView) (told cs : List ChangeView) (run : RunView) (reply : ReplyView) (library : LibraryView)
-      (states : States) (old mid new : S)
-      → Keeps is_honest is_open image shows may_leave failures old mid → Keeps is_honest is_open image shows may_leave failures mid new
-      → (is_honest mid → is_open mid)
-      → (is_honest mid → (l : LibraryView) → IsSound l → IsWhole l → (rows : Rows) → shows (image old) rows → Shows rows l → library ≡ l)
-      → (is_honest new → (rows : Rows) → shows (image mid) rows → AreRead rows states) → door a ≡ Ok mode
-      → (IsMade library → door a ≡ Ok mode → reply ≡ (outcome mode a library).reply)
-      → (IsMade library → (rows : Rows) → Shows rows library → ShowsStates rows library → AreRead rows states
-      → LeadTo told rows (outcome mode a library).library)
-      → told ≡ cs → run ≡ run_of (record { arrival = a; mode = mode; carried = None }) reply
-      → is_honest new → (l : LibraryView) → IsMade l → (rows : Rows) → shows (image old) rows → Shows rows l → ShowsStates rows l
-      → AllFit cs rows × AddsRun mode a l rows (committed cs run rows)
-  loaded_makes mode a told cs run reply library states old mid new first second opens found read passed replies leads is_told is_run
-      honest l made rows shown shows_l states_l =
-      let before = second.honest honest in
-      let is : library ≡ l = found before l made.sound made.whole rows shown shows_l in
-      let there : shows (image mid) rows = subst (λ j. shows j rows) (sym (first.same before (opens before))) shown in
-      let its_made : IsMade library = subst IsMade (sym is) made in
-      let lead : LeadTo cs rows (outcome mode a library).library =
-      subst (λ cs. LeadTo cs rows (outcome mode a library).library) is_told
-      (leads its_made rows (subst (Shows rows) (sym is) shows_l) (subst (ShowsStates rows) (sym is) states_l) (read honest rows there)) in
-      let row_is : run ≡ run_of h (outcome mode a library).reply = is_run ∙ ap (run_of h) (replies its_made passed) in
-      let adds : AddsRun mode a library rows (committed cs run rows) =
-      subst (λ r. AddsRun mode a library rows (committed cs r rows)) (sym row_is) (commits_run mode a library cs rows lead) in
-      (lead.fit, subst (λ k. AddsRun mode a k rows (committed cs run rows)) is adds)
-    where
-      h : Heard
-      h = record { arrival = a; mode = mode; carried = None }

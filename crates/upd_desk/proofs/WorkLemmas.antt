@@ -1,5 +1,5 @@
 -- How many cards are looked at for an arrival, by what the tables hold.
-use Rattle.std.proofs.Common.{◌≡◌, ℕ, ◌≤◌, nat_lt, true, List, ◌∷◌, length, Option, Some, None, Ok}
+use Rattle.std.proofs.Common.{◌≡◌, ℕ, ◌+◌, ◌≤◌, nat_lt, true, List, ◌∷◌, length, Option, Some, None, Ok}
 use Rattle.std.proofs.Common.{refl, ap, sym, ◌∙◌, subst, arith}
 use Rattle.upd_core.specs.Counted.{CountedCardView}
 use Rattle.upd_core.specs.Library.{LibraryView}
@@ -11,6 +11,7 @@ use Rattle.upd_yank.specs.Affected.{altered}
 use Rattle.upd_desk.specs.Arrivals.{ArrivalView, door}
 use Rattle.upd_desk.specs.Journal.{Came, Journal, distinct, kept, made_by, mark, world}
 use Rattle.upd_desk.specs.Made.{IsMade, looked_at, work_of}
+use Rattle.upd_desk.specs.Needed.{needed, needed_by}
 use Rattle.upd_desk.specs.Outcomes.{compiled, outcome}
 use Rattle.upd_desk.specs.Holding.{Holds, HoldsIn, TriesRun}
 use Rattle.upd_desk.proofs.AlikeLemmas.{unheard_key}
@@ -107,3 +108,22 @@ module _ {S : Type 0} {Image : Type 0} (is_honest is_open : S → Type 0) (image
           let above : nat_lt (mark j a.site) a.number ≡ true = rw (← holds.marks a.site) (its.above is rows shown) in
           its_altered j a mode rows work holds its.passed above (its.found is rows shown)
           (least honest (world j) (world_made j) rows shown holds.library holds.states)
+
+  -- no more decks are read than a new run needs
+  pub reads_kept : (mode : Mode) (a : ArrivalView) (first after next : ℕ) (old mid new : S) → Stays old mid
+      → TriesRun is_honest is_open image shows may_leave failures mode a mid new
+      → (is_honest mid → Asks mode a None mid) → (is_honest new → is_open new) → after ≡ first
+      → (is_honest new → (l : LibraryView) → IsMade l → (rows : Rows) → shows (image mid) rows → Shows rows l
+      → next ≤ after + length (needed a.bytes l))
+      → is_honest new → (j : Journal) → (is_open old → HoldsIn shows j (image old)) → next ≤ first + length (needed_by j a)
+  reads_kept mode a first after next old mid new keeps tries asks opens none reads honest j held =
+      let before = tries.honest honest in
+      let is = tries.was_open honest (opens honest) in
+      by is (asks before) (held_there old mid keeps before is j held)
+    where
+      by : is_open mid → Asks mode a None mid → HoldsIn shows j (image mid) → next ≤ first + length (needed_by j a)
+      by is its (rows, shown, holds) =
+          let unkept : kept j a.site a.number ≡ None = sym (holds.runs a.site a.number) ∙ its.found is rows shown in
+          let same : needed_by j a ≡ needed a.bytes (world j) = rw unkept refl in
+          subst (λ ds. next ≤ first + length ds) (sym same) (subst (λ n. next ≤ n + length (needed a.bytes (world j))) none
+          (reads honest (world j) (world_made j) rows shown holds.library))

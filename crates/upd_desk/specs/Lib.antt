@@ -3,5 +3,6 @@ pub mod Outcomes
 pub mod Journal
 pub mod Holding
 pub mod Made
+pub mod Needed
 pub mod Compiling
 pub mod Worked

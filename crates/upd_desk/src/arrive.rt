@@ -1,12 +1,13 @@
 //! The way of an arrival, over any store.
 
-ghost use Rattle.std.specs.Prelude.{◌≡◌, ◌≤◌, ◌∷◌, length, None, Ok, Some, IfErr, IfOk, OnErr, OnOk};
+ghost use Rattle.std.specs.Prelude.{◌≡◌, ◌+◌, ◌≤◌, ◌∷◌, length, None, Ok, Some, IfErr, IfOk, OnErr, OnOk};
 ghost use Rattle.std.specs.Result.{result_map_both};
 ghost use Rattle.upd_change.specs.Rows.{Rows, Shows, ShowsStates};
 ghost use Rattle.upd_core.specs.Library.{LibraryView};
 ghost use Rattle.upd_desk.specs.Arrivals.{door};
 ghost use Rattle.upd_desk.specs.Holding.{Arrives, Becomes, HoldsIn, TriesRun};
 ghost use Rattle.upd_desk.specs.Made.{IsMade, looked_at, work_of};
+ghost use Rattle.upd_desk.specs.Needed.{needed, needed_by};
 ghost use Rattle.upd_desk.specs.Journal.{Came, Journal, reply_to, run_of, world};
 ghost use Rattle.upd_desk.specs.Outcomes.{compiled, outcome};
 ghost use Rattle.upd_rows.specs.Keeping.{IsLost, MoreFailures};
@@ -77,28 +78,24 @@ fn keep_new<S: RowStore>(
     ensures becomes { S.is_honest store.new
         → OnOk result (Becomes S.shows mode arrival.now (S.image store.old) (S.image store.new)) }
     ensures reply { S.is_honest store.new → IfOk result (λ answered. (l : LibraryView) → IsMade l → (rows : Rows)
-        → S.shows (S.image store.old) rows → Shows rows l → answered.reply ≡ (outcome mode arrival.now l).reply) }
+        → S.shows (S.image store.old) rows → Shows rows l → ShowsStates rows l
+        → answered.reply ≡ (outcome mode arrival.now l).reply) }
     ensures work { S.is_honest store.new → IfOk result (λ answered. (l : LibraryView) → IsMade l → (rows : Rows)
         → S.shows (S.image store.old) rows → Shows rows l → ShowsStates rows l
         → answered.work ≡ looked_at l (compiled mode arrival.now.bytes l)) }
     ensures least { S.is_honest store.new → IfOk result (λ answered. (l : LibraryView) → IsMade l → (rows : Rows)
         → S.shows (S.image store.old) rows → Shows rows l → ShowsStates rows l
         → length (altered l (outcome mode arrival.now l).library) ≤ answered.work) }
+    ensures reads { S.is_honest store.new → OnOk result ((l : LibraryView) → IsMade l → (rows : Rows)
+        → S.shows (S.image store.old) rows → Shows rows l
+        → S.reads_of store.new ≤ S.reads_of store.old + length (needed arrival.now.bytes l)) }
     ensures undone { S.is_honest store.new → S.is_open store.new
         → OnErr result (S.image store.new ≡ S.image store.old) }
     ensures lost { IfErr result IsLost }
     ensures failed { IfErr result (λ fault. fault.kind ≡ Store
         → MoreFailures (S.failures_of store.old) (S.failures_of store.new)) }
 {
-    let library = match store.load(alloc) {
-        Ok(library) => library,
-        Err(fault) => return Err(fault),
-    };
-    let states = match store.load_states(alloc) {
-        Ok(states) => states,
-        Err(fault) => return Err(fault),
-    };
-    let outcome = match run_outcome(alloc, &library, &states, mode, arrival) {
+    let outcome = match run_outcome(store, alloc, mode, arrival) {
         Ok(outcome) => outcome,
         Err(fault) => return Err(fault),
     };
@@ -131,6 +128,9 @@ pub(crate) fn arrive_at<S: RowStore>(
         → (S.is_open store.old → HoldsIn S.shows journal (S.image store.old))
         → IfOk result (λ answered. length (altered (world journal) (world (Came arrival.now ∷ journal)))
         ≤ answered.work) }
+    ensures reads { S.is_honest store.new → (journal : Journal)
+        → (S.is_open store.old → HoldsIn S.shows journal (S.image store.old))
+        → OnOk result (S.reads_of store.new ≤ S.reads_of store.old + length (needed_by journal arrival.now)) }
     ensures failed { IfErr result (λ fault. fault.kind ≡ Store
         → MoreFailures (S.failures_of store.old) (S.failures_of store.new)) }
 {

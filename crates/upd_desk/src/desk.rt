@@ -1,6 +1,6 @@
 //! The desk over a store.
 
-ghost use Rattle.std.specs.Prelude.{◌≡◌, ◌≤◌, [], ◌∷◌, length, Ok, IfErr, IfOk, OnErr};
+ghost use Rattle.std.specs.Prelude.{◌≡◌, ◌+◌, ◌≤◌, [], ◌∷◌, length, Ok, IfErr, IfOk, OnErr, OnOk};
 ghost use Rattle.std.specs.List.{All};
 ghost use Rattle.std.specs.Result.{result_map_both};
 ghost use Rattle.upd_compile.specs.File.{compile_file_of};
@@ -9,6 +9,7 @@ ghost use Rattle.upd_compile.specs.declared.mode.Mode.TheVariants.{Full};
 ghost use Rattle.upd_desk.specs.Holding.{ArriveAll, Arrives, HoldsIn, Settles, Tells, work_after_all};
 ghost use Rattle.upd_desk.specs.Journal.{Came, Journal, world};
 ghost use Rattle.upd_desk.specs.Made.{work_of};
+ghost use Rattle.upd_desk.specs.Needed.{needed_by};
 ghost use Rattle.upd_rows.specs.Keeping.{Keeps, MoreFailures};
 ghost use Rattle.upd_text.specs.Faults.{fault_at};
 ghost use Rattle.upd_text.specs.declared.fault.FaultKind.TheVariants.{NoMemory, Store};
@@ -16,6 +17,7 @@ ghost use Rattle.upd_yank.specs.Affected.{altered};
 
 use crate::arrival::Arrival;
 use crate::arrive::arrive_at;
+use crate::loading::{load_deck_named, load_deck_with};
 use crate::reply::Reply;
 use crate::settle::settle_at;
 use std::alloc::Global;
@@ -75,6 +77,10 @@ impl<S: RowStore> Desk<S> {
             → IfOk result (λ reply. length (altered (world journal) (world (Came
             (record { site = site.now; number = number; mode = mode.now; bytes = bytes.now }) ∷ journal)))
             ≤ self.new.work) }
+        ensures reads { S.is_honest self.new.store → (journal : Journal)
+            → (S.is_open self.old.store → HoldsIn S.shows journal (S.image self.old.store))
+            → OnOk result (S.reads_of self.new.store ≤ S.reads_of self.old.store + length (needed_by journal
+            (record { site = site.now; number = number; mode = mode.now; bytes = bytes.now }))) }
         ensures idle { OnErr result (self.new.work ≡ self.old.work) }
         ensures failed { IfErr result (λ fault. fault.kind ≡ Store
             → MoreFailures (S.failures_of self.old.store) (S.failures_of self.new.store)) }
@@ -98,6 +104,10 @@ impl<S: RowStore> Desk<S> {
             → (S.is_open self.old.store → HoldsIn S.shows journal (S.image self.old.store))
             → IfOk result (λ reply. length (altered (world journal) (world (Came arrival.now ∷ journal)))
             ≤ self.new.work) }
+        ensures reads { S.is_honest self.new.store → (journal : Journal)
+            → (S.is_open self.old.store → HoldsIn S.shows journal (S.image self.old.store))
+            → OnOk result (S.reads_of self.new.store ≤ S.reads_of self.old.store
+            + length (needed_by journal arrival.now)) }
         ensures idle { OnErr result (self.new.work ≡ self.old.work) }
         ensures failed { IfErr result (λ fault. fault.kind ≡ Store
             → MoreFailures (S.failures_of self.old.store) (S.failures_of self.new.store)) }
@@ -186,7 +196,7 @@ impl<S: RowStore> Desk<S> {
         ensures failed { IfErr result (λ fault. fault.kind ≡ Store
             → MoreFailures (S.failures_of self.old.store) (S.failures_of self.new.store)) }
     {
-        let library = match self.store.load(alloc) {
+        let library = match load_deck_named(&mut self.store, alloc, name) {
             Ok(library) => library,
             Err(fault) => return Err(fault),
         };
@@ -207,7 +217,7 @@ impl<S: RowStore> Desk<S> {
         ensures failed { IfErr result (λ fault. fault.kind ≡ Store
             → MoreFailures (S.failures_of self.old.store) (S.failures_of self.new.store)) }
     {
-        let library = match self.store.load(alloc) {
+        let library = match load_deck_with(&mut self.store, alloc, &card) {
             Ok(library) => library,
             Err(fault) => return Err(fault),
         };
@@ -228,11 +238,11 @@ impl<S: RowStore> Desk<S> {
         ensures failed { IfErr result (λ fault. fault.kind ≡ Store
             → MoreFailures (S.failures_of self.old.store) (S.failures_of self.new.store)) }
     {
-        let library = match self.store.load(alloc) {
-            Ok(library) => library,
+        let head = match self.store.load_decks(alloc, &[]) {
+            Ok(head) => head,
             Err(fault) => return Err(fault),
         };
-        match list_idents(alloc, &library) {
+        match list_idents(alloc, &head) {
             Ok(text) => Ok(text),
             Err(fault) => Err(fault),
         }
@@ -249,11 +259,11 @@ impl<S: RowStore> Desk<S> {
         ensures failed { IfErr result (λ fault. fault.kind ≡ Store
             → MoreFailures (S.failures_of self.old.store) (S.failures_of self.new.store)) }
     {
-        let library = match self.store.load(alloc) {
-            Ok(library) => library,
+        let head = match self.store.load_decks(alloc, &[]) {
+            Ok(head) => head,
             Err(fault) => return Err(fault),
         };
-        match list_yanks(alloc, &library) {
+        match list_yanks(alloc, &head) {
             Ok(text) => Ok(text),
             Err(fault) => Err(fault),
         }

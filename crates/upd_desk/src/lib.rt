@@ -8,6 +8,7 @@ pub mod arrival;
 mod arrive;
 pub mod desk;
 pub mod laws;
+mod loading;
 mod outcome;
 pub mod reply;
 mod settle;

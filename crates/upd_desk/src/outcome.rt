@@ -1,30 +1,39 @@
-//! What a new run makes of the library.
+//! What a new run makes of the library that a store keeps.
 
-ghost use Rattle.std.specs.Prelude.{◌≡◌, ◌≤◌, ◌⊎◌, [], length, map, Ok, Err, IfErr, IfOk, OnOk};
+ghost use Rattle.std.specs.Prelude.{◌≡◌, ◌+◌, ◌≤◌, ◌⊎◌, List, [], ◌++◌, length, map, Ok, Err, Option, IfErr, IfOk, OnOk};
 ghost use Rattle.std.specs.Result.{IsOkUnless};
 ghost use Rattle.upd_text.specs.Faults.{fault_at};
 ghost use Rattle.upd_text.specs.Outcome.{FailsAt};
-ghost use Rattle.upd_text.specs.declared.fault.FaultKind.TheVariants.{NoMemory};
+ghost use Rattle.upd_text.specs.declared.fault.FaultKind.TheVariants.{NoMemory, Store};
 ghost use Rattle.upd_core.specs.Library.{LibraryView, name_of};
-ghost use Rattle.upd_change.specs.Changes.{change_seen};
+ghost use Rattle.upd_core.specs.Parts.{part_of};
 ghost use Rattle.upd_change.specs.Rows.{Rows, Shows, ShowsStates};
-ghost use Rattle.upd_rows.specs.Tables.{AreRead};
-ghost use Rattle.upd_yank.specs.Affected.{altered};
-ghost use Rattle.upd_desk.specs.Arrivals.{door};
-ghost use Rattle.upd_desk.specs.Compiling.{IsRunOf, compiled_seen};
-ghost use Rattle.upd_desk.specs.Made.{IsMade, LeadTo, looked_at};
-ghost use Rattle.upd_desk.specs.Outcomes.{compiled, outcome, outcome_by};
+ghost use Rattle.upd_deck.specs.Items.{LineView};
+ghost use Rattle.upd_deck.specs.Reading.{reading};
+ghost use Rattle.upd_apply.specs.Applying.{Reached, applied};
+ghost use Rattle.upd_compile.specs.File.{compile_file_of};
 ghost use Rattle.upd_compile.specs.declared.mode.Mode.{Mode};
+ghost use Rattle.upd_parts.specs.Needed.{decks_needed};
+ghost use Rattle.upd_rows.specs.Keeping.{IsLost, Keeps, MoreFailures};
+ghost use Rattle.upd_rows.specs.Tables.{AreRead};
+ghost use Rattle.upd_yank.specs.Right.{IsRight};
+ghost use Rattle.upd_desk.specs.Arrivals.{door};
+ghost use Rattle.upd_desk.specs.Compiling.{AreActivesFor, IsOutcomeOf, IsRunOf, IsSeen};
+ghost use Rattle.upd_desk.specs.Made.{IsMade};
+ghost use Rattle.upd_desk.specs.Needed.{needed};
+ghost use Rattle.upd_desk.specs.Outcomes.{Compiled, compiled, outcome_by};
 
 use crate::arrival::Arrival;
+use crate::loading::load_needed;
 use crate::reply::Reply;
 use std::alloc::{AllocError, Global};
 use upd_apply::{Applied, apply};
 use upd_change::Change;
-use upd_compile::{CompileFile, Mode, compile_file};
+use upd_compile::{CompileFile, Mode, compile_active};
 use upd_core::ident::name_at;
-use upd_core::{Counted, Ident, Library, Serial, States};
-use upd_deck::read_run;
+use upd_core::{Actives, Counted, Ident, Library, Serial, States};
+use upd_deck::{Run, read_run};
+use upd_rows::RowStore;
 use upd_text::{Fault, FaultKind, Name};
 use upd_yank::Cache;
 
@@ -38,28 +47,35 @@ pub(crate) struct Outcome {
     pub(crate) work: u64,
 }
 
-/// What a run that has passed the door in a mode makes of the library whose statuses were read. A refused run has a
-/// reply and changes nothing.
-pub(crate) fn run_outcome(
+/// What a run has left, and what applying it has told.
+#[derive(Debug, Drop)]
+pub(crate) struct AppliedRun {
+    /// The part with the decks that the run needed, and with its own.
+    library: Library,
+    applied: Applied,
+}
+
+/// What a run that has passed the door in a mode makes of the library that a store keeps. A refused run has a reply and
+/// changes nothing; one that isn't read loads nothing.
+pub(crate) fn run_outcome<S: RowStore>(
+    store: &mut S,
     alloc: Global,
-    library: &Library,
-    states: &States,
     mode: Mode,
     arrival: &Arrival<'_>,
 ) -> Result<Outcome, Fault>
-    ensures reply { IsMade library.now → door arrival.now ≡ Ok mode
-        → IfOk result (λ o. o.reply ≡ (outcome mode arrival.now library.now).reply) }
-    ensures shows { IsMade library.now → (rows : Rows) → Shows rows library.now → ShowsStates rows library.now
-        → AreRead rows states.now → IfOk result (λ o. LeadTo (map change_seen o.changes.items) rows
-        (outcome mode arrival.now library.now).library) }
-    ensures work { IsMade library.now → (rows : Rows) → ShowsStates rows library.now → AreRead rows states.now
-        → IfOk result (λ o. o.work ≡ looked_at library.now (compiled mode arrival.now.bytes library.now)) }
-    ensures least { IsMade library.now → (rows : Rows) → ShowsStates rows library.now → AreRead rows states.now
-        → IfOk result (λ o. length (altered library.now (outcome mode arrival.now library.now).library) ≤ o.work) }
-    ensures lost { IsOkUnless result (fault_at NoMemory 0) }
+    requires passed { door arrival.now ≡ Ok mode }
+    ensures found { S.is_honest store.new → IfOk result (λ o. (l : LibraryView) → IsMade l → (rows : Rows)
+        → S.shows (S.image store.old) rows → Shows rows l → ShowsStates rows l → IsOutcomeOf mode arrival.now l rows o) }
+    ensures reads { S.is_honest store.new → OnOk result ((l : LibraryView) → IsMade l → (rows : Rows)
+        → S.shows (S.image store.old) rows → Shows rows l
+        → S.reads_of store.new ≤ S.reads_of store.old + length (needed arrival.now.bytes l)) }
+    ensures same { Keeps S.is_honest S.is_open S.image S.shows S.may_leave S.failures_of store.old store.new }
+    ensures lost { IfErr result IsLost }
+    ensures failed { IfErr result (λ fault. fault.kind ≡ Store
+        → MoreFailures (S.failures_of store.old) (S.failures_of store.new)) }
 {
-    match compile_run(alloc, library, mode, arrival.bytes) {
-        Ok(run) => match accepted(alloc, states, arrival, run) {
+    match read_run(alloc, arrival.bytes) {
+        Ok(run) => match read_outcome(store, alloc, mode, arrival, &run) {
             Ok(outcome) => Ok(outcome),
             Err(fault) => Err(fault),
         },
@@ -70,67 +86,198 @@ pub(crate) fn run_outcome(
     }
 }
 
-/// What an accepted run has left.
-#[derive(Debug, Drop)]
-pub(crate) struct CompiledRun {
-    library: Library,
-    applied: Applied,
-    file: CompileFile,
-}
-
-/// Reads a run, applies it and writes its compile file.
-fn compile_run(
+/// The same of a run that was read.
+fn read_outcome<S: RowStore>(
+    store: &mut S,
     alloc: Global,
-    before: &Library,
     mode: Mode,
-    bytes: &[u8],
-) -> Result<CompiledRun, Fault>
-    ensures ok { IsMade before.now → IfOk result (IsRunOf mode bytes.now before.now) }
-    ensures compiled { IfOk result (λ run. compiled mode bytes.now before.now ≡ Ok (compiled_seen run)) }
-    ensures refused { IfErr result (λ fault. FailsAt fault (compiled mode bytes.now before.now)) }
+    arrival: &Arrival<'_>,
+    run: &Run<'_>,
+) -> Result<Outcome, Fault>
+    requires passed { door arrival.now ≡ Ok mode }
+    requires read { reading arrival.now.bytes ≡ Ok run.now }
+    ensures found { S.is_honest store.new → IfOk result (λ o. (l : LibraryView) → IsMade l → (rows : Rows)
+        → S.shows (S.image store.old) rows → Shows rows l → ShowsStates rows l → IsOutcomeOf mode arrival.now l rows o) }
+    ensures reads { S.is_honest store.new → OnOk result ((l : LibraryView) → IsMade l → (rows : Rows)
+        → S.shows (S.image store.old) rows → Shows rows l
+        → S.reads_of store.new ≤ S.reads_of store.old + length (decks_needed run.now l)) }
+    ensures same { Keeps S.is_honest S.is_open S.image S.shows S.may_leave S.failures_of store.old store.new }
+    ensures lost { IfErr result IsLost }
+    ensures failed { IfErr result (λ fault. fault.kind ≡ Store
+        → MoreFailures (S.failures_of store.old) (S.failures_of store.new)) }
 {
-    let run = read_run(alloc, bytes)?;
-    let mut library = before.copy()?;
-    let applied = apply(alloc, &mut library, &run)?;
-    let file = compile_file(alloc, &library, before, mode, &applied.compile)?;
-    Ok(CompiledRun {
-        library,
-        applied,
-        file,
-    })
+    let part = match load_needed(store, alloc, run) {
+        Ok(part) => part,
+        Err(fault) => return Err(fault),
+    };
+    match apply_run(alloc, &part, run) {
+        Ok(applied) => match applied_outcome(store, alloc, mode, arrival, applied) {
+            Ok(outcome) => Ok(outcome),
+            Err(fault) => Err(fault),
+        },
+        Err(fault) => match refused(alloc, arrival, fault) {
+            Ok(outcome) => Ok(outcome),
+            Err(fault) => Err(fault),
+        },
+    }
 }
 
-/// What an accepted run makes of the library that it came to.
-fn accepted(
+/// The same of a run that was applied: its compile file may still be refused.
+fn applied_outcome<S: RowStore>(
+    store: &mut S,
     alloc: Global,
-    states: &States,
+    mode: Mode,
     arrival: &Arrival<'_>,
-    run: CompiledRun,
+    run: AppliedRun,
 ) -> Result<Outcome, Fault>
-    ensures reply { (mode : Mode) (l : LibraryView) → IsMade l → door arrival.now ≡ Ok mode
-        → compiled mode arrival.now.bytes l ≡ Ok (compiled_seen run)
-        → IfOk result (λ o. o.reply ≡ (outcome_by arrival.now l (Ok (compiled_seen run))).reply) }
-    ensures shows { (mode : Mode) (l : LibraryView) → IsMade l → IsRunOf mode arrival.now.bytes l run
-        → (rows : Rows) → Shows rows l → ShowsStates rows l → AreRead rows states.now
-        → IfOk result (λ o. LeadTo (map change_seen o.changes.items) rows run.library) }
-    ensures work { (mode : Mode) (l : LibraryView) → IsMade l → IsRunOf mode arrival.now.bytes l run
-        → (rows : Rows) → ShowsStates rows l → AreRead rows states.now
-        → IfOk result (λ o. o.work ≡ looked_at l (Ok (compiled_seen run))) }
-    ensures least { (mode : Mode) (l : LibraryView) → IsMade l → IsRunOf mode arrival.now.bytes l run
-        → (rows : Rows) → ShowsStates rows l → AreRead rows states.now
-        → IfOk result (λ o. length (altered l run.library) ≤ o.work) }
+    requires passed { door arrival.now ≡ Ok mode }
+    ensures found { S.is_honest store.new → IfOk result (λ o. (lines : List LineView) (l : LibraryView) (reached : Reached)
+        → reading arrival.now.bytes ≡ Ok lines → IsMade l → IsRunOf lines l reached run → (rows : Rows)
+        → S.shows (S.image store.old) rows → Shows rows l → ShowsStates rows l → IsOutcomeOf mode arrival.now l rows o) }
+    ensures unread { S.reads_of store.new ≡ S.reads_of store.old }
+    ensures same { Keeps S.is_honest S.is_open S.image S.shows S.may_leave S.failures_of store.old store.new }
+    ensures lost { IfErr result IsLost }
+    ensures failed { IfErr result (λ fault. fault.kind ≡ Store
+        → MoreFailures (S.failures_of store.old) (S.failures_of store.new)) }
+{
+    let states = match store.load_states(alloc) {
+        Ok(states) => states,
+        Err(fault) => return Err(fault),
+    };
+    let before = match active_rows(store, alloc, mode, &run) {
+        Ok(before) => before,
+        Err(fault) => return Err(fault),
+    };
+    match settled_outcome(alloc, mode, arrival, &states, before, run) {
+        Ok(outcome) => Ok(outcome),
+        Err(fault) => Err(fault),
+    }
+}
+
+/// The active cards before a run, where its compile file can have a line.
+fn active_rows<S: RowStore>(
+    store: &mut S,
+    alloc: Global,
+    mode: Mode,
+    run: &AppliedRun,
+) -> Result<Option<Actives>, Fault>
+    ensures found { S.is_honest store.new → IfOk result (λ before. (l : LibraryView) → IsMade l → (rows : Rows)
+        → S.shows (S.image store.old) rows → Shows rows l → ShowsStates rows l
+        → AreActivesFor mode run.now.applied.compile.items l before) }
+    ensures unread { S.reads_of store.new ≡ S.reads_of store.old }
+    ensures same { Keeps S.is_honest S.is_open S.image S.shows S.may_leave S.failures_of store.old store.new }
+    ensures lost { IfErr result IsLost }
+    ensures failed { IfErr result (λ fault. fault.kind ≡ Store
+        → MoreFailures (S.failures_of store.old) (S.failures_of store.new)) }
+{
+    if mode == Mode::Quick && run.applied.compile.is_empty() {
+        Ok(None)
+    } else {
+        match store.load_active(alloc) {
+            Ok(before) => Ok(Some(before)),
+            Err(fault) => Err(fault),
+        }
+    }
+}
+
+/// Applies a run to the decks that it needs.
+fn apply_run(alloc: Global, part: &Library, run: &Run<'_>) -> Result<AppliedRun, Fault>
+    ensures ok { (l : LibraryView) → IsMade l → part.now ≡ part_of (decks_needed run.now l) l
+        → IfOk result (λ applied. (reached : Reached) × IsRunOf run.now l reached applied) }
+    ensures refused { IfErr result (λ fault. FailsAt fault (applied run.now part.now)) }
+{
+    let mut library = part.copy()?;
+    let applied = apply(alloc, &mut library, run)?;
+    Ok(AppliedRun { library, applied })
+}
+
+/// What a run that was applied makes of the statuses and the compile file.
+fn settled_outcome(
+    alloc: Global,
+    mode: Mode,
+    arrival: &Arrival<'_>,
+    states: &States,
+    before: Option<Actives>,
+    run: AppliedRun,
+) -> Result<Outcome, Fault>
+    requires passed { door arrival.now ≡ Ok mode }
+    ensures found { IfOk result (λ o. (lines : List LineView) (l : LibraryView) (reached : Reached)
+        → reading arrival.now.bytes ≡ Ok lines → IsMade l → IsRunOf lines l reached run
+        → AreActivesFor mode run.applied.compile.items l before → (rows : Rows) → Shows rows l → ShowsStates rows l
+        → AreRead rows states.now → IsOutcomeOf mode arrival.now l rows o) }
     ensures lost { IsOkUnless result (fault_at NoMemory 0) }
 {
-    let reply = accepted_reply(alloc, arrival, &run)?;
-    let applied = run.applied;
     let mut cache = Cache::of_rows(alloc, states)?;
-    let mut settled = cache.settle(&mut Counted::new(&run.library), &applied)?;
+    let settled = cache.settle(&mut Counted::new(&run.library), &run.applied)?;
+    match file_of(alloc, mode, &cache, &before, &run) {
+        Ok(file) => match accepted(alloc, arrival, run, settled, &file, cache.work()) {
+            Ok(outcome) => Ok(outcome),
+            Err(fault) => Err(fault),
+        },
+        Err(fault) => match refused(alloc, arrival, fault) {
+            Ok(outcome) => Ok(outcome),
+            Err(fault) => Err(fault),
+        },
+    }
+}
+
+/// The compile file of a run: empty where no active cards are at hand.
+fn file_of(
+    alloc: Global,
+    mode: Mode,
+    cache: &Cache,
+    before: &Option<Actives>,
+    run: &AppliedRun,
+) -> Result<CompileFile, Fault>
+    ensures ok { (lines : List LineView) (l : LibraryView) (reached : Reached) → IsMade l → IsRunOf lines l reached run.now
+        → AreActivesFor mode run.now.applied.compile.items l before.now → IsRight reached.library cache.now
+        → IfOk result (λ file. compile_file_of mode reached.compile l reached.library ≡ Ok file) }
+    ensures refused { (lines : List LineView) (l : LibraryView) (reached : Reached) → IsMade l
+        → IsRunOf lines l reached run.now
+        → AreActivesFor mode run.now.applied.compile.items l before.now → IsRight reached.library cache.now
+        → IfErr result (λ fault. FailsAt fault (compile_file_of mode reached.compile l reached.library)) }
+    ensures lost { IfErr result (λ fault. fault.kind ≡ NoMemory → fault.at ≡ 0) }
+{
+    match before {
+        Some(before) => {
+            let after = cache.renew(&run.library, before)?;
+            match compile_active(alloc, &after, before, mode, &run.applied.compile) {
+                Ok(file) => Ok(file),
+                Err(fault) => Err(fault),
+            }
+        }
+        None => Ok(CompileFile {
+            bytes: Vec::new(alloc),
+            lines: 0,
+        }),
+    }
+}
+
+/// What an accepted run has left, settled as these changes tell.
+fn accepted(
+    alloc: Global,
+    arrival: &Arrival<'_>,
+    run: AppliedRun,
+    settled: Vec<Change>,
+    file: &CompileFile,
+    work: u64,
+) -> Result<Outcome, Fault>
+    ensures reply { (mode : Mode) (l : LibraryView) (done : Compiled) → IsMade l → door arrival.now ≡ Ok mode
+        → compiled mode arrival.now.bytes l ≡ Ok done → IsSeen done run file.now
+        → IfOk result (λ o. o.reply ≡ (outcome_by arrival.now l (Ok done)).reply) }
+    ensures changes { IfOk result (λ o. o.changes.items ≡ run.applied.changes.items ++ settled.items) }
+    ensures work { IfOk result (λ o. o.work ≡ work) }
+    ensures lost { IsOkUnless result (fault_at NoMemory 0) }
+{
+    let reply = accepted_reply(alloc, arrival, &run, file)?;
+    let mut settled = settled;
+    let applied = run.applied;
     let mut changes = applied.changes;
     changes.append(&mut settled)?;
     Ok(Outcome {
         changes,
         reply,
-        work: cache.work(),
+        work,
     })
 }
 
@@ -138,11 +285,12 @@ fn accepted(
 fn accepted_reply(
     alloc: Global,
     arrival: &Arrival<'_>,
-    run: &CompiledRun,
+    run: &AppliedRun,
+    file: &CompileFile,
 ) -> Result<Reply, AllocError>
-    ensures { (mode : Mode) (l : LibraryView) → IsMade l → door arrival.now ≡ Ok mode
-        → compiled mode arrival.now.bytes l ≡ Ok (compiled_seen run.now)
-        → IfOk result (λ reply. reply ≡ (outcome_by arrival.now l (Ok (compiled_seen run.now))).reply) }
+    ensures { (mode : Mode) (l : LibraryView) (done : Compiled) → IsMade l → door arrival.now ≡ Ok mode
+        → compiled mode arrival.now.bytes l ≡ Ok done → IsSeen done run.now file.now
+        → IfOk result (λ reply. reply ≡ (outcome_by arrival.now l (Ok done)).reply) }
 {
     let idents = names(alloc, run.library.idents(), &run.applied.idents)?;
     let text = upd_reply::accepted(
@@ -151,8 +299,8 @@ fn accepted_reply(
         arrival.number,
         arrival.mode,
         &idents,
-        &run.file.bytes,
-        run.file.lines,
+        &file.bytes,
+        file.lines,
     )?;
     Ok(Reply {
         accepted: true,

@@ -1,7 +1,8 @@
 -- Statuses and counts that are told of a library as if one run had brought it all.
-use Rattle.std.proofs.Common.{◌≡◌, ◌<◌, ◌^◌, List, [], ◌∷◌, length, true, refl, ap}
+use Rattle.std.proofs.Common.{◌≡◌, ◌<◌, ◌^◌, List, [], ◌∷◌, length, true, false, inr, refl, ap, ◌∙◌}
 use Rattle.std.specs.List.{filter, AllByRecursion}
 use Rattle.upd_text.specs.declared.card_ref.CardRef.{CardRef}
+use Rattle.upd_core.specs.Counted.{CountedCardView}
 use Rattle.upd_core.specs.Library.{LibraryView, empty}
 use Rattle.upd_core.specs.Sound.{IsSound}
 use Rattle.upd_core.specs.Targets.{is_same}
@@ -11,11 +12,22 @@ use Rattle.upd_change.specs.Rows.{Rows, ShowsStates, same_ref}
 use Rattle.upd_change.specs.States.{TakeGone, tells_state}
 use Rattle.upd_change.specs.Touched.{touched}
 use Rattle.upd_laws.proofs.SoundRunLemmas.{empty_sound}
+use Rattle.upd_yank.proofs.EnoughLemmas.{part_of_none}
+use Rattle.upd_yank.specs.Affected.{affected}
+use Rattle.upd_yank.specs.Enough.{IsEnough}
 use Rattle.upd_yank.specs.Right.{CacheView, IsRight, IsRunBetween}
 
 pub between : (l : LibraryView) (cache : CacheView) (run : List CardRef) → IsSound l → length l.yanks < 2 ^ 32 → IsRight empty cache → run ≡ touched empty l
     → IsRunBetween empty l cache run
 between l cache run sound few right is = record { before = empty_sound; after = sound; goes_on = tt; right = right; touched = is; few = few }
+
+-- nothing was there before, so that a library of which decks aren't loaded is enough as well
+pub enough : (l counted : LibraryView) (run : List CardRef) → counted ≡ l → IsEnough run empty l counted
+enough l counted run same = inr (λ _. false, same ∙ part_of_none l, record { unaffected = all (affected run empty l); staying = λ card none. refl })
+  where
+    all : (ks : List CountedCardView) → AllByRecursion (λ k. false ≡ false) ks
+    all [] = tt
+    all (k ∷ ks) = (refl, all ks)
 
 pub none_gone : (l : LibraryView) → TakeGone empty l []
 none_gone l = record { gone = λ card some none. absurd (cc); silent = tt }

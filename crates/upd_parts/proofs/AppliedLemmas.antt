@@ -11,7 +11,7 @@ use Rattle.upd_apply.specs.declared.state.State.{State}
 use Rattle.upd_apply.specs.Applying.{Reached, applied, brought, started, stepped}
 use Rattle.upd_apply.specs.Compile.{decks_in_any, line_ranges, named_decks}
 use Rattle.upd_apply.specs.Names.{Ages}
-use Rattle.upd_rows.specs.Parts.{part}
+use Rattle.upd_core.specs.Parts.{part}
 use Rattle.upd_parts.specs.Needless.{DoesWithout, left_out, reached_in_part}
 use Rattle.upd_parts.proofs.NeedLemmas.{none_in, sound_listed}
 use Rattle.upd_parts.proofs.RunLemmas.{Runs, runs}

@@ -3,4 +3,12 @@ pub mod StepLemmas
 pub mod RunLemmas
 pub mod AppliedLemmas
 pub mod NeedLemmas
+pub mod NeededLemmas
+pub mod CountLemmas
 pub mod StayLemmas
+pub mod WeaveLemmas
+pub mod WholeLemmas
+pub mod PartSoundLemmas
+pub mod LeftLemmas
+pub mod IdleLemmas
+pub mod RenewLemmas

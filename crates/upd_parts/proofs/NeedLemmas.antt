@@ -12,7 +12,7 @@ use Rattle.upd_core.specs.Library.{CardView, DeckView, LibraryView, all_decks, i
 use Rattle.upd_core.specs.Sound.{IsOfHeld, IsSound, is_held_deck}
 use Rattle.upd_core.proofs.FoundLemmas.{card_place, place_found}
 use Rattle.upd_deck.specs.Items.{LineView}
-use Rattle.upd_rows.specs.Parts.{cards_of_decks, entries_of_decks, part, part_of}
+use Rattle.upd_core.specs.Parts.{cards_of_decks, entries_of_decks, part, part_of}
 use Rattle.upd_laws.proofs.SoundIdentLemmas.{held_deck_held, held_within}
 use Rattle.upd_laws.proofs.SoundListLemmas.{all_each, all_filter, all_weaker, and_left, and_right, same_number}
 use Rattle.upd_parts.specs.Needless.{NamesNone, cards_named, left_out, others_of}
@@ -89,12 +89,12 @@ part_of_others ages l sound = λ i. record {
 
 -- ---- what is left out holds no card that is found elsewhere
 
-record IsIn (test : DeckView → Bool) (d : DeckView) (ds : List DeckView) : Type 0 where
-  index : ℕ
-  found : slice_get ds index ≡ Some d
-  passes : test d ≡ true
+pub record IsIn (test : DeckView → Bool) (d : DeckView) (ds : List DeckView) : Type 0 where
+  pub index : ℕ
+  pub found : slice_get ds index ≡ Some d
+  pub passes : test d ≡ true
 
-among : (test : DeckView → Bool) (ds : List DeckView) (k : ℕ) (d : DeckView) → slice_get (filter test ds) k ≡ Some d → IsIn test d ds
+pub among : (test : DeckView → Bool) (ds : List DeckView) (k : ℕ) (d : DeckView) → slice_get (filter test ds) k ≡ Some d → IsIn test d ds
 among test [] k d e = absurd (cc)
 among test (x ∷ ds) k d e = go (test x) refl k e (λ j. among test ds j d)
   where

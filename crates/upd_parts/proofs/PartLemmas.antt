@@ -13,7 +13,7 @@ use Rattle.upd_core.specs.First.{index_from, at_first}
 use Rattle.upd_core.specs.Edits.{with_deck}
 use Rattle.upd_core.specs.Library.{CardView, DeckView, LibraryView, all_decks, cards_of, ident_of, is_card, is_deck, place_in, place_of, with_cards}
 use Rattle.upd_core.specs.Limits.{card_count, entry_count, is_within_limits}
-use Rattle.upd_rows.specs.Parts.{cards_of_decks, entries_of_decks, part}
+use Rattle.upd_core.specs.Parts.{cards_of_decks, entries_of_decks, part}
 use Rattle.upd_laws.proofs.SoundListLemmas.{same_number}
 use Rattle.upd_parts.specs.Needless.{cards_named, left_out}
 use Rattle.upd_deck.specs.Items.{LineView}
@@ -60,7 +60,7 @@ place_in_kept out (d ∷ ds) z n p none found = go (out d.ident) refl (index_fro
     go false e (Some i) f later = let same : d.ident ≡ p.deck = (let h = rw f at found in cc) in rw (sym same) e
     go false e None f later = later (rw e at none) (rw f at found)
 
-kept_all : (out : ℕ → Bool) (l : LibraryView) → out 0 ≡ false → all_decks (part out l) ≡ kept_of out (all_decks l)
+pub kept_all : (out : ℕ → Bool) (l : LibraryView) → out 0 ≡ false → all_decks (part out l) ≡ kept_of out (all_decks l)
 kept_all out l yanks = rw yanks refl
 
 pub place_same : (out : ℕ → Bool) (l : LibraryView) (card : CardRef) → out 0 ≡ false → IsNotIn (left_out out l) l card

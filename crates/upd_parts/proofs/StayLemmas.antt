@@ -20,7 +20,7 @@ use Rattle.upd_parts.proofs.AppliedLemmas.{applied_left}
 same_first : {A : Type 0} (x y : A) (xs ys : List A) → x ∷ xs ≡ y ∷ ys → x ≡ y
 same_first x y xs ys e = cc
 
-abbrev yank_deck : LibraryView → DeckView
+abbrev pub yank_deck : LibraryView → DeckView
 yank_deck l = record { ident = 0; cards = l.yanks }
 
 -- the yank cards stay where they are among what is left out

@@ -19,7 +19,7 @@ use Rattle.upd_apply.specs.declared.state.Spot.{Spot}
 use Rattle.upd_apply.specs.declared.state.Spot.TheVariants.{Nowhere, End, Inside}
 use Rattle.upd_apply.specs.declared.state.State.{State}
 use Rattle.upd_apply.specs.Step.{grown, new_name, set_begun, deck_begun, placed_after, placed_before, switched, text_put, is_deck_card, done}
-use Rattle.upd_rows.specs.Parts.{part}
+use Rattle.upd_core.specs.Parts.{part}
 use Rattle.upd_parts.specs.Needless.{cards_named, is_plain, left_out}
 use Rattle.upd_parts.proofs.PartLemmas.{IsNotIn, cards_same, deck_kept, limits_same, place_same, with_cards_same, with_deck_same}
 

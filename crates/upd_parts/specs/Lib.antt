@@ -1,1 +1,2 @@
 pub mod Needless
+pub mod Needed

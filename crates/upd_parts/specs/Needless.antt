@@ -8,8 +8,10 @@ use Rattle.upd_core.specs.declared.library.Place.{Place}
 use Rattle.upd_core.specs.Edits.{is_among}
 use Rattle.upd_core.specs.Library.{DeckView, LibraryView, all_decks, place_of}
 use Rattle.upd_deck.specs.Items.{ItemView, LineView, Insert, Before, Delete, Restore, Yank, SelYank, YankDeck, Purge, PurgeFrom, SelPurge, PurDeck}
-use Rattle.upd_apply.specs.Applying.{Reached}
-use Rattle.upd_rows.specs.Parts.{part}
+use Rattle.upd_change.specs.Changes.{ChangeView}
+use Rattle.upd_change.specs.Told.{Told}
+use Rattle.upd_apply.specs.Applying.{Reached, applied, touched}
+use Rattle.upd_core.specs.Parts.{part}
 
 -- whether a line neither yanks nor purges
 abbrev pub is_plain : ItemView → Bool
@@ -57,3 +59,12 @@ pub record DoesWithout (out : Age → Bool) (lines : List LineView) (l : Library
 abbrev pub reached_in_part : (Age → Bool) → Result Reached Fault → Result Reached Fault
 reached_in_part out (Ok reached) = Ok (record reached { library = part out reached.library })
 reached_in_part out (Err fault) = Err fault
+
+-- What a run reaches from a part is the part of what it reaches from the whole; and the same row changes lead there, and the same cards are
+-- touched.
+pub record IsOnWhole (out : Age → Bool) (lines : List LineView) (l : LibraryView) (here : Reached) (changes : List ChangeView) : Type 0 where
+  pub there : Reached
+  pub reached : applied lines l ≡ Ok there
+  pub parted : here ≡ record there { library = part out there.library }
+  pub told : Told l there.library changes
+  pub touched : touched l there.library ≡ touched (part out l) here.library

@@ -1,6 +1,9 @@
-//! Runs on parts of a library: what a run makes of the decks that it needs, and what of the whole.
+//! Runs on parts of a library: which decks a run needs, and what it makes of a part and of the whole.
 //!
-//! Each function has an empty body, and each clause of it is a law about the definitions that other contracts cite.
+//! `needs` reads a run. Each function of `parts` has an empty body, and each clause of it is a law about the definitions
+//! that other contracts cite.
 #![tactic(auto)]
 
+pub mod needs;
 pub mod parts;
+pub mod settling;

@@ -10,6 +10,8 @@ pub mod dice;
 #[cfg(test)]
 mod follower;
 #[cfg(test)]
+mod parts;
+#[cfg(test)]
 mod random;
 #[cfg(test)]
 mod tables;

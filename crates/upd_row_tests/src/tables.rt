@@ -124,7 +124,8 @@ impl Tables {
 pub fn same_tables(rt: &impl Abort, library: &Library, store: &ListStore) -> Result<(), Fail> {
     let alloc = library.allocator();
     let wanted = Tables::of(alloc, library)?;
-    let found = printed_rows(alloc, &format!(in alloc; "{store:?}")?)?;
+    let tables = store.tables();
+    let found = printed_rows(alloc, &format!(in alloc; "{tables:?}")?)?;
     let wanted = printed_rows(alloc, &format!(in alloc; "{wanted:?}")?)?;
     assert_eq!(rt; found, wanted);
     Ok(())

@@ -158,7 +158,7 @@ target_row_own a = both _ _ (same_ref_own a.card) (both _ _ ((Decides-eqb a.ord 
 
 -- ---- each card is the one of its row
 
-age_found : (o : Option Ident) (z : ℕ) → option_map (λ i. i.age) o ≡ Some z → option_map_or (λ i. i.age) o 0 ≡ z
+pub age_found : (o : Option Ident) (z : ℕ) → option_map (λ i. i.age) o ≡ Some z → option_map_or (λ i. i.age) o 0 ≡ z
 age_found (Some i) z e = same_Some i.age z e
 age_found None z e = absurd (cc)
 
@@ -260,16 +260,23 @@ module _ (l : LibraryView) (sound : IsSound l) (entries : List EntryRow) (target
 
 -- ---- the whole
 
+pub idents_in_place : (l : LibraryView) (idents : List Ident) → IsSound l → IsSame idents (rows_of l).idents → AreByAge idents → idents ≡ l.idents
+idents_in_place l idents sound same by_age =
+    same_list older same_ident one_ident ident_own idents l.idents (in_order older age_order idents by_age) (ages_rise 1 l.idents sound.ages) same
+
+pub cards_in_place : (l : LibraryView) (cards : List CardRow) → IsSound l → IsSame cards (rows_of l).cards → AreByPlace cards → cards ≡ (rows_of l).cards
+cards_in_place l cards sound same by_place =
+    same_list in_front same_card_row one_card_row card_row_own cards (rows_of l).cards (in_order in_front place_order cards by_place)
+    (places_rise l.idents (all_decks l) sound.deck_ages) same
+
 -- rows in order, as often as a sound library has them, make that library
 pub made_again : (l : LibraryView) (idents : List Ident) (cards : List CardRow) (entries : List EntryRow) (targets : List TargetRow) → IsSound l
     → IsSame idents (rows_of l).idents → IsSame cards (rows_of l).cards → IsSame entries (rows_of l).entries → IsSame targets (rows_of l).targets
     → AreByAge idents → AreByPlace cards → AreByCard entries → AreTargetsByCard targets
     → library_of idents (decks_in idents entries targets cards) ≡ record l { rest = empty.rest }
 made_again l idents cards entries targets sound same_idents same_cards same_entries same_targets by_age by_place by_card targets_by_card =
-    let one = same_list older same_ident one_ident ident_own idents l.idents (in_order older age_order idents by_age) (ages_rise 1 l.idents sound.ages)
-    same_idents in
-    let two = same_list in_front same_card_row one_card_row card_row_own cards (rows_of l).cards (in_order in_front place_order cards by_place)
-    (places_rise l.idents (all_decks l) sound.deck_ages) same_cards in
+    let one = idents_in_place l idents sound same_idents by_age in
+    let two = cards_in_place l cards sound same_cards by_place in
     (λ i. library_of (one i) (decks_in (one i) entries targets (two i)))
     ∙ ap (library_of l.idents) (decks_are l sound entries targets (cards_are l sound entries targets same_entries by_card same_targets targets_by_card))
 

@@ -7,3 +7,7 @@ mod SortLemmas
 mod RowLemmas
 mod PlaceLemmas
 mod AssembleLemmas
+pub mod HolderLemmas
+pub mod KeyLemmas
+mod ActiveLemmas
+mod RestLemmas

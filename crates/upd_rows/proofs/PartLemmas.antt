@@ -6,6 +6,7 @@ use Rattle.std.specs.Prelude.{min}
 use Rattle.std.specs.List.{count_by, filter, flat_map, sum_by}
 use Rattle.std.proofs.lemmas.List.Concat.{length-flat_map}
 use Rattle.std.proofs.lemmas.List.Elements.{filter_more}
+use Rattle.std.proofs.lemmas.List.Filters.{sum_by-filter_both}
 use Rattle.std.proofs.lemmas.List.Sums.{sum_by-append, sum_by-cons}
 use Rattle.upd_core.specs.Counts.{capped}
 use Rattle.upd_core.specs.Edits.{is_among}
@@ -18,7 +19,7 @@ use Rattle.upd_change.proofs.CountLemmas.{count_cons, same_trans}
 use Rattle.upd_change.specs.Rows.{IsSame, Rows, Shows, card_rows, entry_rows, rows_of}
 use Rattle.upd_rows.specs.Assembling.{AreRowsOf, library_of}
 use Rattle.upd_rows.specs.declared.rows.LibraryRows.{LibraryRows}
-use Rattle.upd_rows.specs.Parts.{cards_of_decks, entries_of_decks, part_of}
+use Rattle.upd_core.specs.Parts.{cards_of_decks, entries_of_decks, part_of}
 
 -- one more element of those that are counted, or of the others
 pub left_more : {A : Type 0} (left : A → Bool) (size : A → ℕ) (xs : List A) (i : ℕ) (d x : A) (count more : ℕ) → i < length xs → x ≡ get_or xs i d
@@ -78,7 +79,7 @@ count_all : {A : Type 0} (xs : List A) → count_by (λ x. true) xs ≡ length x
 count_all [] = refl
 count_all (x ∷ xs) = let rest = count_all xs in omega (arith, count_cons (λ y. true) x xs)
 
-same_length : {A : Type 0} {xs ys : List A} → IsSame xs ys → length xs ≡ length ys
+pub same_length : {A : Type 0} {xs ys : List A} → IsSame xs ys → length xs ≡ length ys
 same_length {xs = xs} {ys = ys} same = sym (count_all xs) ∙ same.passes (λ x. true) ∙ count_all ys
 
 all_card_rows : (idents : List Ident) (d p : ℕ) (cs : List CardView) → length (card_rows idents d p cs) ≡ length cs
@@ -94,21 +95,37 @@ sum_flat size f [] = refl
 sum_flat size f (x ∷ xs) =
     sum_by-append size (f x) (flat_map f xs) ∙ ap (λ n. sum_by size (f x) + n) (sum_flat size f xs) ∙ sym (sum_by-cons (λ y. sum_by size (f y)) x xs)
 
+pub cards_in_rows : (l : LibraryView) → length (rows_of l).cards ≡ cards_of_decks (all_decks l)
+cards_in_rows l =
+    length-flat_map (λ d. card_rows l.idents d.ident 0 d.cards) (all_decks l)
+    ∙ (λ i. sum_by (λ d. all_card_rows l.idents d.ident 0 d.cards i) (all_decks l))
+
+pub entries_in_rows : (l : LibraryView) → length (rows_of l).entries ≡ entries_of_decks (all_decks l)
+entries_in_rows l =
+    length-flat_map (λ c. entry_rows (ref_of l.idents c) 0 c.history) (all_cards l)
+    ∙ (λ i. sum_by (λ c. all_entry_rows (ref_of l.idents c) 0 c.history i) (all_cards l))
+    ∙ sum_flat (λ c. length c.history) (λ d. d.cards) (all_decks l)
+
 pub few_cards : (tables : Rows) (l : LibraryView) (rows : LibraryRows) → Shows tables l → AreRowsOf tables rows
     → cards_of_decks l.decks ≤ length rows.cards.items
 few_cards tables l rows shows are =
     let rows_are = same_length (same_trans are.cards shows.cards) in
-    let cards_are : length (rows_of l).cards ≡ cards_of_decks (all_decks l) =
-    length-flat_map (λ d. card_rows l.idents d.ident 0 d.cards) (all_decks l)
-    ∙ (λ i. sum_by (λ d. all_card_rows l.idents d.ident 0 d.cards i) (all_decks l)) in
-    omega (arith, sum_by-cons (λ (d : DeckView). length d.cards) (record { ident = 0; cards = l.yanks }) l.decks)
+    omega (arith, cards_in_rows l, sum_by-cons (λ (d : DeckView). length d.cards) (record { ident = 0; cards = l.yanks }) l.decks)
 
 pub few_entries : (tables : Rows) (l : LibraryView) (rows : LibraryRows) → Shows tables l → AreRowsOf tables rows
     → entries_of_decks l.decks ≤ length rows.entries.items
 few_entries tables l rows shows are =
     let rows_are = same_length (same_trans are.entries shows.entries) in
-    let entries_are : length (rows_of l).entries ≡ entries_of_decks (all_decks l) =
-    length-flat_map (λ c. entry_rows (ref_of l.idents c) 0 c.history) (all_cards l)
-    ∙ (λ i. sum_by (λ c. all_entry_rows (ref_of l.idents c) 0 c.history i) (all_cards l))
-    ∙ sum_flat (λ c. length c.history) (λ d. d.cards) (all_decks l) in
-    omega (arith, sum_by-cons (λ (d : DeckView). sum_by (λ c. length c.history) d.cards) (record { ident = 0; cards = l.yanks }) l.decks)
+    omega (arith, entries_in_rows l, sum_by-cons (λ (d : DeckView). sum_by (λ c. length c.history) d.cards) (record { ident = 0; cards = l.yanks }) l.decks)
+
+-- what the decks left out have is what all have but the part's
+pub rest_counted : (size : DeckView → ℕ) (ages : List ℕ) (yanks : DeckView) (ds : List DeckView)
+    → sum_by size (yanks ∷ ds) - sum_by size (yanks ∷ filter (λ d. not (not (is_among ages d.ident))) ds)
+    ≡ sum_by size (filter (λ d. not (is_among ages d.ident)) ds)
+rest_counted size ages yanks ds =
+    omega (
+      arith,
+      sum_by-cons size yanks ds,
+      sum_by-cons size yanks (filter (λ d. not (not (is_among ages d.ident))) ds),
+      sum_by-filter_both (λ d. not (is_among ages d.ident)) (λ d. not (not (is_among ages d.ident))) (λ d. refl) size ds,
+    )

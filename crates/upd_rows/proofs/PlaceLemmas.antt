@@ -42,7 +42,7 @@ in_later_deck : (a b : CardRow) → a.deck < b.deck → in_front a b ≡ true
 in_later_deck a b less = ap (λ r. is_lt (ordering_then r (nat_cmp a.pos b.pos))) (sym (nat_cmp_is a.deck b.deck Less less))
 
 -- the rows of a deck are of that deck, from their place on
-stand_in : (idents : List Ident) (d p q : ℕ) (cs : List CardView) → q ≤ p → AllByRecursion (λ r. (r.deck ≡ d) × (q ≤ r.pos)) (card_rows idents d p cs)
+pub stand_in : (idents : List Ident) (d p q : ℕ) (cs : List CardView) → q ≤ p → AllByRecursion (λ r. (r.deck ≡ d) × (q ≤ r.pos)) (card_rows idents d p cs)
 stand_in idents d p q [] order = tt
 stand_in idents d p q (c ∷ cs) order = ((refl, order), stand_in idents d (p + 1) q cs (omega arith))
 

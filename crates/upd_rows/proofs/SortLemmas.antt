@@ -38,7 +38,7 @@ in_order_at lt (x ∷ xs) far = (
 pub in_order : {A : Type 0} (lt : A → A → Bool) → IsStrictWeakOrder lt → (xs : List A) → IsSortedBy lt xs → IsInOrder lt xs
 in_order lt laws xs up = in_order_at lt xs (sorted_far lt laws xs up)
 
-all_kept : {A : Type 0} (P : A → Type 0) (keep : A → Bool) (xs : List A) → AllByRecursion P xs → AllByRecursion P (filter keep xs)
+pub all_kept : {A : Type 0} (P : A → Type 0) (keep : A → Bool) (xs : List A) → AllByRecursion P xs → AllByRecursion P (filter keep xs)
 all_kept P keep [] all = tt
 all_kept P keep (x ∷ xs) all = go (keep x) (all_kept P keep xs all.1)
   where

@@ -1,12 +1,22 @@
 -- What a call of a store may do to what the store keeps, and to what a crash leaves of it.
-use Rattle.std.specs.Prelude.{◌≡◌, ℕ, ◌+◌, ◌-◌, ◌^◌, ◌≤◌, ◌⊎◌, min}
+use Rattle.std.specs.Prelude.{◌≡◌, ℕ, ◌+◌, ◌-◌, ◌^◌, ◌≤◌, ◌⊎◌, min, length, Result, Ok, Err}
 use Rattle.upd_text.specs.declared.fault.Fault.{Fault}
 use Rattle.upd_text.specs.declared.fault.FaultKind.TheVariants as fault
+use Rattle.upd_core.specs.Library.{LibraryView}
 use Rattle.upd_change.specs.Rows.{Rows}
 
 -- a count of failures rose, or stands at its last value
 abbrev pub MoreFailures : ℕ → ℕ → Type 0
 MoreFailures old new = min (old + 1) (2 ^ 64 - 1) ≤ new
+
+-- how many decks are read with one more library: those that stand in it, up to the last value
+abbrev pub reads_with : LibraryView → ℕ → ℕ
+reads_with l reads = min (reads + length l.decks) (2 ^ 64 - 1)
+
+-- how many decks are read after a load
+abbrev pub reads_after : Result LibraryView Fault → ℕ → ℕ
+reads_after (Ok l) reads = reads_with l reads
+reads_after (Err fault) reads = reads
 
 -- Of the faults, only want of memory and a failure of the store leave an arrival unanswered.
 pub data IsLost : Fault → Type 0 where

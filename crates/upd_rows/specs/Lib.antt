@@ -1,5 +1,7 @@
 pub mod Tables
-pub mod Parts
 pub mod Keeping
 pub mod Lists
 pub mod Assembling
+pub mod Asked
+pub mod Activating
+pub mod PartRows

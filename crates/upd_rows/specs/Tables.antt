@@ -3,7 +3,11 @@ use Rattle.std.specs.Prelude.{ℕ, ◌==◌, nat_le, Bool, not, ◌&&◌, if◌t
 use Rattle.std.specs.Option.{option_map_or}
 use Rattle.std.specs.Str.{bytes_eq}
 use Rattle.std.specs.List.{find, filter}
+use Rattle.std.specs.List.Sorted.{IsSortedBy}
+use Rattle.std.specs.Ordering.{is_lt}
+use Rattle.upd_text.specs.Order.{by_name}
 use Rattle.upd_text.specs.declared.card_ref.CardRef.{CardRef}
+use Rattle.upd_core.specs.Order.{key_order, target_key}
 use Rattle.upd_core.specs.declared.states.States.{States}
 use Rattle.upd_core.specs.declared.target.Target.{Target}
 use Rattle.upd_change.specs.Rows.{CountRow, IsSame, MarkRow, Rows, RunView, StateRow}
@@ -58,3 +62,9 @@ count_pair r = (r.target, r.n)
 pub record AreRead (rows : Rows) (found : States) : Type 0 where
   pub states : IsSame found.states.items (map state_pair rows.states)
   pub counts : IsSame found.counts.items (map count_pair rows.counts)
+
+-- Statuses stand by the names of their cards' idents, then by the cards' numbers; counts by kind of target (a set, a set in a deck, a deck),
+-- then by its ages.
+pub record AreByKey (found : States) : Type 0 where
+  pub states : IsSortedBy (λ a b. is_lt (by_name a.0 b.0)) found.states.items
+  pub counts : IsSortedBy (λ a b. is_lt (key_order (target_key a.0) (target_key b.0))) found.counts.items

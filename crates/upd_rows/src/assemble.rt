@@ -1,5 +1,5 @@
 //! A library out of its rows, which come in any order.
-ghost use Rattle.std.specs.Prelude.{◌≡◌, List, IfOk, IsPermutation};
+ghost use Rattle.std.specs.Prelude.{◌≡◌, ℕ, List, IfOk, IsPermutation, length};
 ghost use Rattle.std.specs.List.{filter};
 ghost use Rattle.upd_core.specs.Library.{LibraryView, empty};
 ghost use Rattle.upd_core.specs.Sound.{IsSound, IsWhole};
@@ -8,7 +8,8 @@ ghost use Rattle.upd_change.specs.Rows.{Rows, Shows, same_ref};
 ghost use Rattle.upd_rows.specs.Assembling.{AreAgesOf, AreByAge, AreByCard, AreByPlace, AreRowsOf};
 ghost use Rattle.upd_rows.specs.Assembling.{AreTargetsByCard, age_named, card_in, decks_in, entries_of, library_of};
 ghost use Rattle.upd_rows.specs.Assembling.{targets_of};
-ghost use Rattle.upd_rows.specs.Parts.{part_of};
+ghost use Rattle.upd_core.specs.Parts.{part_of};
+ghost use Rattle.upd_rows.specs.PartRows.{AreApart, part_rows};
 
 use crate::parts::part_of;
 use crate::rows::{CardRow, EntryRow, LibraryRows, TargetRow};
@@ -18,7 +19,7 @@ use std::mem;
 use upd_core::{Card, CardRef, Deck, Entry, Ident, Library, Rest, Serial, Target};
 use upd_text::Name;
 
-fn by_age(idents: Vec<Ident>) -> Vec<Ident>
+pub(crate) fn by_age(idents: Vec<Ident>) -> Vec<Ident>
     ensures permutation { IsPermutation idents.items result.items }
     ensures sorted { AreByAge result.items }
 {
@@ -27,7 +28,7 @@ fn by_age(idents: Vec<Ident>) -> Vec<Ident>
     idents
 }
 
-fn by_place(rows: Vec<CardRow>) -> Vec<CardRow>
+pub(crate) fn by_place(rows: Vec<CardRow>) -> Vec<CardRow>
     ensures permutation { IsPermutation rows.items result.items }
     ensures sorted { AreByPlace result.items }
 {
@@ -99,7 +100,10 @@ fn targets_of(alloc: Global, rows: &[TargetRow], card: &CardRef) -> Result<Vec<T
 }
 
 /// The ages of held idents, by name.
-fn held_ages(alloc: Global, idents: &[Ident]) -> Result<BTreeMap<Name, Serial>, AllocError>
+pub(crate) fn held_ages(
+    alloc: Global,
+    idents: &[Ident],
+) -> Result<BTreeMap<Name, Serial>, AllocError>
     ensures { IfOk result (λ ages. AreAgesOf idents.now ages) }
 {
     let mut ages = BTreeMap::new(alloc);
@@ -113,7 +117,7 @@ fn held_ages(alloc: Global, idents: &[Ident]) -> Result<BTreeMap<Name, Serial>, 
 }
 
 /// The age of the held ident of a name, 0 where there is none.
-fn age_of(ages: &BTreeMap<Name, Serial>, name: &Name) -> Serial
+pub(crate) fn age_of(ages: &BTreeMap<Name, Serial>, name: &Name) -> Serial
     ensures { (idents : List Ident) → AreAgesOf idents ages.now → result ≡ age_named idents name.now }
 {
     match ages.get(name) {
@@ -175,20 +179,27 @@ fn decks_of(alloc: Global, rows: &LibraryRows) -> Result<Vec<Deck>, AllocError>
     Ok(decks)
 }
 
-/// The library of a directory and decks, of which the first is `YANK$$$`.
-fn library_of(alloc: Global, idents: Vec<Ident>, decks: Vec<Deck>) -> Library
-    ensures { result ≡ library_of idents.items decks.items }
+/// The library of a directory and decks, of which the first is `YANK$$$`, with a rest.
+fn library_with(alloc: Global, idents: Vec<Ident>, decks: Vec<Deck>, rest: Rest) -> Library
+    ensures { result ≡ record (library_of idents.items decks.items) { rest = rest } }
 {
     let mut decks = decks;
-    let rest = Rest {
-        cards: 0,
-        entries: 0,
-    };
     if decks.is_empty() {
         return Library::of_parts(idents, decks, Vec::new(alloc), rest);
     }
     let yanks = decks.remove(0);
     Library::of_parts(idents, decks, yanks.cards, rest)
+}
+
+/// The same, of which no deck is left out.
+fn library_of(alloc: Global, idents: Vec<Ident>, decks: Vec<Deck>) -> Library
+    ensures { result ≡ library_of idents.items decks.items }
+{
+    let rest = Rest {
+        cards: 0,
+        entries: 0,
+    };
+    library_with(alloc, idents, decks, rest)
 }
 
 /// The directory and the decks of rows that come in any order.
@@ -229,4 +240,23 @@ pub fn assembled_part(
 {
     let (idents, decks) = idents_and_decks(alloc, rows)?;
     Ok(part_of(alloc, idents, decks, ages))
+}
+
+/// The same from the rows of these decks and of `YANK$$$` alone, and the numbers of all cards and entries.
+pub fn assembled_rest(
+    alloc: Global,
+    rows: LibraryRows,
+    cards: u64,
+    entries: u64,
+) -> Result<Library, AllocError>
+    ensures { (ages : List ℕ) (tables : Rows) (l : LibraryView) → IsSound l → IsWhole l → Shows tables l
+        → (AreApart tables.cards → AreRowsOf (part_rows ages tables) rows) → cards ≡ length tables.cards
+        → entries ≡ length tables.entries → IfOk result (λ found. found ≡ part_of ages l) }
+{
+    let rest = Rest {
+        cards: (cards as usize).saturating_sub(rows.cards.len()),
+        entries: (entries as usize).saturating_sub(rows.entries.len()),
+    };
+    let (idents, decks) = idents_and_decks(alloc, rows)?;
+    Ok(library_with(alloc, idents, decks, rest))
 }

@@ -9,7 +9,7 @@ ghost use Rattle.upd_change.specs.Fits.{AllFit};
 ghost use Rattle.upd_change.specs.Rows.{same_ref};
 ghost use Rattle.upd_rows.specs.Lists.{carried, kept_place, kept_row};
 
-use crate::list_store::ListStore;
+use crate::list_tables::ListTables;
 use crate::rows::{CardRow, CountRow, EntryRow, StateRow, TargetRow};
 use std::alloc::AllocError;
 use upd_change::Change;
@@ -70,7 +70,7 @@ fn move_cards(cards: &mut [CardRow], deck: Serial, from: u32, by: &i64)
 }
 
 /// Whether two references are the same.
-fn same_ref(a: &CardRef, b: &CardRef) -> bool
+pub(crate) fn same_ref(a: &CardRef, b: &CardRef) -> bool
     ensures { result ≡ same_ref a.now b.now }
 {
     a.name == b.name && a.number == b.number
@@ -113,7 +113,7 @@ fn drop_count(counts: &mut Vec<CountRow>, target: Target)
 
 // ---- all tables
 
-impl ListStore {
+impl ListTables {
     fn add_card(
         &mut self,
         card: CardRef,

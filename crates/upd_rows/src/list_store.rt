@@ -1,212 +1,54 @@
 //! A store over lists.
 
-ghost use Rattle.std.specs.Prelude.{◌≡◌, ◌≤◌, refl, [], ◌∷◌, ◌++◌, not, map, IfOk, OnErr, OnOk};
-ghost use Rattle.std.specs.List.{filter};
-ghost use Rattle.std.specs.Option.{option_copied};
-ghost use Rattle.std.specs.Vec.{vec_capacity, vec_len};
+ghost use Rattle.std.specs.Prelude.{◌≡◌, refl, []};
 ghost use Rattle.std.proofs.Common.{sym, ◌∙◌};
-ghost use Rattle.upd_core.specs.Library.{LibraryView};
-ghost use Rattle.upd_core.specs.Sound.{IsSound, IsWhole};
-ghost use Rattle.upd_change.specs.Changes.{change_seen};
-ghost use Rattle.upd_change.specs.Fits.{AllFit};
-ghost use Rattle.upd_change.specs.Rows.{Rows, Shows};
-ghost use Rattle.upd_rows.specs.Assembling.{AreRowsOf};
-ghost use Rattle.upd_rows.specs.Parts.{part_of};
-ghost use Rattle.upd_rows.specs.Tables.{AreRead, committed, count_pair, is_mark_of, is_settled, mark_at, run_at};
-ghost use Rattle.upd_rows.specs.Tables.{settled_to, state_pair};
+ghost use Rattle.upd_change.specs.Rows.{Rows};
 
-use crate::assemble::{assembled, assembled_part};
-use crate::rows::{
-    CardRow, CountRow, EntryRow, LibraryRows, MarkRow, StateRow, TargetRow, copy_run,
-};
+use crate::asked::reads_with;
+use crate::list_tables::ListTables;
+use crate::rows::copy_run;
 use crate::store::RowStore;
-use std::alloc::{AllocError, Global};
-use std::marker::Model;
+use std::alloc::Global;
 use upd_change::{Change, RunRow};
-use upd_core::{CardRef, Ident, Library, Serial, States, Target};
+use upd_core::{Actives, CardRef, Library, Serial, States};
 use upd_text::Fault;
 
-/// The tables as lists. Nothing but want of memory fails here.
+/// Tables that are lists. Nothing but want of memory fails here.
 #[derive(Debug, Drop)]
 pub struct ListStore {
-    pub(crate) idents: Vec<Ident>,
-    pub(crate) cards: Vec<CardRow>,
-    pub(crate) entries: Vec<EntryRow>,
-    pub(crate) targets: Vec<TargetRow>,
-    pub(crate) runs: Vec<RunRow>,
-    pub(crate) states: Vec<StateRow>,
-    pub(crate) counts: Vec<CountRow>,
-    pub(crate) settled: Vec<MarkRow>,
-}
-
-impl Model for ListStore {
-    ghost Value = { Rows };
-
-    ghost view = { λ s. record {
-      idents = s.idents.items;
-      cards = s.cards.items;
-      entries = s.entries.items;
-      targets = s.targets.items;
-      runs = s.runs.items;
-      states = s.states.items;
-      counts = s.counts.items;
-      settled = s.settled.items;
-    } };
+    pub(crate) tables: ListTables,
+    /// How many decks loads have brought.
+    pub(crate) decks_read: u64,
 }
 
 impl ListStore {
     /// Tables with no rows: they show the empty library, and keep no run. It takes no memory.
     pub fn new(alloc: Global) -> ListStore
         ensures { result ≡ record {
-          idents = [];
-          cards = [];
-          entries = [];
-          targets = [];
-          runs = [];
-          states = [];
-          counts = [];
-          settled = [];
+          tables = record {
+            idents = [];
+            cards = [];
+            entries = [];
+            targets = [];
+            runs = [];
+            states = [];
+            counts = [];
+            settled = [];
+          };
+          decks_read = 0;
         } }
     {
         ListStore {
-            idents: Vec::new(alloc),
-            cards: Vec::new(alloc),
-            entries: Vec::new(alloc),
-            targets: Vec::new(alloc),
-            runs: Vec::new(alloc),
-            states: Vec::new(alloc),
-            counts: Vec::new(alloc),
-            settled: Vec::new(alloc),
+            tables: ListTables::new(alloc),
+            decks_read: 0,
         }
     }
 
-    /// A copy; memory alone can fail.
-    pub(crate) fn copy(&self, alloc: Global) -> Result<ListStore, AllocError>
-        ensures { IfOk result (λ copy. copy ≡ self.now) }
+    /// The tables.
+    pub fn tables(&self) -> &ListTables
+        ensures { result.now ≡ self.now.tables }
     {
-        let idents = Vec::from_slice(alloc, &self.idents)?;
-        let cards = copy_cards(alloc, &self.cards)?;
-        let entries = Vec::from_slice(alloc, &self.entries)?;
-        let targets = Vec::from_slice(alloc, &self.targets)?;
-        let runs = copy_runs(alloc, &self.runs)?;
-        let states = Vec::from_slice(alloc, &self.states)?;
-        let counts = Vec::from_slice(alloc, &self.counts)?;
-        let settled = copy_marks(alloc, &self.settled)?;
-        Ok(ListStore {
-            idents,
-            cards,
-            entries,
-            targets,
-            runs,
-            states,
-            counts,
-            settled,
-        })
-    }
-
-    /// The rows that make the library; memory alone can fail.
-    fn library_rows(&self, alloc: Global) -> Result<LibraryRows, AllocError>
-        ensures { IfOk result (AreRowsOf self.now) }
-    {
-        let idents = Vec::from_slice(alloc, &self.idents)?;
-        let cards = copy_cards(alloc, &self.cards)?;
-        let entries = Vec::from_slice(alloc, &self.entries)?;
-        let targets = Vec::from_slice(alloc, &self.targets)?;
-        Ok(LibraryRows {
-            idents,
-            cards,
-            entries,
-            targets,
-        })
-    }
-
-    /// The library; memory alone can fail.
-    fn library(&self, alloc: Global) -> Result<Library, AllocError>
-        ensures { (l : LibraryView) → IsSound l → IsWhole l → Shows self.now l → IfOk result (λ found. found ≡ l) }
-    {
-        let rows = self.library_rows(alloc)?;
-        let library = assembled(alloc, rows)?;
-        Ok(library)
-    }
-
-    /// The library without the decks that aren't of these ages; memory alone can fail.
-    fn part(&self, alloc: Global, ages: &[Serial]) -> Result<Library, AllocError>
-        ensures { (l : LibraryView) → IsSound l → IsWhole l → Shows self.now l
-            → IfOk result (λ found. found ≡ part_of ages.now l) }
-    {
-        let rows = self.library_rows(alloc)?;
-        let library = assembled_part(alloc, rows, ages)?;
-        Ok(library)
-    }
-
-    /// The run that is kept under a key.
-    fn run_under(&self, site: &str, number: u64) -> Option<&RunRow>
-        ensures { option_copied result ≡ run_at site.now number self.now }
-    {
-        for run in &self.runs {
-            if run.site.as_str() == site && run.number == number {
-                return Some(run);
-            }
-        }
-        None
-    }
-
-    /// The number up to which a site has settled, 0 where it never did.
-    fn mark_of(&self, site: &str) -> u64
-        ensures { result ≡ mark_at site.now self.now }
-    {
-        for row in &self.settled {
-            if row.site.as_str() == site {
-                return row.mark;
-            }
-        }
-        0
-    }
-
-    /// All statuses and counts; memory alone can fail.
-    fn all_states(&self, alloc: Global) -> Result<States, AllocError>
-        ensures { IfOk result (λ found. AreRead self.now found) }
-    {
-        let states = state_pairs(alloc, &self.states)?;
-        let counts = count_pairs(alloc, &self.counts)?;
-        Ok(States { states, counts })
-    }
-
-    /// One commit: where memory runs out nothing is changed.
-    fn commit_all(
-        &mut self,
-        alloc: Global,
-        changes: &[Change],
-        run: RunRow,
-    ) -> Result<(), AllocError>
-        ensures done { OnOk result (AllFit (map change_seen changes.now) self.old
-            → self.new ≡ committed (map change_seen changes.now) run self.old) }
-        ensures undone { OnErr result (self.new ≡ self.old) }
-    {
-        let mut tables = self.copy(alloc)?;
-        tables.carry_out_all(changes)?;
-        tables.runs.push(run)?;
-        *self = tables;
-        Ok(())
-    }
-
-    /// One settlement: where memory runs out nothing is changed.
-    fn settle(&mut self, alloc: Global, site: &str, number: u64) -> Result<u64, AllocError>
-        ensures mark { IfOk result (λ mark. mark ≡ mark_at site.now (settled_to site.now number self.old)) }
-        ensures done { OnOk result (self.new ≡ settled_to site.now number self.old) }
-        ensures undone { OnErr result (self.new ≡ self.old) }
-    {
-        let mark = self.mark_of(site);
-        if number <= mark {
-            return Ok(mark);
-        }
-        let row = MarkRow {
-            site: String::from_str(alloc, site)?,
-            mark: number,
-        };
-        put_mark(&mut self.settled, row)?;
-        drop_runs(&mut self.runs, site, number);
-        Ok(number)
+        &self.tables
     }
 }
 
@@ -215,31 +57,45 @@ impl RowStore for ListStore {
 
     ghost shows = { λ image rows. image ≡ rows };
 
-    ghost image = { λ s. s };
+    ghost image = { λ s. s.tables };
 
     ghost is_open = { λ _. Unit {0} };
 
     ghost is_honest = { λ _. Unit {0} };
 
-    ghost may_leave = { λ s image. image ≡ s };
+    ghost may_leave = { λ s image. image ≡ s.tables };
 
     ghost failures_of = { λ _. 0 };
+
+    ghost reads_of = { λ s. s.decks_read };
 
     ghost caused = { λ _ _. ⊥ };
 
     fn load(&mut self, alloc: Global) -> Result<Library, Fault> {
-        let library = self.library(alloc)?;
+        let library = self.tables.library(alloc)?;
+        self.decks_read = reads_with(self.decks_read, &library);
         Ok(library)
     }
 
     fn load_decks(&mut self, alloc: Global, decks: &[Serial]) -> Result<Library, Fault> {
-        let library = self.part(alloc, decks)?;
+        let library = self.tables.part(alloc, decks)?;
+        self.decks_read = reads_with(self.decks_read, &library);
         Ok(library)
     }
 
+    fn decks_of(&mut self, alloc: Global, cards: &[CardRef]) -> Result<Vec<Serial>, Fault> {
+        let decks = self.tables.decks_of(alloc, cards)?;
+        Ok(decks)
+    }
+
     fn load_states(&mut self, alloc: Global) -> Result<States, Fault> {
-        let states = self.all_states(alloc)?;
+        let states = self.tables.all_states(alloc)?;
         Ok(states)
+    }
+
+    fn load_active(&mut self, alloc: Global) -> Result<Actives, Fault> {
+        let actives = self.tables.actives(alloc)?;
+        Ok(actives)
     }
 
     fn kept_run(
@@ -248,7 +104,7 @@ impl RowStore for ListStore {
         site: &str,
         number: u64,
     ) -> Result<Option<RunRow>, Fault> {
-        match self.run_under(site, number) {
+        match self.tables.run_under(site, number) {
             Some(run) => {
                 let run = copy_run(alloc, run)?;
                 Ok(Some(run))
@@ -258,21 +114,25 @@ impl RowStore for ListStore {
     }
 
     fn mark(&mut self, _alloc: Global, site: &str) -> Result<u64, Fault> {
-        Ok(self.mark_of(site))
+        Ok(self.tables.mark_of(site))
     }
 
     fn commit(&mut self, alloc: Global, changes: &[Change], run: RunRow) -> Result<(), Fault> {
-        self.commit_all(alloc, changes, run)?;
+        self.tables.commit_all(alloc, changes, run)?;
         Ok(())
     }
 
     fn settle_to(&mut self, alloc: Global, site: &str, number: u64) -> Result<u64, Fault> {
-        let mark = self.settle(alloc, site, number)?;
+        let mark = self.tables.settle(alloc, site, number)?;
         Ok(mark)
     }
 
     fn failures(&self) -> u64 {
         0
+    }
+
+    fn decks_read(&self) -> u64 {
+        self.decks_read
     }
 
     ghost one = { λ i a b shown other. sym shown ∙ other };
@@ -282,89 +142,4 @@ impl RowStore for ListStore {
     ghost stays = { λ s _ _. refl };
 
     ghost survives = { λ s _. ∣ (_, refl) ∣₁ };
-}
-
-/// The cards of rows with their statuses; memory alone can fail.
-fn state_pairs(alloc: Global, rows: &[StateRow]) -> Result<Vec<(CardRef, bool)>, AllocError>
-    ensures { IfOk result (λ pairs. pairs.items ≡ map state_pair rows.now) }
-{
-    let mut pairs = Vec::with_capacity(alloc, rows.len())?;
-    for row in rows {
-        pairs.push((row.card, row.active))?;
-    }
-    Ok(pairs)
-}
-
-/// The targets of rows with their counts; memory alone can fail.
-fn count_pairs(alloc: Global, rows: &[CountRow]) -> Result<Vec<(Target, u32)>, AllocError>
-    ensures { IfOk result (λ pairs. pairs.items ≡ map count_pair rows.now) }
-{
-    let mut pairs = Vec::with_capacity(alloc, rows.len())?;
-    for row in rows {
-        pairs.push((row.target, row.n))?;
-    }
-    Ok(pairs)
-}
-
-/// Puts a mark in the place of the site's other marks; where memory runs out nothing is changed.
-fn put_mark(marks: &mut Vec<MarkRow>, row: MarkRow) -> Result<(), AllocError>
-    ensures done { OnOk result (marks.new.items
-        ≡ filter (λ m. not (is_mark_of row.site m)) marks.old.items ++ row ∷ []) }
-    ensures undone { OnErr result (marks.new.items ≡ marks.old.items) }
-{
-    marks.reserve(1)?;
-    drop_marks(marks, &row.site);
-    if marks.push(row).is_err() {
-        unreachable!();
-    }
-    Ok(())
-}
-
-/// Takes a site's marks away.
-fn drop_marks(marks: &mut Vec<MarkRow>, site: &str)
-    ensures rest { marks.new.items ≡ filter (λ m. not (is_mark_of site.now m)) marks.old.items }
-    ensures len { vec_len marks.new ≤ vec_len marks.old }
-    ensures capacity { vec_capacity marks.new ≡ vec_capacity marks.old }
-{
-    marks.retain(|mark| mark.site.as_str() != site);
-}
-
-/// Takes a site's runs away up to a number.
-fn drop_runs(runs: &mut Vec<RunRow>, site: &str, number: u64)
-    ensures { runs.new.items ≡ filter (λ r. not (is_settled site.now number r)) runs.old.items }
-{
-    runs.retain(|run| !(run.site.as_str() == site && run.number <= number));
-}
-
-/// A copy of rows of cards; memory alone can fail.
-pub(crate) fn copy_cards(alloc: Global, cards: &[CardRow]) -> Result<Vec<CardRow>, AllocError>
-    ensures { IfOk result (λ copies. copies.items ≡ cards.now) }
-{
-    let mut copies = Vec::with_capacity(alloc, cards.len())?;
-    for card in cards {
-        copies.push(card.copy()?)?;
-    }
-    Ok(copies)
-}
-
-/// A copy of rows of runs; memory alone can fail.
-fn copy_runs(alloc: Global, runs: &[RunRow]) -> Result<Vec<RunRow>, AllocError>
-    ensures { IfOk result (λ copies. copies.items ≡ runs.now) }
-{
-    let mut copies = Vec::with_capacity(alloc, runs.len())?;
-    for run in runs {
-        copies.push(copy_run(alloc, run)?)?;
-    }
-    Ok(copies)
-}
-
-/// A copy of marks; memory alone can fail.
-fn copy_marks(alloc: Global, marks: &[MarkRow]) -> Result<Vec<MarkRow>, AllocError>
-    ensures { IfOk result (λ copies. copies.items ≡ marks.now) }
-{
-    let mut copies = Vec::with_capacity(alloc, marks.len())?;
-    for mark in marks {
-        copies.push(mark.copy(alloc)?)?;
-    }
-    Ok(copies)
 }

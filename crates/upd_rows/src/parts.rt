@@ -4,7 +4,7 @@ ghost use Rattle.std.specs.List.{filter};
 ghost use Rattle.upd_core.specs.Counts.{capped};
 ghost use Rattle.upd_core.specs.Edits.{is_among};
 ghost use Rattle.upd_rows.specs.Assembling.{library_of};
-ghost use Rattle.upd_rows.specs.Parts.{cards_of_decks, entries_of_decks, part_of};
+ghost use Rattle.upd_core.specs.Parts.{cards_of_decks, entries_of_decks, part_of};
 
 use std::alloc::Global;
 use upd_core::{Card, Deck, Ident, Library, Rest, Serial};

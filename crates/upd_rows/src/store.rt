@@ -1,24 +1,26 @@
 //! What a store of rows promises.
 ghost use Rattle.std.specs.Prelude.{◌≡◌, ℕ, None, IfErr, IfOk, OnErr, OnOk, map};
 ghost use Rattle.upd_text.specs.declared.fault.FaultKind.TheVariants.{Store};
+ghost use Rattle.upd_core.specs.Actives.{actives_of};
 ghost use Rattle.upd_core.specs.Library.{LibraryView};
 ghost use Rattle.upd_core.specs.Sound.{IsSound, IsWhole};
 ghost use Rattle.upd_change.specs.Changes.{change_seen};
-ghost use Rattle.upd_change.specs.Rows.{Rows, Shows};
+ghost use Rattle.upd_change.specs.Rows.{Rows, Shows, ShowsStates};
 ghost use Rattle.upd_change.specs.Fits.{AllFit};
-ghost use Rattle.upd_rows.specs.Keeping.{IsLost, Keeps, MoreFailures, Tries};
-ghost use Rattle.upd_rows.specs.Parts.{part_of};
-ghost use Rattle.upd_rows.specs.Tables.{AreRead, committed, mark_at, run_at, settled_to};
+ghost use Rattle.upd_rows.specs.Asked.{decks_with};
+ghost use Rattle.upd_rows.specs.Keeping.{IsLost, Keeps, MoreFailures, Tries, reads_after};
+ghost use Rattle.upd_core.specs.Parts.{part_of};
+ghost use Rattle.upd_rows.specs.Tables.{AreByKey, AreRead, committed, mark_at, run_at, settled_to};
 
 use std::alloc::Global;
 use upd_change::{Change, RunRow};
-use upd_core::{Library, Serial, States};
+use upd_core::{Actives, CardRef, Library, Serial, States};
 use upd_text::Fault;
 
 /// Tables of rows that are changed by commits, each of which is all or nothing, also where the machine stops.
 ///
-/// Each call but `failures` can answer NoMemory, at 0, or Store. Nothing is changed then. A failure may shut the store:
-/// from then on each call answers Store, and what it keeps is found when it is opened again.
+/// Each call but `failures` and `decks_read` can answer NoMemory, at 0, or Store. Nothing is changed then. A failure
+/// may shut the store: from then on each call answers Store, and what it keeps is found when it is opened again.
 pub trait RowStore {
     // What is in the file, or in what stands for one.
     ghost Image: { Type 0 };
@@ -41,6 +43,9 @@ pub trait RowStore {
     // How often it has failed.
     ghost failures_of: { Self → ℕ };
 
+    // How many decks loads have brought.
+    ghost reads_of: { Self → ℕ };
+
     // What a call met, outside of this program, that answers Store: nothing else may answer so.
     ghost caused: { Self → Self → Type 0 };
 
@@ -53,6 +58,7 @@ pub trait RowStore {
         ensures lost { IfErr result IsLost }
         ensures failed { IfErr result (λ e. e.kind ≡ Store
             → MoreFailures (failures_of self.old) (failures_of self.new)) }
+        ensures reads { reads_of self.new ≡ reads_after result (reads_of self.old) }
         ensures cause { IfErr result (λ e. e.kind ≡ Store → caused self.old self.new) };
 
     /// The directory, `YANK$$$` and those of these decks that are held; the rest counts what the others have.
@@ -64,17 +70,46 @@ pub trait RowStore {
         ensures lost { IfErr result IsLost }
         ensures failed { IfErr result (λ e. e.kind ≡ Store
             → MoreFailures (failures_of self.old) (failures_of self.new)) }
+        ensures reads { reads_of self.new ≡ reads_after result (reads_of self.old) }
         ensures cause { IfErr result (λ e. e.kind ≡ Store → caused self.old self.new) };
 
-    /// The status of each card and the count of each target that a live yank card has.
-    fn load_states(&mut self, alloc: Global) -> Result<States, Fault>
-        ensures found { is_honest self.new → IfOk result (λ found. (rows : Rows) → shows (image self.old) rows
-            → AreRead rows found) }
+    /// The decks other than `YANK$$$` that hold one of these cards, by age, each once.
+    fn decks_of(&mut self, alloc: Global, cards: &[CardRef]) -> Result<Vec<Serial>, Fault>
+        ensures found { is_honest self.new → IfOk result (λ found. (l : LibraryView) → IsSound l → IsWhole l
+            → (rows : Rows) → shows (image self.old) rows → Shows rows l → found.items ≡ decks_with cards.now l) }
         ensures open { is_honest self.new → OnOk result (is_open self.new) }
         ensures same { Keeps is_honest is_open image shows may_leave failures_of self.old self.new }
         ensures lost { IfErr result IsLost }
         ensures failed { IfErr result (λ e. e.kind ≡ Store
             → MoreFailures (failures_of self.old) (failures_of self.new)) }
+        ensures unread { reads_of self.new ≡ reads_of self.old }
+        ensures cause { IfErr result (λ e. e.kind ≡ Store → caused self.old self.new) };
+
+    /// The status of each card and the count of each target that a live yank card has, by the keys of their tables.
+    fn load_states(&mut self, alloc: Global) -> Result<States, Fault>
+        ensures found { is_honest self.new → IfOk result (λ found. (rows : Rows) → shows (image self.old) rows
+            → AreRead rows found) }
+        ensures order { is_honest self.new → IfOk result (λ found. (rows : Rows) → shows (image self.old) rows
+            → AreByKey found) }
+        ensures open { is_honest self.new → OnOk result (is_open self.new) }
+        ensures same { Keeps is_honest is_open image shows may_leave failures_of self.old self.new }
+        ensures lost { IfErr result IsLost }
+        ensures failed { IfErr result (λ e. e.kind ≡ Store
+            → MoreFailures (failures_of self.old) (failures_of self.new)) }
+        ensures unread { reads_of self.new ≡ reads_of self.old }
+        ensures cause { IfErr result (λ e. e.kind ≡ Store → caused self.old self.new) };
+
+    /// The directory, and the active cards of each deck other than `YANK$$$` by the table of statuses.
+    fn load_active(&mut self, alloc: Global) -> Result<Actives, Fault>
+        ensures found { is_honest self.new → IfOk result (λ found. (l : LibraryView) → IsSound l → IsWhole l
+            → (rows : Rows) → shows (image self.old) rows → Shows rows l → ShowsStates rows l
+            → found ≡ actives_of l) }
+        ensures open { is_honest self.new → OnOk result (is_open self.new) }
+        ensures same { Keeps is_honest is_open image shows may_leave failures_of self.old self.new }
+        ensures lost { IfErr result IsLost }
+        ensures failed { IfErr result (λ e. e.kind ≡ Store
+            → MoreFailures (failures_of self.old) (failures_of self.new)) }
+        ensures unread { reads_of self.new ≡ reads_of self.old }
         ensures cause { IfErr result (λ e. e.kind ≡ Store → caused self.old self.new) };
 
     /// The run that is kept under a key.
@@ -86,6 +121,7 @@ pub trait RowStore {
         ensures lost { IfErr result IsLost }
         ensures failed { IfErr result (λ e. e.kind ≡ Store
             → MoreFailures (failures_of self.old) (failures_of self.new)) }
+        ensures unread { reads_of self.new ≡ reads_of self.old }
         ensures cause { IfErr result (λ e. e.kind ≡ Store → caused self.old self.new) };
 
     /// The number up to which a site has settled, 0 where it never did.
@@ -97,6 +133,7 @@ pub trait RowStore {
         ensures lost { IfErr result IsLost }
         ensures failed { IfErr result (λ e. e.kind ≡ Store
             → MoreFailures (failures_of self.old) (failures_of self.new)) }
+        ensures unread { reads_of self.new ≡ reads_of self.old }
         ensures cause { IfErr result (λ e. e.kind ≡ Store → caused self.old self.new) };
 
     /// Carries out row changes and keeps the run that brought them, in one transaction. The changes have to fit the
@@ -114,6 +151,7 @@ pub trait RowStore {
         ensures lost { IfErr result IsLost }
         ensures failed { IfErr result (λ e. e.kind ≡ Store
             → MoreFailures (failures_of self.old) (failures_of self.new)) }
+        ensures unread { reads_of self.new ≡ reads_of self.old }
         ensures cause { IfErr result (λ e. e.kind ≡ Store → caused self.old self.new) };
 
     /// Settles a site's runs up to a number, and answers the site's mark afterwards.
@@ -128,11 +166,16 @@ pub trait RowStore {
         ensures lost { IfErr result IsLost }
         ensures failed { IfErr result (λ e. e.kind ≡ Store
             → MoreFailures (failures_of self.old) (failures_of self.new)) }
+        ensures unread { reads_of self.new ≡ reads_of self.old }
         ensures cause { IfErr result (λ e. e.kind ≡ Store → caused self.old self.new) };
 
     /// How often the store has failed; it stops at the last value.
     fn failures(&self) -> u64
         ensures { result ≡ failures_of self.now };
+
+    /// How many decks `load` and `load_decks` have brought, without `YANK$$$`; it stops at the last value.
+    fn decks_read(&self) -> u64
+        ensures { result ≡ reads_of self.now };
 
     // An image shows one set of tables, at most.
     ghost one: { (i : Image) (a b : Rows) → shows i a → shows i b → a ≡ b };

@@ -1,7 +1,13 @@
 -- What the tests of the texts say of the rows of records.
-use Rattle.std.proofs.Common.{◌≡◌, ℕ, ◌==◌, nat_eq, Bool, ◌&&◌, List, [], ◌∷◌, refl, ap₂, ◌∙◌, arith, bytes_eq}
+use Rattle.std.proofs.Common.{◌≡◌, ℕ, ◌==◌, nat_eq, Bool, ◌&&◌, List, [], ◌∷◌, refl, ap₂, ◌∙◌, arith, bytes_eq, pos, int_cmp, is_eq, true, false, ◌||◌, Some, ap}
 use Rattle.std.specs.List.{list_all}
 use Rattle.std.proofs.lemmas.Bool.Decides.{nat_tests}
+use Rattle.std.proofs.lemmas.Int.{ints}
+use Rattle.sqlite_value.specs.declared.keys.Collation.TheVariants.{Binary}
+use Rattle.sqlite_value.proofs.OrderLemmas.{value_cmp-Int}
+use Rattle.sqlite_sql.specs.declared.ops.BinaryOp.TheVariants.{Compare, Or}
+use Rattle.sqlite_sql.specs.declared.ops.CompareOp.TheVariants.{Eq}
+use Rattle.sqlite_sql.specs.Ops.{binary, from_truth, is_true}
 use Rattle.sqlite_value.specs.declared.value.Value.TheVariants.{Null, Text}
 use Rattle.sqlite_value.specs.Order.{Row}
 use Rattle.sqlite_sql.specs.Term.{Term, holds}
@@ -14,7 +20,7 @@ use Rattle.upd_rows.specs.Tables.{is_run, is_settled, is_mark_of}
 use Rattle.upd_tables.proofs.Tests.{eq_text, eq_nat, le_nat, one_test, two_tests, three_tests}
 use Rattle.upd_sql.specs.Encoded.{num, target_code, card_row, entry_row, target_row, run_row, state_row, count_row, mark_row}
 use Rattle.upd_sql.proofs.Texts.{delete_card_tests, delete_entries_tests, delete_targets_tests, delete_state_tests, delete_count_tests, delete_mark_tests}
-use Rattle.upd_sql.proofs.Texts.{delete_runs_tests, run_of_key_tests, mark_of_site_tests}
+use Rattle.upd_sql.proofs.Texts.{cards_of_deck_tests, delete_runs_tests, run_of_key_tests, mark_of_site_tests}
 
 bytes_flip : (a b : List ℕ) → bytes_eq a b ≡ bytes_eq b a
 bytes_flip [] [] = refl
@@ -25,7 +31,7 @@ bytes_flip (x ∷ a) (y ∷ b) = ap₂ ◌&&◌ (nat_flip x y) (bytes_flip a b)
     nat_flip : (m n : ℕ) → nat_eq m n ≡ nat_eq n m
     nat_flip m n = grind (arith, nat_tests)
 
-nat_flip : (m n : ℕ) → (m == n) ≡ (n == m)
+pub nat_flip : (m n : ℕ) → (m == n) ≡ (n == m)
 nat_flip m n = grind (arith, nat_tests)
 
 -- the parameters that name a card
@@ -74,3 +80,24 @@ run_found site number r = two_tests (eq_text r.site site) (eq_nat r.number numbe
 
 pub run_settled : (site : List ℕ) (number : ℕ) (r : RunView) → passes (Text site ∷ num number ∷ []) delete_runs_tests (run_row r) ≡ is_settled site number r
 run_settled site number r = two_tests (eq_text r.site site) (le_nat r.number number)
+
+compared : (a b : ℕ) → binary (Compare Eq Binary) (num a) (num b) ≡ from_truth (Some (a == b))
+unfolding binary
+compared a b = ap (λ o. from_truth (Some (is_eq o))) (value_cmp-Int (pos a) (pos b)) ∙ ap (λ t. from_truth (Some t)) (by a b)
+  where
+    by : (m n : ℕ) → is_eq (int_cmp (pos m) (pos n)) ≡ (m == n)
+    by m n = grind (arith, ints, nat_tests)
+
+one_of : (p q : Bool) → is_true (binary Or (from_truth (Some p)) (from_truth (Some q))) ≡ (p || q)
+unfolding binary
+one_of true true = refl
+one_of true false = refl
+one_of false true = refl
+one_of false false = refl
+
+-- a card stands in `YANK$$$` or in a deck
+pub in_deck : (deck : ℕ) (r : CardRow) → passes (num deck ∷ []) cards_of_deck_tests (card_row r) ≡ ((r.deck == 0) || (r.deck == deck))
+in_deck deck r = one_test (ap₂ (λ u v. is_true (binary Or u v)) (compared r.deck 0) (compared r.deck deck) ∙ one_of (r.deck == 0) (r.deck == deck))
+
+pub ref_flip : (a b : CardRef) → same_ref a b ≡ same_ref b a
+ref_flip a b = ap₂ ◌&&◌ (bytes_flip a.name b.name) (nat_flip a.number b.number)

@@ -2,12 +2,14 @@ pub mod MakingLemmas
 pub mod Texts
 pub mod Bare
 pub mod Typed
+pub mod Listed
 pub mod Casts
 pub mod Conditions
 pub mod Effects
 pub mod Finds
 pub mod SchemaLemmas
 pub mod WholeLemmas
+pub mod PartLemmas
 pub mod Turns
 pub mod CommitLemmas
 pub mod MarkLemmas

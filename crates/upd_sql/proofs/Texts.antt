@@ -6,14 +6,14 @@ use Rattle.sqlite_value.specs.declared.value.Value.TheVariants.{Null, Int, Text}
 use Rattle.sqlite_value.specs.Keys.{ascending}
 use Rattle.sqlite_sql.specs.declared.ops.ArithOp.TheVariants.{Add, Sub}
 use Rattle.sqlite_sql.specs.declared.ops.CompareOp.TheVariants.{Eq, Ge, Le}
-use Rattle.sqlite_sql.specs.declared.ops.BinaryOp.TheVariants.{Arith, Compare}
+use Rattle.sqlite_sql.specs.declared.ops.BinaryOp.TheVariants.{Arith, Compare, Or}
 use Rattle.sqlite_sql.specs.Term.{Term, lit, col, op2}
 use Rattle.sqlite_schema.specs.declared.command.Command.TheVariants.{Insert, Delete, Update, Select}
 use Rattle.sqlite_schema.specs.declared.command.Source.TheVariants.{Values}
 use Rattle.sqlite_tied.specs.Compute.{everything}
 use Rattle.sqlite.specs.Listing.{understood, reads_listing}
 use Rattle.sqlite.proofs.Callers.{IsPlain, command_of}
-use Rattle.upd_tables.specs.Keyed.{plain_query}
+use Rattle.upd_tables.specs.Keyed.{plain_query, row_count}
 use Rattle.upd_sql.specs.Schema.{library_schema}
 
 -- ---- one row more
@@ -494,3 +494,98 @@ mark_of_site_plain = (refl, refl)
 pub mark_of_site_unlisted : reads_listing library_schema mark_of_site ≡ false
 unfolding everything
 mark_of_site_unlisted = refl
+
+-- ---- rows of some cards
+
+abbrev pub deck_of_card : List ℕ
+deck_of_card = codes "SELECT deck FROM cards WHERE ident = ?1 AND num = ?2"
+
+abbrev pub deck_of_card_shown : List Term
+deck_of_card_shown = col 1 3 ∷ []
+
+pub deck_of_card_is : command_of (understood library_schema deck_of_card)
+    ≡ Select (record { lets = []; body = plain_query 4 delete_card_tests deck_of_card_shown [] }) (codes "deck" ∷ [])
+unfolding understood everything
+deck_of_card_is = refl
+
+pub deck_of_card_plain : IsPlain (understood library_schema deck_of_card)
+unfolding understood everything
+deck_of_card_plain = (refl, refl)
+
+pub deck_of_card_unlisted : reads_listing library_schema deck_of_card ≡ false
+unfolding everything
+deck_of_card_unlisted = refl
+
+abbrev pub cards_of_deck : List ℕ
+cards_of_deck = codes "SELECT ident, num, deck, pos, body FROM cards WHERE deck = 0 OR deck = ?1 ORDER BY deck, pos"
+
+abbrev pub cards_of_deck_tests : List Term
+cards_of_deck_tests = op2 Or (op2 (Compare Eq Binary) (col 1 3) (lit (Int (pos 0)))) (op2 (Compare Eq Binary) (col 1 3) (col 0 0)) ∷ []
+
+pub cards_of_deck_is : command_of (understood library_schema cards_of_deck)
+    ≡ Select (record { lets = []; body = plain_query 4 cards_of_deck_tests all_cards_shown all_cards_order })
+    (codes "ident" ∷ codes "num" ∷ codes "deck" ∷ codes "pos" ∷ codes "body" ∷ [])
+unfolding understood everything
+cards_of_deck_is = refl
+
+pub cards_of_deck_plain : IsPlain (understood library_schema cards_of_deck)
+unfolding understood everything
+cards_of_deck_plain = (refl, refl)
+
+pub cards_of_deck_unlisted : reads_listing library_schema cards_of_deck ≡ false
+unfolding everything
+cards_of_deck_unlisted = refl
+
+abbrev pub entries_of_card : List ℕ
+entries_of_card = codes "SELECT ident, num, ord, who, active FROM entries WHERE ident = ?1 AND num = ?2 ORDER BY ord"
+
+abbrev pub entries_of_card_order : List (Term × Key)
+entries_of_card_order = (col 1 3, ascending Binary) ∷ []
+
+pub entries_of_card_is : command_of (understood library_schema entries_of_card)
+    ≡ Select (record { lets = []; body = plain_query 6 delete_entries_tests all_entries_shown entries_of_card_order })
+    (codes "ident" ∷ codes "num" ∷ codes "ord" ∷ codes "who" ∷ codes "active" ∷ [])
+unfolding understood everything
+entries_of_card_is = refl
+
+pub entries_of_card_plain : IsPlain (understood library_schema entries_of_card)
+unfolding understood everything
+entries_of_card_plain = (refl, refl)
+
+pub entries_of_card_unlisted : reads_listing library_schema entries_of_card ≡ false
+unfolding everything
+entries_of_card_unlisted = refl
+
+-- ---- how many rows there are
+
+abbrev pub count_cards : List ℕ
+count_cards = codes "SELECT count(*) FROM cards"
+
+pub count_cards_is : command_of (understood library_schema count_cards)
+    ≡ Select (record { lets = []; body = row_count 4 }) (codes "count(*)" ∷ [])
+unfolding understood everything
+count_cards_is = refl
+
+pub count_cards_plain : IsPlain (understood library_schema count_cards)
+unfolding understood everything
+count_cards_plain = (refl, refl)
+
+pub count_cards_unlisted : reads_listing library_schema count_cards ≡ false
+unfolding everything
+count_cards_unlisted = refl
+
+abbrev pub count_entries : List ℕ
+count_entries = codes "SELECT count(*) FROM entries"
+
+pub count_entries_is : command_of (understood library_schema count_entries)
+    ≡ Select (record { lets = []; body = row_count 6 }) (codes "count(*)" ∷ [])
+unfolding understood everything
+count_entries_is = refl
+
+pub count_entries_plain : IsPlain (understood library_schema count_entries)
+unfolding understood everything
+count_entries_plain = (refl, refl)
+
+pub count_entries_unlisted : reads_listing library_schema count_entries ≡ false
+unfolding everything
+count_entries_unlisted = refl

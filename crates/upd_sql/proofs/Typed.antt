@@ -1,9 +1,8 @@
 -- The same statements on lists of records, each of which is kept as a row.
 use Rattle.std.proofs.Common.{OnOk, IsErr, inl, arith, ◌≡◌, ℕ, ◌/◌, ◌-◌, ◌^◌, nat_le, unwrap_or, None, Bool, not, if◌then◌else◌, List, [], ◌∷◌, ◌++◌, map}
-use Rattle.std.proofs.Common.{length, filter, slice_get, Some, Ok, refl, sym, ap, subst, ◌∙◌, IfOk, IsTrue, true, false, Result, Err, IsPermutation}
+use Rattle.std.proofs.Common.{length, filter, slice_get, Some, Ok, refl, sym, ap, subst, ◌∙◌, IfOk, IsTrue, true, false, Result, Err}
 use Rattle.std.specs.List.{AllByRecursion, list_all}
 use Rattle.std.proofs.lemmas.List.{map-append}
-use Rattle.sqlite_value.specs.declared.keys.Key.{Key}
 use Rattle.sqlite_value.specs.declared.value.Value.TheVariants.{Null}
 use Rattle.sqlite_value.specs.Order.{Row}
 use Rattle.sqlite_trees.specs.Tree.{Trees}
@@ -25,15 +24,15 @@ use Rattle.upd_change.specs.Rows.{Rows}
 use Rattle.upd_tables.specs.Keyed.{keyed, plain_query, row_order}
 use Rattle.upd_tables.specs.Stored.{Holds, rows_at, with_rows}
 use Rattle.upd_tables.specs.Steps.{Steps, Ran, Makes}
-use Rattle.upd_tables.proofs.Frames.{is_lone, showing}
-use Rattle.upd_tables.proofs.Shapes.{inserts, deletes, updates, selects, reads_in_order}
+use Rattle.upd_tables.proofs.Frames.{is_lone}
+use Rattle.upd_tables.proofs.Shapes.{inserts, deletes, updates, reads_in_order}
 use Rattle.upd_tables.proofs.Answers.{shown_same, shown_was_open}
 use Rattle.upd_sql.specs.Schema.{library_schema}
 use Rattle.upd_sql.specs.Stands.{Stands, AnyTables}
 use Rattle.upd_tables.proofs.Chains.{makes_then, makes_not, makes_as}
 use Rattle.upd_sql.proofs.Bare.{is_bare, bare_tests, bare_values}
 
-own : (db : Trees) (t : ℕ) → overlay db [] t ≡ db t
+pub own : (db : Trees) (t : ℕ) → overlay db [] t ≡ db t
 own db t = elim (nat_le (2 ^ 31) t) as (λ b. unwrap_or (if b then slice_get [] (t - 2 ^ 31) else None) (db t) ≡ db t) [ true ↦ refl | false ↦ refl ]
 
 mapped_each : {A B : Type 0} (f g : A → B) (xs : List A) → AllByRecursion (λ x. f x ≡ g x) xs → map f xs ≡ map g xs
@@ -86,29 +85,6 @@ module _ (k tree : ℕ) (name : List ℕ) (columns : List Column) (key : List �
       subst (λ rs. Holds library_schema (with_rows k rs all) new.now) rows
       (updates library_schema k tree name columns key at alone free old new all _ params count h tests news p f (own old.now.trees tree)
       (λ r. bare_tests params r tests bare) (λ r. bare_values params r news bare_news) w)
-
--- what a query shows of the records that pass
-pub chooses : (k tree : ℕ) (alone : is_lone tree k library_schema.tables ≡ true) {X : Type 0} (row : X → Row) (all : List (List Row)) (xs : List X)
-    (are : rows_at k all ≡ map row xs)
-    (sql : List ℕ) (params : Row) (plain : IsPlain (understood library_schema sql)) (unlisted : reads_listing library_schema sql ≡ false) (old new : State)
-    (rows : List Row)
-    (shown : Shown sql params old new rows) (h : Holds library_schema all old.now) (tests project : List Term) (order : List (Term × Key))
-    (names : List (List ℕ))
-    → command_of (understood library_schema sql) ≡ Select (record { lets = []; body = plain_query tree tests project order }) names
-    → list_all is_bare tests ≡ true → list_all is_bare project ≡ true
-    → (q : X → Bool) → ((x : X) → list_all (holds (params ∷ (Null ∷ row x) ∷ [])) tests ≡ q x)
-    → ((x : X) → eval_all project (params ∷ (Null ∷ row x) ∷ []) ≡ row x)
-    → IsPermutation (map row (filter q xs)) rows
-chooses k tree alone row all xs are sql params plain unlisted old new rows shown h tests project order names is bare bare_shown q means whole =
-    let reads = reads_as sql params old new library_schema h.schema_is _ is plain unlisted rows shown in
-    let p = λ (v : Row). list_all (holds (params ∷ (Null ∷ v) ∷ [])) tests in
-    let f = λ (v : Row). eval_all project (params ∷ (Null ∷ v) ∷ []) in
-    let found = selects library_schema k tree alone old.now all params (showing library_schema all old.now h) tests project order p f names
-    (own old.now.trees tree) (λ r. bare_tests params r tests bare) (λ r. bare_values params r project bare_shown) rows reads in
-    let passing : map f (filter p (rows_at k all)) ≡ map row (filter q xs) =
-    ap (λ rs. map f (filter p rs)) are ∙ ap (map f) (filter-map p row xs ∙ ap (map row) (filter_same _ _ means xs)) ∙ map-map f row _
-    ∙ Rattle.sqlite_keyed.proofs.ListLemmas.map_same _ row whole _ in
-    subst (λ l. IsPermutation l rows) passing found
 
 -- what a query by rowid shows of the records that pass: their rows, in the order in which they came
 pub reads_exactly : (k tree : ℕ) (alone : is_lone tree k library_schema.tables ≡ true) {X : Type 0} (row : X → Row) (all : List (List Row)) (xs : List X)

@@ -1,27 +1,36 @@
 -- Reading whole tables: the rows of an answer are the table's, in whatever order, and each is read as the record that it is kept as.
-use Rattle.std.proofs.Common.{◌≡◌, ℕ, ◌+◌, ◌<◌, Bool, true, List, [], ◌∷◌, ◌++◌, map, filter, take, length, get_or, Result, Ok, Err, refl, sym, ap, subst, ◌∙◌}
-use Rattle.std.proofs.Common.{arith, IsPermutation, IsErr, IfOk}
+use Rattle.std.proofs.Common.{◌≡◌, ℕ, ◌+◌, ◌<◌, Bool, true, List, [], ◌∷◌, ◌++◌, map, filter, take, length, get_or, Result, Ok, Err, refl, sym, ap, ap₂, subst, ◌∙◌}
+use Rattle.std.proofs.Common.{arith, int_cmp, nat_cmp, pos, Ordering, Less, Equal, Greater, IsErr, IfOk}
+use Rattle.std.specs.Ordering.{ordering_then}
+use Rattle.std.specs.Cmp.Lexicographic.{slice_cmp}
+use Rattle.std.proofs.lemmas.Bool.Decides.{nat_tests}
+use Rattle.std.proofs.lemmas.Int.{ints}
 use Rattle.std.proofs.lemmas.List.{take_more, get_or-map, length-map}
-use Rattle.std.specs.List.{count_by, AllByRecursion}
-use Rattle.sqlite_value.specs.declared.value.Value.TheVariants.{Null}
-use Rattle.sqlite_value.specs.Order.{Row}
-use Rattle.sqlite_sql.specs.Term.{Term, eval_all}
+use Rattle.sqlite_value.specs.declared.value.Value.TheVariants.{Null, Text}
+use Rattle.sqlite_value.specs.Order.{Row, value_cmp}
+use Rattle.sqlite_value.proofs.OrderLemmas.{then-Equal, value_cmp-Int, value_cmp-Text}
+use Rattle.sqlite_sql.specs.Query.{sort_cmp}
+use Rattle.sqlite_sql.specs.Term.{eval_all}
 use Rattle.sqlite.specs.declared.error.Error.{Error}
 use Rattle.sqlite.specs.Effect.{Database}
 use Rattle.sqlite.specs.State.{State, HasCleanDisk, Shown}
-use Rattle.sqlite_keyed.proofs.ListLemmas.{along_permutation, map-map}
+use Rattle.sqlite_keyed.proofs.ListLemmas.{map-map}
+use Rattle.upd_text.specs.declared.card_ref.CardRef.{CardRef}
+use Rattle.upd_text.specs.Order.{by_name}
+use Rattle.upd_core.specs.Order.{target_key}
+use Rattle.upd_core.specs.declared.ident.Ident.{Ident}
 use Rattle.upd_core.specs.declared.target.Target.{Target}
 use Rattle.upd_core.specs.declared.target.Target.TheVariants.{Set, SetIn, Deck}
-use Rattle.upd_change.specs.Rows.{Rows, IsSame, TargetRow}
-use Rattle.upd_change.proofs.CountLemmas.{count_cons, same_of, same_trans, same_append}
+use Rattle.upd_change.specs.Rows.{CardRow, EntryRow, Rows, StateRow, TargetRow}
 use Rattle.upd_rows.specs.Tables.{state_pair, count_pair}
 use Rattle.upd_tables.proofs.Chains.{clean_before, steps_then}
 use Rattle.upd_tables.specs.Steps.{Steps}
 use Rattle.upd_sql.specs.Schema.{library_schema}
+use Rattle.upd_sql.specs.Listed.{AreInOrder, by_age, by_count, by_entry, by_place, by_state, by_state_row, by_target}
 use Rattle.upd_sql.specs.Commits.{Looks, WasOpen, LeavesTables}
-use Rattle.upd_sql.specs.Encoded.{ident_row, card_row, entry_row, target_row, state_row, count_row, kept_state, kept_count, stored}
+use Rattle.upd_sql.specs.Encoded.{num, target_code, ident_row, card_row, entry_row, target_row, state_row, kept_state, kept_count, stored}
 use Rattle.upd_sql.specs.Stands.{Stands}
-use Rattle.upd_sql.proofs.Typed.{chooses}
+use Rattle.upd_sql.proofs.Listed.{lists, ordered_as}
 use Rattle.upd_sql.proofs.Texts as text
 
 -- ---- rows one after another
@@ -36,44 +45,7 @@ read_more row_of rows row i x found next within is reads pushed before kept are 
     let own : row ≡ row_of (get_or kept i x) = is ∙ ap (λ (rs : List Row). get_or rs i row) are ∙ get_or-map row_of kept i x row inside in
     pushed ∙ ap (λ l. l ++ x ∷ []) (before kept are) ∙ ap (λ y. take i kept ++ y ∷ []) (reads (get_or kept i x) own) ∙ sym (take_more kept i x inside)
 
-same_cons : {X : Type 0} (x : X) (xs ys : List X) → IsSame xs ys → IsSame (x ∷ xs) (x ∷ ys)
-same_cons x xs ys h = same_append {xs = x ∷ []} {ys = xs} {us = x ∷ []} {vs = ys} (same_of (x ∷ []) (x ∷ []) refl) h
-
-same_turn : {X : Type 0} (x y : X) (xs : List X) → IsSame (x ∷ y ∷ xs) (y ∷ x ∷ xs)
-same_turn x y xs = record {
-  passes = λ test. omega (arith, count_cons test x (y ∷ xs), count_cons test y xs, count_cons test y (x ∷ xs), count_cons test x xs);
-}
-
-module _ {X Y : Type 0} (f : X → Y) where
-  abbrev Comes : List Y → List Y → Type 0
-  Comes ys zs = (xs : List X) → ys ≡ map f xs → (us : List X) × (zs ≡ map f us) × IsSame us xs
-
-  comes_under : (y : Y) (ys zs : List Y) → Comes ys zs → Comes (y ∷ ys) (y ∷ zs)
-  comes_under y ys zs h [] e = absurd (cc)
-  comes_under y ys zs h (x ∷ xs) e =
-      let head : y ≡ f x = cc in
-      let tail : ys ≡ map f xs = cc in
-      let r = h xs tail in
-      (x ∷ r.0, ap (λ l. y ∷ l) r.1 ∙ ap (λ z. z ∷ map f r.0) head, same_cons x r.0 xs r.2)
-
-  comes_turned : (y z : Y) (ys : List Y) → Comes (y ∷ z ∷ ys) (z ∷ y ∷ ys)
-  comes_turned y z ys [] e = absurd (cc)
-  comes_turned y z ys (x ∷ []) e = absurd (cc)
-  comes_turned y z ys (x ∷ w ∷ xs) e =
-      let first : y ≡ f x = cc in
-      let second : z ≡ f w = cc in
-      let tail : ys ≡ map f xs = cc in
-      (w ∷ x ∷ xs, ap (λ l. z ∷ y ∷ l) tail ∙ ap (λ v. z ∷ v ∷ map f xs) first ∙ ap (λ v. v ∷ f x ∷ map f xs) second, same_turn w x xs)
-
-  -- what comes from a list's images in another order is the images of the same elements
-  pub unmapped : (xs : List X) (zs : List Y) → IsPermutation (map f xs) zs → (us : List X) × (zs ≡ map f us) × IsSame us xs
-  unmapped xs zs p =
-      along_permutation Comes (λ ys us e. (us, e, same_of us us refl)) comes_under comes_turned
-      (λ ys zs vs h k us e. let r = h us e in let q = k r.0 r.1 in (q.0, q.1, same_trans q.2 r.2)) (map f xs) zs p xs refl
-
--- ---- what each text answers
-
-all_pass : {X : Type 0} (xs : List X) → filter (λ _. true) xs ≡ xs
+pub all_pass : {X : Type 0} (xs : List X) → filter (λ _. true) xs ≡ xs
 all_pass [] = refl
 all_pass (x ∷ xs) = ap (λ l. x ∷ l) (all_pass xs)
 
@@ -93,44 +65,102 @@ count_whole c = by c.0
     by (SetIn a d) = refl
     by (Deck d) = refl
 
+-- ---- the orders of the texts
+
+pub nat_order : (m n : ℕ) → value_cmp (num m) (num n) ≡ nat_cmp m n
+nat_order m n = value_cmp-Int (pos m) (pos n) ∙ by
+  where
+    by : int_cmp (pos m) (pos n) ≡ nat_cmp m n
+    by = grind (arith, ints, nat_tests)
+
+pub last_order : (m n : ℕ) → ordering_then (value_cmp (num m) (num n)) Equal ≡ nat_cmp m n
+last_order m n = then-Equal _ ∙ nat_order m n
+
+then_assoc : (o p q : Ordering) → ordering_then o (ordering_then p q) ≡ ordering_then (ordering_then o p) q
+then_assoc Less p q = refl
+then_assoc Equal p q = refl
+then_assoc Greater p q = refl
+
+idents_order : (a b : Ident) → sort_cmp text.all_idents_order ([] ∷ (Null ∷ ident_row a) ∷ []) ([] ∷ (Null ∷ ident_row b) ∷ []) ≡ by_age a b
+idents_order a b = last_order a.age b.age
+
+pub cards_order : (a b : CardRow) → sort_cmp text.all_cards_order ([] ∷ (Null ∷ card_row a) ∷ []) ([] ∷ (Null ∷ card_row b) ∷ []) ≡ by_place a b
+cards_order a b = ap₂ ordering_then (nat_order a.deck b.deck) (last_order a.pos b.pos)
+
+-- columns that name a card, and a number
+name_order : (a b : CardRef) (m n : ℕ) → ordering_then (value_cmp (Text a.name) (Text b.name))
+    (ordering_then (value_cmp (num a.number) (num b.number)) (ordering_then (value_cmp (num m) (num n)) Equal)) ≡ ordering_then (by_name a b) (nat_cmp m n)
+name_order a b m n =
+    ap₂ ordering_then (value_cmp-Text a.name b.name) (ap₂ ordering_then (nat_order a.number b.number) (last_order m n))
+    ∙ then_assoc (slice_cmp nat_cmp a.name b.name) (nat_cmp a.number b.number) (nat_cmp m n)
+
+entries_order : (a b : EntryRow) → sort_cmp text.all_entries_order ([] ∷ (Null ∷ entry_row a) ∷ []) ([] ∷ (Null ∷ entry_row b) ∷ []) ≡ by_entry a b
+entries_order a b = name_order a.card b.card a.ord b.ord
+
+targets_order : (a b : TargetRow) → sort_cmp text.all_targets_order ([] ∷ (Null ∷ target_row a) ∷ []) ([] ∷ (Null ∷ target_row b) ∷ []) ≡ by_target a b
+targets_order a b = name_order a.card b.card a.ord b.ord
+
+states_order : (a b : CardRef × Bool) → sort_cmp text.all_states_order ([] ∷ (Null ∷ kept_state a) ∷ []) ([] ∷ (Null ∷ kept_state b) ∷ []) ≡ by_state a b
+states_order a b = ap₂ ordering_then (value_cmp-Text a.0.name b.0.name) (last_order a.0.number b.0.number)
+
+state_rows_order : (a b : StateRow) → sort_cmp text.all_states_order ([] ∷ (Null ∷ state_row a) ∷ []) ([] ∷ (Null ∷ state_row b) ∷ []) ≡ by_state_row a b
+state_rows_order a b = ap₂ ordering_then (value_cmp-Text a.card.name b.card.name) (last_order a.card.number b.card.number)
+
+key_codes : (t : Target) → target_code t ≡ num (target_key t).kind ∷ num (target_key t).age ∷ num (target_key t).deck ∷ []
+key_codes (Set a) = refl
+key_codes (SetIn a d) = refl
+key_codes (Deck d) = refl
+
+counts_order : (a b : Target × ℕ) → sort_cmp text.all_counts_order ([] ∷ (Null ∷ kept_count a) ∷ []) ([] ∷ (Null ∷ kept_count b) ∷ []) ≡ by_count a b
+counts_order a b =
+    ap₂ (λ (u v : Row). sort_cmp text.all_counts_order ([] ∷ (Null ∷ u ++ num a.1 ∷ []) ∷ []) ([] ∷ (Null ∷ v ++ num b.1 ∷ []) ∷ []))
+    (key_codes a.0) (key_codes b.0)
+    ∙ ap₂ ordering_then (nat_order _ _) (ap₂ ordering_then (nat_order _ _) (last_order _ _))
+
+-- ---- what each text answers
+
 module _ (old new : State) (it : Rows) (h : Stands it old.now) (rows : List Row) where
-  pub idents_listed : Shown text.all_idents [] old new rows → IsPermutation (map ident_row it.idents) rows
+  pub idents_listed : Shown text.all_idents [] old new rows → (us : List (Ident)) × (rows ≡ map ident_row us) × AreInOrder by_age (it.idents) us
   idents_listed shown =
-      subst (λ xs. IsPermutation (map ident_row xs) rows) (all_pass it.idents)
-      (chooses 1 2 refl ident_row (stored it) it.idents refl text.all_idents [] text.all_idents_plain text.all_idents_unlisted old new rows shown h
-      text.all_idents_tests text.all_idents_shown text.all_idents_order _ text.all_idents_is refl refl (λ _. true) (λ x. refl) (λ x. refl))
+      let found = lists 1 2 refl ident_row ident_row (stored it) (it.idents) refl text.all_idents [] text.all_idents_plain text.all_idents_unlisted old new rows shown h
+      text.all_idents_tests text.all_idents_shown text.all_idents_order _ text.all_idents_is refl refl refl (λ _. true) (λ x. refl) (λ x. refl) in
+      (found.0, found.1, ordered_as _ by_age _ (it.idents) found.0 idents_order (all_pass (it.idents)) found.2)
 
-  pub cards_listed : Shown text.all_cards [] old new rows → IsPermutation (map card_row it.cards) rows
+  pub cards_listed : Shown text.all_cards [] old new rows → (us : List (CardRow)) × (rows ≡ map card_row us) × AreInOrder by_place (it.cards) us
   cards_listed shown =
-      subst (λ xs. IsPermutation (map card_row xs) rows) (all_pass it.cards)
-      (chooses 2 4 refl card_row (stored it) it.cards refl text.all_cards [] text.all_cards_plain text.all_cards_unlisted old new rows shown h
-      text.all_cards_tests text.all_cards_shown text.all_cards_order _ text.all_cards_is refl refl (λ _. true) (λ x. refl) (λ x. refl))
+      let found = lists 2 4 refl card_row card_row (stored it) (it.cards) refl text.all_cards [] text.all_cards_plain text.all_cards_unlisted old new rows shown h
+      text.all_cards_tests text.all_cards_shown text.all_cards_order _ text.all_cards_is refl refl refl (λ _. true) (λ x. refl) (λ x. refl) in
+      (found.0, found.1, ordered_as _ by_place _ (it.cards) found.0 cards_order (all_pass (it.cards)) found.2)
 
-  pub entries_listed : Shown text.all_entries [] old new rows → IsPermutation (map entry_row it.entries) rows
+  pub entries_listed : Shown text.all_entries [] old new rows → (us : List (EntryRow)) × (rows ≡ map entry_row us) × AreInOrder by_entry (it.entries) us
   entries_listed shown =
-      subst (λ xs. IsPermutation (map entry_row xs) rows) (all_pass it.entries)
-      (chooses 3 6 refl entry_row (stored it) it.entries refl text.all_entries [] text.all_entries_plain text.all_entries_unlisted old new rows shown h
-      text.all_entries_tests text.all_entries_shown text.all_entries_order _ text.all_entries_is refl refl (λ _. true) (λ x. refl) (λ x. refl))
+      let found = lists 3 6 refl entry_row entry_row (stored it) (it.entries) refl text.all_entries [] text.all_entries_plain text.all_entries_unlisted old new rows shown h
+      text.all_entries_tests text.all_entries_shown text.all_entries_order _ text.all_entries_is refl refl refl (λ _. true) (λ x. refl) (λ x. refl) in
+      (found.0, found.1, ordered_as _ by_entry _ (it.entries) found.0 entries_order (all_pass (it.entries)) found.2)
 
-  pub targets_listed : Shown text.all_targets [] old new rows → IsPermutation (map target_row it.targets) rows
+  pub targets_listed : Shown text.all_targets [] old new rows → (us : List (TargetRow)) × (rows ≡ map target_row us) × AreInOrder by_target (it.targets) us
   targets_listed shown =
-      subst (λ xs. IsPermutation (map target_row xs) rows) (all_pass it.targets)
-      (chooses 4 8 refl target_row (stored it) it.targets refl text.all_targets [] text.all_targets_plain text.all_targets_unlisted old new rows shown h
-      text.all_targets_tests text.all_targets_shown text.all_targets_order _ text.all_targets_is refl refl (λ _. true) (λ x. refl) target_whole)
+      let found = lists 4 8 refl target_row target_row (stored it) (it.targets) refl text.all_targets [] text.all_targets_plain text.all_targets_unlisted old new rows shown h
+      text.all_targets_tests text.all_targets_shown text.all_targets_order _ text.all_targets_is refl refl refl (λ _. true) (λ x. refl) target_whole in
+      (found.0, found.1, ordered_as _ by_target _ (it.targets) found.0 targets_order (all_pass (it.targets)) found.2)
 
-  pub states_listed : Shown text.all_states [] old new rows → IsPermutation (map kept_state (map state_pair it.states)) rows
+  pub states_listed : Shown text.all_states [] old new rows → (us : List (CardRef × Bool)) × (rows ≡ map kept_state us) × AreInOrder by_state (map state_pair it.states) us
   states_listed shown =
-      subst (λ xs. IsPermutation (map kept_state xs) rows) (all_pass (map state_pair it.states))
-      (chooses 6 12 refl kept_state (stored it) (map state_pair it.states) (sym (map-map kept_state state_pair it.states)) text.all_states []
-      text.all_states_plain text.all_states_unlisted old new rows shown h
-      text.all_states_tests text.all_states_shown text.all_states_order _ text.all_states_is refl refl (λ _. true) (λ x. refl) (λ x. refl))
+      let found = lists 6 12 refl kept_state kept_state (stored it) (map state_pair it.states) (sym (map-map kept_state state_pair it.states)) text.all_states [] text.all_states_plain text.all_states_unlisted old new rows shown h
+      text.all_states_tests text.all_states_shown text.all_states_order _ text.all_states_is refl refl refl (λ _. true) (λ x. refl) (λ x. refl) in
+      (found.0, found.1, ordered_as _ by_state _ (map state_pair it.states) found.0 states_order (all_pass (map state_pair it.states)) found.2)
 
-  pub counts_listed : Shown text.all_counts [] old new rows → IsPermutation (map kept_count (map count_pair it.counts)) rows
+  pub state_rows_listed : Shown text.all_states [] old new rows → (us : List StateRow) × (rows ≡ map state_row us) × AreInOrder by_state_row it.states us
+  state_rows_listed shown =
+      let found = lists 6 12 refl state_row state_row (stored it) it.states refl text.all_states [] text.all_states_plain text.all_states_unlisted old new rows
+      shown h text.all_states_tests text.all_states_shown text.all_states_order _ text.all_states_is refl refl refl (λ _. true) (λ x. refl) (λ x. refl) in
+      (found.0, found.1, ordered_as _ by_state_row _ it.states found.0 state_rows_order (all_pass it.states) found.2)
+
+  pub counts_listed : Shown text.all_counts [] old new rows → (us : List (Target × ℕ)) × (rows ≡ map kept_count us) × AreInOrder by_count (map count_pair it.counts) us
   counts_listed shown =
-      subst (λ xs. IsPermutation (map kept_count xs) rows) (all_pass (map count_pair it.counts))
-      (chooses 7 14 refl kept_count (stored it) (map count_pair it.counts) (sym (map-map kept_count count_pair it.counts)) text.all_counts []
-      text.all_counts_plain text.all_counts_unlisted old new rows shown h
-      text.all_counts_tests text.all_counts_shown text.all_counts_order _ text.all_counts_is refl refl (λ _. true) (λ x. refl) count_whole)
+      let found = lists 7 14 refl kept_count kept_count (stored it) (map count_pair it.counts) (sym (map-map kept_count count_pair it.counts)) text.all_counts [] text.all_counts_plain text.all_counts_unlisted old new rows shown h
+      text.all_counts_tests text.all_counts_shown text.all_counts_order _ text.all_counts_is refl refl refl (λ _. true) (λ x. refl) count_whole in
+      (found.0, found.1, ordered_as _ by_count _ (map count_pair it.counts) found.0 counts_order (all_pass (map count_pair it.counts)) found.2)
 
 -- ---- one look after another
 
@@ -159,6 +189,17 @@ looks_as F G a b x y means p = record {
   same = p.same;
   found = λ clean it h. means it (p.found clean it h);
 }
+
+-- the same on the way, whether it went well or not
+pub looks_weaker : {X : Type 0} (F G : Rows → X → Type 0) (a b : State) (r : Result X Error) → ((it : Rows) (x : X) → F it x → G it x) → Looks F a b r
+    → Looks G a b r
+looks_weaker F G a b (Ok x) means p = looks_as F G a b x x (λ it. means it x) p
+looks_weaker F G a b (Err e) means p = record { steps = p.steps; was_open = p.was_open; same = p.same; found = λ clean. tt }
+
+-- one look more, and what was found in both
+pub looks_more : {X Y Z : Type 0} (F : Rows → X → Type 0) (G : Rows → Y → Type 0) (H : Rows → Z → Type 0) (a b c : State) (x : X) (y : Y) (z : Z)
+    → Looks F a b (Ok x) → Looks G b c (Ok y) → ((it : Rows) → F it x → G it y → H it z) → Looks H a c (Ok z)
+looks_more F G H a b c x y z p q both = looks_as (λ it v. F it x × G it v) H a c y z (λ it h. both it h.0 h.1) (looks_then F G a b c x (Ok y) p q)
 
 -- the last look failed
 pub looks_not : {X Y : Type 0} (F : Rows → X → Type 0) (G : Rows → Y → Type 0) (a b : State) (d : Error) (r : Result Y Error) → Looks F a b (Err d) → IsErr r

@@ -3,6 +3,8 @@ pub mod Encoded
 pub mod Stands
 pub mod Parts
 pub mod Commits
+pub mod Listed
+pub mod Part
 pub mod First
 pub mod Making
 pub mod Wanted

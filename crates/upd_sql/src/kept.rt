@@ -3,17 +3,21 @@ ghost use Rattle.std.specs.Prelude.{◌≡◌, false, IfOk, IsTrue, OnOk};
 ghost use Rattle.sqlite.specs.Held.{state};
 ghost use Rattle.sqlite.specs.State.{HasCleanDisk, Survives};
 ghost use Rattle.upd_change.specs.Rows.{Rows};
-ghost use Rattle.upd_rows.specs.Tables.{AreRead, mark_at, run_at};
+ghost use Rattle.upd_rows.specs.Tables.{AreByKey, AreRead, mark_at, run_at};
 ghost use Rattle.upd_sql.specs.Commits.{MayKeep};
 ghost use Rattle.upd_sql.specs.Schema.{library_schema};
 ghost use Rattle.upd_sql.specs.Stands.{ShowsTables};
+ghost use Rattle.upd_rows.specs.Asked.{AreDecksOf};
 ghost use Rattle.upd_rows.specs.Assembling.{AreRowsOf};
+ghost use Rattle.upd_sql.specs.Part.{AreActiveRows, IsPart};
 
-use crate::{reads, whole};
+use crate::active::ActiveRows;
+use crate::part::Part;
+use crate::{active, part, reads, whole};
 use sqlite::{Connection, Error};
 use std::alloc::Global;
 use upd_change::RunRow;
-use upd_core::States;
+use upd_core::{CardRef, Serial, States};
 use upd_order::{Rising, note_settled};
 use upd_rows::LibraryRows;
 
@@ -93,7 +97,7 @@ pub fn kept_library<S: Rising>(
     Ok(found)
 }
 
-/// The status of each card and the count of each target that a live yank card has.
+/// The status of each card and the count of each target that a live yank card has, by the keys of their tables.
 pub fn kept_states<S: Rising>(conn: &mut Connection<S>, alloc: Global) -> Result<States, Error>
     requires { conn.old.in_transaction ≡ false }
     ensures outside { conn.new.in_transaction ≡ false }
@@ -107,11 +111,90 @@ pub fn kept_states<S: Rising>(conn: &mut Connection<S>, alloc: Global) -> Result
     ensures crash { Survives (state S.Store conn.old) (state S.Store conn.new) (MayKeep (state S.Store conn.old)) }
     ensures found { HasCleanDisk (state S.Store conn.new) → IfOk result
         (λ found. (it : Rows) → ShowsTables it (state S.Store conn.old).committed → AreRead it found) }
+    ensures order { HasCleanDisk (state S.Store conn.new) → IfOk result
+        (λ found. (it : Rows) → ShowsTables it (state S.Store conn.old).committed → AreByKey found) }
 {
     note_settled(conn);
     let _outside = conn.is_autocommit();
     let mut tx = conn.transaction();
     let found = whole::all_states_in(&mut tx, alloc)?;
+    tx.commit()?;
+    Ok(found)
+}
+
+/// The decks of the rows of cards, as often.
+pub fn kept_decks_of<S: Rising>(
+    conn: &mut Connection<S>,
+    alloc: Global,
+    cards: &[CardRef],
+) -> Result<Vec<Serial>, Error>
+    requires { conn.old.in_transaction ≡ false }
+    ensures outside { conn.new.in_transaction ≡ false }
+    ensures was_open { HasCleanDisk (state S.Store conn.new) → IsTrue (state S.Store conn.new).is_open
+        → IsTrue (state S.Store conn.old).is_open }
+    ensures open { HasCleanDisk (state S.Store conn.new) → OnOk result (IsTrue (state S.Store conn.old).is_open
+        × IsTrue (state S.Store conn.new).is_open) }
+    ensures kept { HasCleanDisk (state S.Store conn.new) → IsTrue (state S.Store conn.new).is_open
+        → (state S.Store conn.old).committed.schema ≡ library_schema
+        → (state S.Store conn.new).committed ≡ (state S.Store conn.old).committed }
+    ensures crash { Survives (state S.Store conn.old) (state S.Store conn.new) (MayKeep (state S.Store conn.old)) }
+    ensures found { HasCleanDisk (state S.Store conn.new) → IfOk result (λ found. (it : Rows)
+        → ShowsTables it (state S.Store conn.old).committed → AreDecksOf cards.now it.cards found.items) }
+{
+    note_settled(conn);
+    let _outside = conn.is_autocommit();
+    let mut tx = conn.transaction();
+    let found = part::decks_in(&mut tx, alloc, cards)?;
+    tx.commit()?;
+    Ok(found)
+}
+
+/// The rows of `YANK$$$` and of the decks of these ages, and how many cards and entries there are in all.
+pub fn kept_part<S: Rising>(
+    conn: &mut Connection<S>,
+    alloc: Global,
+    ages: &[Serial],
+) -> Result<Part, Error>
+    requires { conn.old.in_transaction ≡ false }
+    ensures outside { conn.new.in_transaction ≡ false }
+    ensures was_open { HasCleanDisk (state S.Store conn.new) → IsTrue (state S.Store conn.new).is_open
+        → IsTrue (state S.Store conn.old).is_open }
+    ensures open { HasCleanDisk (state S.Store conn.new) → OnOk result (IsTrue (state S.Store conn.old).is_open
+        × IsTrue (state S.Store conn.new).is_open) }
+    ensures kept { HasCleanDisk (state S.Store conn.new) → IsTrue (state S.Store conn.new).is_open
+        → (state S.Store conn.old).committed.schema ≡ library_schema
+        → (state S.Store conn.new).committed ≡ (state S.Store conn.old).committed }
+    ensures crash { Survives (state S.Store conn.old) (state S.Store conn.new) (MayKeep (state S.Store conn.old)) }
+    ensures found { HasCleanDisk (state S.Store conn.new) → IfOk result
+        (λ found. (it : Rows) → ShowsTables it (state S.Store conn.old).committed → IsPart ages.now it found) }
+{
+    note_settled(conn);
+    let _outside = conn.is_autocommit();
+    let mut tx = conn.transaction();
+    let found = part::part_in(&mut tx, alloc, ages)?;
+    tx.commit()?;
+    Ok(found)
+}
+
+/// The rows by which the active cards are told.
+pub fn kept_active<S: Rising>(conn: &mut Connection<S>, alloc: Global) -> Result<ActiveRows, Error>
+    requires { conn.old.in_transaction ≡ false }
+    ensures outside { conn.new.in_transaction ≡ false }
+    ensures was_open { HasCleanDisk (state S.Store conn.new) → IsTrue (state S.Store conn.new).is_open
+        → IsTrue (state S.Store conn.old).is_open }
+    ensures open { HasCleanDisk (state S.Store conn.new) → OnOk result (IsTrue (state S.Store conn.old).is_open
+        × IsTrue (state S.Store conn.new).is_open) }
+    ensures kept { HasCleanDisk (state S.Store conn.new) → IsTrue (state S.Store conn.new).is_open
+        → (state S.Store conn.old).committed.schema ≡ library_schema
+        → (state S.Store conn.new).committed ≡ (state S.Store conn.old).committed }
+    ensures crash { Survives (state S.Store conn.old) (state S.Store conn.new) (MayKeep (state S.Store conn.old)) }
+    ensures found { HasCleanDisk (state S.Store conn.new) → IfOk result
+        (λ found. (it : Rows) → ShowsTables it (state S.Store conn.old).committed → AreActiveRows it found) }
+{
+    note_settled(conn);
+    let _outside = conn.is_autocommit();
+    let mut tx = conn.transaction();
+    let found = active::active_in(&mut tx, alloc)?;
     tx.commit()?;
     Ok(found)
 }

@@ -4,11 +4,13 @@
 //! own whose contract is what the text makes of the tables.
 #![tactic(auto)]
 
+mod active;
 mod changes;
 mod commits;
 mod decode;
 mod kept;
 mod make;
+mod part;
 mod reads;
 mod record;
 mod schema;
@@ -17,10 +19,14 @@ mod values;
 mod whole;
 mod writes;
 
+pub use active::ActiveRows;
 pub use changes::make_all;
 pub use commits::commit_changes;
-pub use kept::{kept_library, kept_mark, kept_run, kept_states};
+pub use kept::{
+    kept_active, kept_decks_of, kept_library, kept_mark, kept_part, kept_run, kept_states,
+};
 pub use make::make_library;
+pub use part::Part;
 pub use schema::{has_first_tables, is_library_schema, is_no_schema};
 pub use settle::settle_site;
 pub use whole::library_in;

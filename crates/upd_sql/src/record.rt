@@ -8,7 +8,7 @@ use sqlite::types::ValueRef;
 use sqlite::{Error, ErrorCode, Row};
 use std::alloc::Global;
 use upd_core::{CardRef, Entry, Ident, Kind, Name, Serial, Target};
-use upd_rows::{CardRow, EntryRow, TargetRow};
+use upd_rows::{CardRow, EntryRow, StateRow, TargetRow};
 
 /// What is kept as a row.
 pub(crate) trait Record: Sized {
@@ -142,6 +142,32 @@ impl Record for TargetRow {
             card: card_in(row)?,
             ord: row.get(2)?,
             target: target_in(row, 3)?,
+        })
+    }
+}
+
+/// A number.
+impl Record for u32 {
+    ghost use Rattle.std.specs.Prelude.{[], ◌∷◌};
+    ghost use Rattle.upd_sql.specs.Encoded.{num};
+
+    ghost stored = { λ n. num n ∷ [] };
+
+    fn read(_: Global, row: &Row) -> Result<u32, Error> {
+        let n = row.get(0)?;
+        Ok(n)
+    }
+}
+
+impl Record for StateRow {
+    ghost use Rattle.upd_sql.specs.Encoded.{state_row};
+
+    ghost stored = { state_row };
+
+    fn read(_: Global, row: &Row) -> Result<StateRow, Error> {
+        Ok(StateRow {
+            card: card_in(row)?,
+            active: row.get(2)?,
         })
     }
 }

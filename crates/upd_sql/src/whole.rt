@@ -1,101 +1,123 @@
 //! Whole tables: one function for each text that reads one.
-ghost use Rattle.std.specs.Prelude.{◌≡◌, [], List, map, IfOk, IsPermutation};
+ghost use Rattle.std.specs.Prelude.{◌≡◌, List, map, IfOk};
 ghost use Rattle.sqlite_value.specs.Order.{Row as SqlRow};
 ghost use Rattle.sqlite.specs.Given.{IsPlain};
 ghost use Rattle.sqlite.specs.Held.{state};
 ghost use Rattle.sqlite.specs.Listing.{understood};
 ghost use Rattle.sqlite.specs.State.{HasCleanDisk, Shown};
-ghost use Rattle.upd_change.specs.Rows.{IsSame, Rows};
-ghost use Rattle.upd_rows.specs.Tables.{AreRead, count_pair, state_pair};
+ghost use Rattle.sqlite.specs.Values.{bound};
+ghost use Rattle.std.specs.declared.cmp.Ordering.{Ordering};
+ghost use Rattle.upd_change.specs.Rows.{Rows};
+ghost use Rattle.upd_rows.specs.Tables.{AreByKey, AreRead, count_pair, state_pair};
 ghost use Rattle.upd_tables.specs.Steps.{Steps};
 ghost use Rattle.upd_sql.specs.Commits.{LeavesTables, Looks, WasOpen};
+ghost use Rattle.upd_sql.specs.Listed.{AreInOrder, by_age, by_count, by_entry, by_place, by_state, by_target};
 ghost use Rattle.upd_sql.specs.Schema.{library_schema};
 ghost use Rattle.upd_sql.specs.Stands.{Stands};
 ghost use Rattle.upd_rows.specs.Assembling.{AreRowsOf};
 
 use crate::record::{Record, each};
+use sqlite::types::ValueRef;
 use sqlite::{Alter, Error, Row, Transaction};
 use std::alloc::Global;
 use upd_core::{CardRef, Ident, States, Target};
 use upd_rows::{CardRow, EntryRow, LibraryRows, TargetRow};
 use upd_tables::ask;
 
-/// The answer of a text that has no parameters.
-fn rows_of<S: Alter>(tx: &mut Transaction<'_, S>, sql: &str) -> Result<Vec<Row>, Error>
+/// The answer of a text.
+pub(crate) fn rows_of<S: Alter>(
+    tx: &mut Transaction<'_, S>,
+    sql: &str,
+    params: &[ValueRef<'_>],
+) -> Result<Vec<Row>, Error>
     ensures same_reference { tx.new.conn.ghost_name ≡ tx.old.conn.ghost_name }
     ensures steps { Steps (state S.Store tx.old.conn.now) (state S.Store tx.new.conn.now) result }
     ensures was_open { WasOpen (state S.Store tx.old.conn.now) (state S.Store tx.new.conn.now) result }
     ensures same { IsPlain (understood library_schema sql.now)
         → LeavesTables (state S.Store tx.old.conn.now) (state S.Store tx.new.conn.now) result }
     ensures shown { HasCleanDisk (state S.Store tx.new.conn.now) → IfOk result
-        (λ rows. Shown sql.now [] (state S.Store tx.old.conn.now) (state S.Store tx.new.conn.now) rows.items) }
+        (λ rows. Shown sql.now (bound params.now) (state S.Store tx.old.conn.now) (state S.Store tx.new.conn.now) rows.items) }
 {
-    ask(tx, sql, &[])
+    ask(tx, sql, params)
 }
 
 /// The records that a text answers.
-fn all_of<S: Alter, T: Record + Drop>(
+pub(crate) fn all_of<S: Alter, T: Record + Drop>(
     tx: &mut Transaction<'_, S>,
     alloc: Global,
     sql: &str,
+    params: &[ValueRef<'_>],
 ) -> Result<Vec<T>, Error>
     ensures same_reference { tx.new.conn.ghost_name ≡ tx.old.conn.ghost_name }
-    ensures looks { (listed : Rows → List T) → IsPlain (understood library_schema sql.now)
+    ensures looks { (listed : Rows → List T) (cmp : T → T → Ordering) → IsPlain (understood library_schema sql.now)
         → ((it : Rows) → Stands it (state S.Store tx.old.conn.now).now → (rows : List SqlRow)
-        → Shown sql.now [] (state S.Store tx.old.conn.now) (state S.Store tx.new.conn.now) rows
-        → IsPermutation (map T.stored (listed it)) rows)
-        → Looks (λ it found. IsSame found.items (listed it)) (state S.Store tx.old.conn.now)
+        → Shown sql.now (bound params.now) (state S.Store tx.old.conn.now) (state S.Store tx.new.conn.now) rows
+        → (kept : List T) × (rows ≡ map T.stored kept) × AreInOrder cmp (listed it) kept)
+        → Looks (λ it found. AreInOrder cmp (listed it) found.items) (state S.Store tx.old.conn.now)
         (state S.Store tx.new.conn.now) result }
 {
-    let rows = rows_of(tx, sql)?;
+    let rows = rows_of(tx, sql, params)?;
     each(alloc, &rows)
 }
 
-fn idents_in<S: Alter>(tx: &mut Transaction<'_, S>, alloc: Global) -> Result<Vec<Ident>, Error>
+pub(crate) fn idents_in<S: Alter>(
+    tx: &mut Transaction<'_, S>,
+    alloc: Global,
+) -> Result<Vec<Ident>, Error>
     ensures same_reference { tx.new.conn.ghost_name ≡ tx.old.conn.ghost_name }
-    ensures looks { Looks (λ it found. IsSame found.items it.idents) (state S.Store tx.old.conn.now)
-        (state S.Store tx.new.conn.now) result }
+    ensures looks { Looks (λ it found. AreInOrder by_age it.idents found.items)
+        (state S.Store tx.old.conn.now) (state S.Store tx.new.conn.now) result }
 {
     all_of(
         tx,
         alloc,
         "SELECT age, name, kind, noprop, held FROM idents ORDER BY age",
+        &[],
     )
 }
 
-fn cards_in<S: Alter>(tx: &mut Transaction<'_, S>, alloc: Global) -> Result<Vec<CardRow>, Error>
+pub(crate) fn cards_in<S: Alter>(
+    tx: &mut Transaction<'_, S>,
+    alloc: Global,
+) -> Result<Vec<CardRow>, Error>
     ensures same_reference { tx.new.conn.ghost_name ≡ tx.old.conn.ghost_name }
-    ensures looks { Looks (λ it found. IsSame found.items it.cards) (state S.Store tx.old.conn.now)
-        (state S.Store tx.new.conn.now) result }
+    ensures looks { Looks (λ it found. AreInOrder by_place it.cards found.items)
+        (state S.Store tx.old.conn.now) (state S.Store tx.new.conn.now) result }
 {
     all_of(
         tx,
         alloc,
         "SELECT ident, num, deck, pos, body FROM cards ORDER BY deck, pos",
+        &[],
     )
 }
 
 fn entries_in<S: Alter>(tx: &mut Transaction<'_, S>, alloc: Global) -> Result<Vec<EntryRow>, Error>
     ensures same_reference { tx.new.conn.ghost_name ≡ tx.old.conn.ghost_name }
-    ensures looks { Looks (λ it found. IsSame found.items it.entries) (state S.Store tx.old.conn.now)
-        (state S.Store tx.new.conn.now) result }
+    ensures looks { Looks (λ it found. AreInOrder by_entry it.entries found.items)
+        (state S.Store tx.old.conn.now) (state S.Store tx.new.conn.now) result }
 {
     all_of(
         tx,
         alloc,
         "SELECT ident, num, ord, who, active FROM entries ORDER BY ident, num, ord",
+        &[],
     )
 }
 
-fn targets_in<S: Alter>(tx: &mut Transaction<'_, S>, alloc: Global) -> Result<Vec<TargetRow>, Error>
+pub(crate) fn targets_in<S: Alter>(
+    tx: &mut Transaction<'_, S>,
+    alloc: Global,
+) -> Result<Vec<TargetRow>, Error>
     ensures same_reference { tx.new.conn.ghost_name ≡ tx.old.conn.ghost_name }
-    ensures looks { Looks (λ it found. IsSame found.items it.targets) (state S.Store tx.old.conn.now)
-        (state S.Store tx.new.conn.now) result }
+    ensures looks { Looks (λ it found. AreInOrder by_target it.targets found.items)
+        (state S.Store tx.old.conn.now) (state S.Store tx.new.conn.now) result }
 {
     all_of(
         tx,
         alloc,
         "SELECT ident, num, ord, kind, target, deck FROM targets ORDER BY ident, num, ord",
+        &[],
     )
 }
 
@@ -104,13 +126,14 @@ fn states_in<S: Alter>(
     alloc: Global,
 ) -> Result<Vec<(CardRef, bool)>, Error>
     ensures same_reference { tx.new.conn.ghost_name ≡ tx.old.conn.ghost_name }
-    ensures looks { Looks (λ it found. IsSame found.items (map state_pair it.states))
+    ensures looks { Looks (λ it found. AreInOrder by_state (map state_pair it.states) found.items)
         (state S.Store tx.old.conn.now) (state S.Store tx.new.conn.now) result }
 {
     all_of(
         tx,
         alloc,
         "SELECT ident, num, active FROM states ORDER BY ident, num",
+        &[],
     )
 }
 
@@ -119,13 +142,14 @@ fn counts_in<S: Alter>(
     alloc: Global,
 ) -> Result<Vec<(Target, u32)>, Error>
     ensures same_reference { tx.new.conn.ghost_name ≡ tx.old.conn.ghost_name }
-    ensures looks { Looks (λ it found. IsSame found.items (map count_pair it.counts))
+    ensures looks { Looks (λ it found. AreInOrder by_count (map count_pair it.counts) found.items)
         (state S.Store tx.old.conn.now) (state S.Store tx.new.conn.now) result }
 {
     all_of(
         tx,
         alloc,
         "SELECT kind, target, deck, n FROM counts ORDER BY kind, target, deck",
+        &[],
     )
 }
 
@@ -149,13 +173,14 @@ pub fn library_in<S: Alter>(
     })
 }
 
-/// The status of each card and the count of each target that a live yank card has.
+/// The status of each card and the count of each target that a live yank card has, by the keys of their tables.
 pub(crate) fn all_states_in<S: Alter>(
     tx: &mut Transaction<'_, S>,
     alloc: Global,
 ) -> Result<States, Error>
     ensures same_reference { tx.new.conn.ghost_name ≡ tx.old.conn.ghost_name }
-    ensures looks { Looks AreRead (state S.Store tx.old.conn.now) (state S.Store tx.new.conn.now) result }
+    ensures looks { Looks (λ it found. AreRead it found × AreByKey found) (state S.Store tx.old.conn.now)
+        (state S.Store tx.new.conn.now) result }
 {
     let states = states_in(tx, alloc)?;
     let counts = counts_in(tx, alloc)?;

@@ -9,7 +9,7 @@ use std::alloc::Global;
 use std::process::Abort;
 use std::test::Fail;
 use upd_change::{Change, RunRow};
-use upd_core::{Library, Serial, States};
+use upd_core::{Actives, CardRef, Library, Serial, States};
 use upd_desk::{Arrival, Desk};
 use upd_desk_tests::plain::Sent;
 use upd_rows::{ListStore, RowStore};
@@ -45,15 +45,17 @@ impl RowStore for Failing {
 
     ghost shows = { λ image rows. image ≡ rows };
 
-    ghost image = { λ s. s.lists };
+    ghost image = { λ s. s.lists.tables };
 
     ghost is_open = { λ _. Unit {0} };
 
     ghost is_honest = { λ _. Unit {0} };
 
-    ghost may_leave = { λ s image. image ≡ s.lists };
+    ghost may_leave = { λ s image. image ≡ s.lists.tables };
 
     ghost failures_of = { λ s. s.failures };
+
+    ghost reads_of = { λ s. s.lists.decks_read };
 
     ghost caused = { λ _ _. Unit {0} };
 
@@ -65,8 +67,16 @@ impl RowStore for Failing {
         self.lists.load_decks(alloc, decks)
     }
 
+    fn decks_of(&mut self, alloc: Global, cards: &[CardRef]) -> Result<Vec<Serial>, Fault> {
+        self.lists.decks_of(alloc, cards)
+    }
+
     fn load_states(&mut self, alloc: Global) -> Result<States, Fault> {
         self.lists.load_states(alloc)
+    }
+
+    fn load_active(&mut self, alloc: Global) -> Result<Actives, Fault> {
+        self.lists.load_active(alloc)
     }
 
     fn kept_run(
@@ -97,6 +107,10 @@ impl RowStore for Failing {
 
     fn failures(&self) -> u64 {
         self.failures
+    }
+
+    fn decks_read(&self) -> u64 {
+        self.lists.decks_read()
     }
 
     ghost one = { λ i a b shown other. sym shown ∙ other };

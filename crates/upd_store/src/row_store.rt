@@ -9,11 +9,12 @@ use crate::sql_store::SqlStore;
 use sqlite::Connection;
 use std::alloc::Global;
 use upd_change::{Change, RunRow};
-use upd_core::{Library, Serial, States};
+use upd_core::{Actives, CardRef, Library, Serial, States};
 use upd_order::Rising;
-use upd_rows::{RowStore, assembled, assembled_part};
+use upd_rows::{RowStore, assembled, assembled_active, assembled_rest, decks_by_age, reads_with};
 use upd_sql::{
-    commit_changes, is_library_schema, kept_library, kept_mark, kept_run, kept_states, settle_site,
+    commit_changes, is_library_schema, kept_active, kept_decks_of, kept_library, kept_mark,
+    kept_part, kept_run, kept_states, settle_site,
 };
 use upd_text::Fault;
 
@@ -49,6 +50,8 @@ impl<S: Rising> RowStore for SqlStore<S> {
 
     ghost failures_of = { λ s. s.failures };
 
+    ghost reads_of = { λ s. s.decks_read };
+
     ghost caused = { λ _ _. Unit {0} };
 
     fn load(&mut self, alloc: Global) -> Result<Library, Fault> {
@@ -57,7 +60,10 @@ impl<S: Rising> RowStore for SqlStore<S> {
         }
         match kept_library(&mut self.conn, alloc) {
             Ok(rows) => match assembled(alloc, rows) {
-                Ok(library) => Ok(library),
+                Ok(library) => {
+                    self.decks_read = reads_with(self.decks_read, &library);
+                    Ok(library)
+                }
                 Err(_) => Err(no_memory()),
             },
             Err(error) => Err(counted(error, &mut self.failures)),
@@ -68,11 +74,24 @@ impl<S: Rising> RowStore for SqlStore<S> {
         if !is_ours(&self.conn) {
             return Err(refused(&mut self.failures));
         }
-        match kept_library(&mut self.conn, alloc) {
-            Ok(rows) => match assembled_part(alloc, rows, decks) {
-                Ok(library) => Ok(library),
+        match kept_part(&mut self.conn, alloc, decks) {
+            Ok(part) => match assembled_rest(alloc, part.rows, part.cards, part.entries) {
+                Ok(library) => {
+                    self.decks_read = reads_with(self.decks_read, &library);
+                    Ok(library)
+                }
                 Err(_) => Err(no_memory()),
             },
+            Err(error) => Err(counted(error, &mut self.failures)),
+        }
+    }
+
+    fn decks_of(&mut self, alloc: Global, cards: &[CardRef]) -> Result<Vec<Serial>, Fault> {
+        if !is_ours(&self.conn) {
+            return Err(refused(&mut self.failures));
+        }
+        match kept_decks_of(&mut self.conn, alloc, cards) {
+            Ok(ages) => Ok(decks_by_age(ages)),
             Err(error) => Err(counted(error, &mut self.failures)),
         }
     }
@@ -83,6 +102,19 @@ impl<S: Rising> RowStore for SqlStore<S> {
         }
         match kept_states(&mut self.conn, alloc) {
             Ok(states) => Ok(states),
+            Err(error) => Err(counted(error, &mut self.failures)),
+        }
+    }
+
+    fn load_active(&mut self, alloc: Global) -> Result<Actives, Fault> {
+        if !is_ours(&self.conn) {
+            return Err(refused(&mut self.failures));
+        }
+        match kept_active(&mut self.conn, alloc) {
+            Ok(rows) => match assembled_active(alloc, rows.idents, rows.cards, rows.states) {
+                Ok(actives) => Ok(actives),
+                Err(_) => Err(no_memory()),
+            },
             Err(error) => Err(counted(error, &mut self.failures)),
         }
     }
@@ -129,6 +161,10 @@ impl<S: Rising> RowStore for SqlStore<S> {
 
     fn failures(&self) -> u64 {
         self.failures
+    }
+
+    fn decks_read(&self) -> u64 {
+        self.decks_read
     }
 
     ghost one = { shows_one };

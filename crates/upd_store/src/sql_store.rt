@@ -22,6 +22,8 @@ const VERSION: u32 = 3;
 pub struct SqlStore<S: Rising> {
     pub(crate) conn: Connection<S>,
     pub(crate) failures: u64,
+    /// How many decks loads have brought.
+    pub(crate) decks_read: u64,
     ghost outside: { conn.in_transaction ≡ false },
 }
 
@@ -31,6 +33,7 @@ impl<S: Rising + Drop> Drop for SqlStore<S> {
         let SqlStore {
             conn: _,
             failures: _,
+            decks_read: _,
         } = self;
     }
 }
@@ -64,7 +67,11 @@ impl<S: Rising> SqlStore<S> {
         if version != VERSION || !is_library_schema(conn.schema()) {
             return Err((store_at(version), conn));
         }
-        Ok(SqlStore { conn, failures: 0 })
+        Ok(SqlStore {
+            conn,
+            failures: 0,
+            decks_read: 0,
+        })
     }
 
     /// Makes an empty library's tables. Where there is any table the fault is Store, at the version that the file
@@ -92,7 +99,11 @@ impl<S: Rising> SqlStore<S> {
             return Err((fault_at(found), conn));
         }
         match make_library(&mut conn) {
-            Ok(()) => Ok(SqlStore { conn, failures: 0 }),
+            Ok(()) => Ok(SqlStore {
+                conn,
+                failures: 0,
+                decks_read: 0,
+            }),
             Err(error) => Err((fault_of(error), conn)),
         }
     }
@@ -101,7 +112,11 @@ impl<S: Rising> SqlStore<S> {
     pub fn into_connection(self) -> Connection<S>
         ensures { result ≡ self.conn }
     {
-        let SqlStore { conn, failures: _ } = self;
+        let SqlStore {
+            conn,
+            failures: _,
+            decks_read: _,
+        } = self;
         conn
     }
 }

@@ -1,7 +1,9 @@
 -- What an INSERT, a DELETE, an UPDATE, a SELECT and a CREATE TABLE of the plain kinds do to the rows of the tables.
-use Rattle.std.proofs.Common.{◌≡◌, ◌≢◌, ◌⊎◌, inl, inr, ℕ, ◌/◌, ℤ, Bool, true, false, not, if◌then◌else◌, cond, List, [], ◌∷◌, ◌++◌, map, drop, length, filter}
-use Rattle.std.proofs.Common.{slice_get, Some, None, Result, Ok, Err, refl, sym, ap, subst, ◌∙◌, IsPermutation, IsTrue}
+use Rattle.std.proofs.Common.{◌≡◌, ◌≢◌, ◌⊎◌, inl, inr, ℕ, ◌/◌, ℤ, pos, Bool, true, false, not, if◌then◌else◌, cond, List, [], ◌∷◌, ◌++◌, map, drop, length, filter}
+use Rattle.std.proofs.Common.{slice_get, Some, None, Result, Ok, Err, refl, sym, ap, subst, ◌∙◌, IsPermutation, IsSorted, IsTrue}
 use Rattle.std.specs.List.{AllByRecursion, list_all}
+use Rattle.std.specs.Ordering.{on}
+use Rattle.std.proofs.lemmas.List.{length-map}
 use Rattle.std.proofs.lemmas.List.Sorted.{IsPermutation-map, IsPermutation-sym, IsPermutation-trans}
 use Rattle.sqlite_value.specs.declared.keys.Key.{Key}
 use Rattle.sqlite_value.specs.declared.value.Value.{Value}
@@ -13,6 +15,7 @@ use Rattle.sqlite_trees.specs.View.{is_int, IsShaped}
 use Rattle.sqlite_trees.proofs.TreeLemmas.{IsShaped-filter}
 use Rattle.sqlite_sql.specs.Term.{Term, col, eval_all, holds}
 use Rattle.sqlite_sql.specs.Ops.{unary}
+use Rattle.sqlite_sql.specs.Query.{Output, output, key_cmp}
 use Rattle.sqlite_sql.specs.Program.{overlay}
 use Rattle.sqlite_schema.specs.declared.schema.Kind.TheVariants.{Integer}
 use Rattle.sqlite_schema.specs.declared.schema.Keys.TheVariants.{Enforced}
@@ -39,10 +42,10 @@ use Rattle.sqlite.specs.Rows.{Written}
 use Rattle.sqlite.specs.Does.{Tally, Does, AtPlace, OnRows, lacks_sequence}
 use Rattle.sqlite.specs.State.{State, mode_of, Writes}
 use Rattle.sqlite.proofs.Callers.{one_step}
-use Rattle.upd_tables.specs.Keyed.{keyed, plain_query, row_order}
+use Rattle.upd_tables.specs.Keyed.{at_most_64, keyed, plain_query, row_count, row_order}
 use Rattle.upd_tables.specs.Stored.{Shows, Holds, rows_at, with_rows}
 use Rattle.upd_tables.proofs.Trees.{has_mapped, mapped_from, has_permuted, put_new, left_is, in_place, replaced_is, replaced_shaped}
-use Rattle.upd_tables.proofs.Queries.{any_order, row_order_is}
+use Rattle.upd_tables.proofs.Queries.{any_order, count_is, outputs, row_order_is}
 use Rattle.upd_tables.proofs.Frames.{is_lone, framed, rows_there, shown_there, with_table}
 
 -- ---- casts of the values that such a table takes
@@ -242,24 +245,35 @@ module _ (schema : Schema) (k tree : ℕ) (name : List ℕ) (columns : List Colu
       changed next.0 edit _ (now ∙ ap (λ (t : Trees). record { schema = schema; trees = t }) trees) refl applied (subst (IsShaped shape.Table) (sym rows) still)
       (ap (map (drop 1)) rows ∙ named ∙ ap (map (λ v. if q v then cast_all columns (f v) else v)) there.1)
 
--- a SELECT of the rows that pass a test: each is shown, in some order
+-- a SELECT of the rows that pass a test: each is shown, in an order that ORDER BY allows
 pub selects : (schema : Schema) (k tree : ℕ) → is_lone tree k schema.tables ≡ true → (db : Database) (all : List (List Row)) (params : Row)
     → Shows schema all db
-    → (tests project : List Term) (order : List (Term × Key)) (q : Row → Bool) (f : Row → Row) (names : List (List ℕ)) → overlay db.trees [] tree
+    → (tests project : List Term) (order : List (Term × Key)) (q : Row → Bool) (f g : Row → Row) (names : List (List ℕ)) → overlay db.trees [] tree
     ≡ db.trees tree
     → ((r : Row) → list_all (holds (params ∷ r ∷ [])) tests ≡ q (drop 1 r)) → ((r : Row) → eval_all project (params ∷ r ∷ []) ≡ f (drop 1 r))
+    → ((r : Row) → eval_all (map (λ k. k.0) order) (params ∷ r ∷ []) ≡ g (drop 1 r))
     → (rows : List Row)
     → Reads (Select (record { lets = []; body = plain_query tree tests project order }) names) db params rows
-    → IsPermutation (map f (filter q (rows_at k all))) rows
-selects schema k tree alone db all params h tests project order q f names own means shows rows reads =
-    let found = any_order tree tests project order params db.trees own rows reads.answer in
+    → (outs : List Output) × IsPermutation (map (λ v. (g v, f v)) (filter q (rows_at k all))) outs
+    × IsSorted (on (λ (o : Output). o.0) (key_cmp 0 (map (λ k. k.1) order))) outs × (rows ≡ map (λ (o : Output). o.1) outs)
+selects schema k tree alone db all params h tests project order q f g names own means shows orders rows reads =
+    let found = outputs tree tests project order params db.trees own rows reads.answer in
     let there = shown_there tree db.trees k schema.tables all alone h.rows_are in
     let passing : filter q (rows_at k all) ≡ map (drop 1) (filter (λ r. list_all (holds (params ∷ r ∷ [])) tests) (db.trees tree)) =
     ap (filter q) (sym there) ∙ filter-map q (drop 1) (db.trees tree) ∙ ap (map (drop 1)) (sym (filter_same _ _ means (db.trees tree))) in
-    let first : map f (filter q (rows_at k all)) ≡ map (λ r. eval_all project (params ∷ r ∷ []))
+    let first : map (λ v. (g v, f v)) (filter q (rows_at k all)) ≡ map (λ r. output (plain_query tree tests project order) (params ∷ r ∷ []))
     (filter (λ r. list_all (holds (params ∷ r ∷ [])) tests) (db.trees tree)) =
-    ap (map f) passing ∙ map-map f (drop 1) _ ∙ Rattle.sqlite_keyed.proofs.ListLemmas.map_same _ _ (λ r. sym (shows r)) _ in
-    subst (λ l. IsPermutation l rows) (sym first) found
+    ap (map (λ v. (g v, f v))) passing ∙ map-map (λ v. (g v, f v)) (drop 1) _
+    ∙ Rattle.sqlite_keyed.proofs.ListLemmas.map_same _ _ (λ r. λ i. (sym (orders r) i, sym (shows r) i)) _ in
+    (found.0, subst (λ l. IsPermutation l found.0) (sym first) found.1, found.2, found.3)
+
+-- a SELECT of the number of rows
+pub counts : (schema : Schema) (k tree : ℕ) → is_lone tree k schema.tables ≡ true → (db : Database) (all : List (List Row)) (params : Row)
+    → Shows schema all db → (names : List (List ℕ)) → overlay db.trees [] tree ≡ db.trees tree → (rows : List Row)
+    → Reads (Select (record { lets = []; body = row_count tree }) names) db params rows → rows ≡ (Int (pos (at_most_64 (length (rows_at k all)))) ∷ []) ∷ []
+counts schema k tree alone db all params h names own rows reads =
+    count_is tree params db.trees own rows reads.answer
+    ∙ ap (λ n. (Int (pos (at_most_64 n)) ∷ []) ∷ []) (sym (length-map (db.trees tree) (drop 1)) ∙ ap length (shown_there tree db.trees k schema.tables all alone h.rows_are))
 
 -- a SELECT of the rows that pass a test, in the order of the table
 pub reads_in_order : (schema : Schema) (k tree : ℕ) → is_lone tree k schema.tables ≡ true → (db : Database) (all : List (List Row)) (params : Row)

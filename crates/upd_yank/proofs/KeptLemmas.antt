@@ -107,7 +107,7 @@ name_there z idents i some e =
     let there : (z == 0) ≡ false = grind (arith, nat_tests) in
     rw (there, e) refl
 
-same_name : (old new : LibraryView) (z : ℕ) → IsSound old → Continues old.idents new.idents → is_held old.idents z ≡ true →
+pub same_name : (old new : LibraryView) (z : ℕ) → IsSound old → Continues old.idents new.idents → is_held old.idents z ≡ true →
     name_of old.idents z ≡ name_of new.idents z
 same_name old new z sound on held =
     let at = held_at 1 z old.idents sound.ages held in
@@ -117,7 +117,7 @@ same_name old new z sound on held =
 
 -- ---- what was kept of a card that stood
 
-card_held : (l : LibraryView) (c : CardView) → IsSound l → Contains (all_cards l) c → is_held l.idents c.ident ≡ true
+pub card_held : (l : LibraryView) (c : CardView) → IsSound l → Contains (all_cards l) c → is_held l.idents c.ident ≡ true
 card_held l c sound is = let held : IsOfHeld l.idents c = all_of_contained (IsOfHeld l.idents) (all_cards l) c sound.cards is in held.0
 
 pub stood_status : (old new : LibraryView) (d : DeckView) (c : CardView) → IsSound old → Continues old.idents new.idents →

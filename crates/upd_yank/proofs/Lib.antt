@@ -14,3 +14,5 @@ pub mod UnflippedLemmas
 pub mod ToldLemmas
 pub mod WholeLemmas
 pub mod OnlyLemmas
+pub mod EnoughLemmas
+pub mod RenewLemmas

@@ -1,11 +1,11 @@
 -- A settling leaves the statuses and counts of the library after a run, and looks at no more cards than it must.
-use Rattle.std.proofs.Common.{◌≡◌, ℕ, ◌<◌, ◌≤◌, ◌^◌, Bool, true, false, ◌||◌, List, [], ◌∷◌, ◌++◌, map, length, Option, Some, None}
-use Rattle.std.proofs.Common.{unwrap_or, inl, inr, refl, ap, sym, ◌∙◌, subst, arith, length-append}
+use Rattle.std.proofs.Common.{◌≡◌, ℕ, zero, suc, ◌+◌, ◌<◌, ◌≤◌, ◌^◌, Bool, true, false, ◌||◌, List, [], ◌∷◌, ◌++◌, map, length, Option, Some, None}
+use Rattle.std.proofs.Common.{is_some, unwrap_or, inl, inr, refl, ap, sym, ◌∙◌, subst, arith, length-append}
 use Rattle.std.specs.List.{list_any, filter, AllByRecursion}
 use Rattle.std.specs.Map.{update_all}
 use Rattle.std.proofs.lemmas.Bool.{or_parts}
 use Rattle.std.proofs.lemmas.List.{length-map}
-use Rattle.upd_core.proofs.ApartLemmas.{all_by_index}
+use Rattle.upd_core.proofs.ApartLemmas.{all_back, all_by_index, all_front}
 use Rattle.upd_yank.proofs.RefLemmas.{ref_same}
 use Rattle.std.proofs.lemmas.List.Elements.{filter-append}
 use Rattle.upd_core.specs.Counted.{CountedCardView, counted_card, counted_cards, others_of, yanks_of}
@@ -21,13 +21,14 @@ use Rattle.upd_change.specs.Rows.{same_ref}
 use Rattle.upd_change.specs.States.{TakeGone}
 use Rattle.upd_change.proofs.StateLemmas.{any_of}
 use Rattle.upd_text.specs.declared.card_ref.CardRef.{CardRef}
+use Rattle.upd_yank.proofs.EnoughLemmas.{Sees}
 use Rattle.upd_yank.proofs.FlipLemmas.{same_active, status_is}
 use Rattle.upd_yank.proofs.KeptLemmas.{untouched_status}
 use Rattle.upd_yank.proofs.SettleLemmas.{settled_is}
 use Rattle.upd_yank.proofs.ToldLemmas.{IsSettled}
 use Rattle.upd_yank.proofs.WholeLemmas.{whole_right}
 use Rattle.upd_yank.proofs.StateLemmas.{HadStatus, all_counted, put_all, stay_right, statuses_are, unfound_stayed}
-use Rattle.upd_yank.proofs.WorkLemmas.{Agrees, HasStatus, IsListed, all_agree, all_both, all_listed_back, all_listed_others, all_map, found_back, length_back}
+use Rattle.upd_yank.proofs.WorkLemmas.{Agrees, HasStatus, IsListed, is_found, all_agree, all_both, all_listed_back, all_listed_others, all_map, found_back, length_back}
 use Rattle.upd_yank.proofs.WorkLemmas.{listed_back, listed_front, right_back, right_others, takes_no_yanks, yanks_found}
 use Rattle.upd_yank.specs.Affected.{affected, altered, is_other, is_touched}
 use Rattle.upd_yank.specs.Cascade.{ArePut, AreYanks, IsKept, TakesNoYanks, found_of, found_of_all, found_others, found_yanks, is_active_by, is_due, settled}
@@ -51,14 +52,6 @@ are_yanks l = go l.yanks
     go [] = tt
     go (y ∷ ys) = (refl, go ys)
 
-split_front : {A : Type 0} (P : A → Type 0) (xs ys : List A) → AllByRecursion P (xs ++ ys) → AllByRecursion P xs
-split_front P [] ys all = tt
-split_front P (x ∷ xs) ys all = (all.0, split_front P xs ys all.1)
-
-split_back : {A : Type 0} (P : A → Type 0) (xs ys : List A) → AllByRecursion P (xs ++ ys) → AllByRecursion P ys
-split_back P [] ys all = all
-split_back P (x ∷ xs) ys all = split_back P xs ys all.1
-
 -- ---- the cascade on a sound library
 
 -- what the cascade knows of a library: kept statuses are those before, and cards that aren't due had theirs
@@ -73,7 +66,7 @@ pub live_is : (touched was : CountedCardView → Bool) (before : Target → ℕ)
 live_is touched was before known l is =
     let yanks = views_are l in
     settled_is touched was before (yanks_of l) (are_yanks l) (subst TakesNoYanks (sym yanks) (takes_no_yanks l.yanks is.sound.yanks))
-    (split_front (IsKept touched was before) (yanks_of l) (others_of l) is.kept)
+    (all_front (IsKept touched was before) (yanks_of l) (others_of l) is.kept)
     ∙ ap live_cards yanks
 
 -- what is found, by the counts of the library
@@ -87,7 +80,7 @@ found_is touched was before known l is =
     subst (λ ys. AllByRecursion (Agrees (live_count l) (count_on (live_cards ys))) ys) (sym yanks) (all_agree (live_count l) l.yanks) in
     let aged : IsAged (views (yanks_of l)) = subst IsAged (sym yanks) is.sound.yanks in
     let front = yanks_found touched was before (live_count l) (yanks_of l) (are_yanks l) aged
-    (split_front (IsKept touched was before) (yanks_of l) (others_of l) is.kept) agrees in
+    (all_front (IsKept touched was before) (yanks_of l) (others_of l) is.kept) agrees in
     λ i. front i ++ found_others touched before (count_on (live_is touched was before known l is i)) (others_of l)
 
 pub found_count : (touched : CountedCardView → Bool) (before now : Target → ℕ) (l : LibraryView) →
@@ -121,8 +114,8 @@ found_right touched was before known l is =
     let others = found_others touched before now (others_of l) in
     let has = statuses_are l is.sound in (
       all_both (λ p. status_of p.0 l ≡ Some p.1) back others
-          (right_back touched before now l (yanks_of l) (split_front (HasStatus l now) (yanks_of l) (others_of l) has))
-          (right_others touched before now l (others_of l) (split_back (HasStatus l now) (yanks_of l) (others_of l) has)),
+          (right_back touched before now l (yanks_of l) (all_front (HasStatus l now) (yanks_of l) (others_of l) has))
+          (right_others touched before now l (others_of l) (all_back (HasStatus l now) (yanks_of l) (others_of l) has)),
       all_both (IsListed due (back ++ others)) (yanks_of l) (others_of l)
           (all_map (IsListed due back) (IsListed due (back ++ others)) (yanks_of l) (λ k h. listed_front due back others k h)
           (all_listed_back touched before now (yanks_of l)))
@@ -223,31 +216,63 @@ least_work old new cache run between =
 pub countable : (l : LibraryView) → IsSound l → length l.yanks < 2 ^ 32 → AreCountable l.yanks
 countable l sound few = record { few = few; apart = sound.targets }
 
+-- What is seen of a library whose cards may not all be loaded: the yank cards, and the others where none is left out; if some are, a card
+-- without a status had none before.
+pub record IsSeen (known : CardRef → Option Bool) (l : LibraryView) (rest : ℕ) (ys os : List CountedCardView) : Type 0 where
+  pub yanks : ys ≡ yanks_of l
+  pub others : rest ≡ 0 → os ≡ others_of l
+  pub staying : (rest ≡ 0 → ⊥) → (card : CardRef) → status_of card l ≡ None → known card ≡ None
+
+-- where all that was known stays, each card that isn't found had its status
+all_stay : (l : LibraryView) (due : CountedCardView → Bool) (known : CardRef → Option Bool) (found statuses : List (CardRef × Bool)) → IsSound l →
+    AllByRecursion (λ p. status_of p.0 l ≡ Some p.1) found → AllByRecursion (HadStatus l due known) (counted_cards l) →
+    AllByRecursion (IsListed due found) (counted_cards l) → ((card : CardRef) → status_of card l ≡ None → known card ≡ None) →
+    ((r : CardRef) → kept_status statuses r ≡ update_all same_ref known found r) → (r : CardRef) → kept_status statuses r ≡ status_of r l
+all_stay l due known found statuses sound right had listed staying put r =
+    put r ∙ put_all l found known r right (λ none. go none (status_of r l) refl)
+  where
+    go : is_found found r ≡ false → (o : Option Bool) → status_of r l ≡ o → known r ≡ status_of r l
+    go none None e = staying r e ∙ sym e
+    go none (Some s) e = unfound_stayed l due known found r sound had listed none (ap is_some e)
+
 -- statuses with what is found put are those of the library
-put_right : (run was : CountedCardView → Bool) (before : Target → ℕ) (known : CardRef → Option Bool) (l : LibraryView)
-    (found statuses : List (CardRef × Bool)) →
-    IsKnown run was before known l → found ≡ found_of_all run was before l → ArePut known (yanks_of l) (others_of l) found statuses → (r : CardRef) →
-    kept_status statuses r ≡ status_of r l
-put_right run was before known l found statuses is found_all (inr put) r =
-    put r ∙ ap (λ f. update_all same_ref (stay known (others_of l) (stay known (yanks_of l) (λ _. None))) f r) (found_all
-    ∙ found_is run was before known l is)
+put_right : (run was : CountedCardView → Bool) (before : Target → ℕ) (known : CardRef → Option Bool) (l : LibraryView) (rest : ℕ)
+    (ys os : List CountedCardView) (found statuses : List (CardRef × Bool)) →
+    IsKnown run was before known l → found ≡ found_of_all run was before l → IsSeen known l rest ys os → ArePut known rest ys os found statuses →
+    (r : CardRef) → kept_status statuses r ≡ status_of r l
+put_right run was before known l rest ys os found statuses is found_all seen (inr (none, put)) r =
+    put r ∙ (λ i. update_all same_ref (stay known (seen.others none i) (stay known (seen.yanks i) (λ _. None))) ((found_all
+    ∙ found_is run was before known l is) i) r)
     ∙ statuses_right run was before known l r is
-put_right run was before known l found statuses is found_all (inl whole) r =
-    let all = found_all ∙ found_is run was before known l is in
-    let both = found_right run was before known l is in
-    let due = is_due run before (live_count l) in
-    let right = subst (AllByRecursion (λ p. status_of p.0 l ≡ Some p.1)) (sym all) both.0 in
-    let listed = subst (λ found. AllByRecursion (IsListed due found) (counted_cards l)) (sym all) both.1 in
-    whole_right l due known found statuses is.sound right is.had listed (whole.0 ∙ sym (length-append (yanks_of l) (others_of l))) whole.1 r
+put_right run was before known l rest ys os found statuses is found_all seen (inl (many, put)) r = go rest refl
+  where
+    all : found ≡ found_back run before (live_count l) (yanks_of l) ++ found_others run before (live_count l) (others_of l)
+    all = found_all ∙ found_is run was before known l is
+
+    due : CountedCardView → Bool
+    due = is_due run before (live_count l)
+
+    right : AllByRecursion (λ p. status_of p.0 l ≡ Some p.1) found
+    right = subst (AllByRecursion (λ p. status_of p.0 l ≡ Some p.1)) (sym all) (found_right run was before known l is).0
+
+    listed : AllByRecursion (IsListed due found) (counted_cards l)
+    listed = subst (λ found. AllByRecursion (IsListed due found) (counted_cards l)) (sym all) (found_right run was before known l is).1
+
+    go : (n : ℕ) → rest ≡ n → kept_status statuses r ≡ status_of r l
+    go zero none =
+        let same : length ys + length os ≡ length (counted_cards l) = (λ i. length (seen.yanks i) + length (seen.others none i))
+        ∙ sym (length-append (yanks_of l) (others_of l)) in
+        whole_right l due known found statuses is.sound right is.had listed (many none ∙ same) put r
+    go (suc n) some = all_stay l due known found statuses is.sound right is.had listed (seen.staying (λ none. absurd (omega (arith, some, none)))) put r
 
 -- what the code has left is right of the library
-pub left_right : (run was : CountedCardView → Bool) (before : Target → ℕ) (known : CardRef → Option Bool) (l : LibraryView) (found : List (CardRef × Bool))
-    (cache : CacheView) →
+pub left_right : (run was : CountedCardView → Bool) (before : Target → ℕ) (known : CardRef → Option Bool) (l : LibraryView) (rest : ℕ)
+    (ys os : List CountedCardView) (found : List (CardRef × Bool)) (cache : CacheView) →
     IsKnown run was before known l → found ≡ found_of_all run was before l →
     ((t : Target) → count_in cache.counts t ≡ count_on (settled run was before (yanks_of l)) t) →
-    ArePut known (yanks_of l) (others_of l) found cache.states → IsRight l cache
-left_right run was before known l found cache is found_all counts statuses = record {
-  status = put_right run was before known l found cache.states is found_all statuses;
+    IsSeen known l rest ys os → ArePut known rest ys os found cache.states → IsRight l cache
+left_right run was before known l rest ys os found cache is found_all counts seen statuses = record {
+  status = put_right run was before known l rest ys os found cache.states is found_all seen statuses;
   count = λ t. counts t ∙ ap (λ cards. count_on cards t) (live_is run was before known l is);
 }
 
@@ -270,58 +295,80 @@ known_anew run was before known l sound all = record {
       (λ k h. λ none. absurd (let q = sym h ∙ (or_parts (run k) (is_reached before (live_count l) k.deck k.view) none).0 in cc)) all;
 }
 
--- what is found by a set of the touched cards is what is found by these
-found_by_run : (cache : CacheView) (new : LibraryView) (run set : List CardRef) (found : List (CardRef × Bool)) →
-    ((r : CardRef) → list_any (same_ref r) set ≡ list_any (same_ref r) run) →
-    found ≡ found_of_all (is_touched set) (was_active cache.states) (count_in cache.counts) new →
-    found ≡ found_of_all (is_touched run) (was_active cache.states) (count_in cache.counts) new
-found_by_run cache new run set found same is =
-    is ∙ (λ i. found_of_all (λ k. same k.card i) (was_active cache.states) (count_in cache.counts) new)
+-- ---- what a settling is, on a library that shows it
 
--- the same of a set of the touched cards
-pub settled_right : (old new : LibraryView) (cache left : CacheView) (run set : List CardRef) (found : List (CardRef × Bool)) → IsRunBetween old new cache run →
-    ((r : CardRef) → list_any (same_ref r) set ≡ list_any (same_ref r) run) →
-    (AreCountable new.yanks → (t : Target) → count_in left.counts t ≡ count_on (settled (is_touched set) (was_active cache.states) (count_in cache.counts)
-    (yanks_of new)) t) →
-    (AreCountable new.yanks → found ≡ found_of_all (is_touched set) (was_active cache.states) (count_in cache.counts) new) →
-    ArePut (kept_status cache.states) (yanks_of new) (others_of new) found left.states →
-    IsRight new left × (length found ≡ length (affected run old new))
-settled_right old new cache left run set found between same counts found_all statuses =
-    let fits = countable new between.after between.few in
-    let touched_same : is_touched set ≡ is_touched run = λ i k. same k.card i in
-    let was = was_active cache.states in
-    let before = count_in cache.counts in
-    let all = found_by_run cache new run set found same (found_all fits) in (
-      left_right (is_touched run) was before (kept_status cache.states) new found left (known_between old new cache run between) all
-          (λ t. counts fits t ∙ ap (λ (test : CountedCardView → Bool). count_on (settled test was before (yanks_of new)) t) touched_same) statuses,
-      left_work old new cache run found between all,
-    )
+module _ (old new l : LibraryView) (cache : CacheView) (run set : List CardRef) (found : List (CardRef × Bool)) (sees : Sees run old new l)
+    (between : IsRunBetween old new cache run) (same : (r : CardRef) → list_any (same_ref r) set ≡ list_any (same_ref r) run)
+    (found_all : AreCountable l.yanks → found ≡ found_of_all (is_touched set) (was_active cache.states) (count_in cache.counts) l) where
+  abbrev pub was : CountedCardView → Bool
+  was = was_active cache.states
 
--- what is told of a settling
-pub settled_told : (old new : LibraryView) (cache left : CacheView) (run set : List CardRef) (found : List (CardRef × Bool)) (changes : List ChangeView) →
-    IsRunBetween old new cache run → ((r : CardRef) → list_any (same_ref r) set ≡ list_any (same_ref r) run) →
-    (AreCountable new.yanks → found ≡ found_of_all (is_touched set) (was_active cache.states) (count_in cache.counts) new) →
-    IsRight new left → TakeGone old new changes → IsSettled old new cache.states found left.states changes cache.counts left.counts
-settled_told old new cache left run set found changes between same found_all right taken =
-    let touched = is_touched run in
-    let was = was_active cache.states in
-    let before = count_in cache.counts in
-    let known = kept_status cache.states in
-    let is = known_between old new cache run between in
-    let all = found_by_run cache new run set found same (found_all (countable new between.after between.few))
-    ∙ found_is touched was before known new is in
-    let both = found_right touched was before known new is in
-    let due = is_due touched before (live_count new) in
-    let listed = subst (λ found. AllByRecursion (IsListed due found) (counted_cards new)) (sym all) both.1 in
-    record {
-      before = between.right.status;
-      right = subst (AllByRecursion (λ p. status_of p.0 new ≡ Some p.1)) (sym all) both.0;
-      after = right.status;
-      stayed = λ r none there. unfound_stayed new due known found r between.after is.had listed none there;
-      counted = between.right.count;
-      counts = right.count;
-      taken = taken;
-    }
+  abbrev pub before : Target → ℕ
+  before = count_in cache.counts
+
+  known : IsKnown (is_touched run) was before (kept_status cache.states) new
+  known = known_between old new cache run between
+
+  fits : AreCountable l.yanks
+  fits = subst AreCountable (sym sees.yanks) (countable new between.after between.few)
+
+  touched_same : is_touched set ≡ is_touched run
+  touched_same = λ i k. same k.card i
+
+  yanks_seen : yanks_of l ≡ yanks_of new
+  yanks_seen = λ i. map (counted_card (sees.idents i) 0) (sees.yanks i)
+
+  live_seen : count_on (settled (is_touched run) was before (yanks_of new)) ≡ live_count new
+  live_seen = ap count_on (live_is (is_touched run) was before (kept_status cache.states) new known)
+
+  -- the cards that are due are those of the library that the run reached
+  others_seen : found_others (is_touched run) before (live_count new) (others_of l) ≡ found_others (is_touched run) before (live_count new) (others_of new)
+  others_seen = ap (map (found_of (live_count new))) (subst (λ (n : Target → ℕ). filter (is_due (is_touched run) n (live_count new)) (others_of l)
+      ≡ filter (is_due (is_touched run) n (live_count new)) (others_of new)) (sym (before_is old new cache run between)) sees.due)
+
+  found_seen : found ≡ found_of_all (is_touched run) was before new
+  found_seen =
+      found_all fits ∙ (λ i. found_of_all (touched_same i) was before l)
+      ∙ (λ i. found_yanks (is_touched run) was before (yanks_seen i)
+      ++ found_others (is_touched run) before (count_on (settled (is_touched run) was before (yanks_seen i))) (others_of l))
+      ∙ (λ i. found_yanks (is_touched run) was before (yanks_of new) ++ found_others (is_touched run) before (live_seen i) (others_of l))
+      ∙ ap (λ o. found_yanks (is_touched run) was before (yanks_of new) ++ o) others_seen
+      ∙ sym (λ i. found_yanks (is_touched run) was before (yanks_of new) ++ found_others (is_touched run) before (live_seen i) (others_of new))
+
+  seen : IsSeen (kept_status cache.states) new l.rest.cards (yanks_of l) (others_of l)
+  seen = record {
+    yanks = yanks_seen;
+    others = sees.others;
+    staying = λ some card none. between.right.status card ∙ sees.staying some card none;
+  }
+
+  pub settled_right : (left : CacheView) →
+      (AreCountable l.yanks → (t : Target) → count_in left.counts t ≡ count_on (settled (is_touched set) was before (yanks_of l)) t) →
+      ArePut (kept_status cache.states) l.rest.cards (yanks_of l) (others_of l) found left.states →
+      IsRight new left × (length found ≡ length (affected run old new))
+  settled_right left counts statuses = (
+    left_right (is_touched run) was before (kept_status cache.states) new l.rest.cards (yanks_of l) (others_of l) found left known found_seen
+        (λ t. counts fits t ∙ (λ i. count_on (settled (touched_same i) was before (yanks_seen i)) t)) seen statuses,
+    left_work old new cache run found between found_seen,
+  )
+
+  -- what is told of a settling
+  pub settled_told : (left : CacheView) (changes : List ChangeView) → IsRight new left → TakeGone old new changes →
+      IsSettled old new cache.states found left.states changes cache.counts left.counts
+  settled_told left changes right taken =
+      let all = found_seen ∙ found_is (is_touched run) was before (kept_status cache.states) new known in
+      let both = found_right (is_touched run) was before (kept_status cache.states) new known in
+      let due = is_due (is_touched run) before (live_count new) in
+      let listed = subst (λ found. AllByRecursion (IsListed due found) (counted_cards new)) (sym all) both.1 in
+      record {
+        before = between.right.status;
+        right = subst (AllByRecursion (λ p. status_of p.0 new ≡ Some p.1)) (sym all) both.0;
+        after = right.status;
+        stayed = λ r none there. unfound_stayed new due (kept_status cache.states) found r between.after known.had listed none there;
+        counted = between.right.count;
+        counts = right.count;
+        taken = taken;
+      }
 
 -- each card of a library is among its own
 pub all_touched : (l : LibraryView) (none first set : List CardRef) (ys os : List CountedCardView) → ys ≡ yanks_of l → os ≡ others_of l →
@@ -342,13 +389,14 @@ all_touched l none first set ys os yanks others one two =
 
 -- a library from nothing
 pub built_right : (l : LibraryView) (set : List CardRef) (states : List (CardRef × Bool)) (counts : List (Target × ℕ)) (found : List (CardRef × Bool))
-    (left : CacheView) → IsSound l → length l.yanks < 2 ^ 32 →
+    (left : CacheView) → IsSound l → length l.yanks < 2 ^ 32 → states ≡ [] →
     AllByRecursion (λ k. is_touched set k ≡ true) (counted_cards l) →
     (AreCountable l.yanks → (t : Target) → count_in left.counts t ≡ count_on (settled (is_touched set) (was_active states) (count_in counts) (yanks_of l)) t) →
     (AreCountable l.yanks → found ≡ found_of_all (is_touched set) (was_active states) (count_in counts) l) →
-    ArePut (kept_status states) (yanks_of l) (others_of l) found left.states → IsRight l left
-built_right l set states counts found left sound few all known_counts found_all statuses =
+    ArePut (kept_status states) l.rest.cards (yanks_of l) (others_of l) found left.states → IsRight l left
+built_right l set states counts found left sound few nothing all known_counts found_all statuses =
     let fits = countable l sound few in
-    left_right (is_touched set) (was_active states) (count_in counts) (kept_status states) l found left
+    left_right (is_touched set) (was_active states) (count_in counts) (kept_status states) l l.rest.cards (yanks_of l) (others_of l) found left
     (known_anew (is_touched set) (was_active states) (count_in counts) (kept_status states) l sound all)
-    (found_all fits) (known_counts fits) statuses
+    (found_all fits) (known_counts fits)
+    (record { yanks = refl; others = λ _. refl; staying = λ some card none. ap (λ s. kept_status s card) nothing }) statuses

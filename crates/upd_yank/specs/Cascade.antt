@@ -62,11 +62,12 @@ found_of_all touched was before l =
 abbrev pub stay : (CardRef → Option Bool) → List CountedCardView → (CardRef → Option Bool) → CardRef → Option Bool
 stay known ks had r = if list_any (λ k. same_ref k.card r) ks then option_or (known r) (had r) else had r
 
--- Statuses once what is found is put: to all that were known, and they are as many as these cards; or to those of these cards alone.
-abbrev pub ArePut : (CardRef → Option Bool) → List CountedCardView → List CountedCardView → List (CardRef × Bool) → List (CardRef × Bool) → Type 0
-ArePut known ys os found statuses =
-    ((length statuses ≡ length ys + length os) × ((r : CardRef) → lookup (same_ref r) statuses ≡ update_all same_ref known found r))
-    ⊎ ((r : CardRef) → lookup (same_ref r) statuses ≡ update_all same_ref (stay known os (stay known ys (λ _. None))) found r)
+-- Statuses once what is found is put: to all that were known, where cards aren't loaded or else they are as many as these cards; or to those of
+-- these cards alone, where each card is loaded.
+abbrev pub ArePut : (CardRef → Option Bool) → ℕ → List CountedCardView → List CountedCardView → List (CardRef × Bool) → List (CardRef × Bool) → Type 0
+ArePut known rest ys os found statuses =
+    ((rest ≡ 0 → length statuses ≡ length ys + length os) × ((r : CardRef) → lookup (same_ref r) statuses ≡ update_all same_ref known found r))
+    ⊎ ((rest ≡ 0) × ((r : CardRef) → lookup (same_ref r) statuses ≡ update_all same_ref (stay known os (stay known ys (λ _. None))) found r))
 
 -- ---- what the cascade stands on
 

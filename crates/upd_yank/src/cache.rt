@@ -13,9 +13,12 @@ ghost use Rattle.upd_change.specs.Changes.{change_seen, done_all};
 ghost use Rattle.upd_change.specs.Rows.{Rows, ShowsStates};
 ghost use Rattle.upd_change.specs.States.{TakeGone, tells_state};
 ghost use Rattle.upd_yank.specs.Affected.{affected, altered};
+ghost use Rattle.upd_yank.specs.Enough.{IsEnough};
+ghost use Rattle.upd_yank.specs.Renewed.{renewed};
 ghost use Rattle.upd_yank.specs.Right.{IsRight, IsRunBetween, ShowStates, kept_status, put_counts};
 
 use crate::cascade::{Before, settling};
+use crate::renewing::renewed_decks;
 use crate::statuses::Statuses;
 use crate::told::tell;
 use crate::touched::Touched;
@@ -23,7 +26,7 @@ use std::alloc::{AllocError, Global};
 use std::marker::Model;
 use upd_apply::Applied;
 use upd_change::Change;
-use upd_core::{CardRef, Counted, Fault, Library, States, Target, TargetCounts};
+use upd_core::{Actives, CardRef, Counted, Fault, Library, States, Target, TargetCounts};
 
 /// The status of each card and the count of each target, kept from run to run.
 #[derive(Drop)]
@@ -86,27 +89,30 @@ impl Cache {
         })
     }
 
-    /// Leads the cache from the library before a run to the one after it, of which this is a new `Counted`. What it
-    /// answers does the same to rows that show statuses and counts, once the changes of the run are carried out: each
-    /// status that is new or another one, that of a card which the run took away and brought again, and each count
-    /// that is another one. Memory alone can fail, and leaves the cache as it was.
+    /// Leads the cache from the library before a run to the one after it, of which this is a new `Counted`, or of a
+    /// part of it that is enough: the statuses of cards left out stay. What it answers does the same to rows that show
+    /// statuses and counts, once the changes of the run are carried out: each status that is new or another one, that
+    /// of a card which the run took away and brought again, and each count that is another one. Memory alone can fail,
+    /// and leaves the cache as it was.
     pub fn settle(
         &mut self,
         counted: &mut Counted<'_>,
         applied: &Applied,
     ) -> Result<Vec<Change>, Fault>
-        ensures right { (old : LibraryView) → IsRunBetween old counted.old.library self.old applied.now.touched.items →
-            OnOk result (IsRight counted.old.library self.new) }
-        ensures work { (old : LibraryView) → IsRunBetween old counted.old.library self.old applied.now.touched.items →
-            OnOk result (self.new.work ≡ length (affected applied.now.touched.items old counted.old.library)) }
-        ensures least { (old : LibraryView) → IsRunBetween old counted.old.library self.old applied.now.touched.items →
-            OnOk result (length (altered old counted.old.library) ≤ self.new.work) }
-        ensures changes { (old : LibraryView) →
-            IsRunBetween old counted.old.library self.old applied.now.touched.items →
-            TakeGone old counted.old.library (map change_seen applied.now.changes.items) →
+        ensures right { (old new : LibraryView) → IsEnough applied.now.touched.items old new counted.old.library →
+            IsRunBetween old new self.old applied.now.touched.items → OnOk result (IsRight new self.new) }
+        ensures work { (old new : LibraryView) → IsEnough applied.now.touched.items old new counted.old.library →
+            IsRunBetween old new self.old applied.now.touched.items →
+            OnOk result (self.new.work ≡ length (affected applied.now.touched.items old new)) }
+        ensures least { (old new : LibraryView) → IsEnough applied.now.touched.items old new counted.old.library →
+            IsRunBetween old new self.old applied.now.touched.items →
+            OnOk result (length (altered old new) ≤ self.new.work) }
+        ensures changes { (old new : LibraryView) → IsEnough applied.now.touched.items old new counted.old.library →
+            IsRunBetween old new self.old applied.now.touched.items →
+            TakeGone old new (map change_seen applied.now.changes.items) →
             (rows : Rows) → ShowsStates rows old → IfOk result (λ changes.
             ShowsStates (done_all (map change_seen changes.items) (done_all (map change_seen applied.now.changes.items)
-            rows)) counted.old.library) }
+            rows)) new) }
         ensures only { IfOk result (λ changes.
             AllByRecursion (λ c. tells_state c ≡ true) (map change_seen changes.items)) }
         ensures reads { counted.old.reads ≡ 0 → OnOk result (counted.new.reads ≡ self.new.work) }
@@ -124,6 +130,17 @@ impl Cache {
         self.statuses = left.statuses;
         self.counts = left.found.counts;
         Ok(changes)
+    }
+
+    /// The active cards of the library that a run has reached, of which this is a part: of the decks that it has those
+    /// that are active now, of each other held deck those of before. Memory alone can fail.
+    pub fn renew(&self, part: &Library, before: &Actives) -> Result<Actives, Fault>
+        ensures ok { IfOk result (λ actives. actives ≡ renewed self.now.states part.now before.now) }
+        ensures err { IsOkUnless result (fault_at NoMemory 0) }
+    {
+        let idents = Vec::from_slice(self.alloc, part.idents())?;
+        let decks = renewed_decks(self.alloc, &self.statuses, part, before)?;
+        Ok(Actives { idents, decks })
     }
 
     /// Whether a card is active, for a yank card live; none where there is no such card.

@@ -238,8 +238,8 @@ pub(crate) struct Settled {
     pub(crate) found: Found,
 }
 
-/// The statuses of all cards and the counts of all targets, from what is known before. A card that is gone has
-/// none.
+/// The statuses of all cards and the counts of all targets, from what is known before. On a whole library a card that
+/// is gone has none.
 pub(crate) fn settling<'a>(
     alloc: Global,
     counted: &mut Counted<'a>,
@@ -253,31 +253,41 @@ pub(crate) fn settling<'a>(
         ≡ found_of_all (is_touched before.now.touched.now) (was_active before.now.statuses.now)
         (count_in before.now.counts.now) counted.old.library) }
     ensures statuses { IfOk result (λ left. ArePut (kept_status before.now.statuses.now)
-        (yanks_of counted.old.library) (others_of counted.old.library) left.found.statuses.items left.statuses) }
+        counted.old.library.rest.cards (yanks_of counted.old.library) (others_of counted.old.library) left.found.statuses.items left.statuses) }
     ensures reads { counted.old.reads ≡ 0 → IfOk result (λ left. counted.new.reads ≡ length left.found.statuses.items) }
 {
+    let rest = counted.rest().cards;
     let yanks = counted.yanks(alloc)?;
     let others = counted.others(alloc)?;
     let mut found = settle_yanks(alloc, counted, before, &yanks)?;
     judge_others(alloc, counted, before, &mut found, &others)?;
-    let statuses = put_found(alloc, before.statuses, &yanks, &others, &found.statuses)?;
+    let statuses = put_found(
+        alloc,
+        before.statuses,
+        rest,
+        &yanks,
+        &others,
+        &found.statuses,
+    )?;
     Ok(Settled { statuses, found })
 }
 
-/// What is found, put to the statuses that are known. If these are then as many as the cards, no card is gone; else
-/// those of the cards are put together anew.
+/// What is found, put to the statuses that are known. Where some cards aren't loaded, all of these stay, those of
+/// the cards that aren't among them. Else, if they are then as many as the cards, no card is gone; if not, those of
+/// the cards are put together anew.
 fn put_found(
     alloc: Global,
     known: &Statuses,
+    rest: usize,
     yanks: &[CountedCard],
     others: &[CountedCard],
     found: &[(CardRef, bool)],
 ) -> Result<Statuses, AllocError>
-    ensures { IfOk result (λ statuses. ArePut (kept_status known.now) yanks.now others.now found.now statuses) }
+    ensures { IfOk result (λ statuses. ArePut (kept_status known.now) rest yanks.now others.now found.now statuses) }
 {
     let mut whole = known.copy()?;
     whole.put_all(found)?;
-    if is_sum(whole.len(), yanks.len(), others.len()) {
+    if rest > 0 || is_sum(whole.len(), yanks.len(), others.len()) {
         return Ok(whole);
     }
     let mut statuses = Statuses::new(alloc);

@@ -1,17 +1,22 @@
 //! What the cascade rests on.
 
-ghost use Rattle.std.specs.Prelude.{◌≡◌, ◌↔◌, ℕ, true, false, Some, List};
-ghost use Rattle.std.specs.List.{Contains};
+ghost use Rattle.std.specs.Prelude.{◌≡◌, ◌↔◌, ℕ, Bool, true, false, Some, List};
+ghost use Rattle.std.specs.List.{AllByRecursion, Contains, filter};
 ghost use Rattle.upd_apply.specs.Applying.{touched};
 ghost use Rattle.upd_core.specs.declared.target.Target.{Target};
+ghost use Rattle.upd_core.specs.Actives.{actives_of};
+ghost use Rattle.upd_core.specs.Ages.{Age};
 ghost use Rattle.upd_core.specs.Counted.{counted_card};
 ghost use Rattle.upd_core.specs.Library.{CardView, DeckView, LibraryView, all_decks, ref_of};
 ghost use Rattle.upd_core.specs.Reach.{covers, is_flipped, is_reached};
-ghost use Rattle.upd_core.specs.Sound.{Continues, IsSound};
+ghost use Rattle.upd_core.specs.Sound.{Continues, IsSound, IsWhole};
+ghost use Rattle.upd_core.specs.Parts.{part};
 ghost use Rattle.upd_core.specs.Status.{is_active, status_of, targets_of};
 ghost use Rattle.upd_core.specs.TargetCounts.{count_on, live_count};
 ghost use Rattle.upd_yank.specs.Affected.{is_touched};
 ghost use Rattle.upd_yank.specs.Cascade.{is_active_by};
+ghost use Rattle.upd_yank.specs.Renewed.{IsAsBefore, renewed};
+ghost use Rattle.upd_yank.specs.Right.{CacheView, IsRight};
 
 /// A status is told by the counts of the live cards, and a card that nothing that flipped reaches keeps it.
 pub fn counts_tell_statuses()
@@ -33,4 +38,12 @@ pub fn untouched_cards_stood()
 pub fn what_flipped_covers_is_reached()
     ensures { (before now : Target → ℕ) (d : ℕ) (c : CardView) → (is_reached before now d c ≡ true)
         ↔ ((t : Target) × (is_flipped before now t ≡ true) × (covers d c t ≡ true)) }
+{}
+
+/// By a cache that is right for the library that a run has reached, the active cards renewed from a part of it and
+/// from those of the library before are those of the library reached, where the decks left out are as before.
+pub fn renewed_active_cards_are_those_reached()
+    ensures { (out : Age → Bool) (old new : LibraryView) (cache : CacheView) → IsSound old → IsSound new → IsWhole new
+        → IsRight new cache → AllByRecursion (IsAsBefore old new) (filter (λ d. out d.ident) new.decks)
+        → renewed cache.states (part out new) (actives_of old) ≡ actives_of new }
 {}

@@ -5,6 +5,7 @@
 pub mod cache;
 mod cascade;
 pub mod laws;
+mod renewing;
 mod statuses;
 mod told;
 mod touched;

@@ -1,10 +1,10 @@
-use Rattle.std.proofs.Common.{◌≤◌, List, ◌++◌, length, take}
+use Rattle.std.proofs.Common.{◌≤◌, List, length, drop}
 use Rattle.upd_core.specs.Library.{DeckView}
-use Rattle.upd_change.specs.Fates.{Lead}
+use Rattle.upd_change.specs.Fates.{Await}
 use Rattle.upd_change.proofs.decks.add_decks.Given as goal
 
 abbrev pub invariant-loop-deck : goal.invariant-loop-deck
 invariant-loop-deck l =
     (l.next ≤ length l.after)
-    × ((olds news : List DeckView) → Lead olds news l.initial.found.items
-    → Lead (olds ++ take l.deck-index l.before) (news ++ take l.next l.after) l.found.items)
+    × ((olds news : List DeckView) → Await olds news l.initial.found.items l.before l.after
+    → Await olds news l.found.items (drop l.deck-index l.before) (drop l.next l.after))

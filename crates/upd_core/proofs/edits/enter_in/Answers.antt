@@ -1,7 +1,7 @@
 use Rattle.std.proofs.Common.{ℕ, ◌∙◌, ap, sym}
 use Rattle.std.specs.Option.{option_map_or}
 use Rattle.upd_core.specs.Library.{DeckView, is_deck}
-use Rattle.upd_core.specs.Parts.{entered_count}
+use Rattle.upd_core.specs.EditParts.{entered_count}
 use Rattle.upd_core.specs.Edits.{entered_range}
 use Rattle.upd_core.proofs.FirstLemmas.{at_first_found, at_first_none, find_found, find_missed}
 use Rattle.upd_core.proofs.edits.enter_in.Goals as goal

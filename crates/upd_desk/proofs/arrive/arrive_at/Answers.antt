@@ -5,8 +5,9 @@ use Rattle.upd_rows.specs.Tables.{mark_at, run_at}
 use Rattle.upd_rows.proofs.StoreLemmas.{keeps_keeps}
 use Rattle.upd_desk.proofs.ArrivesLemmas.{asked, changed_keeps, keeps_arrives, keeps_new, loses, loses_new}
 use Rattle.upd_desk.proofs.ArrivesLemmas.{refuses_at_door, refuses_changed, refuses_settled, tells_kept, unstored}
+use Rattle.upd_desk.proofs.LoadingLemmas.{none_read_again}
 use Rattle.upd_desk.proofs.MadeLemmas.{world_made}
-use Rattle.upd_desk.proofs.WorkLemmas.{least_kept, least_told, work_kept, work_told}
+use Rattle.upd_desk.proofs.WorkLemmas.{least_kept, least_told, reads_kept, work_kept, work_told}
 use Rattle.upd_desk.proofs.arrive.arrive_at.Goals as goal
 
 pub returns-in-Err-clause-arrives : goal.returns-in-Err-clause-arrives
@@ -139,3 +140,19 @@ returns-in-Ok-keep_new-clause-least g c =
     (λ honest rows shown. sym c.in-None.is ∙ c.in-Ok-kept_run.ensures.found honest rows shown
     ∙ ap (λ a. run_at a.site a.number rows) c.arrival.view_is) honest)
     c.in-Ok-keep_new.ensures.open c.in-Ok-keep_new.ensures.least
+
+pub returns-in-Ok-told_again-clause-reads : goal.returns-in-Ok-told_again-clause-reads
+returns-in-Ok-told_again-clause-reads g c honest j held = none_read_again _ _ _ _ c.in-Ok-mark.ensures.unread c.in-Ok-kept_run.ensures.unread
+
+pub returns-in-Ok-keep_new-clause-reads : goal.returns-in-Ok-keep_new-clause-reads
+returns-in-Ok-keep_new-clause-reads g c =
+    reads_kept _ _ _ _ _ _ c.in-Ok.mode c.args.arrival.now _ _ _ c.args.store.now c.kept_run.new.self c.keep_new.new.store
+    (keeps_keeps _ _ _ _ _ _ c.in-Ok-mark.ensures.same c.in-Ok-kept_run.ensures.same)
+    c.in-Ok-keep_new.ensures.tries
+    (λ honest. asked _ _ _ _ _ _ c.in-Ok.mode c.args.arrival.now c.in-Ok-mark.mark None c.args.store.now c.mark.new.self
+    c.kept_run.new.self c.in-Ok-mark.ensures.same c.in-Ok-kept_run.ensures.same (sym c.in-Ok.ensures)
+    (subst (λ a. c.in-Ok-mark.mark < a.number) c.arrival.view_is c.if-arrival-mark.false)
+    (λ honest rows shown. c.in-Ok-mark.ensures.found honest rows shown ∙ ap (λ a. mark_at a.site rows) c.arrival.view_is)
+    (λ honest rows shown. sym c.in-None.is ∙ c.in-Ok-kept_run.ensures.found honest rows shown
+    ∙ ap (λ a. run_at a.site a.number rows) c.arrival.view_is) honest)
+    c.in-Ok-keep_new.ensures.open (c.in-Ok-kept_run.ensures.unread ∙ c.in-Ok-mark.ensures.unread) c.in-Ok-keep_new.ensures.reads

@@ -1,29 +1,25 @@
-use Rattle.std.proofs.Common.{◌≡◌, Err, map, ap, sym, ◌∙◌, subst}
-use Rattle.upd_change.specs.Changes.{change_seen}
+-- A run that isn't read needs no deck.
+use Rattle.std.proofs.Common.{◌≡◌, Ok, Err, subst}
+use Rattle.upd_deck.specs.Reading.{reading}
 use Rattle.upd_desk.specs.Arrivals.{ArrivalView}
-use Rattle.upd_desk.specs.Compiling.{IsRunOf}
-use Rattle.upd_desk.specs.Made.{LeadTo}
-use Rattle.upd_desk.specs.Outcomes.{compiled, outcome_by}
-use Rattle.upd_desk.proofs.RefusedLemmas.{fails_is, least_refused}
+use Rattle.upd_desk.proofs.LeadLemmas.{refused_outcome, unread_is}
+use Rattle.upd_desk.proofs.LoadingLemmas.{reads_of_run}
+use Rattle.upd_desk.proofs.RefusedLemmas.{fails_is, refused_lost}
 use Rattle.upd_desk.proofs.outcome.run_outcome.Goals as goal
 
-pub returns-in-Ok-accepted-clause-shows : goal.returns-in-Ok-accepted-clause-shows
-returns-in-Ok-accepted-clause-shows c = λ made rows shows states read.
-    let l = c.args.library.now in
-    let of_run = subst (λ (a : ArrivalView). IsRunOf c.args.mode a.bytes l c.in-Ok.run') c.arrival.view_is (c.in-Ok.ensures.ok made) in
-    subst (λ r. LeadTo (map change_seen c.in-Ok-accepted.outcome.changes.items) rows (outcome_by c.args.arrival.now l r).library) (sym of_run.compiled)
-    (c.in-Ok-accepted.ensures.shows c.args.mode l made of_run rows shows states read)
+pub returns-in-Ok-read_outcome-clause-reads : goal.returns-in-Ok-read_outcome-clause-reads
+returns-in-Ok-read_outcome-clause-reads g c honest l made rows shown shows =
+    reads_of_run c.args.arrival.now.bytes l c.in-Ok.run' _ _
+    (subst (λ (a : ArrivalView). reading a.bytes ≡ Ok c.in-Ok.run') c.arrival.view_is c.in-Ok.ensures.reading)
+    (c.in-Ok-read_outcome.ensures.reads honest l made rows shown shows)
 
-pub returns-in-Ok-refused-clause-reply : goal.returns-in-Ok-refused-clause-reply
-returns-in-Ok-refused-clause-reply c = λ made entered.
-    let l = c.args.library.now in
-    let found = fails_is c.in-Err.fault _ c.in-Ok-refused.ensures.kind c.in-Err.ensures.refused in
-    let is = subst (λ (a : ArrivalView). compiled c.args.mode a.bytes l ≡ Err c.in-Err.fault) c.arrival.view_is found in
-    c.in-Ok-refused.ensures.reply c.args.mode l entered ∙ ap (λ r. (outcome_by c.args.arrival.now l r).reply) (sym is)
+pub returns-in-Ok-refused-clause-found : goal.returns-in-Ok-refused-clause-found
+returns-in-Ok-refused-clause-found g c honest l made rows shown shows states =
+    let found = fails_is c.in-Err.fault _ c.in-Ok-refused.ensures.kind c.in-Err.ensures.reading in
+    let read = subst (λ (a : ArrivalView). reading a.bytes ≡ Err c.in-Err.fault) c.arrival.view_is found in
+    refused_outcome c.args.mode c.args.arrival.now l rows c.in-Err.fault c.in-Ok-refused.outcome made shows states
+    (unread_is c.args.mode c.args.arrival.now.bytes l c.in-Err.fault read)
+    (c.in-Ok-refused.ensures.reply c.args.mode l c.requires.passed) c.in-Ok-refused.ensures.changes c.in-Ok-refused.ensures.work
 
-pub returns-in-Ok-refused-clause-least : goal.returns-in-Ok-refused-clause-least
-returns-in-Ok-refused-clause-least c = λ made rows states read.
-    let l = c.args.library.now in
-    let found = fails_is c.in-Err.fault _ c.in-Ok-refused.ensures.kind c.in-Err.ensures.refused in
-    let is = subst (λ (a : ArrivalView). compiled c.args.mode a.bytes l ≡ Err c.in-Err.fault) c.arrival.view_is found in
-    least_refused c.args.mode c.args.arrival.now l c.in-Err.fault _ made.sound is
+pub returns-clause-lost : goal.returns-clause-lost
+returns-clause-lost g c = refused_lost c.in-Err.fault c.in-Err-refused.fault _ c.in-Err.ensures.reading c.in-Err-refused.ensures.lost

@@ -1,4 +1,4 @@
-use Rattle.std.proofs.Common.{◌≡◌, ◌<◌, ◌^◌, [], map, length, ap, sym, ◌∙◌, subst, rules, arith}
+use Rattle.std.proofs.Common.{◌≡◌, ◌<◌, ◌^◌, map, length, ap, sym, ◌∙◌, subst, rules, arith}
 use Rattle.upd_core.specs.Counted.{CountedView}
 use Rattle.upd_core.specs.Library.{LibraryView, empty}
 use Rattle.upd_core.specs.Sound.{AreApart, IsSound, all_cards, key_of}
@@ -7,8 +7,8 @@ use Rattle.upd_change.specs.Rows.{ShowsStates}
 use Rattle.upd_change.specs.States.{TakeGone}
 use Rattle.upd_change.specs.Touched.{touched}
 use Rattle.upd_laws.proofs.SoundRunLemmas.{empty_sound}
-use Rattle.upd_yank.specs.Right.{IsRight, IsRunBetween}
-use Rattle.upd_migrate.proofs.Told.{between, none_gone, shows_nothing}
+use Rattle.upd_yank.specs.Right.{IsRight}
+use Rattle.upd_migrate.proofs.Told.{between, enough, none_gone, shows_nothing}
 use Rattle.upd_migrate.proofs.telling.statuses.Goals as goal
 
 pub returns-clause-states : goal.returns-clause-states
@@ -25,12 +25,9 @@ returns-clause-states c = λ sound rows states counts.
     (subst (λ (x : LibraryView). length x.yanks < 2 ^ 32) (sym nothing) empty_few)) in
     let is : run ≡ touched empty l = c.in_ok-brought.ensures.touched (subst (λ (x : LibraryView). AreApart (map key_of (all_cards x))) (sym nothing) tt)
     ∙ ap (λ (x : LibraryView). touched x l) nothing in
-    let same = ap (λ (k : CountedView). k.library) c.new-4.ensures in
-    let across = subst (λ (n : LibraryView). IsRunBetween empty n cache run) (sym same) (between l cache run sound few right is) in
-    let gone = subst (λ (n : LibraryView). TakeGone empty n []) (sym same) (none_gone l) in
+    let across = between l cache run sound few right is in
+    let all = enough l c.new-4.result.library run (ap (λ (k : CountedView). k.library) c.new-4.ensures) in
     let no_changes = c.new-3.ensures.items in
-    let told = c.in_ok-changes.ensures.changes empty across (subst (λ xs. TakeGone empty c.new-4.result.library (map change_seen xs)) (sym no_changes) gone)
+    let told = c.in_ok-changes.ensures.changes empty l all across (subst (λ xs. TakeGone empty l (map change_seen xs)) (sym no_changes) (none_gone l))
     rows (shows_nothing rows states counts) in
-    subst (λ (n : LibraryView). ShowsStates (done_all (map change_seen c.in_ok-changes.changes.items) rows) n) same
-    (subst (λ xs. ShowsStates (done_all (map change_seen c.in_ok-changes.changes.items) (done_all (map change_seen xs) rows)) c.new-4.result.library)
-    no_changes told)
+    subst (λ xs. ShowsStates (done_all (map change_seen c.in_ok-changes.changes.items) (done_all (map change_seen xs) rows)) l) no_changes told

@@ -1,5 +1,5 @@
 use Rattle.std.proofs.Common.{◌<◌, ◌^◌, ap, sym, ◌∙◌, arith}
-use Rattle.upd_rows.specs.Parts.{cards_of_decks, entries_of_decks, part_of}
+use Rattle.upd_core.specs.Parts.{cards_of_decks, entries_of_decks, part_of}
 use Rattle.upd_rows.proofs.PartLemmas.{few_cards, few_entries}
 use Rattle.upd_rows.proofs.assemble.assembled_part.Goals as goal
 

@@ -2,7 +2,7 @@ use Rattle.std.proofs.Common.{◌≡◌, not, take}
 use Rattle.std.specs.List.{filter}
 use Rattle.upd_core.specs.Counts.{capped}
 use Rattle.upd_core.specs.Edits.{is_among}
-use Rattle.upd_rows.specs.Parts.{cards_of_decks}
+use Rattle.upd_core.specs.Parts.{cards_of_decks}
 use Rattle.upd_rows.proofs.parts.all_cards_left.Given as goal
 
 abbrev pub invariant-loop-deck : goal.invariant-loop-deck

@@ -1,5 +1,5 @@
-use Rattle.std.proofs.Common.{[]}
 use Rattle.sqlite.specs.Held.{state}
+use Rattle.sqlite.specs.Values.{bound}
 use Rattle.upd_sql.proofs.Finds.{untouched}
 use Rattle.upd_sql.proofs.Typed.{was_open_from}
 use Rattle.upd_sql.proofs.whole.rows_of.Goals as goal
@@ -11,5 +11,5 @@ returns-clause-was_open g c clean =
 
 pub returns-clause-same : goal.returns-clause-same
 returns-clause-same g c plain clean =
-    untouched (λ rows. rows.items) c.args.sql.now [] (state g.S.Store c.args.tx.now.conn.now) (state g.S.Store c.ask.new.tx.conn.now) c.ask.result plain
+    untouched (λ rows. rows.items) c.args.sql.now (bound c.args.params.now) (state g.S.Store c.args.tx.now.conn.now) (state g.S.Store c.ask.new.tx.conn.now) c.ask.result plain
     (c.ask.ensures.shown clean)

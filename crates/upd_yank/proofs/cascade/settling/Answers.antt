@@ -1,4 +1,5 @@
 use Rattle.std.proofs.Common.{ap, sym, ◌∙◌, subst}
+use Rattle.upd_core.specs.declared.library.Rest.{Rest}
 use Rattle.upd_core.specs.TargetCounts.{count_in, count_on}
 use Rattle.upd_yank.proofs.LeftLemmas.{left_found}
 use Rattle.upd_yank.proofs.RightLemmas.{views_are}
@@ -34,6 +35,8 @@ returns-clause-statuses c =
     let known = kept_status c.args.before.now.statuses.now in
     let yanks = c.deref-3.ensures.value ∙ c.in_ok-yanks.ensures in
     let others = c.deref-4.ensures.value ∙ c.in_ok-others.ensures in
-    subst (λ found. ArePut known (yanks_of l) (others_of l) found c.in_ok-statuses.statuses) c.deref-5.ensures.value
-    (subst (λ os. ArePut known (yanks_of l) os c.deref-5.result.now c.in_ok-statuses.statuses) others
-    (subst (λ ys. ArePut known ys c.deref-4.result.now c.deref-5.result.now c.in_ok-statuses.statuses) yanks c.in_ok-statuses.ensures))
+    subst (λ found. ArePut known l.rest.cards (yanks_of l) (others_of l) found c.in_ok-statuses.statuses) c.deref-5.ensures.value
+    (subst (λ os. ArePut known l.rest.cards (yanks_of l) os c.deref-5.result.now c.in_ok-statuses.statuses) others
+    (subst (λ ys. ArePut known l.rest.cards ys c.deref-4.result.now c.deref-5.result.now c.in_ok-statuses.statuses) yanks
+    (subst (λ (rest : Rest). ArePut known rest.cards c.deref-3.result.now c.deref-4.result.now c.deref-5.result.now c.in_ok-statuses.statuses)
+    c.rest-rest.ensures c.in_ok-statuses.ensures)))

@@ -1,21 +1,23 @@
--- What is owed of the library that was loaded is owed of the library after each journal that the store holds.
+-- What is listed of what was loaded is listed of the library after each journal that the store holds.
 use Rattle.std.proofs.Common.{Ok, Err, inl}
 use Rattle.upd_compile.specs.Listings.{deck_listing}
 use Rattle.upd_desk.proofs.ArrivesLemmas.{lost_kind}
 use Rattle.upd_desk.proofs.MadeLemmas.{world_made}
-use Rattle.upd_desk.proofs.QueryLemmas.{fails_owed, tells_loaded}
+use Rattle.upd_desk.proofs.QueryLemmas.{fails_owed, tells_same}
 use Rattle.upd_desk.proofs.desk.Desk.deck_list.Goals as goal
 
 pub returns-in-Ok-list_deck-clause-text : goal.returns-in-Ok-list_deck-clause-text
 returns-in-Ok-list_deck-clause-text g c =
-    tells_loaded _ _ _ _ _ _ world_made (deck_listing c.args.name.now) (Ok c.in-Ok-list_deck.text.items) c.in-Ok.library
-    c.args.self.now.store c.load.new.self c.in-Ok.ensures.same c.in-Ok.ensures.open c.in-Ok.ensures.found c.in-Ok-list_deck.ensures
+    tells_same _ _ _ _ _ _ world_made (deck_listing c.args.name.now) (deck_listing c.args.name.now c.in-Ok.library) (Ok c.in-Ok-list_deck.text.items)
+    c.args.self.now.store c.load_deck_named.new.store c.in-Ok.ensures.same c.in-Ok.ensures.open
+    (λ honest l made rows shown shows states. c.in-Ok.ensures.found honest l made rows shown shows) c.in-Ok-list_deck.ensures
 
 pub returns-clause-text : goal.returns-clause-text
 returns-clause-text g c =
-    tells_loaded _ _ _ _ _ _ world_made (deck_listing c.args.name.now) (Err c.in-Err-list_deck.fault) c.in-Ok.library
-    c.args.self.now.store c.load.new.self c.in-Ok.ensures.same c.in-Ok.ensures.open c.in-Ok.ensures.found
-    (fails_owed c.in-Err-list_deck.fault ((deck_listing c.args.name.now) c.in-Ok.library) c.in-Err-list_deck.ensures)
+    tells_same _ _ _ _ _ _ world_made (deck_listing c.args.name.now) (deck_listing c.args.name.now c.in-Ok.library) (Err c.in-Err-list_deck.fault)
+    c.args.self.now.store c.load_deck_named.new.store c.in-Ok.ensures.same c.in-Ok.ensures.open
+    (λ honest l made rows shown shows states. c.in-Ok.ensures.found honest l made rows shown shows)
+    (fails_owed c.in-Err-list_deck.fault (deck_listing c.args.name.now c.in-Ok.library) c.in-Err-list_deck.ensures)
 
 pub returns-in-Err-clause-text : goal.returns-in-Err-clause-text
 returns-in-Err-clause-text g c honest journal held = inl (lost_kind c.in-Err.fault c.in-Err.ensures.lost)

@@ -1,16 +1,18 @@
--- What is owed of the library that was loaded is owed of the library after each journal that the store holds.
+-- The directory is listed of the part without decks as of the library after each journal that the store holds.
 use Rattle.std.proofs.Common.{Ok, ap, inl, sym}
 use Rattle.upd_compile.specs.Listings.{ident_listing}
 use Rattle.upd_desk.proofs.ArrivesLemmas.{lost_kind}
 use Rattle.upd_desk.proofs.MadeLemmas.{world_made}
-use Rattle.upd_desk.proofs.QueryLemmas.{tells_loaded}
+use Rattle.upd_desk.proofs.QueryLemmas.{tells_same}
 use Rattle.upd_desk.proofs.StoreLemmas.{lost_memory}
 use Rattle.upd_desk.proofs.desk.Desk.ident_list.Goals as goal
 
 pub returns-in-Ok-list_idents-clause-text : goal.returns-in-Ok-list_idents-clause-text
 returns-in-Ok-list_idents-clause-text g c =
-    tells_loaded _ _ _ _ _ _ world_made (λ l. Ok (ident_listing l)) (Ok c.in-Ok-list_idents.text.items) c.in-Ok.library
-    c.args.self.now.store c.load.new.self c.in-Ok.ensures.same c.in-Ok.ensures.open c.in-Ok.ensures.found (ap Ok (sym c.in-Ok-list_idents.ensures.ok))
+    tells_same _ _ _ _ _ _ world_made (λ l. Ok (ident_listing l)) (Ok (ident_listing c.in-Ok.head)) (Ok c.in-Ok-list_idents.text.items)
+    c.args.self.now.store c.load_decks.new.self c.in-Ok.ensures.same c.in-Ok.ensures.open
+    (λ honest l made rows shown shows states. ap (λ l. Ok (ident_listing l)) (c.in-Ok.ensures.found honest l made.sound made.whole rows shown shows))
+    (ap Ok (sym c.in-Ok-list_idents.ensures.ok))
 
 pub returns-clause-text : goal.returns-clause-text
 returns-clause-text g c honest journal held =

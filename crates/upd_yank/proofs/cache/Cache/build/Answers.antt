@@ -17,5 +17,5 @@ returns-clause-right c = λ sound few.
     let left : CacheView = record { states = c.in_ok-left.left.statuses; counts = c.in_ok-left.left.found.counts; work = 0 } in
     subst (λ x. IsRight x left) library (
     built_right l c.add_all-2.new.self c.new.result c.new-2.result c.in_ok-left.left.found.statuses.items left (subst IsSound (sym library) sound)
-    (subst (λ (x : LibraryView). length x.yanks < 2 ^ 32) (sym library) few) all c.in_ok-left.ensures.counts c.in_ok-left.ensures.found
+    (subst (λ (x : LibraryView). length x.yanks < 2 ^ 32) (sym library) few) c.new.ensures all c.in_ok-left.ensures.counts c.in_ok-left.ensures.found
     c.in_ok-left.ensures.statuses)

@@ -3,6 +3,7 @@ use Rattle.std.specs.List.{list_any, AllByRecursion}
 use Rattle.upd_change.specs.Changes.{change_seen, done_all}
 use Rattle.upd_change.specs.Rows.{ShowsStates, same_ref}
 use Rattle.upd_change.specs.States.{tells_state}
+use Rattle.upd_yank.proofs.EnoughLemmas.{sees}
 use Rattle.upd_yank.proofs.OnlyLemmas.{settling_only}
 use Rattle.upd_yank.proofs.RightLemmas.{least_work, settled_right, settled_told}
 use Rattle.upd_yank.proofs.ToldLemmas.{settling_shows}
@@ -11,37 +12,37 @@ use Rattle.upd_yank.specs.Told.{settling_told}
 use Rattle.upd_yank.proofs.cache.Cache.settle.Goals as goal
 
 pub returns-clause-right : goal.returns-clause-right
-returns-clause-right c = λ old between.
-    let new = c.args.counted.now.library in
+returns-clause-right c = λ old new enough between.
+    let l = c.args.counted.now.library in
     let run = c.args.applied.now.touched.items in
     let cache : CacheView = record { states = c.self.inside.statuses; counts = c.self.inside.counts; work = c.self.inside.work } in
     let left : CacheView = record { states = c.in_ok-left.left.statuses; counts = c.in_ok-left.left.found.counts; work = c.len.result } in
     let known = subst (λ k. IsRunBetween old new k run) (sym c.self.view_is) between in
     let same = λ (r : _). c.in_ok-touched.ensures r ∙ ap (list_any (same_ref r)) c.deref.ensures.value in
-    (settled_right old new cache left run c.in_ok-touched.touched c.in_ok-left.left.found.statuses.items known same
-    c.in_ok-left.ensures.counts c.in_ok-left.ensures.found c.in_ok-left.ensures.statuses).0
+    (settled_right old new l cache run c.in_ok-touched.touched c.in_ok-left.left.found.statuses.items (sees run old new l enough) known same
+    c.in_ok-left.ensures.found left c.in_ok-left.ensures.counts c.in_ok-left.ensures.statuses).0
 
 pub returns-clause-work : goal.returns-clause-work
-returns-clause-work c = λ old between.
-    let new = c.args.counted.now.library in
+returns-clause-work c = λ old new enough between.
+    let l = c.args.counted.now.library in
     let run = c.args.applied.now.touched.items in
     let cache : CacheView = record { states = c.self.inside.statuses; counts = c.self.inside.counts; work = c.self.inside.work } in
     let left : CacheView = record { states = c.in_ok-left.left.statuses; counts = c.in_ok-left.left.found.counts; work = c.len.result } in
     let known = subst (λ k. IsRunBetween old new k run) (sym c.self.view_is) between in
     let same = λ (r : _). c.in_ok-touched.ensures r ∙ ap (list_any (same_ref r)) c.deref.ensures.value in
-    let both = settled_right old new cache left run c.in_ok-touched.touched c.in_ok-left.left.found.statuses.items known same
-    c.in_ok-left.ensures.counts c.in_ok-left.ensures.found c.in_ok-left.ensures.statuses in
+    let both = settled_right old new l cache run c.in_ok-touched.touched c.in_ok-left.left.found.statuses.items (sees run old new l enough) known same
+    c.in_ok-left.ensures.found left c.in_ok-left.ensures.counts c.in_ok-left.ensures.statuses in
     omega (arith, c.len.ensures, c.in_ok-left.left.found.statuses.ok.0, both.1)
 
 pub returns-clause-least : goal.returns-clause-least
-returns-clause-least c = λ old between.
-    let more = least_work old c.args.counted.now.library c.args.self.now c.args.applied.now.touched.items between in
-    let is = returns-clause-work c old between in
+returns-clause-least c = λ old new enough between.
+    let more = least_work old new c.args.self.now c.args.applied.now.touched.items between in
+    let is = returns-clause-work c old new enough between in
     omega (arith, more, is)
 
 pub returns-clause-changes : goal.returns-clause-changes
-returns-clause-changes c = λ old between taken rows shown.
-    let new = c.args.counted.now.library in
+returns-clause-changes c = λ old new enough between taken rows shown.
+    let l = c.args.counted.now.library in
     let run = c.args.applied.now.touched.items in
     let gone = map change_seen c.args.applied.now.changes.items in
     let cache : CacheView = record { states = c.self.inside.statuses; counts = c.self.inside.counts; work = c.self.inside.work } in
@@ -49,9 +50,10 @@ returns-clause-changes c = λ old between taken rows shown.
     let found = c.in_ok-left.left.found.statuses.items in
     let known = subst (λ k. IsRunBetween old new k run) (sym c.self.view_is) between in
     let same = λ (r : _). c.in_ok-touched.ensures r ∙ ap (list_any (same_ref r)) c.deref.ensures.value in
-    let right = (settled_right old new cache left run c.in_ok-touched.touched found known same
-    c.in_ok-left.ensures.counts c.in_ok-left.ensures.found c.in_ok-left.ensures.statuses).0 in
-    let settled = settled_told old new cache left run c.in_ok-touched.touched found gone known same c.in_ok-left.ensures.found right taken in
+    let seen = sees run old new l enough in
+    let right = (settled_right old new l cache run c.in_ok-touched.touched found seen known same c.in_ok-left.ensures.found left
+    c.in_ok-left.ensures.counts c.in_ok-left.ensures.statuses).0 in
+    let settled = settled_told old new l cache run c.in_ok-touched.touched found seen known same c.in_ok-left.ensures.found left gone right taken in
     let told = c.in_ok-changes.ensures
     ∙ ap (λ cs. settling_told cache.states found left.states (map change_seen cs) cache.counts left.counts) c.deref-2.ensures.value in
     subst (λ cs. ShowsStates (done_all cs (done_all gone rows)) new) (sym told)

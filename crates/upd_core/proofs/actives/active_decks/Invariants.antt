@@ -1,6 +1,0 @@
-use Rattle.std.proofs.Common.{◌≡◌, map, take}
-use Rattle.upd_core.specs.Actives.{active_deck}
-use Rattle.upd_core.proofs.actives.active_decks.Given as goal
-
-abbrev pub invariant-loop-deck : goal.invariant-loop-deck
-invariant-loop-deck l = l.found.items ≡ map (active_deck l.live) (take l.deck-index l.decks)

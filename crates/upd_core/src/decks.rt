@@ -1,0 +1,236 @@
+//! The decks of a library, with what makes look-ups of cards short.
+
+ghost use Rattle.std.specs.Prelude.{◌≡◌, ◌==◌, ◌≤◌, [], ◌∷◌, ◌++◌, true, false, find, is_some, IfOk, OnOk, OnErr};
+ghost use Rattle.std.specs.Option.{option_map_or};
+ghost use Rattle.upd_core.specs.EditParts.{entered_count, entered_in, inserted_in};
+ghost use Rattle.upd_core.specs.Edits.{decks_without, without_idents};
+ghost use Rattle.upd_core.specs.First.{at_first, index_from};
+ghost use Rattle.upd_core.specs.Gone.{is_gone};
+ghost use Rattle.upd_core.specs.Homes.{AreHome, IsHome, StayMarked, is_home, may_stray};
+ghost use Rattle.upd_core.specs.Library.{is_card, is_deck, place_in};
+
+use crate::card::{Card, Entry};
+use crate::deck::{Deck, card_index, copy_decks, place_in};
+use crate::edits::{enter_in, insert_in, purge_deck};
+use crate::gone::{Gone, purge_decks};
+use crate::ident::Serial;
+use crate::library::Place;
+use std::alloc::{AllocError, Global};
+use std::marker::Model;
+use upd_text::limits::MAX_INTRODUCED;
+
+/// The decks other than `YANK$$$`.
+#[derive(Debug, Drop)]
+pub(crate) struct Decks {
+    all: Vec<Deck>,
+    /// For each age whether its ident may have cards in another deck than its own.
+    strays: Vec<bool>,
+}
+
+impl Model for Decks {
+    ghost use Rattle.std.specs.Prelude.{List};
+    ghost use Rattle.upd_core.specs.Library.{DeckView};
+    ghost use Rattle.upd_core.specs.Homes.{AreHome};
+
+    ghost Value = { List DeckView };
+
+    ghost view = { λ d. d.all.items };
+
+    ghost invariant = { λ d. AreHome d.strays.items d.all.items };
+}
+
+impl Decks {
+    /// These decks. Where there is no memory for marks, each look-up of a card goes through all decks.
+    pub(crate) fn of(all: Vec<Deck>) -> Decks
+        ensures { result ≡ all.items }
+    {
+        let mut strays = no_strays(&all);
+        mark_all(&mut strays, &all);
+        Decks { all, strays }
+    }
+
+    /// A copy; memory alone can fail.
+    pub(crate) fn copy(&self) -> Result<Decks, AllocError>
+        ensures { IfOk result (λ copy. copy ≡ self.now) }
+    {
+        let all = copy_decks(*self.all.allocator(), &self.all)?;
+        Ok(Decks::of(all))
+    }
+
+    pub(crate) fn as_slice(&self) -> &[Deck]
+        ensures { result.now ≡ self.now }
+    {
+        self.all.as_slice()
+    }
+
+    /// Where the card of an ident and a number stands.
+    pub(crate) fn place_of(&self, ident: Serial, number: u32) -> Option<Place>
+        ensures { result ≡ place_in self.now ident number }
+    {
+        if may_stray(&self.strays, ident) {
+            place_in(&self.all, ident, number)
+        } else {
+            place_at_home(&self.all, &self.strays, ident, number)
+        }
+    }
+
+    /// A new deck at the end.
+    pub(crate) fn push(&mut self, deck: Deck) -> Result<(), AllocError>
+        ensures ok { OnOk result (self.new ≡ self.old ++ deck ∷ []) }
+        ensures err { OnErr result (self.new ≡ self.old) }
+    {
+        mark_deck(&mut self.strays, &deck);
+        self.all.push(deck)?;
+        Ok(())
+    }
+
+    /// A card in the deck of an age, with so many of its cards behind it; whether there is such a deck.
+    pub(crate) fn insert(
+        &mut self,
+        age: Serial,
+        behind: usize,
+        card: Card,
+    ) -> Result<bool, AllocError>
+        ensures found { IfOk result (λ found. found ≡ is_some (find (is_deck age) self.old)) }
+        ensures ok { OnOk result (self.new ≡ inserted_in age behind card self.old) }
+        ensures err { OnErr result (self.new ≡ self.old) }
+    {
+        mark_kept(&mut self.strays, age, &card);
+        let found = insert_in(&mut self.all, age, behind, card)?;
+        Ok(found)
+    }
+
+    /// An entry on the cards of the deck of an age from one index to another; how many these are.
+    pub(crate) fn enter(
+        &mut self,
+        age: Serial,
+        from: usize,
+        to: usize,
+        entry: Entry,
+    ) -> Result<usize, AllocError>
+        requires { from ≤ to }
+        ensures count { IfOk result
+            (λ count. count ≡ option_map_or (λ d. entered_count from to d.cards) (find (is_deck age) self.old) 0) }
+        ensures ok { OnOk result (self.new ≡ entered_in age from to entry self.old) }
+        ensures err { OnErr result (self.new ≡ self.old) }
+    {
+        let count = enter_in(&mut self.all, age, from, to, entry)?;
+        Ok(count)
+    }
+
+    /// Takes the decks of these idents away, and their cards and entries out of the other decks.
+    pub(crate) fn purge(&mut self, gone: &Gone)
+        ensures { self.new ≡ decks_without (is_gone gone.now) self.old }
+    {
+        purge_decks(&mut self.all, gone);
+    }
+
+    /// Purges an ident in the deck of an age.
+    pub(crate) fn purge_in(&mut self, age: Serial, ident: Serial)
+        ensures { self.new
+            ≡ at_first (is_deck age) (λ d. record d { cards = without_idents (λ x. x == ident) d.cards }) self.old }
+    {
+        purge_deck(&mut self.all, age, ident);
+    }
+}
+
+/// Marks that say of no ident up to the youngest deck that it strays; none where there is no memory for them.
+fn no_strays(decks: &Vec<Deck>) -> Vec<bool> {
+    let alloc = *decks.allocator();
+    let count = match decks.last() {
+        Some(deck) => MAX_INTRODUCED.min(deck.ident as usize) + 1,
+        None => 0,
+    };
+    match vec![in alloc; false; count] {
+        Ok(marks) => marks,
+        Err(_) => Vec::new(alloc),
+    }
+}
+
+/// Whether an ident may have cards in another deck than its own.
+fn may_stray(strays: &[bool], ident: Serial) -> bool
+    ensures { result ≡ may_stray strays.now ident }
+{
+    match strays.get(ident as usize) {
+        Some(strays) => *strays,
+        None => true,
+    }
+}
+
+/// Marks an ident as one that may stray.
+fn mark(strays: &mut [bool], ident: Serial)
+    ensures kept { StayMarked strays.old strays.new }
+    ensures marked { may_stray strays.new ident ≡ true }
+{
+    let index = ident as usize;
+    if index < strays.len() {
+        strays[index] = true;
+    }
+}
+
+/// Marks the ident of a card that stands in the deck of an age, unless the deck is its own.
+fn mark_card(strays: &mut [bool], deck: Serial, card: &Card)
+    ensures kept { StayMarked strays.old strays.new }
+    ensures home { is_home strays.new deck card.now ≡ true }
+{
+    if card.ident != deck {
+        mark(strays, card.ident);
+    }
+}
+
+/// The same of marks that are kept as decks keep them.
+fn mark_kept(strays: &mut Vec<bool>, deck: Serial, card: &Card)
+    ensures kept { StayMarked strays.old.items strays.new.items }
+    ensures home { is_home strays.new.items deck card.now ≡ true }
+{
+    mark_card(strays, deck, card);
+}
+
+/// Marks the idents of the cards of a deck.
+fn mark_deck(strays: &mut [bool], deck: &Deck)
+    ensures kept { StayMarked strays.old strays.new }
+    ensures home { IsHome strays.new deck.now }
+{
+    for card in &deck.cards {
+        mark_card(strays, deck.ident, card);
+    }
+}
+
+/// Marks the idents of the cards of all decks.
+fn mark_all(strays: &mut [bool], decks: &[Deck])
+    ensures { AreHome strays.new decks.now }
+{
+    for deck in decks {
+        mark_deck(strays, deck);
+    }
+}
+
+/// The index in a deck of the card of an ident that doesn't stray.
+fn index_at_home(deck: &Deck, strays: &[bool], ident: Serial, number: u32) -> Option<usize>
+    requires home { IsHome strays.now deck.now }
+    requires stays { may_stray strays.now ident ≡ false }
+    ensures { result ≡ index_from (is_card ident number) 0 deck.now.cards }
+{
+    if deck.ident == ident {
+        card_index(&deck.cards, ident, number)
+    } else {
+        None
+    }
+}
+
+/// Where the card of an ident that doesn't stray stands.
+fn place_at_home(decks: &[Deck], strays: &[bool], ident: Serial, number: u32) -> Option<Place>
+    requires home { AreHome strays.now decks.now }
+    requires stays { may_stray strays.now ident ≡ false }
+    ensures { result ≡ place_in decks.now ident number }
+{
+    for deck in decks {
+        if let Some(index) = index_at_home(deck, strays, ident, number) {
+            return Some(Place {
+                deck: deck.ident,
+                index,
+            });
+        }
+    }
+    None
+}

@@ -1,0 +1,142 @@
+-- What is loaded for a run is the part with the decks that it needs, and no more decks are read.
+use Rattle.std.proofs.Common.{◌≡◌, ℕ, ◌+◌, ◌≤◌, ◌<◌, Bool, true, false, not, ◌&&◌, if◌then◌else◌, List, [], ◌∷◌, length, map, Option, Some, None, Ok, refl, sym, ap}
+use Rattle.std.proofs.Common.{◌∙◌, subst, arith}
+use Rattle.std.proofs.lemmas.Bool.Decides.{nat_tests}
+use Rattle.std.specs.Prelude.{◌==◌}
+use Rattle.std.specs.List.{filter, list_any}
+use Rattle.std.specs.Option.{option_map_or}
+use Rattle.upd_text.specs.declared.card_ref.CardRef.{CardRef}
+use Rattle.upd_core.specs.declared.library.Place.{Place}
+use Rattle.upd_core.specs.Edits.{is_among}
+use Rattle.upd_core.specs.First.{index_from}
+use Rattle.upd_core.specs.Library.{DeckView, LibraryView, ident_of, is_card, place_in}
+use Rattle.upd_core.specs.Parts.{part_of}
+use Rattle.upd_core.specs.Sound.{IsSound}
+use Rattle.upd_core.proofs.ApartLemmas.{all_at, all_mapped}
+use Rattle.upd_core.proofs.FoundLemmas.{place_found}
+use Rattle.upd_deck.specs.Items.{LineView}
+use Rattle.upd_rows.specs.Asked.{decks_with}
+use Rattle.upd_rows.specs.Keeping.{reads_with}
+use Rattle.upd_parts.specs.Needed.{all_named, decks_needed, is_yank_card}
+use Rattle.upd_parts.specs.Needless.{are_plain}
+use Rattle.upd_parts.proofs.CountLemmas.{decks_few, whole_part}
+use Rattle.upd_deck.specs.Reading.{reading}
+use Rattle.upd_desk.specs.Needed.{needed}
+
+-- ---- whether a yank card is named is seen without any deck
+
+-- whether what is found is a yank card, behind what is found among the yank cards
+abbrev found_yank : Option ℕ → Option Place → Bool
+found_yank (Some i) later = true
+found_yank None later = option_map_or (λ (p : Place). p.deck == 0) later false
+
+none_in_none : (ds : List DeckView) (z n : ℕ) → place_in (filter (λ (d : DeckView). not (not (is_among [] d.ident))) ds) z n ≡ None
+none_in_none [] z n = refl
+none_in_none (d ∷ ds) z n = none_in_none ds z n
+
+no_yank_deck : (l : LibraryView) (z n : ℕ) → IsSound l → option_map_or (λ (p : Place). p.deck == 0) (place_in l.decks z n) false ≡ false
+no_yank_deck l z n sound = go (place_in l.decks z n) refl
+  where
+    go : (o : Option Place) → place_in l.decks z n ≡ o → option_map_or (λ (p : Place). p.deck == 0) o false ≡ false
+    go None e = refl
+    go (Some p) e =
+        let at = place_found l.decks z n p e in
+        let later : 0 < at.deck.ident =
+        all_at (λ (d : DeckView). 0 < d.ident) l.decks at.index at.deck
+        (all_mapped (λ m. 0 < m) (λ (d : DeckView). d.ident) l.decks sound.deck_ages.0) at.found in
+        let age = at.age in
+        grind (arith, nat_tests)
+
+yank_same : (l : LibraryView) (card : CardRef) → IsSound l → is_yank_card (part_of [] l) card ≡ is_yank_card l card
+yank_same l card sound = go (ident_of card.name l) refl
+  where
+    ending : (o : Option ℕ) (z : ℕ) → found_yank o (place_in (filter (λ (d : DeckView). not (not (is_among [] d.ident))) l.decks) z card.number)
+        ≡ found_yank o (place_in l.decks z card.number)
+    ending (Some i) z = refl
+    ending None z =
+        ap (λ o. option_map_or (λ (p : Place). p.deck == 0) o false) (none_in_none l.decks z card.number) ∙ sym (no_yank_deck l z card.number sound)
+
+    as_found : (ds : List DeckView) (z : ℕ) (o : Option ℕ) → index_from (is_card z card.number) 0 l.yanks ≡ o
+        → option_map_or (λ (p : Place). p.deck == 0) (place_in (record { ident = 0; cards = l.yanks } ∷ ds) z card.number) false
+        ≡ found_yank o (place_in ds z card.number)
+    as_found ds z None e = rw e refl
+    as_found ds z (Some i) e = rw e refl
+
+    go : (o : Option ℕ) → ident_of card.name l ≡ o → is_yank_card (part_of [] l) card ≡ is_yank_card l card
+    go None e = rw e refl
+    go (Some z) e =
+        let o = index_from (is_card z card.number) 0 l.yanks in
+        rw e (as_found (filter (λ (d : DeckView). not (not (is_among [] d.ident))) l.decks) z o refl ∙ ending o z ∙ sym (as_found l.decks z o refl))
+
+yanks_same : (l head : LibraryView) (cards : List CardRef) → IsSound l → head ≡ part_of [] l
+    → list_any (is_yank_card head) cards ≡ list_any (is_yank_card l) cards
+yanks_same l head cards sound is =
+    ap (λ h. list_any (is_yank_card h) cards) is ∙ ap (λ test. list_any test cards) (λ i card. yank_same l card sound i)
+
+-- ---- which decks are needed
+
+abbrev all_ages : LibraryView → List ℕ
+all_ages l = map (λ d. d.ident) l.decks
+
+pub needs_all : (lines : List LineView) (l : LibraryView) → are_plain lines ≡ false → decks_needed lines l ≡ all_ages l
+needs_all lines l plain = rw plain refl
+
+pub needs_yanks : (lines : List LineView) (l head : LibraryView) (cards : List CardRef) → IsSound l → head ≡ part_of [] l → cards ≡ all_named lines
+    → list_any (is_yank_card head) cards ≡ true → decks_needed lines l ≡ all_ages l
+needs_yanks lines l head cards sound is named yanks = go (are_plain lines)
+  where
+    some : list_any (is_yank_card l) (all_named lines) ≡ true
+    some = ap (list_any (is_yank_card l)) (sym named) ∙ sym (yanks_same l head cards sound is) ∙ yanks
+
+    go : (plain : Bool)
+        → (if plain && not (list_any (is_yank_card l) (all_named lines)) then decks_with (all_named lines) l else all_ages l) ≡ all_ages l
+    go true = rw some refl
+    go false = refl
+
+pub needs_named : (lines : List LineView) (l head : LibraryView) (cards : List CardRef) → IsSound l → are_plain lines ≡ true → head ≡ part_of [] l
+    → cards ≡ all_named lines → list_any (is_yank_card head) cards ≡ false → decks_needed lines l ≡ decks_with cards l
+needs_named lines l head cards sound plain is named none =
+    let no : list_any (is_yank_card l) (all_named lines) ≡ false =
+    ap (list_any (is_yank_card l)) (sym named) ∙ sym (yanks_same l head cards sound is) ∙ none in
+    let same : decks_needed lines l ≡ decks_with (all_named lines) l = rw (plain, no) refl in
+    same ∙ ap (λ cs. decks_with cs l) (sym named)
+
+-- ---- what was loaded
+
+pub all_loaded : (lines : List LineView) (l found : LibraryView) → found ≡ l → decks_needed lines l ≡ all_ages l
+    → found ≡ part_of (decks_needed lines l) l
+all_loaded lines l found is needs = is ∙ sym (ap (λ ds. part_of ds l) needs ∙ whole_part l)
+
+pub named_loaded : (lines : List LineView) (l found : LibraryView) (cards asked : List CardRef) → asked ≡ cards
+    → found ≡ part_of (decks_with asked l) l → decks_needed lines l ≡ decks_with cards l → found ≡ part_of (decks_needed lines l) l
+named_loaded lines l found cards asked are is needs = is ∙ ap (λ ds. part_of ds l) (ap (λ cs. decks_with cs l) are ∙ sym needs)
+
+-- ---- how many decks were read
+
+few_more : (old mid new n : ℕ) (found : LibraryView) → new ≡ reads_with found mid → mid ≤ old → length found.decks ≤ n → new ≤ old + n
+few_more old mid new n found is less few = grind (arith, is, less, few)
+
+pub none_read : (old new : ℕ) (l head : LibraryView) → IsSound l → head ≡ part_of [] l → new ≡ reads_with head old → new ≤ old
+none_read old new l head sound is reads =
+    let few : length head.decks ≤ 0 = subst (λ h. length h.decks ≤ 0) (sym is) (decks_few [] l sound) in
+    grind (arith, reads, few)
+
+pub needed_read : (lines : List LineView) (l found : LibraryView) (old mid new : ℕ) → IsSound l → mid ≤ old → new ≡ reads_with found mid
+    → found ≡ part_of (decks_needed lines l) l → new ≤ old + length (decks_needed lines l)
+needed_read lines l found old mid new sound less reads is =
+    few_more old mid new (length (decks_needed lines l)) found reads less
+    (subst (λ m. length m.decks ≤ length (decks_needed lines l)) (sym is) (decks_few (decks_needed lines l) l sound))
+
+pub read_no_more : (old mid new n : ℕ) → new ≡ mid → mid ≤ old + n → new ≤ old + n
+read_no_more old mid new n same less = grind (arith, same, less)
+
+-- for a kept run none is read
+pub none_read_again : (old mid new n : ℕ) → mid ≡ old → new ≡ mid → new ≤ old + n
+none_read_again old mid new n first second = grind (arith, first, second)
+
+-- what is read for the lines of a run is read for its bytes
+pub reads_of_run : (bytes : List ℕ) (l : LibraryView) (lines : List LineView) (old new : ℕ) → reading bytes ≡ Ok lines
+    → new ≤ old + length (decks_needed lines l) → new ≤ old + length (needed bytes l)
+reads_of_run bytes l lines old new read less =
+    let same : needed bytes l ≡ decks_needed lines l = rw read refl in
+    subst (λ ds. new ≤ old + length ds) (sym same) less

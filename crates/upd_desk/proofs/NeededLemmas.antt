@@ -1,0 +1,167 @@
+-- A run that was applied to the decks which it needs has been applied to the whole library.
+use Rattle.std.proofs.Common.{◌≡◌, ℕ, Bool, true, false, not, ◌&&◌, if◌then◌else◌, List, map, Result, Ok, Err, inl, inr, refl, ap, sym, ◌∙◌, subst}
+use Rattle.std.specs.List.{list_any, AllByRecursion}
+use Rattle.upd_text.specs.declared.fault.Fault.{Fault}
+use Rattle.upd_core.specs.Actives.{actives_of}
+use Rattle.upd_core.specs.Edits.{is_among}
+use Rattle.upd_core.specs.Library.{LibraryView}
+use Rattle.upd_core.specs.Parts.{part, part_of}
+use Rattle.upd_core.specs.Sound.{AreApart, IsSound, IsWhole, all_cards, key_of}
+use Rattle.upd_change.specs.Changes.{ChangeView, change_seen}
+use Rattle.upd_change.specs.Told.{Told}
+use Rattle.upd_deck.specs.Items.{LineView}
+use Rattle.upd_apply.specs.Applying.{Reached, applied, touched}
+use Rattle.upd_rows.specs.Asked.{decks_with}
+use Rattle.upd_laws.proofs.SoundRunLemmas.{run_sound, run_whole}
+use Rattle.upd_yank.specs.Enough.{AreIdle}
+use Rattle.upd_yank.specs.Renewed.{IsAsBefore, renewed}
+use Rattle.upd_yank.specs.Right.{CacheView, IsRight}
+use Rattle.upd_yank.proofs.RenewLemmas.{renewed_is}
+use Rattle.upd_parts.specs.Needed.{all_named, decks_needed, is_yank_card}
+use Rattle.upd_parts.specs.Needless.{DoesWithout, IsOnWhole, are_plain, others_of, reached_in_part}
+use Rattle.upd_parts.proofs.AppliedLemmas.{applied_same}
+use Rattle.upd_parts.proofs.CountLemmas.{none_left_out, whole_part}
+use Rattle.upd_parts.proofs.IdleLemmas.{idle_in}
+use Rattle.upd_parts.proofs.LeftLemmas.{no_yank_named}
+use Rattle.upd_parts.proofs.NeedLemmas.{others_listed, part_of_others}
+use Rattle.upd_parts.proofs.NeededLemmas.{others_unnamed}
+use Rattle.upd_parts.proofs.PartSoundLemmas.{part_sound}
+use Rattle.upd_parts.proofs.RenewLemmas.{renewed_in}
+use Rattle.upd_parts.proofs.WholeLemmas.{on_whole}
+use Rattle.upd_desk.specs.declared.outcome.AppliedRun.{AppliedRun}
+use Rattle.upd_desk.specs.Compiling.{IsRunOf}
+use Rattle.upd_desk.specs.Made.{IsMade}
+
+abbrev here_of : AppliedRun → Reached
+here_of run = record { library = run.library; idents = run.applied.idents.items; compile = run.applied.compile.items }
+
+-- What is known of a run that was applied to a library: where it came, what it touched, and that its changes lead there.
+record IsAppliedTo (lines : List LineView) (found : LibraryView) (run : AppliedRun) : Type 0 where
+  is : applied lines found ≡ Ok (here_of run)
+  touches : AreApart (map key_of (all_cards found)) → run.applied.touched.items ≡ touched found run.library
+  tells : Told found run.library (map change_seen run.applied.changes.items)
+
+-- from the whole library the active cards are renewed as they are
+renewed_all : (l new : LibraryView) (cache : CacheView) → IsSound l → IsSound new → IsWhole new → IsRight new cache
+    → renewed cache.states new (actives_of l) ≡ actives_of new
+renewed_all l new cache sound later whole right =
+    subst (λ m. renewed cache.states m (actives_of l) ≡ actives_of new) (whole_part new)
+    (renewed_is (λ z. not (is_among (map (λ d. d.ident) new.decks) z)) l new cache sound later whole right
+    (subst (AllByRecursion (IsAsBefore l new)) (sym (none_left_out new)) tt))
+
+-- of the whole library
+on_all : (lines : List LineView) (l : LibraryView) (run : AppliedRun) → IsMade l → IsAppliedTo lines l run → (reached : Reached) × IsRunOf lines l reached run
+on_all lines l run made at = (
+  here_of run,
+  record {
+    applied = at.is;
+    idents = refl;
+    compile = refl;
+    directory = refl;
+    told = at.tells;
+    touched = at.touches made.sound.keys;
+    enough = inl (refl, whole);
+    renews = λ cache right. renewed_all l run.library cache made.sound (run_sound lines l (here_of run) made.sound at.is) whole right;
+  },
+)
+  where
+    whole : IsWhole run.library
+    whole = run_whole lines l (here_of run) made.whole at.is
+
+-- of the decks that hold the cards which it names
+on_named : (lines : List LineView) (l : LibraryView) (run : AppliedRun) → IsMade l → are_plain lines ≡ true
+    → list_any (is_yank_card l) (all_named lines) ≡ false → IsAppliedTo lines (part_of (decks_with (all_named lines) l) l) run
+    → (reached : Reached) × IsRunOf lines l reached run
+on_named lines l run made plain none at = by (on_whole ages lines l (here_of run) changes made.sound made.within plain
+    (others_unnamed lines l made.sound) at.is at.tells)
+  where
+    ages : List ℕ
+    ages = decks_with (all_named lines) l
+
+    out : ℕ → Bool
+    out = others_of ages l
+
+    changes : List ChangeView
+    changes = map change_seen run.applied.changes.items
+
+    same : part_of ages l ≡ part out l
+    same = part_of_others ages l made.sound
+
+    apart : AreApart (map key_of (all_cards (part_of ages l)))
+    apart = subst (λ (m : LibraryView). AreApart (map key_of (all_cards m))) (sym same) (part_sound out l made.sound).keys
+
+    does : DoesWithout out lines l
+    does = record { plain = plain; listed = others_listed ages l; cards = others_unnamed lines l made.sound }
+
+    by : IsOnWhole out lines l (here_of run) changes → (reached : Reached) × IsRunOf lines l reached run
+    by on =
+        let touched_is : run.applied.touched.items ≡ touched l on.there.library =
+        at.touches apart ∙ ap (λ (m : LibraryView). touched m run.library) same ∙ sym on.touched in (
+          on.there,
+          record {
+            applied = on.reached;
+            idents = ap (λ (r : Reached). r.idents) on.parted;
+            compile = ap (λ (r : Reached). r.compile) on.parted;
+            directory = ap (λ (r : Reached). r.library.idents) on.parted;
+            told = on.told;
+            touched = touched_is;
+            enough = inr (out, ap (λ (r : Reached). r.library) on.parted, subst (λ cs. AreIdle cs l on.there.library out) (sym touched_is) (idle_in out lines l on.there made.sound does (no_yank_named lines l none) on.reached));
+            renews = λ cache right.
+                ap (λ (m : LibraryView). renewed cache.states m (actives_of l)) (ap (λ (r : Reached). r.library) on.parted)
+                ∙ renewed_in out lines l on.there cache made.sound made.whole does (no_yank_named lines l none) on.reached right;
+          },
+        )
+
+pub run_needed : (lines : List LineView) (l found : LibraryView) (run : AppliedRun) → IsMade l → found ≡ part_of (decks_needed lines l) l
+    → applied lines found ≡ Ok (record { library = run.library; idents = run.applied.idents.items; compile = run.applied.compile.items })
+    → (AreApart (map key_of (all_cards found)) → run.applied.touched.items ≡ touched found run.library)
+    → Told found run.library (map change_seen run.applied.changes.items) → (reached : Reached) × IsRunOf lines l reached run
+run_needed lines l found run made loaded is touches tells = go (are_plain lines) refl (list_any (is_yank_card l) (all_named lines)) refl
+    (subst (λ m. IsAppliedTo lines m run) loaded (record { is = is; touches = touches; tells = tells }))
+  where
+    needed : Bool → Bool → List ℕ
+    needed plain yanks = if plain && not yanks then decks_with (all_named lines) l else map (λ d. d.ident) l.decks
+
+    all : (ages : List ℕ) → ages ≡ map (λ d. d.ident) l.decks → IsAppliedTo lines (part_of ages l) run → (reached : Reached) × IsRunOf lines l reached run
+    all ages e at = on_all lines l run made (subst (λ m. IsAppliedTo lines m run) (ap (λ ds. part_of ds l) e ∙ whole_part l) at)
+
+    go : (plain : Bool) → are_plain lines ≡ plain → (yanks : Bool) → list_any (is_yank_card l) (all_named lines) ≡ yanks
+        → IsAppliedTo lines (part_of (needed (are_plain lines) (list_any (is_yank_card l) (all_named lines))) l) run
+        → (reached : Reached) × IsRunOf lines l reached run
+    go true e true f at = all (needed (are_plain lines) (list_any (is_yank_card l) (all_named lines))) (rw (e, f) refl) at
+    go false e yanks f at = all (needed (are_plain lines) (list_any (is_yank_card l) (all_named lines))) (rw e refl) at
+    go true e false f at = on_named lines l run made e f
+        (subst (λ ds. IsAppliedTo lines (part_of ds l) run) (ap (λ b. needed b (list_any (is_yank_card l) (all_named lines))) e ∙ ap (needed true) f) at)
+
+-- a refusal of it is one of the whole
+pub refused_needed : (lines : List LineView) (l found : LibraryView) (f : Fault) → IsMade l → found ≡ part_of (decks_needed lines l) l
+    → applied lines found ≡ Err f → applied lines l ≡ Err f
+refused_needed lines l found f made loaded is = go (are_plain lines) refl (list_any (is_yank_card l) (all_named lines)) refl
+    (ap (applied lines) (sym loaded) ∙ is)
+  where
+    needed : Bool → Bool → List ℕ
+    needed plain yanks = if plain && not yanks then decks_with (all_named lines) l else map (λ d. d.ident) l.decks
+
+    ages : List ℕ
+    ages = decks_with (all_named lines) l
+
+    all : (ages : List ℕ) → ages ≡ map (λ d. d.ident) l.decks → applied lines (part_of ages l) ≡ Err f → applied lines l ≡ Err f
+    all ages e at = sym (ap (applied lines) (ap (λ ds. part_of ds l) e ∙ whole_part l)) ∙ at
+
+    refused : (r : Result Reached Fault) → reached_in_part (others_of ages l) r ≡ Err f → r ≡ Err f
+    refused (Ok reached) e = absurd (cc)
+    refused (Err g) e = e
+
+    named : are_plain lines ≡ true → applied lines (part_of ages l) ≡ Err f → applied lines l ≡ Err f
+    named plain at =
+        let does : DoesWithout (others_of ages l) lines l =
+        record { plain = plain; listed = others_listed ages l; cards = others_unnamed lines l made.sound } in
+        refused (applied lines l) (sym (ap (applied lines) (part_of_others ages l made.sound)
+        ∙ applied_same (others_of ages l) lines l refl made.sound does) ∙ at)
+
+    go : (plain : Bool) → are_plain lines ≡ plain → (yanks : Bool) → list_any (is_yank_card l) (all_named lines) ≡ yanks
+        → applied lines (part_of (needed (are_plain lines) (list_any (is_yank_card l) (all_named lines))) l) ≡ Err f → applied lines l ≡ Err f
+    go true e true g at = all (needed (are_plain lines) (list_any (is_yank_card l) (all_named lines))) (rw (e, g) refl) at
+    go false e yanks g at = all (needed (are_plain lines) (list_any (is_yank_card l) (all_named lines))) (rw e refl) at
+    go true e false g at = named e
+        (subst (λ ds. applied lines (part_of ds l) ≡ Err f) (ap (λ b. needed b (list_any (is_yank_card l) (all_named lines))) e ∙ ap (needed true) g) at)

@@ -1,0 +1,27 @@
+-- Which decks an arrival needs.
+use Rattle.std.specs.Prelude.{ℕ, List, [], Option, Some, None, Result, Ok, Err}
+use Rattle.upd_text.specs.declared.fault.Fault.{Fault}
+use Rattle.upd_core.specs.Ages.{Age}
+use Rattle.upd_core.specs.Library.{LibraryView}
+use Rattle.upd_change.specs.Rows.{RunView}
+use Rattle.upd_deck.specs.Items.{LineView}
+use Rattle.upd_deck.specs.Reading.{reading}
+use Rattle.upd_parts.specs.Needed.{decks_needed}
+use Rattle.upd_desk.specs.Arrivals.{ArrivalView}
+use Rattle.upd_desk.specs.Journal.{Journal, kept, world}
+
+-- the decks that the bytes of a run need of a library: none where they aren't read
+abbrev pub needed : List ℕ → LibraryView → List Age
+needed bytes l = by (reading bytes)
+  where
+    by : Result (List LineView) Fault → List Age
+    by (Ok lines) = decks_needed lines l
+    by (Err fault) = []
+
+-- the decks that an arrival after a journal needs: none where its key is kept
+abbrev pub needed_by : Journal → ArrivalView → List Age
+needed_by journal a = by (kept journal a.site a.number)
+  where
+    by : Option RunView → List Age
+    by (Some run) = []
+    by None = needed a.bytes (world journal)

@@ -1,0 +1,157 @@
+//! What of a library is loaded for what is asked of it.
+
+ghost use Rattle.std.specs.Prelude.{◌≡◌, ◌+◌, ◌≤◌, [], ◌∷◌, length, true, IfErr, IfOk, OnOk};
+ghost use Rattle.upd_change.specs.Rows.{Rows, Shows};
+ghost use Rattle.upd_compile.specs.Listings.{card_listing, deck_listing};
+ghost use Rattle.upd_core.specs.Library.{LibraryView};
+ghost use Rattle.upd_core.specs.Parts.{part_of};
+ghost use Rattle.upd_desk.specs.Made.{IsMade};
+ghost use Rattle.upd_parts.specs.Needed.{decks_needed};
+ghost use Rattle.upd_parts.specs.Needless.{are_plain};
+ghost use Rattle.upd_rows.specs.Asked.{decks_with};
+ghost use Rattle.upd_rows.specs.Keeping.{IsLost, Keeps, MoreFailures, reads_after};
+ghost use Rattle.upd_text.specs.declared.fault.FaultKind.TheVariants.{Store};
+
+use std::alloc::Global;
+use upd_core::{CardRef, Library, Name};
+use upd_deck::Run;
+use upd_parts::needs::{cards_named, is_plain, name_yank_card};
+use upd_rows::RowStore;
+use upd_text::{Fault, FaultKind};
+
+/// What a run is applied to: the directory, `YANK$$$`, and the decks that it needs.
+pub(crate) fn load_needed<S: RowStore>(
+    store: &mut S,
+    alloc: Global,
+    run: &Run<'_>,
+) -> Result<Library, Fault>
+    ensures found { S.is_honest store.new → IfOk result (λ found. (l : LibraryView) → IsMade l → (rows : Rows)
+        → S.shows (S.image store.old) rows → Shows rows l → found ≡ part_of (decks_needed run.now l) l) }
+    ensures reads { S.is_honest store.new → OnOk result ((l : LibraryView) → IsMade l → (rows : Rows)
+        → S.shows (S.image store.old) rows → Shows rows l
+        → S.reads_of store.new ≤ S.reads_of store.old + length (decks_needed run.now l)) }
+    ensures open { S.is_honest store.new → OnOk result (S.is_open store.new) }
+    ensures same { Keeps S.is_honest S.is_open S.image S.shows S.may_leave S.failures_of store.old store.new }
+    ensures lost { IfErr result IsLost }
+    ensures failed { IfErr result (λ fault. fault.kind ≡ Store
+        → MoreFailures (S.failures_of store.old) (S.failures_of store.new)) }
+{
+    if is_plain(run) {
+        match load_named(store, alloc, run) {
+            Ok(part) => Ok(part),
+            Err(fault) => Err(fault),
+        }
+    } else {
+        match store.load(alloc) {
+            Ok(library) => Ok(library),
+            Err(fault) => Err(fault),
+        }
+    }
+}
+
+/// The same for a run that neither yanks nor purges. Whether it names a yank card is seen before any deck is read.
+fn load_named<S: RowStore>(store: &mut S, alloc: Global, run: &Run<'_>) -> Result<Library, Fault>
+    requires plain { are_plain run.now ≡ true }
+    ensures found { S.is_honest store.new → IfOk result (λ found. (l : LibraryView) → IsMade l → (rows : Rows)
+        → S.shows (S.image store.old) rows → Shows rows l → found ≡ part_of (decks_needed run.now l) l) }
+    ensures reads { S.is_honest store.new → OnOk result ((l : LibraryView) → IsMade l → (rows : Rows)
+        → S.shows (S.image store.old) rows → Shows rows l
+        → S.reads_of store.new ≤ S.reads_of store.old + length (decks_needed run.now l)) }
+    ensures open { S.is_honest store.new → OnOk result (S.is_open store.new) }
+    ensures same { Keeps S.is_honest S.is_open S.image S.shows S.may_leave S.failures_of store.old store.new }
+    ensures lost { IfErr result IsLost }
+    ensures failed { IfErr result (λ fault. fault.kind ≡ Store
+        → MoreFailures (S.failures_of store.old) (S.failures_of store.new)) }
+{
+    let Ok(cards) = cards_named(alloc, run) else {
+        return Err(FaultKind::NoMemory.without_line());
+    };
+    let head = match store.load_decks(alloc, &[]) {
+        Ok(head) => head,
+        Err(fault) => return Err(fault),
+    };
+    if name_yank_card(&cards, &head) {
+        match store.load(alloc) {
+            Ok(library) => Ok(library),
+            Err(fault) => Err(fault),
+        }
+    } else {
+        match load_holders(store, alloc, &cards) {
+            Ok(part) => Ok(part),
+            Err(fault) => Err(fault),
+        }
+    }
+}
+
+/// The directory, `YANK$$$`, and the decks that hold one of these cards.
+pub(crate) fn load_holders<S: RowStore>(
+    store: &mut S,
+    alloc: Global,
+    cards: &[CardRef],
+) -> Result<Library, Fault>
+    ensures found { S.is_honest store.new → IfOk result (λ found. (l : LibraryView) → IsMade l → (rows : Rows)
+        → S.shows (S.image store.old) rows → Shows rows l → found ≡ part_of (decks_with cards.now l) l) }
+    ensures reads { OnOk result (S.reads_of store.new ≡ reads_after result (S.reads_of store.old)) }
+    ensures open { S.is_honest store.new → OnOk result (S.is_open store.new) }
+    ensures same { Keeps S.is_honest S.is_open S.image S.shows S.may_leave S.failures_of store.old store.new }
+    ensures lost { IfErr result IsLost }
+    ensures failed { IfErr result (λ fault. fault.kind ≡ Store
+        → MoreFailures (S.failures_of store.old) (S.failures_of store.new)) }
+{
+    let decks = match store.decks_of(alloc, cards) {
+        Ok(decks) => decks,
+        Err(fault) => return Err(fault),
+    };
+    match store.load_decks(alloc, &decks) {
+        Ok(part) => Ok(part),
+        Err(fault) => Err(fault),
+    }
+}
+
+/// What the listing of a card is made of: the directory, `YANK$$$`, and the deck that holds the card, if one does.
+pub(crate) fn load_deck_with<S: RowStore>(
+    store: &mut S,
+    alloc: Global,
+    card: &CardRef,
+) -> Result<Library, Fault>
+    ensures found { S.is_honest store.new → IfOk result (λ found. (l : LibraryView) → IsMade l → (rows : Rows)
+        → S.shows (S.image store.old) rows → Shows rows l
+        → card_listing card.now found ≡ card_listing card.now l) }
+    ensures open { S.is_honest store.new → OnOk result (S.is_open store.new) }
+    ensures same { Keeps S.is_honest S.is_open S.image S.shows S.may_leave S.failures_of store.old store.new }
+    ensures lost { IfErr result IsLost }
+    ensures failed { IfErr result (λ fault. fault.kind ≡ Store
+        → MoreFailures (S.failures_of store.old) (S.failures_of store.new)) }
+{
+    match load_holders(store, alloc, &[*card]) {
+        Ok(part) => Ok(part),
+        Err(fault) => Err(fault),
+    }
+}
+
+/// What the listing of a deck is made of: the directory, `YANK$$$`, and the deck of this name, if one is held.
+pub(crate) fn load_deck_named<S: RowStore>(
+    store: &mut S,
+    alloc: Global,
+    name: &Name,
+) -> Result<Library, Fault>
+    ensures found { S.is_honest store.new → IfOk result (λ found. (l : LibraryView) → IsMade l → (rows : Rows)
+        → S.shows (S.image store.old) rows → Shows rows l → deck_listing name.now found ≡ deck_listing name.now l) }
+    ensures open { S.is_honest store.new → OnOk result (S.is_open store.new) }
+    ensures same { Keeps S.is_honest S.is_open S.image S.shows S.may_leave S.failures_of store.old store.new }
+    ensures lost { IfErr result IsLost }
+    ensures failed { IfErr result (λ fault. fault.kind ≡ Store
+        → MoreFailures (S.failures_of store.old) (S.failures_of store.new)) }
+{
+    let head = match store.load_decks(alloc, &[]) {
+        Ok(head) => head,
+        Err(fault) => return Err(fault),
+    };
+    match head.deck_of(name) {
+        Some(deck) => match store.load_decks(alloc, &[deck]) {
+            Ok(part) => Ok(part),
+            Err(fault) => Err(fault),
+        },
+        None => Ok(head),
+    }
+}

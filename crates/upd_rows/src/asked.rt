@@ -1,0 +1,69 @@
+//! What stores answer, whatever they keep their rows in.
+ghost use Rattle.std.specs.Prelude.{◌≡◌, IfOk, List, map};
+ghost use Rattle.std.specs.List.{filter};
+ghost use Rattle.upd_text.specs.declared.card_ref.CardRef.{CardRef};
+ghost use Rattle.upd_core.specs.Library.{LibraryView};
+ghost use Rattle.upd_core.specs.Sound.{IsSound};
+ghost use Rattle.upd_change.specs.Rows.{Rows, Shows};
+ghost use Rattle.upd_rows.specs.Asked.{AreDecksOf, decks_with, is_asked};
+ghost use Rattle.upd_rows.specs.Keeping.{reads_with};
+ghost use Rattle.upd_rows.specs.Tables.{AreByKey, AreRead};
+
+use crate::list_changes::same_ref;
+use crate::rows::CardRow;
+use std::alloc::{AllocError, Global};
+use upd_core::{CardRef, Library, Serial, States};
+
+/// How many decks are read with one more library; it stops at the last value.
+pub fn reads_with(reads: u64, library: &Library) -> u64
+    ensures { result ≡ reads_with library.now reads }
+{
+    reads.saturating_add(library.decks().len() as u64)
+}
+
+/// Whether a card is one of those that are asked for.
+fn is_asked(cards: &[CardRef], card: &CardRef) -> bool
+    ensures { result ≡ is_asked cards.now card.now }
+{
+    cards.iter().any(|asked| same_ref(asked, card))
+}
+
+/// The ages of the decks in the rows of cards that are asked for, as often; memory alone can fail.
+pub(crate) fn ages_of_decks(
+    alloc: Global,
+    rows: &[CardRow],
+    cards: &[CardRef],
+) -> Result<Vec<Serial>, AllocError>
+    ensures { IfOk result (λ ages. ages.items ≡ map (λ r. r.deck) (filter (λ r. is_asked cards.now r.card) rows.now)) }
+{
+    let mut ages = Vec::new(alloc);
+    for row in rows {
+        if is_asked(cards, &row.card) {
+            ages.push(row.deck)?;
+        }
+    }
+    Ok(ages)
+}
+
+/// The decks of rows of cards by age, each once, without `YANK$$$`.
+pub fn decks_by_age(ages: Vec<Serial>) -> Vec<Serial>
+    ensures { (cards : List CardRef) (rows : Rows) (l : LibraryView) → IsSound l → Shows rows l
+        → AreDecksOf cards rows.cards ages.items → result.items ≡ decks_with cards l }
+{
+    let mut ages = ages;
+    ages.retain(|age| *age != 0);
+    ages.sort_unstable();
+    ages.dedup();
+    ages
+}
+
+/// Statuses and counts in the order of their tables' keys.
+pub fn states_by_key(states: States) -> States
+    ensures read { (rows : Rows) → AreRead rows states → AreRead rows result }
+    ensures order { AreByKey result }
+{
+    let mut states = states;
+    states.states.sort_unstable_by_key(|pair| pair.0);
+    states.counts.sort_unstable_by_key(|pair| pair.0);
+    states
+}

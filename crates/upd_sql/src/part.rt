@@ -1,0 +1,278 @@
+//! Parts of the tables: the rows of some decks and cards, and how many rows there are.
+ghost use Rattle.std.specs.Prelude.{◌≡◌, ◌==◌, ◌||◌, ℕ, [], ◌∷◌, List, length, map, IfOk, IfSome};
+ghost use Rattle.std.specs.List.{filter};
+ghost use Rattle.sqlite_value.specs.Order.{Row as SqlRow};
+ghost use Rattle.sqlite.specs.Given.{IsPlain};
+ghost use Rattle.sqlite.specs.Held.{state};
+ghost use Rattle.sqlite.specs.Listing.{understood};
+ghost use Rattle.sqlite.specs.State.{HasCleanDisk, Shown};
+ghost use Rattle.upd_change.specs.Rows.{IsSame, Rows, same_ref};
+ghost use Rattle.upd_rows.specs.Asked.{AreDecksOf};
+ghost use Rattle.upd_rows.specs.Assembling.{AreRowsOf};
+ghost use Rattle.upd_rows.specs.PartRows.{AreApart, is_in, is_of, part_rows};
+ghost use Rattle.upd_tables.specs.Keyed.{at_most_64};
+ghost use Rattle.upd_sql.specs.Commits.{Looks};
+ghost use Rattle.upd_sql.specs.Encoded.{num};
+ghost use Rattle.upd_sql.specs.Listed.{AreInOrder, by_ord, by_place, in_any_order};
+ghost use Rattle.upd_sql.specs.Part.{IsPart};
+ghost use Rattle.upd_sql.specs.Schema.{library_schema};
+ghost use Rattle.upd_sql.specs.Stands.{Stands};
+
+use crate::reads::mark_in;
+use crate::values::{name, number};
+use crate::whole::{all_of, cards_in, idents_in, rows_of, targets_in};
+use sqlite::{Alter, Error, ErrorCode, Row, Transaction};
+use std::alloc::Global;
+use upd_core::{CardRef, Serial};
+use upd_rows::{CardRow, EntryRow, LibraryRows};
+
+/// The last number to which SQLite counts.
+const LAST: u64 = 0x7fff_ffff_ffff_ffff;
+
+/// The rows of some decks, and how many cards and entries there are in all.
+#[derive(Debug, Drop)]
+pub struct Part {
+    /// Whole but for the cards of other decks, and their entries.
+    pub rows: LibraryRows,
+    pub cards: u64,
+    pub entries: u64,
+}
+
+/// Looks at a row that isn't there: a shut connection fails.
+fn look_at_nothing<S: Alter>(tx: &mut Transaction<'_, S>) -> Result<(), Error>
+    ensures same_reference { tx.new.conn.ghost_name ≡ tx.old.conn.ghost_name }
+    ensures looks { Looks (λ _ _. Unit {0}) (state S.Store tx.old.conn.now) (state S.Store tx.new.conn.now) result }
+{
+    mark_in(tx, "")?;
+    Ok(())
+}
+
+/// The decks of the rows of a card.
+fn decks_of_card<S: Alter>(
+    tx: &mut Transaction<'_, S>,
+    alloc: Global,
+    card: &CardRef,
+) -> Result<Vec<Serial>, Error>
+    ensures same_reference { tx.new.conn.ghost_name ≡ tx.old.conn.ghost_name }
+    ensures looks { Looks (λ it found. AreInOrder in_any_order
+        (map (λ r. r.deck) (filter (λ r. same_ref card.now r.card) it.cards)) found.items)
+        (state S.Store tx.old.conn.now) (state S.Store tx.new.conn.now) result }
+{
+    all_of(
+        tx,
+        alloc,
+        "SELECT deck FROM cards WHERE ident = ?1 AND num = ?2",
+        &[name(&card.name), number(card.number)],
+    )
+}
+
+/// The decks of the rows of cards.
+pub(crate) fn decks_in<S: Alter>(
+    tx: &mut Transaction<'_, S>,
+    alloc: Global,
+    cards: &[CardRef],
+) -> Result<Vec<Serial>, Error>
+    ensures same_reference { tx.new.conn.ghost_name ≡ tx.old.conn.ghost_name }
+    ensures looks { Looks (λ it found. AreDecksOf cards.now it.cards found.items) (state S.Store tx.old.conn.now)
+        (state S.Store tx.new.conn.now) result }
+{
+    look_at_nothing(tx)?;
+    let mut ages = Vec::new(alloc);
+    for card in cards {
+        let found = decks_of_card(tx, alloc, card)?;
+        ages.extend_from_slice(&found)?;
+    }
+    Ok(ages)
+}
+
+/// The cards of `YANK$$$` and of a deck.
+fn cards_of_deck<S: Alter>(
+    tx: &mut Transaction<'_, S>,
+    alloc: Global,
+    deck: Serial,
+) -> Result<Vec<CardRow>, Error>
+    ensures same_reference { tx.new.conn.ghost_name ≡ tx.old.conn.ghost_name }
+    ensures looks { Looks (λ it found. AreInOrder by_place
+        (filter (λ r. (r.deck == 0) || (r.deck == deck)) it.cards) found.items)
+        (state S.Store tx.old.conn.now) (state S.Store tx.new.conn.now) result }
+{
+    all_of(
+        tx,
+        alloc,
+        "SELECT ident, num, deck, pos, body FROM cards WHERE deck = 0 OR deck = ?1 ORDER BY deck, pos",
+        &[number(deck)],
+    )
+}
+
+/// Whether a deck is `YANK$$$` or of these ages.
+fn is_in(ages: &[Serial], deck: Serial) -> bool
+    ensures { result ≡ is_in ages.now deck }
+{
+    deck == 0 || ages.contains(&deck)
+}
+
+/// The deck that is asked for where it is one alone, `YANK$$$` where there is none.
+fn lone_deck(ages: &[Serial]) -> Option<Serial>
+    ensures { IfSome result (λ deck. (d : ℕ) → is_in ages.now d ≡ ((d == 0) || (d == deck))) }
+{
+    match ages {
+        [] => Some(0),
+        [age] => Some(*age),
+        _ => None,
+    }
+}
+
+/// Takes the cards of other decks away.
+fn keep_cards(cards: &mut Vec<CardRow>, ages: &[Serial])
+    ensures { cards.new.items ≡ filter (λ r. is_in ages.now r.deck) cards.old.items }
+{
+    cards.retain(|card| is_in(ages, card.deck));
+}
+
+/// The cards of `YANK$$$` and of the decks of these ages.
+fn cards_of_decks<S: Alter>(
+    tx: &mut Transaction<'_, S>,
+    alloc: Global,
+    ages: &[Serial],
+) -> Result<Vec<CardRow>, Error>
+    ensures same_reference { tx.new.conn.ghost_name ≡ tx.old.conn.ghost_name }
+    ensures looks { Looks (λ it found. IsSame found.items (filter (λ r. is_in ages.now r.deck) it.cards))
+        (state S.Store tx.old.conn.now) (state S.Store tx.new.conn.now) result }
+{
+    match lone_deck(ages) {
+        Some(deck) => cards_of_deck(tx, alloc, deck),
+        None => {
+            let mut cards = cards_in(tx, alloc)?;
+            keep_cards(&mut cards, ages);
+            Ok(cards)
+        }
+    }
+}
+
+/// The entries of a card.
+fn entries_of_card<S: Alter>(
+    tx: &mut Transaction<'_, S>,
+    alloc: Global,
+    card: &CardRef,
+) -> Result<Vec<EntryRow>, Error>
+    ensures same_reference { tx.new.conn.ghost_name ≡ tx.old.conn.ghost_name }
+    ensures looks { Looks (λ it found. AreInOrder by_ord (filter (λ e. same_ref card.now e.card) it.entries) found.items)
+        (state S.Store tx.old.conn.now) (state S.Store tx.new.conn.now) result }
+{
+    all_of(
+        tx,
+        alloc,
+        "SELECT ident, num, ord, who, active FROM entries WHERE ident = ?1 AND num = ?2 ORDER BY ord",
+        &[name(&card.name), number(card.number)],
+    )
+}
+
+/// The entries of cards, where no two rows are of one card.
+fn entries_of_cards<S: Alter>(
+    tx: &mut Transaction<'_, S>,
+    alloc: Global,
+    cards: &[CardRow],
+) -> Result<Vec<EntryRow>, Error>
+    ensures same_reference { tx.new.conn.ghost_name ≡ tx.old.conn.ghost_name }
+    ensures looks { Looks (λ it found. AreApart cards.now → IsSame found.items (filter (is_of cards.now) it.entries))
+        (state S.Store tx.old.conn.now) (state S.Store tx.new.conn.now) result }
+{
+    look_at_nothing(tx)?;
+    let mut entries = Vec::new(alloc);
+    for row in cards {
+        let found = entries_of_card(tx, alloc, &row.card)?;
+        entries.extend_from_slice(&found)?;
+    }
+    Ok(entries)
+}
+
+/// The number that the first row begins with, 0 where there is no row. A count that stands at its last value is refused.
+fn first_count(rows: &[Row]) -> Result<u64, Error>
+    ensures { IfOk result (λ n. (count : ℕ) → rows.now ≡ (num (at_most_64 count) ∷ []) ∷ [] → n ≡ count) }
+{
+    match rows.first() {
+        Some(row) => below_last(row.get(0)?),
+        None => Ok(0),
+    }
+}
+
+/// A number that is a count; the last one stands for all that are above it, too.
+fn below_last(n: u64) -> Result<u64, Error>
+    ensures { IfOk result (λ m. (count : ℕ) → n ≡ at_most_64 count → m ≡ count) }
+{
+    if n < LAST {
+        Ok(n)
+    } else {
+        Err(Error::SqliteFailure(ErrorCode::TooBig))
+    }
+}
+
+/// The number that a text counts.
+fn number_of<S: Alter>(tx: &mut Transaction<'_, S>, sql: &str) -> Result<u64, Error>
+    ensures same_reference { tx.new.conn.ghost_name ≡ tx.old.conn.ghost_name }
+    ensures looks { (size : Rows → ℕ) → IsPlain (understood library_schema sql.now)
+        → ((it : Rows) → Stands it (state S.Store tx.old.conn.now).now → (rows : List SqlRow)
+        → Shown sql.now [] (state S.Store tx.old.conn.now) (state S.Store tx.new.conn.now) rows
+        → rows ≡ (num (at_most_64 (size it)) ∷ []) ∷ [])
+        → Looks (λ it n. n ≡ size it) (state S.Store tx.old.conn.now) (state S.Store tx.new.conn.now) result }
+{
+    let rows = rows_of(tx, sql, &[])?;
+    first_count(&rows)
+}
+
+fn card_count<S: Alter>(tx: &mut Transaction<'_, S>) -> Result<u64, Error>
+    ensures same_reference { tx.new.conn.ghost_name ≡ tx.old.conn.ghost_name }
+    ensures looks { Looks (λ it n. n ≡ length it.cards) (state S.Store tx.old.conn.now)
+        (state S.Store tx.new.conn.now) result }
+{
+    number_of(tx, "SELECT count(*) FROM cards")
+}
+
+fn entry_count<S: Alter>(tx: &mut Transaction<'_, S>) -> Result<u64, Error>
+    ensures same_reference { tx.new.conn.ghost_name ≡ tx.old.conn.ghost_name }
+    ensures looks { Looks (λ it n. n ≡ length it.entries) (state S.Store tx.old.conn.now)
+        (state S.Store tx.new.conn.now) result }
+{
+    number_of(tx, "SELECT count(*) FROM entries")
+}
+
+/// The rows of `YANK$$$` and of the decks of these ages.
+fn part_rows_in<S: Alter>(
+    tx: &mut Transaction<'_, S>,
+    alloc: Global,
+    ages: &[Serial],
+) -> Result<LibraryRows, Error>
+    ensures same_reference { tx.new.conn.ghost_name ≡ tx.old.conn.ghost_name }
+    ensures looks { Looks (λ it found. AreApart it.cards → AreRowsOf (part_rows ages.now it) found)
+        (state S.Store tx.old.conn.now) (state S.Store tx.new.conn.now) result }
+{
+    let idents = idents_in(tx, alloc)?;
+    let cards = cards_of_decks(tx, alloc, ages)?;
+    let entries = entries_of_cards(tx, alloc, &cards)?;
+    let targets = targets_in(tx, alloc)?;
+    Ok(LibraryRows {
+        idents,
+        cards,
+        entries,
+        targets,
+    })
+}
+
+/// The rows of `YANK$$$` and of the decks of these ages, and how many cards and entries there are in all.
+pub(crate) fn part_in<S: Alter>(
+    tx: &mut Transaction<'_, S>,
+    alloc: Global,
+    ages: &[Serial],
+) -> Result<Part, Error>
+    ensures same_reference { tx.new.conn.ghost_name ≡ tx.old.conn.ghost_name }
+    ensures looks { Looks (IsPart ages.now) (state S.Store tx.old.conn.now) (state S.Store tx.new.conn.now) result }
+{
+    let rows = part_rows_in(tx, alloc, ages)?;
+    let cards = card_count(tx)?;
+    let entries = entry_count(tx)?;
+    Ok(Part {
+        rows,
+        cards,
+        entries,
+    })
+}

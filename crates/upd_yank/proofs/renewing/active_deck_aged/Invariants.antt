@@ -1,0 +1,7 @@
+use Rattle.std.proofs.Common.{◌≡◌, drop}
+use Rattle.std.specs.List.{find}
+use Rattle.upd_yank.specs.Renewed.{is_active_deck}
+use Rattle.upd_yank.proofs.renewing.active_deck_aged.Given as goal
+
+abbrev pub invariant-loop-deck : goal.invariant-loop-deck
+invariant-loop-deck l = find (is_active_deck l.age) (drop l.deck-index l.decks) ≡ find (is_active_deck l.age) l.decks
