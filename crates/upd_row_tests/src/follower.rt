@@ -58,9 +58,8 @@ impl Follower {
     /// What the store loads is the library with its statuses and counts.
     pub fn is_followed<S: RowStore>(&self, rt: &impl Abort, store: &mut S) -> Result<(), Fail> {
         let alloc = self.alloc;
-        let found = store.load(alloc)?;
-        let found = format!(in alloc; "{found:?}")?;
-        let wanted = format!(in alloc; "{:?}", self.library)?;
+        let found = cards_of(alloc, &store.load(alloc)?)?;
+        let wanted = cards_of(alloc, &self.library)?;
         assert_eq!(rt; found.as_str(), wanted.as_str());
         let tables = Tables::of(alloc, &self.library)?;
         let States { states, counts } = store.load_states(alloc)?;
@@ -73,6 +72,13 @@ impl Follower {
     pub fn has_tables(&self, rt: &impl Abort, store: &ListStore) -> Result<(), Fail> {
         same_tables(rt, &self.library, store)
     }
+}
+
+/// What a library holds, printed: how it finds its cards is left out.
+fn cards_of(alloc: Global, library: &Library) -> Result<String, Fail> {
+    let (idents, decks) = (library.idents(), library.decks());
+    let (yanks, rest) = (library.yanks(), library.rest());
+    Ok(format!(in alloc; "{idents:?} {decks:?} {yanks:?} {rest:?}")?)
 }
 
 /// The same elements in order.
