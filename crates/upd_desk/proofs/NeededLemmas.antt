@@ -105,7 +105,12 @@ on_named lines l run made plain none at = by (on_whole ages lines l (here_of run
             directory = ap (λ (r : Reached). r.library.idents) on.parted;
             told = on.told;
             touched = touched_is;
-            enough = inr (out, ap (λ (r : Reached). r.library) on.parted, subst (λ cs. AreIdle cs l on.there.library out) (sym touched_is) (idle_in out lines l on.there made.sound does (no_yank_named lines l none) on.reached));
+            enough = inr (
+              out,
+              ap (λ (r : Reached). r.library) on.parted,
+              subst (λ cs. AreIdle cs l on.there.library out) (sym touched_is)
+                  (idle_in out lines l on.there made.sound does (no_yank_named lines l none) on.reached),
+            );
             renews = λ cache right.
                 ap (λ (m : LibraryView). renewed cache.states m (actives_of l)) (ap (λ (r : Reached). r.library) on.parted)
                 ∙ renewed_in out lines l on.there cache made.sound made.whole does (no_yank_named lines l none) on.reached right;

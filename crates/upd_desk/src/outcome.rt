@@ -1,6 +1,7 @@
 //! What a new run makes of the library that a store keeps.
 
-ghost use Rattle.std.specs.Prelude.{◌≡◌, ◌+◌, ◌≤◌, ◌⊎◌, List, [], ◌++◌, length, map, Ok, Err, Option, IfErr, IfOk, OnOk};
+ghost use Rattle.std.specs.Prelude.{◌≡◌, ◌+◌, ◌≤◌, ◌⊎◌, List, [], ◌++◌};
+ghost use Rattle.std.specs.Prelude.{length, map, Ok, Err, Option, IfErr, IfOk, OnOk};
 ghost use Rattle.std.specs.Result.{IsOkUnless};
 ghost use Rattle.upd_text.specs.Faults.{fault_at};
 ghost use Rattle.upd_text.specs.Outcome.{FailsAt};
@@ -65,7 +66,8 @@ pub(crate) fn run_outcome<S: RowStore>(
 ) -> Result<Outcome, Fault>
     requires passed { door arrival.now ≡ Ok mode }
     ensures found { S.is_honest store.new → IfOk result (λ o. (l : LibraryView) → IsMade l → (rows : Rows)
-        → S.shows (S.image store.old) rows → Shows rows l → ShowsStates rows l → IsOutcomeOf mode arrival.now l rows o) }
+        → S.shows (S.image store.old) rows → Shows rows l → ShowsStates rows l
+        → IsOutcomeOf mode arrival.now l rows o) }
     ensures reads { S.is_honest store.new → OnOk result ((l : LibraryView) → IsMade l → (rows : Rows)
         → S.shows (S.image store.old) rows → Shows rows l
         → S.reads_of store.new ≤ S.reads_of store.old + length (needed arrival.now.bytes l)) }
@@ -97,7 +99,8 @@ fn read_outcome<S: RowStore>(
     requires passed { door arrival.now ≡ Ok mode }
     requires read { reading arrival.now.bytes ≡ Ok run.now }
     ensures found { S.is_honest store.new → IfOk result (λ o. (l : LibraryView) → IsMade l → (rows : Rows)
-        → S.shows (S.image store.old) rows → Shows rows l → ShowsStates rows l → IsOutcomeOf mode arrival.now l rows o) }
+        → S.shows (S.image store.old) rows → Shows rows l → ShowsStates rows l
+        → IsOutcomeOf mode arrival.now l rows o) }
     ensures reads { S.is_honest store.new → OnOk result ((l : LibraryView) → IsMade l → (rows : Rows)
         → S.shows (S.image store.old) rows → Shows rows l
         → S.reads_of store.new ≤ S.reads_of store.old + length (decks_needed run.now l)) }
@@ -131,9 +134,11 @@ fn applied_outcome<S: RowStore>(
     run: AppliedRun,
 ) -> Result<Outcome, Fault>
     requires passed { door arrival.now ≡ Ok mode }
-    ensures found { S.is_honest store.new → IfOk result (λ o. (lines : List LineView) (l : LibraryView) (reached : Reached)
+    ensures found { S.is_honest store.new
+        → IfOk result (λ o. (lines : List LineView) (l : LibraryView) (reached : Reached)
         → reading arrival.now.bytes ≡ Ok lines → IsMade l → IsRunOf lines l reached run → (rows : Rows)
-        → S.shows (S.image store.old) rows → Shows rows l → ShowsStates rows l → IsOutcomeOf mode arrival.now l rows o) }
+        → S.shows (S.image store.old) rows → Shows rows l → ShowsStates rows l
+        → IsOutcomeOf mode arrival.now l rows o) }
     ensures unread { S.reads_of store.new ≡ S.reads_of store.old }
     ensures same { Keeps S.is_honest S.is_open S.image S.shows S.may_leave S.failures_of store.old store.new }
     ensures lost { IfErr result IsLost }
@@ -229,7 +234,8 @@ fn file_of(
     before: &Option<Actives>,
     run: &AppliedRun,
 ) -> Result<CompileFile, Fault>
-    ensures ok { (lines : List LineView) (l : LibraryView) (reached : Reached) → IsMade l → IsRunOf lines l reached run.now
+    ensures ok { (lines : List LineView) (l : LibraryView) (reached : Reached) → IsMade l
+        → IsRunOf lines l reached run.now
         → AreActivesFor mode run.now.applied.compile.items l before.now → IsRight reached.library cache.now
         → IfOk result (λ file. compile_file_of mode reached.compile l reached.library ≡ Ok file) }
     ensures refused { (lines : List LineView) (l : LibraryView) (reached : Reached) → IsMade l

@@ -26,7 +26,8 @@ returns-in-Ok-accepted-clause-found c = λ lines l reached read made of_run acti
     let is = compiled_is c.args.mode c.args.arrival.now.bytes l lines reached c.in-Ok.file read of_run.applied written in
     let done : Compiled = record { reached = reached; file = c.in-Ok.file } in
     accepted_outcome c.args.mode c.args.arrival.now l rows done _ c.in-Ok-accepted.outcome is
-    (c.in-Ok-accepted.ensures.reply c.args.mode l done made c.requires.passed is (record { directory = of_run.directory; idents = of_run.idents; written = refl }))
+    (c.in-Ok-accepted.ensures.reply c.args.mode l done made c.requires.passed is
+    (record { directory = of_run.directory; idents = of_run.idents; written = refl }))
     c.in-Ok-accepted.ensures.changes
     (lead lines l reached run made of_run settled rows shows c.in_ok-settled.ensures.only later)
     (c.in-Ok-accepted.ensures.work ∙ c.work.ensures ∙ c.in_ok-settled.ensures.work l library enough across
