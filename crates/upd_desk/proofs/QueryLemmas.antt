@@ -8,10 +8,10 @@ use Rattle.upd_text.specs.declared.fault.FaultKind.{FaultKind}
 use Rattle.upd_text.specs.declared.fault.FaultKind.TheVariants.{CompileLong, NoMemory, Store}
 use Rattle.upd_text.specs.Outcome.{FailsAt, FailsOf}
 use Rattle.upd_text.specs.declared.limits.TheConstants.{MAX_COMPILE_LINES, MAX_CALLS, MAX_DEPTH}
-use Rattle.upd_core.specs.Actives.{actives_of}
+use Rattle.upd_core.specs.Actives.{ActivesView}
 use Rattle.upd_core.specs.Library.{LibraryView}
 use Rattle.upd_compile.specs.Chosen.{chosen}
-use Rattle.upd_compile.specs.File.{FileView, compile_file_of, event_fault, event_line, is_follow, is_line, walk_faults}
+use Rattle.upd_compile.specs.File.{FileView, event_fault, event_line, file_of, is_follow, is_line, walk_faults}
 use Rattle.upd_compile.specs.Walk.{Event, Line, Follow, Depth, Unknown, walk}
 use Rattle.upd_compile.specs.declared.mode.Mode.{Mode}
 use Rattle.upd_change.specs.Rows.{Rows, Shows, ShowsStates}
@@ -81,17 +81,17 @@ first_keeps all (e ∷ es) k ks is = go (event_fault (take e.0 all) e.1) refl (f
         event_keeps (take e.0 all) e.1 k (here ∙ ap Some (cc first))
 
 -- a compile file that is refused is no failure of a store
-pub compile_keeps : (mode : Mode) (named : List ℕ) (before after : LibraryView) (f : Fault) → compile_file_of mode named before after ≡ Err f
+pub compile_keeps : (mode : Mode) (named : List ℕ) (before after : ActivesView) (f : Fault) → file_of mode named before after ≡ Err f
     → is_lost f.kind ≡ false
 compile_keeps mode named before after f is = go (walk_faults events) refl
   where
     events : List Event
-    events = flat_map (walk MAX_DEPTH (actives_of after)) (chosen mode named (actives_of before) (actives_of after))
+    events = flat_map (walk MAX_DEPTH after) (chosen mode named before after)
 
     go : (ks : List FaultKind) → walk_faults events ≡ ks → is_lost f.kind ≡ false
     go [] none =
         let clash : ◌≡◌ {A = Result FileView Fault} (Ok (record {
-          bytes = flat_map (event_line (actives_of after).idents) events;
+          bytes = flat_map (event_line after.idents) events;
           lines = count_by is_line events;
         })) (Err f) = rw none at is in
         grind rules

@@ -21,7 +21,9 @@ use crate::loading::{load_deck_named, load_deck_with};
 use crate::reply::Reply;
 use crate::settle::settle_at;
 use std::alloc::Global;
-use upd_compile::{CompileFile, Mode, compile_file, list_card, list_deck, list_idents, list_yanks};
+use upd_compile::{
+    CompileFile, Mode, compile_active, list_card, list_deck, list_idents, list_yanks,
+};
 use upd_core::{CardRef, Name};
 use upd_rows::RowStore;
 use upd_text::Fault;
@@ -175,11 +177,11 @@ impl<S: RowStore> Desk<S> {
         ensures failed { IfErr result (λ fault. fault.kind ≡ Store
             → MoreFailures (S.failures_of self.old.store) (S.failures_of self.new.store)) }
     {
-        let library = match self.store.load(alloc) {
-            Ok(library) => library,
+        let actives = match self.store.load_active(alloc) {
+            Ok(actives) => actives,
             Err(fault) => return Err(fault),
         };
-        match compile_file(alloc, &library, &library, Mode::Full, &[]) {
+        match compile_active(alloc, &actives, &actives, Mode::Full, &[]) {
             Ok(text) => Ok(text),
             Err(fault) => Err(fault),
         }
