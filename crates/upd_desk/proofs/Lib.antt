@@ -14,6 +14,7 @@ mod RefusedLemmas
 mod QueryLemmas
 mod ListedLemmas
 mod LoadingLemmas
+mod StandingLemmas
 mod NeededLemmas
 mod FileLemmas
 mod LeadLemmas

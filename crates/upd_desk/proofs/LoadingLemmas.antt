@@ -93,13 +93,17 @@ needs_yanks lines l head cards sound is named yanks = go (are_plain lines)
     go true = rw some refl
     go false = refl
 
+pub needs_standing : (lines : List LineView) (l : LibraryView) (cards : List CardRef) → are_plain lines ≡ true → cards ≡ all_named lines
+    → list_any (is_yank_card l) cards ≡ false → decks_needed lines l ≡ decks_with cards l
+needs_standing lines l cards plain named none =
+    let no : list_any (is_yank_card l) (all_named lines) ≡ false = ap (list_any (is_yank_card l)) (sym named) ∙ none in
+    let same : decks_needed lines l ≡ decks_with (all_named lines) l = rw (plain, no) refl in
+    same ∙ ap (λ cs. decks_with cs l) (sym named)
+
 pub needs_named : (lines : List LineView) (l head : LibraryView) (cards : List CardRef) → IsSound l → are_plain lines ≡ true → head ≡ part_of [] l
     → cards ≡ all_named lines → list_any (is_yank_card head) cards ≡ false → decks_needed lines l ≡ decks_with cards l
 needs_named lines l head cards sound plain is named none =
-    let no : list_any (is_yank_card l) (all_named lines) ≡ false =
-    ap (list_any (is_yank_card l)) (sym named) ∙ sym (yanks_same l head cards sound is) ∙ none in
-    let same : decks_needed lines l ≡ decks_with (all_named lines) l = rw (plain, no) refl in
-    same ∙ ap (λ cs. decks_with cs l) (sym named)
+    needs_standing lines l cards plain named (sym (yanks_same l head cards sound is) ∙ none)
 
 -- ---- what was loaded
 
@@ -126,6 +130,9 @@ pub needed_read : (lines : List LineView) (l found : LibraryView) (old mid new :
 needed_read lines l found old mid new sound less reads is =
     few_more old mid new (length (decks_needed lines l)) found reads less
     (subst (λ m. length m.decks ≤ length (decks_needed lines l)) (sym is) (decks_few (decks_needed lines l) l sound))
+
+pub still_read : (old mid : ℕ) → mid ≡ old → mid ≤ old
+still_read old mid same = grind (arith, same)
 
 pub read_no_more : (old mid new n : ℕ) → new ≡ mid → mid ≤ old + n → new ≤ old + n
 read_no_more old mid new n same less = grind (arith, same, less)

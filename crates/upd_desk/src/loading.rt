@@ -1,12 +1,13 @@
 //! What of a library is loaded for what is asked of it.
 
-ghost use Rattle.std.specs.Prelude.{◌≡◌, ◌+◌, ◌≤◌, [], ◌∷◌, length, true, IfErr, IfOk, OnOk};
+ghost use Rattle.std.specs.Prelude.{◌≡◌, ◌+◌, ◌≤◌, [], ◌∷◌, length, true, false, IfErr, IfOk, OnOk};
+ghost use Rattle.std.specs.List.{list_any};
 ghost use Rattle.upd_change.specs.Rows.{Rows, Shows};
 ghost use Rattle.upd_compile.specs.Listings.{card_listing, deck_listing};
 ghost use Rattle.upd_core.specs.Library.{LibraryView};
 ghost use Rattle.upd_core.specs.Parts.{part_of};
 ghost use Rattle.upd_desk.specs.Made.{IsMade};
-ghost use Rattle.upd_parts.specs.Needed.{decks_needed};
+ghost use Rattle.upd_parts.specs.Needed.{all_named, decks_needed, is_yank_card};
 ghost use Rattle.upd_parts.specs.Needless.{are_plain};
 ghost use Rattle.upd_rows.specs.Asked.{decks_with};
 ghost use Rattle.upd_rows.specs.Keeping.{IsLost, Keeps, MoreFailures, reads_after};
@@ -49,7 +50,7 @@ pub(crate) fn load_needed<S: RowStore>(
     }
 }
 
-/// The same for a run that neither yanks nor purges. Whether it names a yank card is seen before any deck is read.
+/// The same for a run that neither yanks nor purges. Where each card that it names stands in a deck, none is a yank card.
 fn load_named<S: RowStore>(store: &mut S, alloc: Global, run: &Run<'_>) -> Result<Library, Fault>
     requires plain { are_plain run.now ≡ true }
     ensures found { S.is_honest store.new → IfOk result (λ found. (l : LibraryView) → IsMade l → (rows : Rows)
@@ -66,17 +67,94 @@ fn load_named<S: RowStore>(store: &mut S, alloc: Global, run: &Run<'_>) -> Resul
     let Ok(cards) = cards_named(alloc, run) else {
         return Err(FaultKind::NoMemory.without_line());
     };
+    match stand_in_decks(store, alloc, &cards) {
+        Ok(true) => match load_holders(store, alloc, &cards) {
+            Ok(part) => Ok(part),
+            Err(fault) => Err(fault),
+        },
+        Ok(false) => match load_looking(store, alloc, run, &cards) {
+            Ok(part) => Ok(part),
+            Err(fault) => Err(fault),
+        },
+        Err(fault) => Err(fault),
+    }
+}
+
+/// Whether each of these cards stands in a deck other than `YANK$$$`.
+fn stand_in_decks<S: RowStore>(
+    store: &mut S,
+    alloc: Global,
+    cards: &[CardRef],
+) -> Result<bool, Fault>
+    ensures found { S.is_honest store.new → IfOk result (λ stand. stand ≡ true → (l : LibraryView) → IsMade l
+        → (rows : Rows) → S.shows (S.image store.old) rows → Shows rows l
+        → list_any (is_yank_card l) cards.now ≡ false) }
+    ensures there { S.is_honest store.new → OnOk result ((rows : Rows) → S.shows (S.image store.old) rows
+        → S.shows (S.image store.new) rows) }
+    ensures unread { S.reads_of store.new ≡ S.reads_of store.old }
+    ensures same { Keeps S.is_honest S.is_open S.image S.shows S.may_leave S.failures_of store.old store.new }
+    ensures lost { IfErr result IsLost }
+    ensures failed { IfErr result (λ fault. fault.kind ≡ Store
+        → MoreFailures (S.failures_of store.old) (S.failures_of store.new)) }
+{
+    for card in cards {
+        match stands_in_deck(store, alloc, *card) {
+            Ok(true) => {}
+            Ok(false) => return Ok(false),
+            Err(fault) => return Err(fault),
+        }
+    }
+    Ok(true)
+}
+
+fn stands_in_deck<S: RowStore>(store: &mut S, alloc: Global, card: CardRef) -> Result<bool, Fault>
+    ensures found { S.is_honest store.new → IfOk result (λ stands. stands ≡ true → (l : LibraryView) → IsMade l
+        → (rows : Rows) → S.shows (S.image store.old) rows → Shows rows l → is_yank_card l card ≡ false) }
+    ensures unread { S.reads_of store.new ≡ S.reads_of store.old }
+    ensures open { S.is_honest store.new → OnOk result (S.is_open store.new) }
+    ensures same { Keeps S.is_honest S.is_open S.image S.shows S.may_leave S.failures_of store.old store.new }
+    ensures lost { IfErr result IsLost }
+    ensures failed { IfErr result (λ fault. fault.kind ≡ Store
+        → MoreFailures (S.failures_of store.old) (S.failures_of store.new)) }
+{
+    match store.decks_of(alloc, &[card]) {
+        Ok(decks) => Ok(!decks.is_empty()),
+        Err(fault) => Err(fault),
+    }
+}
+
+/// The same for a run that names a card which stands in no deck. Whether it names a yank card is seen before any deck
+/// is read.
+fn load_looking<S: RowStore>(
+    store: &mut S,
+    alloc: Global,
+    run: &Run<'_>,
+    cards: &[CardRef],
+) -> Result<Library, Fault>
+    requires plain { are_plain run.now ≡ true }
+    requires named { cards.now ≡ all_named run.now }
+    ensures found { S.is_honest store.new → IfOk result (λ found. (l : LibraryView) → IsMade l → (rows : Rows)
+        → S.shows (S.image store.old) rows → Shows rows l → found ≡ part_of (decks_needed run.now l) l) }
+    ensures reads { S.is_honest store.new → OnOk result ((l : LibraryView) → IsMade l → (rows : Rows)
+        → S.shows (S.image store.old) rows → Shows rows l
+        → S.reads_of store.new ≤ S.reads_of store.old + length (decks_needed run.now l)) }
+    ensures open { S.is_honest store.new → OnOk result (S.is_open store.new) }
+    ensures same { Keeps S.is_honest S.is_open S.image S.shows S.may_leave S.failures_of store.old store.new }
+    ensures lost { IfErr result IsLost }
+    ensures failed { IfErr result (λ fault. fault.kind ≡ Store
+        → MoreFailures (S.failures_of store.old) (S.failures_of store.new)) }
+{
     let head = match store.load_decks(alloc, &[]) {
         Ok(head) => head,
         Err(fault) => return Err(fault),
     };
-    if name_yank_card(&cards, &head) {
+    if name_yank_card(cards, &head) {
         match store.load(alloc) {
             Ok(library) => Ok(library),
             Err(fault) => Err(fault),
         }
     } else {
-        match load_holders(store, alloc, &cards) {
+        match load_holders(store, alloc, cards) {
             Ok(part) => Ok(part),
             Err(fault) => Err(fault),
         }

@@ -28,12 +28,20 @@ fn cards_of(line: &Line) -> Option<[Option<CardRef>; 2]> {
     }
 }
 
-/// Adds the decks that hold a card, each once.
+/// The decks that hold a card.
 fn add_holders(library: &Library, card: CardRef, found: &mut Vec<Serial>) -> Result<(), Fail> {
     for deck in library.decks() {
-        if has_card(library, &deck.cards, card) && !found.contains(&deck.ident) {
-            found.push(deck.ident)?;
+        let holds = has_card(library, &deck.cards, card);
+        if holds {
+            add_once(found, deck.ident)?;
         }
+    }
+    Ok(())
+}
+
+fn add_once(found: &mut Vec<Serial>, age: Serial) -> Result<(), Fail> {
+    if !found.contains(&age) {
+        found.push(age)?;
     }
     Ok(())
 }

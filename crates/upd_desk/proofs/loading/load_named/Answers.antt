@@ -1,46 +1,23 @@
--- Whether a yank card is named is seen without any deck; then all decks are loaded, or those that hold the cards which are named.
+-- Where all cards that are named stand in decks, none is a yank card, and these decks are loaded.
 use Rattle.std.proofs.Common.{ap, sym, ◌∙◌}
 use Rattle.std.specs.List.{list_any}
 use Rattle.upd_parts.specs.Needed.{is_yank_card}
-use Rattle.upd_desk.proofs.LoadingLemmas.{all_loaded, named_loaded, needed_read, needs_named, needs_yanks, none_read}
-use Rattle.upd_desk.proofs.QueryLemmas.{shown_there}
+use Rattle.upd_desk.proofs.LoadingLemmas.{named_loaded, needed_read, needs_standing, still_read}
 use Rattle.upd_desk.proofs.StoreLemmas.{lost_memory}
 use Rattle.upd_desk.proofs.loading.load_named.Goals as goal
 
 pub returns-in_default-clause-lost : goal.returns-in_default-clause-lost
 returns-in_default-clause-lost g c = lost_memory c.without_line.result c.without_line.ensures
 
-pub returns-in-Ok-load-clause-found : goal.returns-in-Ok-load-clause-found
-returns-in-Ok-load-clause-found g c honest l made rows shown shows =
-    let before = c.in-Ok-load.ensures.same.honest honest in
-    let there = shown_there _ _ _ _ _ _ c.args.store.now c.load_decks.new.self c.in-Ok-load_decks.ensures.same before
-    (c.in-Ok-load_decks.ensures.open before) rows shown in
-    all_loaded c.args.run.now l c.in-Ok-load.library (c.in-Ok-load.ensures.found honest l made.sound made.whole rows there shows)
-    (needs_yanks c.args.run.now l c.in-Ok-load_decks.head c.in-Ok.cards.items made.sound
-    (c.in-Ok-load_decks.ensures.found before l made.sound made.whole rows shown shows) c.in-Ok.ensures
-    (ap (list_any (is_yank_card c.in-Ok-load_decks.head)) (sym c.deref.ensures.value) ∙ sym c.name_yank_card.ensures ∙ c.if-name_yank_card.true))
-
-pub returns-in-Ok-load-clause-reads : goal.returns-in-Ok-load-clause-reads
-returns-in-Ok-load-clause-reads g c honest l made rows shown shows =
-    let before = c.in-Ok-load.ensures.same.honest honest in
-    needed_read c.args.run.now l c.in-Ok-load.library _ _ _ made.sound
-    (none_read _ _ l c.in-Ok-load_decks.head made.sound (c.in-Ok-load_decks.ensures.found before l made.sound made.whole rows shown shows)
-    c.in-Ok-load_decks.ensures.reads) c.in-Ok-load.ensures.reads (returns-in-Ok-load-clause-found g c honest l made rows shown shows)
-
 pub returns-in-Ok-load_holders-clause-found : goal.returns-in-Ok-load_holders-clause-found
 returns-in-Ok-load_holders-clause-found g c honest l made rows shown shows =
     let before = c.in-Ok-load_holders.ensures.same.honest honest in
-    let there = shown_there _ _ _ _ _ _ c.args.store.now c.load_decks.new.self c.in-Ok-load_decks.ensures.same before
-    (c.in-Ok-load_decks.ensures.open before) rows shown in
-    named_loaded c.args.run.now l c.in-Ok-load_holders.part c.in-Ok.cards.items c.deref-else-name_yank_card.result.now c.deref-else-name_yank_card.ensures.value
-    (c.in-Ok-load_holders.ensures.found honest l made rows there shows)
-    (needs_named c.args.run.now l c.in-Ok-load_decks.head c.in-Ok.cards.items made.sound c.requires.plain
-    (c.in-Ok-load_decks.ensures.found before l made.sound made.whole rows shown shows) c.in-Ok.ensures
-    (ap (list_any (is_yank_card c.in-Ok-load_decks.head)) (sym c.deref.ensures.value) ∙ sym c.name_yank_card.ensures ∙ c.if-name_yank_card.false))
+    named_loaded c.args.run.now l c.in-Ok-load_holders.part c.in-Ok.cards.items c.deref-in-Ok-true.result.now c.deref-in-Ok-true.ensures.value
+    (c.in-Ok-load_holders.ensures.found honest l made rows (c.in-Ok-true.ensures.there before rows shown) shows)
+    (needs_standing c.args.run.now l c.in-Ok.cards.items c.requires.plain c.in-Ok.ensures (ap (list_any (is_yank_card l)) (sym c.deref.ensures.value)
+    ∙ c.in-Ok-true.ensures.found before c.in-Ok-true.field-0-test l made rows shown shows))
 
 pub returns-in-Ok-load_holders-clause-reads : goal.returns-in-Ok-load_holders-clause-reads
 returns-in-Ok-load_holders-clause-reads g c honest l made rows shown shows =
-    let before = c.in-Ok-load_holders.ensures.same.honest honest in
-    needed_read c.args.run.now l c.in-Ok-load_holders.part _ _ _ made.sound
-    (none_read _ _ l c.in-Ok-load_decks.head made.sound (c.in-Ok-load_decks.ensures.found before l made.sound made.whole rows shown shows)
-    c.in-Ok-load_decks.ensures.reads) c.in-Ok-load_holders.ensures.reads (returns-in-Ok-load_holders-clause-found g c honest l made rows shown shows)
+    needed_read c.args.run.now l c.in-Ok-load_holders.part _ _ _ made.sound (still_read _ _ c.in-Ok-true.ensures.unread)
+    c.in-Ok-load_holders.ensures.reads (returns-in-Ok-load_holders-clause-found g c honest l made rows shown shows)

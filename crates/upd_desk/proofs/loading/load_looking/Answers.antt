@@ -1,0 +1,40 @@
+-- Whether a yank card is named is seen without any deck; then all decks are loaded, or those that hold the cards which are named.
+use Rattle.std.proofs.Common.{refl, sym, ◌∙◌}
+use Rattle.upd_desk.proofs.LoadingLemmas.{all_loaded, named_loaded, needed_read, needs_named, needs_yanks, none_read}
+use Rattle.upd_desk.proofs.QueryLemmas.{shown_there}
+use Rattle.upd_desk.proofs.loading.load_looking.Goals as goal
+
+pub returns-in-Ok-load-clause-found : goal.returns-in-Ok-load-clause-found
+returns-in-Ok-load-clause-found g c honest l made rows shown shows =
+    let before = c.in-Ok-load.ensures.same.honest honest in
+    let there = shown_there _ _ _ _ _ _ c.args.store.now c.load_decks.new.self c.in-Ok.ensures.same before
+    (c.in-Ok.ensures.open before) rows shown in
+    all_loaded c.args.run.now l c.in-Ok-load.library (c.in-Ok-load.ensures.found honest l made.sound made.whole rows there shows)
+    (needs_yanks c.args.run.now l c.in-Ok.head c.args.cards.now made.sound
+    (c.in-Ok.ensures.found before l made.sound made.whole rows shown shows) c.requires.named
+    (sym c.name_yank_card.ensures ∙ c.if-name_yank_card.true))
+
+pub returns-in-Ok-load-clause-reads : goal.returns-in-Ok-load-clause-reads
+returns-in-Ok-load-clause-reads g c honest l made rows shown shows =
+    let before = c.in-Ok-load.ensures.same.honest honest in
+    needed_read c.args.run.now l c.in-Ok-load.library _ _ _ made.sound
+    (none_read _ _ l c.in-Ok.head made.sound (c.in-Ok.ensures.found before l made.sound made.whole rows shown shows)
+    c.in-Ok.ensures.reads) c.in-Ok-load.ensures.reads (returns-in-Ok-load-clause-found g c honest l made rows shown shows)
+
+pub returns-in-Ok-load_holders-clause-found : goal.returns-in-Ok-load_holders-clause-found
+returns-in-Ok-load_holders-clause-found g c honest l made rows shown shows =
+    let before = c.in-Ok-load_holders.ensures.same.honest honest in
+    let there = shown_there _ _ _ _ _ _ c.args.store.now c.load_decks.new.self c.in-Ok.ensures.same before
+    (c.in-Ok.ensures.open before) rows shown in
+    named_loaded c.args.run.now l c.in-Ok-load_holders.part c.args.cards.now c.args.cards.now refl
+    (c.in-Ok-load_holders.ensures.found honest l made rows there shows)
+    (needs_named c.args.run.now l c.in-Ok.head c.args.cards.now made.sound c.requires.plain
+    (c.in-Ok.ensures.found before l made.sound made.whole rows shown shows) c.requires.named
+    (sym c.name_yank_card.ensures ∙ c.if-name_yank_card.false))
+
+pub returns-in-Ok-load_holders-clause-reads : goal.returns-in-Ok-load_holders-clause-reads
+returns-in-Ok-load_holders-clause-reads g c honest l made rows shown shows =
+    let before = c.in-Ok-load_holders.ensures.same.honest honest in
+    needed_read c.args.run.now l c.in-Ok-load_holders.part _ _ _ made.sound
+    (none_read _ _ l c.in-Ok.head made.sound (c.in-Ok.ensures.found before l made.sound made.whole rows shown shows)
+    c.in-Ok.ensures.reads) c.in-Ok-load_holders.ensures.reads (returns-in-Ok-load_holders-clause-found g c honest l made rows shown shows)

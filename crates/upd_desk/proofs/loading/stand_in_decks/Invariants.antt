@@ -1,0 +1,18 @@
+use Rattle.std.proofs.Common.{◌≡◌, false, take}
+use Rattle.std.specs.List.{list_any}
+use Rattle.upd_change.specs.Rows.{Rows, Shows}
+use Rattle.upd_core.specs.Library.{LibraryView}
+use Rattle.upd_desk.specs.Made.{IsMade}
+use Rattle.upd_parts.specs.Needed.{is_yank_card}
+use Rattle.upd_rows.specs.Keeping.{Keeps}
+use Rattle.upd_desk.proofs.loading.stand_in_decks.Given as goal
+
+abbrev pub invariant-loop-card : goal.invariant-loop-card
+invariant-loop-card g l =
+    Keeps g.S.RowStore.is_honest g.S.RowStore.is_open g.S.RowStore.image g.S.RowStore.shows g.S.RowStore.may_leave g.S.RowStore.failures_of
+    l.initial.store l.store
+    × (g.S.RowStore.reads_of l.store ≡ g.S.RowStore.reads_of l.initial.store)
+    × (g.S.RowStore.is_honest l.store → (rows : Rows) → g.S.RowStore.shows (g.S.RowStore.image l.initial.store) rows
+    → g.S.RowStore.shows (g.S.RowStore.image l.store) rows)
+    × (g.S.RowStore.is_honest l.store → (v : LibraryView) → IsMade v → (rows : Rows) → g.S.RowStore.shows (g.S.RowStore.image l.initial.store) rows
+    → Shows rows v → list_any (is_yank_card v) (take l.card-index l.cards) ≡ false)
