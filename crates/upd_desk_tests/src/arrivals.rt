@@ -1,6 +1,5 @@
 //! A desk over a store, beside a desk as a plain program.
 use crate::dice::{DECKS, Dice, random_run};
-use crate::need::decks_needed;
 use crate::plain::{Plain, Sent};
 use std::alloc::Global;
 use std::process::Abort;
@@ -151,32 +150,6 @@ impl<S: RowStore> Pair<S> {
     }
 }
 
-impl<S: RowStore + Drop> Pair<S> {
-    /// A run arrives at both, and reads no more decks than it needs, and none where it is known: how many it read.
-    fn reads(self, rt: &impl Abort, sent: Sent<'_>) -> Result<(Pair<S>, u64), Fail> {
-        let need = if self.plain.knows(sent) {
-            0
-        } else {
-            decks_needed(&self.plain.library, sent.text)? as u64
-        };
-        let store = self.desk.close();
-        let before = store.decks_read();
-        let mut pair = Pair {
-            desk: Desk::open(store),
-            plain: self.plain,
-            alloc: self.alloc,
-        };
-        pair.arrive(rt, sent)?;
-        let store = pair.desk.close();
-        let read = store.decks_read().wrapping_sub(before);
-        assert!(rt; read <= need, "{read} of {need}: {sent:?}");
-        let desk = Desk::open(store);
-        let plain = pair.plain;
-        let alloc = pair.alloc;
-        Ok((Pair { desk, plain, alloc }, read))
-    }
-}
-
 fn card_ref(text: &str) -> Result<CardRef, Fail> {
     Ok(CardRef::read(text.as_bytes()).ok_or("no card reference")?)
 }
@@ -185,51 +158,39 @@ const SITES: [&str; 3] = ["LYON", "PARIS", "lyon"];
 
 const MODES: [&str; 4] = ["full", "quick", "normal", "FULL"];
 
-/// An arrival at random.
-#[derive(Drop)]
-struct Drawn {
-    site: &'static str,
-    number: u64,
-    mode: &'static str,
-    text: String,
-}
-
-impl Drawn {
-    /// Numbers are few, so that runs come again; the text goes by the site and the number, but for some that are
-    /// changed.
-    fn new(alloc: Global, dice: &mut Dice) -> Result<Drawn, Fail> {
-        let site = if dice.below(20) == 0 {
-            2
-        } else {
-            dice.below(2)
-        };
-        let number = dice.below(24);
-        let changed = if dice.below(10) == 0 { 1 } else { 0 };
-        let mode = if dice.below(10) == 0 {
-            dice.below(4)
-        } else {
-            number % 3
-        };
-        let seed = site
-            .wrapping_mul(1000)
-            .wrapping_add(number)
-            .wrapping_add(changed);
-        Ok(Drawn {
+/// One arrival at random. Numbers are few, so that runs come again; the text goes by the site and the number, but
+/// for some that are changed.
+fn random_arrival(
+    rt: &impl Abort,
+    pair: &mut Pair<impl RowStore>,
+    dice: &mut Dice,
+) -> Result<bool, Fail> {
+    let site = if dice.below(20) == 0 {
+        2
+    } else {
+        dice.below(2)
+    };
+    let number = dice.below(24);
+    let changed = if dice.below(10) == 0 { 1 } else { 0 };
+    let mode = if dice.below(10) == 0 {
+        dice.below(4)
+    } else {
+        number % 3
+    };
+    let seed = site
+        .wrapping_mul(1000)
+        .wrapping_add(number)
+        .wrapping_add(changed);
+    let text = random_run(pair.alloc, &mut Dice(seed), number)?;
+    pair.arrive(
+        rt,
+        Sent {
             site: SITES.get(site as usize).copied().unwrap_or(""),
             number: u64::from(number),
             mode: MODES.get(mode as usize).copied().unwrap_or(""),
-            text: random_run(alloc, &mut Dice(seed), number)?,
-        })
-    }
-
-    fn sent(&self) -> Sent<'_> {
-        Sent {
-            site: self.site,
-            number: self.number,
-            mode: self.mode,
-            text: self.text.as_str(),
-        }
-    }
+            text: text.as_str(),
+        },
+    )
 }
 
 /// A list of arrivals and settlements: how many runs were accepted.
@@ -243,11 +204,8 @@ fn random_list(
         if dice.below(12) == 0 {
             let site = if dice.below(2) == 0 { "LYON" } else { "PARIS" };
             pair.settle(rt, site, u64::from(dice.below(12)))?;
-        } else {
-            let drawn = Drawn::new(pair.alloc, dice)?;
-            if pair.arrive(rt, drawn.sent())? {
-                accepted = accepted.saturating_add(1);
-            }
+        } else if random_arrival(rt, pair, dice)? {
+            accepted = accepted.saturating_add(1);
         }
     }
     pair.same_listings(
@@ -282,53 +240,6 @@ fn answers_200_random_lists_as_the_plain_program(rt: HostRuntime) -> Result<(), 
         }
     }
     assert!(&rt; accepted > 500, "{accepted}");
-    Ok(())
-}
-
-/// Random arrivals, each of which reads no more decks than its run needs of the library that it finds, and none where
-/// it is known.
-#[test]
-fn reads_the_decks_that_runs_need(rt: HostRuntime) -> Result<(), Fail> {
-    let alloc = rt.alloc();
-    let mut dice = Dice(1974);
-    for _ in 0..60 {
-        let mut pair = Pair::new(alloc, ListStore::new(alloc));
-        pair.arrive(&rt, base(DECKS))?;
-        for _ in 0..30 {
-            let drawn = Drawn::new(alloc, &mut dice)?;
-            pair = pair.reads(&rt, drawn.sent())?.0;
-        }
-    }
-    Ok(())
-}
-
-/// A quick run on one deck of two reads that deck, a yank both, and a repeat and a run that isn't read none.
-#[test]
-fn a_quick_run_reads_its_deck_alone(rt: HostRuntime) -> Result<(), Fail> {
-    let alloc = rt.alloc();
-    let mut pair = Pair::new(alloc, ListStore::new(alloc));
-    pair.arrive(&rt, lyon(1, "full", DECK_A))?;
-    pair.arrive(
-        &rt,
-        lyon(2, "quick", "*DECK B\nBEE\n*IDENT X\n*INSERT A.2\nNEW\n"),
-    )?;
-    for (sent, wanted) in [
-        (lyon(3, "quick", "*IDENT Y\n*DELETE B.2\n"), 1),
-        (lyon(3, "quick", "*IDENT Y\n*DELETE B.2\n"), 0),
-        (lyon(4, "quick", "*IDENT\n"), 0),
-        (lyon(5, "quick", "*IDENT Z\n"), 0),
-        (lyon(6, "quick", "*IDENT U\n*YANK X\n"), 2),
-        (lyon(7, "quick", "*IDENT W\n*DELETE U.1\n"), 2),
-        (lyon(8, "quick", "*IDENT V\n*DELETE Q.1\n"), 0),
-        (
-            lyon(9, "normal", "*IDENT V\n*DELETE X.1\n*RESTORE B.2\n"),
-            2,
-        ),
-    ] {
-        let (next, read) = pair.reads(&rt, sent)?;
-        assert_eq!(&rt; read, wanted, "{sent:?}");
-        pair = next;
-    }
     Ok(())
 }
 

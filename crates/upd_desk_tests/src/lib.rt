@@ -10,7 +10,6 @@ mod changes;
 pub mod dice;
 #[cfg(test)]
 mod keeping;
-pub mod need;
 pub mod plain;
 #[cfg(test)]
 mod settling;

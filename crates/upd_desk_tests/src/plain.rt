@@ -66,19 +66,12 @@ impl Plain {
         if sent.number <= self.mark(sent.site) {
             return self.fault("Settled (27) at 0");
         }
-        match self.kept_run(sent) {
-            Some(run) => self.again(run, sent),
-            None => self.keep(mode, sent),
+        for run in &self.kept {
+            if run.site.as_str() == sent.site && run.number == sent.number {
+                return self.again(run, sent);
+            }
         }
-    }
-
-    fn kept_run(&self, sent: Sent<'_>) -> Option<&Kept> {
-        self.kept.iter().find(|run| run.site.as_str() == sent.site && run.number == sent.number)
-    }
-
-    /// Whether a run has come under the key of an arrival.
-    pub fn knows(&self, sent: Sent<'_>) -> bool {
-        self.kept_run(sent).is_some()
+        self.keep(mode, sent)
     }
 
     fn fault(&self, text: &str) -> Result<String, Fail> {
