@@ -167,13 +167,15 @@ MOST_FRAMES = 100_000
 REPLY = b'{"compile":"","idents":[],"lines":0,"mode":"quick","run":%d,"site":"LYON","state":"accepted"}\n'
 
 
-def numbered(dice, count):
-    """The numbers of so many runs, in order; every tenth comes a second time instead."""
-    new = 0
+def numbered(dice, count, settles):
+    """The numbers of so many runs, in order; instead of every tenth one that isn't settled comes a second time."""
+    new, settled = 0, 0
     for frame in range(1, count + 1):
         again = frame % 10 == 0
         new += not again
-        yield dice.randint(1, new) if again else new
+        yield dice.randint(settled + 1, new) if again else new
+        if settles and frame % MOST_FRAMES == 0:
+            settled = new
 
 
 def memory(process, field):
@@ -203,14 +205,19 @@ def spool_them(upd, file, numbers, before, marks):
     return bad + (process.wait() != 0)
 
 
-def try_frames(upd, folder, dice, count):
-    file = folder / "frames.db"
+def try_frames(upd, folder, dice, count, settles):
+    """Lets so many frames arrive, in spools of the most that one may have; where the site settles, it does so after each."""
+    file = folder / f"frames{settles:d}.db"
     subprocess.run([upd, "init", file], check=True)
-    numbers, bad = list(numbered(dice, count)), 0
+    numbers, bad = list(numbered(dice, count, settles)), 0
     marks = {count // 10, count // 2, count, *range(MOST_FRAMES, count, MOST_FRAMES)}
     for before in range(0, count, MOST_FRAMES):
-        bad += spool_them(upd, file, numbers[before:before + MOST_FRAMES], before, marks)
-    print(f"{count} frames, a tenth of them repeats: {bad} wrong answers")
+        these = numbers[before:before + MOST_FRAMES]
+        bad += spool_them(upd, file, these, before, marks)
+        if settles:
+            bad += subprocess.run([upd, "settle", file, "LYON", str(max(these))], stdout=subprocess.DEVNULL).returncode != 0
+    told = ", settled after each spool" if settles else ""
+    print(f"{count} frames, a tenth of them repeats{told}: {bad} wrong answers")
     return bad + sound(upd, file)
 
 
@@ -226,7 +233,8 @@ def main():
         bad = try_requests(words.upd, folder, dice, words.requests) if words.requests else 0
         bad += try_spools(words.upd, folder, dice, words.spools) if words.spools else 0
         bad += try_kills(words.upd, folder, dice, words.kills) if words.kills else 0
-        bad += try_frames(words.upd, folder, dice, words.frames) if words.frames else 0
+        for settles in (False, True) if words.frames else ():
+            bad += try_frames(words.upd, folder, dice, words.frames, settles)
     print(f"{bad} wrong")
     sys.exit(bad > 0)
 
