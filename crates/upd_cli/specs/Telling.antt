@@ -25,7 +25,7 @@ abbrev pub IsUntold : Result ReplyView Fault → Fault → Type 0
 IsUntold (Ok reply) fault = ⊥
 IsUntold (Err told) fault = ((is_lost told.kind ≡ true) × (fault ≡ told)) ⊎ ((is_lost told.kind ≡ false) × (fault ≡ no_memory))
 
--- a run's reply, or the fault that refused it at the door, is told by its line; or nothing is told
+-- a run's reply, or the fault that refused it without one, is told by its line; or nothing is told
 abbrev pub TellsRun : Result ReplyView Fault → Result ℕ Fault → Option (List ℕ) → Option (List ℕ) → Type 0
 TellsRun answer result output output' =
     (IsTrue (is_answered answer) × Writes (run_status answer) (answer_line answer) result output output')

@@ -17,7 +17,7 @@ use Rattle.upd_desk.specs.Outcomes.{Outcome, ReplyView, outcome}
 pub data Event : Type 0 where
   -- an arrival was answered
   Came : ArrivalView → Event
-  -- an arrival was refused under older rules, and keeps that reply
+  -- an arrival was refused by rules that have changed since: it keeps that reply, and its run does nothing
   Carried : ArrivalView → List ℕ → Event
   -- a site has settled its runs up to a number
   Settled : List ℕ → ℕ → Event
