@@ -3,8 +3,8 @@
 
     python3 completions/check.py [UPD]
 
-Each command of `upd --help` stands in each of them, and no other; the man page has each command's words as its `--help` has them. The exit status is 1
-where one differs.
+Each command of `upd --help` stands in each of them, and no other; the man page has each command's words as its `--help` has them, and groff, which has to
+be there, sets it without a warning. UPD is crates/upd/out/upd where none is named. The exit status is 1 where something differs.
 """
 
 import re

@@ -9,8 +9,9 @@
 # FOLDER/replies/NUMBER.json. A run keeps its number and its bytes until it is answered, so it acts once, however often it
 # is sent. When all that was sent is answered, the site settles: the library forgets replies that the site has.
 #
-# Exit status: 0 all is answered and settled; 1 a run was refused at the door, or its number was used for another run;
-# 3 the desk gave no answer after TRIES tries, PAUSE seconds apart (10 and 5 unless they are set): start the script again.
+# Exit status: 0 all is answered and settled; 1 a run was refused without a reply, as for its site, or because its number
+# is settled or was used for another run; 2 not three words; 3 the desk gave no answer after TRIES tries, PAUSE seconds
+# apart (10 and 5 unless they are set), or a file can't be moved, or the settlement failed: start the script again.
 set -u
 
 if [ $# -ne 3 ]; then
@@ -54,7 +55,7 @@ send() {
         "$upd" run "$desk" "$site" "$number" "$mode" <"$run" >"$part"
         case $? in
         0) return 0 ;;
-        1) grep -q '"state":"refused"' "$part" ;; # a refused run is answered, what the door refuses is not
+        1) grep -q '"state":"refused"' "$part" ;; # a refused run has a reply; what has none is refused for good
         *) return 3 ;;
         esac
         ;;
