@@ -22,15 +22,14 @@ pub struct Hand {
     pub next: u32,
 }
 
-/// Where the next text goes.
+/// The place of text: where the next text goes. (A `Place` is where a card stands.)
 #[derive(Clone, Copy)]
 pub enum Spot {
     Nowhere,
     /// The end of a deck that this run brought, and the number that its next card gets.
     End { deck: Serial, next: u32 },
     /// Inside a deck, with so many of its cards behind. Text does not move the spot: the next text goes behind this
-    /// one,
-    /// and as many cards stand behind that.
+    /// one, and as many cards stand behind that.
     Inside { deck: Serial, behind: usize },
 }
 

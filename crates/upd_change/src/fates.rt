@@ -89,8 +89,7 @@ fn are_same_targets(targets: &[Target], others: &[Target]) -> bool
 }
 
 /// What became of the next card before or of the next card after. A card that is younger than all cards before is new;
-/// otherwise an old card
-/// that isn't the next one after is gone.
+/// otherwise an old card that isn't the next one after is gone.
 fn next_fate<'a>(youngest: Serial, was: &'a Card, is: &'a Card) -> Fate<'a>
     ensures { IsNextOf was.now is.now (fate_seen result) }
 {

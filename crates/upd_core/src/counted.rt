@@ -54,6 +54,7 @@ impl<'a> Model for CountedCard<'a> {
 }
 
 impl<'a> CountedCard<'a> {
+    /// The card as directives name it.
     pub fn reference(&self) -> CardRef
         ensures { result ≡ self.now.card }
     {

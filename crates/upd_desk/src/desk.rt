@@ -58,7 +58,12 @@ impl<S: RowStore> Desk<S> {
         self.work
     }
 
-    /// The answer to a run. A refusal of a run that was read is a reply as well, and kept like any other.
+    /// The answer to a run. What its reading, its lines or its compile file refuses is a reply as well, and kept like any
+    /// other.
+    ///
+    /// A fault is at 0 and keeps nothing: BadSite, BadNumber, BadMode or RunLong at the door; Settled where the number is
+    /// at or below the site's mark; RunChanged where the key is known with another mode or other bytes; NoMemory or
+    /// Store, after which the run can be sent again.
     pub fn arrive(
         &mut self,
         alloc: Global,
@@ -124,7 +129,8 @@ impl<S: RowStore> Desk<S> {
     }
 
     /// The answers to arrivals one after the other: one that wants memory, or whose store fails, is lost, and the
-    /// next is taken. The list of answers is reserved before any arrival is looked at.
+    /// next is taken. The list of answers is reserved before any arrival is looked at: where there is no memory for it
+    /// the fault is NoMemory, and nothing was done.
     pub fn run_all(
         &mut self,
         alloc: Global,
@@ -152,7 +158,8 @@ impl<S: RowStore> Desk<S> {
     }
 
     /// Settles a site's runs up to a number, and answers the site's mark afterwards: a run at or below it is refused
-    /// from then on. What is settled already stays so.
+    /// from then on. What is settled already stays so. BadSite or BadNumber, at 0, where it is no site or no run's
+    /// number; after NoMemory or Store it can be asked again.
     pub fn settle_site(&mut self, alloc: Global, site: &str, number: u64) -> Result<u64, Fault>
         ensures settles { Settles S.is_honest S.is_open S.image S.shows S.may_leave S.failures_of
             site.now number result self.old.store self.new.store }
@@ -166,7 +173,8 @@ impl<S: RowStore> Desk<S> {
         }
     }
 
-    /// The compile file of all decks.
+    /// The compile file of all decks that aren't common. CallUnknown, CallDepth or CompileLong, at 0, where the walk
+    /// meets one.
     pub fn full_compile(&mut self, alloc: Global) -> Result<CompileFile, Fault>
         ensures text { Tells S.is_honest S.is_open S.image S.shows S.may_leave S.failures_of
             (λ l. compile_file_of Full [] l l) (result_map_both (λ file. file) (λ fault. fault) result)
@@ -187,7 +195,7 @@ impl<S: RowStore> Desk<S> {
         }
     }
 
-    /// The cards of a deck, or of `YANK$$$`.
+    /// The cards of a deck, or of `YANK$$$`. DeckUnknown where no held deck has the name.
     pub fn deck_list(&mut self, alloc: Global, name: &Name) -> Result<Vec<u8>, Fault>
         ensures text { Tells S.is_honest S.is_open S.image S.shows S.may_leave S.failures_of
             (deck_listing name.now) (result_map_both (λ text. text.items) (λ fault. fault) result)
@@ -208,7 +216,7 @@ impl<S: RowStore> Desk<S> {
         }
     }
 
-    /// A card with its history.
+    /// A card with its history. CardUnknown where there is no such card.
     pub fn card_list(&mut self, alloc: Global, card: CardRef) -> Result<Vec<u8>, Fault>
         ensures text { Tells S.is_honest S.is_open S.image S.shows S.may_leave S.failures_of
             (card_listing card) (result_map_both (λ text. text.items) (λ fault. fault) result)

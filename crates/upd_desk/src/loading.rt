@@ -50,7 +50,8 @@ pub(crate) fn load_needed<S: RowStore>(
     }
 }
 
-/// The same for a run that neither yanks nor purges. Where each card that it names stands in a deck, none is a yank card.
+/// The same for a run that neither yanks nor purges. Where each card that it names stands in a deck, none of them is a
+/// yank card.
 fn load_named<S: RowStore>(store: &mut S, alloc: Global, run: &Run<'_>) -> Result<Library, Fault>
     requires plain { are_plain run.now ≡ true }
     ensures found { S.is_honest store.new → IfOk result (λ found. (l : LibraryView) → IsMade l → (rows : Rows)

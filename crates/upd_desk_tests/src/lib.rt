@@ -1,4 +1,5 @@
-//! The tests of row changes, stores and the desk. Expected values are worked by hand from `docs/rules.md`.
+//! Tests of row changes, of settlings at the limits of a library, and of the desk beside a plain program. Expected
+//! values are worked by hand from `docs/rules.md`, or come from that program.
 //!
 //! They stand in a crate of their own, since a crate with tests is proved once more with them.
 #![tactic(auto)]

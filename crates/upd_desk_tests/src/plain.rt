@@ -1,4 +1,4 @@
-//! A desk as a plain program: everything in lists, nothing kept but the runs with their replies.
+//! A desk as a plain program: a library, and lists of the runs with their answers and of the marks. It keeps no status.
 use std::alloc::Global;
 use std::test::Fail;
 use upd_apply::apply;
@@ -28,6 +28,7 @@ pub struct Kept {
     pub answer: String,
 }
 
+/// A desk that works everything out anew.
 #[derive(Drop)]
 pub struct Plain {
     pub library: Library,
@@ -39,6 +40,7 @@ pub struct Plain {
 }
 
 impl Plain {
+    /// A desk over an empty library.
     pub fn new(alloc: Global) -> Plain {
         Plain {
             library: Library::new(alloc),

@@ -192,10 +192,11 @@ fn a_failed_read_keeps_no_run_of_its_frame(rt: HostRuntime) -> Result<(), Fail> 
     Ok(())
 }
 
-/// The request of a run of no bytes, and its answer.
+/// The request of a run of no bytes.
 pub const QUICK: &str =
     "POST /sites/LYON/runs/1/quick HTTP/1.1\r\nHost: lib\r\nContent-Length: 0\r\n\r\n";
 
+/// The answer to it on an empty library.
 pub const QUICK_ANSWER: &str =
     "HTTP/1.1 200 OK\r\nContent-Type: application/json\r\nContent-Length: 92\r\n\
 Connection: close\r\n\r\n{\"compile\":\"\",\"idents\":[],\"lines\":0,\"mode\":\"quick\",\"run\":1,\"site\":\"LYON\",\

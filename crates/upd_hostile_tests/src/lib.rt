@@ -1,8 +1,7 @@
 //! Tests of hostile use: input that is cut or garbled, readers and writers that fail, and memory that is refused.
 //!
 //! Those of `memory` and `wires` hold wherever one request for memory is refused: `bench/memory.py` refuses each in
-//! turn.
-//! Expected values are worked by hand from `docs/rules.md`.
+//! turn. Expected values are worked by hand from `docs/rules.md`.
 #![tactic(auto)]
 
 #[cfg(test)]

@@ -11,6 +11,7 @@ pub struct Single<'a> {
 }
 
 impl<'a> Single<'a> {
+    /// A reader of these bytes; with `fails_at` 0 no read fails.
     pub fn new(bytes: &'a [u8], fails_at: usize) -> Single<'a> {
         Single {
             rest: bytes,
@@ -45,6 +46,7 @@ pub struct Room {
 }
 
 impl Room {
+    /// A writer behind what `taken` has, which takes `left` bytes more.
     pub fn new(taken: Vec<u8>, left: usize) -> Room {
         Room { taken, left }
     }

@@ -19,6 +19,7 @@ pub struct Pieces<'a> {
 }
 
 impl<'a> Pieces<'a> {
+    /// A reader of at most `most` bytes at a time; with `fails_at` 0 no read fails.
     pub fn new(bytes: &'a [u8], most: usize, fails_at: usize) -> Pieces<'a> {
         Pieces {
             rest: bytes,
@@ -51,6 +52,7 @@ pub struct Narrow {
 }
 
 impl Narrow {
+    /// A writer that takes `room` bytes.
     pub fn new(alloc: Global, room: usize) -> Narrow {
         Narrow {
             taken: Vec::new(alloc),
@@ -74,6 +76,7 @@ impl Write for Narrow {
     }
 }
 
+/// A desk over lists.
 pub type Lists = Desk<ListStore>;
 
 /// A desk over an empty library.

@@ -10,8 +10,7 @@ ghost use Rattle.upd_apply.specs.Applying.{started, stepped};
 ghost use Rattle.upd_laws.specs.Soundness.{count_of};
 
 /// The number that a run gives to the next card of the set in hand, or of the deck whose end takes text, is one more
-/// than the number of
-/// cards that the library has of it.
+/// than the number of cards that the library has of it.
 pub fn next_numbers_count_cards()
     ensures hand { (lines : List LineView) (l : LibraryView) (s : State) (hand : Hand) → IsSound l
         → stepped lines (started l) ≡ Ok s

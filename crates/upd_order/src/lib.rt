@@ -2,8 +2,8 @@
 //! rowids.
 //!
 //! No clause of a connection says so, and what INSERT and DELETE do to a table, row by row, rests on it. Here it is a
-//! law of the store, true of
-//! the store over files and of the one in memory, so that a connection in hand needs no second reading.
+//! law of the store, true of the store over files and of the one in memory, so that nothing has to be read again to
+//! know it of a connection in hand.
 #![tactic(auto)]
 
 ghost use Rattle.std.specs.Prelude.{◌≡◌, false, IsTrue};

@@ -11,7 +11,7 @@ use upd_core::Library;
 use upd_deck::{Item, Run};
 use upd_text::CardRef;
 
-/// No line of a run yanks or purges.
+/// Whether no line of a run yanks or purges.
 pub fn is_plain(run: &Run<'_>) -> bool
     ensures { result ≡ are_plain run.now }
 {

@@ -14,8 +14,7 @@ use std::alloc::{AllocError, Global};
 use upd_text::{Fault, Name};
 
 /// The reply to an accepted run: the compile file with the number of its lines, and the names of the idents that the
-/// run
-/// introduced.
+/// run introduced, by age.
 pub fn accepted(
     alloc: Global,
     site: &str,

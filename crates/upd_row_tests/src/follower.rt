@@ -21,6 +21,7 @@ pub struct Follower {
 }
 
 impl Follower {
+    /// The empty library, before the first run.
     pub fn new(alloc: Global) -> Result<Follower, Fail> {
         let library = Library::new(alloc);
         let cache = Cache::build(alloc, &library)?;

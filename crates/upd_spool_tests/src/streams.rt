@@ -12,6 +12,7 @@ pub struct Dribble<'a> {
 }
 
 impl<'a> Dribble<'a> {
+    /// A reader of these bytes; with `fails_at` 0 no read fails.
     pub fn new(bytes: &'a [u8], fails_at: usize) -> Dribble<'a> {
         Dribble {
             bytes,
@@ -47,6 +48,7 @@ pub struct Cycle<'a> {
 }
 
 impl<'a> Cycle<'a> {
+    /// A reader of `left` bytes in all.
     pub fn new(text: &'a [u8], left: usize) -> Cycle<'a> {
         Cycle {
             text,
@@ -85,6 +87,7 @@ pub struct Narrow {
 }
 
 impl Narrow {
+    /// A writer that takes `room` bytes.
     pub fn new(alloc: Global, room: usize, fails: bool) -> Narrow {
         Narrow {
             taken: Vec::new(alloc),

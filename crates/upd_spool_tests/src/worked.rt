@@ -8,10 +8,13 @@ use upd_rows::ListStore;
 use upd_spool::spool;
 use upd_text::Fault;
 
+/// A run that brings deck A.
 pub const FIRST: &str = "RUN LYON 1 full 22\n*DECK A\nONE\nTWO\nTHREE\n\n";
 
+/// A run of no bytes.
 pub const SECOND: &str = "RUN LYON 2 quick 0\n\n";
 
+/// A run of a set X, which deletes a card.
 pub const THIRD: &str = "RUN LYON 3 full 21\n*IDENT X\n*DELETE A.3\n\n";
 
 /// How a spool ended.
@@ -27,6 +30,7 @@ fn compile_line(alloc: Global, text: &str, number: u32) -> Result<String, Fail> 
     Ok(format!(in alloc; "{text:<80} A        {number:>6}\\n")?)
 }
 
+/// The line that answers the first frame.
 pub fn first_answer(alloc: Global) -> Result<String, Fail> {
     let one = compile_line(alloc, "ONE", 2)?;
     let two = compile_line(alloc, "TWO", 3)?;
@@ -37,6 +41,7 @@ pub fn first_answer(alloc: Global) -> Result<String, Fail> {
     )?)
 }
 
+/// The line that answers the second frame.
 pub const SECOND_ANSWER: &str =
     "{\"compile\":\"\",\"idents\":[],\"lines\":0,\"mode\":\"quick\",\"run\":2,\
 \"site\":\"LYON\",\"state\":\"accepted\"}\n";

@@ -1,4 +1,5 @@
-//! What is kept, read in transactions of their own.
+//! What is kept, read in transactions of their own. An error is want of memory, a failure of the disk, or a file whose
+//! tables or rows are no library's; none of these calls changes a table.
 ghost use Rattle.std.specs.Prelude.{◌≡◌, false, IfOk, IsTrue, OnOk};
 ghost use Rattle.sqlite.specs.Held.{state};
 ghost use Rattle.sqlite.specs.State.{HasCleanDisk, Survives};

@@ -9,6 +9,7 @@ use upd_text::Fault;
 
 /// A store that can be made empty.
 pub trait Fresh: RowStore + Drop {
+    /// The store of an empty library.
     fn fresh(alloc: Global) -> Result<Self, Fail>;
 }
 

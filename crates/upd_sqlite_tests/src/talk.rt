@@ -75,6 +75,7 @@ impl<S: RowStore> Talk<S> {
         told(self.alloc, answer)
     }
 
+    /// The answer of the desk alone, as its bytes; a mark as its digits.
     pub fn answer(&mut self, ask: Ask<'_>) -> Result<Result<Vec<u8>, Fault>, Fail> {
         Ok(match ask {
             Ask::Run(sent) => self.reply(sent),

@@ -1,9 +1,8 @@
 //! What statements do to tables that hold lists of rows, whatever the rows mean.
 //!
-//! Tables have a key of their own beside the rowid, and columns that are never NULL. The lemmas of `Shapes` say what an
-//! INSERT of one row, a DELETE
-//! or an UPDATE of the rows that pass a test, a SELECT of one table and a CREATE TABLE make of the lists: equations,
-//! with no rowid in them.
+//! Tables have a key of their own beside the rowid, and columns that are never NULL. The lemmas of `proofs/Shapes` say
+//! what an INSERT of one row, a DELETE or an UPDATE of the rows that pass a test, a SELECT of one table and a CREATE
+//! TABLE make of the lists: equations, with no rowid in them.
 #![tactic(auto)]
 
 ghost use Rattle.std.specs.Prelude.{◌≡◌, IfOk};

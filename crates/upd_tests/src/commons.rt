@@ -1,3 +1,5 @@
+//! Common decks, calls, modes and the limits of compile files.
+
 use crate::parts::Part;
 use crate::shelf::{Ask, Asked, check};
 use std::test::Fail;

@@ -1,3 +1,5 @@
+//! Insertions, deletions and restorations, and what is refused of them.
+
 use crate::shelf::{Ask, Asked, DECK_A, check};
 use std::test::Fail;
 

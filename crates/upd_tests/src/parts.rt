@@ -1,3 +1,5 @@
+//! Long runs, as texts that are put together from parts.
+
 use std::alloc::Global;
 use std::test::Fail;
 
@@ -15,6 +17,7 @@ pub enum Part<'a> {
     Chain(u32, u32, u32),
 }
 
+/// Bytes as text.
 pub fn text(bytes: &[u8]) -> Result<&str, Fail> {
     Ok(std::str::from_utf8(bytes)?)
 }

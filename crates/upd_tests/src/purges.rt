@@ -1,3 +1,5 @@
+//! Purges, purging back, and names that come again.
+
 use crate::shelf::{Ask, Asked, DECK_A, check};
 use std::test::Fail;
 

@@ -1,3 +1,5 @@
+//! A library to which runs come one after the other, and what it answers as text.
+
 use crate::parts::{Part, text, text_of};
 use std::alloc::Global;
 use std::ops::Range;
@@ -54,6 +56,7 @@ pub struct Shelf {
 }
 
 impl Shelf {
+    /// A shelf that begins with this library.
     pub fn new(library: Library) -> Self {
         Shelf { library }
     }

@@ -1,3 +1,5 @@
+//! Yanks, and yanks of yanks.
+
 use crate::shelf::{Ask, Asked, DECK_A, check};
 use std::test::Fail;
 

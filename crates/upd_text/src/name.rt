@@ -16,8 +16,7 @@ use std::marker::Model;
 use std::{fmt, str};
 
 /// A name of an ident: 1 to 9 of `A-Z 0-9 + - * / ( ) $ =`, and not `*` alone, as `read` makes them; or no bytes, as
-/// `none` makes,
-/// where an ident isn't listed.
+/// `none` makes, where an ident isn't listed.
 #[derive(Clone, Copy, Debug)]
 pub struct Name {
     bytes: [u8; 9],
