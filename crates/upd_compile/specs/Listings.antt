@@ -41,7 +41,7 @@ card_name idents c = card_text (ref_of idents c)
 abbrev pub listed_deck : List ℕ → LibraryView → Option ℕ
 listed_deck name l = if bytes_eq name yank_name then Some 0 else deck_of name l
 
--- the head line of a deck of a name, by its ident; `YANK$$$` has none
+-- the head line of a deck of a name, by its ident; `YANK$$$` has no ident
 abbrev pub heading : List ℕ → Option Ident → List ℕ
 heading name None = line_of (codes "DECK" ∷ name ∷ [])
 heading name (Some i) =

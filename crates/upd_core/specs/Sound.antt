@@ -22,7 +22,7 @@ abbrev pub AreAgedFrom : ℕ → List Ident → Type 0
 AreAgedFrom n [] = Unit {0}
 AreAgedFrom n (i ∷ rest) = (i.age ≡ n) × AreAgedFrom (n + 1) rest
 
--- whether an age is that of a held ident, or of a held deck
+-- whether an age is that of a held ident
 abbrev pub is_held : List Ident → ℕ → Bool
 is_held idents z = list_any (λ i. i.held && (i.age == z)) idents
 
@@ -58,7 +58,7 @@ BeginsOn c = FirstIs c.history
 abbrev pub HasNoTargets : DeckView → Type 0
 HasNoTargets d = AllByRecursion (λ c. c.targets ≡ []) d.cards
 
--- a card's ident is held, and so are those of its entries; ages in the directory end with the youngest ident
+-- a card's ident is held, and so are those of its entries
 abbrev pub IsOfHeld : List Ident → CardView → Type 0
 IsOfHeld idents c = IsTrue (is_held idents c.ident) × AllByRecursion (λ e. IsTrue (is_held idents e.ident)) c.history
 

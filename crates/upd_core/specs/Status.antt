@@ -98,18 +98,18 @@ yank_at l place = if place.deck == 0 then slice_get (liveness l.yanks) place.ind
 abbrev pub IsOlder : Age → Age → Type 0
 IsOlder age z = (0 < z) × (z < age)
 
--- The order of age in `YANK$$$`: targets are older than their card, entries at least as young as the card, and the entries of every later
--- card as well.
+-- a target is older than an age, the set of it as well as the deck
 abbrev pub TakesOlder : Age → Target → Type 0
 TakesOlder age (Set z) = IsOlder age z
 TakesOlder age (SetIn z d) = IsOlder age z × IsOlder age d
 TakesOlder age (Deck d) = IsOlder age d
 
--- the entries of a card are of an age or younger
+-- the entries of a card are of this age or younger
 abbrev pub HasEntriesFrom : Age → CardView → Type 0
 HasEntriesFrom age c = AllByRecursion (λ e. age ≤ e.ident) c.history
 
--- yank cards in order of age
+-- The order of age in `YANK$$$`: targets are older than their card, entries at least as young as the card, and the entries of every later
+-- card as well.
 abbrev pub IsAged : List CardView → Type 0
 IsAged [] = Unit {0}
 IsAged (y ∷ ys) = AllByRecursion (TakesOlder y.ident) y.targets × AllByRecursion (HasEntriesFrom y.ident) (y ∷ ys) × IsAged ys
