@@ -6,7 +6,7 @@
 `rt test` in that crate makes the executable of its tests; README.md says how the lasting executable is made. The Nth request is refused, N from 1 until a
 run meets no refusal; of a command's requests with --every only every so many. A test then holds, or was itself refused what it needs. A command answers as
 with ample memory, or says NoMemory, and its library is as before, or as after the frames that are answered; given again, it ends as it does from the start.
-The exit status is 1 where that isn't so.
+The exit status is 1 where that isn't so. It wants `cc`, for a library that stands before the C library's allocator.
 """
 
 import argparse
