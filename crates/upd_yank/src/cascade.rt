@@ -1,5 +1,5 @@
 //! The cascade: `YANK$$$` from the youngest card to the oldest, then the other cards. No card is looked at twice, and
-//! none that nothing reaches.
+//! none that is neither touched nor reached by what flipped.
 
 ghost use Rattle.std.specs.Prelude.{◌≡◌, ◌↔◌, ℕ, ◌+◌, ◌<◌, ◌^◌, ◌==◌, [], ◌∷◌, ◌++◌, if◌then◌else◌, length, count_by};
 ghost use Rattle.std.specs.Prelude.{true, IfOk, None, OnOk, Some};
