@@ -88,8 +88,8 @@ fn are_same_targets(targets: &[Target], others: &[Target]) -> bool
     true
 }
 
-/// What became of the next card before or of the next card after. A card that is younger than all cards before is new;
-/// otherwise an old card that isn't the next one after is gone.
+/// What became of the next card before or of the next card after. A card of an ident younger than all idents before is
+/// new; otherwise an old card that isn't the next one after is gone.
 fn next_fate<'a>(youngest: Serial, was: &'a Card, is: &'a Card) -> Fate<'a>
     ensures { IsNextOf was.now is.now (fate_seen result) }
 {

@@ -79,7 +79,8 @@ pub fn close<D: Disk + Drop>(library: SqlStore<FileStore<D>>) -> Result<Files<D>
     }
 }
 
-/// A connection to a file of SQLite, whatever its tables are. A file that isn't there isn't made.
+/// A connection to a file of SQLite, whatever its tables are. Where it is no such file the fault is Store at 0, and a
+/// file that isn't there isn't made.
 pub fn connect<S: Start>(
     rt: &HostRuntime,
     path: &str,

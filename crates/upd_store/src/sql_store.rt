@@ -40,7 +40,8 @@ impl<S: Rising + Drop> Drop for SqlStore<S> {
 
 impl<S: Rising> SqlStore<S> {
     /// Takes a connection to a library's file. Where it is none the fault is Store, at the version that the file
-    /// tells, 0 where there is none, and the connection comes back. Nothing is written.
+    /// tells, 0 where there is none, and the connection comes back; so it does, at 0, in a transaction. Nothing is
+    /// written.
     pub fn adopt(mut conn: Connection<S>) -> Result<SqlStore<S>, (Fault, Connection<S>)>
         ensures ours { IfOk result (λ s. HasCleanDisk (state S.Store s.conn) → IsTrue (state S.Store s.conn).is_open
             → (state S.Store s.conn).committed.schema ≡ library_schema) }
@@ -75,7 +76,7 @@ impl<S: Rising> SqlStore<S> {
     }
 
     /// Makes an empty library's tables. Where there is any table the fault is Store, at the version that the file
-    /// tells, 0 where there is none, and the connection comes back.
+    /// tells, 0 where there is none, and the connection comes back; so it does, at 0, in a transaction.
     pub fn init(mut conn: Connection<S>) -> Result<SqlStore<S>, (Fault, Connection<S>)>
         ensures shows { IfOk result (λ s. HasCleanDisk (state S.Store s.conn)
             → IsTrue (state S.Store s.conn).is_open × ShowsTables no_rows (state S.Store s.conn).committed) }
