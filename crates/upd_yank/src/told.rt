@@ -73,7 +73,7 @@ fn push_status(changes: &mut Vec<Change>, card: &CardRef, active: bool) -> Resul
 }
 
 /// Tells the status of each card that a run took away, and its status with it, and that is there nevertheless: its
-/// name was purged and came again.
+/// name was purged and came again, or it was told as gone and new.
 fn tell_again(changes: &mut Vec<Change>, now: &Statuses, run: &[Change]) -> Result<(), AllocError>
     ensures { OnOk result (map change_seen changes.new.items ≡ map change_seen changes.old.items
         ++ all_again_told (kept_status now.now) (map change_seen run.now)) }
