@@ -4,8 +4,9 @@
     python3 bench/all.py [--executable FILE] [--times N] [--growth]
 
 Each line of the table is one command of the executable (crates/upd/out/upd where none is named) on one library: median processor time of N processes (9 where
-none is said), millions of instructions where `perf` or `valgrind` counts them, and peak memory. With --growth the table alone is made; else trial.py, apply.py,
-store.py and wire.py --times follow, each of which needs what its own first lines say. The exit status is 1 where one of these is past its budget.
+none is said), millions of instructions where `perf` or `valgrind` counts them, and peak memory where GNU time tells it. With --growth the table alone is made;
+else trial.py, apply.py, store.py and wire.py --times follow, each of which needs what its own first lines say. The exit status is 1 where one of these is past
+its budget.
 """
 
 import argparse
