@@ -27,8 +27,8 @@ use upd_streams::write_parts;
 use upd_text::Fault;
 
 /// Carries out the command line `words`, the program's own name first, and answers the exit status: 0 where all is
-/// done; 1 for a refusal, whose line goes to `faults`, or to the output where the desk refuses the run of `run`; 2 where
-/// the words are no command line, and why goes to `faults`; 3 where memory, the store, a read or a write failed.
+/// done; 1 for a refusal, whose line goes to `faults`, or to the output where the desk refuses the run of `run`; 2
+/// where the words are no command line, and why goes to `faults`; 3 where memory, the store, a read or a write failed.
 pub fn run_command<S: AsStr, R: Read, W: Write, E: Write>(
     rt: &HostRuntime,
     words: &[S],

@@ -58,11 +58,11 @@ impl<S: RowStore> Desk<S> {
         self.work
     }
 
-    /// The answer to a run. What its reading, its lines or its compile file refuses is a reply as well, and kept like any
-    /// other.
+    /// The answer to a run. What its reading, its lines or its compile file refuses is a reply as well, and kept like
+    /// any other.
     ///
-    /// A fault is at 0 and keeps nothing: BadSite, BadNumber, BadMode or RunLong at the door; Settled where the number is
-    /// at or below the site's mark; RunChanged where the key is known with another mode or other bytes; NoMemory or
+    /// A fault is at 0 and keeps nothing: BadSite, BadNumber, BadMode or RunLong at the door; Settled where the number
+    /// is at or below the site's mark; RunChanged where the key is known with another mode or other bytes; NoMemory or
     /// Store, after which the run can be sent again.
     pub fn arrive(
         &mut self,

@@ -16,8 +16,8 @@ pub const MAX_FRAMES: u32 = 100_000;
 /// BadMode, RunChanged or Settled. The answer to a frame is out before the next frame is read.
 ///
 /// Answers the number of frames at the end of the input. BadFrame, CutFrame, NoMemory, Store, Read or Write ends the
-/// spool, at the number of its frame, counted from 1, and undoes nothing of the frames before it. After Write the run of
-/// that frame is kept, if it was answered by a reply.
+/// spool, at the number of its frame, counted from 1, and undoes nothing of the frames before it. After Write the run
+/// of that frame is kept, if it was answered by a reply.
 pub fn spool<R: Read, W: Write, S: RowStore>(
     alloc: Global,
     reader: &mut R,

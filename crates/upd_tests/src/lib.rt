@@ -1,6 +1,6 @@
 //! Tests of names and lines, of whole runs from their bytes to compile files and listings, of the edits of a library,
-//! kept statuses and limits, and of command lines. Expected values are worked by hand from `docs/rules.md`, or come from
-//! a second implementation, as the files of `upd_examples` do.
+//! kept statuses and limits, and of command lines. Expected values are worked by hand from `docs/rules.md`, or come
+//! from a second implementation, as the files of `upd_examples` do.
 //!
 //! They stand in a crate of their own, since a crate with tests is proved once more with them.
 #![tactic(auto)]
