@@ -13,7 +13,9 @@ complete -c upd -n "not __fish_seen_subcommand_from $commands" -a history -d 'li
 complete -c upd -n "not __fish_seen_subcommand_from $commands" -a idents -d 'list all decks and correction sets'
 complete -c upd -n "not __fish_seen_subcommand_from $commands" -a yanks -d 'list the yank cards'
 complete -c upd -n "not __fish_seen_subcommand_from $commands" -a migrate -d 'bring an older file to the present schema'
-complete -c upd -n "__fish_seen_subcommand_from trial run" -a 'full quick normal'
-complete -c upd -n "__fish_seen_subcommand_from init run settle spool serve compile list history idents yanks migrate" -F
+set -l words '(count (commandline -opc))'
+complete -c upd -n "__fish_seen_subcommand_from trial; and test $words -eq 2" -a 'full quick normal'
+complete -c upd -n "__fish_seen_subcommand_from run; and test $words -eq 5" -a 'full quick normal'
+complete -c upd -n "__fish_seen_subcommand_from init run settle spool serve compile list history idents yanks migrate; and test $words -eq 2" -F
 complete -c upd -s h -l help -d 'tell the words of a command'
 complete -c upd -s V -l version -d 'tell the version'
