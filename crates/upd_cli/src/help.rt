@@ -40,9 +40,9 @@ pub(crate) const RUN: Text = Text {
 Reads a run of at most 65536 bytes and writes the reply, a line of JSON. The same run under the same
 number gets its first reply again, and changes nothing: send it until it is answered.
 
-Exit status: 0 accepted, 1 the reply is a refusal, or the run is refused at the door, which is told
-in JSON; 2 no command line, 3 want of memory, the store, a read or a write failed. A NUMBER that is
-none, and what failed, is one line on standard error.
+Exit status: 0 accepted, 1 the reply is a refusal, or the run is refused without a reply, which is
+told in JSON; 2 no command line, 3 want of memory, the store, a read or a write failed. A NUMBER
+that is none, and what failed, is one line on standard error.
 
 Example:
   upd init library.db
@@ -66,7 +66,7 @@ pub(crate) const SPOOL: Text = Text {
     about: "Hands in the runs of a spool on standard input, and writes a line for each",
     more: "\
 Reads frames, each a header `RUN site number mode length`, so many bytes of a run, and a line end.
-Writes each frame's reply, or what it was refused by at the door, before it reads the next frame.
+Writes each frame's reply, or the fault that refused it without one, before it reads the next frame.
 
 Exit status: 0 all frames are answered, whatever the answers say; 1 the input is no spool, or ends
 inside a frame; 2 no command line, 3 want of memory, the store, a read or a write failed. What ended
