@@ -10,6 +10,7 @@ pub mod Finds
 pub mod SchemaLemmas
 pub mod WholeLemmas
 pub mod PartLemmas
+pub mod SizeLemmas
 pub mod Turns
 pub mod CommitLemmas
 pub mod MarkLemmas

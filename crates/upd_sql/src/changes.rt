@@ -4,6 +4,7 @@ ghost use Rattle.sqlite.specs.Held.{state};
 ghost use Rattle.upd_change.specs.Changes.{done, done_all, change_seen, CardGone, CardsMoved, CountNow, StatusNow};
 ghost use Rattle.upd_change.specs.Fits.{AllFit, Fits};
 ghost use Rattle.upd_tables.specs.Steps.{Makes};
+ghost use Rattle.upd_sql.specs.Sizes.{KeepsSizes, Sized, SizedAll};
 ghost use Rattle.upd_sql.specs.Stands.{AnyTables, Stands};
 
 use crate::writes;
@@ -16,6 +17,8 @@ fn remove_card<S: Alter>(tx: &mut Transaction<'_, S>, card: &CardRef) -> Result<
     ensures same_reference { tx.new.conn.ghost_name ≡ tx.old.conn.ghost_name }
     ensures makes { Makes Stands AnyTables (done (CardGone card.now)) (state S.Store tx.old.conn.now)
         (state S.Store tx.new.conn.now) result }
+    ensures sized { Sized (CardGone card.now)
+        (state S.Store tx.old.conn.now) (state S.Store tx.new.conn.now) result }
 {
     writes::delete_card(tx, card)?;
     writes::delete_state(tx, card)
@@ -30,6 +33,7 @@ fn set_state<S: Alter>(
     ensures same_reference { tx.new.conn.ghost_name ≡ tx.old.conn.ghost_name }
     ensures makes { Makes Stands AnyTables (done (StatusNow card.now active)) (state S.Store tx.old.conn.now)
         (state S.Store tx.new.conn.now) result }
+    ensures sized { KeepsSizes (state S.Store tx.old.conn.now) (state S.Store tx.new.conn.now) result }
 {
     writes::delete_state(tx, card)?;
     writes::insert_state(tx, card, active)
@@ -40,6 +44,7 @@ fn set_count<S: Alter>(tx: &mut Transaction<'_, S>, target: Target, n: u32) -> R
     ensures same_reference { tx.new.conn.ghost_name ≡ tx.old.conn.ghost_name }
     ensures makes { Makes Stands AnyTables (done (CountNow target n)) (state S.Store tx.old.conn.now)
         (state S.Store tx.new.conn.now) result }
+    ensures sized { KeepsSizes (state S.Store tx.old.conn.now) (state S.Store tx.new.conn.now) result }
 {
     writes::delete_count(tx, target)?;
     if n == 0 {
@@ -58,6 +63,7 @@ fn move_cards<S: Alter>(
     ensures same_reference { tx.new.conn.ghost_name ≡ tx.old.conn.ghost_name }
     ensures makes { Makes Stands (Fits (CardsMoved deck from by)) (done (CardsMoved deck from by))
         (state S.Store tx.old.conn.now) (state S.Store tx.new.conn.now) result }
+    ensures sized { KeepsSizes (state S.Store tx.old.conn.now) (state S.Store tx.new.conn.now) result }
 {
     if by < 0 {
         writes::move_up(tx, deck, from, by.unsigned_abs())
@@ -70,6 +76,8 @@ fn move_cards<S: Alter>(
 fn make<S: Alter>(tx: &mut Transaction<'_, S>, change: &Change) -> Result<(), Error>
     ensures same_reference { tx.new.conn.ghost_name ≡ tx.old.conn.ghost_name }
     ensures makes { Makes Stands (Fits (change_seen change.now)) (done (change_seen change.now))
+        (state S.Store tx.old.conn.now) (state S.Store tx.new.conn.now) result }
+    ensures sized { Sized (change_seen change.now)
         (state S.Store tx.old.conn.now) (state S.Store tx.new.conn.now) result }
 {
     match change {
@@ -96,6 +104,8 @@ fn make<S: Alter>(tx: &mut Transaction<'_, S>, change: &Change) -> Result<(), Er
 pub fn make_all<S: Alter>(tx: &mut Transaction<'_, S>, changes: &[Change]) -> Result<(), Error>
     ensures same_reference { tx.new.conn.ghost_name ≡ tx.old.conn.ghost_name }
     ensures makes { Makes Stands (AllFit (map change_seen changes.now)) (done_all (map change_seen changes.now))
+        (state S.Store tx.old.conn.now) (state S.Store tx.new.conn.now) result }
+    ensures sized { SizedAll (map change_seen changes.now)
         (state S.Store tx.old.conn.now) (state S.Store tx.new.conn.now) result }
 {
     for change in changes {

@@ -6,6 +6,9 @@ ghost use Rattle.upd_change.specs.Changes.{change_seen};
 ghost use Rattle.upd_change.specs.Fits.{AllFit};
 ghost use Rattle.upd_rows.specs.Tables.{committed};
 ghost use Rattle.upd_sql.specs.Commits.{Commits, MayCommit};
+ghost use Rattle.upd_sql.specs.Schema.{library_schema};
+ghost use Rattle.upd_sql.specs.Sizes.{HasSizes, TakeNone, sized_all};
+ghost use Rattle.upd_sql.specs.declared.sizes.Sizes.{Sizes};
 
 use crate::changes::make_all;
 use crate::writes::insert_run;
@@ -30,6 +33,10 @@ pub fn commit_changes<S: Rising>(
     ensures crash { Survives (state S.Store conn.old) (state S.Store conn.new)
         (MayCommit (AllFit (map change_seen changes.now)) (committed (map change_seen changes.now) row.now)
         (state S.Store conn.old)) }
+    ensures sized { HasCleanDisk (state S.Store conn.new) → OnOk result
+        ((state S.Store conn.old).committed.schema ≡ library_schema → TakeNone (map change_seen changes.now)
+        → (n : Sizes) → HasSizes n (state S.Store conn.old).committed.trees
+        → HasSizes (sized_all (map change_seen changes.now) n) (state S.Store conn.new).committed.trees) }
 {
     note_settled(conn);
     let _outside = conn.is_autocommit();

@@ -11,9 +11,11 @@ ghost use Rattle.upd_sql.specs.Stands.{ShowsTables};
 ghost use Rattle.upd_rows.specs.Asked.{AreDecksOf};
 ghost use Rattle.upd_rows.specs.Assembling.{AreRowsOf};
 ghost use Rattle.upd_sql.specs.Part.{AreActiveRows, IsPart};
+ghost use Rattle.upd_sql.specs.Sizes.{AreOfCommit, HasSizes, sizes_of};
 
 use crate::active::ActiveRows;
 use crate::part::Part;
+use crate::sizes::Sizes;
 use crate::{active, part, reads, whole};
 use sqlite::{Connection, Error};
 use std::alloc::Global;
@@ -150,13 +152,16 @@ pub fn kept_decks_of<S: Rising>(
     Ok(found)
 }
 
-/// The rows of `YANK$$$` and of the decks of these ages, and how many cards and entries there are in all.
+/// The rows of `YANK$$$` and of the decks of these ages, and how many cards and entries there are in all: counted where
+/// the numbers aren't known.
 pub fn kept_part<S: Rising>(
     conn: &mut Connection<S>,
     alloc: Global,
     ages: &[Serial],
+    known: Option<Sizes>,
 ) -> Result<Part, Error>
-    requires { conn.old.in_transaction ≡ false }
+    requires outside { conn.old.in_transaction ≡ false }
+    requires known { AreOfCommit known (state S.Store conn.old) }
     ensures outside { conn.new.in_transaction ≡ false }
     ensures was_open { HasCleanDisk (state S.Store conn.new) → IsTrue (state S.Store conn.new).is_open
         → IsTrue (state S.Store conn.old).is_open }
@@ -168,11 +173,14 @@ pub fn kept_part<S: Rising>(
     ensures crash { Survives (state S.Store conn.old) (state S.Store conn.new) (MayKeep (state S.Store conn.old)) }
     ensures found { HasCleanDisk (state S.Store conn.new) → IfOk result
         (λ found. (it : Rows) → ShowsTables it (state S.Store conn.old).committed → IsPart ages.now it found) }
+    ensures sized { HasCleanDisk (state S.Store conn.new) → IfOk result
+        (λ found. (state S.Store conn.old).committed.schema ≡ library_schema
+        → HasSizes (sizes_of found) (state S.Store conn.new).committed.trees) }
 {
     note_settled(conn);
     let _outside = conn.is_autocommit();
     let mut tx = conn.transaction();
-    let found = part::part_in(&mut tx, alloc, ages)?;
+    let found = part::part_in(&mut tx, alloc, ages, known)?;
     tx.commit()?;
     Ok(found)
 }

@@ -16,9 +16,11 @@ ghost use Rattle.upd_sql.specs.Encoded.{num};
 ghost use Rattle.upd_sql.specs.Listed.{AreInOrder, by_ord, by_place, in_any_order};
 ghost use Rattle.upd_sql.specs.Part.{IsPart};
 ghost use Rattle.upd_sql.specs.Schema.{library_schema};
+ghost use Rattle.upd_sql.specs.Sizes.{AreKnown, AreSizesOf, HasSizes, card_tree, entry_tree, sizes_of};
 ghost use Rattle.upd_sql.specs.Stands.{Stands};
 
 use crate::reads::mark_in;
+use crate::sizes::Sizes;
 use crate::values::{name, number};
 use crate::whole::{all_of, cards_in, idents_in, rows_of, targets_in};
 use sqlite::{Alter, Error, ErrorCode, Row, Transaction};
@@ -215,6 +217,11 @@ fn number_of<S: Alter>(tx: &mut Transaction<'_, S>, sql: &str) -> Result<u64, Er
         → Shown sql.now [] (state S.Store tx.old.conn.now) (state S.Store tx.new.conn.now) rows
         → rows ≡ (num (at_most_64 (size it)) ∷ []) ∷ [])
         → Looks (λ it n. n ≡ size it) (state S.Store tx.old.conn.now) (state S.Store tx.new.conn.now) result }
+    ensures number { (size : ℕ) → ((rows : List SqlRow) → (state S.Store tx.old.conn.now).now.schema ≡ library_schema
+        → Shown sql.now [] (state S.Store tx.old.conn.now) (state S.Store tx.new.conn.now) rows
+        → rows ≡ (num (at_most_64 size) ∷ []) ∷ [])
+        → HasCleanDisk (state S.Store tx.new.conn.now)
+        → IfOk result (λ n. (state S.Store tx.old.conn.now).now.schema ≡ library_schema → n ≡ size) }
 {
     let rows = rows_of(tx, sql, &[])?;
     first_count(&rows)
@@ -224,6 +231,9 @@ fn card_count<S: Alter>(tx: &mut Transaction<'_, S>) -> Result<u64, Error>
     ensures same_reference { tx.new.conn.ghost_name ≡ tx.old.conn.ghost_name }
     ensures looks { Looks (λ it n. n ≡ length it.cards) (state S.Store tx.old.conn.now)
         (state S.Store tx.new.conn.now) result }
+    ensures number { HasCleanDisk (state S.Store tx.new.conn.now)
+        → IfOk result (λ n. (state S.Store tx.old.conn.now).now.schema ≡ library_schema
+        → n ≡ length ((state S.Store tx.old.conn.now).now.trees card_tree)) }
 {
     number_of(tx, "SELECT count(*) FROM cards")
 }
@@ -232,6 +242,9 @@ fn entry_count<S: Alter>(tx: &mut Transaction<'_, S>) -> Result<u64, Error>
     ensures same_reference { tx.new.conn.ghost_name ≡ tx.old.conn.ghost_name }
     ensures looks { Looks (λ it n. n ≡ length it.entries) (state S.Store tx.old.conn.now)
         (state S.Store tx.new.conn.now) result }
+    ensures number { HasCleanDisk (state S.Store tx.new.conn.now)
+        → IfOk result (λ n. (state S.Store tx.old.conn.now).now.schema ≡ library_schema
+        → n ≡ length ((state S.Store tx.old.conn.now).now.trees entry_tree)) }
 {
     number_of(tx, "SELECT count(*) FROM entries")
 }
@@ -258,21 +271,47 @@ fn part_rows_in<S: Alter>(
     })
 }
 
-/// The rows of `YANK$$$` and of the decks of these ages, and how many cards and entries there are in all.
+/// How many cards and entries there are.
+fn sizes_in<S: Alter>(tx: &mut Transaction<'_, S>) -> Result<Sizes, Error>
+    ensures same_reference { tx.new.conn.ghost_name ≡ tx.old.conn.ghost_name }
+    ensures looks { Looks AreSizesOf (state S.Store tx.old.conn.now) (state S.Store tx.new.conn.now) result }
+    ensures sized { HasCleanDisk (state S.Store tx.new.conn.now)
+        → IfOk result (λ n. (state S.Store tx.old.conn.now).now.schema ≡ library_schema
+        → HasSizes n (state S.Store tx.old.conn.now).now.trees) }
+{
+    let cards = card_count(tx)?;
+    let entries = entry_count(tx)?;
+    Ok(Sizes { cards, entries })
+}
+
+/// The rows of `YANK$$$` and of the decks of these ages, and how many cards and entries there are in all: counted where
+/// the numbers aren't known.
 pub(crate) fn part_in<S: Alter>(
     tx: &mut Transaction<'_, S>,
     alloc: Global,
     ages: &[Serial],
+    known: Option<Sizes>,
 ) -> Result<Part, Error>
     ensures same_reference { tx.new.conn.ghost_name ≡ tx.old.conn.ghost_name }
-    ensures looks { Looks (IsPart ages.now) (state S.Store tx.old.conn.now) (state S.Store tx.new.conn.now) result }
+    ensures looks { Looks (λ it found. AreKnown known (AreSizesOf it) → IsPart ages.now it found)
+        (state S.Store tx.old.conn.now) (state S.Store tx.new.conn.now) result }
+    ensures sized { HasCleanDisk (state S.Store tx.new.conn.now)
+        → IfOk result (λ found. (state S.Store tx.old.conn.now).now.schema ≡ library_schema
+        → AreKnown known (λ n. HasSizes n (state S.Store tx.old.conn.now).now.trees)
+        → HasSizes (sizes_of found) (state S.Store tx.old.conn.now).now.trees) }
 {
     let rows = part_rows_in(tx, alloc, ages)?;
-    let cards = card_count(tx)?;
-    let entries = entry_count(tx)?;
+    if let Some(sizes) = known {
+        return Ok(Part {
+            rows,
+            cards: sizes.cards,
+            entries: sizes.entries,
+        });
+    }
+    let sizes = sizes_in(tx)?;
     Ok(Part {
         rows,
-        cards,
-        entries,
+        cards: sizes.cards,
+        entries: sizes.entries,
     })
 }

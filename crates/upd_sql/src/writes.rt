@@ -9,6 +9,7 @@ ghost use Rattle.upd_tables.specs.Steps.{Makes};
 ghost use Rattle.upd_sql.specs.Parts.{with_count, with_mark, with_state, without_card, without_count, without_mark};
 ghost use Rattle.upd_sql.specs.Parts.{without_runs, without_state};
 ghost use Rattle.upd_sql.specs.Commits.{WasOpen};
+ghost use Rattle.upd_sql.specs.Sizes.{KeepsSizes, Sized};
 ghost use Rattle.upd_sql.specs.Stands.{AnyTables, Stands};
 
 use crate::values::{self, blob, codes_of, flag, kind, name, number, text, wide};
@@ -24,6 +25,7 @@ pub(crate) fn insert_ident<S: Alter>(
     ensures same_reference { tx.new.conn.ghost_name ≡ tx.old.conn.ghost_name }
     ensures makes { Makes Stands AnyTables (done (IdentNew ident.now)) (state S.Store tx.old.conn.now)
         (state S.Store tx.new.conn.now) result }
+    ensures sized { KeepsSizes (state S.Store tx.old.conn.now) (state S.Store tx.new.conn.now) result }
 {
     run(
         tx,
@@ -42,6 +44,7 @@ pub(crate) fn purge_ident<S: Alter>(tx: &mut Transaction<'_, S>, age: Serial) ->
     ensures same_reference { tx.new.conn.ghost_name ≡ tx.old.conn.ghost_name }
     ensures makes { Makes Stands AnyTables (done (IdentPurged age)) (state S.Store tx.old.conn.now)
         (state S.Store tx.new.conn.now) result }
+    ensures sized { KeepsSizes (state S.Store tx.old.conn.now) (state S.Store tx.new.conn.now) result }
 {
     run(
         tx,
@@ -59,6 +62,8 @@ pub(crate) fn insert_card<S: Alter>(
 ) -> Result<(), Error>
     ensures same_reference { tx.new.conn.ghost_name ≡ tx.old.conn.ghost_name }
     ensures makes { Makes Stands AnyTables (done (CardNew card.now deck pos body.now))
+        (state S.Store tx.old.conn.now) (state S.Store tx.new.conn.now) result }
+    ensures sized { Sized (CardNew card.now deck pos body.now)
         (state S.Store tx.old.conn.now) (state S.Store tx.new.conn.now) result }
 {
     run(
@@ -99,6 +104,8 @@ pub(crate) fn insert_entry<S: Alter>(
     ensures same_reference { tx.new.conn.ghost_name ≡ tx.old.conn.ghost_name }
     ensures makes { Makes Stands AnyTables (done (EntryNew card.now ord entry.now)) (state S.Store tx.old.conn.now)
         (state S.Store tx.new.conn.now) result }
+    ensures sized { Sized (EntryNew card.now ord entry.now)
+        (state S.Store tx.old.conn.now) (state S.Store tx.new.conn.now) result }
 {
     run(
         tx,
@@ -120,6 +127,8 @@ pub(crate) fn delete_entries<S: Alter>(
     ensures same_reference { tx.new.conn.ghost_name ≡ tx.old.conn.ghost_name }
     ensures makes { Makes Stands AnyTables (done (EntriesGone card.now)) (state S.Store tx.old.conn.now)
         (state S.Store tx.new.conn.now) result }
+    ensures sized { Sized (EntriesGone card.now)
+        (state S.Store tx.old.conn.now) (state S.Store tx.new.conn.now) result }
 {
     run(
         tx,
@@ -137,6 +146,7 @@ pub(crate) fn insert_target<S: Alter>(
     ensures same_reference { tx.new.conn.ghost_name ≡ tx.old.conn.ghost_name }
     ensures makes { Makes Stands AnyTables (done (TargetNew card.now ord target)) (state S.Store tx.old.conn.now)
         (state S.Store tx.new.conn.now) result }
+    ensures sized { KeepsSizes (state S.Store tx.old.conn.now) (state S.Store tx.new.conn.now) result }
 {
     let codes = codes_of(target);
     run(
@@ -160,6 +170,7 @@ pub(crate) fn delete_targets<S: Alter>(
     ensures same_reference { tx.new.conn.ghost_name ≡ tx.old.conn.ghost_name }
     ensures makes { Makes Stands AnyTables (done (TargetsGone card.now [])) (state S.Store tx.old.conn.now)
         (state S.Store tx.new.conn.now) result }
+    ensures sized { KeepsSizes (state S.Store tx.old.conn.now) (state S.Store tx.new.conn.now) result }
 {
     run(
         tx,
@@ -172,6 +183,7 @@ pub(crate) fn insert_run<S: Alter>(tx: &mut Transaction<'_, S>, row: &RunRow) ->
     ensures same_reference { tx.new.conn.ghost_name ≡ tx.old.conn.ghost_name }
     ensures makes { Makes Stands AnyTables (with_run row.now) (state S.Store tx.old.conn.now)
         (state S.Store tx.new.conn.now) result }
+    ensures sized { KeepsSizes (state S.Store tx.old.conn.now) (state S.Store tx.new.conn.now) result }
     ensures was_open { WasOpen (state S.Store tx.old.conn.now) (state S.Store tx.new.conn.now) result }
 {
     let run_number = wide(row.number)?;
@@ -197,6 +209,7 @@ pub(crate) fn insert_state<S: Alter>(
     ensures same_reference { tx.new.conn.ghost_name ≡ tx.old.conn.ghost_name }
     ensures makes { Makes Stands AnyTables (with_state card.now active) (state S.Store tx.old.conn.now)
         (state S.Store tx.new.conn.now) result }
+    ensures sized { KeepsSizes (state S.Store tx.old.conn.now) (state S.Store tx.new.conn.now) result }
 {
     run(
         tx,
@@ -212,6 +225,7 @@ pub(crate) fn delete_state<S: Alter>(
     ensures same_reference { tx.new.conn.ghost_name ≡ tx.old.conn.ghost_name }
     ensures makes { Makes Stands AnyTables (without_state card.now) (state S.Store tx.old.conn.now)
         (state S.Store tx.new.conn.now) result }
+    ensures sized { KeepsSizes (state S.Store tx.old.conn.now) (state S.Store tx.new.conn.now) result }
 {
     run(
         tx,
@@ -228,6 +242,7 @@ pub(crate) fn insert_count<S: Alter>(
     ensures same_reference { tx.new.conn.ghost_name ≡ tx.old.conn.ghost_name }
     ensures makes { Makes Stands AnyTables (with_count target n) (state S.Store tx.old.conn.now)
         (state S.Store tx.new.conn.now) result }
+    ensures sized { KeepsSizes (state S.Store tx.old.conn.now) (state S.Store tx.new.conn.now) result }
 {
     let codes = codes_of(target);
     run(
@@ -249,6 +264,7 @@ pub(crate) fn delete_count<S: Alter>(
     ensures same_reference { tx.new.conn.ghost_name ≡ tx.old.conn.ghost_name }
     ensures makes { Makes Stands AnyTables (without_count target) (state S.Store tx.old.conn.now)
         (state S.Store tx.new.conn.now) result }
+    ensures sized { KeepsSizes (state S.Store tx.old.conn.now) (state S.Store tx.new.conn.now) result }
 {
     let codes = codes_of(target);
     run(
@@ -315,6 +331,7 @@ pub(crate) fn move_back<S: Alter>(
     ensures same_reference { tx.new.conn.ghost_name ≡ tx.old.conn.ghost_name }
     ensures makes { Makes Stands (Fits (CardsMoved deck from (pos by))) (done (CardsMoved deck from (pos by)))
         (state S.Store tx.old.conn.now) (state S.Store tx.new.conn.now) result }
+    ensures sized { KeepsSizes (state S.Store tx.old.conn.now) (state S.Store tx.new.conn.now) result }
 {
     let distance = wide(by)?;
     run(
@@ -336,6 +353,7 @@ pub(crate) fn move_up<S: Alter>(
     ensures makes { Makes Stands (Fits (CardsMoved deck from (negsuc (by - 1))))
         (done (CardsMoved deck from (negsuc (by - 1)))) (state S.Store tx.old.conn.now)
         (state S.Store tx.new.conn.now) result }
+    ensures sized { KeepsSizes (state S.Store tx.old.conn.now) (state S.Store tx.new.conn.now) result }
 {
     let distance = wide(by)?;
     run(

@@ -13,8 +13,8 @@ use upd_core::{Actives, CardRef, Library, Serial, States};
 use upd_order::Rising;
 use upd_rows::{RowStore, assembled, assembled_active, assembled_rest, decks_by_age, reads_with};
 use upd_sql::{
-    commit_changes, is_library_schema, kept_active, kept_decks_of, kept_library, kept_mark,
-    kept_part, kept_run, kept_states, settle_site,
+    Sizes, commit_changes, is_library_schema, kept_active, kept_decks_of, kept_library, kept_mark,
+    kept_part, kept_run, kept_states, settle_site, sizes_after,
 };
 use upd_text::Fault;
 
@@ -74,10 +74,16 @@ impl<S: Rising> RowStore for SqlStore<S> {
         if !is_ours(&self.conn) {
             return Err(refused(&mut self.failures));
         }
-        match kept_part(&mut self.conn, alloc, decks) {
+        let known = self.sizes;
+        self.sizes = None;
+        match kept_part(&mut self.conn, alloc, decks, known) {
             Ok(part) => match assembled_rest(alloc, part.rows, part.cards, part.entries) {
                 Ok(library) => {
                     self.decks_read = reads_with(self.decks_read, &library);
+                    self.sizes = Some(Sizes {
+                        cards: part.cards,
+                        entries: part.entries,
+                    });
                     Ok(library)
                 }
                 Err(_) => Err(no_memory()),
@@ -143,8 +149,13 @@ impl<S: Rising> RowStore for SqlStore<S> {
         if !is_ours(&self.conn) {
             return Err(refused(&mut self.failures));
         }
+        let sizes = sizes_after(self.sizes, changes);
+        self.sizes = None;
         match commit_changes(&mut self.conn, changes, &run) {
-            Ok(()) => Ok(()),
+            Ok(()) => {
+                self.sizes = sizes;
+                Ok(())
+            }
             Err(error) => Err(counted(error, &mut self.failures)),
         }
     }
@@ -153,6 +164,7 @@ impl<S: Rising> RowStore for SqlStore<S> {
         if !is_ours(&self.conn) {
             return Err(refused(&mut self.failures));
         }
+        self.sizes = None;
         match settle_site(&mut self.conn, site, number) {
             Ok(mark) => Ok(mark),
             Err(error) => Err(counted(error, &mut self.failures)),

@@ -5,6 +5,7 @@ ghost use Rattle.sqlite.specs.State.{HasCleanDisk, Survives};
 ghost use Rattle.upd_rows.specs.Keeping.{IsLost};
 ghost use Rattle.upd_sql.specs.Making.{no_rows, MayMake};
 ghost use Rattle.upd_sql.specs.Schema.{library_schema, no_schema};
+ghost use Rattle.upd_sql.specs.Sizes.{AreOfCommit};
 ghost use Rattle.upd_sql.specs.Stands.{ShowsTables};
 ghost use Rattle.upd_store.specs.Version.{TellsVersion};
 
@@ -12,7 +13,7 @@ use crate::fault::{fault_at, fault_of, store_at};
 use crate::version::version_of;
 use sqlite::Connection;
 use upd_order::Rising;
-use upd_sql::{is_library_schema, is_no_schema, make_library};
+use upd_sql::{Sizes, is_library_schema, is_no_schema, make_library};
 use upd_text::Fault;
 
 /// The version of the schema.
@@ -24,7 +25,10 @@ pub struct SqlStore<S: Rising> {
     pub(crate) failures: u64,
     /// How many decks loads have brought.
     pub(crate) decks_read: u64,
+    /// How many cards and entries the last commit holds, where that is known.
+    pub(crate) sizes: Option<Sizes>,
     ghost outside: { conn.in_transaction ≡ false },
+    ghost sized: { AreOfCommit sizes (state S.Store conn) },
 }
 
 // It is written out, so that a caller does not prove again how each part is dropped.
@@ -34,6 +38,7 @@ impl<S: Rising + Drop> Drop for SqlStore<S> {
             conn: _,
             failures: _,
             decks_read: _,
+            sizes: _,
         } = self;
     }
 }
@@ -72,6 +77,7 @@ impl<S: Rising> SqlStore<S> {
             conn,
             failures: 0,
             decks_read: 0,
+            sizes: None,
         })
     }
 
@@ -104,6 +110,7 @@ impl<S: Rising> SqlStore<S> {
                 conn,
                 failures: 0,
                 decks_read: 0,
+                sizes: None,
             }),
             Err(error) => Err((fault_of(error), conn)),
         }
@@ -117,6 +124,7 @@ impl<S: Rising> SqlStore<S> {
             conn,
             failures: _,
             decks_read: _,
+            sizes: _,
         } = self;
         conn
     }

@@ -3,6 +3,7 @@ use Rattle.sqlite.specs.Held.{state}
 use Rattle.upd_change.specs.Changes.{done_all, change_seen}
 use Rattle.upd_change.specs.Fits.{AllFit}
 use Rattle.upd_tables.specs.Steps.{Makes}
+use Rattle.upd_sql.specs.Sizes.{SizedAll}
 use Rattle.upd_sql.specs.Stands.{Stands}
 use Rattle.upd_sql.proofs.changes.make_all.Given as goal
 
@@ -11,3 +12,4 @@ invariant-loop-change g l =
     (l.tx.conn.ghost_name ≡ l.initial.tx.conn.ghost_name)
     × Makes {X = Unit {0}} Stands (AllFit (map change_seen (take l.change-index l.changes))) (done_all (map change_seen (take l.change-index l.changes)))
     (state g.S.Store l.initial.tx.conn.now) (state g.S.Store l.tx.conn.now) (Ok tt)
+    × SizedAll {X = Unit {0}} (map change_seen (take l.change-index l.changes)) (state g.S.Store l.initial.tx.conn.now) (state g.S.Store l.tx.conn.now) (Ok tt)

@@ -1,4 +1,4 @@
-use Rattle.std.proofs.Common.{◌≡◌, IsTrue, Ok, not, true, map, refl, ap, subst, ◌∙◌, rules, arith}
+use Rattle.std.proofs.Common.{◌≡◌, IsTrue, Ok, not, true, map, refl, sym, ap, subst, ◌∙◌, rules, arith}
 use Rattle.sqlite.specs.Held.{state}
 use Rattle.sqlite.specs.State.{HasCleanDisk, Survives}
 use Rattle.sqlite.proofs.Callers.{survives_begin}
@@ -6,10 +6,12 @@ use Rattle.upd_change.specs.Changes.{change_seen, done_all}
 use Rattle.upd_change.specs.Fits.{AllFit}
 use Rattle.upd_rows.specs.Tables.{committed, with_run}
 use Rattle.upd_tables.specs.Steps.{Makes}
-use Rattle.upd_tables.proofs.Chains.{makes_then, makes_as}
+use Rattle.upd_tables.proofs.Chains.{clean_before, makes_then, makes_as}
 use Rattle.upd_sql.specs.Commits.{MayCommit}
+use Rattle.upd_sql.specs.Sizes.{AnySizes, Counted, HasSizes, SizedAll, TakeNone, sized_all}
 use Rattle.upd_sql.specs.Stands.{Stands, AnyTables}
 use Rattle.upd_sql.proofs.CommitLemmas.{crash_leaves}
+use Rattle.upd_sql.proofs.SizeLemmas.{committed_sizes, on_done}
 use Rattle.upd_sql.proofs.commits.commit_changes.Goals as goal
 
 pub returns-clause-crash : goal.returns-clause-crash
@@ -34,3 +36,23 @@ returns-clause-crash g c =
     let P = MayCommit (AllFit cs) (committed cs c.args.row.now) old in
     let same : c.commit.new.self.0 ≡ c.conn-2-1.given.0 = search rules in
     subst (λ h. Survives old (state g.S.Store h) P) same (survives_begin g.S.Store c.args.conn.now end P left)
+
+pub returns-clause-sized : goal.returns-clause-sized
+returns-clause-sized g c clean =
+    let old = state g.S.Store c.args.conn.now in
+    let begun = record old { in_transaction = true } in
+    let mid = state g.S.Store c.make_all.new.tx.conn.now in
+    let last = state g.S.Store c.insert_run.new.tx.conn.now in
+    let end = state g.S.Store c.commit.new.self.0 in
+    let cs = map change_seen c.args.changes.now in
+    let made : SizedAll {X = Unit {0}} cs begun mid (Ok c.in_ok-make_all.field-0) = rw c.transaction-tx.ensures.begun at c.in_ok-make_all.ensures.sized in
+    let whole = makes_then Counted (λ _. TakeNone cs) AnySizes (sized_all cs) (λ n. n) begun mid last c.in_ok-make_all.field-0
+    (Ok c.in_ok-insert_run.field-0) made c.in_ok-insert_run.ensures.sized in
+    let outside : IsTrue c.is_autocommit-outside.result = c.is_autocommit-outside.ensures.value ∙ ap not c.requires in
+    let same : c.commit.new.self.0 ≡ c.conn-2-1.given.0 = search rules in
+    let late : HasCleanDisk end = subst (λ h. HasCleanDisk (state g.S.Store h)) (sym same) clean in
+    let early = clean_before last end _ c.commit.ensures.survives late in
+    on_done c.commit.result (c.commit.ensures.ok late)
+    (λ ended schema none n h. subst (λ h. HasSizes (sized_all cs n) (state g.S.Store h).committed.trees) same
+    (committed_sizes old last end c.in_ok-insert_run.field-0 (c.note_settled.ensures c.requires) (c.is_autocommit-outside.ensures.settled outside)
+    (λ n. TakeNone cs × AnySizes (sized_all cs n)) (sized_all cs) whole early ended.1 schema n (none, tt) h))

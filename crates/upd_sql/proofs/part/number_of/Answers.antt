@@ -11,3 +11,8 @@ returns-clause-looks g c size plain means =
     c.in_ok-rows.rows c.first_count.result said.steps said.was_open (said.same plain)
     (λ clean. on_value c.first_count.result c.first_count.ensures
     (λ n says it h. says (size it) (c.deref.ensures.value ∙ means it h c.in_ok-rows.rows.items (said.shown clean))))
+
+pub returns-clause-number : goal.returns-clause-number
+returns-clause-number g c size means clean =
+    on_value c.first_count.result c.first_count.ensures
+    (λ n says schema. says size (c.deref.ensures.value ∙ means c.in_ok-rows.rows.items schema (c.in_ok-rows.ensures.shown clean)))

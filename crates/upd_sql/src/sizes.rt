@@ -1,0 +1,44 @@
+//! How many cards and entries there are, kept up over row changes.
+ghost use Rattle.std.specs.Prelude.{◌≡◌, map, IfSome};
+ghost use Rattle.upd_change.specs.Changes.{change_seen};
+ghost use Rattle.upd_sql.specs.Sizes.{LeadTo, TakesNone, sized};
+
+use upd_change::Change;
+
+/// The numbers of all cards and entries.
+#[derive(Clone, Copy, Debug)]
+pub struct Sizes {
+    pub cards: u64,
+    pub entries: u64,
+}
+
+/// The numbers after a change; none where it takes cards or entries away, or there would be too many.
+fn size_after(sizes: Sizes, change: &Change) -> Option<Sizes>
+    ensures takes_none { IfSome result (λ m. TakesNone (change_seen change.now)) }
+    ensures sized { IfSome result (λ m. m ≡ sized (change_seen change.now) sizes) }
+{
+    let Sizes { cards, entries } = sizes;
+    match change {
+        Change::CardNew { .. } => Some(Sizes {
+            cards: cards.checked_add(1)?,
+            entries,
+        }),
+        Change::EntryNew { .. } => Some(Sizes {
+            cards,
+            entries: entries.checked_add(1)?,
+        }),
+        Change::CardGone(_) | Change::EntriesGone(_) => None,
+        _ => Some(sizes),
+    }
+}
+
+/// The numbers after changes, where they were known before and no change takes cards or entries away.
+pub fn sizes_after(known: Option<Sizes>, changes: &[Change]) -> Option<Sizes>
+    ensures { IfSome result (λ m. LeadTo (map change_seen changes.now) known m) }
+{
+    let mut sizes = known?;
+    for change in changes {
+        sizes = size_after(sizes, change)?;
+    }
+    Some(sizes)
+}
