@@ -10,7 +10,7 @@ use upd_desk::{Desk, Reply};
 use upd_rows::{ListStore, RowStore};
 use upd_text::Fault;
 
-const DECK_A: &str = "*DECK A\nONE\nTWO\nTHREE\n";
+pub const DECK_A: &str = "*DECK A\nONE\nTWO\nTHREE\n";
 
 /// An answer as text.
 fn shown(alloc: Global, answer: Result<Reply, Fault>) -> Result<String, Fail> {
@@ -42,14 +42,14 @@ fn listing(alloc: Global, listing: Result<Vec<u8>, Fault>) -> Result<String, Fai
 
 /// A desk with the plain program that it is held to.
 #[derive(Drop)]
-struct Pair<S: RowStore> {
-    desk: Desk<S>,
-    plain: Plain,
-    alloc: Global,
+pub struct Pair<S: RowStore> {
+    pub desk: Desk<S>,
+    pub plain: Plain,
+    pub alloc: Global,
 }
 
 impl<S: RowStore> Pair<S> {
-    fn new(alloc: Global, store: S) -> Pair<S> {
+    pub fn new(alloc: Global, store: S) -> Pair<S> {
         Pair {
             desk: Desk::open(store),
             plain: Plain::new(alloc),
@@ -58,7 +58,7 @@ impl<S: RowStore> Pair<S> {
     }
 
     /// A run arrives at both: whether it was new and accepted.
-    fn arrive(&mut self, rt: &impl Abort, sent: Sent<'_>) -> Result<bool, Fail> {
+    pub fn arrive(&mut self, rt: &impl Abort, sent: Sent<'_>) -> Result<bool, Fail> {
         self.plain.work = 0;
         let wanted = self.plain.arrive(sent)?;
         let Sent {
@@ -150,7 +150,7 @@ impl<S: RowStore> Pair<S> {
     }
 }
 
-fn card_ref(text: &str) -> Result<CardRef, Fail> {
+pub fn card_ref(text: &str) -> Result<CardRef, Fail> {
     Ok(CardRef::read(text.as_bytes()).ok_or("no card reference")?)
 }
 
@@ -160,7 +160,7 @@ const MODES: [&str; 4] = ["full", "quick", "normal", "FULL"];
 
 /// One arrival at random. Numbers are few, so that runs come again; the text goes by the site and the number, but
 /// for some that are changed.
-fn random_arrival(
+pub fn random_arrival(
     rt: &impl Abort,
     pair: &mut Pair<impl RowStore>,
     dice: &mut Dice,
@@ -217,7 +217,7 @@ fn random_list(
     Ok(accepted)
 }
 
-fn base(text: &str) -> Sent<'_> {
+pub fn base(text: &str) -> Sent<'_> {
     Sent {
         site: "BASE",
         number: 1,
@@ -244,7 +244,7 @@ fn answers_200_random_lists_as_the_plain_program(rt: HostRuntime) -> Result<(), 
 }
 
 /// A run of the site LYON.
-fn lyon<'a>(number: u64, mode: &'a str, text: &'a str) -> Sent<'a> {
+pub fn lyon<'a>(number: u64, mode: &'a str, text: &'a str) -> Sent<'a> {
     Sent {
         site: "LYON",
         number,

@@ -11,6 +11,9 @@ mod changes;
 pub mod dice;
 #[cfg(test)]
 mod keeping;
+pub mod need;
 pub mod plain;
+#[cfg(test)]
+mod reads;
 #[cfg(test)]
 mod settling;

@@ -1,4 +1,5 @@
 //! A desk as a plain program: a library, and lists of the runs with their answers and of the marks. It keeps no status.
+use crate::need::decks_needed;
 use std::alloc::Global;
 use std::test::Fail;
 use upd_apply::apply;
@@ -34,6 +35,8 @@ pub struct Plain {
     pub library: Library,
     /// How many cards a cache made anew looks at when it settles the last accepted run.
     pub work: u64,
+    /// How many decks the runs have needed, each when it was new.
+    pub needed: u64,
     /// Each run that has a reply, settled or not.
     pub kept: Vec<Kept>,
     marks: Vec<(String, u64)>,
@@ -45,6 +48,7 @@ impl Plain {
         Plain {
             library: Library::new(alloc),
             work: 0,
+            needed: 0,
             kept: Vec::new(alloc),
             marks: Vec::new(alloc),
         }
@@ -90,6 +94,8 @@ impl Plain {
 
     fn keep(&mut self, mode: Mode, sent: Sent<'_>) -> Result<String, Fail> {
         let alloc = self.alloc();
+        let need = decks_needed(&self.library, sent.text)? as u64;
+        self.needed = self.needed.saturating_add(need);
         let answer = match self.run(mode, sent) {
             Ok(text) => text,
             Err(fault) => refused_text(alloc, sent, fault)?,

@@ -1,10 +1,10 @@
 //! Commits, loads, kept runs and settlements, with answers worked by hand.
 use crate::follower::Follower;
+use crate::named::named;
 use std::alloc::Global;
 use std::process::Abort;
 use std::test::Fail;
-use upd_core::ident::name_at;
-use upd_core::{Actives, CardRef};
+use upd_core::CardRef;
 use upd_rows::{ListStore, RowStore};
 
 const DECK_A: &str = "*DECK A\nONE\nTWO\nTHREE\n";
@@ -38,20 +38,6 @@ fn parts_are_loaded<S: RowStore>(
     Ok(())
 }
 
-/// The active cards, a line for each deck.
-fn printed(alloc: Global, actives: &Actives) -> Result<String, Fail> {
-    let mut text = String::new(alloc);
-    for deck in &actives.shown()?.decks {
-        write!(text, "{}:", deck.ident)?;
-        for card in &deck.cards {
-            let name = name_at(&actives.idents, card.ident).ok_or("no name")?;
-            write!(text, " {name}.{}", card.number)?;
-        }
-        write!(text, "\n")?;
-    }
-    Ok(text)
-}
-
 /// Decks A and B have ages 1 and 2, set X has 3.
 fn active_cards_are_loaded<S: RowStore>(
     rt: &impl Abort,
@@ -66,13 +52,13 @@ fn active_cards_are_loaded<S: RowStore>(
     let nowhere = CardRef::read(b"Q.1").ok_or("no card")?;
     let decks = store.decks_of(alloc, &[there, nowhere])?;
     assert_eq!(rt; decks.as_slice(), [2].as_slice());
-    let loaded = printed(alloc, &store.load_active(alloc)?)?;
+    let loaded = named(alloc, &store.load_active(alloc)?)?;
     assert_eq!(rt; loaded.as_str(), "1: A.1 X.1 A.2 A.3 A.4\n2: B.1 B.2\n");
     assert_eq!(rt; store.decks_read(), 0);
     let part = store.load_decks(alloc, &[2])?;
     assert_eq!(rt; (part.rest().cards, part.rest().entries), (5, 5));
     assert_eq!(rt; store.decks_read(), 1);
-    let whole = printed(alloc, &store.load(alloc)?.actives()?)?;
+    let whole = named(alloc, &store.load(alloc)?.actives()?)?;
     assert_eq!(rt; whole.as_str(), loaded.as_str());
     assert_eq!(rt; store.decks_read(), 3);
     Ok(())

@@ -9,6 +9,7 @@ mod commits;
 pub mod dice;
 #[cfg(test)]
 mod follower;
+pub mod named;
 #[cfg(test)]
 mod parts;
 #[cfg(test)]

@@ -1,11 +1,10 @@
 //! Decks that are loaded alone, and the active cards that a cache renews from them.
 use crate::follower::Follower;
+use crate::named::{compiled, named};
 use std::alloc::Global;
 use std::process::Abort;
 use std::test::Fail;
-use upd_compile::{Mode, compile_active};
-use upd_core::ident::name_at;
-use upd_core::{ActiveCardRef, Actives, CardRef, Ident, Library};
+use upd_core::{Actives, Library};
 use upd_rows::{ListStore, RowStore};
 use upd_yank::Cache;
 
@@ -26,43 +25,6 @@ fn changed(rt: &impl Abort, alloc: Global) -> Result<ListStore, Fail> {
     Ok(store)
 }
 
-/// The active cards as directives name them, a line for each deck.
-fn named(alloc: Global, actives: &Actives) -> Result<String, Fail> {
-    let mut text = String::new(alloc);
-    for deck in &actives.shown()?.decks {
-        name_cards(&mut text, &actives.idents, &deck.cards)?;
-        text.push('\n')?;
-    }
-    Ok(text)
-}
-
-fn name_cards(
-    text: &mut String,
-    idents: &[Ident],
-    cards: &[ActiveCardRef<'_>],
-) -> Result<(), Fail> {
-    for card in cards {
-        let reference = CardRef {
-            name: name_at(idents, card.ident).ok_or("no name")?,
-            number: card.number,
-        };
-        write!(text, "{reference} ")?;
-    }
-    Ok(())
-}
-
-/// The cards that a full compile file has, by the ends of its lines of 97 bytes.
-fn compiled(alloc: Global, after: &Actives, before: &Actives) -> Result<String, Fail> {
-    let file = compile_active(alloc, after, before, Mode::Full, &[])?;
-    let mut text = String::new(alloc);
-    for line in file.bytes.chunks(97) {
-        let end = line.get(81..96).ok_or("a short line")?;
-        let end = str::from_utf8(end)?;
-        write!(text, "{end}|")?;
-    }
-    Ok(text)
-}
-
 /// The active cards that a cache of a store's rows renews from a part, and from those of the store.
 fn renewed(alloc: Global, store: &mut ListStore, part: &Library) -> Result<Actives, Fail> {
     let states = store.load_states(alloc)?;
@@ -79,7 +41,7 @@ fn active_cards_are_renewed_from_a_part(rt: HostRuntime) -> Result<(), Fail> {
     assert_eq!(rt; part.rest().cards, 5);
     assert_eq!(rt; part.rest().entries, 5);
     let before = store.load_active(alloc)?;
-    let wanted = "A.1 X.1 A.2 A.3 A.4 \nB.1 B.2 \n";
+    let wanted = "1: A.1 X.1 A.2 A.3 A.4\n2: B.1 B.2\n";
     assert_eq!(rt; named(alloc, &before)?.as_str(), wanted);
     let renewed = renewed(alloc, &mut store, &part)?;
     assert_eq!(rt; named(alloc, &renewed)?.as_str(), wanted);

@@ -1,0 +1,62 @@
+//! Which decks a run needs, from the plain program's library.
+use std::test::Fail;
+use upd_core::ident::name_at;
+use upd_core::{Card, CardRef, Library, Serial};
+use upd_deck::{Item, Line, read_run};
+
+/// Whether one of these cards goes by the reference.
+fn has_card(library: &Library, cards: &[Card], wanted: &CardRef) -> bool {
+    cards.iter().any(|card| {
+        card.number == wanted.number && name_at(library.idents(), card.ident) == Some(wanted.name)
+    })
+}
+
+/// The cards that a line names, or none at all where the line yanks or purges.
+fn cards_of(line: &Line) -> Option<[Option<CardRef>; 2]> {
+    match &line.item {
+        Item::Insert(card) | Item::Before(card) => Some([Some(*card), None]),
+        Item::Delete { first, last } | Item::Restore { first, last } => {
+            Some([Some(*first), Some(*last)])
+        }
+        Item::Text
+        | Item::Call(_)
+        | Item::Ident(_)
+        | Item::Deck(_)
+        | Item::CommonDeck { .. }
+        | Item::Compile(_) => Some([None, None]),
+        _ => None,
+    }
+}
+
+/// The decks that hold a card are found, each once.
+fn add_holders(library: &Library, card: &CardRef, found: &mut Vec<Serial>) -> Result<(), Fail> {
+    for deck in library.decks() {
+        if has_card(library, &deck.cards, card) && !found.contains(&deck.ident) {
+            found.push(deck.ident)?;
+        }
+    }
+    Ok(())
+}
+
+/// How many decks a run needs: none where it isn't read, all where it yanks, purges or names a yank card, and
+/// otherwise those that hold a card which it names.
+pub fn decks_needed(library: &Library, text: &str) -> Result<usize, Fail> {
+    let alloc = library.allocator();
+    let Ok(run) = read_run(alloc, text.as_bytes()) else {
+        return Ok(0);
+    };
+    let all = library.decks().len();
+    let mut found = Vec::new(alloc);
+    for line in run.lines() {
+        let Some(cards) = cards_of(line) else {
+            return Ok(all);
+        };
+        for card in cards.iter().flatten() {
+            if has_card(library, library.yanks(), card) {
+                return Ok(all);
+            }
+            add_holders(library, card, &mut found)?;
+        }
+    }
+    Ok(found.len())
+}
