@@ -54,7 +54,7 @@ def yanks(count):
 LIBRARIES = [
     ("500 cards", lambda: [*decks(1, 500), *sets(1)]),
     ("5,000 cards in 5 decks", lambda: [*decks(5, 1000), *sets(1)]),
-    ("50,000 cards in 25 decks", lambda: [*decks(25, 2000)]),
+    ("49,975 cards in 25 decks", lambda: [*decks(25, 1999)]),
     ("2,000 cards in 1 deck", lambda: [*decks(1, 2000), *sets(1)]),
     ("2,000 cards in 100 decks", lambda: [*decks(100, 20), *sets(1)]),
     ("2,000 cards in 1,000 decks", lambda: [*decks(1000, 2), *sets(1)]),
@@ -95,12 +95,20 @@ def memory(words, given):
     return int(done.stderr.split()[-1]) / 1e3
 
 
+def by_perf(words, given=b""):
+    """What `perf` counts, or None where this machine lets it count nothing."""
+    said = subprocess.run(["perf", "stat", "-x,", "-e", "instructions:u", *words], input=given, capture_output=True).stderr.decode()
+    found = re.search(r"^(\d+),.*instructions", said, re.M)
+    return int(found.group(1)) / 1e6 if found else None
+
+
+PERF_COUNTS = shutil.which("perf") is not None and by_perf(["true"]) is not None
+
+
 def instructions(words, given):
-    """Millions of instructions, or None where nothing counts them."""
-    if shutil.which("perf"):
-        said = subprocess.run(["perf", "stat", "-x,", "-e", "instructions:u", *words], input=given, capture_output=True).stderr.decode()
-        if found := re.search(r"^(\d+),.*instructions", said, re.M):
-            return int(found.group(1)) / 1e6
+    """Millions of instructions, or None where nothing counts them. The command is run once: a run that comes again is a repeat."""
+    if PERF_COUNTS:
+        return by_perf(words, given)
     if shutil.which("valgrind"):
         said = subprocess.run(["valgrind", "--tool=callgrind", "--callgrind-out-file=/dev/null", *words], input=given, capture_output=True).stderr.decode()
         if found := re.search(r"Collected : (\d+)", said):
