@@ -99,7 +99,7 @@ impl<S: RowStore> Pair<S> {
     }
 
     /// The full compile files of both.
-    fn same_compile(&mut self, rt: &impl Abort) -> Result<(), Fail> {
+    pub fn same_compile(&mut self, rt: &impl Abort) -> Result<(), Fail> {
         let library = &self.plain.library;
         let wanted = compile_file(self.alloc, library, library, Mode::Full, &[]);
         let found = self.desk.full_compile(self.alloc);
@@ -112,7 +112,7 @@ impl<S: RowStore> Pair<S> {
     }
 
     /// The listings of both.
-    fn same_listings(
+    pub fn same_listings(
         &mut self,
         rt: &impl Abort,
         decks: &[&str],

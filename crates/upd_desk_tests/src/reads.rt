@@ -85,6 +85,38 @@ fn a_quick_run_reads_the_decks_of_its_cards(rt: HostRuntime) -> Result<(), Fail>
     Ok(())
 }
 
+/// Decks and cards that are listed, with the idents, the yanks and the full compile file, and how many decks have been
+/// read by then: one for a deck, the one of a card, and none for what stands in `YANK$$$` or nowhere.
+const LISTED: [(&[&str], &[&str], u64); 5] = [
+    (&[], &[], 0),
+    (&["A"], &[], 1),
+    (&[], &["B.2"], 2),
+    (&["YANK$$$"], &["X.1"], 2),
+    (&["Q"], &["Q.1"], 2),
+];
+
+#[test]
+fn a_listing_of_a_deck_or_a_card_reads_one_deck(rt: HostRuntime) -> Result<(), Fail> {
+    let alloc = rt.alloc();
+    let mut pair = Pair::new(alloc, ListStore::new(alloc));
+    pair.arrive(
+        &rt,
+        lyon(
+            1,
+            "quick",
+            "*DECK A\nONE\n*DECK B\nBEE\n*IDENT X\n*YANK A\n",
+        ),
+    )?;
+    for (decks, cards, wanted) in LISTED {
+        pair.same_compile(&rt)?;
+        pair.same_listings(&rt, decks, cards)?;
+        let (next, read) = pair.counted();
+        assert_eq!(&rt; read, wanted, "{decks:?} {cards:?}");
+        pair = next;
+    }
+    Ok(())
+}
+
 /// Deck A has three lines and deck B one. Set X is refused four times, and then puts a card behind the first one of A.
 const RANGES: [(u64, &str, u64); 7] = [
     (1, DECK_A, 0),

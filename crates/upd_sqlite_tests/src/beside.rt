@@ -10,15 +10,24 @@ use upd_compile::{Mode, compile_file, list_card, list_deck, list_idents, list_ya
 use upd_core::{CardRef, Name};
 use upd_desk_tests::dice::{DECKS, Dice, random_run};
 use upd_desk_tests::plain::Sent;
+use upd_rows::RowStore;
 use upd_store::SqlStore;
 use upd_text::Fault;
 
 type Stored = Talk<SqlStore<MemStore>>;
 
-/// The tables are those of the plain program; the store is taken up anew.
+/// As many decks were read as runs have needed since the store was taken up, and the tables are those of the plain
+/// program; the store is taken up anew.
 fn same_tables(rt: &impl Abort, talk: Stored) -> Result<Stored, Fail> {
-    let Talk { desk, plain, alloc } = talk;
-    let mut conn = desk.close().into_connection();
+    let Talk {
+        desk,
+        mut plain,
+        alloc,
+    } = talk;
+    let store = desk.close();
+    assert_eq!(rt; store.decks_read(), plain.needed);
+    plain.needed = 0;
+    let mut conn = store.into_connection();
     let found = kept_tables(alloc, &mut conn)?;
     let wanted = wanted_tables(alloc, &plain, &SITES)?;
     assert_eq!(rt; found.as_str(), wanted.as_str());

@@ -6,7 +6,8 @@ use sqlite::MemStore;
 use std::alloc::Global;
 use std::process::Abort;
 use std::test::Fail;
-use upd_core::{Library, States};
+use upd_core::{CardRef, Library, States};
+use upd_row_tests::named::named;
 use upd_rows::{ListStore, RowStore};
 use upd_store::SqlStore;
 
@@ -37,6 +38,30 @@ const DECK_B: &str = "cards|'B'|1|2|0|'*DECK B'\ncards|'B'|2|2|1|'BEE'\n\
      entries|'B'|1|0|2|1\nentries|'B'|2|0|2|1\n\
      idents|1|'A'|1|0|1\nidents|2|'B'|1|0|1\nidents|3|'X'|0|0|1\n\
      states|'B'|1|1\nstates|'B'|2|1\n";
+
+/// Decks A and B have ages 1 and 2. A quick run on B reads that deck alone, and its repeat none.
+fn reads<S: Fresh>(rt: &impl Abort, alloc: Global) -> Result<(), Fail> {
+    let Talk { desk, plain, .. } = after::<S>(rt, alloc, &TWO_DECKS)?;
+    let mut store = desk.close();
+    assert_eq!(rt; store.decks_read(), 1);
+    let there = CardRef::read(b"B.2").ok_or("no card")?;
+    let nowhere = CardRef::read(b"Q.1").ok_or("no card")?;
+    let decks = store.decks_of(alloc, &[there, nowhere])?;
+    assert_eq!(rt; decks.as_slice(), [2].as_slice());
+    let actives = named(alloc, &store.load_active(alloc)?)?;
+    assert_eq!(rt; actives.as_str(), "1: A.1 X.1 A.2 A.3 A.4\n2: B.1 B.2\n");
+    let whole = store.load(alloc)?.actives()?;
+    assert_eq!(rt; named(alloc, &whole)?.as_str(), actives.as_str());
+    let part = store.load_decks(alloc, &[2])?;
+    assert_eq!(rt; part.decks().len(), 1);
+    assert_eq!(rt; store.decks_read(), 4);
+    let mut talk = Talk::over(store, plain);
+    let quick = lyon(4, "quick", "*IDENT Y\n*DELETE B.2\n");
+    talk.accepts(rt, quick, &["Y"], &[])?;
+    talk.accepts(rt, quick, &["Y"], &[])?;
+    assert_eq!(rt; talk.desk.close().decks_read(), 5);
+    Ok(())
+}
 
 fn loads<S: Fresh>(rt: &impl Abort, alloc: Global) -> Result<(), Fail> {
     let Talk { desk, plain, .. } = after::<S>(rt, alloc, &TWO_DECKS)?;
@@ -91,12 +116,14 @@ fn counts<S: Fresh>(rt: &impl Abort, alloc: Global) -> Result<(), Fail> {
 #[test]
 fn lists_load_what_was_kept(rt: HostRuntime) -> Result<(), Fail> {
     loads::<ListStore>(&rt, rt.alloc())?;
+    reads::<ListStore>(&rt, rt.alloc())?;
     counts::<ListStore>(&rt, rt.alloc())
 }
 
 #[test]
 fn tables_of_sqlite_load_what_was_kept(rt: HostRuntime) -> Result<(), Fail> {
     loads::<SqlStore<MemStore>>(&rt, rt.alloc())?;
+    reads::<SqlStore<MemStore>>(&rt, rt.alloc())?;
     counts::<SqlStore<MemStore>>(&rt, rt.alloc())
 }
 
