@@ -1,5 +1,5 @@
 -- Sets and maps by card reference.
-use Rattle.std.proofs.Common.{◌≡◌, Bool, true, false, ◌&&◌, ◌||◌, cond, if◌then◌else◌, Some, refl, ap, sym, ◌∙◌}
+use Rattle.std.proofs.Common.{◌≡◌, Bool, true, false, ◌&&◌, ◌||◌, List, cond, if◌then◌else◌, None, Some, refl, ap, sym, ◌∙◌}
 use Rattle.std.specs.Prelude.{◌==◌}
 use Rattle.std.proofs.lemmas.Bool.Decides.{Decides-eqb}
 use Rattle.std.proofs.lemmas.Slice.Eq.{bytes_eq-Decides}
@@ -8,8 +8,8 @@ use Rattle.std.specs.BTreeMap.{BTreeMap, is_at}
 use Rattle.std.specs.BTreeSet as sorted
 use Rattle.std.specs.BTreeSet.{BTreeSet}
 use Rattle.std.specs.List.{list_any}
-use Rattle.std.specs.Map.{lookup}
-use Rattle.std.specs.Ordering.{is_eq}
+use Rattle.std.specs.Map.{lookup, update_all}
+use Rattle.std.specs.Ordering.{eq_by_cmp, is_eq}
 use Rattle.std.specs.Str.{bytes_eq}
 use Rattle.upd_text.proofs.OrderLemmas.{is_same-is_eq}
 use Rattle.upd_text.specs.contracts.card_ref.CardRefOrd.TheImpl as order
@@ -50,6 +50,13 @@ any_by_order s r = ap (λ (test : CardRef → Bool). list_any test s.keys) (λ i
 
 pub status_by_order : (m : BTreeMap CardRef Bool) (r : CardRef) → kept_status m.entries r ≡ tree.get (order.ghosts).cmp m r
 status_by_order m r = ap (λ (test : CardRef → Bool). lookup test m.entries) (λ i u. sym (same_by_order r u) i)
+
+-- the statuses in these rows, where the map was made of them
+pub status_of_rows : (rows : List (CardRef × Bool)) (m : BTreeMap CardRef Bool) (r : CardRef) →
+    tree.get (order.ghosts).cmp m r ≡ update_all (eq_by_cmp (order.ghosts).cmp) (λ _. None) rows r →
+    kept_status m.entries r ≡ update_all same_ref (λ _. None) rows r
+status_of_rows rows m r is = status_by_order m r ∙ is
+    ∙ ap (λ (test : CardRef → CardRef → Bool). update_all test (λ _. None) rows r) (λ i k u. same_by_order k u i)
 
 -- the statuses once that of k is v
 pub put_status : (m n : BTreeMap CardRef Bool) (k : CardRef) (v : Bool) (r : CardRef) →

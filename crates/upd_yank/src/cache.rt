@@ -77,8 +77,7 @@ impl Cache {
         ensures work { IfOk result (λ cache. cache.work ≡ 0) }
         ensures err { IsOkUnless result (fault_at NoMemory 0) }
     {
-        let mut statuses = Statuses::new(alloc);
-        statuses.put_all(&rows.states)?;
+        let statuses = Statuses::of_rows(alloc, &rows.states)?;
         let mut counts = TargetCounts::new(alloc);
         put_counts(&mut counts, &rows.counts)?;
         Ok(Cache {

@@ -1,6 +1,6 @@
 //! Statuses by card.
 
-ghost use Rattle.std.specs.Prelude.{◌≡◌, [], Some, if◌then◌else◌, length, OnOk, IfOk};
+ghost use Rattle.std.specs.Prelude.{◌≡◌, [], None, Some, if◌then◌else◌, length, OnOk, IfOk};
 ghost use Rattle.std.specs.Map.{update_all};
 ghost use Rattle.std.specs.List.{list_any};
 ghost use Rattle.std.specs.Option.{option_or};
@@ -35,6 +35,16 @@ impl Statuses {
         Statuses {
             statuses: BTreeMap::new(alloc),
         }
+    }
+
+    /// The statuses in these rows; of a card that has more than one row, that in the last one. Rows that come by card
+    /// need one comparison each. Memory alone can fail.
+    pub(crate) fn of_rows(alloc: Global, rows: &[(CardRef, bool)]) -> Result<Statuses, AllocError>
+        ensures { IfOk result (λ statuses. (r : CardRef) → kept_status statuses r
+            ≡ update_all same_ref (λ _. None) rows.now r) }
+    {
+        let statuses = rows.iter().copied().collect(alloc)?;
+        Ok(Statuses { statuses })
     }
 
     /// A copy; memory alone can fail.

@@ -1,19 +1,18 @@
-use Rattle.std.proofs.Common.{ap, ◌∙◌}
+use Rattle.std.proofs.Common.{None, refl, ap, ◌∙◌}
 use Rattle.std.specs.Map.{update_all}
 use Rattle.upd_change.specs.Rows.{same_ref}
 use Rattle.upd_core.specs.Status.{status_of}
 use Rattle.upd_core.specs.TargetCounts.{count_in, live_count}
 use Rattle.upd_yank.proofs.RowLemmas.{count_put, status_put}
-use Rattle.upd_yank.specs.Right.{kept_status, put_counts}
+use Rattle.upd_yank.specs.Right.{put_counts}
 use Rattle.upd_yank.proofs.cache.Cache.of_rows.Goals as goal
 
 pub returns-clause-right : goal.returns-clause-right
 returns-clause-right c = λ l shown.
     let rows = c.args.rows.now in
     record {
-      status = λ r. c.in_ok-put_all.ensures r ∙ ap (λ ps. update_all same_ref (kept_status c.new-statuses.result) ps r) c.deref.ensures.value
-          ∙ status_put rows.states.items (kept_status c.new-statuses.result) r (status_of r l) (ap (λ s. kept_status s r) c.new-statuses.ensures)
-          (shown.states r);
+      status = λ r. c.in_ok-statuses.ensures r ∙ ap (λ ps. update_all same_ref (λ _. None) ps r) c.deref.ensures.value
+          ∙ status_put rows.states.items (λ _. None) r (status_of r l) refl (shown.states r);
       count = λ t. c.in_ok-put_counts.ensures t ∙ ap (λ ps. put_counts ps (count_in c.new-counts.result) t) c.deref-2.ensures.value
           ∙ count_put rows.counts.items (count_in c.new-counts.result) t (live_count l t) (ap (λ s. count_in s t) c.new-counts.ensures) (shown.counts t);
     }
