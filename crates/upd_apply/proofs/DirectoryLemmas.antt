@@ -25,8 +25,8 @@ use Rattle.upd_apply.specs.declared.state.State.{State}
 use Rattle.upd_apply.specs.Applying.{stepped}
 use Rattle.upd_apply.specs.Names.{known_ident}
 use Rattle.upd_apply.specs.Purges.{AgesIn, idents_purged, decks_purged, pairs_purged}
-use Rattle.upd_apply.specs.Step.{grown, new_name, set_begun, deck_begun, is_deck_card, placed_after, placed_before, switched, text_put, yank_put, purged_in_all}
-use Rattle.upd_apply.specs.Step.{done, step}
+use Rattle.upd_apply.specs.Step.{within_limits, new_name, set_begun, deck_begun, is_deck_card, placed_after, placed_before, switched, text_put, yank_put, purged_in_all}
+use Rattle.upd_apply.specs.Step.{line_done, step}
 use Rattle.upd_apply.specs.Yanks.{sets_yanked, pairs_yanked, decks_yanked}
 
 -- ---- directories
@@ -76,7 +76,7 @@ same_idents age change l = go (age == 0)
 abbrev pub GoesOn : State → State → Type 0
 GoesOn s t = Continues s.library.idents t.library.idents
 
-after_grown : {B : Type 0} (P : B → Type 0) (l : LibraryView) (f : LibraryView → Result B FaultKind) → IfOk (f l) P → IfOk (grown l >>= f) P
+after_grown : {B : Type 0} (P : B → Type 0) (l : LibraryView) (f : LibraryView → Result B FaultKind) → IfOk (f l) P → IfOk (within_limits l >>= f) P
 after_grown P l f h = go (is_within_limits l)
   where
     go : (b : Bool) → IfOk ((cond b (Ok l) (Err fault.Full)) >>= f) P
@@ -147,7 +147,7 @@ parts_go (a ∷ ages) l =
     continues_on l.idents (purged_in a.deck a.ident l).idents _ (cards_go a.deck (without_idents (λ x. x == a.ident)) l) (parts_go ages
     (purged_in a.deck a.ident l))
 
-line_goes : (item : ItemView) (text : List ℕ) (s : State) → IfOk (done item text s) (GoesOn s)
+line_goes : (item : ItemView) (text : List ℕ) (s : State) → IfOk (line_done item text s) (GoesOn s)
 line_goes Text text s = text_goes text s.spot s
 line_goes (Call name) text s = text_goes text s.spot s
 line_goes (Ident name) text s = set_goes name s

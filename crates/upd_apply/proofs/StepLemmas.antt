@@ -21,10 +21,10 @@ use Rattle.upd_apply.specs.declared.state.State.{State}
 use Rattle.upd_apply.specs.Names.{known_ident}
 use Rattle.upd_apply.specs.Numbers.{next_most}
 use Rattle.upd_apply.specs.Purges.{decks_purged, idents_purged, pairs_purged}
-use Rattle.upd_apply.specs.Step.{deck_begun, done, grown, is_deck_card, new_name, placed_after, placed_before, set_begun, step, switched, text_put, yank_put}
+use Rattle.upd_apply.specs.Step.{deck_begun, is_deck_card, line_done, new_name, placed_after, placed_before, set_begun, step, switched, text_put, within_limits, yank_put}
 use Rattle.upd_apply.specs.Yanks.{decks_yanked, pairs_yanked, sets_yanked}
 
-pub after_grown : {B : Type 0} (P : B → Type 0) (l : LibraryView) (f : LibraryView → Result B FaultKind) → IfOk (f l) P → IfOk (grown l >>= f) P
+pub after_grown : {B : Type 0} (P : B → Type 0) (l : LibraryView) (f : LibraryView → Result B FaultKind) → IfOk (f l) P → IfOk (within_limits l >>= f) P
 after_grown P l f h = within (is_within_limits l)
   where
     within : (b : Bool) → IfOk ((if b then Ok l else Err fault.Full) >>= f) P
@@ -73,7 +73,7 @@ yank_rises text targets s =
     after_need _ fault.NoIdent s.hand _ (λ hand held. after_any _ (targets hand.ident s.library) _ (λ found.
     after_grown _ (with_yank (new_card hand.ident hand.next text found) s.library) _ (rw held (omega arith))))
 
-done_rises : (item : ItemView) (text : List ℕ) (s : State) → IfOk (done item text s) (Rises s)
+done_rises : (item : ItemView) (text : List ℕ) (s : State) → IfOk (line_done item text s) (Rises s)
 done_rises Text text s = text_rises text s.spot s refl
 done_rises (Call name) text s = text_rises text s.spot s refl
 done_rises (Ident name) text s = set_rises name s

@@ -29,12 +29,12 @@ pub record Reached : Type 0 where
   pub compile : List ℕ
 
 -- the ages of the idents that one library has beyond another
-abbrev pub brought : LibraryView → LibraryView → List ℕ
-brought before after = map (λ i. i.age) (drop (length before.idents) after.idents)
+abbrev pub ages_brought : LibraryView → LibraryView → List ℕ
+ages_brought before after = map (λ i. i.age) (drop (length before.idents) after.idents)
 
 -- what a run makes of a library
 abbrev pub applied : List LineView → LibraryView → Result Reached Fault
 applied lines l = do
   s ← stepped lines (started l)
   decks ← named_decks lines s.library
-  Ok (record { library = s.library; idents = brought l s.library; compile = decks })
+  Ok (record { library = s.library; idents = ages_brought l s.library; compile = decks })

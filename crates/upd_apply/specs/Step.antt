@@ -22,8 +22,8 @@ use Rattle.upd_apply.specs.Yanks.{sets_yanked, pairs_yanked, decks_yanked}
 use Rattle.upd_apply.specs.Purges.{AgesIn, idents_purged, decks_purged, pairs_purged}
 
 -- a library that has grown, if no limit is passed
-abbrev pub grown : LibraryView → Result LibraryView FaultKind
-grown l = if is_within_limits l then Ok l else Err fault.Full
+abbrev pub within_limits : LibraryView → Result LibraryView FaultKind
+within_limits l = if is_within_limits l then Ok l else Err fault.Full
 
 -- a name for a new ident
 abbrev pub new_name : List ℕ → LibraryView → Result Bool FaultKind
@@ -35,14 +35,14 @@ new_name name l = do
 abbrev pub set_begun : List ℕ → State → Result State FaultKind
 set_begun name s = do
   _ ← new_name name s.library
-  l ← grown (introduced name kind.Set false s.library)
+  l ← within_limits (introduced name kind.Set false s.library)
   Ok (record { library = l; hand = Some (record { ident = next_age s.library; next = 1 }); spot = Nowhere })
 
 -- `*DECK` and `*COMDECK`: a new deck with the line as its first card; the set in hand stays
 abbrev pub deck_begun : List ℕ → Kind → Bool → List ℕ → State → Result State FaultKind
 deck_begun name sort noprop text s = do
   _ ← new_name name s.library
-  l ← grown (with_deck (record { ident = next_age s.library; cards = new_card (next_age s.library) 1 text [] ∷ [] }) (introduced name sort noprop s.library))
+  l ← within_limits (with_deck (record { ident = next_age s.library; cards = new_card (next_age s.library) 1 text [] ∷ [] }) (introduced name sort noprop s.library))
   Ok (record s { library = l; spot = End (next_age s.library) 2 })
 
 -- how many cards of the deck of a place stand behind it
@@ -78,19 +78,19 @@ switched active first last s = do
   q ← need fault.CardUnknown (place_of last s.library)
   _ ← refuse_if (not (p.deck == q.deck) || nat_lt q.index p.index) fault.RangeOrder
   _ ← refuse_if (is_deck_card p) fault.DeckCard
-  l ← grown (with_entries p.deck p.index q.index (record { ident = hand.ident; active = active }) s.library)
+  l ← within_limits (with_entries p.deck p.index q.index (record { ident = hand.ident; active = active }) s.library)
   Ok (record s { library = l; spot = Inside q.deck (behind q s.library) })
 
 -- Text and calls: a new card at the place of text, where the next text then goes behind it.
 abbrev pub text_put : List ℕ → Spot → State → Result State FaultKind
 text_put text Nowhere s = Err fault.TextNowhere
 text_put text (End d next) s = do
-  l ← grown (with_card d 0 (new_card d next text []) s.library)
+  l ← within_limits (with_card d 0 (new_card d next text []) s.library)
   Ok (record s { library = l; spot = End d (next + 1) })
 text_put text (Inside d after) s = do
   hand ← need fault.TextNowhere s.hand
   _ ← refuse_if (d == 0) fault.YankText
-  l ← grown (with_card d after (new_card hand.ident hand.next text []) s.library)
+  l ← within_limits (with_card d after (new_card hand.ident hand.next text []) s.library)
   Ok (record s { library = l; hand = Some (record { ident = hand.ident; next = hand.next + 1 }) })
 
 -- A yank: a card at the end of `YANK$$$` with these targets, which are fixed now.
@@ -98,7 +98,7 @@ abbrev pub yank_put : List ℕ → (ℕ → LibraryView → Result (List Target)
 yank_put text targets s = do
   hand ← need fault.NoIdent s.hand
   found ← targets hand.ident s.library
-  l ← grown (with_yank (new_card hand.ident hand.next text found) s.library)
+  l ← within_limits (with_yank (new_card hand.ident hand.next text found) s.library)
   Ok (record { library = l; hand = Some (record { ident = hand.ident; next = hand.next + 1 }); spot = Nowhere })
 
 -- a purge leaves no set in hand and no place of text
@@ -111,25 +111,25 @@ purged_in_all [] l = l
 purged_in_all (a ∷ more) l = purged_in_all more (purged_in a.deck a.ident l)
 
 -- what a line does that says this
-abbrev pub done : ItemView → List ℕ → State → Result State FaultKind
-done Text text s = text_put text s.spot s
-done (Call name) text s = text_put text s.spot s
-done (Ident name) text s = set_begun name s
-done (Deck name) text s = deck_begun name kind.Deck false text s
-done (CommonDeck name noprop) text s = deck_begun name kind.Common noprop text s
-done (Insert card) text s = placed_after card s
-done (Before card) text s = placed_before card s
-done (Delete first last) text s = switched false first last s
-done (Restore first last) text s = switched true first last s
-done (Yank ranges) text s = yank_put text (sets_yanked ranges) s
-done (SelYank pairs) text s = yank_put text (pairs_yanked pairs) s
-done (YankDeck names) text s = yank_put text (decks_yanked names) s
-done (Purge ranges) text s = idents_purged ranges s.library >>= (λ ages. Ok (ended (purged (is_among ages) s.library)))
-done (PurgeFrom name) text s = known_ident name s.library >>= (λ age. Ok (ended (purged_back age s.library)))
-done (SelPurge pairs) text s = pairs_purged pairs s.library >>= (λ ages. Ok (ended (purged_in_all ages s.library)))
-done (PurDeck ranges) text s = decks_purged ranges s.library >>= (λ ages. Ok (ended (purged (is_among ages) s.library)))
-done (Compile ranges) text s = Ok s
+abbrev pub line_done : ItemView → List ℕ → State → Result State FaultKind
+line_done Text text s = text_put text s.spot s
+line_done (Call name) text s = text_put text s.spot s
+line_done (Ident name) text s = set_begun name s
+line_done (Deck name) text s = deck_begun name kind.Deck false text s
+line_done (CommonDeck name noprop) text s = deck_begun name kind.Common noprop text s
+line_done (Insert card) text s = placed_after card s
+line_done (Before card) text s = placed_before card s
+line_done (Delete first last) text s = switched false first last s
+line_done (Restore first last) text s = switched true first last s
+line_done (Yank ranges) text s = yank_put text (sets_yanked ranges) s
+line_done (SelYank pairs) text s = yank_put text (pairs_yanked pairs) s
+line_done (YankDeck names) text s = yank_put text (decks_yanked names) s
+line_done (Purge ranges) text s = idents_purged ranges s.library >>= (λ ages. Ok (ended (purged (is_among ages) s.library)))
+line_done (PurgeFrom name) text s = known_ident name s.library >>= (λ age. Ok (ended (purged_back age s.library)))
+line_done (SelPurge pairs) text s = pairs_purged pairs s.library >>= (λ ages. Ok (ended (purged_in_all ages s.library)))
+line_done (PurDeck ranges) text s = decks_purged ranges s.library >>= (λ ages. Ok (ended (purged (is_among ages) s.library)))
+line_done (Compile ranges) text s = Ok s
 
 -- what a line does
 abbrev pub step : LineView → State → Result State FaultKind
-step line s = done line.item line.text s
+step line s = line_done line.item line.text s

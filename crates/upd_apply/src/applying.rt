@@ -8,7 +8,7 @@ ghost use Rattle.upd_change.specs.States.{TakeGone};
 ghost use Rattle.upd_change.specs.Told.{Told};
 ghost use Rattle.upd_core.specs.Sound.{AreApart, Continues, IsSound, all_cards, key_of};
 ghost use Rattle.upd_text.specs.Outcome.{DoesAt, FailsAt, GivesAt, at_line};
-ghost use Rattle.upd_apply.specs.Applying.{applied, brought, stepped, touched};
+ghost use Rattle.upd_apply.specs.Applying.{ages_brought, applied, stepped, touched};
 ghost use Rattle.upd_apply.specs.Compile.{named_decks};
 ghost use Rattle.upd_apply.specs.Numbers.{next_most};
 ghost use Rattle.upd_apply.specs.Step.{step};
@@ -65,7 +65,7 @@ fn outcome(
     after: &Library,
     lines: &[Line],
 ) -> Result<Applied, Fault>
-    ensures idents { IfOk result (λ a. a.idents.items ≡ brought before.now after.now) }
+    ensures idents { IfOk result (λ a. a.idents.items ≡ ages_brought before.now after.now) }
     ensures compile { GivesAt (λ a. a.compile.items) result (named_decks lines.now after.now) }
     ensures touched { AreApart (map key_of (all_cards before.now))
         → IfOk result (λ a. a.touched.items ≡ touched before.now after.now) }

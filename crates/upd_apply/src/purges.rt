@@ -4,7 +4,7 @@ ghost use Rattle.std.specs.List.{filter};
 ghost use Rattle.upd_core.specs.Library.{is_deck_kind};
 ghost use Rattle.upd_text.specs.Outcome.{Does, Gives};
 ghost use Rattle.upd_deck.specs.Items.{PurDeck, Purge, PurgeFrom, SelPurge};
-ghost use Rattle.upd_apply.specs.Step.{done, ended, purged_in_all};
+ghost use Rattle.upd_apply.specs.Step.{ended, line_done, purged_in_all};
 ghost use Rattle.upd_apply.specs.Names.{is_in};
 ghost use Rattle.upd_apply.specs.Purges.{decks_purged, idents_purged, pairs_purged};
 
@@ -37,7 +37,7 @@ impl Model for AgePair {
 impl State {
     /// `*PURGE` of names and ranges.
     pub(crate) fn purge_idents(&mut self, ranges: &[NameRange]) -> Result<(), FaultKind>
-        ensures { Does result self.new (done (Purge ranges.now) [] self.old) }
+        ensures { Does result self.new (line_done (Purge ranges.now) [] self.old) }
     {
         let ages = idents_purged(&self.library, ranges)?;
         self.library.purge(&ages)?;
@@ -47,7 +47,7 @@ impl State {
 
     /// `*PURGE` of an ident and all younger ones.
     pub(crate) fn purge_from(&mut self, name: &Name) -> Result<(), FaultKind>
-        ensures { Does result self.new (done (PurgeFrom name.now) [] self.old) }
+        ensures { Does result self.new (line_done (PurgeFrom name.now) [] self.old) }
     {
         let age = known_ident(&self.library, name)?;
         self.library.purge_from(age);
@@ -57,7 +57,7 @@ impl State {
 
     /// `*SELPURGE`: idents from decks.
     pub(crate) fn purge_pairs(&mut self, pairs: &[IdentIn]) -> Result<(), FaultKind>
-        ensures { Does result self.new (done (SelPurge pairs.now) [] self.old) }
+        ensures { Does result self.new (line_done (SelPurge pairs.now) [] self.old) }
     {
         let ages = pairs_purged(&self.library, pairs)?;
         purge_in_all(&mut self.library, &ages);
@@ -67,7 +67,7 @@ impl State {
 
     /// `*PURDECK`: decks with their cards.
     pub(crate) fn purge_decks(&mut self, ranges: &[NameRange]) -> Result<(), FaultKind>
-        ensures { Does result self.new (done (PurDeck ranges.now) [] self.old) }
+        ensures { Does result self.new (line_done (PurDeck ranges.now) [] self.old) }
     {
         let ages = decks_purged(&self.library, ranges)?;
         self.library.purge(&ages)?;

@@ -7,7 +7,7 @@ ghost use Rattle.upd_text.specs.declared.fault.FaultKind.TheVariants as fault;
 ghost use Rattle.upd_apply.specs.Applying.{started};
 ghost use Rattle.upd_apply.specs.declared.state.Spot.TheVariants.{End, Inside};
 ghost use Rattle.upd_apply.specs.Numbers.{next_most};
-ghost use Rattle.upd_apply.specs.Step.{behind, deck_begun, grown, is_deck_card, placed_after, placed_before, set_begun};
+ghost use Rattle.upd_apply.specs.Step.{behind, deck_begun, is_deck_card, placed_after, placed_before, set_begun, within_limits};
 ghost use Rattle.upd_apply.specs.Step.{switched, text_put};
 
 use crate::names::new_name;
@@ -205,7 +205,7 @@ impl State {
 
 /// Refuses a library that has grown past a limit.
 pub(crate) fn check_limits(library: &Library) -> Result<(), FaultKind>
-    ensures { MatchResult result (λ _. grown library.now ≡ Ok library.now) (λ e. grown library.now ≡ Err e) }
+    ensures { MatchResult result (λ _. within_limits library.now ≡ Ok library.now) (λ e. within_limits library.now ≡ Err e) }
 {
     if library.is_within_limits() {
         Ok(())

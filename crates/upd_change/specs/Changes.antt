@@ -8,7 +8,7 @@ use Rattle.upd_core.specs.declared.target.Target.{Target}
 use Rattle.upd_core.specs.Targets.{is_same}
 use Rattle.upd_change.specs.declared.change.Change.{Change}
 use Rattle.upd_change.specs.declared.change.Change.TheVariants as made
-use Rattle.upd_change.specs.Rows.{CardRow, Rows, same_ref, count_row}
+use Rattle.upd_change.specs.Rows.{CardRow, Rows, same_ref, count_rows}
 
 -- A change of rows. Cards, entries and targets come with their places, texts as bytes; cards move by a signed distance.
 pub data ChangeView : Type 0 where
@@ -68,7 +68,7 @@ done (TargetsGone card targets) rows = record rows { targets = filter (λ r. not
 done (StatusNow card active) rows = record rows {
   states = filter (λ r. not (same_ref card r.card)) rows.states ++ record { card = card; active = active } ∷ [];
 }
-done (CountNow target n) rows = record rows { counts = filter (λ r. not (is_same target r.target)) rows.counts ++ count_row target n }
+done (CountNow target n) rows = record rows { counts = filter (λ r. not (is_same target r.target)) rows.counts ++ count_rows target n }
 
 -- the tables after changes in order
 abbrev pub done_all : List ChangeView → Rows → Rows

@@ -116,16 +116,16 @@ abbrev pub same_ref : CardRef → CardRef → Bool
 same_ref a b = bytes_eq a.name b.name && (a.number == b.number)
 
 -- the row of a card that is there: its status
-abbrev pub state_row : CardRef → Option Bool → List StateRow
-state_row card None = []
-state_row card (Some active) = record { card = card; active = active } ∷ []
+abbrev pub state_rows : CardRef → Option Bool → List StateRow
+state_rows card None = []
+state_rows card (Some active) = record { card = card; active = active } ∷ []
 
 -- the row of a target that is counted
-abbrev pub count_row : Target → ℕ → List CountRow
-count_row target n = if n == 0 then [] else record { target = target; n = n } ∷ []
+abbrev pub count_rows : Target → ℕ → List CountRow
+count_rows target n = if n == 0 then [] else record { target = target; n = n } ∷ []
 
 -- Tables show the statuses of a library where each card that it has is in one row with its status, each target that a live yank card has
 -- is in one row with the number of these, and there are no others.
 pub record ShowsStates (rows : Rows) (l : LibraryView) : Type 0 where
-  pub states : (card : CardRef) → filter (λ r. same_ref card r.card) rows.states ≡ state_row card (status_of card l)
-  pub counts : (target : Target) → filter (λ r. is_same target r.target) rows.counts ≡ count_row target (live_count l target)
+  pub states : (card : CardRef) → filter (λ r. same_ref card r.card) rows.states ≡ state_rows card (status_of card l)
+  pub counts : (target : Target) → filter (λ r. is_same target r.target) rows.counts ≡ count_rows target (live_count l target)

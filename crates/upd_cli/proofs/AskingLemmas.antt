@@ -7,14 +7,14 @@ use Rattle.upd_rows.specs.Keeping.{Keeps}
 use Rattle.upd_desk.specs.Holding.{Tells}
 use Rattle.upd_http.specs.Serving.{CountsFailure}
 use Rattle.upd_http.proofs.AskLemmas.{fails_alike}
-use Rattle.upd_cli.specs.Errands.{IsAnswered, text_of}
+use Rattle.upd_cli.specs.Errands.{IsAnswered, answer_text}
 use Rattle.upd_cli.specs.declared.asking.Question.{Question}
 
 module _ {S : Type 0} {Image : Type 0} (is_honest is_open : S → Type 0) (image : S → Image) (shows : Image → Rows → Type 0)
     (may_leave : S → Image → Type 0) (failures : S → ℕ) where
   -- what was asked is this question
   pub answered_as : {V : Type 0} (items : V → List ℕ) (result : Result V Fault) (question asked : Question) (old new : S) → question ≡ asked
-      → Tells is_honest is_open image shows may_leave failures (text_of asked) (result_map_both items (λ fault. fault) result) old new
+      → Tells is_honest is_open image shows may_leave failures (answer_text asked) (result_map_both items (λ fault. fault) result) old new
       → Keeps is_honest is_open image shows may_leave failures old new → CountsFailure is_honest is_open image shows may_leave failures result old new
       → IsAnswered is_honest is_open image shows may_leave failures question (result_map_both items (λ fault. fault) result) old new
   answered_as items result question asked old new is tells same counts =

@@ -6,7 +6,7 @@ use Rattle.upd_text.specs.declared.fault.Fault.{Fault}
 use Rattle.upd_text.specs.declared.fault.FaultKind.{FaultKind}
 use Rattle.upd_text.specs.declared.fault.FaultKind.TheVariants.{Write}
 use Rattle.upd_compile.specs.File.{FileView}
-use Rattle.upd_cli.specs.Command.{Answers, Ends, IsEnd, LeavesOutput, answer_to}
+use Rattle.upd_cli.specs.Command.{Answers, EndsTrial, IsEnd, LeavesOutput, answer_to}
 use Rattle.upd_cli.specs.Status.{exit_status, fault_line, no_memory}
 use Rattle.upd_streams.proofs.FrontLemmas.{front_all}
 
@@ -21,7 +21,7 @@ nothing_left Write output output' bytes nothing = ([], bytes, refl, nothing)
 nothing_left _ output output' bytes nothing = nothing
 
 answered : {U : Type 0} (ended : Result U Fault) (status : ℕ) (defined : Result FileView Fault) (output output' faults faults' : Option (List ℕ))
-    → Ends ended output output' defined → IsEnd ended status faults faults' → Answers (answer_to defined) status output output' faults faults'
+    → EndsTrial ended output output' defined → IsEnd ended status faults faults' → Answers (answer_to defined) status output output' faults faults'
 answered (Ok u) status (Ok file) output output' faults faults' ends told = inl (told.0, ends, told.1)
 answered (Ok u) status (Err fault) output output' faults faults' ends told = absurd ends
 answered (Err fault) status defined output output' faults faults' (inl refused) (inl told) =
@@ -34,7 +34,7 @@ answered (Err fault) status defined output output' faults faults' (inr failed) (
 answered (Err fault) status defined output output' faults faults' (inr failed) (inr unsaid) = inr (unsaid.0, (fault, failed.1, unsaid.1))
 
 pub answered_of_known : {U : Type 0} (ended : Result U Fault) (status : ℕ) (known : Option (List ℕ)) (defined : List ℕ → Result FileView Fault)
-    (output output' faults faults' : Option (List ℕ)) → IfSome known (λ bytes. Ends ended output output' (defined bytes))
+    (output output' faults faults' : Option (List ℕ)) → IfSome known (λ bytes. EndsTrial ended output output' (defined bytes))
     → IsEnd ended status faults faults' → IfSome known (λ bytes. Answers (answer_to (defined bytes)) status output output' faults faults')
 answered_of_known ended status None defined output output' faults faults' ends told = tt
 answered_of_known ended status (Some bytes) defined output output' faults faults' ends told =

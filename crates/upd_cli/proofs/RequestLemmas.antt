@@ -2,15 +2,15 @@
 use Rattle.std.proofs.Common.{◌≡◌, ◌≢◌, ◌⊎◌, refl, inl, inr, List, [], codes, Option, Some, None, Bor, ℕ, IsSomeAnd, unwrap_or, option_and_then, option_map, slice_index, ap, subst, arith}
 use Rattle.clap.specs.Walk.{Row, first_of}
 use Rattle.clap.specs.Words.{Text, subcommand_of}
-use Rattle.upd_cli.specs.Inputs.{HandsIn}
-use Rattle.upd_cli.specs.Running.{IsSpool, MayTell}
-use Rattle.upd_cli.specs.Words.{IsAsked, IsAskedBy, IsRequest, command_word, operand_word, upd_app, word_faults}
+use Rattle.upd_cli.specs.Inputs.{HandsRunsIn}
+use Rattle.upd_cli.specs.Running.{IsSpoolCommand, MayTell}
+use Rattle.upd_cli.specs.Words.{IsAskedBy, IsAskedFor, IsRequest, command_word, operand_word, upd_app, word_faults}
 use Rattle.upd_cli.specs.declared.words.Asked.{Asked}
 use Rattle.upd_cli.specs.declared.words.Asked.TheVariants as asks
 use Rattle.upd_cli.specs.declared.words.Request.TheVariants.{Trial, Library, Serve}
 
 -- a trial's mode is the operand of that name
-pub trial_mode : (words : List Text) (mode : Bor (List ℕ)) → IsAsked words (Trial mode) → mode.now ≡ operand_word (codes "MODE") words
+pub trial_mode : (words : List Text) (mode : Bor (List ℕ)) → IsAskedFor words (Trial mode) → mode.now ≡ operand_word (codes "MODE") words
 trial_mode words mode asked = of (subcommand_of upd_app words) asked.1
   where
     of : (command : Option (Text × List Row)) → IsSomeAnd command (λ found. IsRequest found (Trial mode))
@@ -19,7 +19,7 @@ trial_mode words mode asked = of (subcommand_of upd_app words) asked.1
     of (Some (name, rows)) is = is.1
 
 -- and the command is `trial`
-pub trial_command : (words : List Text) (mode : Bor (List ℕ)) → IsAsked words (Trial mode) → command_word words ≡ codes "trial"
+pub trial_command : (words : List Text) (mode : Bor (List ℕ)) → IsAskedFor words (Trial mode) → command_word words ≡ codes "trial"
 trial_command words mode asked = of (subcommand_of upd_app words) asked.1
   where
     of : (command : Option (Text × List Row)) → IsSomeAnd command (λ found. IsRequest found (Trial mode))
@@ -28,7 +28,7 @@ trial_command words mode asked = of (subcommand_of upd_app words) asked.1
     of (Some (name, rows)) is = is.0
 
 -- serving is no trial
-pub serve_command : (words : List Text) (file address count : Bor (List ℕ)) → IsAsked words (Serve file address count)
+pub serve_command : (words : List Text) (file address count : Bor (List ℕ)) → IsAskedFor words (Serve file address count)
     → command_word words ≡ codes "serve"
 serve_command words file address count asked = of (subcommand_of upd_app words) asked.1
   where
@@ -70,7 +70,7 @@ tells name rows asks.Idents is may = absurd may
 tells name rows asks.Yanks is may = absurd may
 tells name rows asks.Migrate is may = absurd may
 
-spools : (name : Text) (rows : List Row) (asked : Asked) → IsAskedBy name rows asked → IsSpool asked → name ≡ codes "spool"
+spools : (name : Text) (rows : List Row) (asked : Asked) → IsAskedBy name rows asked → IsSpoolCommand asked → name ≡ codes "spool"
 spools name rows asks.Spool is may = is
 spools name rows asks.Init is may = absurd may
 spools name rows (asks.Run site number mode) is may = absurd may
@@ -86,10 +86,10 @@ spools name rows asks.Migrate is may = absurd may
 pub record OfLibrary (words : List Text) (asked : Asked) : Type 0 where
   pub none : word_faults words ≡ []
   pub other : ¬ (command_word words ≡ codes "trial")
-  pub tells : MayTell asked → HandsIn words
-  pub spools : IsSpool asked → command_word words ≡ codes "spool"
+  pub tells : MayTell asked → HandsRunsIn words
+  pub spools : IsSpoolCommand asked → command_word words ≡ codes "spool"
 
-pub of_library : (words : List Text) (file : Bor (List ℕ)) (asked : Asked) → IsAsked words (Library file asked) → OfLibrary words asked
+pub of_library : (words : List Text) (file : Bor (List ℕ)) (asked : Asked) → IsAskedFor words (Library file asked) → OfLibrary words asked
 of_library words file asked is =
     let found = of (subcommand_of upd_app words) is.1 in
     record { none = is.0; other = found.0; tells = found.1; spools = found.2 }
@@ -97,7 +97,7 @@ of_library words file asked is =
     of : (command : Option (Text × List Row)) → IsSomeAnd command (λ found. IsRequest found (Library file asked))
         → (¬ (unwrap_or (option_map (λ c. c.0) command) [] ≡ codes "trial"))
         × (MayTell asked → (unwrap_or (option_map (λ c. c.0) command) [] ≡ codes "run") ⊎ (unwrap_or (option_map (λ c. c.0) command) [] ≡ codes "spool"))
-        × (IsSpool asked → unwrap_or (option_map (λ c. c.0) command) [] ≡ codes "spool")
+        × (IsSpoolCommand asked → unwrap_or (option_map (λ c. c.0) command) [] ≡ codes "spool")
     of None is = absurd is
     of (Some (name, rows)) is = (
       λ same. not_trial rows asked (subst (λ n. IsAskedBy n rows asked) same is.1),

@@ -34,15 +34,15 @@ LeavesOutput Write output output' bytes = AppendsFront output output' bytes
 LeavesOutput _ output output' bytes = Appends output output' []
 
 -- A command failed by some fault, whose line, or a beginning of it, is all that stands on the fault stream.
-abbrev pub Fails : Answer → Option (List ℕ) → Option (List ℕ) → Option (List ℕ) → Option (List ℕ) → Type 0
-Fails answer output output' faults faults' =
+abbrev pub CommandFails : Answer → Option (List ℕ) → Option (List ℕ) → Option (List ℕ) → Option (List ℕ) → Type 0
+CommandFails answer output output' faults faults' =
     (fault : Fault) × LeavesOutput fault.kind output output' answer.output × AppendsFront faults faults' (fault_line fault)
 
 -- The command ended with this answer, as far as output and fault stream tell what they hold; or memory, a read or a write failed.
 abbrev pub Answers : Answer → ℕ → Option (List ℕ) → Option (List ℕ) → Option (List ℕ) → Option (List ℕ) → Type 0
 Answers answer status output output' faults faults' =
     ((status ≡ answer.status) × Appends output output' answer.output × Appends faults faults' answer.faults)
-    ⊎ ((status ≡ 3) × Fails answer output output' faults faults')
+    ⊎ ((status ≡ 3) × CommandFails answer output output' faults faults')
 
 -- A compile file is the defined one, a refusal is the defined one; or memory or a read failed.
 abbrev pub GivesUnlessFailed : Result FileView Fault → Result FileView Fault → Type 0
@@ -50,9 +50,9 @@ GivesUnlessFailed (Ok file) defined = defined ≡ Ok file
 GivesUnlessFailed (Err fault) defined = (exit_status fault.kind ≡ 3) ⊎ (defined ≡ Err fault)
 
 -- A command wrote what is defined, or met the defined refusal; or memory, a read or a write failed.
-abbrev pub Ends : {U : Type 0} → Result U Fault → Option (List ℕ) → Option (List ℕ) → Result FileView Fault → Type 0
-Ends (Ok u) output output' defined = IsOkAnd defined (λ file. Appends output output' file.bytes)
-Ends (Err fault) output output' defined =
+abbrev pub EndsTrial : {U : Type 0} → Result U Fault → Option (List ℕ) → Option (List ℕ) → Result FileView Fault → Type 0
+EndsTrial (Ok u) output output' defined = IsOkAnd defined (λ file. Appends output output' file.bytes)
+EndsTrial (Err fault) output output' defined =
     ((defined ≡ Err fault) × Appends output output' [])
     ⊎ ((exit_status fault.kind ≡ 3) × LeavesOutput fault.kind output output' (answer_to defined).output)
 

@@ -9,7 +9,7 @@ use Rattle.clap.specs.Words.{Text}
 use Rattle.upd_cli.specs.Command.{IsTold}
 use Rattle.upd_cli.specs.Status.{exit_status, fault_line, no_memory}
 use Rattle.upd_cli.specs.Telling.{TellsMark, TellsRun, TellsText}
-use Rattle.upd_cli.specs.Words.{IsAsked}
+use Rattle.upd_cli.specs.Words.{IsAskedFor}
 use Rattle.upd_cli.specs.declared.words.Request.{Request}
 use Rattle.upd_cli.specs.declared.words.Request.TheVariants.{Library, Serve, Unread}
 use Rattle.upd_cli.specs.declared.words.Asked.{Asked}
@@ -58,5 +58,5 @@ IsDone _ status output output' faults faults' = Unit {0}
 -- What the words ask for was carried out; or there was no memory to read them, and that is told.
 abbrev pub CarriesOut : List Text → ℕ → Option (List ℕ) → Option (List ℕ) → Option (List ℕ) → Option (List ℕ) → Type 0
 CarriesOut words status output output' faults faults' =
-    ((request : Request) × IsAsked words request × IsDone request status output output' faults faults')
+    ((request : Request) × IsAskedFor words request × IsDone request status output output' faults faults')
     ⊎ (IsTold 3 (fault_line no_memory) status faults faults' × Appends output output' [])

@@ -19,16 +19,16 @@ use Rattle.upd_cli.specs.declared.asking.Question.{Question}
 use Rattle.upd_cli.specs.declared.asking.Question.TheVariants.{Compile, Deck, Card, Idents, Yanks}
 
 -- what a question is answered of a library
-abbrev pub text_of : Question → LibraryView → Result (List ℕ) Fault
-text_of Compile l = result_map_both (λ file. file.bytes) (λ fault. fault) (compile_file_of mode.Full [] l l)
-text_of (Deck name) l = deck_listing name l
-text_of (Card card) l = card_listing card l
-text_of Idents l = Ok (ident_listing l)
-text_of Yanks l = Ok (yank_listing l)
+abbrev pub answer_text : Question → LibraryView → Result (List ℕ) Fault
+answer_text Compile l = result_map_both (λ file. file.bytes) (λ fault. fault) (compile_file_of mode.Full [] l l)
+answer_text (Deck name) l = deck_listing name l
+answer_text (Card card) l = card_listing card l
+answer_text Idents l = Ok (ident_listing l)
+answer_text Yanks l = Ok (yank_listing l)
 
 -- The bytes of the run on an input: all, or so many that they tell that the run is too long. Nothing is said of an input that isn't known.
-abbrev pub IsRunOf : Option (List ℕ) → List ℕ → Type 0
-IsRunOf input bytes = IfSome input (λ all. bytes ≡ take (MAX_RUN_BYTES + 1) all)
+abbrev pub IsRunOn : Option (List ℕ) → List ℕ → Type 0
+IsRunOn input bytes = IfSome input (λ all. bytes ≡ take (MAX_RUN_BYTES + 1) all)
 
 -- the input can't be read, or there is no memory for it
 abbrev pub IsUnread : Result ℕ Fault → Type 0
@@ -39,7 +39,7 @@ module _ {S : Type 0} {Image : Type 0} (is_honest is_open : S → Type 0) (image
   -- The run on the input arrived, and its answer was told; or the input wasn't read, and nothing was asked or told.
   abbrev pub HandsIn : List ℕ → ℕ → List ℕ → Option (List ℕ) → Result ℕ Fault → S → S → Option (List ℕ) → Option (List ℕ) → Type 0
   HandsIn site number mode input result old new output output' =
-      ((bytes : List ℕ) × (answer : Result ReplyView Fault) × IsRunOf input bytes
+      ((bytes : List ℕ) × (answer : Result ReplyView Fault) × IsRunOn input bytes
       × Arrives is_honest is_open image shows may_leave failures (record { site = site; number = number; mode = mode; bytes = bytes }) answer old new
       × CountsFailure is_honest is_open image shows may_leave failures answer old new × TellsRun answer result output output')
       ⊎ ((new ≡ old) × IsUnread result × Appends output output' [])
@@ -52,10 +52,10 @@ module _ {S : Type 0} {Image : Type 0} (is_honest is_open : S → Type 0) (image
 
   -- a question was answered, and nothing is changed
   pub record IsAnswered (question : Question) (answer : Result (List ℕ) Fault) (old new : S) : Type 0 where
-    pub tells : Tells is_honest is_open image shows may_leave failures (text_of question) answer old new
+    pub tells : Tells is_honest is_open image shows may_leave failures (answer_text question) answer old new
     pub same : Keeps is_honest is_open image shows may_leave failures old new
     pub counts : CountsFailure is_honest is_open image shows may_leave failures answer old new
 
   -- a question was answered, and the answer was told
-  abbrev pub Asks : Question → Result ℕ Fault → S → S → Option (List ℕ) → Option (List ℕ) → Type 0
-  Asks question result old new output output' = (answer : Result (List ℕ) Fault) × IsAnswered question answer old new × TellsText answer result output output'
+  abbrev pub AsksQuestion : Question → Result ℕ Fault → S → S → Option (List ℕ) → Option (List ℕ) → Type 0
+  AsksQuestion question result old new output output' = (answer : Result (List ℕ) Fault) × IsAnswered question answer old new × TellsText answer result output output'

@@ -5,10 +5,10 @@ use Rattle.upd_compile.specs.Modes.{mode_named}
 use Rattle.upd_cli.specs.Words.{command_word, operand_word, word_faults}
 
 -- the words hand runs in: those of `run`, or of `spool`
-abbrev pub HandsIn : List Text → Type 0
-HandsIn words = (command_word words ≡ codes "run") ⊎ (command_word words ≡ codes "spool")
+abbrev pub HandsRunsIn : List Text → Type 0
+HandsRunsIn words = (command_word words ≡ codes "run") ⊎ (command_word words ≡ codes "spool")
 
 -- words that are read, of a trial in a mode that there is, or that hand runs in
 abbrev pub ReadsInput : List Text → Type 0
 ReadsInput words = (word_faults words ≡ [])
-    × (((command_word words ≡ codes "trial") × (mode_named (operand_word (codes "MODE") words) ≢ None)) ⊎ HandsIn words)
+    × (((command_word words ≡ codes "trial") × (mode_named (operand_word (codes "MODE") words) ≢ None)) ⊎ HandsRunsIn words)

@@ -3,9 +3,9 @@ use Rattle.upd_cli.specs.declared.words.Asked.{Asked}
 use Rattle.upd_cli.specs.declared.words.Asked.TheVariants as asks
 
 -- the command is `spool`
-abbrev pub IsSpool : Asked → Type 0
-IsSpool asks.Spool = Unit {0}
-IsSpool _ = ⊥
+abbrev pub IsSpoolCommand : Asked → Type 0
+IsSpoolCommand asks.Spool = Unit {0}
+IsSpoolCommand _ = ⊥
 
 -- the command reads its input, and may tell refusals on the output
 abbrev pub MayTell : Asked → Type 0

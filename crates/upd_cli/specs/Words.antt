@@ -94,20 +94,20 @@ abbrev pub AsksText : ErrorKind → Type 0
 AsksText kind = (kind ≡ DisplayHelp) ⊎ (kind ≡ DisplayVersion)
 
 -- the request for what clap says of words that it does not read
-abbrev pub IsTold : ErrorKind → Request → Type 0
-IsTold kind (Shown text) = AsksText kind
-IsTold kind (Unread text) = ¬ (AsksText kind)
-IsTold kind _ = ⊥
+abbrev pub IsUnreadRequest : ErrorKind → Request → Type 0
+IsUnreadRequest kind (Shown text) = AsksText kind
+IsUnreadRequest kind (Unread text) = ¬ (AsksText kind)
+IsUnreadRequest kind _ = ⊥
 
 -- the request for the command that words name which are read
 abbrev pub IsCommand : List Text → Request → Type 0
 IsCommand words request = (word_faults words ≡ []) × IsSomeAnd (subcommand_of upd_app words) (λ command. IsRequest command request)
 
 -- the request is what the words ask for
-abbrev pub IsAsked : List Text → Request → Type 0
-IsAsked words (Shown text) = (kind : ErrorKind) × IsAmong kind (word_faults words) × AsksText kind
-IsAsked words (Unread text) = (kind : ErrorKind) × IsAmong kind (word_faults words) × ¬ (AsksText kind)
-IsAsked words request = IsCommand words request
+abbrev pub IsAskedFor : List Text → Request → Type 0
+IsAskedFor words (Shown text) = (kind : ErrorKind) × IsAmong kind (word_faults words) × AsksText kind
+IsAskedFor words (Unread text) = (kind : ErrorKind) × IsAmong kind (word_faults words) × ¬ (AsksText kind)
+IsAskedFor words request = IsCommand words request
 
 -- a word that does not begin with a hyphen
 abbrev pub IsPlain : Text → Type 0

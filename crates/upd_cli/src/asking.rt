@@ -1,7 +1,7 @@
 //! Commands that ask: the compile file and the listings.
 ghost use Rattle.std.specs.Prelude.{◌≡◌, IfErr, IfOk};
 ghost use Rattle.std.specs.Result.{result_map_both};
-ghost use Rattle.upd_cli.specs.Errands.{Asks, IsAnswered};
+ghost use Rattle.upd_cli.specs.Errands.{AsksQuestion, IsAnswered};
 ghost use Rattle.upd_cli.specs.Status.{exit_status};
 
 use crate::status::DONE;
@@ -30,7 +30,7 @@ pub(crate) fn inquire<S: RowStore, W: Write>(
     question: &Question,
     output: &mut W,
 ) -> Result<u8, Fault>
-    ensures asks { Asks S.is_honest S.is_open S.image S.shows S.may_leave S.failures_of question.now
+    ensures asks { AsksQuestion S.is_honest S.is_open S.image S.shows S.may_leave S.failures_of question.now
         result desk.old.store desk.new.store (W.contents output.old) (W.contents output.new) }
     ensures status { IfOk result (λ status. status ≡ 0) }
     ensures silent { IfErr result (λ fault. exit_status fault.kind ≡ 1 → output.new ≡ output.old) }

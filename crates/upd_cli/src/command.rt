@@ -2,15 +2,15 @@
 ghost use Rattle.std.specs.Prelude.{◌≡◌, ◌≢◌, ◌⊎◌, ◌+◌, IfErr, IfSome, None, codes, map, []};
 ghost use Rattle.std.specs.IoError.{error_kind};
 ghost use Rattle.upd_compile.specs.Modes.{mode_named};
-ghost use Rattle.upd_cli.specs.Command.{Answers, Ends, GivesUnlessFailed, IsEnd, IsTold, IsToldOf, answer_to};
+ghost use Rattle.upd_cli.specs.Command.{Answers, EndsTrial, GivesUnlessFailed, IsEnd, IsTold, IsToldOf, answer_to};
 ghost use Rattle.upd_cli.specs.Commands.{CarriesOut, IsCarriedOut};
-ghost use Rattle.upd_cli.specs.Running.{IsSpool, MayTell};
+ghost use Rattle.upd_cli.specs.Running.{IsSpoolCommand, MayTell};
 ghost use Rattle.upd_cli.specs.Status.{exit_status, fault_line, no_memory, no_words_line};
 ghost use Rattle.upd_cli.specs.Streams.{TakesFront};
 ghost use Rattle.upd_text.specs.declared.limits.TheConstants.{MAX_RUN_BYTES};
 ghost use Rattle.upd_cli.specs.Trial.{trial_named};
 ghost use Rattle.upd_cli.specs.Words.{command_word, operand_word, word_faults};
-ghost use Rattle.upd_cli.specs.Inputs.{HandsIn, ReadsInput};
+ghost use Rattle.upd_cli.specs.Inputs.{HandsRunsIn, ReadsInput};
 
 use crate::library::{carry_out, serve};
 use crate::operands::{read_address, read_count};
@@ -47,7 +47,7 @@ pub fn run_command<S: AsStr, R: Read, W: Write, E: Write>(
     ensures front { command_word (map S.text words.entry.now) ≢ codes "spool"
         → TakesFront (MAX_RUN_BYTES + 1) (R.remaining input.old) (R.remaining input.new) }
     ensures waits { ¬ ReadsInput (map S.text words.entry.now) → input.new ≡ input.old }
-    ensures silent { (result ≡ 2) ⊎ ((result ≡ 1) × ¬ HandsIn (map S.text words.entry.now)) → output.new ≡ output.old }
+    ensures silent { (result ≡ 2) ⊎ ((result ≡ 1) × ¬ HandsRunsIn (map S.text words.entry.now)) → output.new ≡ output.old }
     ensures clean { result ≡ 0 → faults.new ≡ faults.old }
 {
     match read_words(rt.alloc(), words) {
@@ -115,7 +115,7 @@ fn carry_out_library<R: Read, W: Write, E: Write>(
 ) -> u8
     ensures told { IsCarriedOut asked.now result
         (W.contents output.old) (W.contents output.new) (E.contents faults.old) (E.contents faults.new) }
-    ensures front { ¬ IsSpool asked.now → TakesFront (MAX_RUN_BYTES + 1) (R.remaining input.old) (R.remaining input.new) }
+    ensures front { ¬ IsSpoolCommand asked.now → TakesFront (MAX_RUN_BYTES + 1) (R.remaining input.old) (R.remaining input.new) }
     ensures waits { ¬ MayTell asked.now → input.new ≡ input.old }
     ensures silent { (result ≡ 2) ⊎ ((result ≡ 1) × ¬ MayTell asked.now) → output.new ≡ output.old }
     ensures clean { result ≡ 0 → faults.new ≡ faults.old }
@@ -174,7 +174,7 @@ fn carry_out_trial<R: Read, W: Write>(
     output: &mut W,
 ) -> Result<(), Fault>
     ensures ends { IfSome (R.remaining input.old) (λ bytes.
-        Ends result (W.contents output.old) (W.contents output.new) (trial_named mode.now bytes)) }
+        EndsTrial result (W.contents output.old) (W.contents output.new) (trial_named mode.now bytes)) }
     ensures front { TakesFront (MAX_RUN_BYTES + 1) (R.remaining input.old) (R.remaining input.new) }
     ensures waits { mode_named mode.now ≡ None → input.new ≡ input.old }
     ensures silent { IfErr result (λ fault. exit_status fault.kind ≡ 1 → output.new ≡ output.old) }

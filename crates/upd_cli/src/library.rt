@@ -1,7 +1,7 @@
 //! Commands on the library in a file: it is opened, something is done, and it is closed.
 ghost use Rattle.std.specs.Prelude.{◌≡◌, ◌⊎◌, ◌+◌, ℕ, List, Result, IfErr, IfOk};
 ghost use Rattle.upd_cli.specs.Commands.{Leaves, TellsNumbered};
-ghost use Rattle.upd_cli.specs.Running.{IsSpool, MayTell};
+ghost use Rattle.upd_cli.specs.Running.{IsSpoolCommand, MayTell};
 ghost use Rattle.upd_cli.specs.Status.{exit_status};
 ghost use Rattle.upd_cli.specs.Streams.{TakesFront};
 ghost use Rattle.upd_cli.specs.Telling.{TellsMark, TellsRun, TellsText};
@@ -38,7 +38,7 @@ pub(crate) fn carry_out<R: Read, W: Write>(
     input: &mut R,
     output: &mut W,
 ) -> Result<u8, Fault>
-    ensures front { ¬ IsSpool asked.now → TakesFront (MAX_RUN_BYTES + 1) (R.remaining input.old) (R.remaining input.new) }
+    ensures front { ¬ IsSpoolCommand asked.now → TakesFront (MAX_RUN_BYTES + 1) (R.remaining input.old) (R.remaining input.new) }
     ensures waits { ¬ MayTell asked.now → input.new ≡ input.old }
     ensures leaves { Leaves result (W.contents output.old) (W.contents output.new) asked.now }
     ensures status { IfOk result (λ status. (status ≡ 0) ⊎ ((status ≡ 1) × MayTell asked.now)) }

@@ -5,7 +5,7 @@ ghost use Rattle.clap.specs.declared.builder.command.Command.TheViews.{out-Comma
 ghost use Rattle.clap.specs.declared.error.kind.ErrorKind.TheVariants.{OutOfMemory};
 ghost use Rattle.upd_cli.specs.Status.{no_memory};
 ghost use Rattle.clap.specs.Simple.{new_app};
-ghost use Rattle.upd_cli.specs.Words.{IsAsked, IsAskedBy, IsOneOf, IsPlain, IsRequest, IsTold, command_shape, command_word};
+ghost use Rattle.upd_cli.specs.Words.{IsAskedBy, IsAskedFor, IsOneOf, IsPlain, IsRequest, IsUnreadRequest, command_shape, command_word};
 ghost use Rattle.upd_cli.specs.Words.{operand_in, operand_rule, operand_word, upd_app, upd_commands, upd_top, word_faults};
 
 use crate::help;
@@ -141,7 +141,7 @@ fn operand<'a>(alloc: Global, name: &'a str, help: &'a str) -> Arg<'a>
 
 /// Reads the words of a command line, the program's own name first. Its one error is want of memory.
 pub(crate) fn read_words<'a, S: AsStr>(alloc: Global, words: &'a [S]) -> Result<Request<'a>, Fault>
-    ensures ok { IfOk result (IsAsked (map S.text words.entry.now)) }
+    ensures ok { IfOk result (IsAskedFor (map S.text words.entry.now)) }
     ensures err { IfErr result (λ fault. fault ≡ no_memory) }
 {
     match commands(alloc)?.try_get_matches_from(words) {
@@ -212,7 +212,7 @@ fn word<'a>(operands: &ArgMatches<'a>, name: &str) -> &'a str
 
 /// What clap says where the words are not read or ask for a text.
 fn told<'a>(alloc: Global, error: &Error) -> Result<Request<'a>, Fault>
-    ensures ok { IfOk result (λ told. (kind_of error.now ≢ OutOfMemory) × IsTold (kind_of error.now) told) }
+    ensures ok { IfOk result (λ told. (kind_of error.now ≢ OutOfMemory) × IsUnreadRequest (kind_of error.now) told) }
     ensures err { IfErr result (λ fault. fault ≡ no_memory) }
 {
     if error.kind() == ErrorKind::OutOfMemory {

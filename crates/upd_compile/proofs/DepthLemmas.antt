@@ -5,7 +5,7 @@ use Rattle.upd_core.specs.Actives.{ActiveCardView, ActiveDeckView, ActivesView}
 use Rattle.upd_text.specs.Lines.{is_call, called}
 use Rattle.upd_text.specs.declared.limits.TheConstants.{MAX_DEPTH}
 use Rattle.upd_compile.specs.Depths.{Gives, Meets, Walks, Text, Followed, OfNone, TooDeep, NoMore, Next}
-use Rattle.upd_compile.specs.Walk.{Event, Line, Follow, Depth, call_events, card_events, common_named, text_cards, walk}
+use Rattle.upd_compile.specs.Walk.{WalkEvent, Line, Follow, Depth, call_events, card_events, common_named, text_cards, walk}
 use Rattle.upd_compile.proofs.WalkLemmas.{events-text, events-unknown}
 
 -- so many levels are left at a depth
@@ -19,7 +19,7 @@ events-deep (suc levels) a c none call = absurd (omega arith)
 
 -- what is given and met is one list
 mutual
-  given-is : (a : ActivesView) (depth : ℕ) (c : ActiveCardView) (events : List Event) → Gives a depth c events
+  given-is : (a : ActivesView) (depth : ℕ) (c : ActiveCardView) (events : List WalkEvent) → Gives a depth c events
       → (levels : ℕ) → AreLeft levels depth → events ≡ card_events levels a c
   given-is a _ _ _ (Text depth c text) levels left = sym (events-text levels a c text)
   given-is a _ _ _ (Followed depth c d events call within named met) zero left = absurd (omega arith)
@@ -28,7 +28,7 @@ mutual
   given-is a _ _ _ (OfNone depth c call within none) levels left = sym (events-unknown levels a c (omega arith) call none)
   given-is a _ _ _ (TooDeep depth c call deep) levels left = sym (events-deep levels a c (omega arith) call)
 
-  met-is : (a : ActivesView) (depth : ℕ) (cards : List ActiveCardView) (events : List Event) → Meets a depth cards events
+  met-is : (a : ActivesView) (depth : ℕ) (cards : List ActiveCardView) (events : List WalkEvent) → Meets a depth cards events
       → (levels : ℕ) → AreLeft levels depth → events ≡ flat_map (card_events levels a) cards
   met-is a _ _ _ (NoMore depth) levels left = refl
   met-is a _ _ _ (Next depth c later here events given met) levels left =
@@ -69,7 +69,7 @@ walks a (suc levels) depth left d =
     meets-all a (suc levels) depth (gives-next a levels depth left (walks a levels (depth + 1) (omega arith))) (text_cards d)
 
 -- and nothing else
-pub walks-walk : (a : ActivesView) (d : ActiveDeckView) (events : List Event) → Walks a 1 d events ↔ (events ≡ walk MAX_DEPTH a d)
+pub walks-walk : (a : ActivesView) (d : ActiveDeckView) (events : List WalkEvent) → Walks a 1 d events ↔ (events ≡ walk MAX_DEPTH a d)
 walks-walk a d events = (
   λ met. met-is a 1 (text_cards d) events met MAX_DEPTH (omega arith),
   λ e. subst (λ es. Walks a 1 d es) (sym e) (walks a MAX_DEPTH 1 (omega arith) d),

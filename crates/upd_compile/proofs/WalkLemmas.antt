@@ -9,10 +9,10 @@ use Rattle.upd_core.specs.Actives.{ActiveCardView, ActiveDeckView, ActivesView}
 use Rattle.upd_text.specs.Lines.{is_call, called}
 use Rattle.upd_text.specs.Outcome.{◌>>=◌}
 use Rattle.upd_compile.specs.Progress.{ProgressView, after_event, after_events}
-use Rattle.upd_compile.specs.Walk.{Event, Line, Follow, Unknown, common_named, card_events, walk}
+use Rattle.upd_compile.specs.Walk.{WalkEvent, Line, Follow, Unknown, common_named, card_events, walk}
 
 -- events after events
-pub after_events-append : (idents : List Ident) (es fs : List Event) (p : ProgressView)
+pub after_events-append : (idents : List Ident) (es fs : List WalkEvent) (p : ProgressView)
     → after_events idents (es ++ fs) p ≡ after_events idents es p >>= after_events idents fs
 after_events-append idents [] fs p = refl
 after_events-append idents (e ∷ es) fs p =
@@ -51,7 +51,7 @@ pub walk-at_first : (deep : ℕ) (a : ActivesView) (d : ActiveDeckView) (i : ℕ
     → (c.ident == d.ident) && (c.number == 1) ≡ true
     → walk deep a (record d { cards = drop i d.cards }) ≡ walk deep a (record d { cards = drop (i + 1) d.cards })
 walk-at_first deep a d i c h e first =
-    let F : List ActiveCardView → List Event = λ cards. walk deep a (record d { cards = cards }) in
+    let F : List ActiveCardView → List WalkEvent = λ cards. walk deep a (record d { cards = cards }) in
     at_drop_more F d.cards i c h ∙ rw (← e, first) refl
 
 -- walks through decks, from one of them on

@@ -11,7 +11,7 @@ use Rattle.upd_core.specs.Actives.{ActiveCardView, ActivesView, actives_of}
 use Rattle.upd_core.specs.Library.{LibraryView, name_of}
 use Rattle.upd_compile.specs.declared.mode.Mode.{Mode}
 use Rattle.upd_compile.specs.Chosen.{chosen}
-use Rattle.upd_compile.specs.Walk.{Event, Line, Follow, Depth, Unknown, walk}
+use Rattle.upd_compile.specs.Walk.{WalkEvent, Line, Follow, Depth, Unknown, walk}
 
 -- A compile file: its bytes, and how many lines they are.
 pub record FileView : Type 0 where
@@ -35,39 +35,39 @@ abbrev pub card_line : List Ident → ActiveCardView → List ℕ
 card_line idents c = from_left 80 c.text ++ 32 ∷ from_left 9 (name_of idents c.ident) ++ from_right 6 (decimal c.number) ++ 10 ∷ []
 
 -- what an event is written as
-abbrev pub event_line : List Ident → Event → List ℕ
+abbrev pub event_line : List Ident → WalkEvent → List ℕ
 event_line idents (Line c) = card_line idents c
 event_line idents Follow = []
 event_line idents Depth = []
 event_line idents Unknown = []
 
 -- whether an event is a line
-abbrev pub is_line : Event → Bool
+abbrev pub is_line : WalkEvent → Bool
 is_line (Line c) = true
 is_line Follow = false
 is_line Depth = false
 is_line Unknown = false
 
 -- whether an event is a call that is followed
-abbrev pub is_follow : Event → Bool
+abbrev pub is_follow : WalkEvent → Bool
 is_follow (Line c) = false
 is_follow Follow = true
 is_follow Depth = false
 is_follow Unknown = false
 
 -- the fault of an event with these before it: an unknown call, a call too deep, a line or a followed call with the most of its kind before it
-abbrev pub event_fault : List Event → Event → Option FaultKind
+abbrev pub event_fault : List WalkEvent → WalkEvent → Option FaultKind
 event_fault before (Line c) = if nat_lt (count_by is_line before) MAX_COMPILE_LINES then None else Some CompileLong
 event_fault before Follow = if nat_lt (count_by is_follow before) MAX_CALLS then None else Some CompileLong
 event_fault before Depth = Some CallDepth
 event_fault before Unknown = Some CallUnknown
 
 -- the faults of a walk in the order of its events
-abbrev pub walk_faults : List Event → List FaultKind
+abbrev pub walk_faults : List WalkEvent → List FaultKind
 walk_faults events = filter_map (λ e. event_fault (take e.0 events) e.1) (enumerate_from 0 events)
 
 -- what a walk is written as: its lines, or its first fault
-abbrev pub written : List Ident → List Event → Result FileView Fault
+abbrev pub written : List Ident → List WalkEvent → Result FileView Fault
 written idents events = unless (walk_faults events)
   where
     unless : List FaultKind → Result FileView Fault

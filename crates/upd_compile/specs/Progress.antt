@@ -6,7 +6,7 @@ use Rattle.upd_core.specs.declared.ident.Ident.{Ident}
 use Rattle.upd_text.specs.declared.limits.TheConstants.{MAX_COMPILE_LINES, MAX_CALLS}
 use Rattle.upd_text.specs.Outcome.{◌>>=◌}
 use Rattle.upd_compile.specs.File.{FileView, card_line}
-use Rattle.upd_compile.specs.Walk.{Event, Line, Follow, Depth, Unknown}
+use Rattle.upd_compile.specs.Walk.{WalkEvent, Line, Follow, Depth, Unknown}
 
 -- What is written so far, and how many calls were followed.
 pub record ProgressView : Type 0 where
@@ -22,7 +22,7 @@ abbrev pub file_so_far : ProgressView → FileView
 file_so_far p = record { bytes = p.bytes; lines = p.lines }
 
 -- what an event adds
-abbrev pub after_event : List Ident → Event → ProgressView → Result ProgressView FaultKind
+abbrev pub after_event : List Ident → WalkEvent → ProgressView → Result ProgressView FaultKind
 after_event idents (Line c) p =
     if nat_lt p.lines MAX_COMPILE_LINES
     then Ok (record { bytes = p.bytes ++ card_line idents c; lines = p.lines + 1; calls = p.calls })
@@ -35,6 +35,6 @@ after_event idents Depth p = Err CallDepth
 after_event idents Unknown p = Err CallUnknown
 
 -- what the events of a walk add, one after the other
-abbrev pub after_events : List Ident → List Event → ProgressView → Result ProgressView FaultKind
+abbrev pub after_events : List Ident → List WalkEvent → ProgressView → Result ProgressView FaultKind
 after_events idents [] p = Ok p
 after_events idents (e ∷ es) p = after_event idents e p >>= after_events idents es

@@ -7,11 +7,11 @@ use Rattle.upd_core.specs.Library.{is_common, held_named}
 use Rattle.upd_text.specs.Lines.{is_call, called}
 
 -- What a walk meets: a line, a call that is followed, a call too deep, a call of what is no held common deck.
-pub data Event : Type 0 where
-  Line : ActiveCardView → Event
-  Follow : Event
-  Depth : Event
-  Unknown : Event
+pub data WalkEvent : Type 0 where
+  Line : ActiveCardView → WalkEvent
+  Follow : WalkEvent
+  Depth : WalkEvent
+  Unknown : WalkEvent
 
 -- the deck of an age
 abbrev pub deck_aged : ℕ → ActivesView → Option ActiveDeckView
@@ -26,15 +26,15 @@ abbrev pub text_cards : ActiveDeckView → List ActiveCardView
 text_cards d = filter (λ c. not ((c.ident == d.ident) && (c.number == 1))) d.cards
 
 -- a call that is followed gives what the text cards of its deck give
-abbrev pub call_events : (ActiveCardView → List Event) → Option ActiveDeckView → List Event
+abbrev pub call_events : (ActiveCardView → List WalkEvent) → Option ActiveDeckView → List WalkEvent
 call_events given None = Unknown ∷ []
 call_events given (Some d) = Follow ∷ flat_map given (text_cards d)
 
 -- what a card gives where calls are followed so many levels deep
-abbrev pub card_events : ℕ → ActivesView → ActiveCardView → List Event
+abbrev pub card_events : ℕ → ActivesView → ActiveCardView → List WalkEvent
 card_events zero a c = if is_call c.text then Depth ∷ [] else Line c ∷ []
 card_events (suc levels) a c = if is_call c.text then call_events (card_events levels a) (common_named (called c.text) a) else Line c ∷ []
 
 -- the walk through a deck: what its text cards give, one after the other
-abbrev pub walk : ℕ → ActivesView → ActiveDeckView → List Event
+abbrev pub walk : ℕ → ActivesView → ActiveDeckView → List WalkEvent
 walk levels a d = flat_map (card_events levels a) (text_cards d)

@@ -5,7 +5,7 @@ ghost use Rattle.upd_text.specs.Outcome.{Does};
 ghost use Rattle.upd_text.specs.declared.fault.FaultKind.{FaultKind};
 ghost use Rattle.upd_compile.specs.File.{blanks, card_line, from_left, from_right};
 ghost use Rattle.upd_compile.specs.Progress.{at_start, after_event, file_so_far};
-ghost use Rattle.upd_compile.specs.Walk.Event.{Line, Follow};
+ghost use Rattle.upd_compile.specs.Walk.WalkEvent.{Line, Follow};
 
 use crate::file::CompileFile;
 use crate::idents::name_of;

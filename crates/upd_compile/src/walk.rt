@@ -7,7 +7,7 @@ ghost use Rattle.upd_text.specs.Outcome.{Does};
 ghost use Rattle.upd_text.specs.declared.limits.TheConstants.{MAX_DEPTH};
 ghost use Rattle.upd_compile.specs.Depths.{Walks};
 ghost use Rattle.upd_compile.specs.Progress.{after_events};
-ghost use Rattle.upd_compile.specs.Walk.{Event, card_events, walk};
+ghost use Rattle.upd_compile.specs.Walk.{WalkEvent, card_events, walk};
 
 use crate::indexed::Indexed;
 use crate::progress::Progress;
@@ -18,7 +18,7 @@ use upd_text::line::{called, is_call};
 /// The walk through a deck is what the rule of depths gives, and nothing else: a call in the deck has depth 1, one in a
 /// deck that is called is one deeper, and calls are followed down to [`MAX_DEPTH`](upd_text::limits::MAX_DEPTH).
 pub fn walks_go_by_depth()
-    ensures { (a : ActivesView) (d : ActiveDeckView) (events : List Event)
+    ensures { (a : ActivesView) (d : ActiveDeckView) (events : List WalkEvent)
         → Walks a 1 d events ↔ (events ≡ walk MAX_DEPTH a d) }
 {}
 

@@ -17,7 +17,7 @@ use Rattle.upd_core.specs.Sound.{IsSound}
 use Rattle.upd_core.specs.Status.{live_targets}
 use Rattle.upd_compile.specs.Listings.{card_lines, card_listing, deck_heading, deck_line, deck_listing}
 use Rattle.upd_rows.specs.Asked.{decks_with}
-use Rattle.upd_parts.specs.Needless.{others_of}
+use Rattle.upd_parts.specs.Needless.{is_left_out}
 use Rattle.upd_parts.proofs.NeedLemmas.{part_of_others}
 use Rattle.upd_parts.proofs.NeededLemmas.{card_deck_kept, card_placed}
 use Rattle.upd_parts.proofs.PartLemmas.{cards_same}
@@ -76,7 +76,7 @@ card_listed card decks found l sound are is =
     ∙ ap (λ place. listed_card place m) (card_placed card l sound) ∙ go (place_of card l) refl
   where
     m : LibraryView
-    m = part (others_of (decks_with (card ∷ []) l) l) l
+    m = part (is_left_out (decks_with (card ∷ []) l) l) l
 
     go : (o : Option Place) → place_of card l ≡ o → listed_card (place_of card l) m ≡ listed_card (place_of card l) l
     go None e = rw e refl

@@ -18,7 +18,7 @@ use Rattle.upd_yank.specs.Renewed.{IsAsBefore, renewed}
 use Rattle.upd_yank.specs.Right.{CacheView, IsRight}
 use Rattle.upd_yank.proofs.RenewLemmas.{renewed_is}
 use Rattle.upd_parts.specs.Needed.{all_named, decks_needed, is_yank_card}
-use Rattle.upd_parts.specs.Needless.{DoesWithout, IsOnWhole, are_plain, others_of, reached_in_part}
+use Rattle.upd_parts.specs.Needless.{DoesWithout, IsOnWhole, are_plain, is_left_out, reached_in_part}
 use Rattle.upd_parts.proofs.AppliedLemmas.{applied_same}
 use Rattle.upd_parts.proofs.CountLemmas.{none_left_out, whole_part}
 use Rattle.upd_parts.proofs.IdleLemmas.{idle_in}
@@ -79,7 +79,7 @@ on_named lines l run made plain none at = by (on_whole ages lines l (here_of run
     ages = decks_with (all_named lines) l
 
     out : ℕ → Bool
-    out = others_of ages l
+    out = is_left_out ages l
 
     changes : List ChangeView
     changes = map change_seen run.applied.changes.items
@@ -153,16 +153,16 @@ refused_needed lines l found f made loaded is = go (are_plain lines) refl (list_
     all : (ages : List ℕ) → ages ≡ map (λ d. d.ident) l.decks → applied lines (part_of ages l) ≡ Err f → applied lines l ≡ Err f
     all ages e at = sym (ap (applied lines) (ap (λ ds. part_of ds l) e ∙ whole_part l)) ∙ at
 
-    refused : (r : Result Reached Fault) → reached_in_part (others_of ages l) r ≡ Err f → r ≡ Err f
+    refused : (r : Result Reached Fault) → reached_in_part (is_left_out ages l) r ≡ Err f → r ≡ Err f
     refused (Ok reached) e = absurd (cc)
     refused (Err g) e = e
 
     named : are_plain lines ≡ true → applied lines (part_of ages l) ≡ Err f → applied lines l ≡ Err f
     named plain at =
-        let does : DoesWithout (others_of ages l) lines l =
+        let does : DoesWithout (is_left_out ages l) lines l =
         record { plain = plain; listed = others_listed ages l; cards = others_unnamed lines l made.sound } in
         refused (applied lines l) (sym (ap (applied lines) (part_of_others ages l made.sound)
-        ∙ applied_same (others_of ages l) lines l refl made.sound does) ∙ at)
+        ∙ applied_same (is_left_out ages l) lines l refl made.sound does) ∙ at)
 
     go : (plain : Bool) → are_plain lines ≡ plain → (yanks : Bool) → list_any (is_yank_card l) (all_named lines) ≡ yanks
         → applied lines (part_of (needed (are_plain lines) (list_any (is_yank_card l) (all_named lines))) l) ≡ Err f → applied lines l ≡ Err f

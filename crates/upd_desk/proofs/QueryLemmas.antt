@@ -12,7 +12,7 @@ use Rattle.upd_core.specs.Actives.{ActivesView}
 use Rattle.upd_core.specs.Library.{LibraryView}
 use Rattle.upd_compile.specs.Chosen.{chosen}
 use Rattle.upd_compile.specs.File.{FileView, event_fault, event_line, file_of, is_follow, is_line, walk_faults}
-use Rattle.upd_compile.specs.Walk.{Event, Line, Follow, Depth, Unknown, walk}
+use Rattle.upd_compile.specs.Walk.{WalkEvent, Line, Follow, Depth, Unknown, walk}
 use Rattle.upd_compile.specs.declared.mode.Mode.{Mode}
 use Rattle.upd_change.specs.Rows.{Rows, Shows, ShowsStates}
 use Rattle.upd_rows.specs.Keeping.{Keeps}
@@ -54,7 +54,7 @@ module _ {S : Type 0} {Image : Type 0} (is_honest is_open : S → Type 0) (image
 -- ---- compile files
 
 -- the fault of an event is no failure of a store
-event_keeps : (before : List Event) (e : Event) (k : FaultKind) → event_fault before e ≡ Some k → is_lost k ≡ false
+event_keeps : (before : List WalkEvent) (e : WalkEvent) (k : FaultKind) → event_fault before e ≡ Some k → is_lost k ≡ false
 event_keeps before (Line c) k is = go (nat_lt (count_by is_line before) MAX_COMPILE_LINES) is
   where
     go : (few : Bool) → (if few then None else Some CompileLong) ≡ Some k → is_lost k ≡ false
@@ -68,7 +68,7 @@ event_keeps before Follow k is = go (nat_lt (count_by is_follow before) MAX_CALL
 event_keeps before Depth k is = grind rules
 event_keeps before Unknown k is = grind rules
 
-first_keeps : (all : List Event) (es : List (ℕ × Event)) (k : FaultKind) (ks : List FaultKind)
+first_keeps : (all : List WalkEvent) (es : List (ℕ × WalkEvent)) (k : FaultKind) (ks : List FaultKind)
     → filter_map (λ e. event_fault (take e.0 all) e.1) es ≡ k ∷ ks → is_lost k ≡ false
 first_keeps all [] k ks is = grind rules
 first_keeps all (e ∷ es) k ks is = go (event_fault (take e.0 all) e.1) refl (first_keeps all es k ks)
@@ -85,7 +85,7 @@ pub compile_keeps : (mode : Mode) (named : List ℕ) (before after : ActivesView
     → is_lost f.kind ≡ false
 compile_keeps mode named before after f is = go (walk_faults events) refl
   where
-    events : List Event
+    events : List WalkEvent
     events = flat_map (walk MAX_DEPTH after) (chosen mode named before after)
 
     go : (ks : List FaultKind) → walk_faults events ≡ ks → is_lost f.kind ≡ false

@@ -14,7 +14,7 @@ use Rattle.upd_core.specs.Status.{status_of}
 use Rattle.upd_core.specs.TargetCounts.{live_count}
 use Rattle.upd_core.specs.Targets.{is_same}
 use Rattle.upd_core.proofs.CountedLemmas.{same_target, target_same}
-use Rattle.upd_change.specs.Rows.{IsSame, Rows, ShowsStates, count_row, same_ref, state_row}
+use Rattle.upd_change.specs.Rows.{IsSame, Rows, ShowsStates, count_rows, same_ref, state_rows}
 use Rattle.upd_change.proofs.CountLemmas.{count_filter}
 use Rattle.upd_change.proofs.GoneLemmas.{same_ref_is, same_ref_own}
 use Rattle.upd_rows.specs.Tables.{AreRead, count_pair, state_pair}
@@ -83,7 +83,7 @@ one_status card active p e =
     pair_is a b x y e f = rw (e, f) refl
 
 states_shown : (rows : Rows) (found : States) (l : LibraryView) → AreRead rows found → ShowsStates rows l
-    → (card : CardRef) → filter (λ p. same_ref card p.0) found.states.items ≡ right.status_pair card (status_of card l)
+    → (card : CardRef) → filter (λ p. same_ref card p.0) found.states.items ≡ right.status_pairs card (status_of card l)
 states_shown rows found l read shown card = go (status_of card l) (shown.states card)
   where
     test : CardRef × Bool → Bool
@@ -92,7 +92,7 @@ states_shown rows found l read shown card = go (status_of card l) (shown.states 
     made : filter test (map state_pair rows.states) ≡ map state_pair (filter (λ r. same_ref card r.card) rows.states)
     made = filter_made test state_pair rows.states
 
-    go : (s : Option Bool) → filter (λ r. same_ref card r.card) rows.states ≡ state_row card s → filter test found.states.items ≡ right.status_pair card s
+    go : (s : Option Bool) → filter (λ r. same_ref card r.card) rows.states ≡ state_rows card s → filter test found.states.items ≡ right.status_pairs card s
     go None e = none_passes test found.states.items (map state_pair rows.states) read.states (made ∙ ap (map state_pair) e)
     go (Some active) e =
         one_passes test found.states.items (map state_pair rows.states) read.states (is_status card active) (card, active)
@@ -118,7 +118,7 @@ one_count target n p e =
     pair_is a b x y e f = rw (e, f) refl
 
 counts_shown : (rows : Rows) (found : States) (l : LibraryView) → AreRead rows found → ShowsStates rows l
-    → (target : Target) → filter (λ p. is_same target p.0) found.counts.items ≡ right.count_pair target (live_count l target)
+    → (target : Target) → filter (λ p. is_same target p.0) found.counts.items ≡ right.count_pairs target (live_count l target)
 counts_shown rows found l read shown target = go (live_count l target) (live_count l target == 0) refl (shown.counts target)
   where
     test : Target × ℕ → Bool
@@ -127,16 +127,16 @@ counts_shown rows found l read shown target = go (live_count l target) (live_cou
     made : filter test (map count_pair rows.counts) ≡ map count_pair (filter (λ r. is_same target r.target) rows.counts)
     made = filter_made test count_pair rows.counts
 
-    go : (n : ℕ) (b : Bool) → (n == 0) ≡ b → filter (λ r. is_same target r.target) rows.counts ≡ count_row target n
-        → filter test found.counts.items ≡ right.count_pair target n
+    go : (n : ℕ) (b : Bool) → (n == 0) ≡ b → filter (λ r. is_same target r.target) rows.counts ≡ count_rows target n
+        → filter test found.counts.items ≡ right.count_pairs target n
     go n true is e = rw is (none_passes test found.counts.items (map count_pair rows.counts) read.counts (made ∙ ap (map count_pair) (e ∙ row)))
       where
-        row : count_row target n ≡ []
+        row : count_rows target n ≡ []
         row = rw is refl
     go n false is e = rw is (one_passes test found.counts.items (map count_pair rows.counts) read.counts (is_count target n) (target, n)
         (own_count target n) (one_count target n) (made ∙ ap (map count_pair) (e ∙ row)))
       where
-        row : count_row target n ≡ record { target = target; n = n } ∷ []
+        row : count_rows target n ≡ record { target = target; n = n } ∷ []
         row = rw is refl
 
 -- what was read shows the statuses of the library whose statuses the tables show

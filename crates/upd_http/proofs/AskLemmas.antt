@@ -4,7 +4,7 @@ use Rattle.std.proofs.Common.{sym, ap, ◌∙◌}
 use Rattle.std.specs.Result.{result_map_both}
 use Rattle.upd_text.specs.declared.fault.Fault.{Fault}
 use Rattle.upd_http.specs.Responses.{Response, fault_response, response_of}
-use Rattle.upd_http.specs.Serving.{IsAnswer, no_memory}
+use Rattle.upd_http.specs.Serving.{AnswersTold, no_memory}
 use Rattle.upd_http.specs.Views.{answer_seen, response}
 use Rattle.upd_http.specs.declared.answer.Answer.{Answer}
 
@@ -13,14 +13,14 @@ ok_is_no_err is = cc
 
 -- an answer that was told
 pub answered_told : {A : Type 0} (f : A → Response) (result : Result A Fault) (x : A) (answer : Response) → result ≡ Ok x → answer ≡ f x
-    → IsAnswer (result_map_both f (λ fault. fault) result) (Ok answer)
+    → AnswersTold (result_map_both f (λ fault. fault) result) (Ok answer)
 answered_told f result x answer is same =
     inl (ap Ok (same ∙ sym (ap (λ r. response_of (result_map_both f (λ fault. fault) r)) is)))
 
 -- a fault that was told, or want of memory for its text
 pub answered_fault : {A : Type 0} (f : A → Response) (result : Result A Fault) (fault : Fault) (answer : Result Answer Fault) → result ≡ Err fault
     → IfOk answer (λ a. response a ≡ fault_response fault) → IfErr answer (λ e. e ≡ no_memory)
-    → IsAnswer (result_map_both f (λ e. e) result) (answer_seen answer)
+    → AnswersTold (result_map_both f (λ e. e) result) (answer_seen answer)
 answered_fault f result fault (Ok a) is ok err =
     inl (ap Ok (ok ∙ sym (ap (λ r. response_of (result_map_both f (λ e. e) r)) is)))
 answered_fault {A = A} f result fault (Err e) is ok err = inr (fails result is, ap Err err)

@@ -11,7 +11,7 @@ use Rattle.upd_text.specs.declared.fault.Fault.{Fault}
 use Rattle.upd_text.specs.declared.fault.FaultKind.TheVariants.{BadSite, BadNumber}
 use Rattle.upd_http.specs.Owed.{owed}
 use Rattle.upd_http.specs.Responses.{Response, mark_response, page, reply_response}
-use Rattle.upd_http.specs.Serving.{Does, TellsMark}
+use Rattle.upd_http.specs.Serving.{DoesAsAsked, IsMarkResponse}
 
 -- what is owed, seen another way
 owed_as : {A : Type 0} (f : A → Response) (due result : Result A Fault) (told : Result Response Fault) → IsOwed due result
@@ -42,7 +42,7 @@ site_of journal site n m is = by (is_site site) refl is
     by false e is = absurd (err_is_ok is)
 
 mark_owed : (journal : Journal) (site : List ℕ) (n : ℕ) (result : Result ℕ Fault) (told : Result Response Fault) → IsOwed (mark_after journal site n) result
-    → TellsMark site result told → IsOwed (result_map_both (mark_response site) (λ fault. fault) (mark_after journal site n)) told
+    → IsMarkResponse site result told → IsOwed (result_map_both (mark_response site) (λ fault. fault) (mark_after journal site n)) told
 mark_owed journal site n (Ok m) told is (body, same, text) =
     let whole : told ≡ Ok (mark_response site m) =
     same ∙ ap (λ b. Ok (record (mark_response site m) { body = b })) (text (site_of journal site n m is)) in
@@ -51,7 +51,7 @@ mark_owed journal site n (Err fault) told is same = owed_as (mark_response site)
 
 module _ {S : Type 0} {Image : Type 0} (is_honest is_open : S → Type 0) (image : S → Image) (shows : Image → Rows → Type 0)
     (may_leave : S → Image → Type 0) (failures : S → ℕ) where
-  pub told_is_owed : (asked : Asked) (told : Result Response Fault) (old new : S) → Does is_honest is_open image shows may_leave failures asked told old new
+  pub told_is_owed : (asked : Asked) (told : Result Response Fault) (old new : S) → DoesAsAsked is_honest is_open image shows may_leave failures asked told old new
       → is_honest new → (journal : Journal) → (is_open old → HoldsIn shows journal (image old)) → IsOwed (owed journal asked) told
   told_is_owed (run site number mode bytes) told old new (result, arrives, fails, same) honest journal holds =
       owed_as reply_response _ result told (arrives.answers honest journal holds) same

@@ -36,21 +36,21 @@ abbrev pub Made : Type 0
 Made = Option (Asked × Result Response Fault)
 
 -- what was told is answered, or memory is wanting for the text of a fault
-abbrev pub IsAnswer : Result Response Fault → Result Response Fault → Type 0
-IsAnswer told answer = (answer ≡ Ok (response_of told)) ⊎ (IsErr told × (answer ≡ Err no_memory))
+abbrev pub AnswersTold : Result Response Fault → Result Response Fault → Type 0
+AnswersTold told answer = (answer ≡ Ok (response_of told)) ⊎ (IsErr told × (answer ≡ Err no_memory))
 
 -- what was made of a question, and its answer: what was told is answered, or nothing was asked for want of memory
 abbrev pub IsAsked : Asked → Made → Result Response Fault → Type 0
 IsAsked asked made answer =
-    ((told : Result Response Fault) × (made ≡ Some (asked, told)) × IsAnswer told answer) ⊎ ((made ≡ None) × (answer ≡ Err no_memory))
+    ((told : Result Response Fault) × (made ≡ Some (asked, told)) × AnswersTold told answer) ⊎ ((made ≡ None) × (answer ≡ Err no_memory))
 
 -- ---- the desk
 
 -- a mark is told by its text, as far as the site is one: of another the desk has no mark
-abbrev pub TellsMark : List ℕ → Result ℕ Fault → Result Response Fault → Type 0
-TellsMark site (Ok mark) told = (body : List ℕ) × (told ≡ Ok (record (mark_response site mark) { body = body }))
+abbrev pub IsMarkResponse : List ℕ → Result ℕ Fault → Result Response Fault → Type 0
+IsMarkResponse site (Ok mark) told = (body : List ℕ) × (told ≡ Ok (record (mark_response site mark) { body = body }))
     × (IsTrue (is_site site) → body ≡ settled_text site mark)
-TellsMark site (Err fault) told = told ≡ Err fault
+IsMarkResponse site (Err fault) told = told ≡ Err fault
 
 module _ {S : Type 0} {Image : Type 0} (is_honest is_open : S → Type 0) (image : S → Image) (shows : Image → Rows → Type 0)
     (may_leave : S → Image → Type 0) (failures : S → ℕ) where
@@ -66,24 +66,24 @@ module _ {S : Type 0} {Image : Type 0} (is_honest is_open : S → Type 0) (image
       × (told ≡ result_map_both (λ x. page (bytes x)) (λ fault. fault) result)
 
   -- The desk was asked this and told so, and its store went from the one to the other.
-  abbrev pub Does : Asked → Result Response Fault → S → S → Type 0
-  Does (run site number mode bytes) told old new =
+  abbrev pub DoesAsAsked : Asked → Result Response Fault → S → S → Type 0
+  DoesAsAsked (run site number mode bytes) told old new =
       (result : Result ReplyView Fault)
       × Arrives is_honest is_open image shows may_leave failures (record { site = site; number = number; mode = mode; bytes = bytes }) result old new
       × CountsFailure result old new × (told ≡ result_map_both reply_response (λ fault. fault) result)
-  Does (settle site number) told old new =
+  DoesAsAsked (settle site number) told old new =
       (result : Result ℕ Fault) × Settles is_honest is_open image shows may_leave failures site number result old new
-      × CountsFailure result old new × TellsMark site result told
-  Does compile told old new = Queries (λ l. compile_file_of Full [] l l) (λ file. file.bytes) told old new
-  Does (deck name) told old new = Queries (deck_listing name) (λ text. text) told old new
-  Does (card c) told old new = Queries (card_listing c) (λ text. text) told old new
-  Does idents told old new = Queries (λ l. Ok (ident_listing l)) (λ text. text) told old new
-  Does yanks told old new = Queries (λ l. Ok (yank_listing l)) (λ text. text) told old new
+      × CountsFailure result old new × IsMarkResponse site result told
+  DoesAsAsked compile told old new = Queries (λ l. compile_file_of Full [] l l) (λ file. file.bytes) told old new
+  DoesAsAsked (deck name) told old new = Queries (deck_listing name) (λ text. text) told old new
+  DoesAsAsked (card c) told old new = Queries (card_listing c) (λ text. text) told old new
+  DoesAsAsked idents told old new = Queries (λ l. Ok (ident_listing l)) (λ text. text) told old new
+  DoesAsAsked yanks told old new = Queries (λ l. Ok (yank_listing l)) (λ text. text) told old new
 
   -- what was made of a request led the store from the one to the other
   abbrev pub Leads : Made → S → S → Type 0
   Leads None old new = new ≡ old
-  Leads (Some (asked, told)) old new = Does asked told old new
+  Leads (Some (asked, told)) old new = DoesAsAsked asked told old new
 
   -- requests one after the other, the latest first, led it from the one to the other
   abbrev pub LeadsThrough : List Made → S → S → Type 0
@@ -102,10 +102,10 @@ IsFailed answer = (answer ≡ Ok (fault_response no_memory)) ⊎ ((answer ≡ Er
 
 -- The answer to a request, or the fault that says why there is none: a refused request asks nothing of the desk, another one asks what it
 -- says and is answered what the desk told.
-abbrev pub Answers : List ℕ → Made → Result Response Fault → Type 0
-Answers input made answer =
+abbrev pub AnswersRequest : List ℕ → Made → Result Response Fault → Type 0
+AnswersRequest input made answer =
     ((refusal : Refusal) × Says input (Err refusal) × (made ≡ None) × (answer ≡ refusal_answer refusal))
-    ⊎ (((asked : Asked) × (told : Result Response Fault) × Says input (Ok asked) × (made ≡ Some (asked, told)) × IsAnswer told answer)
+    ⊎ (((asked : Asked) × (told : Result Response Fault) × Says input (Ok asked) × (made ≡ Some (asked, told)) × AnswersTold told answer)
     ⊎ ((made ≡ None) × IsFailed answer))
 
 -- ---- what is written

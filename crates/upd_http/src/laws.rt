@@ -7,7 +7,7 @@ ghost use Rattle.upd_request.specs.Calls.{Asked};
 ghost use Rattle.upd_text.specs.declared.fault.Fault.{Fault};
 ghost use Rattle.upd_http.specs.Owed.{owed};
 ghost use Rattle.upd_http.specs.Responses.{Response};
-ghost use Rattle.upd_http.specs.Serving.{Does};
+ghost use Rattle.upd_http.specs.Serving.{DoesAsAsked};
 
 use upd_rows::RowStore;
 
@@ -16,7 +16,7 @@ use upd_rows::RowStore;
 /// the store.
 pub fn answers_are_owed<S: RowStore>()
     ensures { (asked : Asked) (told : Result Response Fault) (old new : S)
-        → Does S.is_honest S.is_open S.image S.shows S.may_leave S.failures_of asked told old new → S.is_honest new
+        → DoesAsAsked S.is_honest S.is_open S.image S.shows S.may_leave S.failures_of asked told old new → S.is_honest new
         → (journal : Journal) → (S.is_open old → HoldsIn S.shows journal (S.image old))
         → IsOwed (owed journal asked) told }
 {}

@@ -26,7 +26,7 @@ use Rattle.upd_apply.specs.declared.state.Spot.TheVariants.{Nowhere, End, Inside
 use Rattle.upd_apply.specs.declared.state.State.{State}
 use Rattle.upd_apply.specs.Applying.{Reached, started, stepped, applied}
 use Rattle.upd_apply.specs.Compile.{named_decks}
-use Rattle.upd_apply.specs.Step.{new_name, set_begun, deck_begun, placed_after, placed_before, switched, text_put, yank_put, is_deck_card, done, step}
+use Rattle.upd_apply.specs.Step.{new_name, set_begun, deck_begun, placed_after, placed_before, switched, text_put, yank_put, is_deck_card, line_done, step}
 use Rattle.upd_apply.specs.Yanks.{sets_yanked, pairs_yanked, decks_yanked}
 use Rattle.upd_apply.proofs.StepLemmas.{after_grown}
 use Rattle.upd_laws.specs.PurgingBack.{is_purge, purges_nothing, all_applied}
@@ -138,7 +138,7 @@ yank_put_next x text targets s r =
 
 -- ---- lines
 
-done_next : (x : ℕ) (item : ItemView) (text : List ℕ) (s : State) → Ready x s → is_purge item ≡ false → IfOk (done item text s) (Next x s)
+done_next : (x : ℕ) (item : ItemView) (text : List ℕ) (s : State) → Ready x s → is_purge item ≡ false → IfOk (line_done item text s) (Next x s)
 done_next x Text text s r no_purge = text_put_next x text s r s.spot r.spot
 done_next x (Call name) text s r no_purge = text_put_next x text s r s.spot r.spot
 done_next x (Ident name) text s r no_purge = set_begun_next x name s r

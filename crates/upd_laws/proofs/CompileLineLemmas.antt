@@ -27,7 +27,7 @@ use Rattle.upd_deck.proofs.GrammarNames.{all_of}
 use Rattle.upd_compile.specs.declared.mode.Mode.{Mode}
 use Rattle.upd_compile.specs.Chosen.{chosen}
 use Rattle.upd_compile.specs.File.{FileView, blanks, card_line, compile_file_of, event_line, from_left, from_right, is_line, walk_faults, written}
-use Rattle.upd_compile.specs.Walk.{Event, Line, Follow, Depth, Unknown, card_events, common_named, deck_aged, call_events, text_cards, walk}
+use Rattle.upd_compile.specs.Walk.{WalkEvent, Line, Follow, Depth, Unknown, card_events, common_named, deck_aged, call_events, text_cards, walk}
 use Rattle.upd_laws.specs.ReadRuns.{IsMadeByRuns, IsOfRun}
 use Rattle.upd_laws.proofs.SoundListLemmas.{and_left, and_right, all_append, all_each, all_filter, all_flat, all_map, all_weaker}
 use Rattle.upd_laws.proofs.SoundCardLemmas.{flat}
@@ -54,21 +54,21 @@ line_length idents c fits =
 -- ---- the lines of a walk
 
 -- each line of an event is of a card of which a fact holds
-abbrev IsOfLines : (ActiveCardView → Type 0) → Event → Type 0
+abbrev IsOfLines : (ActiveCardView → Type 0) → WalkEvent → Type 0
 IsOfLines P (Line c) = P c
 IsOfLines P Follow = Unit {0}
 IsOfLines P Depth = Unit {0}
 IsOfLines P Unknown = Unit {0}
 
-walk_length : (idents : List Ident) (events : List Event) → AllByRecursion (IsOfLines (FitsColumns idents)) events
+walk_length : (idents : List Ident) (events : List WalkEvent) → AllByRecursion (IsOfLines (FitsColumns idents)) events
     → length (flat_map (event_line idents) events) ≡ 97 * count_by is_line events
 walk_length idents [] fit = refl
 walk_length idents (event ∷ events) fit = go event fit.0 (walk_length idents events fit.1)
   where
-    one : Event → ℕ
+    one : WalkEvent → ℕ
     one e = cond (is_line e) 1 0
 
-    go : (e : Event) → IsOfLines (FitsColumns idents) e → length (flat_map (event_line idents) events) ≡ 97 * count_by is_line events
+    go : (e : WalkEvent) → IsOfLines (FitsColumns idents) e → length (flat_map (event_line idents) events) ≡ 97 * count_by is_line events
         → length (flat_map (event_line idents) (e ∷ events)) ≡ 97 * count_by is_line (e ∷ events)
     go (Line c) fits rest =
         let a = length-append (card_line idents c) (flat_map (event_line idents) events) in
@@ -99,7 +99,7 @@ found_of P a name d all e = go (held_named name a.idents) e
     go None f = absurd (cc)
     go (Some i) f = found (is_common i.kind) i.age f
 
-each_of : (P : ActiveCardView → Type 0) (given : ActiveCardView → List Event) (cards : List ActiveCardView)
+each_of : (P : ActiveCardView → Type 0) (given : ActiveCardView → List WalkEvent) (cards : List ActiveCardView)
     → ((c : ActiveCardView) → P c → AllByRecursion (IsOfLines P) (given c)) → AllByRecursion P cards
     → AllByRecursion (IsOfLines P) (flat_map given cards)
 each_of P given cards k all = all_flat (IsOfLines P) given cards (all_weaker P (λ c. AllByRecursion (IsOfLines P) (given c)) cards k all)
@@ -132,7 +132,7 @@ walk_of P levels a decks all chosen =
 
 -- the events that a compile file is written from
 pub record IsWrittenFrom (P : ActiveCardView → Type 0) (idents : List Ident) (file : FileView) : Type 0 where
-  pub events : List Event
+  pub events : List WalkEvent
   pub lines : AllByRecursion (IsOfLines P) events
   pub written : file ≡ record { bytes = flat_map (event_line idents) events; lines = count_by is_line events }
 
@@ -192,7 +192,7 @@ file_from P mode named before after file k made h =
     decks : List ActiveDeckView
     decks = chosen mode named (actives_of before) (actives_of after)
 
-    go : (events : List Event) → AllByRecursion (IsOfLines P) events → written after.idents events ≡ Ok file → IsWrittenFrom P after.idents file
+    go : (events : List WalkEvent) → AllByRecursion (IsOfLines P) events → written after.idents events ≡ Ok file → IsWrittenFrom P after.idents file
     go events are h = by_faults (walk_faults events) refl
       where
         by_faults : (faults : List FaultKind) → walk_faults events ≡ faults → IsWrittenFrom P after.idents file
@@ -277,13 +277,13 @@ line_plain idents c plain =
     (all_append IsFileByte (from_left 80 c.text ++ 32 ∷ from_left 9 (name_of idents c.ident)) (from_right 6 (decimal c.number))
     (all_append IsFileByte (from_left 80 c.text) (32 ∷ from_left 9 (name_of idents c.ident)) text (refl, name)) digits) (refl, tt)
 
-events_plain : (idents : List Ident) (events : List Event) → AllByRecursion (IsOfLines (IsPlain idents)) events
+events_plain : (idents : List Ident) (events : List WalkEvent) → AllByRecursion (IsOfLines (IsPlain idents)) events
     → AllByRecursion IsFileByte (flat_map (event_line idents) events)
 events_plain idents [] are = tt
 events_plain idents (event ∷ events) are =
     all_append IsFileByte (event_line idents event) _ (one event are.0) (events_plain idents events are.1)
   where
-    one : (e : Event) → IsOfLines (IsPlain idents) e → AllByRecursion IsFileByte (event_line idents e)
+    one : (e : WalkEvent) → IsOfLines (IsPlain idents) e → AllByRecursion IsFileByte (event_line idents e)
     one (Line c) plain = line_plain idents c plain
     one Follow plain = tt
     one Depth plain = tt

@@ -28,7 +28,7 @@ use Rattle.upd_apply.specs.declared.state.Spot.{Spot}
 use Rattle.upd_apply.specs.declared.state.Spot.TheVariants.{Nowhere, End, Inside}
 use Rattle.upd_apply.specs.declared.state.State.{State}
 use Rattle.upd_apply.specs.Applying.{Reached, applied, started, stepped}
-use Rattle.upd_apply.specs.Step.{done, step, new_name, set_begun, deck_begun, is_deck_card, placed_after, placed_before, switched, text_put, yank_put, ended}
+use Rattle.upd_apply.specs.Step.{line_done, step, new_name, set_begun, deck_begun, is_deck_card, placed_after, placed_before, switched, text_put, yank_put, ended}
 use Rattle.upd_apply.specs.Step.{purged_in_all}
 use Rattle.upd_apply.specs.Purges.{AgesIn}
 use Rattle.upd_apply.specs.Yanks.{sets_yanked, pairs_yanked, decks_yanked}
@@ -242,7 +242,7 @@ ended_made : (k : ℕ) (l : LibraryView) → IsMadeByRuns l → IsMade k (ended 
 ended_made k l made = record { library = made; hand = tt; spot = tt }
 
 done_made : (k : ℕ) (item : ItemView) (text : List ℕ) (s t : State) → 0 < k → k ≤ MAX_RUN_LINES → IsLineText text → BringsName item → IsMade k s
-    → done item text s ≡ Ok t
+    → line_done item text s ≡ Ok t
     → IsMade (k + 1) t
 done_made k Text text s t some few fits named made h = text_made k text s t s.spot refl few fits made h
 done_made k (Call name) text s t some few fits named made h = text_made k text s t s.spot refl few fits made h

@@ -19,7 +19,7 @@ use Rattle.upd_deck.specs.Items.{PurgeFrom, SelPurge, PurDeck, Compile}
 use Rattle.upd_apply.specs.declared.state.Spot.{Spot}
 use Rattle.upd_apply.specs.declared.state.Spot.TheVariants.{Nowhere, End, Inside}
 use Rattle.upd_apply.specs.declared.state.State.{State}
-use Rattle.upd_apply.specs.Step.{done, step, new_name, deck_begun, is_deck_card, switched, text_put, yank_put, purged_in_all}
+use Rattle.upd_apply.specs.Step.{line_done, step, new_name, deck_begun, is_deck_card, switched, text_put, yank_put, purged_in_all}
 use Rattle.upd_apply.specs.Names.{known_ident}
 use Rattle.upd_apply.specs.Yanks.{sets_yanked, pairs_yanked, decks_yanked}
 use Rattle.upd_apply.specs.Purges.{AgesIn, idents_purged, decks_purged, pairs_purged}
@@ -102,7 +102,7 @@ switched_leads Q active first last s t leads h =
     }) s.library) within (entries_go p.deck p.index q.index (record { ident = hand.ident; active = active }) s.library)
     (rest_with p.deck (entered_range p.index q.index (record { ident = hand.ident; active = active })) s.library))))))))
 
-done_leads : (Q : LibraryView → Type 0) (item : ItemView) (text : List ℕ) (s t : State) → Leads Q s.library → done item text s ≡ Ok t → Q t.library
+done_leads : (Q : LibraryView → Type 0) (item : ItemView) (text : List ℕ) (s t : State) → Leads Q s.library → line_done item text s ≡ Ok t → Q t.library
 done_leads Q Text text s t leads h = text_leads Q text s.spot s t leads h
 done_leads Q (Call name) text s t leads h = text_leads Q text s.spot s t leads h
 done_leads Q (Ident name) text s t leads h =

@@ -6,7 +6,7 @@ use Rattle.upd_text.specs.declared.fault.FaultKind.{FaultKind}
 use Rattle.upd_core.specs.Library.{LibraryView}
 use Rattle.upd_core.specs.Limits.{is_within_limits}
 use Rattle.upd_text.specs.Outcome.{◌>>=◌, each, need, refuse_if}
-use Rattle.upd_apply.specs.Step.{grown}
+use Rattle.upd_apply.specs.Step.{within_limits}
 use Rattle.upd_laws.proofs.SoundListLemmas.{all_append}
 
 pub through : {A B E : Type 0} (r : Result A E) (f : A → Result B E) (y : B) (P : Type 0) → r >>= f ≡ Ok y → ((x : A) → r ≡ Ok x → f x ≡ Ok y → P) → P
@@ -28,7 +28,7 @@ through_refusal false fault f y P h k = k refl h
 through_refusal true fault f y P h k = absurd (cc)
 
 -- what has grown is within the limits
-pub through_limits : {B : Type 0} (l : LibraryView) (f : LibraryView → Result B FaultKind) (y : B) (P : Type 0) → grown l >>= f ≡ Ok y
+pub through_limits : {B : Type 0} (l : LibraryView) (f : LibraryView → Result B FaultKind) (y : B) (P : Type 0) → within_limits l >>= f ≡ Ok y
     → (is_within_limits l ≡ true → f l ≡ Ok y → P) → P
 through_limits {B} l f y P h k = go (is_within_limits l) refl
   where
@@ -36,7 +36,7 @@ through_limits {B} l f y P h k = go (is_within_limits l) refl
     go true e = k e (rw e at h)
     go false e = absurd (let bad = rw e at h in cc)
 
-pub through_grown : {B : Type 0} (l : LibraryView) (f : LibraryView → Result B FaultKind) (y : B) (P : Type 0) → grown l >>= f ≡ Ok y → (f l ≡ Ok y → P) → P
+pub through_grown : {B : Type 0} (l : LibraryView) (f : LibraryView → Result B FaultKind) (y : B) (P : Type 0) → within_limits l >>= f ≡ Ok y → (f l ≡ Ok y → P) → P
 through_grown l f y P h k = through_limits l f y P h (λ within e. k e)
 
 -- what holds of a value holds of what comes of it

@@ -16,7 +16,7 @@ use Rattle.upd_apply.specs.declared.state.Spot.TheVariants.{End}
 use Rattle.upd_apply.specs.declared.state.State.{State}
 use Rattle.upd_apply.specs.Applying.{Reached, applied, started, stepped}
 use Rattle.upd_apply.specs.Compile.{named_decks}
-use Rattle.upd_apply.specs.Step.{done, step, purged_in_all}
+use Rattle.upd_apply.specs.Step.{line_done, step, purged_in_all}
 use Rattle.upd_apply.specs.Names.{known_ident}
 use Rattle.upd_apply.specs.Yanks.{sets_yanked, pairs_yanked, decks_yanked}
 use Rattle.upd_apply.specs.Purges.{idents_purged, decks_purged, pairs_purged}
@@ -31,7 +31,7 @@ use Rattle.upd_laws.proofs.SoundStepLemmas.{purged_in_all_sound, ended_sound}
 
 -- ---- a line
 
-done_sound : (item : ItemView) (text : List ℕ) (s t : State) → IsSoundState s → done item text s ≡ Ok t → IsSoundState t
+done_sound : (item : ItemView) (text : List ℕ) (s t : State) → IsSoundState s → line_done item text s ≡ Ok t → IsSoundState t
 done_sound Text text s t sound h = put_sound text s t sound h
 done_sound (Call name) text s t sound h = put_sound text s t sound h
 done_sound (Ident name) text s t sound h = set_sound name s t sound h

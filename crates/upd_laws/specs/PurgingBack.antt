@@ -33,8 +33,8 @@ all_applied (run ∷ runs) l = do
   all_applied runs reached.library
 
 -- runs that purge nothing and are all accepted lead from one library to another
-abbrev pub LeadTo : List (List LineView) → LibraryView → LibraryView → Type 0
-LeadTo runs before after = IsTrue (list_all purges_nothing runs) × (all_applied runs before ≡ Ok after)
+abbrev pub LeadWithoutPurge : List (List LineView) → LibraryView → LibraryView → Type 0
+LeadWithoutPurge runs before after = IsTrue (list_all purges_nothing runs) × (all_applied runs before ≡ Ok after)
 
 -- ---- growth by idents that are new
 

@@ -6,18 +6,18 @@ ghost use Rattle.upd_core.specs.Library.{LibraryView};
 ghost use Rattle.upd_core.specs.Sound.{IsSound};
 ghost use Rattle.upd_core.specs.Status.{status_of};
 ghost use Rattle.upd_deck.specs.Items.{LineView};
-ghost use Rattle.upd_laws.specs.PurgingBack.{IsAgain, IsGrown, LeadTo};
+ghost use Rattle.upd_laws.specs.PurgingBack.{IsAgain, IsGrown, LeadWithoutPurge};
 
 /// Runs that purge nothing only add: all cards stay, in their order, with their histories, and what comes is of the
 /// idents that come.
 pub fn runs_only_add()
-    ensures { (runs : List (List LineView)) (before after : LibraryView) → LeadTo runs before after
+    ensures { (runs : List (List LineView)) (before after : LibraryView) → LeadWithoutPurge runs before after
         → IsGrown before after }
 {}
 
 /// Runs that purge nothing and introduce no ident change nothing.
 pub fn runs_without_idents_change_nothing()
-    ensures { (runs : List (List LineView)) (before after : LibraryView) → LeadTo runs before after
+    ensures { (runs : List (List LineView)) (before after : LibraryView) → LeadWithoutPurge runs before after
         → length after.idents ≡ length before.idents
         → after ≡ before }
 {}
@@ -26,9 +26,9 @@ pub fn runs_without_idents_change_nothing()
 /// status of each card.
 pub fn purging_back_undoes_runs()
     ensures again { (runs : List (List LineView)) (before after : LibraryView) → IsSound before
-        → LeadTo runs before after
+        → LeadWithoutPurge runs before after
         → IsAgain before (purged_back (next_age before) after) }
     ensures statuses { (runs : List (List LineView)) (before after : LibraryView) → IsSound before
-        → LeadTo runs before after
+        → LeadWithoutPurge runs before after
         → (card : CardRef) → status_of card (purged_back (next_age before) after) ≡ status_of card before }
 {}

@@ -16,7 +16,7 @@ use Rattle.sqlite.specs.State.{State, Executes}
 use Rattle.sqlite.proofs.Callers.{command_of, runs_as}
 use Rattle.upd_change.specs.Rows.{Rows}
 use Rattle.upd_tables.specs.Keyed.{plain_query}
-use Rattle.upd_tables.specs.Stored.{Holds}
+use Rattle.upd_tables.specs.Stored.{HoldsAllRows}
 use Rattle.upd_tables.proofs.Shapes.{creates, cast_int}
 use Rattle.upd_tables.proofs.Tests.{eq_text, one_test}
 use Rattle.upd_sql.specs.Encoded.{stored, version_row}
@@ -29,11 +29,11 @@ use Rattle.upd_migrate.specs.Older.{HasTables, version_row_of}
 
 -- the next table is made, and the others have their rows
 pub next_made : (n : ℕ) (sql : List ℕ) → MakesNext n sql → (all : List (List Row)) (old new : State) (count : ℕ) → Executes sql [] old new (Ok count)
-    → Holds (schema_up_to n) all old.now
-    → Holds (schema_up_to (n + 1)) (all ++ [] ∷ []) new.now
+    → HoldsAllRows (schema_up_to n) all old.now
+    → HoldsAllRows (schema_up_to (n + 1)) (all ++ [] ∷ []) new.now
 next_made n sql m all old new count ran h =
     let w = runs_as sql [] old new (schema_up_to n) h.schema_is _ m.is m.plain count ran in
-    subst (λ s. Holds s (all ++ [] ∷ []) new.now) m.next (creates (schema_up_to n) m.table old new all _ [] count m.defined m.lacks h w)
+    subst (λ s. HoldsAllRows s (all ++ [] ∷ []) new.now) m.next (creates (schema_up_to n) m.table old new all _ [] count m.defined m.lacks h w)
 
 abbrev pub set_version : List ℕ
 set_version = codes "UPDATE meta SET v = 3 WHERE k = 'version'"

@@ -12,7 +12,7 @@ use Rattle.upd_change.specs.States.{tells_state}
 use Rattle.upd_change.proofs.FitLemmas.{states_fit}
 use Rattle.upd_rows.specs.Assembling.{AreRowsOf}
 use Rattle.upd_rows.specs.declared.rows.LibraryRows.{LibraryRows}
-use Rattle.upd_tables.specs.Stored.{Holds}
+use Rattle.upd_tables.specs.Stored.{HoldsAllRows}
 use Rattle.upd_tables.specs.Steps.{Makes}
 use Rattle.upd_tables.proofs.Chains.{clean_before, steps_then}
 use Rattle.upd_sql.specs.Commits.{Looks}
@@ -49,11 +49,11 @@ states_filled l library it cs old mid new rows (Err e) lib looks assembles tells
 
 -- a file of the first version is filled once it is completed
 pub first_filled : (l : LibraryView) (it : Rows) (old mid new : State) {X Y : Type 0} (x : X) (r : Result Y Error)
-    → Leads {X = X} (Holds (schema_of First) (stored_in First it)) (Stands (completed First it)) old mid (Ok x)
+    → Leads {X = X} (HoldsAllRows (schema_of First) (stored_in First it)) (Stands (completed First it)) old mid (Ok x)
     → Leads (Stands (completed First it)) (StandsAfter (IsFilled l (completed First it))) mid new r
-    → Leads (Holds (schema_of First) (stored_in First it)) (StandsAfter (IsMigrated First l it)) old new r
+    → Leads (HoldsAllRows (schema_of First) (stored_in First it)) (StandsAfter (IsMigrated First l it)) old new r
 first_filled l it old mid new x r complete fill =
-    leads_then (Holds (schema_of First) (stored_in First it)) (Stands (completed First it)) (StandsAfter (IsMigrated First l it)) old mid new x r complete fill
+    leads_then (HoldsAllRows (schema_of First) (stored_in First it)) (Stands (completed First it)) (StandsAfter (IsMigrated First l it)) old mid new x r complete fill
 
 -- rows of a library, without statuses, counts and settled marks
 pub bare_rows : (l : LibraryView) (it : Rows) → AreLibraryRows l it → AreLibraryRows l (completed First it)

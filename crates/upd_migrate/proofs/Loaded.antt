@@ -5,7 +5,7 @@ use Rattle.upd_change.specs.Rows.{Rows}
 use Rattle.upd_order.specs.Rising.{TablesRise}
 use Rattle.upd_rows.specs.Assembling.{AreRowsOf}
 use Rattle.upd_rows.specs.declared.rows.LibraryRows.{LibraryRows}
-use Rattle.upd_tables.specs.Stored.{Holds}
+use Rattle.upd_tables.specs.Stored.{HoldsAllRows}
 use Rattle.upd_tables.proofs.Chains.{clean_before}
 use Rattle.upd_tables.proofs.Frames.{held}
 use Rattle.upd_sql.specs.Commits.{Looks}
@@ -25,13 +25,13 @@ as_they_were Third it rows h = h
 -- tables of the last commit stand in a transaction that has begun
 pub begun_holds : (version : Version) (it : Rows) (old : State) → (IsTrue old.is_open → TablesRise old.now)
     → (IsTrue old.is_open → old.now ≡ old.committed) → IsTrue old.is_open → ShowsAs version it old.committed
-    → Holds (schema_of version) (stored_in version it) old.now
+    → HoldsAllRows (schema_of version) (stored_in version it) old.now
 begun_holds version it old rise settled o shown =
     held (schema_of version) (stored_in version it) old.now (rise o) (subst (ShowsAs version it) (sym (settled o)) shown)
 
 pub read_rows : (version : Version) (it : Rows) (old mid last : State) {X : Type 0} (x : X) (rows : LibraryRows) → (IsTrue old.is_open → TablesRise old.now)
     → (IsTrue old.is_open → old.now ≡ old.committed)
-    → Leads {X = X} (Holds (schema_of version) (stored_in version it)) (Stands (completed version it)) (record old { in_transaction = true }) mid (Ok x)
+    → Leads {X = X} (HoldsAllRows (schema_of version) (stored_in version it)) (Stands (completed version it)) (record old { in_transaction = true }) mid (Ok x)
     → Looks AreRowsOf mid last (Ok rows) → HasCleanDisk last → ShowsAs version it old.committed → AreRowsOf it rows
 read_rows version it old mid last x rows rise settled leads looks clean shown =
     let early = clean_before mid last _ looks.steps.survives clean in

@@ -5,7 +5,7 @@ use Rattle.sqlite.proofs.StateLemmas.{survives_then}
 use Rattle.upd_core.specs.Library.{LibraryView}
 use Rattle.upd_change.specs.Rows.{Rows}
 use Rattle.upd_order.specs.Rising.{TablesRise}
-use Rattle.upd_tables.specs.Stored.{Holds}
+use Rattle.upd_tables.specs.Stored.{HoldsAllRows}
 use Rattle.upd_tables.specs.Steps.{Steps}
 use Rattle.upd_tables.proofs.Chains.{clean_before}
 use Rattle.upd_tables.proofs.Frames.{showing}
@@ -22,7 +22,7 @@ use Rattle.upd_migrate.proofs.Versions.{one_version}
 
 module _ (version : Version) (old last end : State) {X : Type 0} (x : X) (rise : IsTrue old.is_open → TablesRise old.now)
     (settled : IsTrue old.is_open → old.now ≡ old.committed) (steps : Steps {X = X} (record old { in_transaction = true }) last (Ok x))
-    (leads : (l : LibraryView) (rows : Rows) → AreLibraryRows l rows → Leads {X = X} (Holds (schema_of version) (stored_in version rows))
+    (leads : (l : LibraryView) (rows : Rows) → AreLibraryRows l rows → Leads {X = X} (HoldsAllRows (schema_of version) (stored_in version rows))
     (StandsAfter (IsMigrated version l rows)) (record old { in_transaction = true }) last (Ok x)) where
   led : HasCleanDisk last → IsTrue old.is_open → (l : LibraryView) (rows : Rows) → AreLibraryRows l rows → ShowsAs version rows old.committed
       → StandsAfter (IsMigrated version l rows) last.now

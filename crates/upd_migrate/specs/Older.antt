@@ -5,7 +5,7 @@ use Rattle.sqlite_value.specs.Order.{Row}
 use Rattle.sqlite_schema.specs.declared.schema.Schema.{Schema}
 use Rattle.sqlite.specs.Effect.{Database}
 use Rattle.upd_change.specs.Rows.{Rows}
-use Rattle.upd_tables.specs.Stored.{Shows, Holds}
+use Rattle.upd_tables.specs.Stored.{HasAllRows, HoldsAllRows}
 use Rattle.upd_sql.specs.Encoded.{num, stored}
 use Rattle.upd_sql.specs.Making.{schema_up_to}
 use Rattle.upd_sql.specs.Schema.{library_schema}
@@ -37,8 +37,8 @@ stored_in version rows = take (tables_of version) ((version_row_of version ∷ [
 
 -- the database has a version's schema, and these rows in its tables; what the rows say of other tables is left aside
 abbrev pub ShowsAs : Version → Rows → Database → Type 0
-ShowsAs version rows = Shows (schema_of version) (stored_in version rows)
+ShowsAs version rows = HasAllRows (schema_of version) (stored_in version rows)
 
 -- The database has all tables with these rows, and tells a version: rowids rise, as in every table.
 abbrev pub HasTables : Version → Rows → Database → Type 0
-HasTables version rows = Holds library_schema ((version_row_of version ∷ []) ∷ drop 1 (stored rows))
+HasTables version rows = HoldsAllRows library_schema ((version_row_of version ∷ []) ∷ drop 1 (stored rows))

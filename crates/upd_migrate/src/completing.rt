@@ -4,7 +4,7 @@ ghost use Rattle.sqlite_value.specs.Order.{Row};
 ghost use Rattle.sqlite.specs.Held.{state};
 ghost use Rattle.upd_change.specs.Rows.{Rows};
 ghost use Rattle.upd_tables.specs.Steps.{Steps};
-ghost use Rattle.upd_tables.specs.Stored.{Holds};
+ghost use Rattle.upd_tables.specs.Stored.{HoldsAllRows};
 ghost use Rattle.upd_sql.specs.Commits.{WasOpen};
 ghost use Rattle.upd_sql.specs.Making.{schema_up_to, Leads, MakesNext};
 ghost use Rattle.upd_sql.specs.Stands.{Stands};
@@ -19,8 +19,8 @@ use upd_tables::run;
 /// Makes the next table, whatever rows the others have.
 fn create<S: Alter>(tx: &mut Transaction<'_, S>, sql: &str) -> Result<(), Error>
     ensures same_reference { tx.new.conn.ghost_name ≡ tx.old.conn.ghost_name }
-    ensures leads { (n : ℕ) (all : List (List Row)) → MakesNext n sql.now → Leads (Holds (schema_up_to n) all)
-        (Holds (schema_up_to (n + 1)) (all ++ [] ∷ [])) (state S.Store tx.old.conn.now)
+    ensures leads { (n : ℕ) (all : List (List Row)) → MakesNext n sql.now → Leads (HoldsAllRows (schema_up_to n) all)
+        (HoldsAllRows (schema_up_to (n + 1)) (all ++ [] ∷ [])) (state S.Store tx.old.conn.now)
         (state S.Store tx.new.conn.now) result }
 {
     run(tx, sql, &[])
@@ -29,8 +29,8 @@ fn create<S: Alter>(tx: &mut Transaction<'_, S>, sql: &str) -> Result<(), Error>
 /// The tables of statuses and counts.
 fn create_states<S: Alter>(tx: &mut Transaction<'_, S>) -> Result<(), Error>
     ensures same_reference { tx.new.conn.ghost_name ≡ tx.old.conn.ghost_name }
-    ensures leads { (all : List (List Row)) → Leads (Holds (schema_up_to 6) all)
-        (Holds (schema_up_to 8) ((all ++ [] ∷ []) ++ [] ∷ [])) (state S.Store tx.old.conn.now)
+    ensures leads { (all : List (List Row)) → Leads (HoldsAllRows (schema_up_to 6) all)
+        (HoldsAllRows (schema_up_to 8) ((all ++ [] ∷ []) ++ [] ∷ [])) (state S.Store tx.old.conn.now)
         (state S.Store tx.new.conn.now) result }
 {
     create(
@@ -46,8 +46,8 @@ fn create_states<S: Alter>(tx: &mut Transaction<'_, S>) -> Result<(), Error>
 /// The table of settled marks.
 fn create_settled<S: Alter>(tx: &mut Transaction<'_, S>) -> Result<(), Error>
     ensures same_reference { tx.new.conn.ghost_name ≡ tx.old.conn.ghost_name }
-    ensures leads { (all : List (List Row)) → Leads (Holds (schema_up_to 8) all)
-        (Holds (schema_up_to 9) (all ++ [] ∷ [])) (state S.Store tx.old.conn.now)
+    ensures leads { (all : List (List Row)) → Leads (HoldsAllRows (schema_up_to 8) all)
+        (HoldsAllRows (schema_up_to 9) (all ++ [] ∷ [])) (state S.Store tx.old.conn.now)
         (state S.Store tx.new.conn.now) result }
 {
     create(
@@ -59,7 +59,7 @@ fn create_settled<S: Alter>(tx: &mut Transaction<'_, S>) -> Result<(), Error>
 /// The tables that a version lacks, with no rows.
 fn create_missing<S: Alter>(tx: &mut Transaction<'_, S>, version: Version) -> Result<(), Error>
     ensures same_reference { tx.new.conn.ghost_name ≡ tx.old.conn.ghost_name }
-    ensures leads { (it : Rows) → Leads (Holds (schema_of version) (stored_in version it))
+    ensures leads { (it : Rows) → Leads (HoldsAllRows (schema_of version) (stored_in version it))
         (HasTables version (completed version it))
         (state S.Store tx.old.conn.now) (state S.Store tx.new.conn.now) result }
 {
@@ -87,7 +87,7 @@ fn set_version<S: Alter>(tx: &mut Transaction<'_, S>) -> Result<(), Error>
 pub(crate) fn complete<S: Alter>(tx: &mut Transaction<'_, S>, version: Version) -> Result<(), Error>
     ensures same_reference { tx.new.conn.ghost_name ≡ tx.old.conn.ghost_name }
     ensures steps { Steps (state S.Store tx.old.conn.now) (state S.Store tx.new.conn.now) result }
-    ensures leads { (it : Rows) → Leads (Holds (schema_of version) (stored_in version it))
+    ensures leads { (it : Rows) → Leads (HoldsAllRows (schema_of version) (stored_in version it))
         (Stands (completed version it)) (state S.Store tx.old.conn.now) (state S.Store tx.new.conn.now) result }
     ensures was_open { WasOpen (state S.Store tx.old.conn.now) (state S.Store tx.new.conn.now) result }
 {

@@ -4,7 +4,7 @@ ghost use Rattle.sqlite.specs.Held.{state};
 ghost use Rattle.upd_core.specs.Library.{LibraryView};
 ghost use Rattle.upd_change.specs.Rows.{Rows};
 ghost use Rattle.upd_tables.specs.Steps.{Steps};
-ghost use Rattle.upd_tables.specs.Stored.{Holds};
+ghost use Rattle.upd_tables.specs.Stored.{HoldsAllRows};
 ghost use Rattle.upd_sql.specs.Commits.{WasOpen};
 ghost use Rattle.upd_sql.specs.Making.{Leads};
 ghost use Rattle.upd_sql.specs.Stands.{Stands};
@@ -45,7 +45,7 @@ pub(crate) fn fill<S: Alter>(
     ensures same_reference { tx.new.conn.ghost_name ≡ tx.old.conn.ghost_name }
     ensures steps { Steps (state S.Store tx.old.conn.now) (state S.Store tx.new.conn.now) result }
     ensures leads { (l : LibraryView) (rows : Rows) → AreLibraryRows l rows
-        → Leads (Holds (schema_of version) (stored_in version rows)) (StandsAfter (IsMigrated version l rows))
+        → Leads (HoldsAllRows (schema_of version) (stored_in version rows)) (StandsAfter (IsMigrated version l rows))
         (state S.Store tx.old.conn.now) (state S.Store tx.new.conn.now) result }
     ensures was_open { WasOpen (state S.Store tx.old.conn.now) (state S.Store tx.new.conn.now) result }
 {

@@ -8,7 +8,7 @@ use Rattle.upd_core.specs.Sound.{IsSound}
 use Rattle.upd_deck.specs.Items.{ItemView, LineView, Text, Call, Ident, Deck, CommonDeck, Insert, Before, Delete, Restore, Yank, SelYank, YankDeck, Purge}
 use Rattle.upd_deck.specs.Items.{PurgeFrom, SelPurge, PurDeck, Compile}
 use Rattle.upd_apply.specs.declared.state.State.{State}
-use Rattle.upd_apply.specs.Applying.{Reached, applied, brought, started, stepped}
+use Rattle.upd_apply.specs.Applying.{Reached, ages_brought, applied, started, stepped}
 use Rattle.upd_apply.specs.Compile.{decks_in_any, line_ranges, named_decks}
 use Rattle.upd_apply.specs.Names.{Ages}
 use Rattle.upd_core.specs.Parts.{part}
@@ -48,7 +48,7 @@ ran out lines l sound does =
 
 -- what is behind the lines
 abbrev finish : List LineView → LibraryView → State → Result Reached Fault
-finish lines l s = named_decks lines s.library >>= (λ decks. Ok (record { library = s.library; idents = brought l s.library; compile = decks }))
+finish lines l s = named_decks lines s.library >>= (λ decks. Ok (record { library = s.library; idents = ages_brought l s.library; compile = decks }))
 
 finish_same : (out : ℕ → Bool) (lines : List LineView) (l : LibraryView) (t : State)
     → finish lines (part out l) (parted out t) ≡ reached_in_part out (finish lines l t)
@@ -56,7 +56,7 @@ finish_same out lines l t = go (named_decks lines t.library) (decks_same out lin
   where
     go : (r : Result (List ℕ) Fault) → named_decks lines (part out t.library) ≡ r
         → finish lines (part out l) (parted out t)
-        ≡ reached_in_part out (r >>= (λ decks. Ok (record { library = t.library; idents = brought l t.library; compile = decks })))
+        ≡ reached_in_part out (r >>= (λ decks. Ok (record { library = t.library; idents = ages_brought l t.library; compile = decks })))
     go (Ok decks) e = rw e refl
     go (Err f) e = rw e refl
 
@@ -84,7 +84,7 @@ applied_left out lines l reached sound does e = go (stepped lines (started l)) r
     left = (ran out lines l sound does).left
 
     end : (t : State) (r : Result (List ℕ) Fault) → left_out out t.library ≡ left_out out l
-        → (r >>= (λ decks. Ok (record { library = t.library; idents = brought l t.library; compile = decks }))) ≡ Ok reached
+        → (r >>= (λ decks. Ok (record { library = t.library; idents = ages_brought l t.library; compile = decks }))) ≡ Ok reached
         → left_out out reached.library ≡ left_out out l
     end t (Ok decks) h is = let same : t.library ≡ reached.library = cc in subst (λ m. left_out out m ≡ left_out out l) same h
     end t (Err f) h is = absurd (cc)

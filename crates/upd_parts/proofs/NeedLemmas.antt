@@ -15,7 +15,7 @@ use Rattle.upd_deck.specs.Items.{LineView}
 use Rattle.upd_core.specs.Parts.{cards_of_decks, entries_of_decks, part, part_of}
 use Rattle.upd_laws.proofs.SoundIdentLemmas.{held_deck_held, held_within}
 use Rattle.upd_laws.proofs.SoundListLemmas.{all_each, all_filter, all_weaker, and_left, and_right, same_number}
-use Rattle.upd_parts.specs.Needless.{NamesNone, cards_named, left_out, others_of}
+use Rattle.upd_parts.specs.Needless.{NamesNone, cards_named, is_left_out, left_out}
 use Rattle.upd_parts.proofs.PartLemmas.{AreNotIn, IsNotIn}
 use Rattle.upd_parts.proofs.RunLemmas.{AreOfListed}
 
@@ -46,7 +46,7 @@ sound_listed out l sound z m later =
 
 -- ---- the decks of some ages
 
-pub others_listed : (ages : List ℕ) (l : LibraryView) (z : ℕ) → length l.idents < z → others_of ages l z ≡ false
+pub others_listed : (ages : List ℕ) (l : LibraryView) (z : ℕ) → length l.idents < z → is_left_out ages l z ≡ false
 others_listed ages l z later = go (not (z == 0)) (nat_le z (length l.idents)) refl
   where
     go : (a b : Bool) → nat_le z (length l.idents) ≡ b → (a && b && not (is_among ages z)) ≡ false
@@ -62,7 +62,7 @@ same_on {A} p q (x ∷ xs) all = go (q x) all.0 (same_on p q xs all.1)
     go true e later = rw e (ap (λ ys. x ∷ ys) later)
     go false e later = rw e later
 
-others_are : (ages : List ℕ) (l : LibraryView) (d : ℕ) → IsSound l → is_held_deck l.idents d ≡ true → others_of ages l d ≡ not (is_among ages d)
+others_are : (ages : List ℕ) (l : LibraryView) (d : ℕ) → IsSound l → is_held_deck l.idents d ≡ true → is_left_out ages l d ≡ not (is_among ages d)
 others_are ages l d sound held =
     let w = held_within 1 l.idents d sound.ages (held_deck_held l.idents d held) in
     let some : (d == 0) ≡ false = (let low = w.0 in grind (arith, nat_tests, low)) in
@@ -70,7 +70,7 @@ others_are ages l d sound held =
     rw (some, within) refl
 
 -- the part with the decks of these ages is the one that leaves out the others
-pub part_of_others : (ages : List ℕ) (l : LibraryView) → IsSound l → part_of ages l ≡ part (others_of ages l) l
+pub part_of_others : (ages : List ℕ) (l : LibraryView) → IsSound l → part_of ages l ≡ part (is_left_out ages l) l
 part_of_others ages l sound = λ i. record {
   idents = l.idents;
   decks = sym kept i;
@@ -81,10 +81,10 @@ part_of_others ages l sound = λ i. record {
   };
 }
   where
-    left : filter (λ (d : DeckView). others_of ages l d.ident) l.decks ≡ filter (λ d. not (is_among ages d.ident)) l.decks
+    left : filter (λ (d : DeckView). is_left_out ages l d.ident) l.decks ≡ filter (λ d. not (is_among ages d.ident)) l.decks
     left = same_on _ _ l.decks (all_weaker _ _ l.decks (λ d held. others_are ages l d.ident sound held) sound.decks)
 
-    kept : filter (λ (d : DeckView). not (others_of ages l d.ident)) l.decks ≡ filter (λ d. not (not (is_among ages d.ident))) l.decks
+    kept : filter (λ (d : DeckView). not (is_left_out ages l d.ident)) l.decks ≡ filter (λ d. not (not (is_among ages d.ident))) l.decks
     kept = same_on _ _ l.decks (all_weaker _ _ l.decks (λ d held. ap not (others_are ages l d.ident sound held)) sound.decks)
 
 -- ---- what is left out holds no card that is found elsewhere

@@ -22,7 +22,7 @@ use Rattle.upd_laws.proofs.SoundListLemmas.{all_each, all_weaker, same_number}
 use Rattle.upd_parts.proofs.NeedLemmas.{not_in}
 use Rattle.upd_parts.proofs.PartLemmas.{cards_same, place_same}
 use Rattle.upd_parts.specs.Needed.{all_named}
-use Rattle.upd_parts.specs.Needless.{NamesNone, cards_named, others_of}
+use Rattle.upd_parts.specs.Needless.{NamesNone, cards_named, is_left_out}
 
 -- ---- a card that is asked for is held by a deck
 
@@ -63,7 +63,7 @@ asked_own cards k card e = any_at (λ c. same_ref c card) cards k card e (same_r
 
 -- the deck where a card stands that is asked for is `YANK$$$`, or one of those that are told
 pub told_or_yank : (cards : List CardRef) (l : LibraryView) (card : CardRef) (p : Place) → IsSound l → is_asked cards card ≡ true
-    → place_of card l ≡ Some p → others_of (decks_with cards l) l p.deck ≡ false
+    → place_of card l ≡ Some p → is_left_out (decks_with cards l) l p.deck ≡ false
 told_or_yank cards l card p sound asked at = go (0 == p.deck) refl (p.deck == 0) refl
   where
     found : (c : CardView) × (card_in p l ≡ Some c) × (ref_of l.idents c ≡ card)
@@ -80,13 +80,13 @@ told_or_yank cards l card p sound asked at = go (0 == p.deck) refl (p.deck == 0)
     end true false = refl
     end false b = refl
 
-    go : (x : Bool) → (0 == p.deck) ≡ x → (y : Bool) → (p.deck == 0) ≡ y → others_of (decks_with cards l) l p.deck ≡ false
+    go : (x : Bool) → (0 == p.deck) ≡ x → (y : Bool) → (p.deck == 0) ≡ y → is_left_out (decks_with cards l) l p.deck ≡ false
     go x e true f = rw f refl
     go true e false f = absurd (let same : p.deck ≡ 0 = sym (same_number 0 p.deck e) in let bad : (p.deck == 0) ≡ true = grind (arith, nat_tests) in cc)
     go false e false f = let told = among e in rw told (end (not (p.deck == 0)) (nat_le p.deck (length l.idents)))
 
 -- a run that names cards can do without the decks that hold none of them
-pub others_unnamed : (lines : List LineView) (l : LibraryView) → IsSound l → NamesNone (others_of (decks_with (all_named lines) l) l) lines l
+pub others_unnamed : (lines : List LineView) (l : LibraryView) → IsSound l → NamesNone (is_left_out (decks_with (all_named lines) l) l) lines l
 others_unnamed lines l sound = all_weaker _ _ lines (λ line all. all_weaker _ _ (cards_named line.item) unnamed all) asked
   where
     cards : List CardRef
@@ -96,21 +96,21 @@ others_unnamed lines l sound = all_weaker _ _ lines (λ line all. all_weaker _ _
     asked = all_each (λ card. is_asked cards card ≡ true) (λ (line : LineView). cards_named line.item) lines
         (all_by_index cards (λ k card. asked_own cards k card))
 
-    unnamed : (card : CardRef) → is_asked cards card ≡ true → (p : Place) → place_of card l ≡ Some p → others_of (decks_with cards l) l p.deck ≡ false
+    unnamed : (card : CardRef) → is_asked cards card ≡ true → (p : Place) → place_of card l ≡ Some p → is_left_out (decks_with cards l) l p.deck ≡ false
     unnamed card is p at = told_or_yank cards l card p sound is at
 
 -- ---- a card alone
 
 -- the part with the decks that hold a card finds it where the whole does
 pub card_placed : (card : CardRef) (l : LibraryView) → IsSound l
-    → place_of card (part (others_of (decks_with (card ∷ []) l) l) l) ≡ place_of card l
+    → place_of card (part (is_left_out (decks_with (card ∷ []) l) l) l) ≡ place_of card l
 card_placed card l sound =
-    place_same (others_of (decks_with (card ∷ []) l) l) l card refl (not_in (others_of (decks_with (card ∷ []) l) l) l card sound
+    place_same (is_left_out (decks_with (card ∷ []) l) l) l card refl (not_in (is_left_out (decks_with (card ∷ []) l) l) l card sound
     (λ p at. told_or_yank (card ∷ []) l card p sound (asked_own (card ∷ []) 0 card refl) at))
 
 -- and its deck has the same cards there
 pub card_deck_kept : (card : CardRef) (l : LibraryView) (p : Place) → IsSound l → place_of card l ≡ Some p
-    → cards_of p.deck (part (others_of (decks_with (card ∷ []) l) l) l) ≡ cards_of p.deck l
+    → cards_of p.deck (part (is_left_out (decks_with (card ∷ []) l) l) l) ≡ cards_of p.deck l
 card_deck_kept card l p sound at =
-    cards_same (others_of (decks_with (card ∷ []) l) l) p.deck l
+    cards_same (is_left_out (decks_with (card ∷ []) l) l) p.deck l
     (told_or_yank (card ∷ []) l card p sound (asked_own (card ∷ []) 0 card refl) at)

@@ -26,7 +26,7 @@ use Rattle.upd_apply.specs.declared.state.Spot.{Spot}
 use Rattle.upd_apply.specs.declared.state.Spot.TheVariants.{Nowhere, End, Inside}
 use Rattle.upd_apply.specs.declared.state.State.{State}
 use Rattle.upd_apply.specs.Applying.{stepped}
-use Rattle.upd_apply.specs.Step.{new_name, set_begun, deck_begun, placed_after, placed_before, switched, text_put, is_deck_card, done, step}
+use Rattle.upd_apply.specs.Step.{new_name, set_begun, deck_begun, placed_after, placed_before, switched, text_put, is_deck_card, line_done, step}
 use Rattle.upd_apply.proofs.StepLemmas.{after_grown}
 use Rattle.upd_laws.proofs.BackLibraryLemmas.{idents-with_card, idents-with_entries, length-introduced}
 use Rattle.upd_laws.proofs.SoundListLemmas.{all_weaker}
@@ -144,7 +144,7 @@ text_keeps out text s (Inside d after) stays here =
 
 done_keeps : (out : ℕ → Bool) (item : ItemView) (text : List ℕ) (s : State) → Leaves out s → AreOfListed (left_out out s.library) s.library
     → is_plain item ≡ true
-    → AllByRecursion (IsNotIn (left_out out s.library) s.library) (cards_named item) → IfOk (done item text s) (Keeps out s)
+    → AllByRecursion (IsNotIn (left_out out s.library) s.library) (cards_named item) → IfOk (line_done item text s) (Keeps out s)
 done_keeps out Text text s leaves old plain lacks = text_keeps out text s s.spot leaves.spot leaves.spot
 done_keeps out (Call name) text s leaves old plain lacks = text_keeps out text s s.spot leaves.spot leaves.spot
 done_keeps out (Ident name) text s leaves old plain lacks = set_keeps out name s old

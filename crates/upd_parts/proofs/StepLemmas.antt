@@ -18,7 +18,7 @@ use Rattle.upd_deck.specs.Items.{PurgeFrom, SelPurge, PurDeck, Compile}
 use Rattle.upd_apply.specs.declared.state.Spot.{Spot}
 use Rattle.upd_apply.specs.declared.state.Spot.TheVariants.{Nowhere, End, Inside}
 use Rattle.upd_apply.specs.declared.state.State.{State}
-use Rattle.upd_apply.specs.Step.{grown, new_name, set_begun, deck_begun, placed_after, placed_before, switched, text_put, is_deck_card, done}
+use Rattle.upd_apply.specs.Step.{within_limits, new_name, set_begun, deck_begun, placed_after, placed_before, switched, text_put, is_deck_card, line_done}
 use Rattle.upd_core.specs.Parts.{part}
 use Rattle.upd_parts.specs.Needless.{cards_named, is_plain, left_out}
 use Rattle.upd_parts.proofs.PartLemmas.{IsNotIn, cards_same, deck_kept, limits_same, place_same, with_cards_same, with_deck_same}
@@ -54,13 +54,13 @@ any_same out (Err e) f g k = refl
 
 -- a part passes the limits where the whole does
 grown_same : (out : ℕ → Bool) (l : LibraryView) (m : LibraryView) (f g : LibraryView → Result State FaultKind) → m ≡ part out l
-    → f m ≡ in_part out (g l) → (grown m >>= f) ≡ in_part out (grown l >>= g)
+    → f m ≡ in_part out (g l) → (within_limits m >>= f) ≡ in_part out (within_limits l >>= g)
 grown_same out l m f g same k = go (is_within_limits l) refl
   where
     limits : is_within_limits m ≡ is_within_limits l
     limits = ap is_within_limits same ∙ limits_same out l
 
-    go : (b : Bool) → is_within_limits l ≡ b → (grown m >>= f) ≡ in_part out (grown l >>= g)
+    go : (b : Bool) → is_within_limits l ≡ b → (within_limits m >>= f) ≡ in_part out (within_limits l >>= g)
     go true e = rw (limits, e) k
     go false e = rw (limits, e) refl
 
@@ -153,7 +153,7 @@ pub record Leaves (out : ℕ → Bool) (s : State) : Type 0 where
   pub spot : SpotStays out s.spot
 
 pub done_same : (out : ℕ → Bool) (item : ItemView) (text : List ℕ) (s : State) → out 0 ≡ false → Leaves out s → is_plain item ≡ true
-    → AllByRecursion (IsNotIn (left_out out s.library) s.library) (cards_named item) → done item text (parted out s) ≡ in_part out (done item text s)
+    → AllByRecursion (IsNotIn (left_out out s.library) s.library) (cards_named item) → line_done item text (parted out s) ≡ in_part out (line_done item text s)
 done_same out Text text s yanks leaves plain lacks = text_same out text s.spot s leaves.spot
 done_same out (Call name) text s yanks leaves plain lacks = text_same out text s.spot s leaves.spot
 done_same out (Ident name) text s yanks leaves plain lacks = set_same out name s

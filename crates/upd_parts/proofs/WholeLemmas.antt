@@ -26,7 +26,7 @@ use Rattle.upd_laws.specs.PurgingBack.{DecksGoOn, is_purge, purges_nothing}
 use Rattle.upd_laws.proofs.BackLibraryLemmas.{Grows}
 use Rattle.upd_laws.proofs.BackStepLemmas.{all_applied_grows}
 use Rattle.upd_laws.proofs.SoundListLemmas.{all_filter, all_weaker, and_left, and_right, both, is_same_number}
-use Rattle.upd_parts.specs.Needless.{DoesWithout, IsOnWhole, NamesNone, are_plain, is_plain, left_out, others_of, reached_in_part}
+use Rattle.upd_parts.specs.Needless.{DoesWithout, IsOnWhole, NamesNone, are_plain, is_left_out, is_plain, left_out, reached_in_part}
 use Rattle.upd_parts.proofs.AppliedLemmas.{applied_left, applied_same}
 use Rattle.upd_parts.proofs.NeedLemmas.{others_listed, part_of_others}
 use Rattle.upd_parts.proofs.PartLemmas.{cards_same, kept_all, kept_of, left_of}
@@ -151,12 +151,12 @@ same_ok : (x y : Reached) (r s : Result Reached Fault) → r ≡ Ok x → s ≡ 
 same_ok x y r s p q e = cc
 
 pub on_whole : (ages : List ℕ) (lines : List LineView) (l : LibraryView) (here : Reached) (changes : List ChangeView) → IsSound l
-    → is_within_limits l ≡ true → are_plain lines ≡ true → NamesNone (others_of ages l) lines l → applied lines (part_of ages l) ≡ Ok here
-    → Told (part_of ages l) here.library changes → IsOnWhole (others_of ages l) lines l here changes
+    → is_within_limits l ≡ true → are_plain lines ≡ true → NamesNone (is_left_out ages l) lines l → applied lines (part_of ages l) ≡ Ok here
+    → Told (part_of ages l) here.library changes → IsOnWhole (is_left_out ages l) lines l here changes
 on_whole ages lines l here changes sound within plain names is told = go (applied lines l) refl
   where
     out : ℕ → Bool
-    out = others_of ages l
+    out = is_left_out ages l
 
     does : DoesWithout out lines l
     does = record { plain = plain; listed = others_listed ages l; cards = names }

@@ -37,8 +37,8 @@ cards_named (Restore first last) = first ∷ last ∷ []
 cards_named _ = []
 
 -- the ages of a library's directory that aren't among these: those of the decks that a part with these decks alone leaves out
-abbrev pub others_of : List Age → LibraryView → Age → Bool
-others_of ages l d = not (d == 0) && nat_le d (length l.idents) && not (is_among ages d)
+abbrev pub is_left_out : List Age → LibraryView → Age → Bool
+is_left_out ages l d = not (d == 0) && nat_le d (length l.idents) && not (is_among ages d)
 
 -- the decks of the ages that pass a test, `YANK$$$` as a deck of age 0 among them
 abbrev pub left_out : (Age → Bool) → LibraryView → List DeckView

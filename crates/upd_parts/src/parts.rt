@@ -16,7 +16,7 @@ ghost use Rattle.upd_deck.specs.Items.{LineView};
 ghost use Rattle.upd_apply.specs.Applying.{Reached, applied};
 ghost use Rattle.upd_core.specs.Parts.{part, part_of};
 ghost use Rattle.upd_parts.specs.Needed.{all_named, is_yank_card};
-ghost use Rattle.upd_parts.specs.Needless.{DoesWithout, IsOnWhole, NamesNone, are_plain, left_out, others_of};
+ghost use Rattle.upd_parts.specs.Needless.{DoesWithout, IsOnWhole, NamesNone, are_plain, is_left_out, left_out};
 ghost use Rattle.upd_parts.specs.Needless.{reached_in_part};
 
 /// Loaded with the decks that hold the cards which a run names, a library gives the same refusal as the whole one, or
@@ -24,8 +24,8 @@ ghost use Rattle.upd_parts.specs.Needless.{reached_in_part};
 /// decks that were loaded, and the new ones.
 pub fn runs_need_the_decks_that_they_name()
     ensures { (ages : List Age) (lines : List LineView) (l : LibraryView) → IsSound l → IsTrue (are_plain lines)
-        → NamesNone (others_of ages l) lines l
-        → applied lines (part_of ages l) ≡ reached_in_part (others_of ages l) (applied lines l) }
+        → NamesNone (is_left_out ages l) lines l
+        → applied lines (part_of ages l) ≡ reached_in_part (is_left_out ages l) (applied lines l) }
 {}
 
 /// The other decks stay as they are, `YANK$$$` too where the run names no card of it.
@@ -69,8 +69,8 @@ pub fn changes_of_a_part_are_changes_of_the_whole()
 pub fn runs_on_a_part_are_runs_on_the_whole()
     ensures { (ages : List Age) (lines : List LineView) (l : LibraryView) (here : Reached)
         → (changes : List ChangeView) → IsSound l → IsTrue (is_within_limits l) → IsTrue (are_plain lines)
-        → NamesNone (others_of ages l) lines l → applied lines (part_of ages l) ≡ Ok here
-        → Told (part_of ages l) here.library changes → IsOnWhole (others_of ages l) lines l here changes }
+        → NamesNone (is_left_out ages l) lines l → applied lines (part_of ages l) ≡ Ok here
+        → Told (part_of ages l) here.library changes → IsOnWhole (is_left_out ages l) lines l here changes }
 {}
 
 /// Row changes that lead from a sound library to what a run reaches from it can be carried out on tables that show the

@@ -34,23 +34,23 @@ asked Idents = idents
 asked Yanks = yanks
 
 -- the refusals that are told by a fault, which has no line
-abbrev pub told : FaultKind → Refusal
-told kind = Told (fault_at kind 0)
+abbrev pub told_refusal : FaultKind → Refusal
+told_refusal kind = Told (fault_at kind 0)
 
 -- want of memory, a request that is no request, one that ends too early, and a failed read
-abbrev pub no_memory : Refusal
-no_memory = told NoMemory
+abbrev pub no_memory_refusal : Refusal
+no_memory_refusal = told_refusal NoMemory
 
 abbrev pub bad_frame : Refusal
-bad_frame = told BadFrame
+bad_frame = told_refusal BadFrame
 
 abbrev pub cut_frame : Refusal
 cut_frame = Silent (fault_at CutFrame 0)
 
-abbrev pub read_failed : Refusal
-read_failed = Silent (fault_at Read 0)
+abbrev pub read_failed_refusal : Refusal
+read_failed_refusal = Silent (fault_at Read 0)
 
 -- A call answered what is defined, as the view shows it, or met the defined refusal; or memory was wanting.
 abbrev pub Gives : {X Y : Type 0} → (X → Y) → Result X Refusal → Result Y Refusal → Type 0
 Gives view (Ok x) defined = defined ≡ Ok (view x)
-Gives view (Err refusal) defined = (refusal ≡ no_memory) ⊎ (defined ≡ Err refusal)
+Gives view (Err refusal) defined = (refusal ≡ no_memory_refusal) ⊎ (defined ≡ Err refusal)

@@ -5,7 +5,7 @@ use Rattle.std.specs.Str.{is_utf8}
 use Rattle.percent_encoding.specs.Percent.{percent_decode}
 use Rattle.upd_text.specs.declared.fault.FaultKind.{FaultKind}
 use Rattle.upd_text.specs.Names.{is_name}
-use Rattle.upd_request.specs.Calls.{told}
+use Rattle.upd_request.specs.Calls.{told_refusal}
 use Rattle.upd_request.specs.declared.call.Refusal.{Refusal}
 
 -- the path of a target: what stands before the first `?`
@@ -23,7 +23,7 @@ parameter segments n = percent_decode (get_or segments n [])
 -- what is read, or else the refusal
 abbrev pub or_told : {A : Type 0} → FaultKind → Option A → Result A Refusal
 or_told kind (Some x) = Ok x
-or_told kind None = Err (told kind)
+or_told kind None = Err (told_refusal kind)
 
 -- a text, if it is UTF-8
 abbrev pub text_of : List ℕ → Option (List ℕ)

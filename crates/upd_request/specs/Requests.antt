@@ -5,7 +5,7 @@ use Rattle.httparse.specs.Grammar.{RequestHead, HasNoRequest, MayBecomeRequest, 
 use Rattle.httparse.specs.Spans.{RequestExceeds, name_and_value}
 use Rattle.upd_text.specs.declared.fault.FaultKind.TheVariants.{RunLong}
 use Rattle.upd_text.specs.Outcome.{◌>>=◌}
-use Rattle.upd_request.specs.Calls.{Asked, bad_frame, cut_frame, no_memory, read_failed, told}
+use Rattle.upd_request.specs.Calls.{Asked, bad_frame, cut_frame, no_memory_refusal, read_failed_refusal, told_refusal}
 use Rattle.upd_request.specs.Lengths.{fields_say}
 use Rattle.upd_request.specs.Parameters.{path_of, segments_of}
 use Rattle.upd_request.specs.Routes.{call_of, route_of, verb_of}
@@ -60,7 +60,7 @@ with_method route method = if bytes_eq method (verb_text (verb_of route)) then O
 -- how many bytes the body has, as many as a run at most
 abbrev pub counted : BodyLength → Result ℕ Refusal
 counted (Bytes n) = Ok n
-counted Long = Err (told RunLong)
+counted Long = Err (told_refusal RunLong)
 counted said = Ok 0
 
 -- what a head says, or its first refusal
@@ -95,7 +95,7 @@ Says input outcome =
 
 -- memory was wanting, or a read failed
 abbrev pub IsFailure : Refusal → Type 0
-IsFailure refusal = (refusal ≡ no_memory) ⊎ (refusal ≡ read_failed)
+IsFailure refusal = (refusal ≡ no_memory_refusal) ⊎ (refusal ≡ read_failed_refusal)
 
 -- a call answered what is defined, as the view shows it, or met the defined refusal; or it failed
 abbrev pub GivesUnlessFailed : {X Y : Type 0} → (X → Y) → Result X Refusal → Result Y Refusal → Type 0

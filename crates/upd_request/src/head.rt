@@ -3,7 +3,7 @@
 ghost use Rattle.std.specs.Prelude.{◌≡◌, ◌≤◌, [], IfErr, IfOk, IfSome, OnOk, length};
 ghost use Rattle.std.specs.Io.KnownBytes.{Consumes};
 ghost use Rattle.httparse.specs.Spans.{IsRequestOf, IsRequestWithin};
-ghost use Rattle.upd_request.specs.Calls.{no_memory, read_failed};
+ghost use Rattle.upd_request.specs.Calls.{no_memory_refusal, read_failed_refusal};
 ghost use Rattle.upd_request.specs.Requests.{IsFailure, RefusesHead};
 
 use crate::call::Refusal;

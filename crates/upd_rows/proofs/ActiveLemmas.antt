@@ -17,7 +17,7 @@ use Rattle.upd_core.specs.Library.{CardView, DeckView, LibraryView, all_decks, n
 use Rattle.upd_core.specs.Sound.{AreRising, BeginsWithItsOwn, IsOfHeld, IsSound}
 use Rattle.upd_core.specs.Status.{is_active, live_targets, status_of}
 use Rattle.upd_change.proofs.CountLemmas.{same_filter, same_trans}
-use Rattle.upd_change.specs.Rows.{CardRow, IsSame, Rows, Shows, ShowsStates, StateRow, card_rows, rows_of, same_ref, state_row}
+use Rattle.upd_change.specs.Rows.{CardRow, IsSame, Rows, Shows, ShowsStates, StateRow, card_rows, rows_of, same_ref, state_rows}
 use Rattle.upd_rows.specs.Activating.{active_card, actives_from, actives_in, behind_yanks, is_active_in, with_active}
 use Rattle.upd_rows.specs.Assembling.{AreByAge, AreByPlace, age_named}
 use Rattle.upd_rows.proofs.AssembleLemmas.{age_found, cards_in_place, idents_in_place}
@@ -51,7 +51,7 @@ module _ (l : LibraryView) (sound : IsSound l) (states : List StateRow) where
   status_shown rows shows same d c in_l in_d =
       let ref = ref_of l.idents c in
       let row : filter (λ r. same_ref ref r.card) rows.states ≡ record { card = ref; active = is_active (live_targets l) d.ident c } ∷ [] =
-      shows.states ref ∙ ap (state_row ref) (status_at l d c sound in_l in_d) in
+      shows.states ref ∙ ap (state_rows ref) (status_at l d c sound in_l in_d) in
       any_same (λ r. r.active) (same_filter (λ r. same_ref ref r.card) same) ∙ ap (list_any (λ r. r.active)) row ∙ or_false _
 
   ages_shown : (ds : List DeckView) → AllByRecursion (IsOfHeld l.idents) (flat_map (λ d. d.cards) ds)

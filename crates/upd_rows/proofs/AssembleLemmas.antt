@@ -29,7 +29,7 @@ use Rattle.upd_change.proofs.ComeLemmas.{same_entry_is}
 use Rattle.upd_change.proofs.CountLemmas.{same_filter, same_of, same_trans}
 use Rattle.upd_change.proofs.GoneLemmas.{same_ref_is, same_ref_own}
 use Rattle.upd_change.specs.Rows.{CardRow, EntryRow, IsSame, TargetRow, card_rows, entry_rows, rows_of, same_ref, target_rows}
-use Rattle.upd_rows.specs.Assembling.{AreByAge, AreByCard, AreByPlace, AreTargetsByCard, age_named, card_in, decks_from, decks_in, entries_of}
+use Rattle.upd_rows.specs.Assembling.{AreByAge, AreByCard, AreByPlace, AreTargetsByCard, age_named, card_of_row, decks_from, decks_in, entries_of}
 use Rattle.upd_rows.specs.Assembling.{library_of, targets_of}
 use Rattle.upd_rows.proofs.PlaceLemmas.{age_order, ages_rise, in_front, older, place_order, places_rise}
 use Rattle.upd_rows.proofs.RowLemmas.{entries_again, entries_rise, of_entries, of_targets, own_rows, row_below, row_order, targets_again, targets_rise}
@@ -192,7 +192,7 @@ module _ (l : LibraryView) (sound : IsSound l) (entries : List EntryRow) (target
           ap (map (λ r. r.target)) exact ∙ targets_again ref 0 c.targets
 
   abbrev IsItsRow : CardView → Type 0
-  IsItsRow c = (d p : ℕ) → card_in l.idents entries targets (record { card = ref_of l.idents c; deck = d; pos = p; body = c.text }) ≡ c
+  IsItsRow c = (d p : ℕ) → card_of_row l.idents entries targets (record { card = ref_of l.idents c; deck = d; pos = p; body = c.text }) ≡ c
 
   cards_are : IsSame entries (rows_of l).entries → AreByCard entries → IsSame targets (rows_of l).targets → AreTargetsByCard targets
       → AllByRecursion IsItsRow (all_cards l)
@@ -215,8 +215,8 @@ module _ (l : LibraryView) (sound : IsSound l) (entries : List EntryRow) (target
       let rest = card_rows l.idents d.ident (p + 1) cs ++ rows in
       let grown : List CardView → List DeckView = λ cards. decks_from l.idents entries targets (record { ident = d.ident; cards = cards }) rest in
       let row : CardRow = record { card = ref_of l.idents c; deck = d.ident; pos = p; body = c.text } in
-      let here = ap (λ b. cond b (grown (d.cards ++ card_in l.idents entries targets row ∷ []))
-      (d ∷ decks_from l.idents entries targets (record { ident = d.ident; cards = card_in l.idents entries targets row ∷ [] }) rest))
+      let here = ap (λ b. cond b (grown (d.cards ++ card_of_row l.idents entries targets row ∷ []))
+      (d ∷ decks_from l.idents entries targets (record { ident = d.ident; cards = card_of_row l.idents entries targets row ∷ [] }) rest))
       ((Decides-eqb d.ident d.ident).1 refl) in
       let card = ap (λ x. grown (d.cards ++ x ∷ [])) (all.0 d.ident p) in
       let later = put_cards (record d { cards = d.cards ++ c ∷ [] }) (p + 1) cs rows all.1 in
@@ -237,7 +237,7 @@ module _ (l : LibraryView) (sound : IsSound l) (entries : List EntryRow) (target
       go (c ∷ cs) some later =
           let rest = card_rows l.idents e.ident 1 cs ++ deck_rows ds in
           let row : CardRow = record { card = ref_of l.idents c; deck = e.ident; pos = 0; body = c.text } in
-          let first = card_in l.idents entries targets row in
+          let first = card_of_row l.idents entries targets row in
           let mine : AllByRecursion IsItsRow (c ∷ cs) = subst (AllByRecursion IsItsRow) some (all_front IsItsRow e.cards (flat_map (λ f. f.cards) ds) all) in
           let other : (e.ident == d.ident) ≡ false = differ (e.ident == d.ident) refl in
           ap (λ zs. decks_from l.idents entries targets d (card_rows l.idents e.ident 0 zs ++ deck_rows ds)) some

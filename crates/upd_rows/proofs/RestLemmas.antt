@@ -24,8 +24,8 @@ use Rattle.upd_change.proofs.GoneLemmas.{other_ref, same_ref_is, same_ref_own}
 use Rattle.upd_change.specs.Rows.{CardRow, EntryRow, IsSame, Rows, Shows, TargetRow, card_rows, entry_rows, rows_of, same_ref, target_rows}
 use Rattle.upd_rows.specs.declared.rows.LibraryRows.{LibraryRows}
 use Rattle.upd_rows.specs.Assembling.{AreRowsOf}
-use Rattle.upd_rows.specs.PartRows.{is_in, is_of, part_rows}
-use Rattle.upd_rows.specs.PartRows.{AreApart as AreRowsApart}
+use Rattle.upd_rows.specs.PartRows.{is_loaded, is_of, part_rows}
+use Rattle.upd_rows.specs.PartRows.{AreOfDistinctCards}
 use Rattle.upd_rows.proofs.HolderLemmas.{ages_above, ages_rising, and_false, any_same}
 use Rattle.upd_rows.proofs.PartLemmas.{cards_in_rows, entries_in_rows, rest_counted, same_length}
 use Rattle.upd_rows.proofs.PlaceLemmas.{stand_in}
@@ -206,8 +206,8 @@ module _ (ages : List ℕ) (l : LibraryView) (sound : IsSound l) where
       some whole = let one = ap {A = Rest} {B = ℕ} (λ r. r.cards) whole in absurd (omega (arith, one))
 
   -- the decks that are read are those of the part
-  decks_kept : filter (λ d. is_in ages d.ident) (all_decks l) ≡ all_decks parted
-  decks_kept = ap (λ ds. record { ident = 0; cards = l.yanks } ∷ ds) (filter_alike (λ d. is_in ages d.ident) keep l.decks
+  decks_kept : filter (λ d. is_loaded ages d.ident) (all_decks l) ≡ all_decks parted
+  decks_kept = ap (λ ds. record { ident = 0; cards = l.yanks } ∷ ds) (filter_alike (λ d. is_loaded ages d.ident) keep l.decks
       (weaker l.decks (λ d some. same d (is_among ages d.ident) some) (all_mapped (λ m. 0 < m) (λ d. d.ident) l.decks sound.deck_ages.0)))
     where
       same : (d : DeckView) (b : Bool) → 0 < d.ident → ((d.ident == 0) || b) ≡ not (not b)
@@ -217,10 +217,10 @@ module _ (ages : List ℕ) (l : LibraryView) (sound : IsSound l) where
   abbrev rows_in : DeckView → List CardRow
   rows_in d = card_rows l.idents d.ident 0 d.cards
 
-  card_rows_kept : filter (λ r. is_in ages r.deck) (rows_of l).cards ≡ (rows_of parted).cards
+  card_rows_kept : filter (λ r. is_loaded ages r.deck) (rows_of l).cards ≡ (rows_of parted).cards
   card_rows_kept =
-      filter_flat (λ r. is_in ages r.deck) (λ d. is_in ages d.ident) rows_in (all_decks l)
-      (all_by_index (all_decks l) (λ k d at. weaker (rows_in d) (λ r h. ap (is_in ages) h.0) (stand_in l.idents d.ident 0 0 d.cards (omega arith))))
+      filter_flat (λ r. is_loaded ages r.deck) (λ d. is_loaded ages d.ident) rows_in (all_decks l)
+      (all_by_index (all_decks l) (λ k d at. weaker (rows_in d) (λ r h. ap (is_loaded ages) h.0) (stand_in l.idents d.ident 0 0 d.cards (omega arith))))
       ∙ ap (flat_map rows_in) decks_kept
 
   -- ---- a card's row is among those of the part where its deck is
@@ -234,8 +234,8 @@ module _ (ages : List ℕ) (l : LibraryView) (sound : IsSound l) where
       ap (λ (p : Place). p.deck) (same_Some (record { deck = b.ident; index = m }) (record { deck = d.ident; index = i }) places)
 
   any_own : (e : ℕ) (ref : CardRef) (rows : List CardRow) → AllByRecursion (λ r. same_ref r.card ref ≡ true → r.deck ≡ e) rows
-      → list_any (λ r. is_in ages r.deck && same_ref r.card ref) rows ≡ (is_in ages e && list_any (λ r. same_ref r.card ref) rows)
-  any_own e ref [] all = and_false (is_in ages e)
+      → list_any (λ r. is_loaded ages r.deck && same_ref r.card ref) rows ≡ (is_loaded ages e && list_any (λ r. same_ref r.card ref) rows)
+  any_own e ref [] all = and_false (is_loaded ages e)
   any_own e ref (r ∷ rows) all = go (same_ref r.card ref) all.0 (any_own e ref rows all.1)
     where
       either : (a b c : Bool) → c ≡ (a && b) → ((a && true) || c) ≡ (a && (true || b))
@@ -247,24 +247,24 @@ module _ (ages : List ℕ) (l : LibraryView) (sound : IsSound l) where
       neither false b c d later = later
 
       go : (s : Bool) → (s ≡ true → r.deck ≡ e)
-          → list_any (λ x. is_in ages x.deck && same_ref x.card ref) rows ≡ (is_in ages e && list_any (λ x. same_ref x.card ref) rows)
-          → ((is_in ages r.deck && s) || list_any (λ x. is_in ages x.deck && same_ref x.card ref) rows)
-          ≡ (is_in ages e && (s || list_any (λ x. same_ref x.card ref) rows))
+          → list_any (λ x. is_loaded ages x.deck && same_ref x.card ref) rows ≡ (is_loaded ages e && list_any (λ x. same_ref x.card ref) rows)
+          → ((is_loaded ages r.deck && s) || list_any (λ x. is_loaded ages x.deck && same_ref x.card ref) rows)
+          ≡ (is_loaded ages e && (s || list_any (λ x. same_ref x.card ref) rows))
       go true here later =
-          ap (λ d. (is_in ages d && true) || list_any (λ x. is_in ages x.deck && same_ref x.card ref) rows) (here refl)
-          ∙ either (is_in ages e) _ _ later
-      go false here later = neither (is_in ages r.deck) _ _ (is_in ages e) later
+          ap (λ d. (is_loaded ages d && true) || list_any (λ x. is_loaded ages x.deck && same_ref x.card ref) rows) (here refl)
+          ∙ either (is_loaded ages e) _ _ later
+      go false here later = neither (is_loaded ages r.deck) _ _ (is_loaded ages e) later
 
   row_there : (k : ℕ) (d : DeckView) (i : ℕ) (c : CardView) → slice_get (all_decks l) k ≡ Some d → slice_get d.cards i ≡ Some c
-      → list_any (λ r. is_in ages r.deck && same_ref r.card (ref_of l.idents c)) (rows_of l).cards ≡ is_in ages d.ident
+      → list_any (λ r. is_loaded ages r.deck && same_ref r.card (ref_of l.idents c)) (rows_of l).cards ≡ is_loaded ages d.ident
   row_there k d i c at_d at_c =
       let ref = ref_of l.idents c in
       any_own d.ident ref (rows_of l).cards (all_flat _ rows_in (all_decks l) (all_by_index (all_decks l)
       (λ j b at_b. rows_all l.idents (λ r. same_ref r.card ref ≡ true → r.deck ≡ d.ident) b.ident 0 b.cards (all_by_index b.cards
       (λ m a at_a q same. one_deck j k b d m i a c at_b at_d at_a at_c same)))))
-      ∙ ap (λ x. is_in ages d.ident && x) (any_flat (λ r. same_ref r.card ref) rows_in (all_decks l) k d at_d
+      ∙ ap (λ x. is_loaded ages d.ident && x) (any_flat (λ r. same_ref r.card ref) rows_in (all_decks l) k d at_d
       (any_row l.idents (λ r. same_ref r.card ref) d.ident 0 d.cards i c at_c (λ q. same_ref_own ref)))
-      ∙ and_true (is_in ages d.ident)
+      ∙ and_true (is_loaded ages d.ident)
     where
       and_true : (b : Bool) → (b && true) ≡ b
       and_true true = refl
@@ -276,24 +276,24 @@ module _ (ages : List ℕ) (l : LibraryView) (sound : IsSound l) where
   entries_in c = entry_rows (ref_of l.idents c) 0 c.history
 
   entry_rows_kept : (tables : Rows) → IsSame tables.cards (rows_of l).cards
-      → filter (is_of (filter (λ r. is_in ages r.deck) tables.cards)) (rows_of l).entries ≡ (rows_of parted).entries
+      → filter (is_of (filter (λ r. is_loaded ages r.deck) tables.cards)) (rows_of l).entries ≡ (rows_of parted).entries
   entry_rows_kept tables same =
       ap (filter test) (flat_flat entries_in (λ d. d.cards) (all_decks l))
-      ∙ filter_flat test (λ d. is_in ages d.ident) (λ d. flat_map entries_in d.cards) (all_decks l)
+      ∙ filter_flat test (λ d. is_loaded ages d.ident) (λ d. flat_map entries_in d.cards) (all_decks l)
       (all_by_index (all_decks l) (λ k d at_d. all_flat _ entries_in d.cards (all_by_index d.cards (λ i c at_c.
-      weaker (entries_in c) (λ e of. told e ∙ ap (λ card. list_any (λ r. is_in ages r.deck && same_ref r.card card) (rows_of l).cards) of
+      weaker (entries_in c) (λ e of. told e ∙ ap (λ card. list_any (λ r. is_loaded ages r.deck && same_ref r.card card) (rows_of l).cards) of
       ∙ row_there k d i c at_d at_c) (of_entries (ref_of l.idents c) 0 c.history)))))
       ∙ ap (flat_map (λ d. flat_map entries_in d.cards)) decks_kept
       ∙ sym (flat_flat entries_in (λ d. d.cards) (all_decks parted))
     where
       test : EntryRow → Bool
-      test = is_of (filter (λ r. is_in ages r.deck) tables.cards)
+      test = is_of (filter (λ r. is_loaded ages r.deck) tables.cards)
 
-      told : (e : EntryRow) → is_of (filter (λ r. is_in ages r.deck) tables.cards) e
-          ≡ list_any (λ r. is_in ages r.deck && same_ref r.card e.card) (rows_of l).cards
+      told : (e : EntryRow) → is_of (filter (λ r. is_loaded ages r.deck) tables.cards) e
+          ≡ list_any (λ r. is_loaded ages r.deck && same_ref r.card e.card) (rows_of l).cards
       told e =
-          any_filter (λ r. is_in ages r.deck) (λ r. same_ref r.card e.card) tables.cards
-          ∙ any_same (λ r. is_in ages r.deck && same_ref r.card e.card) same
+          any_filter (λ r. is_loaded ages r.deck) (λ r. same_ref r.card e.card) tables.cards
+          ∙ any_same (λ r. is_loaded ages r.deck && same_ref r.card e.card) same
 
   abbrev targets_in : CardView → List TargetRow
   targets_in c = target_rows (ref_of l.idents c) 0 c.targets
@@ -316,8 +316,8 @@ module _ (ages : List ℕ) (l : LibraryView) (sound : IsSound l) where
   pub part_shown : (tables : Rows) → Shows tables l → Shows (part_rows ages tables) parted
   part_shown tables shows = record {
     idents = shows.idents;
-    cards = same_trans (same_filter (λ r. is_in ages r.deck) shows.cards) (same_of _ _ card_rows_kept);
-    entries = same_trans (same_filter (is_of (filter (λ r. is_in ages r.deck) tables.cards)) shows.entries)
+    cards = same_trans (same_filter (λ r. is_loaded ages r.deck) shows.cards) (same_of _ _ card_rows_kept);
+    entries = same_trans (same_filter (is_of (filter (λ r. is_loaded ages r.deck) tables.cards)) shows.entries)
         (same_of _ _ (entry_rows_kept tables shows.cards));
     targets = same_trans shows.targets (same_of _ _ target_rows_kept);
   }
@@ -345,7 +345,7 @@ module _ (ages : List ℕ) (l : LibraryView) (sound : IsSound l) where
   refs_in_rows e p [] = refl
   refs_in_rows e p (c ∷ cs) = ap (λ refs. ref_of l.idents c ∷ refs) (refs_in_rows e (p + 1) cs)
 
-  pub rows_apart : (tables : Rows) → Shows tables l → AreRowsApart tables.cards
+  pub rows_apart : (tables : Rows) → Shows tables l → AreOfDistinctCards tables.cards
   rows_apart tables shows card =
       let refs : map (λ (r : CardRow). r.card) (rows_of l).cards ≡ map (ref_of l.idents) (all_cards l) =
       map_flat (λ (r : CardRow). r.card) rows_in (all_decks l) ∙ (λ i. flat_map (λ d. refs_in_rows d.ident 0 d.cards i) (all_decks l))

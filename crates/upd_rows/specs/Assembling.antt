@@ -57,8 +57,8 @@ targets_of card rows = map (λ r. r.target) (filter (λ r. same_ref card r.card)
 
 module _ (idents : List Ident) (entries : List EntryRow) (targets : List TargetRow) where
   -- the card of a row
-  abbrev pub card_in : CardRow → CardView
-  card_in r = record {
+  abbrev pub card_of_row : CardRow → CardView
+  card_of_row r = record {
     ident = age_named idents r.card.name;
     number = r.card.number;
     text = r.body;
@@ -71,8 +71,8 @@ module _ (idents : List Ident) (entries : List EntryRow) (targets : List TargetR
   decks_from deck [] = deck ∷ []
   decks_from deck (r ∷ rows) =
       if r.deck == deck.ident
-      then decks_from (record deck { cards = deck.cards ++ card_in r ∷ [] }) rows
-      else deck ∷ decks_from (record { ident = r.deck; cards = card_in r ∷ [] }) rows
+      then decks_from (record deck { cards = deck.cards ++ card_of_row r ∷ [] }) rows
+      else deck ∷ decks_from (record { ident = r.deck; cards = card_of_row r ∷ [] }) rows
 
   -- all decks of rows, the first of which is `YANK$$$`
   abbrev pub decks_in : List CardRow → List DeckView

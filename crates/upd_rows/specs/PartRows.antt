@@ -6,8 +6,8 @@ use Rattle.upd_core.specs.Edits.{is_among}
 use Rattle.upd_change.specs.Rows.{CardRow, EntryRow, Rows, same_ref}
 
 -- whether a deck is loaded: `YANK$$$` always, others where they are of these ages
-abbrev pub is_in : List ℕ → ℕ → Bool
-is_in ages d = (d == 0) || is_among ages d
+abbrev pub is_loaded : List ℕ → ℕ → Bool
+is_loaded ages d = (d == 0) || is_among ages d
 
 -- whether an entry is of one of these cards
 abbrev pub is_of : List CardRow → EntryRow → Bool
@@ -16,10 +16,10 @@ is_of cards e = list_any (λ r. same_ref r.card e.card) cards
 -- the tables with the cards of the loaded decks alone, and the entries of these
 abbrev pub part_rows : List ℕ → Rows → Rows
 part_rows ages rows = record rows {
-  cards = filter (λ r. is_in ages r.deck) rows.cards;
-  entries = filter (is_of (filter (λ r. is_in ages r.deck) rows.cards)) rows.entries;
+  cards = filter (λ r. is_loaded ages r.deck) rows.cards;
+  entries = filter (is_of (filter (λ r. is_loaded ages r.deck) rows.cards)) rows.entries;
 }
 
 -- no two rows are of one card
-abbrev pub AreApart : List CardRow → Type 0
-AreApart rows = (card : CardRef) → count_by (λ r. same_ref card r.card) rows ≤ 1
+abbrev pub AreOfDistinctCards : List CardRow → Type 0
+AreOfDistinctCards rows = (card : CardRef) → count_by (λ r. same_ref card r.card) rows ≤ 1

@@ -6,10 +6,10 @@ ghost use Rattle.upd_core.specs.Sound.{IsSound, IsWhole};
 ghost use Rattle.upd_core.specs.declared.ident.Ident.{Ident};
 ghost use Rattle.upd_change.specs.Rows.{Rows, Shows, same_ref};
 ghost use Rattle.upd_rows.specs.Assembling.{AreAgesOf, AreByAge, AreByCard, AreByPlace, AreRowsOf};
-ghost use Rattle.upd_rows.specs.Assembling.{AreTargetsByCard, age_named, card_in, decks_in, entries_of, library_of};
+ghost use Rattle.upd_rows.specs.Assembling.{AreTargetsByCard, age_named, card_of_row, decks_in, entries_of, library_of};
 ghost use Rattle.upd_rows.specs.Assembling.{targets_of};
 ghost use Rattle.upd_core.specs.Parts.{part_of};
-ghost use Rattle.upd_rows.specs.PartRows.{AreApart, part_rows};
+ghost use Rattle.upd_rows.specs.PartRows.{AreOfDistinctCards, part_rows};
 
 use crate::parts::part_of;
 use crate::rows::{CardRow, EntryRow, LibraryRows, TargetRow};
@@ -137,7 +137,7 @@ fn card_of(
     requires entries { AreByCard rows.now.entries.items }
     requires targets { AreTargetsByCard rows.now.targets.items }
     ensures { IfOk result (λ card. card
-        ≡ card_in rows.now.idents.items rows.now.entries.items rows.now.targets.items row.now) }
+        ≡ card_of_row rows.now.idents.items rows.now.entries.items rows.now.targets.items row.now) }
 {
     let text = Vec::from_slice(alloc, &row.body)?;
     let history = history_of(alloc, &rows.entries, &row.card)?;
@@ -250,7 +250,7 @@ pub fn assembled_rest(
     entries: u64,
 ) -> Result<Library, AllocError>
     ensures { (ages : List ℕ) (tables : Rows) (l : LibraryView) → IsSound l → IsWhole l → Shows tables l
-        → (AreApart tables.cards → AreRowsOf (part_rows ages tables) rows) → cards ≡ length tables.cards
+        → (AreOfDistinctCards tables.cards → AreRowsOf (part_rows ages tables) rows) → cards ≡ length tables.cards
         → entries ≡ length tables.entries → IfOk result (λ found. found ≡ part_of ages l) }
 {
     let rest = Rest {

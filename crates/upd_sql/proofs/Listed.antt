@@ -18,7 +18,7 @@ use Rattle.sqlite.proofs.Callers.{IsPlain, command_of, reads_as}
 use Rattle.upd_change.specs.Rows.{IsSame}
 use Rattle.upd_change.proofs.CountLemmas.{count_cons, same_of, same_trans, same_append}
 use Rattle.upd_tables.specs.Keyed.{plain_query}
-use Rattle.upd_tables.specs.Stored.{Holds, rows_at}
+use Rattle.upd_tables.specs.Stored.{HoldsAllRows, rows_at}
 use Rattle.upd_tables.proofs.Frames.{is_lone, showing}
 use Rattle.upd_tables.proofs.Shapes.{selects}
 use Rattle.upd_sql.specs.Schema.{library_schema}
@@ -83,7 +83,7 @@ pub lists : (k tree : ℕ) (alone : is_lone tree k library_schema.tables ≡ tru
     (are : rows_at k all ≡ map row xs)
     (sql : List ℕ) (params : Row) (plain : IsPlain (understood library_schema sql)) (unlisted : reads_listing library_schema sql ≡ false) (old new : State)
     (rows : List Row)
-    (shown : Shown sql params old new rows) (h : Holds library_schema all old.now) (tests project : List Term) (order : List (Term × Key))
+    (shown : Shown sql params old new rows) (h : HoldsAllRows library_schema all old.now) (tests project : List Term) (order : List (Term × Key))
     (names : List (List ℕ))
     → command_of (understood library_schema sql) ≡ Select (record { lets = []; body = plain_query tree tests project order }) names
     → list_all is_bare tests ≡ true → list_all is_bare project ≡ true → list_all is_bare (map (λ o. o.0) order) ≡ true

@@ -9,7 +9,7 @@ use Rattle.sqlite.specs.Effect.{Database}
 use Rattle.sqlite.specs.Listing.{understood}
 use Rattle.sqlite.specs.State.{State, Executes}
 use Rattle.sqlite.proofs.Callers.{runs_as}
-use Rattle.upd_tables.specs.Stored.{Holds}
+use Rattle.upd_tables.specs.Stored.{HoldsAllRows}
 use Rattle.upd_tables.specs.Steps.{Ran, Steps}
 use Rattle.upd_sql.specs.Commits.{WasOpen}
 use Rattle.upd_tables.proofs.Chains.{steps_then, clean_before}
@@ -88,13 +88,13 @@ pub next_made : (n : ℕ) (sql : List ℕ) → MakesNext n sql → (old new : St
     → HasMade (n + 1) new.now
 next_made n sql m old new count ran h =
     let w = runs_as sql [] old new (schema_up_to n) h.schema_is CreateTable m.is m.plain count ran in
-    subst₂ (λ s rs. Holds s rs new.now) m.next m.rows (creates (schema_up_to n) m.table old new (no_rows_in n) _ [] count m.defined m.lacks h w)
+    subst₂ (λ s rs. HoldsAllRows s rs new.now) m.next m.rows (creates (schema_up_to n) m.table old new (no_rows_in n) _ [] count m.defined m.lacks h w)
 
 -- the version is told
 pub version_told : (old new : State) (count : ℕ) → Executes text.insert_version [] old new (Ok count) → HasMade 9 old.now → Stands no_rows new.now
 version_told old new count ran h =
     let w = runs_as text.insert_version [] old new library_schema h.schema_is _ text.insert_version_is text.insert_version_plain count ran in
-    subst (λ row. Holds library_schema ((row ∷ []) ∷ [] ∷ [] ∷ [] ∷ [] ∷ [] ∷ [] ∷ [] ∷ [] ∷ []) new.now) (rw (cast_int (pos 3)) refl)
+    subst (λ row. HoldsAllRows library_schema ((row ∷ []) ∷ [] ∷ [] ∷ [] ∷ [] ∷ [] ∷ [] ∷ [] ∷ [] ∷ []) new.now) (rw (cast_int (pos 3)) refl)
     (inserts library_schema 0 0 (codes "meta") meta_columns (1 ∷ []) refl refl (λ _ _. refl) old new (no_rows_in 9) _ [] count h
     (lit Null ∷ lit (Text (codes "version")) ∷ lit (Int (pos 3)) ∷ []) 3 version_row refl w)
 

@@ -10,7 +10,7 @@ use Rattle.upd_rows.specs.Tables.{is_mark_of, mark_at, settled_to}
 use Rattle.upd_tables.specs.Steps.{Steps, Makes}
 use Rattle.upd_tables.proofs.Chains.{clean_before, steps_then}
 use Rattle.upd_sql.specs.Commits.{LeavesTables}
-use Rattle.upd_sql.specs.Parts.{marked}
+use Rattle.upd_sql.specs.Parts.{with_runs_settled}
 use Rattle.upd_sql.specs.Stands.{Stands, AnyTables}
 
 low : (n m : ℕ) → n ≤ m → nat_le n m ≡ true
@@ -20,10 +20,10 @@ high : (n m : ℕ) → m < n → nat_le n m ≡ false
 high n m h = grind (arith, nat_tests)
 
 stays_as : (site : List ℕ) (n : ℕ) (it : Rows) → n ≤ mark_at site it → settled_to site n it ≡ it
-stays_as site n it h = ap (λ b. if b then it else marked site n it) (low n (mark_at site it) h)
+stays_as site n it h = ap (λ b. if b then it else with_runs_settled site n it) (low n (mark_at site it) h)
 
-rises_as : (site : List ℕ) (n : ℕ) (it : Rows) → mark_at site it < n → settled_to site n it ≡ marked site n it
-rises_as site n it h = ap (λ b. if b then it else marked site n it) (high n (mark_at site it) h)
+rises_as : (site : List ℕ) (n : ℕ) (it : Rows) → mark_at site it < n → settled_to site n it ≡ with_runs_settled site n it
+rises_as site n it h = ap (λ b. if b then it else with_runs_settled site n it) (high n (mark_at site it) h)
 
 bytes_itself : (a : List ℕ) → bytes_eq a a ≡ true
 bytes_itself [] = refl
@@ -44,7 +44,7 @@ found_behind site n (m ∷ marks) = go (is_mark_of site m) refl (found_behind si
     go true e more = more
     go false e more = rw e more
 
-pub mark_of_marked : (site : List ℕ) (n : ℕ) (it : Rows) → mark_at site (marked site n it) ≡ n
+pub mark_of_marked : (site : List ℕ) (n : ℕ) (it : Rows) → mark_at site (with_runs_settled site n it) ≡ n
 mark_of_marked site n it = ap (λ o. option_map_or (λ (m : MarkRow). m.mark) o 0) (found_behind site n it.settled)
 
 module _ (site : List ℕ) (n mark : ℕ) (old mid : State) (steps : Steps {X = ℕ} old mid (Ok mark)) (same : LeavesTables {X = ℕ} old mid (Ok mark))
@@ -60,7 +60,7 @@ module _ (site : List ℕ) (n mark : ℕ) (old mid : State) (steps : Steps {X = 
   pub mark_stays_at : n ≤ mark → HasCleanDisk mid → (it : Rows) → Stands it old.now → mark ≡ mark_at site (settled_to site n it)
   mark_stays_at h clean it stands = found clean it stands ∙ ap (mark_at site) (sym (stays_as site n it (omega (arith, h, found clean it stands))))
 
-  pub mark_rises : {Y : Type 0} (new : State) (r : Result Y Error) → mark < n → Makes Stands AnyTables (marked site n) mid new r
+  pub mark_rises : {Y : Type 0} (new : State) (r : Result Y Error) → mark < n → Makes Stands AnyTables (with_runs_settled site n) mid new r
       → Makes Stands AnyTables (settled_to site n) old new r
   mark_rises new (Ok y) h m = record {
     steps = steps_then old mid new mark (Ok y) steps m.steps;

@@ -13,7 +13,7 @@ use Rattle.upd_text.specs.declared.card_ref.CardRef.{CardRef}
 use Rattle.upd_change.specs.Rows.{CardRow, EntryRow, IsSame, Rows, same_ref}
 use Rattle.upd_change.proofs.CountLemmas.{count_append, count_cons, count_filter, same_append, same_map, same_trans}
 use Rattle.upd_rows.specs.Asked.{AreDecksOf, is_asked}
-use Rattle.upd_rows.specs.PartRows.{AreApart, is_in, is_of}
+use Rattle.upd_rows.specs.PartRows.{AreOfDistinctCards, is_loaded, is_of}
 use Rattle.upd_tables.specs.Keyed.{at_most_64}
 use Rattle.upd_tables.proofs.Frames.{showing}
 use Rattle.upd_tables.proofs.Shapes.{counts}
@@ -154,7 +154,7 @@ decks_more cards c rows ages found before more d =
         ∙ ap (λ b. (r.deck == d) && b) (sym (any_append (λ k. same_ref k r.card) cards (c ∷ [])))
 
 -- ages of one deck at most
-pub in_none : (ages : List ℕ) → length ages < 1 → (d : ℕ) → is_in ages d ≡ ((d == 0) || (d == 0))
+pub in_none : (ages : List ℕ) → length ages < 1 → (d : ℕ) → is_loaded ages d ≡ ((d == 0) || (d == 0))
 in_none [] few d = twice (d == 0)
   where
     twice : (b : Bool) → (b || false) ≡ (b || b)
@@ -162,7 +162,7 @@ in_none [] few d = twice (d == 0)
     twice false = refl
 in_none (a ∷ ages) few d = absurd (omega arith)
 
-pub in_one : (ages : List ℕ) (x : ℕ) → 1 ≤ length ages → length ages < 2 → (d : ℕ) → is_in ages d ≡ ((d == 0) || (d == get_or ages 0 x))
+pub in_one : (ages : List ℕ) (x : ℕ) → 1 ≤ length ages → length ages < 2 → (d : ℕ) → is_loaded ages d ≡ ((d == 0) || (d == get_or ages 0 x))
 in_one [] x some few d = absurd (omega arith)
 in_one (a ∷ []) x some few d = ap (λ b. (d == 0) || b) (or_nothing (a == d) ∙ nat_flip a d)
 in_one (a ∷ b ∷ ages) x some few d = absurd (omega arith)
@@ -218,17 +218,17 @@ within test keep (x ∷ xs) =
     less false false = omega arith
 
 -- what is left of rows is as far apart
-pub apart_kept : (keep : CardRow → Bool) (rows found : List CardRow) → AreApart rows → IsSame found (filter keep rows) → AreApart found
+pub apart_kept : (keep : CardRow → Bool) (rows found : List CardRow) → AreOfDistinctCards rows → IsSame found (filter keep rows) → AreOfDistinctCards found
 apart_kept keep rows found apart same card =
     let test = λ (r : CardRow). same_ref card r.card in
     omega (arith, apart card, same.passes test, count_filter test keep rows, within test keep rows)
 
-apart_taken : (rows : List CardRow) (n : ℕ) → AreApart rows → AreApart (take n rows)
+apart_taken : (rows : List CardRow) (n : ℕ) → AreOfDistinctCards rows → AreOfDistinctCards (take n rows)
 apart_taken rows n apart card =
     let test = λ (r : CardRow). same_ref card r.card in
     omega (arith, apart card, ap (count_by test) (take-append-drop n rows), count_append test (take n rows) (drop n rows))
 
-pub entries_more : (cards : List CardRow) (c : CardRow) (entries found more : List EntryRow) → AreApart (cards ++ c ∷ [])
+pub entries_more : (cards : List CardRow) (c : CardRow) (entries found more : List EntryRow) → AreOfDistinctCards (cards ++ c ∷ [])
     → IsSame found (filter (is_of cards) entries)
     → IsSame more (filter (λ e. same_ref c.card e.card) entries) → IsSame (found ++ more) (filter (is_of (cards ++ c ∷ [])) entries)
 entries_more cards c entries found more apart before own =
@@ -253,12 +253,12 @@ entries_more cards c entries found more apart before own =
 
 -- one more card in a walk over cards
 pub entries_next : (cards : List CardRow) (i : ℕ) (c : CardRow) (entries found more : List EntryRow) → i < length cards → c ≡ get_or cards i c
-    → (AreApart cards → IsSame found (filter (is_of (take i cards)) entries))
-    → IsSame more (filter (λ e. same_ref c.card e.card) entries) → AreApart cards → IsSame (found ++ more) (filter (is_of (take (i + 1) cards)) entries)
+    → (AreOfDistinctCards cards → IsSame found (filter (is_of (take i cards)) entries))
+    → IsSame more (filter (λ e. same_ref c.card e.card) entries) → AreOfDistinctCards cards → IsSame (found ++ more) (filter (is_of (take (i + 1) cards)) entries)
 entries_next cards i c entries found more inside is before own apart =
     let next : take (i + 1) cards ≡ take i cards ++ c ∷ [] = take_more cards i c inside ∙ ap (λ x. take i cards ++ x ∷ []) (sym is) in
     subst (λ cs. IsSame (found ++ more) (filter (is_of cs) entries)) (sym next)
-    (entries_more (take i cards) c entries found more (subst AreApart next (apart_taken cards (i + 1) apart)) (before apart) own)
+    (entries_more (take i cards) c entries found more (subst AreOfDistinctCards next (apart_taken cards (i + 1) apart)) (before apart) own)
 
 pub no_entries : (entries : List EntryRow) → IsSame [] (filter (is_of []) entries)
 no_entries entries = record { passes = λ test. go test entries }

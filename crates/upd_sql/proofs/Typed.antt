@@ -22,7 +22,7 @@ use Rattle.sqlite.specs.State.{State, HasCleanDisk, Executes, Shown, Survives}
 use Rattle.sqlite.proofs.Callers.{IsPlain, command_of, runs_as, reads_as}
 use Rattle.upd_change.specs.Rows.{Rows}
 use Rattle.upd_tables.specs.Keyed.{keyed, plain_query, row_order}
-use Rattle.upd_tables.specs.Stored.{Holds, rows_at, with_rows}
+use Rattle.upd_tables.specs.Stored.{HoldsAllRows, rows_at, with_rows}
 use Rattle.upd_tables.specs.Steps.{Steps, Ran, Makes}
 use Rattle.upd_tables.proofs.Frames.{is_lone}
 use Rattle.upd_tables.proofs.Shapes.{inserts, deletes, updates, reads_in_order}
@@ -43,28 +43,28 @@ module _ (k tree : ℕ) (name : List ℕ) (columns : List Column) (key : List �
     (alone : is_lone tree k library_schema.tables ≡ true) (free : (olds news : List Row) → works library_schema Enforced 0 tree olds news ≡ [])
     {X : Type 0} (row : X → Row) (all : List (List Row)) (xs : List X) (are : rows_at k all ≡ map row xs)
     (sql : List ℕ) (params : Row) (plain : IsPlain (understood library_schema sql)) (old new : State) (count : ℕ) (ran : Executes sql params old new (Ok count))
-    (h : Holds library_schema all old.now) where
+    (h : HoldsAllRows library_schema all old.now) where
   pub adds : (terms : List Term) (width : ℕ) → command_of (understood library_schema sql) ≡ Insert k (Values terms width) → (x : X)
       → value_rows (params ++ []) width (length terms / width) terms ≡ (Null ∷ row x) ∷ [] → cast_all columns (row x) ≡ row x
-      → Holds library_schema (with_rows k (map row (xs ++ x ∷ [])) all) new.now
+      → HoldsAllRows library_schema (with_rows k (map row (xs ++ x ∷ [])) all) new.now
   adds terms width is x source cast =
       let w = runs_as sql params old new library_schema h.schema_is _ is plain count ran in
       let rows : rows_at k all ++ cast_all columns (row x) ∷ [] ≡ map row (xs ++ x ∷ []) = ap (λ v. rows_at k all ++ v ∷ []) cast
       ∙ ap (λ rs. rs ++ row x ∷ []) are ∙ sym (map-append row xs (x ∷ [])) in
-      subst (λ rs. Holds library_schema (with_rows k rs all) new.now) rows
+      subst (λ rs. HoldsAllRows library_schema (with_rows k rs all) new.now) rows
       (inserts library_schema k tree name columns key at alone free old new all _ params count h terms width (row x) source w)
 
   pub removes : (tests : List Term) → command_of (understood library_schema sql)
       ≡ Delete k (record { lets = []; body = plain_query tree tests (col 1 0 ∷ []) [] })
       → list_all is_bare tests ≡ true
       → (q : X → Bool) → ((x : X) → list_all (holds (params ∷ (Null ∷ row x) ∷ [])) tests ≡ q x)
-      → Holds library_schema (with_rows k (map row (filter (λ x. not (q x)) xs)) all) new.now
+      → HoldsAllRows library_schema (with_rows k (map row (filter (λ x. not (q x)) xs)) all) new.now
   removes tests is bare q means =
       let w = runs_as sql params old new library_schema h.schema_is _ is plain count ran in
       let p = λ (v : Row). list_all (holds (params ∷ (Null ∷ v) ∷ [])) tests in
       let rows : filter (λ v. not (p v)) (rows_at k all) ≡ map row (filter (λ x. not (q x)) xs) =
       ap (filter (λ v. not (p v))) are ∙ filter-map (λ v. not (p v)) row xs ∙ ap (map row) (filter_same _ _ (λ x. ap not (means x)) xs) in
-      subst (λ rs. Holds library_schema (with_rows k rs all) new.now) rows
+      subst (λ rs. HoldsAllRows library_schema (with_rows k rs all) new.now) rows
       (deletes library_schema k tree name columns key at alone free old new all _ params count h tests p (own old.now.trees tree)
       (λ r. bare_tests params r tests bare) w)
 
@@ -75,14 +75,14 @@ module _ (k tree : ℕ) (name : List ℕ) (columns : List Column) (key : List �
       → (change : X → X)
       → AllByRecursion (λ x. (if list_all (holds (params ∷ (Null ∷ row x) ∷ [])) tests then cast_all columns
       (eval_all news (params ∷ (Null ∷ row x) ∷ [])) else row x) ≡ row (change x)) xs
-      → Holds library_schema (with_rows k (map row (map change xs)) all) new.now
+      → HoldsAllRows library_schema (with_rows k (map row (map change xs)) all) new.now
   changes tests news is bare bare_news change each =
       let w = runs_as sql params old new library_schema h.schema_is _ is plain count ran in
       let p = λ (v : Row). list_all (holds (params ∷ (Null ∷ v) ∷ [])) tests in
       let f = λ (v : Row). eval_all news (params ∷ (Null ∷ v) ∷ []) in
       let rows : map (λ v. if p v then cast_all columns (f v) else v) (rows_at k all) ≡ map row (map change xs) =
       ap (map (λ v. if p v then cast_all columns (f v) else v)) are ∙ map-map _ row xs ∙ mapped_each _ _ xs each ∙ sym (map-map row change xs) in
-      subst (λ rs. Holds library_schema (with_rows k rs all) new.now) rows
+      subst (λ rs. HoldsAllRows library_schema (with_rows k rs all) new.now) rows
       (updates library_schema k tree name columns key at alone free old new all _ params count h tests news p f (own old.now.trees tree)
       (λ r. bare_tests params r tests bare) (λ r. bare_values params r news bare_news) w)
 
@@ -91,7 +91,7 @@ pub reads_exactly : (k tree : ℕ) (alone : is_lone tree k library_schema.tables
     (are : rows_at k all ≡ map row xs)
     (sql : List ℕ) (params : Row) (plain : IsPlain (understood library_schema sql)) (unlisted : reads_listing library_schema sql ≡ false) (old new : State)
     (rows : List Row)
-    (shown : Shown sql params old new rows) (h : Holds library_schema all old.now) (tests project : List Term) (names : List (List ℕ))
+    (shown : Shown sql params old new rows) (h : HoldsAllRows library_schema all old.now) (tests project : List Term) (names : List (List ℕ))
     → command_of (understood library_schema sql) ≡ Select (record { lets = []; body = plain_query tree tests project row_order }) names
     → list_all is_bare tests ≡ true → list_all is_bare project ≡ true
     → (q : X → Bool) → ((x : X) → list_all (holds (params ∷ (Null ∷ row x) ∷ [])) tests ≡ q x)

@@ -17,7 +17,7 @@ use Rattle.upd_change.specs.Rows.{Rows}
 use Rattle.sqlite_trees.specs.Tree.{Trees}
 use Rattle.upd_sql.specs.Commits.{ShowsIn}
 use Rattle.upd_tables.specs.Steps.{Steps}
-use Rattle.upd_tables.specs.Stored.{Holds}
+use Rattle.upd_tables.specs.Stored.{HoldsAllRows}
 use Rattle.upd_sql.specs.Schema.{meta, idents, cards, entries, targets, runs, states, counts, settled, no_schema}
 
 -- the tables in the order in which they are made
@@ -39,7 +39,7 @@ no_rows_in (suc n) = no_rows_in n ++ [] ∷ []
 
 -- the database has the first so many tables, all of them empty
 abbrev pub HasMade : ℕ → Database → Type 0
-HasMade n = Holds (schema_up_to n) (no_rows_in n)
+HasMade n = HoldsAllRows (schema_up_to n) (no_rows_in n)
 
 -- an empty library's tables
 abbrev pub no_rows : Rows

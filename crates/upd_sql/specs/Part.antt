@@ -2,13 +2,13 @@
 use Rattle.std.specs.Prelude.{◌≡◌, ℕ, List, length}
 use Rattle.upd_change.specs.Rows.{IsSame, Rows}
 use Rattle.upd_rows.specs.Assembling.{AreRowsOf}
-use Rattle.upd_rows.specs.PartRows.{AreApart, part_rows}
+use Rattle.upd_rows.specs.PartRows.{AreOfDistinctCards, part_rows}
 use Rattle.upd_sql.specs.declared.active.ActiveRows.{ActiveRows}
 use Rattle.upd_sql.specs.declared.part.Part.{Part}
 
 -- What is read of tables for the decks of these ages: their rows, where no two rows are of one card, and the numbers of all cards and entries.
 pub record IsPart (ages : List ℕ) (tables : Rows) (found : Part) : Type 0 where
-  pub rows : AreApart tables.cards → AreRowsOf (part_rows ages tables) found.rows
+  pub rows : AreOfDistinctCards tables.cards → AreRowsOf (part_rows ages tables) found.rows
   pub cards : found.cards ≡ length tables.cards
   pub entries : found.entries ≡ length tables.entries
 

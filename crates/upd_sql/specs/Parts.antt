@@ -40,8 +40,8 @@ abbrev pub without_runs : List ℕ → ℕ → Rows → Rows
 without_runs site n rows = record rows { runs = filter (λ r. not (is_settled site n r)) rows.runs }
 
 -- with a site's runs up to a number gone and its mark at that number
-abbrev pub marked : List ℕ → ℕ → Rows → Rows
-marked site n rows = record rows {
+abbrev pub with_runs_settled : List ℕ → ℕ → Rows → Rows
+with_runs_settled site n rows = record rows {
   runs = filter (λ r. not (is_settled site n r)) rows.runs;
   settled = filter (λ m. not (is_mark_of site m)) rows.settled ++ record { site = site; mark = n } ∷ [];
 }

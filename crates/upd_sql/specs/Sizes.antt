@@ -9,7 +9,7 @@ use Rattle.upd_change.specs.Changes.{ChangeView, IdentNew, IdentPurged, CardNew,
 use Rattle.upd_change.specs.Changes.{CountNow}
 use Rattle.upd_change.specs.Rows.{Rows}
 use Rattle.upd_tables.specs.Steps.{Makes}
-use Rattle.upd_tables.specs.Stored.{Holds, rows_at}
+use Rattle.upd_tables.specs.Stored.{HoldsAllRows, rows_at}
 use Rattle.upd_sql.specs.Schema.{library_schema}
 use Rattle.upd_sql.specs.declared.part.Part.{Part}
 use Rattle.upd_sql.specs.declared.sizes.Sizes.{Sizes}
@@ -43,9 +43,9 @@ abbrev pub sizes_of : Part → Sizes
 sizes_of part = record { cards = part.cards; entries = part.entries }
 
 -- A database of the library's schema, whose rowids rise, has so many rows of cards and of entries.
-pub record Counted (n : Sizes) (db : Database) : Type 0 where
+pub record HoldsSizes (n : Sizes) (db : Database) : Type 0 where
   pub all : List (List Row)
-  pub holds : Holds library_schema all db
+  pub holds : HoldsAllRows library_schema all db
   pub cards : n.cards ≡ length (rows_at 2 all)
   pub entries : n.entries ≡ length (rows_at 3 all)
 
@@ -72,17 +72,17 @@ TakeNone [] = Unit {0}
 TakeNone (c ∷ cs) = TakesNone c × TakeNone cs
 
 -- with one card more
-abbrev pub with_card : Sizes → Sizes
-with_card n = record { cards = n.cards + 1; entries = n.entries }
+abbrev pub one_card_more : Sizes → Sizes
+one_card_more n = record { cards = n.cards + 1; entries = n.entries }
 
 -- with one entry more
-abbrev pub with_entry : Sizes → Sizes
-with_entry n = record { cards = n.cards; entries = n.entries + 1 }
+abbrev pub one_entry_more : Sizes → Sizes
+one_entry_more n = record { cards = n.cards; entries = n.entries + 1 }
 
 -- the numbers after a change that takes none away
 abbrev pub sized : ChangeView → Sizes → Sizes
-sized (CardNew card deck p body) n = with_card n
-sized (EntryNew card ord entry) n = with_entry n
+sized (CardNew card deck p body) n = one_card_more n
+sized (EntryNew card ord entry) n = one_entry_more n
 sized (CardGone card) n = n
 sized (EntriesGone card) n = n
 sized (IdentNew i) n = n
@@ -99,18 +99,18 @@ sized_all [] n = n
 sized_all (c ∷ cs) n = sized_all cs (sized c n)
 
 -- numbers that were known lead to these by changes that take none away
-abbrev pub LeadTo : List ChangeView → Option Sizes → Sizes → Type 0
-LeadTo cs None m = ⊥
-LeadTo cs (Some n) m = TakeNone cs × (m ≡ sized_all cs n)
+abbrev pub LeadToSizes : List ChangeView → Option Sizes → Sizes → Type 0
+LeadToSizes cs None m = ⊥
+LeadToSizes cs (Some n) m = TakeNone cs × (m ≡ sized_all cs n)
 
 -- a statement that leaves the numbers
 abbrev pub KeepsSizes : {X : Type 0} → State → State → Result X Error → Type 0
-KeepsSizes old new r = Makes Counted AnySizes (λ n. n) old new r
+KeepsSizes old new r = Makes HoldsSizes AnySizes (λ n. n) old new r
 
 -- what a change does to the numbers, where it takes none away
 abbrev pub Sized : {X : Type 0} → ChangeView → State → State → Result X Error → Type 0
-Sized c old new r = Makes Counted (λ _. TakesNone c) (sized c) old new r
+Sized c old new r = Makes HoldsSizes (λ _. TakesNone c) (sized c) old new r
 
 -- what changes in order do to them
 abbrev pub SizedAll : {X : Type 0} → List ChangeView → State → State → Result X Error → Type 0
-SizedAll cs old new r = Makes Counted (λ _. TakeNone cs) (sized_all cs) old new r
+SizedAll cs old new r = Makes HoldsSizes (λ _. TakeNone cs) (sized_all cs) old new r

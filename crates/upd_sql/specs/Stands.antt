@@ -1,17 +1,17 @@
 -- When the tables stand in a database.
 use Rattle.sqlite.specs.Effect.{Database}
 use Rattle.upd_change.specs.Rows.{Rows}
-use Rattle.upd_tables.specs.Stored.{Shows, Holds}
+use Rattle.upd_tables.specs.Stored.{HasAllRows, HoldsAllRows}
 use Rattle.upd_sql.specs.Schema.{library_schema}
 use Rattle.upd_sql.specs.Encoded.{stored}
 
 -- the database has the library's schema, and these tables
 abbrev pub ShowsTables : Rows → Database → Type 0
-ShowsTables rows = Shows library_schema (stored rows)
+ShowsTables rows = HasAllRows library_schema (stored rows)
 
 -- the same, and in each table the rowids rise
 abbrev pub Stands : Rows → Database → Type 0
-Stands rows = Holds library_schema (stored rows)
+Stands rows = HoldsAllRows library_schema (stored rows)
 
 -- no condition on the tables
 abbrev pub AnyTables : Rows → Type 0

@@ -9,7 +9,7 @@ ghost use Rattle.sqlite.specs.State.{HasCleanDisk, Shown};
 ghost use Rattle.upd_change.specs.Rows.{IsSame, Rows, same_ref};
 ghost use Rattle.upd_rows.specs.Asked.{AreDecksOf};
 ghost use Rattle.upd_rows.specs.Assembling.{AreRowsOf};
-ghost use Rattle.upd_rows.specs.PartRows.{AreApart, is_in, is_of, part_rows};
+ghost use Rattle.upd_rows.specs.PartRows.{AreOfDistinctCards, is_loaded, is_of, part_rows};
 ghost use Rattle.upd_tables.specs.Keyed.{at_most_64};
 ghost use Rattle.upd_sql.specs.Commits.{Looks};
 ghost use Rattle.upd_sql.specs.Encoded.{num};
@@ -107,15 +107,15 @@ fn cards_of_deck<S: Alter>(
 }
 
 /// Whether a deck is `YANK$$$` or of these ages.
-fn is_in(ages: &[Serial], deck: Serial) -> bool
-    ensures { result ≡ is_in ages.now deck }
+fn is_loaded(ages: &[Serial], deck: Serial) -> bool
+    ensures { result ≡ is_loaded ages.now deck }
 {
     deck == 0 || ages.contains(&deck)
 }
 
 /// The deck that is asked for where it is one alone, `YANK$$$` where there is none.
 fn lone_deck(ages: &[Serial]) -> Option<Serial>
-    ensures { IfSome result (λ deck. (d : ℕ) → is_in ages.now d ≡ ((d == 0) || (d == deck))) }
+    ensures { IfSome result (λ deck. (d : ℕ) → is_loaded ages.now d ≡ ((d == 0) || (d == deck))) }
 {
     match ages {
         [] => Some(0),
@@ -126,9 +126,9 @@ fn lone_deck(ages: &[Serial]) -> Option<Serial>
 
 /// Takes the cards of other decks away.
 fn keep_cards(cards: &mut Vec<CardRow>, ages: &[Serial])
-    ensures { cards.new.items ≡ filter (λ r. is_in ages.now r.deck) cards.old.items }
+    ensures { cards.new.items ≡ filter (λ r. is_loaded ages.now r.deck) cards.old.items }
 {
-    cards.retain(|card| is_in(ages, card.deck));
+    cards.retain(|card| is_loaded(ages, card.deck));
 }
 
 /// The cards of `YANK$$$` and of the decks of these ages.
@@ -138,7 +138,7 @@ fn cards_of_decks<S: Alter>(
     ages: &[Serial],
 ) -> Result<Vec<CardRow>, Error>
     ensures same_reference { tx.new.conn.ghost_name ≡ tx.old.conn.ghost_name }
-    ensures looks { Looks (λ it found. IsSame found.items (filter (λ r. is_in ages.now r.deck) it.cards))
+    ensures looks { Looks (λ it found. IsSame found.items (filter (λ r. is_loaded ages.now r.deck) it.cards))
         (state S.Store tx.old.conn.now) (state S.Store tx.new.conn.now) result }
 {
     match lone_deck(ages) {
@@ -176,7 +176,7 @@ fn entries_of_cards<S: Alter>(
     cards: &[CardRow],
 ) -> Result<Vec<EntryRow>, Error>
     ensures same_reference { tx.new.conn.ghost_name ≡ tx.old.conn.ghost_name }
-    ensures looks { Looks (λ it found. AreApart cards.now → IsSame found.items (filter (is_of cards.now) it.entries))
+    ensures looks { Looks (λ it found. AreOfDistinctCards cards.now → IsSame found.items (filter (is_of cards.now) it.entries))
         (state S.Store tx.old.conn.now) (state S.Store tx.new.conn.now) result }
 {
     look_at_nothing(tx)?;
@@ -256,7 +256,7 @@ fn part_rows_in<S: Alter>(
     ages: &[Serial],
 ) -> Result<LibraryRows, Error>
     ensures same_reference { tx.new.conn.ghost_name ≡ tx.old.conn.ghost_name }
-    ensures looks { Looks (λ it found. AreApart it.cards → AreRowsOf (part_rows ages.now it) found)
+    ensures looks { Looks (λ it found. AreOfDistinctCards it.cards → AreRowsOf (part_rows ages.now it) found)
         (state S.Store tx.old.conn.now) (state S.Store tx.new.conn.now) result }
 {
     let idents = idents_in(tx, alloc)?;

@@ -6,7 +6,7 @@ ghost use Rattle.upd_change.specs.Rows.{Rows};
 ghost use Rattle.upd_rows.specs.Tables.{mark_at, settled_to};
 ghost use Rattle.upd_tables.specs.Steps.{Makes};
 ghost use Rattle.upd_sql.specs.Commits.{Commits, MayCommit, WasOpen};
-ghost use Rattle.upd_sql.specs.Parts.{marked};
+ghost use Rattle.upd_sql.specs.Parts.{with_runs_settled};
 ghost use Rattle.upd_sql.specs.Stands.{AnyTables, ShowsTables, Stands};
 
 use crate::reads::mark_in;
@@ -17,7 +17,7 @@ use upd_order::{Rising, note_settled};
 /// The site's runs up to a number go, and the number is its mark.
 fn set_mark<S: Alter>(tx: &mut Transaction<'_, S>, site: &str, number: u64) -> Result<(), Error>
     ensures same_reference { tx.new.conn.ghost_name ≡ tx.old.conn.ghost_name }
-    ensures makes { Makes Stands AnyTables (marked site.now number) (state S.Store tx.old.conn.now)
+    ensures makes { Makes Stands AnyTables (with_runs_settled site.now number) (state S.Store tx.old.conn.now)
         (state S.Store tx.new.conn.now) result }
 {
     writes::delete_runs(tx, site, number)?;

@@ -1,7 +1,7 @@
 //! How many cards and entries there are, kept up over row changes.
 ghost use Rattle.std.specs.Prelude.{◌≡◌, map, IfSome};
 ghost use Rattle.upd_change.specs.Changes.{change_seen};
-ghost use Rattle.upd_sql.specs.Sizes.{LeadTo, TakesNone, sized};
+ghost use Rattle.upd_sql.specs.Sizes.{LeadToSizes, TakesNone, sized};
 
 use upd_change::Change;
 
@@ -34,7 +34,7 @@ fn size_after(sizes: Sizes, change: &Change) -> Option<Sizes>
 
 /// The numbers after changes, where they were known before and no change takes cards or entries away.
 pub fn sizes_after(known: Option<Sizes>, changes: &[Change]) -> Option<Sizes>
-    ensures { IfSome result (λ m. LeadTo (map change_seen changes.now) known m) }
+    ensures { IfSome result (λ m. LeadToSizes (map change_seen changes.now) known m) }
 {
     let mut sizes = known?;
     for change in changes {

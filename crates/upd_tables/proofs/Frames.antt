@@ -11,7 +11,7 @@ use Rattle.sqlite_schema.specs.declared.schema.Table.{Table}
 use Rattle.sqlite_schema.specs.declared.schema.Schema.{Schema}
 use Rattle.sqlite.specs.Effect.{Database}
 use Rattle.upd_order.specs.Rising.{TablesRise}
-use Rattle.upd_tables.specs.Stored.{HasRows, HoldsRows, Shows, Holds, rows_at, with_rows}
+use Rattle.upd_tables.specs.Stored.{HasRows, HoldsRows, HasAllRows, HoldsAllRows, rows_at, with_rows}
 
 -- no table but the one at a place is in this tree
 abbrev pub is_lone : ℕ → ℕ → List Table → Bool
@@ -83,14 +83,14 @@ ordered trees (t ∷ tables) [] rise h = absurd h
 ordered trees (t ∷ tables) (rows ∷ all) rise h = ((rise.0, h.0), ordered trees tables all rise.1 h.1)
 
 -- a database whose tables are in order, and that shows these rows
-pub held : (schema : Schema) (all : List (List Row)) (db : Database) → TablesRise db → Shows schema all db → Holds schema all db
+pub held : (schema : Schema) (all : List (List Row)) (db : Database) → TablesRise db → HasAllRows schema all db → HoldsAllRows schema all db
 held schema all db rise h = record {
   schema_is = h.schema_is;
   rows_are = ordered db.trees schema.tables all (subst (λ (s : Schema). AllByRecursion (λ t. IsShaped shape.Table (db.trees t.tree)) s.tables) h.schema_is
       rise) h.rows_are;
 }
 
-pub showing : (schema : Schema) (all : List (List Row)) (db : Database) → Holds schema all db → Shows schema all db
+pub showing : (schema : Schema) (all : List (List Row)) (db : Database) → HoldsAllRows schema all db → HasAllRows schema all db
 showing schema all db h = record {
   schema_is = h.schema_is;
   rows_are =

@@ -43,7 +43,7 @@ use Rattle.sqlite.specs.Does.{Tally, Does, AtPlace, OnRows, lacks_sequence}
 use Rattle.sqlite.specs.State.{State, mode_of, Writes}
 use Rattle.sqlite.proofs.Callers.{one_step}
 use Rattle.upd_tables.specs.Keyed.{at_most_64, keyed, plain_query, row_count, row_order}
-use Rattle.upd_tables.specs.Stored.{Shows, Holds, rows_at, with_rows}
+use Rattle.upd_tables.specs.Stored.{HasAllRows, HoldsAllRows, rows_at, with_rows}
 use Rattle.upd_tables.proofs.Trees.{has_mapped, mapped_from, has_permuted, put_new, left_is, in_place, replaced_is, replaced_shaped}
 use Rattle.upd_tables.proofs.Queries.{any_order, count_is, outputs, row_order_is}
 use Rattle.upd_tables.proofs.Frames.{is_lone, framed, rows_there, shown_there, with_table}
@@ -98,7 +98,7 @@ mapped_on f g (x ∷ xs) h = ap (λ y. y ∷ map f xs) h.0 ∙ ap (λ l. g x ∷
 module _ (schema : Schema) (k tree : ℕ) (name : List ℕ) (columns : List Column) (key : List ℕ) (at : slice_get schema.tables k
     ≡ Some (keyed tree name columns key))
     (alone : is_lone tree k schema.tables ≡ true) (free : (olds news : List Row) → works schema Enforced 0 tree olds news ≡ [])
-    (old new : State) (all : List (List Row)) (text : List ℕ) (params : Row) (count : ℕ) (h : Holds schema all old.now) where
+    (old new : State) (all : List (List Row)) (text : List ℕ) (params : Row) (count : ℕ) (h : HoldsAllRows schema all old.now) where
   abbrev table : Table
   table = keyed tree name columns key
 
@@ -113,10 +113,10 @@ module _ (schema : Schema) (k tree : ℕ) (name : List ℕ) (columns : List Colu
   -- other rows in the table alone
   changed : (trees : Trees) (edit : Edit) (rows : List Row) → new.now ≡ record { schema = schema; trees = trees } → edit.table ≡ table
       → Applies schema Enforced old.now.trees edit trees
-      → IsShaped shape.Table (trees tree) → map (drop 1) (trees tree) ≡ rows → Holds schema (with_rows k rows all) new.now
+      → IsShaped shape.Table (trees tree) → map (drop 1) (trees tree) ≡ rows → HoldsAllRows schema (with_rows k rows all) new.now
   changed trees edit rows now same a shaped is =
       let spares = subst (λ (t : Table). AllByRecursion (λ u. u.tree ≢ t.tree → trees u.tree ≡ old.now.trees u.tree) schema.tables) same a.tables in
-      subst (Holds schema (with_rows k rows all)) (sym now) (record {
+      subst (HoldsAllRows schema (with_rows k rows all)) (sym now) (record {
         schema_is = refl;
         rows_are =
             framed tree old.now.trees trees k schema.tables all rows alone spares shaped is h.rows_are;
@@ -125,7 +125,7 @@ module _ (schema : Schema) (k tree : ℕ) (name : List ℕ) (columns : List Colu
   -- an INSERT of one row of parameters
   pub inserts : (terms : List Term) (width : ℕ) (values : Row) → value_rows (params ++ []) width (length terms / width) terms ≡ (Null ∷ values) ∷ []
       → Writes old new None (Insert k (Values terms width)) text params count
-      → Holds schema (with_rows k (rows_at k all ++ cast_all columns values ∷ []) all) new.now
+      → HoldsAllRows schema (with_rows k (rows_at k all ++ cast_all columns values ∷ []) all) new.now
   inserts terms width values source w =
       let command = Insert k (Values terms width) in
       let db = old.now.trees in
@@ -165,7 +165,7 @@ module _ (schema : Schema) (k tree : ℕ) (name : List ℕ) (columns : List Colu
   pub deletes : (tests : List Term) (q : Row → Bool) → overlay old.now.trees [] tree ≡ old.now.trees tree
       → ((r : Row) → list_all (holds (params ∷ r ∷ [])) tests ≡ q (drop 1 r))
       → Writes old new None (Delete k (record { lets = []; body = plain_query tree tests (col 1 0 ∷ []) [] })) text params count
-      → Holds schema (with_rows k (filter (λ v. not (q v)) (rows_at k all)) all) new.now
+      → HoldsAllRows schema (with_rows k (filter (λ v. not (q v)) (rows_at k all)) all) new.now
   deletes tests q own means w =
       let command = Delete k (record { lets = []; body = plain_query tree tests (col 1 0 ∷ []) [] }) in
       let db = old.now.trees in
@@ -208,7 +208,7 @@ module _ (schema : Schema) (k tree : ℕ) (name : List ℕ) (columns : List Colu
       → ((r : Row) → list_all (holds (params ∷ r ∷ [])) tests ≡ q (drop 1 r))
       → ((r : Row) → eval_all news (params ∷ r ∷ []) ≡ f (drop 1 r))
       → Writes old new None (Update k (record { lets = []; body = plain_query tree tests (col 1 0 ∷ col 1 0 ∷ news) [] })) text params count
-      → Holds schema (with_rows k (map (λ v. if q v then cast_all columns (f v) else v) (rows_at k all)) all) new.now
+      → HoldsAllRows schema (with_rows k (map (λ v. if q v then cast_all columns (f v) else v) (rows_at k all)) all) new.now
   updates tests news q f own means shows w =
       let project = col 1 0 ∷ col 1 0 ∷ news in
       let command = Update k (record { lets = []; body = plain_query tree tests project [] }) in
@@ -247,7 +247,7 @@ module _ (schema : Schema) (k tree : ℕ) (name : List ℕ) (columns : List Colu
 
 -- a SELECT of the rows that pass a test: each is shown, in an order that ORDER BY allows
 pub selects : (schema : Schema) (k tree : ℕ) → is_lone tree k schema.tables ≡ true → (db : Database) (all : List (List Row)) (params : Row)
-    → Shows schema all db
+    → HasAllRows schema all db
     → (tests project : List Term) (order : List (Term × Key)) (q : Row → Bool) (f g : Row → Row) (names : List (List ℕ)) → overlay db.trees [] tree
     ≡ db.trees tree
     → ((r : Row) → list_all (holds (params ∷ r ∷ [])) tests ≡ q (drop 1 r)) → ((r : Row) → eval_all project (params ∷ r ∷ []) ≡ f (drop 1 r))
@@ -269,7 +269,7 @@ selects schema k tree alone db all params h tests project order q f g names own 
 
 -- a SELECT of the number of rows
 pub counts : (schema : Schema) (k tree : ℕ) → is_lone tree k schema.tables ≡ true → (db : Database) (all : List (List Row)) (params : Row)
-    → Shows schema all db → (names : List (List ℕ)) → overlay db.trees [] tree ≡ db.trees tree → (rows : List Row)
+    → HasAllRows schema all db → (names : List (List ℕ)) → overlay db.trees [] tree ≡ db.trees tree → (rows : List Row)
     → Reads (Select (record { lets = []; body = row_count tree }) names) db params rows → rows ≡ (Int (pos (at_most_64 (length (rows_at k all)))) ∷ []) ∷ []
 counts schema k tree alone db all params h names own rows reads =
     count_is tree params db.trees own rows reads.answer
@@ -277,7 +277,7 @@ counts schema k tree alone db all params h names own rows reads =
 
 -- a SELECT of the rows that pass a test, in the order of the table
 pub reads_in_order : (schema : Schema) (k tree : ℕ) → is_lone tree k schema.tables ≡ true → (db : Database) (all : List (List Row)) (params : Row)
-    → Holds schema all db
+    → HoldsAllRows schema all db
     → (tests project : List Term) (q : Row → Bool) (f : Row → Row) (names : List (List ℕ)) → overlay db.trees [] tree ≡ db.trees tree
     → ((r : Row) → list_all (holds (params ∷ r ∷ [])) tests ≡ q (drop 1 r)) → ((r : Row) → eval_all project (params ∷ r ∷ []) ≡ f (drop 1 r))
     → (rows : List Row)
@@ -292,8 +292,8 @@ reads_in_order schema k tree alone db all params h tests project q f names own m
 -- a CREATE TABLE
 pub creates : (schema : Schema) (table : Table) (old new : State) (all : List (List Row)) (text : List ℕ) (params : Row) (count : ℕ) → table_defined_by text
     ≡ Ok table
-    → lacks_sequence (created schema table) ≡ false → Holds schema all old.now → Writes old new None CreateTable text params count
-    → Holds (created schema table) (all ++ [] ∷ []) new.now
+    → lacks_sequence (created schema table) ≡ false → HoldsAllRows schema all old.now → Writes old new None CreateTable text params count
+    → HoldsAllRows (created schema table) (all ++ [] ∷ []) new.now
 creates schema table old new all text params count defined lacks h w =
     let parts = went w.changed in
     let first = went parts.1 in
@@ -304,7 +304,7 @@ creates schema table old new all text params count defined lacks h w =
     let now : new.now ≡ first.0 = ap (λ (p : Tally × Database). p.1) (same_value parts.2) ∙ same_value (rw plain at first.2) in
     let kept = subst (λ (s : Schema). AllByRecursion (λ (u : Table). first.0.trees u.tree ≡ old.now.trees u.tree) s.tables) h.schema_is made.others in
     let empty = subst (λ s. first.0.trees (next_tree s) ≡ []) h.schema_is made.empty in
-    subst (Holds (created schema table) (all ++ [] ∷ [])) (sym now)
+    subst (HoldsAllRows (created schema table) (all ++ [] ∷ [])) (sym now)
     (record {
       schema_is = now_schema;
       rows_are = with_table old.now.trees first.0.trees schema.tables all

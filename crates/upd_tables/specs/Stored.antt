@@ -18,12 +18,12 @@ abbrev pub HoldsRows : Trees → Table → List Row → Type 0
 HoldsRows trees t rows = IsShaped shape.Table (trees t.tree) × HasRows trees t rows
 
 -- A database has a schema, and its tables in turn have these lists of rows.
-pub record Shows (schema : Schema) (all : List (List Row)) (db : Database) : Type 0 where
+pub record HasAllRows (schema : Schema) (all : List (List Row)) (db : Database) : Type 0 where
   pub schema_is : db.schema ≡ schema
   pub rows_are : AllZip (HasRows db.trees) schema.tables all
 
 -- the same, and in each table the rowids rise
-pub record Holds (schema : Schema) (all : List (List Row)) (db : Database) : Type 0 where
+pub record HoldsAllRows (schema : Schema) (all : List (List Row)) (db : Database) : Type 0 where
   pub schema_is : db.schema ≡ schema
   pub rows_are : AllZip (HoldsRows db.trees) schema.tables all
 

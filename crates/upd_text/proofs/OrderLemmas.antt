@@ -9,14 +9,14 @@ use Rattle.std.specs.Ordering.{is_eq, nat_cmp, ordering_then}
 use Rattle.std.specs.declared.cmp.Ordering.{Ordering}
 use Rattle.std.specs.declared.cmp.Ordering.TheVariants.{Less, Equal, Greater}
 use Rattle.upd_text.specs.declared.card_ref.CardRef.{CardRef}
-use Rattle.upd_text.specs.Order.{by_name, is_same}
+use Rattle.upd_text.specs.Order.{by_name, is_same_reference}
 
 is_eq-then : (first second : Ordering) → is_eq (ordering_then first second) ≡ (is_eq first && is_eq second)
 is_eq-then Less second = refl
 is_eq-then Equal second = refl
 is_eq-then Greater second = refl
 
-pub is_same-is_eq : (a b : CardRef) → is_same a b ≡ is_eq (by_name a b)
+pub is_same-is_eq : (a b : CardRef) → is_same_reference a b ≡ is_eq (by_name a b)
 is_same-is_eq a b =
     sym (is_eq-then (slice_cmp nat_cmp a.name b.name) (nat_cmp a.number b.number) ∙ rw (is_eq-slice_cmp a.name b.name, unsigned_tied a.number b.number) refl)
 

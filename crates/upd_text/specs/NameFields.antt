@@ -16,14 +16,14 @@ pub record IsPadded (n : Inside) : Type 0 where
   pub padding : drop n.len n.bytes ≡ replicate (9 - n.len) 0
 
 -- the fields of a name with these bytes
-abbrev pub fields : Bytes → Inside
-fields name = record { bytes = name ++ replicate (9 - length name) 0; len = length name }
+abbrev pub inside_of : Bytes → Inside
+inside_of name = record { bytes = name ++ replicate (9 - length name) 0; len = length name }
 
 same_inside : (bs cs : Bytes) (m n : ℕ) → bs ≡ cs → m ≡ n → (let a : Inside = record { bytes = bs; len = m } in a) ≡ record { bytes = cs; len = n }
 same_inside bs cs m n e f i = record { bytes = e i; len = f i }
 
 -- a name gives its fields back
-pub fields_again : (n : Inside) → IsPadded n → fields (shown n) ≡ n
+pub fields_again : (n : Inside) → IsPadded n → inside_of (shown n) ≡ n
 fields_again n padded =
     let len : length (take n.len n.bytes) ≡ n.len = grind (arith, common_steps, padded.array, padded.short) in
     let bytes : take n.len n.bytes ++ replicate (9 - length (take n.len n.bytes)) 0 ≡ n.bytes =

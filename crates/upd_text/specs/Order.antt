@@ -8,8 +8,8 @@ use Rattle.upd_text.specs.contracts.card_ref.CardRefPartialEq.TheImpl as compare
 use Rattle.upd_text.specs.declared.card_ref.CardRef.{CardRef}
 
 -- whether two references are the same
-abbrev pub is_same : CardRef → CardRef → Bool
-is_same = (compared.ghosts).eq
+abbrev pub is_same_reference : CardRef → CardRef → Bool
+is_same_reference = (compared.ghosts).eq
 
 -- the order of references, as it is derived
 abbrev pub card_order : CardRef → CardRef → Ordering

@@ -4,7 +4,7 @@ ghost use Rattle.std.specs.Prelude.{◌≡◌, ◌↔◌, ℕ, List, if◌then�
 ghost use Rattle.std.specs.List.{list_all};
 ghost use Rattle.std.specs.Ordering.{is_eq};
 ghost use Rattle.std.specs.declared.cmp.Ordering.TheVariants.{Equal};
-ghost use Rattle.upd_text.specs.Order.{by_name, card_order, is_same};
+ghost use Rattle.upd_text.specs.Order.{by_name, card_order, is_same_reference};
 ghost use Rattle.upd_text.specs.declared.card_ref.CardRef.{CardRef};
 ghost use Rattle.upd_text.specs.Names.{IsReference, card_of, card_text, is_card_number, is_digit, number_behind};
 
@@ -90,6 +90,6 @@ pub fn card_references_are_read_from_one_text()
 /// they are the same.
 pub fn card_references_are_ordered_by_name()
     ensures order { (a b : CardRef) → card_order a b ≡ by_name a b }
-    ensures equality { (a b : CardRef) → is_same a b ≡ is_eq (card_order a b) }
+    ensures equality { (a b : CardRef) → is_same_reference a b ≡ is_eq (card_order a b) }
     ensures exact { (a b : CardRef) → (card_order a b ≡ Equal) ↔ (a ≡ b) }
 {}

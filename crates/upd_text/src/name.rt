@@ -28,13 +28,13 @@ impl Model for Name {
 
     ghost Value = { List ℕ };
 
-    ghost use Rattle.upd_text.specs.NameFields.{shown, IsPadded, fields, fields_again};
+    ghost use Rattle.upd_text.specs.NameFields.{shown, IsPadded, inside_of, fields_again};
 
     ghost view = { shown };
 
     ghost invariant = { IsPadded };
 
-    ghost inverse = { fields };
+    ghost inverse = { inside_of };
 
     ghost inverse_ok = { fields_again };
 }

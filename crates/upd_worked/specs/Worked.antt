@@ -19,7 +19,7 @@ use Rattle.upd_compile.specs.declared.mode.Mode.{Mode}
 use Rattle.upd_compile.specs.declared.mode.Mode.TheVariants.{Full}
 use Rattle.upd_compile.specs.Chosen.{changed, chosen}
 use Rattle.upd_compile.specs.File.{FileView, compile_file_of}
-use Rattle.upd_compile.specs.Walk.{Event, Line, Follow, Depth, Unknown, walk}
+use Rattle.upd_compile.specs.Walk.{WalkEvent, Line, Follow, Depth, Unknown, walk}
 
 -- ---- runs
 
@@ -47,7 +47,7 @@ refused kind at = Err (record { kind = kind; at = at })
 -- ---- compile files
 
 -- the cards of a walk, each with a blank behind
-abbrev pub event_card : List Ident → Event → List ℕ
+abbrev pub event_card : List Ident → WalkEvent → List ℕ
 event_card idents (Line c) = card_text (record { name = name_of idents c.ident; number = c.number }) ++ 32 ∷ []
 event_card idents Follow = []
 event_card idents Depth = codes "too deep "

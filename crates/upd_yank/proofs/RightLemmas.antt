@@ -31,7 +31,7 @@ use Rattle.upd_yank.proofs.StateLemmas.{HadStatus, all_counted, put_all, stay_ri
 use Rattle.upd_yank.proofs.WorkLemmas.{Agrees, HasStatus, IsListed, is_found, all_agree, all_both, all_listed_back, all_listed_others, all_map, found_back, length_back}
 use Rattle.upd_yank.proofs.WorkLemmas.{listed_back, listed_front, right_back, right_others, takes_no_yanks, yanks_found}
 use Rattle.upd_yank.specs.Affected.{affected, altered, is_other, is_touched}
-use Rattle.upd_yank.specs.Cascade.{ArePut, AreYanks, IsKept, TakesNoYanks, found_of, found_of_all, found_others, found_yanks, is_active_by, is_due, settled}
+use Rattle.upd_yank.specs.Cascade.{ArePut, AreYanks, IsRightBefore, TakesNoYanks, found_of, found_of_all, found_others, found_yanks, is_active_by, is_due, live_now}
 use Rattle.upd_yank.specs.Cascade.{stay}
 use Rattle.upd_yank.specs.Cascade.{views}
 use Rattle.upd_yank.specs.Right.{AreCountable, CacheView, IsRight, IsRunBetween, kept_status, was_active}
@@ -57,22 +57,22 @@ are_yanks l = go l.yanks
 -- what the cascade knows of a library: kept statuses are those before, and cards that aren't due had theirs
 pub record IsKnown (touched was : CountedCardView → Bool) (before : Target → ℕ) (known : CardRef → Option Bool) (l : LibraryView) : Type 0 where
   pub sound : IsSound l
-  pub kept : AllByRecursion (IsKept touched was before) (counted_cards l)
+  pub kept : AllByRecursion (IsRightBefore touched was before) (counted_cards l)
   pub had : AllByRecursion (HadStatus l (is_due touched before (live_count l)) known) (counted_cards l)
 
 pub live_is : (touched was : CountedCardView → Bool) (before : Target → ℕ) (known : CardRef → Option Bool) (l : LibraryView) →
     IsKnown touched was before known l →
-    settled touched was before (yanks_of l) ≡ live_cards l.yanks
+    live_now touched was before (yanks_of l) ≡ live_cards l.yanks
 live_is touched was before known l is =
     let yanks = views_are l in
     settled_is touched was before (yanks_of l) (are_yanks l) (subst TakesNoYanks (sym yanks) (takes_no_yanks l.yanks is.sound.yanks))
-    (all_front (IsKept touched was before) (yanks_of l) (others_of l) is.kept)
+    (all_front (IsRightBefore touched was before) (yanks_of l) (others_of l) is.kept)
     ∙ ap live_cards yanks
 
 -- what is found, by the counts of the library
 pub found_is : (touched was : CountedCardView → Bool) (before : Target → ℕ) (known : CardRef → Option Bool) (l : LibraryView) →
     IsKnown touched was before known l →
-    found_yanks touched was before (yanks_of l) ++ found_others touched before (count_on (settled touched was before (yanks_of l))) (others_of l)
+    found_yanks touched was before (yanks_of l) ++ found_others touched before (count_on (live_now touched was before (yanks_of l))) (others_of l)
     ≡ found_back touched before (live_count l) (yanks_of l) ++ found_others touched before (live_count l) (others_of l)
 found_is touched was before known l is =
     let yanks = views_are l in
@@ -80,7 +80,7 @@ found_is touched was before known l is =
     subst (λ ys. AllByRecursion (Agrees (live_count l) (count_on (live_cards ys))) ys) (sym yanks) (all_agree (live_count l) l.yanks) in
     let aged : IsAged (views (yanks_of l)) = subst IsAged (sym yanks) is.sound.yanks in
     let front = yanks_found touched was before (live_count l) (yanks_of l) (are_yanks l) aged
-    (all_front (IsKept touched was before) (yanks_of l) (others_of l) is.kept) agrees in
+    (all_front (IsRightBefore touched was before) (yanks_of l) (others_of l) is.kept) agrees in
     λ i. front i ++ found_others touched before (count_on (live_is touched was before known l is i)) (others_of l)
 
 pub found_count : (touched : CountedCardView → Bool) (before now : Target → ℕ) (l : LibraryView) →
@@ -151,7 +151,7 @@ pub known_between : (old new : LibraryView) (cache : CacheView) (run : List Card
     IsKnown (is_touched run) (was_active cache.states) (count_in cache.counts) (kept_status cache.states) new
 known_between old new cache run between = record {
   sound = between.after;
-  kept = all_map Was (IsKept (is_touched run) (was_active cache.states) before) (counted_cards new)
+  kept = all_map Was (IsRightBefore (is_touched run) (was_active cache.states) before) (counted_cards new)
       (λ k h. record { status = λ none. ap (λ o. unwrap_or o false) (between.right.status k.card ∙ h none) }) was;
   had = both (counted_cards new) was (statuses_are new between.after);
 }
@@ -269,7 +269,7 @@ put_right run was before known l rest ys os found statuses is found_all seen (in
 pub left_right : (run was : CountedCardView → Bool) (before : Target → ℕ) (known : CardRef → Option Bool) (l : LibraryView) (rest : ℕ)
     (ys os : List CountedCardView) (found : List (CardRef × Bool)) (cache : CacheView) →
     IsKnown run was before known l → found ≡ found_of_all run was before l →
-    ((t : Target) → count_in cache.counts t ≡ count_on (settled run was before (yanks_of l)) t) →
+    ((t : Target) → count_in cache.counts t ≡ count_on (live_now run was before (yanks_of l)) t) →
     IsSeen known l rest ys os → ArePut known rest ys os found cache.states → IsRight l cache
 left_right run was before known l rest ys os found cache is found_all counts seen statuses = record {
   status = put_right run was before known l rest ys os found cache.states is found_all seen statuses;
@@ -290,7 +290,7 @@ pub known_anew : (run was : CountedCardView → Bool) (before : Target → ℕ) 
     AllByRecursion (λ k. run k ≡ true) (counted_cards l) → IsKnown run was before known l
 known_anew run was before known l sound all = record {
   sound = sound;
-  kept = all_map (λ k. run k ≡ true) (IsKept run was before) (counted_cards l) (λ k h. record { status = λ none. absurd (let q = sym h ∙ none in cc) }) all;
+  kept = all_map (λ k. run k ≡ true) (IsRightBefore run was before) (counted_cards l) (λ k h. record { status = λ none. absurd (let q = sym h ∙ none in cc) }) all;
   had = all_map (λ k. run k ≡ true) (HadStatus l (is_due run before (live_count l)) known) (counted_cards l)
       (λ k h. λ none. absurd (let q = sym h ∙ (or_parts (run k) (is_reached before (live_count l) k.deck k.view) none).0 in cc)) all;
 }
@@ -318,7 +318,7 @@ module _ (old new l : LibraryView) (cache : CacheView) (run set : List CardRef) 
   yanks_seen : yanks_of l ≡ yanks_of new
   yanks_seen = λ i. map (counted_card (sees.idents i) 0) (sees.yanks i)
 
-  live_seen : count_on (settled (is_touched run) was before (yanks_of new)) ≡ live_count new
+  live_seen : count_on (live_now (is_touched run) was before (yanks_of new)) ≡ live_count new
   live_seen = ap count_on (live_is (is_touched run) was before (kept_status cache.states) new known)
 
   -- the cards that are due are those of the library that the run reached
@@ -330,7 +330,7 @@ module _ (old new l : LibraryView) (cache : CacheView) (run set : List CardRef) 
   found_seen =
       found_all fits ∙ (λ i. found_of_all (touched_same i) was before l)
       ∙ (λ i. found_yanks (is_touched run) was before (yanks_seen i)
-      ++ found_others (is_touched run) before (count_on (settled (is_touched run) was before (yanks_seen i))) (others_of l))
+      ++ found_others (is_touched run) before (count_on (live_now (is_touched run) was before (yanks_seen i))) (others_of l))
       ∙ (λ i. found_yanks (is_touched run) was before (yanks_of new) ++ found_others (is_touched run) before (live_seen i) (others_of l))
       ∙ ap (λ o. found_yanks (is_touched run) was before (yanks_of new) ++ o) others_seen
       ∙ sym (λ i. found_yanks (is_touched run) was before (yanks_of new) ++ found_others (is_touched run) before (live_seen i) (others_of new))
@@ -343,12 +343,12 @@ module _ (old new l : LibraryView) (cache : CacheView) (run set : List CardRef) 
   }
 
   pub settled_right : (left : CacheView) →
-      (AreCountable l.yanks → (t : Target) → count_in left.counts t ≡ count_on (settled (is_touched set) was before (yanks_of l)) t) →
+      (AreCountable l.yanks → (t : Target) → count_in left.counts t ≡ count_on (live_now (is_touched set) was before (yanks_of l)) t) →
       ArePut (kept_status cache.states) l.rest.cards (yanks_of l) (others_of l) found left.states →
       IsRight new left × (length found ≡ length (affected run old new))
   settled_right left counts statuses = (
     left_right (is_touched run) was before (kept_status cache.states) new l.rest.cards (yanks_of l) (others_of l) found left known found_seen
-        (λ t. counts fits t ∙ (λ i. count_on (settled (touched_same i) was before (yanks_seen i)) t)) seen statuses,
+        (λ t. counts fits t ∙ (λ i. count_on (live_now (touched_same i) was before (yanks_seen i)) t)) seen statuses,
     left_work old new cache run found between found_seen,
   )
 
@@ -391,7 +391,7 @@ all_touched l none first set ys os yanks others one two =
 pub built_right : (l : LibraryView) (set : List CardRef) (states : List (CardRef × Bool)) (counts : List (Target × ℕ)) (found : List (CardRef × Bool))
     (left : CacheView) → IsSound l → length l.yanks < 2 ^ 32 → states ≡ [] →
     AllByRecursion (λ k. is_touched set k ≡ true) (counted_cards l) →
-    (AreCountable l.yanks → (t : Target) → count_in left.counts t ≡ count_on (settled (is_touched set) (was_active states) (count_in counts) (yanks_of l)) t) →
+    (AreCountable l.yanks → (t : Target) → count_in left.counts t ≡ count_on (live_now (is_touched set) (was_active states) (count_in counts) (yanks_of l)) t) →
     (AreCountable l.yanks → found ≡ found_of_all (is_touched set) (was_active states) (count_in counts) l) →
     ArePut (kept_status states) l.rest.cards (yanks_of l) (others_of l) found left.states → IsRight l left
 built_right l set states counts found left sound few nothing all known_counts found_all statuses =

@@ -10,7 +10,7 @@ use Rattle.upd_core.specs.Targets.{is_same}
 use Rattle.upd_change.specs.Rows.{same_ref}
 use Rattle.upd_text.specs.declared.card_ref.CardRef.{CardRef}
 use Rattle.upd_yank.proofs.RefLemmas.{ref_same, same_ref_sym}
-use Rattle.upd_yank.specs.Right.{count_pair, put_counts, status_pair}
+use Rattle.upd_yank.specs.Right.{count_pairs, put_counts, status_pairs}
 
 -- ---- statuses
 
@@ -37,11 +37,11 @@ update_own (p ∷ ps) f r = go (same_ref r p.0) refl (update_own ps (update same
         ∙ sym (ap (λ b. update_all same_ref f (if b then p ∷ filter (λ p. same_ref r p.0) ps else filter (λ p. same_ref r p.0) ps) r) e)
 
 pub status_put : (ps : List (CardRef × Bool)) (f : CardRef → Option Bool) (r : CardRef) (o : Option Bool) → f r ≡ None →
-    filter (λ p. same_ref r p.0) ps ≡ status_pair r o →
+    filter (λ p. same_ref r p.0) ps ≡ status_pairs r o →
     update_all same_ref f ps r ≡ o
 status_put ps f r o none shown = update_own ps f r ∙ ap (λ x. update_all same_ref f x r) shown ∙ go o
   where
-    go : (o : Option Bool) → update_all same_ref f (status_pair r o) r ≡ o
+    go : (o : Option Bool) → update_all same_ref f (status_pairs r o) r ≡ o
     go None = none
     go (Some s) = ap (λ b. cond b (Some s) (f r)) (ref_same r)
 
@@ -67,7 +67,7 @@ put_own (p ∷ ps) f t = go (is_same t p.0) refl (put_own ps (λ u. if is_same p
         ∙ put_here (filter (λ p. is_same t p.0) ps) next f t (ap (λ b. if b then p.1 else f t) (same_target_sym p.0 t ∙ e))
         ∙ sym (ap (λ b. put_counts (if b then p ∷ filter (λ p. is_same t p.0) ps else filter (λ p. is_same t p.0) ps) f t) e)
 
-pub count_put : (ps : List (Target × ℕ)) (f : Target → ℕ) (t : Target) (n : ℕ) → f t ≡ 0 → filter (λ p. is_same t p.0) ps ≡ count_pair t n →
+pub count_put : (ps : List (Target × ℕ)) (f : Target → ℕ) (t : Target) (n : ℕ) → f t ≡ 0 → filter (λ p. is_same t p.0) ps ≡ count_pairs t n →
     put_counts ps f t ≡ n
 count_put ps f t n none shown = put_own ps f t ∙ ap (λ x. put_counts x f t) shown ∙ go (n == 0) refl
   where

@@ -10,10 +10,10 @@ use Rattle.upd_core.specs.Reach.{is_reached}
 use Rattle.upd_core.specs.Status.{stays_on, is_good, live_cards, targets_of}
 use Rattle.upd_core.specs.TargetCounts.{count_on, has_target}
 use Rattle.upd_yank.proofs.FlipLemmas.{count_cons, good_is, same_active}
-use Rattle.upd_yank.specs.Cascade.{is_taken_by, AreYanks, IsKept, TakesNoYanks, is_taken_by, is_active_by, status_now, settled, views}
+use Rattle.upd_yank.specs.Cascade.{is_taken_by, AreYanks, IsRightBefore, TakesNoYanks, is_taken_by, is_active_by, status_now, live_now, views}
 
 -- the status now is what it would be anew
-pub status_anew : (touched was : CountedCardView → Bool) (before now : Target → ℕ) (k : CountedCardView) → IsKept touched was before k →
+pub status_anew : (touched was : CountedCardView → Bool) (before now : Target → ℕ) (k : CountedCardView) → IsRightBefore touched was before k →
     status_now touched was before now k ≡ is_active_by now k.deck k.view
 status_anew touched was before now k kept = go (touched k) refl (is_reached before now k.deck k.view) refl
   where
@@ -58,14 +58,14 @@ yank_is_good live y none =
 -- ---- the cards that are settled are the live ones
 
 pub settled_is : (touched was : CountedCardView → Bool) (before : Target → ℕ) (ks : List CountedCardView) → AreYanks ks → TakesNoYanks (views ks) →
-    AllByRecursion (IsKept touched was before) ks → settled touched was before ks ≡ live_cards (views ks)
+    AllByRecursion (IsRightBefore touched was before) ks → live_now touched was before ks ≡ live_cards (views ks)
 settled_is touched was before [] yanks none kept = refl
 settled_is touched was before (k ∷ ks) yanks none kept = go (settled_is touched was before ks yanks.1 none.1 kept.1)
   where
     live : List CardView
     live = live_cards (views ks)
 
-    status : settled touched was before ks ≡ live → status_now touched was before (count_on (settled touched was before ks)) k
+    status : live_now touched was before ks ≡ live → status_now touched was before (count_on (live_now touched was before ks)) k
         ≡ is_good (targets_of live) 0 k.view
     status later =
         ap (λ cards. status_now touched was before (count_on cards) k) later
@@ -73,5 +73,5 @@ settled_is touched was before (k ∷ ks) yanks none kept = go (settled_is touche
         ∙ ap (λ d. is_active_by (count_on live) d k.view) yanks.0
         ∙ yank_is_good live k.view (no_deck_count (views ks) none.1)
 
-    go : settled touched was before ks ≡ live → settled touched was before (k ∷ ks) ≡ live_cards (views (k ∷ ks))
+    go : live_now touched was before ks ≡ live → live_now touched was before (k ∷ ks) ≡ live_cards (views (k ∷ ks))
     go later = λ i. if status later i then k.view ∷ later i else later i

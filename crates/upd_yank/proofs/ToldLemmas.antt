@@ -16,7 +16,7 @@ use Rattle.upd_core.specs.TargetCounts.{count_in, live_count}
 use Rattle.upd_core.specs.Targets.{is_same}
 use Rattle.upd_change.specs.Changes.{ChangeView, IdentNew, IdentPurged, CardNew, CardGone, CardsMoved, EntryNew, EntriesGone, TargetNew, TargetsGone}
 use Rattle.upd_change.specs.Changes.{StatusNow, CountNow, done, done_all}
-use Rattle.upd_change.specs.Rows.{CountRow, Rows, ShowsStates, StateRow, count_row, same_ref, state_row}
+use Rattle.upd_change.specs.Rows.{CountRow, Rows, ShowsStates, StateRow, count_rows, same_ref, state_rows}
 use Rattle.upd_change.specs.States.{TakeGone, takes_card}
 use Rattle.upd_change.proofs.StateLemmas.{counts_after, filter_gone, filter_kept, state_after, states_gone, states_kept}
 use Rattle.upd_yank.proofs.RefLemmas.{one_ref, ref_same}
@@ -75,12 +75,12 @@ tells_count t (TargetsGone card targets) = false
 -- the row of a card once the status of k is told
 state_told : (l : LibraryView) (r k : CardRef) (a : Bool) (xs : List StateRow) → status_of k l ≡ Some a → (b : Bool) → same_ref r k ≡ b →
     filter (λ s. same_ref r s.card) (filter (λ s. not (same_ref k s.card)) xs ++ record { card = k; active = a } ∷ [])
-    ≡ cond b (state_row r (status_of r l)) (filter (λ s. same_ref r s.card) xs)
+    ≡ cond b (state_rows r (status_of r l)) (filter (λ s. same_ref r s.card) xs)
 state_told l r k a xs right true e =
     let one : r ≡ k = one_ref r k e in
     filter-append (λ s. same_ref r s.card) (filter (λ s. not (same_ref k s.card)) xs) (record { card = k; active = a } ∷ [])
     ∙ (λ i. states_gone r k xs e i ++ cond (e i) (record { card = k; active = a } ∷ []) [])
-    ∙ (λ i. state_row (sym one i) (sym right i)) ∙ ap (λ o. state_row r o) (ap (λ x. status_of x l) (sym one))
+    ∙ (λ i. state_rows (sym one i) (sym right i)) ∙ ap (λ o. state_rows r o) (ap (λ x. status_of x l) (sym one))
 state_told l r k a xs right false e =
     filter-append (λ s. same_ref r s.card) (filter (λ s. not (same_ref k s.card)) xs) (record { card = k; active = a } ∷ [])
     ∙ (λ i. states_kept r k xs e i ++ cond (e i) (record { card = k; active = a } ∷ []) [])
@@ -89,7 +89,7 @@ state_told l r k a xs right false e =
 -- the row of a card once changes are told that are right
 pub state_is : (l : LibraryView) (cs : List ChangeView) (rows : Rows) (r : CardRef) → AllByRecursion (IsRightOf l) cs →
     filter (λ s. same_ref r s.card) (done_all cs rows).states
-    ≡ cond (list_any (tells_status r) cs) (state_row r (status_of r l)) (filter (λ s. same_ref r s.card) rows.states)
+    ≡ cond (list_any (tells_status r) cs) (state_rows r (status_of r l)) (filter (λ s. same_ref r s.card) rows.states)
 state_is l [] rows r right = refl
 state_is l (c ∷ cs) rows r right = state_is l cs (done c rows) r right.1 ∙ one c right.0
   where
@@ -100,10 +100,10 @@ state_is l (c ∷ cs) rows r right = state_is l cs (done c rows) r right.1 ∙ o
     either false false x y z e = e
 
     one : (c : ChangeView) → IsRightOf l c →
-        cond (list_any (tells_status r) cs) (state_row r (status_of r l)) (filter (λ s. same_ref r s.card) (done c rows).states)
-        ≡ cond (tells_status r c || list_any (tells_status r) cs) (state_row r (status_of r l)) (filter (λ s. same_ref r s.card) rows.states)
+        cond (list_any (tells_status r) cs) (state_rows r (status_of r l)) (filter (λ s. same_ref r s.card) (done c rows).states)
+        ≡ cond (tells_status r c || list_any (tells_status r) cs) (state_rows r (status_of r l)) (filter (λ s. same_ref r s.card) rows.states)
     one (StatusNow k a) is =
-        either (same_ref r k) (list_any (tells_status r) cs) (state_row r (status_of r l)) (filter (λ s. same_ref r s.card) rows.states)
+        either (same_ref r k) (list_any (tells_status r) cs) (state_rows r (status_of r l)) (filter (λ s. same_ref r s.card) rows.states)
         (filter (λ s. same_ref r s.card) (done (StatusNow k a) rows).states) (state_told l r k a rows.states is (same_ref r k) refl)
     one (CountNow target n) is = refl
     one (IdentNew ident) is = absurd is
@@ -117,7 +117,7 @@ state_is l (c ∷ cs) rows r right = state_is l cs (done c rows) r right.1 ∙ o
     one (TargetsGone card targets) is = absurd is
 
 -- the rows that are of a target are those of its count
-row_of_count : (t u : Target) (n : ℕ) (b : Bool) → is_same t u ≡ b → filter (λ s. is_same t s.target) (count_row u n) ≡ cond b (count_row u n) []
+row_of_count : (t u : Target) (n : ℕ) (b : Bool) → is_same t u ≡ b → filter (λ s. is_same t s.target) (count_rows u n) ≡ cond b (count_rows u n) []
 row_of_count t u n b e = go (n == 0) b e
   where
     go : (z b : Bool) → is_same t u ≡ b →
@@ -129,10 +129,10 @@ row_of_count t u n b e = go (n == 0) b e
     go false false e = rw e refl
 
 count_row_told : (l : LibraryView) (t u : Target) (n : ℕ) (xs : List CountRow) → n ≡ live_count l u → (b : Bool) → is_same t u ≡ b →
-    filter (λ s. is_same t s.target) (filter (λ s. not (is_same u s.target)) xs ++ count_row u n)
-    ≡ cond b (count_row t (live_count l t)) (filter (λ s. is_same t s.target) xs)
+    filter (λ s. is_same t s.target) (filter (λ s. not (is_same u s.target)) xs ++ count_rows u n)
+    ≡ cond b (count_rows t (live_count l t)) (filter (λ s. is_same t s.target) xs)
 count_row_told l t u n xs right b e =
-    filter-append (λ s. is_same t s.target) (filter (λ s. not (is_same u s.target)) xs) (count_row u n)
+    filter-append (λ s. is_same t s.target) (filter (λ s. not (is_same u s.target)) xs) (count_rows u n)
     ∙ ap (λ x. filter (λ s. is_same t s.target) (filter (λ s. not (is_same u s.target)) xs) ++ x) (row_of_count t u n b e) ∙ go b e
   where
     taken : CountRow → Bool
@@ -145,12 +145,12 @@ count_row_told l t u n xs right b e =
     others e x is false f = refl
     others e x is true f = let own : is_same t u ≡ true = ap (is_same t) (same_target u x.target f) ∙ is in absurd (let q = sym own ∙ e in cc)
 
-    go : (b : Bool) → is_same t u ≡ b → filter looked (filter (λ s. not (taken s)) xs) ++ cond b (count_row u n) []
-        ≡ cond b (count_row t (live_count l t)) (filter looked xs)
+    go : (b : Bool) → is_same t u ≡ b → filter looked (filter (λ s. not (taken s)) xs) ++ cond b (count_rows u n) []
+        ≡ cond b (count_rows t (live_count l t)) (filter looked xs)
     go true e =
         let one : t ≡ u = same_target t u e in
-        ap (λ x. x ++ count_row u n) (filter_gone taken looked xs (λ x is. ap (λ z. is_same z x.target) (sym one) ∙ is))
-        ∙ ap (count_row u) right ∙ ap (λ x. count_row x (live_count l x)) (sym one)
+        ap (λ x. x ++ count_rows u n) (filter_gone taken looked xs (λ x is. ap (λ z. is_same z x.target) (sym one) ∙ is))
+        ∙ ap (count_rows u) right ∙ ap (λ x. count_rows x (live_count l x)) (sym one)
     go false e =
         append-nil (filter looked (filter (λ s. not (taken s)) xs))
         ∙ filter_kept taken looked xs (λ x is. others e x is (is_same u x.target) refl)
@@ -158,7 +158,7 @@ count_row_told l t u n xs right b e =
 -- the row of a target once changes are told that are right
 pub count_is : (l : LibraryView) (cs : List ChangeView) (rows : Rows) (t : Target) → AllByRecursion (IsRightOf l) cs →
     filter (λ s. is_same t s.target) (done_all cs rows).counts
-    ≡ cond (list_any (tells_count t) cs) (count_row t (live_count l t)) (filter (λ s. is_same t s.target) rows.counts)
+    ≡ cond (list_any (tells_count t) cs) (count_rows t (live_count l t)) (filter (λ s. is_same t s.target) rows.counts)
 count_is l [] rows t right = refl
 count_is l (c ∷ cs) rows t right = count_is l cs (done c rows) t right.1 ∙ one c right.0
   where
@@ -169,10 +169,10 @@ count_is l (c ∷ cs) rows t right = count_is l cs (done c rows) t right.1 ∙ o
     either false false x y z e = e
 
     one : (c : ChangeView) → IsRightOf l c →
-        cond (list_any (tells_count t) cs) (count_row t (live_count l t)) (filter (λ s. is_same t s.target) (done c rows).counts)
-        ≡ cond (tells_count t c || list_any (tells_count t) cs) (count_row t (live_count l t)) (filter (λ s. is_same t s.target) rows.counts)
+        cond (list_any (tells_count t) cs) (count_rows t (live_count l t)) (filter (λ s. is_same t s.target) (done c rows).counts)
+        ≡ cond (tells_count t c || list_any (tells_count t) cs) (count_rows t (live_count l t)) (filter (λ s. is_same t s.target) rows.counts)
     one (CountNow u n) is =
-        either (is_same t u) (list_any (tells_count t) cs) (count_row t (live_count l t)) (filter (λ s. is_same t s.target) rows.counts)
+        either (is_same t u) (list_any (tells_count t) cs) (count_rows t (live_count l t)) (filter (λ s. is_same t s.target) rows.counts)
         (filter (λ s. is_same t s.target) (done (CountNow u n) rows).counts) (count_row_told l t u n rows.counts is (is_same t u) refl)
     one (StatusNow card active) is = refl
     one (IdentNew ident) is = absurd is
@@ -415,12 +415,12 @@ settling_shows old new known found kept run had has rows is shown = record {
     same r untold untaken (Some s) e = sym (is.before r) ∙ found_or_stayed r s untold e (is_found found r) refl
 
     row : (r : CardRef) → list_any (tells_status r) statuses ≡ false → list_any (tells_status r) again ≡ false → (b : Bool) →
-        list_any (takes_card r) run ≡ b → cond b [] (filter (λ s. same_ref r s.card) rows.states) ≡ state_row r (status_of r new)
-    row r untold none true e = ap (state_row r) (sym (sym (is.after r) ∙ none_again (kept_status kept) run r none e))
-    row r untold none false e = shown.states r ∙ ap (state_row r) (same r untold e (status_of r new) refl)
+        list_any (takes_card r) run ≡ b → cond b [] (filter (λ s. same_ref r s.card) rows.states) ≡ state_rows r (status_of r new)
+    row r untold none true e = ap (state_rows r) (sym (sym (is.after r) ∙ none_again (kept_status kept) run r none e))
+    row r untold none false e = shown.states r ∙ ap (state_rows r) (same r untold e (status_of r new) refl)
 
     state : (r : CardRef) (b : Bool) → list_any (tells_status r) all ≡ b →
-        cond b (state_row r (status_of r new)) (filter (λ s. same_ref r s.card) (done_all run rows).states) ≡ state_row r (status_of r new)
+        cond b (state_rows r (status_of r new)) (filter (λ s. same_ref r s.card) (done_all run rows).states) ≡ state_rows r (status_of r new)
     state r true e = refl
     state r false e =
         let front = or_parts (list_any (tells_status r) (statuses ++ again)) (list_any (tells_status r) counts)
@@ -430,10 +430,10 @@ settling_shows old new known found kept run had has rows is shown = record {
         state_after run rows r is.taken.silent ∙ row r parts.0 parts.1 (list_any (takes_card r) run) refl
 
     count : (t : Target) (b : Bool) → list_any (tells_count t) all ≡ b →
-        cond b (count_row t (live_count new t)) (filter (λ s. is_same t s.target) (done_all run rows).counts) ≡ count_row t (live_count new t)
+        cond b (count_rows t (live_count new t)) (filter (λ s. is_same t s.target) (done_all run rows).counts) ≡ count_rows t (live_count new t)
     count t true e = refl
     count t false e =
         let parts = or_parts (list_any (tells_count t) (statuses ++ again)) (list_any (tells_count t) counts)
         (sym (list_any-append (tells_count t) (statuses ++ again) counts) ∙ e) in
         ap (filter (λ s. is_same t s.target)) (counts_after run rows is.taken.silent) ∙ shown.counts t
-        ∙ ap (count_row t) (sym (is.counted t) ∙ sym (untold_count had has t parts.1) ∙ is.counts t)
+        ∙ ap (count_rows t) (sym (is.counted t) ∙ sym (untold_count had has t parts.1) ∙ is.counts t)

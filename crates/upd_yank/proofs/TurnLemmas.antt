@@ -13,7 +13,7 @@ use Rattle.upd_core.specs.TargetCounts.{count_on, has_target}
 use Rattle.upd_core.specs.Targets.{is_same}
 use Rattle.upd_text.specs.declared.card_ref.CardRef.{CardRef}
 use Rattle.upd_yank.proofs.FlipLemmas.{count_cons}
-use Rattle.upd_yank.specs.Cascade.{found_of, found_others, found_yanks, is_due, settled, status_now, views}
+use Rattle.upd_yank.specs.Cascade.{found_of, found_others, found_yanks, is_due, live_now, status_now, views}
 use Rattle.upd_yank.specs.Right.{AreCountable}
 
 -- ---- targets that differ count once
@@ -59,10 +59,10 @@ count-le (c ∷ cs) t = go (has_target t c) refl (count-le cs t)
     go false e later =
         let n : count_on (c ∷ cs) t ≡ 0 + count_on cs t = count_cons c cs t ∙ ap (λ b. (if b then 1 else 0) + count_on cs t) e in omega arith
 
-settled-le : (touched was : CountedCardView → Bool) (before : Target → ℕ) (ks : List CountedCardView) → length (settled touched was before ks) ≤ length ks
-settled-le touched was before [] = omega arith
-settled-le touched was before (k ∷ ks) =
-    go (status_now touched was before (count_on (settled touched was before ks)) k) (settled touched was before ks) (settled-le touched was before ks)
+live_now-le : (touched was : CountedCardView → Bool) (before : Target → ℕ) (ks : List CountedCardView) → length (live_now touched was before ks) ≤ length ks
+live_now-le touched was before [] = omega arith
+live_now-le touched was before (k ∷ ks) =
+    go (status_now touched was before (count_on (live_now touched was before ks)) k) (live_now touched was before ks) (live_now-le touched was before ks)
   where
     go : (b : Bool) (later : List CardView) → length later ≤ length ks → length (if b then k.view ∷ later else later) ≤ length (k ∷ ks)
     go true later h = omega arith
@@ -77,21 +77,21 @@ one_or_none false = omega arith
 -- the counts f so far become g once the card k, the next one down, is looked at
 counted_more : (touched was : CountedCardView → Bool) (before f g : Target → ℕ) (k : CountedCardView) (ks : List CountedCardView) →
     length (k ∷ ks) < 2 ^ 32 → AreApart k.view.targets →
-    ((t : Target) → f t ≡ count_on (settled touched was before ks) t) →
+    ((t : Target) → f t ≡ count_on (live_now touched was before ks) t) →
     ((t : Target) → f t + count_by (is_same t) k.view.targets < 2 ^ 32 → g t
     ≡ f t + (if status_now touched was before f k then count_by (is_same t) k.view.targets else 0)) →
-    (t : Target) → g t ≡ count_on (settled touched was before (k ∷ ks)) t
+    (t : Target) → g t ≡ count_on (live_now touched was before (k ∷ ks)) t
 counted_more touched was before f g k ks few apart so_far turned t =
     go (status_now touched was before (count_on live) k) (ap (λ (h : Target → ℕ). status_now touched was before h k) (λ i u. so_far u i))
   where
     live : List CardView
-    live = settled touched was before ks
+    live = live_now touched was before ks
 
     once : count_by (is_same t) k.view.targets ≡ (if has_target t k.view then 1 else 0)
     once = once_apart t k.view.targets apart
 
     small : f t + count_by (is_same t) k.view.targets < 2 ^ 32
-    small = omega (arith, so_far t, count-le live t, settled-le touched was before ks, once, one_or_none (has_target t k.view))
+    small = omega (arith, so_far t, count-le live t, live_now-le touched was before ks, once, one_or_none (has_target t k.view))
 
     go : (b : Bool) → status_now touched was before f k ≡ b → g t ≡ count_on (if b then k.view ∷ live else live) t
     go true e =
@@ -113,10 +113,10 @@ apart_of (k ∷ ks) (Prim.Native.Nat.suc i) d within apart = apart_of ks i d (om
 
 pub turned_counts : (touched was : CountedCardView → Bool) (before f g : Target → ℕ) (ks : List CountedCardView) (i : ℕ) (d k : CountedCardView) →
     i < length ks → k ≡ get_or ks i d → AreCountable (views ks) →
-    ((t : Target) → f t ≡ count_on (settled touched was before (drop (i + 1) ks)) t) →
+    ((t : Target) → f t ≡ count_on (live_now touched was before (drop (i + 1) ks)) t) →
     ((t : Target) → f t + count_by (is_same t) k.view.targets < 2 ^ 32 → g t
     ≡ f t + (if status_now touched was before f k then count_by (is_same t) k.view.targets else 0)) →
-    (t : Target) → g t ≡ count_on (settled touched was before (drop i ks)) t
+    (t : Target) → g t ≡ count_on (live_now touched was before (drop i ks)) t
 turned_counts touched was before f g ks i d k within read countable so_far turned t =
     let next = next_down ks i d k within read in
     let few : length (k ∷ drop (i + 1) ks) < 2 ^ 32 = omega (
@@ -129,17 +129,17 @@ turned_counts touched was before f g ks i d k within read countable so_far turne
     ) in
     let apart : AreApart k.view.targets = rw read (apart_of ks i d within countable.apart) in
     counted_more touched was before f g k (drop (i + 1) ks) few apart so_far turned t
-    ∙ sym (ap (λ x. count_on (settled touched was before x) t) next)
+    ∙ sym (ap (λ x. count_on (live_now touched was before x) t) next)
 
 pub turned_found : (touched was : CountedCardView → Bool) (before f : Target → ℕ) (ks : List CountedCardView) (i : ℕ) (d k : CountedCardView)
     (found now : List (CardRef × Bool)) →
     i < length ks → k ≡ get_or ks i d →
-    ((t : Target) → f t ≡ count_on (settled touched was before (drop (i + 1) ks)) t) →
+    ((t : Target) → f t ≡ count_on (live_now touched was before (drop (i + 1) ks)) t) →
     found ≡ found_yanks touched was before (drop (i + 1) ks) →
     now ≡ found ++ (if is_due touched before f k then found_of f k ∷ [] else []) → now ≡ found_yanks touched was before (drop i ks)
 turned_found touched was before f ks i d k found now within read counts so_far is =
     let next = next_down ks i d k within read in
-    let settled_counts : f ≡ count_on (settled touched was before (drop (i + 1) ks)) = λ j t. counts t j in
+    let settled_counts : f ≡ count_on (live_now touched was before (drop (i + 1) ks)) = λ j t. counts t j in
     is ∙ (λ j. so_far j ++ (if is_due touched before (settled_counts j) k then found_of (settled_counts j) k ∷ [] else []))
     ∙ sym (ap (found_yanks touched was before) next)
 

@@ -19,7 +19,7 @@ use Rattle.upd_text.specs.declared.card_ref.CardRef.{CardRef}
 use Rattle.upd_yank.proofs.FlipLemmas.{same_stays}
 use Rattle.upd_yank.proofs.RefLemmas.{ref_same}
 use Rattle.upd_yank.proofs.SettleLemmas.{count_behind, settled_is}
-use Rattle.upd_yank.specs.Cascade.{AreYanks, IsKept, TakesNoYanks, found_of, found_others, found_yanks, is_active_by, is_due, is_taken_by, settled, views}
+use Rattle.upd_yank.specs.Cascade.{AreYanks, IsRightBefore, TakesNoYanks, found_of, found_others, found_yanks, is_active_by, is_due, is_taken_by, live_now, views}
 
 -- ---- lists
 
@@ -146,14 +146,14 @@ same_found touched before now final k yank agrees =
     λ i. if due i then (k.card, active i) ∷ [] else []
 
 pub yanks_found : (touched was : CountedCardView → Bool) (before final : Target → ℕ) (ks : List CountedCardView) → AreYanks ks → IsAged (views ks) →
-    AllByRecursion (IsKept touched was before) ks → AllByRecursion (Agrees final (count_on (live_cards (views ks)))) (views ks) →
+    AllByRecursion (IsRightBefore touched was before) ks → AllByRecursion (Agrees final (count_on (live_cards (views ks)))) (views ks) →
     found_yanks touched was before ks ≡ found_back touched before final ks
 yanks_found touched was before final [] yanks aged kept agrees = refl
 yanks_found touched was before final (k ∷ ks) yanks aged kept agrees =
     let live = settled_is touched was before ks yanks.1 (takes_no_yanks (views ks) aged.2) kept.1 in
     let behind = agree_all final k.view (views ks) (k.view ∷ views ks) aged aged.1 agrees in
     let later = yanks_found touched was before final ks yanks.1 aged.2 kept.1 behind.1 in
-    let here : found_at touched before (count_on (settled touched was before ks)) k ≡ found_at touched before final k =
+    let here : found_at touched before (count_on (live_now touched was before ks)) k ≡ found_at touched before final k =
     ap (λ cards. found_at touched before (count_on cards) k) live ∙ same_found touched before (count_on (live_cards (views ks))) final k yanks.0 behind.0 in
     λ i. later i ++ here i
 

@@ -30,11 +30,11 @@ abbrev pub status_now : (CountedCardView → Bool) → (CountedCardView → Bool
 status_now touched was before now k = if is_due touched before now k then is_active_by now k.deck k.view else was k
 
 -- The cards of `YANK$$$` that are live now: each is judged by the counts of the live ones behind it, which are younger.
-abbrev pub settled : (CountedCardView → Bool) → (CountedCardView → Bool) → (Target → ℕ) → List CountedCardView → List CardView
-settled touched was before [] = []
-settled touched was before (y ∷ ys) =
-    if status_now touched was before (count_on (settled touched was before ys)) y then y.view ∷ settled touched was before ys
-    else settled touched was before ys
+abbrev pub live_now : (CountedCardView → Bool) → (CountedCardView → Bool) → (Target → ℕ) → List CountedCardView → List CardView
+live_now touched was before [] = []
+live_now touched was before (y ∷ ys) =
+    if status_now touched was before (count_on (live_now touched was before ys)) y then y.view ∷ live_now touched was before ys
+    else live_now touched was before ys
 
 -- what is found of a card that is looked at
 abbrev pub found_of : (Target → ℕ) → CountedCardView → CardRef × Bool
@@ -44,7 +44,7 @@ found_of now k = (k.card, is_active_by now k.deck k.view)
 abbrev pub found_yanks : (CountedCardView → Bool) → (CountedCardView → Bool) → (Target → ℕ) → List CountedCardView → List (CardRef × Bool)
 found_yanks touched was before [] = []
 found_yanks touched was before (y ∷ ys) =
-    found_yanks touched was before ys ++ found_here touched before (count_on (settled touched was before ys)) y
+    found_yanks touched was before ys ++ found_here touched before (count_on (live_now touched was before ys)) y
   where
     found_here : (CountedCardView → Bool) → (Target → ℕ) → (Target → ℕ) → CountedCardView → List (CardRef × Bool)
     found_here touched before now y = if is_due touched before now y then found_of now y ∷ [] else []
@@ -56,7 +56,7 @@ found_others touched before now cards = map (found_of now) (filter (is_due touch
 -- what is found of all cards that are looked at
 abbrev pub found_of_all : (CountedCardView → Bool) → (CountedCardView → Bool) → (Target → ℕ) → LibraryView → List (CardRef × Bool)
 found_of_all touched was before l =
-    found_yanks touched was before (yanks_of l) ++ found_others touched before (count_on (settled touched was before (yanks_of l))) (others_of l)
+    found_yanks touched was before (yanks_of l) ++ found_others touched before (count_on (live_now touched was before (yanks_of l))) (others_of l)
 
 -- the statuses of these cards, as they were known, put to others
 abbrev pub stay : (CardRef → Option Bool) → List CountedCardView → (CardRef → Option Bool) → CardRef → Option Bool
@@ -72,7 +72,7 @@ ArePut known rest ys os found statuses =
 -- ---- what the cascade stands on
 
 -- what is known of a card before: where it isn't touched, its kept status is that of its history by the counts before
-pub record IsKept (touched was : CountedCardView → Bool) (before : Target → ℕ) (k : CountedCardView) : Type 0 where
+pub record IsRightBefore (touched was : CountedCardView → Bool) (before : Target → ℕ) (k : CountedCardView) : Type 0 where
   pub status : touched k ≡ false → was k ≡ is_active_by before k.deck k.view
 
 -- no card takes `YANK$$$` as a whole

@@ -54,16 +54,16 @@ put_counts [] counts = counts
 put_counts (p ∷ ps) counts = put_counts ps (λ t. if is_same p.0 t then p.1 else counts t)
 
 -- the pair of a card that is there
-abbrev pub status_pair : CardRef → Option Bool → List (CardRef × Bool)
-status_pair card None = []
-status_pair card (Some active) = (card, active) ∷ []
+abbrev pub status_pairs : CardRef → Option Bool → List (CardRef × Bool)
+status_pairs card None = []
+status_pairs card (Some active) = (card, active) ∷ []
 
 -- the pair of a target that is counted
-abbrev pub count_pair : Target → ℕ → List (Target × ℕ)
-count_pair target n = if n == 0 then [] else (target, n) ∷ []
+abbrev pub count_pairs : Target → ℕ → List (Target × ℕ)
+count_pairs target n = if n == 0 then [] else (target, n) ∷ []
 
 -- Rows that show the statuses of a library: each card is there once with its status, each target that a live yank card has is there once with
 -- the number of these, and there are no others.
 pub record ShowStates (rows : States) (l : LibraryView) : Type 0 where
-  pub states : (card : CardRef) → filter (λ p. same_ref card p.0) rows.states.items ≡ status_pair card (status_of card l)
-  pub counts : (target : Target) → filter (λ p. is_same target p.0) rows.counts.items ≡ count_pair target (live_count l target)
+  pub states : (card : CardRef) → filter (λ p. same_ref card p.0) rows.states.items ≡ status_pairs card (status_of card l)
+  pub counts : (target : Target) → filter (λ p. is_same target p.0) rows.counts.items ≡ count_pairs target (live_count l target)

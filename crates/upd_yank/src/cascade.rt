@@ -12,7 +12,7 @@ ghost use Rattle.upd_core.specs.TargetCounts.{count_in, count_on};
 ghost use Rattle.upd_core.specs.Targets.{is_same};
 ghost use Rattle.upd_yank.specs.Affected.{is_touched};
 ghost use Rattle.upd_yank.specs.Cascade.{found_of, found_others, found_yanks, is_active_by, is_due, is_taken_by};
-ghost use Rattle.upd_yank.specs.Cascade.{settled, status_now, views};
+ghost use Rattle.upd_yank.specs.Cascade.{live_now, status_now, views};
 ghost use Rattle.upd_yank.specs.Cascade.{ArePut, found_of_all};
 ghost use Rattle.upd_yank.specs.Right.{AreCountable, kept_status, was_active};
 
@@ -165,7 +165,7 @@ fn settle_yanks<'a>(
     yanks: &[CountedCard<'a>],
 ) -> Result<Found, AllocError>
     ensures counts { AreCountable (views yanks.now) → IfOk result (λ found. (t : Target) → count_in found.counts t
-        ≡ count_on (settled (is_touched before.now.touched.now) (was_active before.now.statuses.now)
+        ≡ count_on (live_now (is_touched before.now.touched.now) (was_active before.now.statuses.now)
         (count_in before.now.counts.now) yanks.now) t) }
     ensures statuses { AreCountable (views yanks.now) → IfOk result (λ found. found.statuses.items
         ≡ found_yanks (is_touched before.now.touched.now) (was_active before.now.statuses.now)
@@ -247,7 +247,7 @@ pub(crate) fn settling<'a>(
 ) -> Result<Settled, AllocError>
     ensures counts { AreCountable counted.old.library.yanks → IfOk result (λ left. (t : Target) →
         count_in left.found.counts t
-        ≡ count_on (settled (is_touched before.now.touched.now) (was_active before.now.statuses.now)
+        ≡ count_on (live_now (is_touched before.now.touched.now) (was_active before.now.statuses.now)
         (count_in before.now.counts.now) (yanks_of counted.old.library)) t) }
     ensures found { AreCountable counted.old.library.yanks → IfOk result (λ left. left.found.statuses.items
         ≡ found_of_all (is_touched before.now.touched.now) (was_active before.now.statuses.now)

@@ -6,7 +6,7 @@ use Rattle.upd_text.specs.declared.fault.Fault.{Fault}
 use Rattle.upd_cli.specs.Command.{Answers, IsTold, answer_to}
 use Rattle.upd_cli.specs.Status.{exit_status, fault_line}
 use Rattle.upd_cli.specs.Trial.{trial_named}
-use Rattle.upd_cli.specs.Words.{IsAsked, operand_word}
+use Rattle.upd_cli.specs.Words.{IsAskedFor, operand_word}
 use Rattle.upd_cli.specs.declared.words.Request.TheVariants.{Trial, Library, Serve}
 use Rattle.upd_cli.proofs.CommandLemmas.{answered_at_once, answered_of_known}
 use Rattle.upd_cli.proofs.RequestLemmas.{begins_otherwise, none_of, of_library, serve_command, trial_command, trial_mode}
@@ -15,7 +15,7 @@ use Rattle.upd_cli.proofs.command.run_command.Goals as goal
 pub returns-in-Ok-Trial-clause-trial : goal.returns-in-Ok-Trial-clause-trial
 returns-in-Ok-Trial-clause-trial g c =
     let words : List Text = map g.S.AsStr.text c.args.words.now in
-    let asked : IsAsked words (Trial c.in-Ok-Trial.mode) = subst (IsAsked words) c.in-Ok-Trial.field-0-is c.in-Ok-Trial.ensures.ok in
+    let asked : IsAskedFor words (Trial c.in-Ok-Trial.mode) = subst (IsAskedFor words) c.in-Ok-Trial.field-0-is c.in-Ok-Trial.ensures.ok in
     let input = g.R.Read.remaining c.args.input.now in
     let output = g.W.Write.contents c.args.output.now in
     let output' = g.W.Write.contents c.carry_out_trial-ended.new.output in
@@ -30,7 +30,7 @@ returns-in-Ok-Trial-clause-trial g c =
 pub returns-in-Ok-Trial-clause-waits : goal.returns-in-Ok-Trial-clause-waits
 returns-in-Ok-Trial-clause-waits g c = λ no.
     let words : List Text = map g.S.AsStr.text c.args.words.now in
-    let asked : IsAsked words (Trial c.in-Ok-Trial.mode) = subst (IsAsked words) c.in-Ok-Trial.field-0-is c.in-Ok-Trial.ensures.ok in
+    let asked : IsAskedFor words (Trial c.in-Ok-Trial.mode) = subst (IsAskedFor words) c.in-Ok-Trial.field-0-is c.in-Ok-Trial.ensures.ok in
     c.carry_out_trial-ended.ensures.waits (none_of (mode_named c.in-Ok-Trial.mode.now)
     (λ some. no (
       asked.0,
@@ -44,28 +44,28 @@ pub returns-in-Ok-Library-clause-trial : goal.returns-in-Ok-Library-clause-trial
 returns-in-Ok-Library-clause-trial g c =
     let words : List Text = map g.S.AsStr.text c.args.words.now in
     let request = Library c.in-Ok-Library.file c.in-Ok-Library.asked in
-    let asked : IsAsked words request = subst (IsAsked words) c.in-Ok-Library.field-0-is c.in-Ok-Library.ensures.ok in
+    let asked : IsAskedFor words request = subst (IsAskedFor words) c.in-Ok-Library.field-0-is c.in-Ok-Library.ensures.ok in
     λ none is_trial. absurd ((of_library words c.in-Ok-Library.file c.in-Ok-Library.asked asked).other is_trial)
 
 pub returns-in-Ok-Library-clause-unread : goal.returns-in-Ok-Library-clause-unread
 returns-in-Ok-Library-clause-unread g c =
     let words : List Text = map g.S.AsStr.text c.args.words.now in
     let request = Library c.in-Ok-Library.file c.in-Ok-Library.asked in
-    let asked : IsAsked words request = subst (IsAsked words) c.in-Ok-Library.field-0-is c.in-Ok-Library.ensures.ok in
+    let asked : IsAskedFor words request = subst (IsAskedFor words) c.in-Ok-Library.field-0-is c.in-Ok-Library.ensures.ok in
     λ bad. absurd (bad asked.0)
 
 pub returns-in-Ok-Library-clause-front : goal.returns-in-Ok-Library-clause-front
 returns-in-Ok-Library-clause-front g c =
     let words : List Text = map g.S.AsStr.text c.args.words.now in
     let request = Library c.in-Ok-Library.file c.in-Ok-Library.asked in
-    let asked : IsAsked words request = subst (IsAsked words) c.in-Ok-Library.field-0-is c.in-Ok-Library.ensures.ok in
+    let asked : IsAskedFor words request = subst (IsAskedFor words) c.in-Ok-Library.field-0-is c.in-Ok-Library.ensures.ok in
     λ other. c.carry_out_library.ensures.front (λ spools. other ((of_library words c.in-Ok-Library.file c.in-Ok-Library.asked asked).spools spools))
 
 pub returns-in-Ok-Library-clause-waits : goal.returns-in-Ok-Library-clause-waits
 returns-in-Ok-Library-clause-waits g c =
     let words : List Text = map g.S.AsStr.text c.args.words.now in
     let request = Library c.in-Ok-Library.file c.in-Ok-Library.asked in
-    let asked : IsAsked words request = subst (IsAsked words) c.in-Ok-Library.field-0-is c.in-Ok-Library.ensures.ok in
+    let asked : IsAskedFor words request = subst (IsAskedFor words) c.in-Ok-Library.field-0-is c.in-Ok-Library.ensures.ok in
     λ no. c.carry_out_library.ensures.waits
     (λ may. no (asked.0, inr ((of_library words c.in-Ok-Library.file c.in-Ok-Library.asked asked).tells may)))
 
@@ -73,7 +73,7 @@ pub returns-in-Ok-Library-clause-silent : goal.returns-in-Ok-Library-clause-sile
 returns-in-Ok-Library-clause-silent g c =
     let words : List Text = map g.S.AsStr.text c.args.words.now in
     let request = Library c.in-Ok-Library.file c.in-Ok-Library.asked in
-    let asked : IsAsked words request = subst (IsAsked words) c.in-Ok-Library.field-0-is c.in-Ok-Library.ensures.ok in
+    let asked : IsAskedFor words request = subst (IsAskedFor words) c.in-Ok-Library.field-0-is c.in-Ok-Library.ensures.ok in
     λ quiet. c.carry_out_library.ensures.silent (elim quiet [
       | inl two ↦ inl two
       | inr one ↦ inr (one.0, λ may. one.1 ((of_library words c.in-Ok-Library.file c.in-Ok-Library.asked asked).tells may))
@@ -83,7 +83,7 @@ pub returns-in-Ok-Serve-clause-trial : goal.returns-in-Ok-Serve-clause-trial
 returns-in-Ok-Serve-clause-trial g c =
     let words : List Text = map g.S.AsStr.text c.args.words.now in
     let request = Serve c.in-Ok-Serve.file c.in-Ok-Serve.address c.in-Ok-Serve.count in
-    let asked : IsAsked words request = subst (IsAsked words) c.in-Ok-Serve.field-0-is c.in-Ok-Serve.ensures.ok in
+    let asked : IsAskedFor words request = subst (IsAskedFor words) c.in-Ok-Serve.field-0-is c.in-Ok-Serve.ensures.ok in
     λ none is_trial. absurd (begins_otherwise (codes "serve") (λ (e : 116 ≡ 115). omega (arith, e))
     (sym is_trial ∙ serve_command words c.in-Ok-Serve.file c.in-Ok-Serve.address c.in-Ok-Serve.count asked))
 
@@ -91,7 +91,7 @@ pub returns-in-Ok-Serve-clause-unread : goal.returns-in-Ok-Serve-clause-unread
 returns-in-Ok-Serve-clause-unread g c =
     let words : List Text = map g.S.AsStr.text c.args.words.now in
     let request = Serve c.in-Ok-Serve.file c.in-Ok-Serve.address c.in-Ok-Serve.count in
-    let asked : IsAsked words request = subst (IsAsked words) c.in-Ok-Serve.field-0-is c.in-Ok-Serve.ensures.ok in
+    let asked : IsAskedFor words request = subst (IsAskedFor words) c.in-Ok-Serve.field-0-is c.in-Ok-Serve.ensures.ok in
     λ bad. absurd (bad asked.0)
 
 pub returns-in-Err-clause-trial : goal.returns-in-Err-clause-trial
@@ -105,19 +105,19 @@ pub returns-in-Ok-Trial-clause-told : goal.returns-in-Ok-Trial-clause-told
 returns-in-Ok-Trial-clause-told g c =
     let words : List Text = map g.S.AsStr.text c.args.words.now in
     let request = Trial c.in-Ok-Trial.mode in
-    inl (request, subst (IsAsked words) c.in-Ok-Trial.field-0-is c.in-Ok-Trial.ensures.ok, tt)
+    inl (request, subst (IsAskedFor words) c.in-Ok-Trial.field-0-is c.in-Ok-Trial.ensures.ok, tt)
 
 pub returns-in-Ok-Library-clause-told : goal.returns-in-Ok-Library-clause-told
 returns-in-Ok-Library-clause-told g c =
     let words : List Text = map g.S.AsStr.text c.args.words.now in
     let request = Library c.in-Ok-Library.file c.in-Ok-Library.asked in
-    inl (request, subst (IsAsked words) c.in-Ok-Library.field-0-is c.in-Ok-Library.ensures.ok, c.carry_out_library.ensures.told)
+    inl (request, subst (IsAskedFor words) c.in-Ok-Library.field-0-is c.in-Ok-Library.ensures.ok, c.carry_out_library.ensures.told)
 
 pub returns-in-Ok-Serve-clause-told : goal.returns-in-Ok-Serve-clause-told
 returns-in-Ok-Serve-clause-told g c =
     let words : List Text = map g.S.AsStr.text c.args.words.now in
     let request = Serve c.in-Ok-Serve.file c.in-Ok-Serve.address c.in-Ok-Serve.count in
-    inl (request, subst (IsAsked words) c.in-Ok-Serve.field-0-is c.in-Ok-Serve.ensures.ok, Appends-nil (g.W.Write.contents c.args.output.now))
+    inl (request, subst (IsAskedFor words) c.in-Ok-Serve.field-0-is c.in-Ok-Serve.ensures.ok, Appends-nil (g.W.Write.contents c.args.output.now))
 
 pub returns-in-Err-clause-told : goal.returns-in-Err-clause-told
 returns-in-Err-clause-told g c =

@@ -4,7 +4,7 @@ use Rattle.clap.specs.Walk.{Row}
 use Rattle.clap.specs.Words.{App, HasKind, IsAmong, Text, app_of, fault_of, is_simple, is_simple_and_free, kind_of, subcommand_of, subcommand_rows_of}
 use Rattle.clap.specs.declared.error.kind.ErrorKind.{ErrorKind}
 use Rattle.clap.specs.declared.error.kind.ErrorKind.TheVariants.{OutOfMemory}
-use Rattle.upd_cli.specs.Words.{IsAsked, IsOneOf, IsRequest, IsTold, upd_app, upd_commands, word_faults}
+use Rattle.upd_cli.specs.Words.{IsAskedFor, IsOneOf, IsRequest, IsUnreadRequest, upd_app, upd_commands, word_faults}
 use Rattle.upd_cli.specs.declared.words.Request.{Request}
 use Rattle.upd_cli.specs.declared.words.Request.TheVariants.{Trial, Library, Serve, Shown, Unread}
 use Rattle.upd_cli.proofs.WordLemmas.{known_command}
@@ -17,7 +17,7 @@ is_free_upd : is_simple_and_free upd_app ≡ true
 is_free_upd = refl
 
 asked_command : (words : List Text) (command : Option (Text × List Row)) (request : Request) → subcommand_of upd_app words ≡ command
-    → word_faults words ≡ [] → IsSomeAnd command (λ found. IsRequest found request) → IsAsked words request
+    → word_faults words ≡ [] → IsSomeAnd command (λ found. IsRequest found request) → IsAskedFor words request
 asked_command words command (Trial mode) same none is = (none, rw same is)
 asked_command words command (Library file asked) same none is = (none, rw same is)
 asked_command words command (Serve file address count) same none is = (none, rw same is)
@@ -26,7 +26,7 @@ asked_command words (Some (name, rows)) (Shown text) same none is = absurd is
 asked_command words None (Unread text) same none is = absurd is
 asked_command words (Some (name, rows)) (Unread text) same none is = absurd is
 
-asked_told : (words : List Text) (kind : ErrorKind) (request : Request) → IsAmong kind (word_faults words) → IsTold kind request → IsAsked words request
+asked_told : (words : List Text) (kind : ErrorKind) (request : Request) → IsAmong kind (word_faults words) → IsUnreadRequest kind request → IsAskedFor words request
 asked_told words kind (Trial mode) among is = absurd is
 asked_told words kind (Library file asked) among is = absurd is
 asked_told words kind (Serve file address count) among is = absurd is

@@ -2,7 +2,7 @@ use Rattle.std.proofs.Common.{ℕ, inl, refl, sym, subst, None, Some, Result, Ok
 use Rattle.upd_request.specs.Calls.{settle}
 use Rattle.upd_text.specs.declared.fault.Fault.{Fault}
 use Rattle.upd_http.specs.Responses.{Response}
-use Rattle.upd_http.specs.Serving.{TellsMark}
+use Rattle.upd_http.specs.Serving.{IsMarkResponse}
 use Rattle.upd_http.specs.declared.status.Media.TheVariants.{Json}
 use Rattle.upd_http.specs.declared.status.Status.TheVariants.{Done}
 use Rattle.upd_http.proofs.AskLemmas.{answered_fault}
@@ -13,7 +13,7 @@ returns-in-Ok-settle_site g c =
     let body = c.write_mark.new.out.items in
     let said : Response = record { status = Done; media = Json; allow = None; body = body } in
     let told : Result Response Fault = Ok said in
-    let IsTold : Result ℕ Fault → Type 0 = λ result. TellsMark c.args.site.now result told in (
+    let IsTold : Result ℕ Fault → Type 0 = λ result. IsMarkResponse c.args.site.now result told in (
       Some (settle c.args.site.now c.args.number, told),
       (
         c.settle_site.result,
@@ -27,7 +27,7 @@ returns-in-Ok-settle_site g c =
 pub returns-in-Err-settle_site : goal.returns-in-Err-settle_site
 returns-in-Err-settle_site g c =
     let told : Result Response Fault = Err c.in-Err-settle_site.fault in
-    let IsTold : Result ℕ Fault → Type 0 = λ result. TellsMark c.args.site.now result told in (
+    let IsTold : Result ℕ Fault → Type 0 = λ result. IsMarkResponse c.args.site.now result told in (
       Some (settle c.args.site.now c.args.number, told),
       (c.settle_site.result, c.settle_site.ensures.settles, c.settle_site.ensures.failed, subst IsTold (sym c.in-Err-settle_site.is) refl),
       inl (told, refl, answered_fault (λ (r : Response). r) told c.in-Err-settle_site.fault c.fault.result refl c.fault.ensures.ok c.fault.ensures.err),

@@ -4,14 +4,14 @@ use Rattle.upd_core.specs.Edits.{next_age, purged_back}
 use Rattle.upd_core.specs.Library.{LibraryView}
 use Rattle.upd_core.specs.Sound.{IsSound}
 use Rattle.upd_deck.specs.Items.{LineView}
-use Rattle.upd_laws.specs.PurgingBack.{IsAgain, LeadTo}
+use Rattle.upd_laws.specs.PurgingBack.{IsAgain, LeadWithoutPurge}
 use Rattle.upd_laws.proofs.BackLibraryLemmas.{Grows}
 use Rattle.upd_laws.proofs.BackOldLemmas.{old_library}
 use Rattle.upd_laws.proofs.BackStepLemmas.{all_applied_grows}
 use Rattle.upd_laws.proofs.BackAgainLemmas.{again, status_again}
 use Rattle.upd_laws.proofs.purging_back.purging_back_undoes_runs.Goals as goal
 
-led : (runs : List (List LineView)) (before after : LibraryView) → IsSound before → LeadTo runs before after
+led : (runs : List (List LineView)) (before after : LibraryView) → IsSound before → LeadWithoutPurge runs before after
     → IsAgain before (purged_back (next_age before) after)
 led runs before after sound lead =
     let x = next_age before in

@@ -1,5 +1,5 @@
 use Rattle.sqlite.specs.Held.{state}
-use Rattle.upd_tables.specs.Stored.{Holds}
+use Rattle.upd_tables.specs.Stored.{HoldsAllRows}
 use Rattle.upd_sql.specs.Making.{no_rows}
 use Rattle.upd_sql.specs.Stands.{Stands}
 use Rattle.upd_sql.proofs.MakingLemmas.{leads_stop, leads_then, opened_before}
@@ -10,14 +10,14 @@ use Rattle.upd_migrate.proofs.completing.complete.Goals as goal
 pub returns-clause-leads : goal.returns-clause-leads
 returns-clause-leads g c it =
     let v = c.args.version in
-    leads_then (Holds (schema_of v) (stored_in v it)) (HasTables v (completed v it)) (Stands (completed v it)) (state g.S.Store c.args.tx.now.conn.now)
+    leads_then (HoldsAllRows (schema_of v) (stored_in v it)) (HasTables v (completed v it)) (Stands (completed v it)) (state g.S.Store c.args.tx.now.conn.now)
     (state g.S.Store c.create_missing.new.tx.conn.now) (state g.S.Store c.set_version.new.tx.conn.now) c.in_ok-create_missing.field-0 c.set_version.result
     (c.in_ok-create_missing.ensures.leads it) (c.set_version.ensures.leads v (completed v it))
 
 pub returns-in_err-create_missing-clause-leads : goal.returns-in_err-create_missing-clause-leads
 returns-in_err-create_missing-clause-leads g c it =
     let v = c.args.version in
-    leads_stop (Holds (schema_of v) (stored_in v it)) (HasTables v (completed v it)) (Stands (completed v it)) (state g.S.Store c.args.tx.now.conn.now)
+    leads_stop (HoldsAllRows (schema_of v) (stored_in v it)) (HasTables v (completed v it)) (Stands (completed v it)) (state g.S.Store c.args.tx.now.conn.now)
     (state g.S.Store c.create_missing.new.tx.conn.now) c.in_err-create_missing.field-0.0 c.from_residual.result
     (c.in_err-create_missing.ensures.leads it) c.from_residual.ensures.0
 

@@ -8,7 +8,7 @@ use Rattle.upd_rows.specs.Tables.{committed, with_run}
 use Rattle.upd_tables.specs.Steps.{Makes}
 use Rattle.upd_tables.proofs.Chains.{clean_before, makes_then, makes_as}
 use Rattle.upd_sql.specs.Commits.{MayCommit}
-use Rattle.upd_sql.specs.Sizes.{AnySizes, Counted, HasSizes, SizedAll, TakeNone, sized_all}
+use Rattle.upd_sql.specs.Sizes.{AnySizes, HasSizes, HoldsSizes, SizedAll, TakeNone, sized_all}
 use Rattle.upd_sql.specs.Stands.{Stands, AnyTables}
 use Rattle.upd_sql.proofs.CommitLemmas.{crash_leaves}
 use Rattle.upd_sql.proofs.SizeLemmas.{committed_sizes, on_done}
@@ -46,7 +46,7 @@ returns-clause-sized g c clean =
     let end = state g.S.Store c.commit.new.self.0 in
     let cs = map change_seen c.args.changes.now in
     let made : SizedAll {X = Unit {0}} cs begun mid (Ok c.in_ok-make_all.field-0) = rw c.transaction-tx.ensures.begun at c.in_ok-make_all.ensures.sized in
-    let whole = makes_then Counted (λ _. TakeNone cs) AnySizes (sized_all cs) (λ n. n) begun mid last c.in_ok-make_all.field-0
+    let whole = makes_then HoldsSizes (λ _. TakeNone cs) AnySizes (sized_all cs) (λ n. n) begun mid last c.in_ok-make_all.field-0
     (Ok c.in_ok-insert_run.field-0) made c.in_ok-insert_run.ensures.sized in
     let outside : IsTrue c.is_autocommit-outside.result = c.is_autocommit-outside.ensures.value ∙ ap not c.requires in
     let same : c.commit.new.self.0 ≡ c.conn-2-1.given.0 = search rules in

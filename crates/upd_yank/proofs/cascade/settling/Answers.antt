@@ -5,7 +5,7 @@ use Rattle.upd_yank.proofs.LeftLemmas.{left_found}
 use Rattle.upd_yank.proofs.RightLemmas.{views_are}
 use Rattle.upd_yank.specs.Affected.{is_touched}
 use Rattle.upd_core.specs.Counted.{others_of, yanks_of}
-use Rattle.upd_yank.specs.Cascade.{ArePut, settled, views}
+use Rattle.upd_yank.specs.Cascade.{ArePut, live_now, views}
 use Rattle.upd_yank.specs.Right.{AreCountable, kept_status, was_active}
 use Rattle.upd_yank.proofs.cascade.settling.Goals as goal
 
@@ -16,7 +16,7 @@ returns-clause-counts c = λ countable t.
     let yanks = c.deref.ensures.value ∙ c.in_ok-yanks.ensures in
     let fits = subst AreCountable (sym (ap views yanks ∙ views_are l)) countable in
     ap (λ n. count_in n t) c.in_ok-judge_others.ensures.counts ∙ c.in_ok-found.ensures.counts fits t
-    ∙ ap (λ k. count_on (settled (is_touched b.touched.now) (was_active b.statuses.now) (count_in b.counts.now) k) t) yanks
+    ∙ ap (λ k. count_on (live_now (is_touched b.touched.now) (was_active b.statuses.now) (count_in b.counts.now) k) t) yanks
 
 pub returns-clause-found : goal.returns-clause-found
 returns-clause-found c = λ countable.
