@@ -4,7 +4,6 @@ use Rattle.std.proofs.lemmas.Bool.Decides.{nat_tests}
 use Rattle.std.specs.Prelude.{◌==◌, slice_get}
 use Rattle.std.specs.List.{filter, list_any}
 use Rattle.upd_text.specs.declared.card_ref.CardRef.{CardRef}
-use Rattle.upd_core.specs.declared.library.Place.{Place}
 use Rattle.upd_core.specs.Library.{CardView, DeckView, LibraryView, all_decks, place_of, ref_of}
 use Rattle.upd_core.specs.Sound.{IsSound}
 use Rattle.upd_core.proofs.ApartLemmas.{all_at, all_mapped, at_contained}

@@ -113,7 +113,7 @@ fn read_outcome<S: RowStore>(
         Ok(part) => part,
         Err(fault) => return Err(fault),
     };
-    match apply_run(alloc, &part, run) {
+    match apply_run(alloc, part, run) {
         Ok(applied) => match applied_outcome(store, alloc, mode, arrival, applied) {
             Ok(outcome) => Ok(outcome),
             Err(fault) => Err(fault),
@@ -186,12 +186,12 @@ fn active_rows<S: RowStore>(
 }
 
 /// Applies a run to the decks that it needs.
-fn apply_run(alloc: Global, part: &Library, run: &Run<'_>) -> Result<AppliedRun, Fault>
-    ensures ok { (l : LibraryView) → IsMade l → part.now ≡ part_of (decks_needed run.now l) l
+fn apply_run(alloc: Global, part: Library, run: &Run<'_>) -> Result<AppliedRun, Fault>
+    ensures ok { (l : LibraryView) → IsMade l → part ≡ part_of (decks_needed run.now l) l
         → IfOk result (λ applied. (reached : Reached) × IsRunOf run.now l reached applied) }
-    ensures refused { IfErr result (λ fault. FailsAt fault (applied run.now part.now)) }
+    ensures refused { IfErr result (λ fault. FailsAt fault (applied run.now part)) }
 {
-    let mut library = part.copy()?;
+    let mut library = part;
     let applied = apply(alloc, &mut library, run)?;
     Ok(AppliedRun { library, applied })
 }

@@ -26,5 +26,5 @@ returns-in-Ok-refused-clause-found g c honest l made rows shown shows states =
     refused_outcome c.args.mode c.args.arrival.now l rows c.in-Err-apply_run.fault c.in-Ok-refused.outcome made shows states is
     (c.in-Ok-refused.ensures.reply c.args.mode l c.requires.passed) c.in-Ok-refused.ensures.changes c.in-Ok-refused.ensures.work
 
-pub returns-clause-lost : goal.returns-clause-lost
-returns-clause-lost g c = refused_lost c.in-Err-apply_run.fault c.in-Err-refused.fault _ c.in-Err-apply_run.ensures.refused c.in-Err-refused.ensures.lost
+pub returns-in-Err-refused-clause-lost : goal.returns-in-Err-refused-clause-lost
+returns-in-Err-refused-clause-lost g c = refused_lost c.in-Err-apply_run.fault c.in-Err-refused.fault _ c.in-Err-apply_run.ensures.refused c.in-Err-refused.ensures.lost
