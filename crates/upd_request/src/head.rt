@@ -1,7 +1,8 @@
 //! The head of a request, read as far as it goes.
 
-ghost use Rattle.std.specs.Prelude.{◌≡◌, ◌≤◌, [], IfErr, IfOk, IfSome, OnOk, length};
+ghost use Rattle.std.specs.Prelude.{◌≡◌, ◌≢◌, ◌≤◌, [], IfErr, IfOk, IfSome, OnOk, length};
 ghost use Rattle.std.specs.Io.KnownBytes.{Consumes};
+ghost use Rattle.std.specs.IoError.{error_kind};
 ghost use Rattle.httparse.specs.Spans.{IsRequestOf, IsRequestWithin};
 ghost use Rattle.upd_request.specs.Calls.{no_memory_refusal, read_failed_refusal};
 ghost use Rattle.upd_request.specs.Requests.{IsFailure, RefusesHead};
@@ -58,7 +59,9 @@ pub(crate) fn read_head<R: Read>(
 
 /// A failed read is Read, unless memory was wanting.
 pub(crate) fn read_refusal(error: &io::Error) -> Refusal
-    ensures { IsFailure result }
+    ensures failure { IsFailure result }
+    ensures memory { error_kind error.now ≡ ErrorKind.OutOfMemory → result ≡ no_memory_refusal }
+    ensures other { error_kind error.now ≢ ErrorKind.OutOfMemory → result ≡ read_failed_refusal }
 {
     match error.kind() {
         ErrorKind::OutOfMemory => Refusal::of(FaultKind::NoMemory),
