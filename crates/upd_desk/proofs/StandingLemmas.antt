@@ -1,8 +1,8 @@
 -- A card that stands in a deck is no yank card.
-use Rattle.std.proofs.Common.{◌≡◌, ℕ, suc, ◌<◌, Bool, true, false, not, ◌||◌, List, [], ◌∷◌, length, map, Some, refl, sym, ap, ◌∙◌, subst, arith}
+use Rattle.std.proofs.Common.{◌≡◌, ℕ, suc, ◌<◌, Bool, true, false, not, ◌&&◌, ◌||◌, List, [], ◌∷◌, length, map, Some, refl, sym, ap, ◌∙◌, subst, arith}
 use Rattle.std.proofs.lemmas.Bool.Decides.{nat_tests}
 use Rattle.std.specs.Prelude.{◌==◌, slice_get}
-use Rattle.std.specs.List.{filter, list_any}
+use Rattle.std.specs.List.{filter, list_all, list_any}
 use Rattle.upd_text.specs.declared.card_ref.CardRef.{CardRef}
 use Rattle.upd_core.specs.Library.{CardView, DeckView, LibraryView, all_decks, place_of, ref_of}
 use Rattle.upd_core.specs.Sound.{IsSound}
@@ -12,44 +12,63 @@ use Rattle.upd_change.specs.Rows.{same_ref}
 use Rattle.upd_change.proofs.GoneLemmas.{same_ref_is}
 use Rattle.upd_rows.specs.Asked.{decks_with, holds_one, is_asked}
 use Rattle.upd_parts.specs.Needed.{is_yank_card}
+use Rattle.upd_desk.specs.Needed.{stands_in_deck}
 use Rattle.upd_yank.proofs.FindLemmas.{any_at}
 
--- where some are kept by a test, one passes it
-some_pass : (test : DeckView → Bool) (ds : List DeckView) → (length (map (λ d. d.ident) (filter test ds)) == 0) ≡ false → list_any test ds ≡ true
-some_pass test [] e = absurd (cc)
-some_pass test (d ∷ ds) e = go (test d) refl (λ e. some_pass test ds e)
+-- some are kept by a test where one passes it
+some_kept : (test : DeckView → Bool) (ds : List DeckView) → not (length (map (λ d. d.ident) (filter test ds)) == 0) ≡ list_any test ds
+some_kept test [] = refl
+some_kept test (d ∷ ds) = go (test d) refl (some_kept test ds)
   where
-    go : (b : Bool) → test d ≡ b → ((length (map (λ d. d.ident) (filter test ds)) == 0) ≡ false → list_any test ds ≡ true)
-        → list_any test (d ∷ ds) ≡ true
-    go true pass later = rw pass refl
-    go false fail later = let rest = later (rw fail at e) in rw fail rest
+    go : (b : Bool) → test d ≡ b → not (length (map (λ d. d.ident) (filter test ds)) == 0) ≡ list_any test ds
+        → not (length (map (λ d. d.ident) (filter test (d ∷ ds))) == 0) ≡ list_any test (d ∷ ds)
+    go true pass later = rw pass (grind (arith, nat_tests))
+    go false fail later = rw fail later
 
-pub standing_no_yank : (card : CardRef) (l : LibraryView) → IsSound l → (length (decks_with (card ∷ []) l) == 0) ≡ false → is_yank_card l card ≡ false
-standing_no_yank card l sound some = in_deck (any_at (holds_one (card ∷ []) l.idents) l.decks (some_pass (holds_one (card ∷ []) l.idents) l.decks some))
+-- whether decks were told is whether the card stands in one
+pub told_standing : (card : CardRef) (l : LibraryView) (decks : List ℕ) (none : Bool) → decks ≡ decks_with (card ∷ []) l → none ≡ (length decks == 0)
+    → not none ≡ stands_in_deck l card
+told_standing card l decks none is empty =
+    ap not empty ∙ ap (λ ds. not (length ds == 0)) is ∙ some_kept (holds_one (card ∷ []) l.idents) l.decks
+
+-- a deck that holds the card is where it is found
+standing_place : (card : CardRef) (l : LibraryView) (k : ℕ) (d : DeckView) → IsSound l → slice_get l.decks k ≡ Some d
+    → holds_one (card ∷ []) l.idents d ≡ true → (i : ℕ) × (place_of card l ≡ Some (record { deck = d.ident; index = i }))
+standing_place card l k d sound stands holds = of_card (any_at (λ c. is_asked (card ∷ []) (ref_of l.idents c)) d.cards holds)
   where
-    placed : (d : DeckView) (k i : ℕ) (c : CardView) → slice_get l.decks k ≡ Some d → slice_get d.cards i ≡ Some c → card ≡ ref_of l.idents c
-        → is_yank_card l card ≡ false
-    placed d k i c stands at is =
-        let place : place_of card l ≡ Some (record { deck = d.ident; index = i }) =
-        subst (λ r. place_of r l ≡ Some (record { deck = d.ident; index = i })) (sym is)
-        (place_at l d i c sound (at_contained (all_decks l) (suc k) d stands) at) in
+    named : (i : ℕ) (c : CardView) → slice_get d.cards i ≡ Some c → (b : Bool) → same_ref card (ref_of l.idents c) ≡ b → (b || false) ≡ true
+        → (i : ℕ) × (place_of card l ≡ Some (record { deck = d.ident; index = i }))
+    named i c at true is asked = (
+      i,
+      subst (λ r. place_of r l ≡ Some (record { deck = d.ident; index = i })) (sym (same_ref_is card (ref_of l.idents c) is))
+          (place_at l d i c sound (at_contained (all_decks l) (suc k) d stands) at),
+    )
+    named i c at false is asked = absurd (cc)
+
+    of_card : (i : ℕ) × (c : CardView) × (slice_get d.cards i ≡ Some c) × (is_asked (card ∷ []) (ref_of l.idents c) ≡ true)
+        → (i : ℕ) × (place_of card l ≡ Some (record { deck = d.ident; index = i }))
+    of_card (i, c, at, asked) = named i c at (same_ref card (ref_of l.idents c)) refl asked
+
+standing_no_yank : (card : CardRef) (l : LibraryView) → IsSound l → stands_in_deck l card ≡ true → is_yank_card l card ≡ false
+standing_no_yank card l sound some = in_deck (any_at (holds_one (card ∷ []) l.idents) l.decks some)
+  where
+    placed : (k : ℕ) (d : DeckView) → slice_get l.decks k ≡ Some d
+        → (i : ℕ) × (place_of card l ≡ Some (record { deck = d.ident; index = i })) → is_yank_card l card ≡ false
+    placed k d stands (i, place) =
         let later : 0 < d.ident =
         all_at (λ (d : DeckView). 0 < d.ident) l.decks k d (all_mapped (λ m. 0 < m) (λ (d : DeckView). d.ident) l.decks sound.deck_ages.0) stands in
         rw place (grind (arith, nat_tests))
 
-    named : (d : DeckView) (k i : ℕ) (c : CardView) → slice_get l.decks k ≡ Some d → slice_get d.cards i ≡ Some c
-        → (b : Bool) → same_ref card (ref_of l.idents c) ≡ b → (b || false) ≡ true → is_yank_card l card ≡ false
-    named d k i c stands at true is asked = placed d k i c stands at (same_ref_is card (ref_of l.idents c) is)
-    named d k i c stands at false is asked = absurd (cc)
-
-    of_card : (d : DeckView) (k : ℕ) → slice_get l.decks k ≡ Some d
-        → (i : ℕ) × (c : CardView) × (slice_get d.cards i ≡ Some c) × (is_asked (card ∷ []) (ref_of l.idents c) ≡ true) → is_yank_card l card ≡ false
-    of_card d k stands (i, c, at, asked) = named d k i c stands at (same_ref card (ref_of l.idents c)) refl asked
-
     in_deck : (k : ℕ) × (d : DeckView) × (slice_get l.decks k ≡ Some d) × (holds_one (card ∷ []) l.idents d ≡ true) → is_yank_card l card ≡ false
-    in_deck (k, d, stands, holds) = of_card d k stands (any_at (λ c. is_asked (card ∷ []) (ref_of l.idents c)) d.cards holds)
+    in_deck (k, d, stands, holds) = placed k d stands (standing_place card l k d sound stands holds)
 
--- decks that are told are some where they aren't none
-pub some_found : (decks told : List ℕ) (none : Bool) → decks ≡ told → none ≡ (length decks == 0) → not none ≡ true → (length told == 0) ≡ false
-some_found decks told true is none some = absurd (cc)
-some_found decks told false is none some = sym (none ∙ ap (λ ds. length ds == 0) is)
+-- cards that stand in decks are no yank cards
+pub standing_no_yanks : (cards : List CardRef) (l : LibraryView) → IsSound l → list_all (stands_in_deck l) cards ≡ true
+    → list_any (is_yank_card l) cards ≡ false
+standing_no_yanks [] l sound all = refl
+standing_no_yanks (card ∷ cards) l sound all = go (stands_in_deck l card) refl all (standing_no_yanks cards l sound)
+  where
+    go : (b : Bool) → stands_in_deck l card ≡ b → (b && list_all (stands_in_deck l) cards) ≡ true
+        → (list_all (stands_in_deck l) cards ≡ true → list_any (is_yank_card l) cards ≡ false) → list_any (is_yank_card l) (card ∷ cards) ≡ false
+    go true stands rest later = rw (standing_no_yank card l sound stands) (later rest)
+    go false stands rest later = absurd (cc)

@@ -1,11 +1,14 @@
--- Which decks an arrival needs.
-use Rattle.std.specs.Prelude.{ℕ, List, [], Option, Some, None, Result, Ok, Err}
+-- Which decks an arrival needs, and whether a card stands in one.
+use Rattle.std.specs.Prelude.{ℕ, Bool, List, [], ◌∷◌, Option, Some, None, Result, Ok, Err}
+use Rattle.std.specs.List.{list_any}
+use Rattle.upd_text.specs.declared.card_ref.CardRef.{CardRef}
 use Rattle.upd_text.specs.declared.fault.Fault.{Fault}
 use Rattle.upd_core.specs.Ages.{Age}
 use Rattle.upd_core.specs.Library.{LibraryView}
 use Rattle.upd_change.specs.Rows.{RunView}
 use Rattle.upd_deck.specs.Items.{LineView}
 use Rattle.upd_deck.specs.Reading.{reading}
+use Rattle.upd_rows.specs.Asked.{holds_one}
 use Rattle.upd_parts.specs.Needed.{decks_needed}
 use Rattle.upd_desk.specs.Arrivals.{ArrivalView}
 use Rattle.upd_desk.specs.Journal.{Journal, kept, world}
@@ -25,3 +28,7 @@ needed_by journal a = by (kept journal a.site a.number)
     by : Option RunView → List Age
     by (Some run) = []
     by None = needed a.bytes (world journal)
+
+-- whether a card stands in a deck other than `YANK$$$`
+abbrev pub stands_in_deck : LibraryView → CardRef → Bool
+stands_in_deck l card = list_any (holds_one (card ∷ []) l.idents) l.decks

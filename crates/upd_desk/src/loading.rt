@@ -1,13 +1,14 @@
 //! What of a library is loaded for what is asked of it.
 
-ghost use Rattle.std.specs.Prelude.{◌≡◌, ◌+◌, ◌≤◌, [], ◌∷◌, length, true, false, IfErr, IfOk, OnOk};
-ghost use Rattle.std.specs.List.{list_any};
+ghost use Rattle.std.specs.Prelude.{◌≡◌, ◌+◌, ◌≤◌, [], ◌∷◌, length, true, IfErr, IfOk, OnOk};
+ghost use Rattle.std.specs.List.{list_all};
 ghost use Rattle.upd_change.specs.Rows.{Rows, Shows};
 ghost use Rattle.upd_compile.specs.Listings.{card_listing, deck_listing};
 ghost use Rattle.upd_core.specs.Library.{LibraryView};
 ghost use Rattle.upd_core.specs.Parts.{part_of};
 ghost use Rattle.upd_desk.specs.Made.{IsMade};
-ghost use Rattle.upd_parts.specs.Needed.{all_named, decks_needed, is_yank_card};
+ghost use Rattle.upd_desk.specs.Needed.{stands_in_deck};
+ghost use Rattle.upd_parts.specs.Needed.{all_named, decks_needed};
 ghost use Rattle.upd_parts.specs.Needless.{are_plain};
 ghost use Rattle.upd_rows.specs.Asked.{decks_with};
 ghost use Rattle.upd_rows.specs.Keeping.{IsLost, Keeps, MoreFailures, reads_after};
@@ -87,9 +88,8 @@ fn stand_in_decks<S: RowStore>(
     alloc: Global,
     cards: &[CardRef],
 ) -> Result<bool, Fault>
-    ensures found { S.is_honest store.new → IfOk result (λ stand. stand ≡ true → (l : LibraryView) → IsMade l
-        → (rows : Rows) → S.shows (S.image store.old) rows → Shows rows l
-        → list_any (is_yank_card l) cards.now ≡ false) }
+    ensures found { S.is_honest store.new → IfOk result (λ stand. (l : LibraryView) → IsMade l → (rows : Rows)
+        → S.shows (S.image store.old) rows → Shows rows l → stand ≡ list_all (stands_in_deck l) cards.now) }
     ensures there { S.is_honest store.new → OnOk result ((rows : Rows) → S.shows (S.image store.old) rows
         → S.shows (S.image store.new) rows) }
     ensures unread { S.reads_of store.new ≡ S.reads_of store.old }
@@ -109,8 +109,8 @@ fn stand_in_decks<S: RowStore>(
 }
 
 fn stands_in_deck<S: RowStore>(store: &mut S, alloc: Global, card: CardRef) -> Result<bool, Fault>
-    ensures found { S.is_honest store.new → IfOk result (λ stands. stands ≡ true → (l : LibraryView) → IsMade l
-        → (rows : Rows) → S.shows (S.image store.old) rows → Shows rows l → is_yank_card l card ≡ false) }
+    ensures found { S.is_honest store.new → IfOk result (λ stands. (l : LibraryView) → IsMade l → (rows : Rows)
+        → S.shows (S.image store.old) rows → Shows rows l → stands ≡ stands_in_deck l card) }
     ensures unread { S.reads_of store.new ≡ S.reads_of store.old }
     ensures open { S.is_honest store.new → OnOk result (S.is_open store.new) }
     ensures same { Keeps S.is_honest S.is_open S.image S.shows S.may_leave S.failures_of store.old store.new }

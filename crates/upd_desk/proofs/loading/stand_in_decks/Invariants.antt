@@ -1,9 +1,9 @@
-use Rattle.std.proofs.Common.{◌≡◌, false, take}
-use Rattle.std.specs.List.{list_any}
+use Rattle.std.proofs.Common.{◌≡◌, true, take}
+use Rattle.std.specs.List.{list_all}
 use Rattle.upd_change.specs.Rows.{Rows, Shows}
 use Rattle.upd_core.specs.Library.{LibraryView}
 use Rattle.upd_desk.specs.Made.{IsMade}
-use Rattle.upd_parts.specs.Needed.{is_yank_card}
+use Rattle.upd_desk.specs.Needed.{stands_in_deck}
 use Rattle.upd_rows.specs.Keeping.{Keeps}
 use Rattle.upd_desk.proofs.loading.stand_in_decks.Given as goal
 
@@ -15,4 +15,4 @@ invariant-loop-card g l =
     × (g.S.RowStore.is_honest l.store → (rows : Rows) → g.S.RowStore.shows (g.S.RowStore.image l.initial.store) rows
     → g.S.RowStore.shows (g.S.RowStore.image l.store) rows)
     × (g.S.RowStore.is_honest l.store → (v : LibraryView) → IsMade v → (rows : Rows) → g.S.RowStore.shows (g.S.RowStore.image l.initial.store) rows
-    → Shows rows v → list_any (is_yank_card v) (take l.card-index l.cards) ≡ false)
+    → Shows rows v → list_all (stands_in_deck v) (take l.card-index l.cards) ≡ true)
