@@ -125,11 +125,17 @@ none_read old new l head sound is reads =
     let few : length head.decks ≤ 0 = subst (λ h. length h.decks ≤ 0) (sym is) (decks_few [] l sound) in
     grind (arith, reads, few)
 
+-- no more decks than ages were asked for
+pub asked_read : (ages : List ℕ) (l found : LibraryView) (old mid new n : ℕ) → IsSound l → mid ≤ old → new ≡ reads_with found mid
+    → found ≡ part_of ages l → length ages ≤ n → new ≤ old + n
+asked_read ages l found old mid new n sound less reads is few =
+    let less_yet = decks_few ages l sound in
+    few_more old mid new n found reads less (subst (λ m. length m.decks ≤ n) (sym is) (omega (arith, less_yet, few)))
+
 pub needed_read : (lines : List LineView) (l found : LibraryView) (old mid new : ℕ) → IsSound l → mid ≤ old → new ≡ reads_with found mid
     → found ≡ part_of (decks_needed lines l) l → new ≤ old + length (decks_needed lines l)
 needed_read lines l found old mid new sound less reads is =
-    few_more old mid new (length (decks_needed lines l)) found reads less
-    (subst (λ m. length m.decks ≤ length (decks_needed lines l)) (sym is) (decks_few (decks_needed lines l) l sound))
+    asked_read (decks_needed lines l) l found old mid new (length (decks_needed lines l)) sound less reads is (omega arith)
 
 pub still_read : (old mid : ℕ) → mid ≡ old → mid ≤ old
 still_read old mid same = grind (arith, same)

@@ -19,6 +19,7 @@ use Rattle.upd_rows.specs.Keeping.{Keeps}
 use Rattle.upd_desk.specs.Journal.{Journal, world}
 use Rattle.upd_desk.specs.Made.{IsMade}
 use Rattle.upd_desk.specs.Holding.{HoldsIn, IsOwed, Tells, is_lost}
+use Rattle.upd_desk.proofs.MadeLemmas.{world_made}
 use Rattle.upd_desk.proofs.RefusedLemmas.{fails_by}
 
 -- a call that failed as defined, but for want of memory, met what is owed or was lost
@@ -32,6 +33,14 @@ fails_owed f defined fails = by (fails_by f defined fails)
 -- a call that failed as a store does met what is defined
 pub store_fails : {A : Type 0} (f : Fault) (defined : Result A Fault) → f.kind ≡ Store → FailsAt f defined → defined ≡ Err f
 store_fails f defined is fails = subst (λ k. FailsOf k f defined) is fails
+
+-- what is so of each library that tables show is so of the library after each journal that they hold
+pub of_held : {Image Open P : Type 0} (shows : Image → Rows → Type 0) (image : Image) → Open
+    → ((l : LibraryView) → IsMade l → (rows : Rows) → shows image rows → Shows rows l → P) → (j : Journal) → (Open → HoldsIn shows j image) → P
+of_held {P = P} shows image opened all j held = by (held opened)
+  where
+    by : HoldsIn shows j image → P
+    by (rows, shown, holds) = all (world j) (world_made j) rows shown holds.library
 
 module _ {S : Type 0} {Image : Type 0} (is_honest is_open : S → Type 0) (image : S → Image) (shows : Image → Rows → Type 0)
     (may_leave : S → Image → Type 0) (failures : S → ℕ) where

@@ -1,9 +1,11 @@
--- A card that stands in a deck is no yank card.
-use Rattle.std.proofs.Common.{◌≡◌, ℕ, suc, ◌<◌, Bool, true, false, not, ◌&&◌, ◌||◌, List, [], ◌∷◌, length, map, Some, refl, sym, ap, ◌∙◌, subst, arith}
+-- A card that stands in a deck stands in no other, and is no yank card.
+use Rattle.std.proofs.Common.{◌≡◌, ℕ, suc, ◌<◌, ◌≤◌, Bool, true, false, not, ◌&&◌, ◌||◌, List, [], ◌∷◌, length, map, Option, Some, None, refl, sym, ap, ◌∙◌, subst, arith}
 use Rattle.std.proofs.lemmas.Bool.Decides.{nat_tests}
 use Rattle.std.specs.Prelude.{◌==◌, slice_get}
 use Rattle.std.specs.List.{filter, list_all, list_any}
 use Rattle.upd_text.specs.declared.card_ref.CardRef.{CardRef}
+use Rattle.upd_core.specs.declared.library.Place.{Place}
+use Rattle.upd_core.specs.Edits.{is_among}
 use Rattle.upd_core.specs.Library.{CardView, DeckView, LibraryView, all_decks, place_of, ref_of}
 use Rattle.upd_core.specs.Sound.{IsSound}
 use Rattle.upd_core.proofs.ApartLemmas.{all_at, all_mapped, at_contained}
@@ -12,6 +14,7 @@ use Rattle.upd_change.specs.Rows.{same_ref}
 use Rattle.upd_change.proofs.GoneLemmas.{same_ref_is}
 use Rattle.upd_rows.specs.Asked.{decks_with, holds_one, is_asked}
 use Rattle.upd_parts.specs.Needed.{is_yank_card}
+use Rattle.upd_parts.proofs.CountLemmas.{decks_few}
 use Rattle.upd_desk.specs.Needed.{stands_in_deck}
 use Rattle.upd_yank.proofs.FindLemmas.{any_at}
 
@@ -72,3 +75,40 @@ standing_no_yanks (card ∷ cards) l sound all = go (stands_in_deck l card) refl
         → (list_all (stands_in_deck l) cards ≡ true → list_any (is_yank_card l) cards ≡ false) → list_any (is_yank_card l) (card ∷ cards) ≡ false
     go true stands rest later = rw (standing_no_yank card l sound stands) (later rest)
     go false stands rest later = absurd (cc)
+
+-- ---- one deck holds a card, at most
+
+among_own : (z : ℕ) → is_among (z ∷ []) z ≡ true
+among_own z = let same : (z == z) ≡ true = grind (arith, nat_tests) in rw same refl
+
+-- a test that passes less keeps no more
+fewer_kept : (p q : DeckView → Bool) (ds : List DeckView) → ((k : ℕ) (d : DeckView) → slice_get ds k ≡ Some d → p d ≡ true → q d ≡ true)
+    → length (map (λ d. d.ident) (filter p ds)) ≤ length (filter q ds)
+fewer_kept p q [] all = omega arith
+fewer_kept p q (d ∷ ds) all = go (p d) (q d) refl refl (all 0 d refl) (fewer_kept p q ds (λ k. all (suc k)))
+  where
+    go : (a b : Bool) → p d ≡ a → q d ≡ b → (p d ≡ true → q d ≡ true) → length (map (λ d. d.ident) (filter p ds)) ≤ length (filter q ds)
+        → length (map (λ d. d.ident) (filter p (d ∷ ds))) ≤ length (filter q (d ∷ ds))
+    go true true e f both less = rw (e, f) (omega (arith, less))
+    go true false e f both less = let pass = both e in absurd (cc)
+    go false true e f both less = rw (e, f) (omega (arith, less))
+    go false false e f both less = rw (e, f) less
+
+pub one_holder : (card : CardRef) (l : LibraryView) → IsSound l → length (decks_with (card ∷ []) l) ≤ 1
+one_holder card l sound =
+    let fewer = fewer_kept (holds_one (card ∷ []) l.idents) (λ d. not (not (is_among (age ∷ []) d.ident))) l.decks there in
+    let few = decks_few (age ∷ []) l sound in
+    omega (arith, fewer, few)
+  where
+    deck_at : Option Place → ℕ
+    deck_at None = 0
+    deck_at (Some p) = p.deck
+
+    age : ℕ
+    age = deck_at (place_of card l)
+
+    there : (k : ℕ) (d : DeckView) → slice_get l.decks k ≡ Some d → holds_one (card ∷ []) l.idents d ≡ true
+        → not (not (is_among (age ∷ []) d.ident)) ≡ true
+    there k d stands holds =
+        let same : age ≡ d.ident = ap deck_at (standing_place card l k d sound stands holds).1 in
+        subst (λ z. not (not (is_among (age ∷ []) z)) ≡ true) same (ap (λ b. not (not b)) (among_own age))

@@ -181,6 +181,7 @@ impl<S: RowStore> Desk<S> {
             self.old.store self.new.store }
         ensures same { Keeps S.is_honest S.is_open S.image S.shows S.may_leave S.failures_of
             self.old.store self.new.store }
+        ensures unread { S.reads_of self.new.store ≡ S.reads_of self.old.store }
         ensures idle { self.new.work ≡ self.old.work }
         ensures failed { IfErr result (λ fault. fault.kind ≡ Store
             → MoreFailures (S.failures_of self.old.store) (S.failures_of self.new.store)) }
@@ -202,6 +203,9 @@ impl<S: RowStore> Desk<S> {
             self.old.store self.new.store }
         ensures same { Keeps S.is_honest S.is_open S.image S.shows S.may_leave S.failures_of
             self.old.store self.new.store }
+        ensures reads { S.is_honest self.new.store → (journal : Journal)
+            → (S.is_open self.old.store → HoldsIn S.shows journal (S.image self.old.store))
+            → S.reads_of self.new.store ≤ S.reads_of self.old.store + 1 }
         ensures idle { self.new.work ≡ self.old.work }
         ensures failed { IfErr result (λ fault. fault.kind ≡ Store
             → MoreFailures (S.failures_of self.old.store) (S.failures_of self.new.store)) }
@@ -223,6 +227,9 @@ impl<S: RowStore> Desk<S> {
             self.old.store self.new.store }
         ensures same { Keeps S.is_honest S.is_open S.image S.shows S.may_leave S.failures_of
             self.old.store self.new.store }
+        ensures reads { S.is_honest self.new.store → (journal : Journal)
+            → (S.is_open self.old.store → HoldsIn S.shows journal (S.image self.old.store))
+            → S.reads_of self.new.store ≤ S.reads_of self.old.store + 1 }
         ensures idle { self.new.work ≡ self.old.work }
         ensures failed { IfErr result (λ fault. fault.kind ≡ Store
             → MoreFailures (S.failures_of self.old.store) (S.failures_of self.new.store)) }
@@ -244,6 +251,9 @@ impl<S: RowStore> Desk<S> {
             self.old.store self.new.store }
         ensures same { Keeps S.is_honest S.is_open S.image S.shows S.may_leave S.failures_of
             self.old.store self.new.store }
+        ensures reads { S.is_honest self.new.store → (journal : Journal)
+            → (S.is_open self.old.store → HoldsIn S.shows journal (S.image self.old.store))
+            → S.reads_of self.new.store ≤ S.reads_of self.old.store }
         ensures idle { self.new.work ≡ self.old.work }
         ensures failed { IfErr result (λ fault. fault.kind ≡ Store
             → MoreFailures (S.failures_of self.old.store) (S.failures_of self.new.store)) }
@@ -265,6 +275,9 @@ impl<S: RowStore> Desk<S> {
             self.old.store self.new.store }
         ensures same { Keeps S.is_honest S.is_open S.image S.shows S.may_leave S.failures_of
             self.old.store self.new.store }
+        ensures reads { S.is_honest self.new.store → (journal : Journal)
+            → (S.is_open self.old.store → HoldsIn S.shows journal (S.image self.old.store))
+            → S.reads_of self.new.store ≤ S.reads_of self.old.store }
         ensures idle { self.new.work ≡ self.old.work }
         ensures failed { IfErr result (λ fault. fault.kind ≡ Store
             → MoreFailures (S.failures_of self.old.store) (S.failures_of self.new.store)) }

@@ -6,6 +6,8 @@ ghost use Rattle.upd_change.specs.Rows.{Rows, Shows};
 ghost use Rattle.upd_compile.specs.Listings.{card_listing, deck_listing};
 ghost use Rattle.upd_core.specs.Library.{LibraryView};
 ghost use Rattle.upd_core.specs.Parts.{part_of};
+ghost use Rattle.upd_desk.specs.Holding.{HoldsIn};
+ghost use Rattle.upd_desk.specs.Journal.{Journal};
 ghost use Rattle.upd_desk.specs.Made.{IsMade};
 ghost use Rattle.upd_desk.specs.Needed.{stands_in_deck};
 ghost use Rattle.upd_parts.specs.Needed.{all_named, decks_needed};
@@ -170,7 +172,7 @@ pub(crate) fn load_holders<S: RowStore>(
 ) -> Result<Library, Fault>
     ensures found { S.is_honest store.new → IfOk result (λ found. (l : LibraryView) → IsMade l → (rows : Rows)
         → S.shows (S.image store.old) rows → Shows rows l → found ≡ part_of (decks_with cards.now l) l) }
-    ensures reads { OnOk result (S.reads_of store.new ≡ reads_after result (S.reads_of store.old)) }
+    ensures reads { S.reads_of store.new ≡ reads_after result (S.reads_of store.old) }
     ensures open { S.is_honest store.new → OnOk result (S.is_open store.new) }
     ensures same { Keeps S.is_honest S.is_open S.image S.shows S.may_leave S.failures_of store.old store.new }
     ensures lost { IfErr result IsLost }
@@ -196,6 +198,9 @@ pub(crate) fn load_deck_with<S: RowStore>(
     ensures found { S.is_honest store.new → IfOk result (λ found. (l : LibraryView) → IsMade l → (rows : Rows)
         → S.shows (S.image store.old) rows → Shows rows l
         → card_listing card.now found ≡ card_listing card.now l) }
+    ensures reads { S.is_honest store.new → (journal : Journal)
+        → (S.is_open store.old → HoldsIn S.shows journal (S.image store.old))
+        → S.reads_of store.new ≤ S.reads_of store.old + 1 }
     ensures open { S.is_honest store.new → OnOk result (S.is_open store.new) }
     ensures same { Keeps S.is_honest S.is_open S.image S.shows S.may_leave S.failures_of store.old store.new }
     ensures lost { IfErr result IsLost }
@@ -216,6 +221,9 @@ pub(crate) fn load_deck_named<S: RowStore>(
 ) -> Result<Library, Fault>
     ensures found { S.is_honest store.new → IfOk result (λ found. (l : LibraryView) → IsMade l → (rows : Rows)
         → S.shows (S.image store.old) rows → Shows rows l → deck_listing name.now found ≡ deck_listing name.now l) }
+    ensures reads { S.is_honest store.new → (journal : Journal)
+        → (S.is_open store.old → HoldsIn S.shows journal (S.image store.old))
+        → S.reads_of store.new ≤ S.reads_of store.old + 1 }
     ensures open { S.is_honest store.new → OnOk result (S.is_open store.new) }
     ensures same { Keeps S.is_honest S.is_open S.image S.shows S.may_leave S.failures_of store.old store.new }
     ensures lost { IfErr result IsLost }

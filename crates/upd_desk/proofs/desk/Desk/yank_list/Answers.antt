@@ -2,8 +2,9 @@
 use Rattle.std.proofs.Common.{Ok, ap, inl, sym}
 use Rattle.upd_compile.specs.Listings.{yank_listing}
 use Rattle.upd_desk.proofs.ArrivesLemmas.{lost_kind}
+use Rattle.upd_desk.proofs.LoadingLemmas.{none_read}
 use Rattle.upd_desk.proofs.MadeLemmas.{world_made}
-use Rattle.upd_desk.proofs.QueryLemmas.{tells_same}
+use Rattle.upd_desk.proofs.QueryLemmas.{of_held, tells_same}
 use Rattle.upd_desk.proofs.StoreLemmas.{lost_memory}
 use Rattle.upd_desk.proofs.desk.Desk.yank_list.Goals as goal
 
@@ -17,3 +18,13 @@ returns-in-Ok-list_yanks-clause-text g c =
 pub returns-clause-text : goal.returns-clause-text
 returns-clause-text g c honest journal held =
     inl (lost_kind c.in-Err-list_yanks.fault (lost_memory c.in-Err-list_yanks.fault c.in-Err-list_yanks.ensures.err))
+
+pub returns-in-Ok-list_yanks-clause-reads : goal.returns-in-Ok-list_yanks-clause-reads
+returns-in-Ok-list_yanks-clause-reads g c honest =
+    of_held g.S.RowStore.shows (g.S.RowStore.image c.args.self.now.store) (c.in-Ok.ensures.same.was_open honest (c.in-Ok.ensures.open honest)) (λ l made rows shown shows.
+    none_read _ _ l c.in-Ok.head made.sound (c.in-Ok.ensures.found honest l made.sound made.whole rows shown shows) c.in-Ok.ensures.reads)
+
+pub returns-clause-reads : goal.returns-clause-reads
+returns-clause-reads g c honest =
+    of_held g.S.RowStore.shows (g.S.RowStore.image c.args.self.now.store) (c.in-Ok.ensures.same.was_open honest (c.in-Ok.ensures.open honest)) (λ l made rows shown shows.
+    none_read _ _ l c.in-Ok.head made.sound (c.in-Ok.ensures.found honest l made.sound made.whole rows shown shows) c.in-Ok.ensures.reads)
