@@ -2,6 +2,7 @@
 ghost use Rattle.std.specs.Prelude.{◌≡◌, ◌≤◌, MatchResult};
 ghost use Rattle.upd_text.specs.declared.fault.FaultKind.TheVariants.{NoMemory, Store};
 ghost use Rattle.upd_rows.specs.Keeping.{IsLost, MoreFailures};
+ghost use Rattle.upd_store.specs.Faults.{failures_after, kind_for};
 
 use sqlite::{Error, ErrorCode};
 use upd_text::{Fault, FaultKind};
@@ -18,6 +19,7 @@ pub(crate) fn no_memory() -> Fault
 /// A failure of the store, at the version that was found.
 pub fn store_at(version: u32) -> Fault
     ensures lost { IsLost result }
+    ensures kind { result.kind ≡ Store }
     ensures at { result.at ≡ version }
 {
     FaultKind::Store.at_line(version)
@@ -26,6 +28,7 @@ pub fn store_at(version: u32) -> Fault
 /// Want of memory is told as such, any other error as a failure of the store.
 pub fn fault_of(error: Error) -> Fault
     ensures lost { IsLost result }
+    ensures kind { result.kind ≡ kind_for error }
     ensures at { result.at ≡ 0 }
 {
     match error {
@@ -37,6 +40,7 @@ pub fn fault_of(error: Error) -> Fault
 /// The fault of a file of another schema, by the version that it tells.
 pub(crate) fn fault_at(found: Result<u32, Error>) -> Fault
     ensures lost { IsLost result }
+    ensures kind { MatchResult found (λ _. result.kind ≡ Store) (λ error. result.kind ≡ kind_for error) }
     ensures at { MatchResult found (λ version. result.at ≡ version) (λ _. result.at ≡ 0) }
 {
     match found {
@@ -48,6 +52,9 @@ pub(crate) fn fault_at(found: Result<u32, Error>) -> Fault
 /// A call that wasn't begun: one more failure of the store.
 pub(crate) fn refused(failures: &mut u64) -> Fault
     ensures lost { IsLost result }
+    ensures kind { result.kind ≡ Store }
+    ensures at { result.at ≡ 0 }
+    ensures count { failures.new ≡ failures_after Store failures.old }
     ensures more { MoreFailures failures.old failures.new }
     ensures grows { failures.old ≤ failures.new }
 {
@@ -58,6 +65,9 @@ pub(crate) fn refused(failures: &mut u64) -> Fault
 /// A call that failed: a failure of the store is counted, want of memory isn't.
 pub(crate) fn counted(error: Error, failures: &mut u64) -> Fault
     ensures lost { IsLost result }
+    ensures kind { result.kind ≡ kind_for error }
+    ensures at { result.at ≡ 0 }
+    ensures count { failures.new ≡ failures_after (kind_for error) failures.old }
     ensures more { result.kind ≡ Store → MoreFailures failures.old failures.new }
     ensures grows { failures.old ≤ failures.new }
 {
