@@ -1,8 +1,9 @@
 //! What became of the cards of a library: one walk over the library before and the library after.
-ghost use Rattle.std.specs.Prelude.{◌≡◌, ◌+◌, ◌<◌, ◌≤◌, [], ◌∷◌, ◌++◌, true, map, length, take, IfOk, OnOk};
+ghost use Rattle.std.specs.Prelude.{◌≡◌, ◌↔◌, ◌+◌, ◌<◌, ◌≤◌, [], ◌∷◌, ◌++◌, true, map, length, take, IfOk, OnOk};
 ghost use Rattle.std.specs.List.{flat_map, AllByRecursion};
 ghost use Rattle.upd_core.specs.Library.{CardView};
-ghost use Rattle.upd_change.specs.Fates.{AreFates, IsNextOf, IsShort, Gone, New, card_after, card_before, fate_seen};
+ghost use Rattle.upd_change.specs.Fates.{AreFates, IsNextOf, IsShort, Gone, Kept, New, card_after, card_before};
+ghost use Rattle.upd_change.specs.Fates.{fate_seen};
 
 use std::alloc::{AllocError, Global};
 use std::marker::Model;
@@ -60,7 +61,7 @@ impl<'a> Model for DeckFates<'a> {
 
 /// Whether a card is the same but for its history.
 fn is_kept(was: &Card, is: &Card) -> bool
-    ensures { result ≡ true → is.now ≡ record was.now { history = is.now.history } }
+    ensures { (result ≡ true) ↔ (is.now ≡ record was.now { history = is.now.history }) }
 {
     if was.ident != is.ident || was.number != is.number {
         return false;
@@ -69,13 +70,13 @@ fn is_kept(was: &Card, is: &Card) -> bool
 }
 
 fn is_same_text(text: &[u8], other: &[u8]) -> bool
-    ensures { result ≡ true → text.now ≡ other.now }
+    ensures { (result ≡ true) ↔ (text.now ≡ other.now) }
 {
     text == other
 }
 
 fn are_same_targets(targets: &[Target], others: &[Target]) -> bool
-    ensures { result ≡ true → targets.now ≡ others.now }
+    ensures { (result ≡ true) ↔ (targets.now ≡ others.now) }
 {
     if targets.len() != others.len() {
         return false;
@@ -91,7 +92,9 @@ fn are_same_targets(targets: &[Target], others: &[Target]) -> bool
 /// What became of the next card before or of the next card after. A card of an ident younger than all idents before is
 /// new; otherwise an old card that isn't the next one after is gone.
 fn next_fate<'a>(youngest: Serial, was: &'a Card, is: &'a Card) -> Fate<'a>
-    ensures { IsNextOf was.now is.now (fate_seen result) }
+    ensures next { IsNextOf was.now is.now (fate_seen result) }
+    ensures stays { is.now.ident ≤ youngest → is.now ≡ record was.now { history = is.now.history }
+        → fate_seen result ≡ Kept was.now is.now }
 {
     if youngest < is.ident {
         return Fate::New(is);

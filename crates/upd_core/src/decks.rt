@@ -172,6 +172,7 @@ fn mark(strays: &mut [bool], ident: Serial)
 fn mark_card(strays: &mut [bool], deck: Serial, card: &Card)
     ensures kept { StayMarked strays.old strays.new }
     ensures home { is_home strays.new deck card.now ≡ true }
+    ensures own { card.now.ident ≡ deck → strays.new ≡ strays.old }
 {
     if card.ident != deck {
         mark(strays, card.ident);
