@@ -1,6 +1,6 @@
 -- Steps of the loops that tell fates.
-use Rattle.std.proofs.Common.{◌≡◌, ℕ, ◌+◌, ◌<◌, Bool, true, false, List, [], ◌∷◌, map, length, drop, get_or, refl, ap, sym, ◌∙◌, arith}
-use Rattle.std.specs.Prelude.{◌&&◌}
+use Rattle.std.proofs.Common.{◌≡◌, ℕ, ◌+◌, ◌<◌, false, List, [], ◌∷◌, map, length, drop, get_or, refl, ap, sym, ◌∙◌, arith}
+use Rattle.std.proofs.lemmas.Bool.{and_right}
 use Rattle.std.proofs.lemmas.List.{drop_more}
 use Rattle.upd_core.specs.declared.card.Entry.{Entry}
 use Rattle.upd_core.specs.declared.ident.Ident.{Ident}
@@ -18,11 +18,7 @@ pub no_idents_more : (old : List Ident) → idents_told old [] ≡ []
 no_idents_more [] = refl
 no_idents_more (i ∷ old) = refl
 
-and_none : (a b : Bool) → b ≡ false → (a && b) ≡ false
-and_none true b e = e
-and_none false b e = refl
-
 pub too_short : (es fs : List Entry) → length fs < length es → begins es fs ≡ false
 too_short [] fs short = absurd (omega arith)
 too_short (e ∷ es) [] short = refl
-too_short (e ∷ es) (f ∷ fs) short = and_none (same_entry e f) (begins es fs) (too_short es fs (omega arith))
+too_short (e ∷ es) (f ∷ fs) short = and_right (same_entry e f) (begins es fs) (too_short es fs (omega arith))

@@ -5,6 +5,7 @@ use Rattle.std.proofs.Common.{refl, ap, sym, ◌∙◌, append_assoc, append-nil
 use Rattle.std.specs.Prelude.{◌==◌, not}
 use Rattle.std.specs.List.{list_any, flat_map, find, filter, AllByRecursion, Contains}
 use Rattle.std.specs.Option.{option_map_or}
+use Rattle.std.proofs.lemmas.Bool.{and_right}
 use Rattle.std.proofs.lemmas.Bool.Decides.{Decides-eqb}
 use Rattle.upd_core.specs.declared.card.Entry.{Entry}
 use Rattle.upd_core.specs.Entries.{same_entry}
@@ -122,16 +123,12 @@ apart_in_deck age l h = apart_found age (all_decks l) h
 
 -- ---- histories
 
-and_none : (a b : Bool) → b ≡ false → (a && b) ≡ false
-and_none true b e = e
-and_none false b e = refl
-
 -- histories of two lengths aren't the same
 pub other_history : (es fs : List Entry) → (length es ≡ length fs → ⊥) → same_history es fs ≡ false
 other_history [] [] differ = absurd (differ refl)
 other_history [] (f ∷ fs) differ = refl
 other_history (e ∷ es) [] differ = refl
-other_history (e ∷ es) (f ∷ fs) differ = and_none (same_entry e f) _ (other_history es fs (λ same. differ (ap suc same)))
+other_history (e ∷ es) (f ∷ fs) differ = and_right (same_entry e f) _ (other_history es fs (λ same. differ (ap suc same)))
 
 -- ---- fates of cards of a deck
 
