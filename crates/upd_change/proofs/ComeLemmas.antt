@@ -1,8 +1,9 @@
 -- The rows of what comes, behind the rows of what stays.
 use Rattle.std.proofs.Common.{◌≡◌, ℕ, ◌+◌, Bool, true, false, cond, List, [], ◌∷◌, ◌++◌, length, drop, refl, ap, sym, subst, ◌∙◌, append_assoc, append-nil}
 use Rattle.std.proofs.Common.{arith}
-use Rattle.std.specs.Prelude.{not, ◌==◌, ◌&&◌}
+use Rattle.std.specs.Prelude.{not, ◌==◌}
 use Rattle.std.specs.List.{count_by, flat_map, AllByRecursion}
+use Rattle.std.proofs.lemmas.Bool.{and_parts}
 use Rattle.std.proofs.lemmas.Bool.Decides.{Decides-eqb}
 use Rattle.std.proofs.lemmas.List.{nil_from_length}
 use Rattle.upd_text.specs.declared.card_ref.CardRef.{CardRef}
@@ -143,28 +144,20 @@ entry_rows_append : (card : CardRef) (n m : ℕ) (es fs : List Entry) → m ≡ 
 entry_rows_append card n m [] fs e = let same : n ≡ m = omega arith in ap (λ k. entry_rows card k fs) same
 entry_rows_append card n m (x ∷ es) fs e = ap (λ t. record { card = card; ord = n; entry = x } ∷ t) (entry_rows_append card (n + 1) m es fs (omega arith))
 
-and_left : (a b : Bool) → (a && b) ≡ true → a ≡ true
-and_left true b e = refl
-and_left false b e = absurd (cc)
-
-and_right : (a b : Bool) → (a && b) ≡ true → b ≡ true
-and_right true b e = e
-and_right false b e = absurd (cc)
-
 pub same_entry_is : (e f : Entry) → same_entry e f ≡ true → e ≡ f
 same_entry_is e f same = go e.active refl f.active refl
   where
     both : e.active ≡ f.active → e ≡ f
-    both p = let q = (Decides-eqb e.ident f.ident).0 (and_left _ _ same) in λ i. record { ident = q i; active = p i }
+    both p = let q = (Decides-eqb e.ident f.ident).0 (and_parts _ _ same).0 in λ i. record { ident = q i; active = p i }
 
     go : (a : Bool) → e.active ≡ a → (b : Bool) → f.active ≡ b → e ≡ f
     go true p true q = both (p ∙ sym q)
     go false p false q = both (p ∙ sym q)
-    go true p false q = let t = and_right (e.ident == f.ident) _ same in absurd (differ (rw (p, q) at t))
+    go true p false q = let t = (and_parts (e.ident == f.ident) _ same).1 in absurd (differ (rw (p, q) at t))
       where
         differ : false ≡ true → ⊥
         differ e = cc
-    go false p true q = let t = and_right (e.ident == f.ident) _ same in absurd (differ (rw (p, q) at t))
+    go false p true q = let t = (and_parts (e.ident == f.ident) _ same).1 in absurd (differ (rw (p, q) at t))
       where
         differ : false ≡ true → ⊥
         differ e = cc
@@ -173,8 +166,8 @@ pub begins_is : (es fs : List Entry) → begins es fs ≡ true → fs ≡ es ++ 
 begins_is [] fs e = refl
 begins_is (x ∷ es) [] e = absurd (cc)
 begins_is (x ∷ es) (y ∷ fs) e =
-    let p = same_entry_is x y (and_left (same_entry x y) (begins es fs) e) in
-    let q = begins_is es fs (and_right (same_entry x y) (begins es fs) e) in
+    let p = same_entry_is x y (and_parts (same_entry x y) (begins es fs) e).0 in
+    let q = begins_is es fs (and_parts (same_entry x y) (begins es fs) e).1 in
     λ i. sym p i ∷ q i
 
 -- the rows of a card's entries, and of its targets
