@@ -9,13 +9,10 @@ use Rattle.upd_core.specs.Edits.{entered}
 use Rattle.upd_core.specs.First.{at_first}
 use Rattle.upd_core.specs.Library.{CardView, DeckView, is_deck}
 use Rattle.upd_core.specs.Sound.{AreAgedFrom}
+use Rattle.upd_laws.proofs.SoundListLemmas.{all_append}
 use Rattle.upd_laws.specs.PurgingBack.{GoesOn, AreAmong, Ended, Kept, Come, DecksGoOn}
 
 -- ---- what holds of all elements
-
-pub all_append : {A : Type 0} (P : A → Type 0) (xs ys : List A) → AllByRecursion P xs → AllByRecursion P ys → AllByRecursion P (xs ++ ys)
-all_append P [] ys a b = b
-all_append P (x ∷ xs) ys a b = (a.0, all_append P xs ys a.1 b)
 
 pub all_weaker : {A : Type 0} (P Q : A → Type 0) → ((x : A) → P x → Q x) → (xs : List A) → AllByRecursion P xs → AllByRecursion Q xs
 all_weaker P Q w [] a = tt
