@@ -1,7 +1,7 @@
 -- What each edit does to the cards of a library.
 use Rattle.std.proofs.Common.{◌≡◌, ℕ, zero, suc, ◌+◌, ◌-◌, ◌<◌, ◌≤◌, Bool, true, false, not, ◌||◌, List, [], ◌∷◌, ◌++◌, map, length, take, drop, inl, inr}
 use Rattle.std.proofs.Common.{refl, sym, ap, ◌∙◌, subst, arith, append_assoc}
-use Rattle.std.proofs.lemmas.Bool.{ne_eqb}
+use Rattle.std.proofs.lemmas.Bool.{ne_eqb, or_cases, or_left, or_right}
 use Rattle.std.proofs.lemmas.List.{take-append-drop}
 use Rattle.std.specs.Prelude.{Some, ◌==◌, ◌⊎◌, insert, IsTrue}
 use Rattle.std.specs.Option.{option_map_or}
@@ -14,7 +14,7 @@ use Rattle.upd_core.specs.Edits.{with_entries}
 use Rattle.upd_core.specs.First.{at_first}
 use Rattle.upd_core.specs.Library.{CardView, DeckView, LibraryView, all_decks, cards_of, is_deck, with_cards}
 use Rattle.upd_core.specs.Sound.{is_held, stands, BeginsOn, BeginsWithItsOwn, HasNoTargets, IsOfHeld, key_of, all_cards}
-use Rattle.upd_laws.proofs.SoundListLemmas.{or_cases, or_left, or_right, same_number, is_same_number, other_number, all_append, all_each, all_flat, HasMore}
+use Rattle.upd_laws.proofs.SoundListLemmas.{same_number, is_same_number, other_number, all_append, all_each, all_flat, HasMore}
 use Rattle.upd_laws.proofs.SoundListLemmas.{more_front, IsPart, none, fewer, kept, part_append, part_without, zip_same, at_first_all, at_first_any}
 use Rattle.upd_laws.proofs.SoundListLemmas.{at_first_find, at_first_more, at_first_zip}
 use Rattle.upd_laws.proofs.SoundIdentLemmas.{held_still}

@@ -1,7 +1,7 @@
 -- Each edit keeps a library sound.
 use Rattle.std.proofs.Common.{◌≡◌, ℕ, zero, suc, ◌+◌, ◌-◌, ◌<◌, ◌≤◌, Bool, true, false, cond, not, ◌||◌, List, [], ◌∷◌, ◌++◌, map, length, inl}
 use Rattle.std.proofs.Common.{inr, refl, sym, ap, ◌∙◌, subst, arith}
-use Rattle.std.proofs.lemmas.Bool.{ne_eqb}
+use Rattle.std.proofs.lemmas.Bool.{ne_eqb, or_cases, or_left, or_right}
 use Rattle.std.specs.Prelude.{Some, None, ◌==◌, ◌⊎◌, insert, IsTrue}
 use Rattle.std.specs.Str.{bytes_eq}
 use Rattle.std.specs.Option.{option_map_or}
@@ -20,7 +20,7 @@ use Rattle.upd_core.specs.Sound.{AreAgedFrom, AreApart, AreRising, is_held, is_h
 use Rattle.upd_core.specs.Sound.{key_of, all_cards, IsSound}
 use Rattle.upd_core.specs.Status.{IsAged}
 use Rattle.upd_text.specs.Names.{yank_name}
-use Rattle.upd_laws.proofs.SoundListLemmas.{or_cases, or_left, or_right, same_number, is_same_number, other_number, all_append, all_weaker, all_filter, all_map}
+use Rattle.upd_laws.proofs.SoundListLemmas.{same_number, is_same_number, other_number, all_append, all_weaker, all_filter, all_map}
 use Rattle.upd_laws.proofs.SoundListLemmas.{rising_end, any_front, any_last, more_all, more_apart, IsPart, none, kept, part_apart, part_rising, part_append}
 use Rattle.upd_laws.proofs.SoundListLemmas.{zip_all, zip_part, at_first_all, at_first_map, at_first_part, find_passes}
 use Rattle.upd_laws.proofs.SoundIdentLemmas.{ages_end, ages_unheld, held_within, held_more, held_deck_more, held_deck_last, held_deck_held, held_deck_end}
