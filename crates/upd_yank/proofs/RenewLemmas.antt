@@ -4,7 +4,7 @@ use Rattle.std.proofs.Common.{Some, None, inl, inr, unwrap_or, refl, ap, sym, �
 use Rattle.std.specs.Prelude.{◌==◌, ◌⊎◌}
 use Rattle.std.specs.List.{list_any, filter, find, flat_map, AllByRecursion, Contains}
 use Rattle.std.specs.Option.{option_map}
-use Rattle.std.proofs.lemmas.Bool.{ne_eqb, or_cases}
+use Rattle.std.proofs.lemmas.Bool.{ne_eqb, or_cases, or_right}
 use Rattle.std.proofs.lemmas.Bool.Decides.{Decides-eqb}
 use Rattle.std.proofs.lemmas.Option.{same_Some}
 use Rattle.upd_core.proofs.ApartLemmas.{all_at, all_by_index, all_mapped, at_contained, contained_at, find_only, rising_apart}
@@ -65,10 +65,6 @@ none_kept out a (d ∷ ds) goes = go (out d.ident) refl (d.ident == a) refl (non
 -- whether an ident is a held deck
 abbrev is_one : Ident → Bool
 is_one i = i.held && is_deck_kind i.kind
-
-or_right : (a b : Bool) → b ≡ true → (a || b) ≡ true
-or_right true b e = refl
-or_right false b e = e
 
 and_twice : (a b c : Bool) → (a && b && c) ≡ ((a && b) && c)
 and_twice true b c = refl
