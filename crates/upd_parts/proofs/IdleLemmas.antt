@@ -35,6 +35,7 @@ use Rattle.upd_laws.proofs.SoundRunLemmas.{run_goes, run_sound}
 use Rattle.upd_yank.proofs.FindLemmas.{cards_found}
 use Rattle.upd_yank.proofs.KeptLemmas.{card_held, same_name}
 use Rattle.upd_yank.proofs.RefLemmas.{one_ref}
+use Rattle.upd_yank.proofs.RenewLemmas.{all_passed}
 use Rattle.upd_yank.proofs.StateLemmas.{all_counted}
 use Rattle.upd_yank.specs.Affected.{affected, is_touched}
 use Rattle.upd_yank.specs.Cascade.{is_due}
@@ -177,19 +178,6 @@ all_left P test (x ∷ xs) all = go (test x) refl (all_left P test xs all.1)
     go : (b : Bool) → test x ≡ b → AllByRecursion P (filter test xs) → AllByRecursion P (cond (test x) (x ∷ filter test xs) (filter test xs))
     go true e later = rw e (all.0 e, later)
     go false e later = rw e later
-
-all_passed : {A : Type 0} (P : A → Type 0) (test : A → Bool) (xs : List A) (k : ℕ) (x : A) → slice_get xs k ≡ Some x → test x ≡ true →
-    AllByRecursion P (filter test xs) → P x
-all_passed P test [] k x at pass all = absurd (cc)
-all_passed P test (y ∷ xs) zero x at pass all =
-    let same = same_Some y x at in
-    let here : AllByRecursion P (y ∷ filter test xs) = rw (ap test same ∙ pass) at all in
-    subst P same here.0
-all_passed P test (y ∷ xs) (suc k) x at pass all = all_passed P test xs k x at pass (later (test y) refl)
-  where
-    later : (b : Bool) → test y ≡ b → AllByRecursion P (filter test xs)
-    later true e = let both : AllByRecursion P (y ∷ filter test xs) = rw e at all in both.1
-    later false e = rw e at all
 
 -- a deck that stays stands as it stood
 stands_as_it_stood : (out : ℕ → Bool) (l m : LibraryView) (d : DeckView) → IsSound l → left_out out m ≡ left_out out l → Contains (all_decks m) d →

@@ -24,7 +24,8 @@ use Rattle.upd_yank.specs.Right.{CacheView, IsRight, was_active}
 
 -- ---- the decks of a part
 
-all_passed : {A : Type 0} (P : A → Type 0) (test : A → Bool) (xs : List A) (k : ℕ) (x : A) → slice_get xs k ≡ Some x → test x ≡ true →
+-- what holds of all elements that pass a test holds of each that passes it
+pub all_passed : {A : Type 0} (P : A → Type 0) (test : A → Bool) (xs : List A) (k : ℕ) (x : A) → slice_get xs k ≡ Some x → test x ≡ true →
     AllByRecursion P (filter test xs) → P x
 all_passed P test [] k x at pass all = absurd (cc)
 all_passed P test (y ∷ xs) zero x at pass all =
