@@ -5,14 +5,14 @@
 //! TABLE make of the lists: equations, with no rowid in them.
 #![tactic(auto)]
 
-ghost use Rattle.std.specs.Prelude.{◌≡◌, IfOk};
+ghost use Rattle.std.specs.Prelude.{◌≡◌, ◌⊎◌, false, Err, IfErr, IfOk, IsTrue};
 ghost use Rattle.sqlite.specs.Held.{state};
-ghost use Rattle.sqlite.specs.State.{HasCleanDisk, Shown};
+ghost use Rattle.sqlite.specs.State.{ExecutesInside, FailsToQuery, HasCleanDisk, IsTooLate, Shown};
 ghost use Rattle.sqlite.specs.Values.{bound};
 ghost use Rattle.upd_tables.specs.Steps.{Ran, Steps};
 
 use sqlite::types::ValueRef;
-use sqlite::{Alter, Error, Row, Transaction};
+use sqlite::{Alter, Error, ErrorCode, Row, Transaction};
 
 /// Runs a text that is one statement.
 pub fn run<S: Alter>(
@@ -23,6 +23,11 @@ pub fn run<S: Alter>(
     ensures same_reference { tx.new.conn.ghost_name ≡ tx.old.conn.ghost_name }
     ensures ran { Ran sql.now (bound params.now) (state S.Store tx.old.conn.now)
         (state S.Store tx.new.conn.now) result }
+    ensures failed { HasCleanDisk (state S.Store tx.new.conn.now) → IsTrue (state S.Store tx.old.conn.now).in_transaction
+        → IfErr result (λ e. ExecutesInside 0 sql.now (bound params.now) (state S.Store tx.old.conn.now)
+        (state S.Store tx.new.conn.now) (Err e)) }
+    ensures ended { (state S.Store tx.old.conn.now).in_transaction ≡ false
+        → (result ≡ Err (Error.SqliteFailure ErrorCode.TransactionState)) × (tx.new.conn.now ≡ tx.old.conn.now) }
 {
     tx.execute(sql, params)?;
     Ok(())
@@ -39,6 +44,10 @@ pub fn ask<S: Alter>(
     ensures shown { HasCleanDisk (state S.Store tx.new.conn.now)
         → IfOk result (λ rows. Shown sql.now (bound params.now) (state S.Store tx.old.conn.now)
         (state S.Store tx.new.conn.now) rows.items) }
+    ensures failed { HasCleanDisk (state S.Store tx.new.conn.now)
+        → IfErr result (λ e. FailsToQuery sql.now (bound params.now) (state S.Store tx.old.conn.now)
+        (state S.Store tx.new.conn.now) e ⊎ IsTooLate sql.now (bound params.now) (state S.Store tx.old.conn.now)
+        (state S.Store tx.new.conn.now) e) }
 {
     tx.query_all(sql, params)
 }
