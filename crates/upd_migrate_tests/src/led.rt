@@ -180,6 +180,26 @@ fn refused_at(
     Ok(())
 }
 
+/// A file of an older schema isn't taken up as it is: the fault tells its version, and the tables stay.
+fn is_not_taken_up(rt: &impl Abort, alloc: Global, file: Older, wanted: &str) -> Result<(), Fail> {
+    match SqlStore::adopt(older(alloc, file)?) {
+        Ok(_) => Err("an older file was taken up".into()),
+        Err((fault, mut conn)) => {
+            assert_eq!(rt; format!(in alloc; "{fault}")?.as_str(), wanted, "{file:?}");
+            let after = tables(alloc, &mut conn)?;
+            assert_eq!(rt; after.as_str(), file.before(alloc)?.as_str(), "{file:?}");
+            Ok(())
+        }
+    }
+}
+
+#[test]
+fn older_files_are_not_taken_up(rt: HostRuntime) -> Result<(), Fail> {
+    let alloc = rt.alloc();
+    is_not_taken_up(&rt, alloc, Older::First, "Store (29) at 1")?;
+    is_not_taken_up(&rt, alloc, Older::Second, "Store (29) at 2")
+}
+
 #[test]
 fn other_files_are_refused(rt: HostRuntime) -> Result<(), Fail> {
     let alloc = rt.alloc();
