@@ -116,6 +116,48 @@ impl Write for Narrow {
     }
 }
 
+/// Holds back what it is given until it is flushed; flush number `fails_at` fails.
+#[derive(Drop)]
+pub struct Held {
+    held: Vec<u8>,
+    pub flushed: Vec<u8>,
+    /// How much was flushed behind each flush.
+    pub fronts: Vec<usize>,
+    flushes: usize,
+    fails_at: usize,
+}
+
+impl Held {
+    /// A writer that holds nothing; with `fails_at` 0 no flush fails.
+    pub fn new(alloc: Global, fails_at: usize) -> Held {
+        Held {
+            held: Vec::new(alloc),
+            flushed: Vec::new(alloc),
+            fronts: Vec::new(alloc),
+            flushes: 0,
+            fails_at,
+        }
+    }
+}
+
+impl Write for Held {
+    fn write(&mut self, buf: &[u8]) -> io::Result<usize> {
+        self.held.extend_from_slice(buf)?;
+        Ok(buf.len())
+    }
+
+    fn flush(&mut self) -> io::Result<()> {
+        self.flushes = self.flushes.saturating_add(1);
+        if self.flushes == self.fails_at {
+            return Err(io::Error::from(ErrorKind::Other));
+        }
+        self.flushed.extend_from_slice(&self.held)?;
+        self.held.clear();
+        self.fronts.push(self.flushed.len())?;
+        Ok(())
+    }
+}
+
 /// Counts the bytes and the lines that it is given, and keeps none.
 #[derive(Drop)]
 pub struct Tally {

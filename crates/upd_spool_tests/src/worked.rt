@@ -1,5 +1,5 @@
 //! A worked spool, whole and cut, over readers and writers of all kinds.
-use crate::streams::{Dribble, Narrow};
+use crate::streams::{Dribble, Held, Narrow};
 use std::alloc::Global;
 use std::process::Abort;
 use std::test::Fail;
@@ -226,6 +226,41 @@ fn each_write_may_fail(rt: HostRuntime) -> Result<(), Fail> {
     let (_, answers) = worked(alloc)?;
     for room in 0..answers.len() {
         stops_writing(&rt, alloc, room, room % 2 == 0)?;
+    }
+    Ok(())
+}
+
+/// A writer that holds back what isn't flushed has each answer before the next one comes.
+#[test]
+fn each_answer_is_flushed(rt: HostRuntime) -> Result<(), Fail> {
+    let alloc = rt.alloc();
+    let (text, answers) = worked(alloc)?;
+    let second = first_answer(alloc)?.len();
+    let third = second.saturating_add(SECOND_ANSWER.len());
+    let mut held = Held::new(alloc, 0);
+    let mut input = text.as_bytes();
+    let result = spool(alloc, &mut input, &mut held, &mut desk(alloc));
+    assert_eq!(&rt; ended(alloc, result)?.as_str(), "3");
+    assert_eq!(&rt; std::str::from_utf8(&held.flushed)?, answers.as_str());
+    assert!(&rt; held.fronts.as_slice() == [second, third, answers.len()].as_slice());
+    Ok(())
+}
+
+/// A flush that fails is a failed write, and the next frame isn't read.
+#[test]
+fn each_flush_may_fail(rt: HostRuntime) -> Result<(), Fail> {
+    let alloc = rt.alloc();
+    let (text, answers) = worked(alloc)?;
+    let second = first_answer(alloc)?.len();
+    let third = second.saturating_add(SECOND_ANSWER.len());
+    for (at, front) in [(1, 0), (2, second), (3, third)] {
+        let mut held = Held::new(alloc, at);
+        let mut input = text.as_bytes();
+        let result = spool(alloc, &mut input, &mut held, &mut desk(alloc));
+        let end = format!(in alloc; "Write (33) at {at}")?;
+        assert_eq!(&rt; ended(alloc, result)?.as_str(), end.as_str());
+        let wanted = answers.as_bytes().get(..front).ok_or("too much")?;
+        assert!(&rt; held.flushed.as_slice() == wanted);
     }
     Ok(())
 }
