@@ -1,5 +1,5 @@
 //! Heads and bodies at their limits, and streams that fail.
-use crate::streams::{Lists, Narrow, Pieces, answer_to, empty_desk};
+use crate::streams::{Held, Lists, Narrow, Pieces, answer_to, empty_desk};
 use std::alloc::Global;
 use std::process::Abort;
 use std::test::Fail;
@@ -208,4 +208,16 @@ Connection: close\r\n\r\n{\"at\":0,\"fault\":26,\"name\":\"RunChanged\"}",
         }
     }
     Ok(())
+}
+
+/// A flush that fails is a failed write. The run is kept: its repeat has the reply.
+#[test]
+fn a_failed_flush_keeps_the_run(rt: HostRuntime) -> Result<(), Fail> {
+    let alloc = rt.alloc();
+    let mut desk = empty_desk(alloc);
+    let mut output = Held::new(alloc, 1);
+    let ended = serve_one(alloc, &mut QUICK.as_bytes(), &mut output, &mut desk);
+    assert_eq!(&rt; ended, Err(FaultKind::Write.without_line()));
+    assert!(&rt; output.flushed.is_empty());
+    expect(&rt, alloc, &mut desk, QUICK, QUICK_ANSWER)
 }

@@ -76,6 +76,44 @@ impl Write for Narrow {
     }
 }
 
+/// Holds back what it is given until it is flushed; flush number `fails_at` fails.
+#[derive(Drop)]
+pub struct Held {
+    held: Vec<u8>,
+    pub flushed: Vec<u8>,
+    flushes: usize,
+    fails_at: usize,
+}
+
+impl Held {
+    /// A writer that holds nothing; with `fails_at` 0 no flush fails.
+    pub fn new(alloc: Global, fails_at: usize) -> Held {
+        Held {
+            held: Vec::new(alloc),
+            flushed: Vec::new(alloc),
+            flushes: 0,
+            fails_at,
+        }
+    }
+}
+
+impl Write for Held {
+    fn write(&mut self, buf: &[u8]) -> io::Result<usize> {
+        self.held.extend_from_slice(buf)?;
+        Ok(buf.len())
+    }
+
+    fn flush(&mut self) -> io::Result<()> {
+        self.flushes = self.flushes.saturating_add(1);
+        if self.flushes == self.fails_at {
+            return Err(io::Error::from(ErrorKind::Other));
+        }
+        self.flushed.extend_from_slice(&self.held)?;
+        self.held.clear();
+        Ok(())
+    }
+}
+
 /// A desk over lists.
 pub type Lists = Desk<ListStore>;
 
@@ -84,17 +122,17 @@ pub fn empty_desk(alloc: Global) -> Lists {
     Desk::open(ListStore::new(alloc))
 }
 
-/// What is written for a request, read so many bytes at a time.
+/// What is written and flushed for a request, read so many bytes at a time.
 pub fn answer_to(
     alloc: Global,
     desk: &mut Lists,
     request: &[u8],
     most: usize,
 ) -> Result<Vec<u8>, Fault> {
-    let mut output = Vec::new(alloc);
+    let mut output = Held::new(alloc, 0);
     let mut input = Pieces::new(request, most, 0);
     serve_one(alloc, &mut input, &mut output, desk)?;
-    Ok(output)
+    Ok(output.flushed)
 }
 
 /// The answer to a request is this text.
