@@ -3,7 +3,9 @@ use crate::streams::empty_desk;
 use std::io::{Read, Write};
 use std::net::{Shutdown, TcpListener, TcpStream};
 use std::test::Fail;
+use std::time::Instant;
 use upd_http::serve_on;
+use upd_text::FaultKind;
 
 const QUICK: &str =
     "POST /sites/LYON/runs/1/quick HTTP/1.1\r\nHost: lib\r\nContent-Length: 0\r\n\r\n";
@@ -55,5 +57,32 @@ fn a_long_body_is_answered(rt: HostRuntime) -> Result<(), Fail> {
         "HTTP/1.1 413 Payload Too Large\r\nContent-Type: application/json\r\nContent-Length: 35\r\n\
 Connection: close\r\n\r\n{\"at\":0,\"fault\":1,\"name\":\"RunLong\"}"
     );
+    Ok(())
+}
+
+/// A connection that can't be accepted isn't passed over. Nobody has connected here, and the listener doesn't wait.
+#[test]
+fn an_accept_that_fails_is_told(rt: HostRuntime) -> Result<(), Fail> {
+    let alloc = rt.alloc();
+    let listener = TcpListener::bind(&rt, "127.0.0.1:0")?;
+    listener.set_nonblocking(true)?;
+    let served = serve_on(alloc, &listener, 2, &mut empty_desk(alloc));
+    assert_eq!(&rt; served, Err(FaultKind::Read.without_line()));
+    Ok(())
+}
+
+/// A client that says nothing is waited for ten seconds, and once more behind what it is answered, which is nothing.
+#[test]
+fn a_silent_client_is_not_waited_for_for_ever(rt: HostRuntime) -> Result<(), Fail> {
+    let alloc = rt.alloc();
+    let listener = TcpListener::bind(&rt, "127.0.0.1:0")?;
+    let mut client = TcpStream::connect(&rt, listener.local_addr()?)?;
+    let start = Instant::now(&rt)?;
+    serve_on(alloc, &listener, 1, &mut empty_desk(alloc))?;
+    let waited = start.elapsed(&rt)?.as_secs();
+    assert!(&rt; 20 <= waited && waited < 30, "{waited}");
+    let mut answer = Vec::new(alloc);
+    client.read_to_end(&mut answer)?;
+    assert!(&rt; answer.is_empty());
     Ok(())
 }
