@@ -109,6 +109,22 @@ fn compile_files_have_10000_lines(rt: HostRuntime) -> Result<(), Fail> {
 }
 
 #[test]
+fn compile_files_follow_10000_calls(rt: HostRuntime) -> Result<(), Fail> {
+    const PARTS: &[Part<'_>] = &[
+        Part::Line("*COMDECK C\n*COMDECK D"),
+        Part::Times(99, "*CALL C"),
+        Part::Line("*DECK A"),
+        Part::Times(100, "*CALL D"),
+    ];
+    const ASKED: Asked = &[
+        (Ask::Lines(PARTS), "0"),
+        (Ask::Run("*IDENT X\n*INSERT A.1\n*CALL C\n"), "accepted"),
+        (Ask::Active, "CompileLong (22) at 0"),
+    ];
+    check(&rt, rt.alloc(), ASKED)
+}
+
+#[test]
 fn cards_without_text_are_listed(rt: HostRuntime) -> Result<(), Fail> {
     const ASKED: Asked = &[
         (Ask::Run("*COMDECK C,NOPROP\n\n"), "accepted"),
