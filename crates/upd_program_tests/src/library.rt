@@ -1,7 +1,9 @@
 //! What sites do with a library: they make it, hand runs in, settle, and ask.
 use crate::console::{ask, ask_of, assert_answer, fresh, remove};
+use sqlite_disk::Unknown;
 use std::process::Abort;
 use std::test::Fail;
+use upd_file::connect;
 
 const DECK: &[u8] = b"*DECK A\nONE\nTWO\nTHREE\n";
 
@@ -95,6 +97,32 @@ fn a_spool_is_answered_line_by_line(rt: HostRuntime) -> Result<(), Fail> {
     assert_answer(&rt, &spool, 1, EMPTY_REPLY, "upd: CutFrame (31) at 2\n");
     let whole = ask(&rt, &["spool", &file], b"RUN LYON 1 quick 0\n\n")?;
     assert_answer(&rt, &whole, 0, EMPTY_REPLY, "");
+    remove(&rt, &file)
+}
+
+/// Makes a file of the second schema of one of the present: it has no table of settled marks.
+fn make_second(rt: &HostRuntime, file: &str) -> Result<(), Fail> {
+    let mut conn = connect(rt, file, Unknown)?;
+    conn.execute("DROP TABLE settled", &[])?;
+    conn.execute("UPDATE meta SET v = 2", &[])?;
+    conn.close()?;
+    Ok(())
+}
+
+#[test]
+fn an_older_file_is_led_by_a_migration(rt: HostRuntime) -> Result<(), Fail> {
+    let file = fresh(&rt, "second")?;
+    ask(&rt, &["init", &file], b"")?;
+    ask(&rt, &["run", &file, "LYON", "1", "quick"], b"")?;
+    make_second(&rt, &file)?;
+    let older = ask(&rt, &["idents", &file], b"")?;
+    assert_answer(&rt, &older, 3, "", "upd: Store (29) at 2\n");
+    let migrated = ask(&rt, &["migrate", &file], b"")?;
+    assert_answer(&rt, &migrated, 0, "", "");
+    let again = ask(&rt, &["run", &file, "LYON", "1", "quick"], b"")?;
+    assert_answer(&rt, &again, 0, EMPTY_REPLY, "");
+    let settled = ask(&rt, &["settle", &file, "LYON", "1"], b"")?;
+    assert_answer(&rt, &settled, 0, "{\"settled\":1,\"site\":\"LYON\"}\n", "");
     remove(&rt, &file)
 }
 

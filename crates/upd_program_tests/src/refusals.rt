@@ -1,8 +1,10 @@
 //! What is refused, in which order, and where it is told.
 use crate::console::{ask, ask_of, assert_answer, fresh, remove};
+use sqlite_disk::Unknown;
 use std::fs;
 use std::process::Abort;
 use std::test::Fail;
+use upd_file::connect;
 
 /// The words of a command line behind its name and file, and the line on the fault stream, with status 1.
 const OPERANDS: &[(&str, &[&str], &str)] = &[
@@ -64,6 +66,23 @@ fn another_file_is_no_library_and_stays(rt: HostRuntime) -> Result<(), Fail> {
         assert_answer(&rt, &found, 3, "", "upd: Store (29) at 0\n");
     }
     assert!(rt; fs::read(&rt, file.as_str())?.as_slice() == TEXT);
+    remove(&rt, &file)
+}
+
+/// A file that tells another version is refused at that version, whatever is asked of it.
+#[test]
+fn a_file_of_another_schema_is_told_by_its_version(rt: HostRuntime) -> Result<(), Fail> {
+    let file = fresh(&rt, "older")?;
+    ask(&rt, &["init", &file], b"")?;
+    let mut conn = connect(&rt, &file, Unknown)?;
+    conn.execute("UPDATE meta SET v = 2", &[])?;
+    conn.close()?;
+    for (name, words) in COMMANDS {
+        let found = ask_of(&rt, &file, name, words)?;
+        assert_answer(&rt, &found, 3, "", "upd: Store (29) at 2\n");
+    }
+    let made = ask(&rt, &["init", &file], b"")?;
+    assert_answer(&rt, &made, 3, "", "upd: Store (29) at 2\n");
     remove(&rt, &file)
 }
 
