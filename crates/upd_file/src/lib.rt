@@ -4,7 +4,7 @@
 //! locked, so that another program of this kind finds it in use, and so does SQLite.
 #![tactic(auto)]
 
-ghost use Rattle.std.specs.Prelude.{IfErr, IfOk, IsTrue};
+ghost use Rattle.std.specs.Prelude.{◌≡◌, IfErr, IfOk, IsTrue};
 ghost use Rattle.sqlite.specs.Closing.{IsCopied};
 ghost use Rattle.sqlite.specs.Files.{file_state};
 ghost use Rattle.sqlite.specs.Start.{FindsIn};
@@ -69,6 +69,7 @@ pub fn create<S: Start>(rt: &HostRuntime, path: &str, start: S) -> Result<FileLi
 pub fn close<D: Disk + Drop>(library: SqlStore<FileStore<D>>) -> Result<Files<D>, Fault>
     ensures copied { IfOk result (λ files. AreClean D.Disk files.log files.db → IsCopied library.conn files) }
     ensures lost { IfErr result IsLost }
+    ensures at { IfErr result (λ e. e.at ≡ 0) }
 {
     match library.into_connection().close_files() {
         Ok(files) => Ok(files),
@@ -88,6 +89,7 @@ pub fn connect<S: Start>(
 ) -> Result<Connection<FileStore<FileFrom<S>>>, Fault>
     ensures found { IfOk result (λ c. HasCleanDisk (file_state c) → FindsIn (image_at S.Start) (file_state c)) }
     ensures lost { IfErr result IsLost }
+    ensures at { IfErr result (λ e. e.at ≡ 0) }
 {
     if begins_as_database(rt, path).unwrap_or(false) {
         connect_or_make(rt, path, start)
@@ -103,6 +105,7 @@ fn connect_or_make<S: Start>(
 ) -> Result<Connection<FileStore<FileFrom<S>>>, Fault>
     ensures found { IfOk result (λ c. HasCleanDisk (file_state c) → FindsIn (image_at S.Start) (file_state c)) }
     ensures lost { IfErr result IsLost }
+    ensures at { IfErr result (λ e. e.at ≡ 0) }
 {
     match Connection::open_from(rt, path, false, start) {
         Ok(conn) => Ok(conn),
