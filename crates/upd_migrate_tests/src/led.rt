@@ -211,6 +211,9 @@ fn other_files_are_refused(rt: HostRuntime) -> Result<(), Fail> {
     let mut fewer = older(alloc, Older::First)?;
     fewer.execute("UPDATE meta SET v = 2", &[])?;
     refused_at(&rt, alloc, &mut fewer, "Store (29) at 2")?;
+    let mut untold = older(alloc, Older::First)?;
+    untold.execute("DELETE FROM meta", &[])?;
+    refused_at(&rt, alloc, &mut untold, "Store (29) at 0")?;
     let mut more = older(alloc, Older::First)?;
     more.execute("CREATE TABLE notes (text TEXT NOT NULL) STRICT", &[])?;
     refused_at(&rt, alloc, &mut more, "Store (29) at 1")

@@ -1,6 +1,8 @@
 -- What the text that asks for the version answers in a library's file.
-use Rattle.std.proofs.Common.{◌≡◌, ℕ, Bool, true, false, inl, inr, if◌then◌else◌, List, [], ◌∷◌, codes, drop, map, filter}
+use Rattle.std.proofs.Common.{◌≡◌, ◌⊎◌, ℕ, Bool, true, false, inl, inr, if◌then◌else◌, List, [], ◌∷◌, codes, drop, map, filter}
 use Rattle.std.proofs.Common.{refl, sym, ap, subst, ◌∙◌, IsPermutation}
+use Rattle.std.proofs.lemmas.List.{nil_from_length}
+use Rattle.std.proofs.lemmas.List.Sorted.{length_permutation}
 use Rattle.std.specs.List.{list_all}
 use Rattle.sqlite_value.specs.declared.keys.Collation.TheVariants.{Binary}
 use Rattle.sqlite_value.specs.declared.value.Value.TheVariants.{Null, Text}
@@ -16,11 +18,13 @@ use Rattle.sqlite.specs.State.{State, Shown}
 use Rattle.sqlite.proofs.Callers.{IsPlain, command_of, one_permutation, reads_as}
 use Rattle.sqlite_keyed.proofs.ListLemmas.{filter-map, filter_same, map-map, map_same}
 use Rattle.upd_tables.specs.Keyed.{plain_query}
+use Rattle.upd_tables.specs.Stored.{HasRows}
 use Rattle.upd_tables.proofs.Queries.{any_order}
 use Rattle.upd_tables.proofs.Tests.{eq_text, one_test}
 use Rattle.upd_sql.specs.Encoded.{num}
+use Rattle.upd_sql.specs.Schema.{meta}
 use Rattle.upd_sql.specs.Wanted.{first_tables}
-use Rattle.upd_store.specs.Version.{IsLibrarySchema, TellsVersion}
+use Rattle.upd_store.specs.Version.{IsLibrarySchema, TellsVersion, version_row}
 
 abbrev pub version_text : List ℕ
 version_text = codes "SELECT v FROM meta WHERE k = 'version'"
@@ -60,11 +64,11 @@ passes v = list_all (holds ([] ∷ (Null ∷ v) ∷ [])) tests
 abbrev shown : Row → Row
 shown v = eval_all project ([] ∷ (Null ∷ v) ∷ [])
 
-passing : (v : ℕ) → passes (Text (codes "version") ∷ num v ∷ []) ≡ true
+passing : (v : ℕ) → passes (version_row v) ≡ true
 passing v = one_test (eq_text (codes "version") (codes "version"))
 
-one_row : (v : ℕ) → map shown (filter passes ((Text (codes "version") ∷ num v ∷ []) ∷ [])) ≡ (num v ∷ []) ∷ []
-one_row v = ap (λ b. map shown (if b then (Text (codes "version") ∷ num v ∷ []) ∷ [] else [])) (passing v)
+one_row : (v : ℕ) → map shown (filter passes (version_row v ∷ [])) ≡ (num v ∷ []) ∷ []
+one_row v = ap (λ b. map shown (if b then version_row v ∷ [] else [])) (passing v)
 
 -- the rowid plays no part
 means : (r : Row) → list_all (holds ([] ∷ r ∷ [])) tests ≡ passes (drop 1 r)
@@ -75,17 +79,25 @@ shows : (r : Row) → eval_all project ([] ∷ r ∷ []) ≡ shown (drop 1 r)
 shows [] = refl
 shows (v ∷ r) = refl
 
--- the version alone
-pub version_shown : (v : ℕ) (old new : State) (rows : List Row) → TellsVersion v old.now → Shown version_text [] old new rows
-    → rows ≡ (num v ∷ []) ∷ []
-version_shown v old new rows h found =
-    let asked = asks old.now.schema h.schema in
+-- what is shown of the rows of `meta`
+answered : (old new : State) (rows all : List Row) → IsLibrarySchema old.now.schema → HasRows old.now.trees meta all → Shown version_text [] old new rows
+    → IsPermutation (map shown (filter passes all)) rows
+answered old new rows all schema has found =
+    let asked = asks old.now.schema schema in
     let reads = reads_as version_text [] old new old.now.schema refl _ asked.is asked.plain asked.unlisted rows found in
     let answer = any_order 0 tests project [] [] old.now.trees refl rows reads.answer in
     let tree = old.now.trees 0 in
-    let named : map (λ r. eval_all project ([] ∷ r ∷ [])) (filter (λ r. list_all (holds ([] ∷ r ∷ [])) tests) tree) ≡ (num v ∷ []) ∷ [] =
+    let named : map (λ r. eval_all project ([] ∷ r ∷ [])) (filter (λ r. list_all (holds ([] ∷ r ∷ [])) tests) tree) ≡ map shown (filter passes all) =
     ap (map (λ r. eval_all project ([] ∷ r ∷ []))) (filter_same _ (λ r. passes (drop 1 r)) means tree)
     ∙ map_same _ (λ r. shown (drop 1 r)) shows _
     ∙ sym (map-map shown (drop 1) _) ∙ ap (map shown) (sym (filter-map passes (drop 1) tree))
-    ∙ ap (λ rs. map shown (filter passes rs)) h.told ∙ one_row v in
-    one_permutation _ rows (subst (λ l. IsPermutation l rows) named answer)
+    ∙ ap (λ rs. map shown (filter passes rs)) has in
+    subst (λ l. IsPermutation l rows) named answer
+
+-- the version alone, and nothing where there is no row
+pub version_shown : (v : ℕ) (old new : State) (rows : List Row) → TellsVersion v old.now → Shown version_text [] old new rows
+    → (rows ≡ (num v ∷ []) ∷ []) ⊎ ((v ≡ 0) × (rows ≡ []))
+version_shown v old new rows h found = elim h.told [
+  | inl row ↦ inl (one_permutation _ rows (subst (λ l. IsPermutation l rows) (one_row v) (answered old new rows _ h.schema row found)))
+  | inr none ↦ inr (none.0, nil_from_length rows (length_permutation [] rows (answered old new rows [] h.schema none.1 found)))
+]

@@ -2,6 +2,7 @@
 use Rattle.std.specs.Prelude.{◌≡◌, ◌⊎◌, ℕ, [], ◌∷◌, codes}
 use Rattle.sqlite_schema.specs.declared.schema.Schema.{Schema}
 use Rattle.sqlite_value.specs.declared.value.Value.TheVariants.{Text}
+use Rattle.sqlite_value.specs.Order.{Row}
 use Rattle.sqlite.specs.Effect.{Database}
 use Rattle.upd_tables.specs.Stored.{HasRows}
 use Rattle.upd_sql.specs.Schema.{meta}
@@ -12,7 +13,11 @@ use Rattle.upd_sql.specs.Wanted.{first_tables}
 abbrev pub IsLibrarySchema : Schema → Type 0
 IsLibrarySchema s = (s ≡ first_tables 6) ⊎ ((s ≡ first_tables 8) ⊎ (s ≡ first_tables 9))
 
--- Its table `meta` tells a version, and nothing else.
+-- the row of `meta` that tells a version
+abbrev pub version_row : ℕ → Row
+version_row v = Text (codes "version") ∷ num v ∷ []
+
+-- Its table `meta` tells a version and nothing else; without a row it tells 0.
 pub record TellsVersion (v : ℕ) (db : Database) : Type 0 where
   pub schema : IsLibrarySchema db.schema
-  pub told : HasRows db.trees meta ((Text (codes "version") ∷ num v ∷ []) ∷ [])
+  pub told : HasRows db.trees meta (version_row v ∷ []) ⊎ ((v ≡ 0) × HasRows db.trees meta [])

@@ -12,7 +12,8 @@ use upd_tables::ask;
 
 /// The number that the first row begins with, 0 where there is no row.
 fn first_number(rows: &[Row]) -> Result<u32, Error>
-    ensures { IfOk result (λ n. (v : ℕ) → rows.now ≡ (num v ∷ []) ∷ [] → n ≡ v) }
+    ensures first { IfOk result (λ n. (v : ℕ) → rows.now ≡ (num v ∷ []) ∷ [] → n ≡ v) }
+    ensures none { IfOk result (λ n. rows.now ≡ [] → n ≡ 0) }
 {
     match rows.first() {
         Some(row) => row.get(0),

@@ -107,3 +107,24 @@ fn no_library_is_taken_up(rt: HostRuntime) -> Result<(), Fail> {
         }
     }
 }
+
+#[test]
+fn a_file_without_a_version_is_no_library(rt: HostRuntime) -> Result<(), Fail> {
+    let alloc = rt.alloc();
+    let mut conn = made(alloc)?.into_connection();
+    conn.execute("DELETE FROM meta", &[])?;
+    let conn = match SqlStore::adopt(conn) {
+        Ok(_) => return Err("no version".into()),
+        Err((fault, conn)) => {
+            assert_eq!(rt; format!(in alloc; "{fault}")?.as_str(), "Store (29) at 0");
+            conn
+        }
+    };
+    match SqlStore::init(conn) {
+        Ok(_) => Err("made over tables".into()),
+        Err((fault, _)) => {
+            assert_eq!(rt; format!(in alloc; "{fault}")?.as_str(), "Store (29) at 0");
+            Ok(())
+        }
+    }
+}

@@ -1,4 +1,4 @@
-use Rattle.std.proofs.Common.{◌≡◌, ℕ, List, [], ◌∷◌, Ok, Err, IfOk, IsTrue, OnOk, Result}
+use Rattle.std.proofs.Common.{◌≡◌, inl, inr, sym, ◌∙◌, ℕ, List, [], ◌∷◌, Ok, Err, IfOk, IsTrue, OnOk, Result}
 use Rattle.sqlite_value.specs.Order.{Row}
 use Rattle.sqlite.specs.declared.error.Error.{Error}
 use Rattle.sqlite.specs.Held.{state}
@@ -10,10 +10,14 @@ use Rattle.upd_store.proofs.VersionLemmas.{version_shown, version_text}
 use Rattle.upd_store.proofs.version.version_in.Goals as goal
 
 told : (old new : State) (rows : List Row) (r : Result ℕ Error) → IfOk r (λ n. (v : ℕ) → rows ≡ (num v ∷ []) ∷ [] → n ≡ v)
+    → IfOk r (λ n. rows ≡ [] → n ≡ 0)
     → Shown version_text [] old new rows
     → IfOk r (λ n. (v : ℕ) → TellsVersion v old.now → n ≡ v)
-told old new rows (Ok n) says shown = λ v h. says v (version_shown v old new rows h shown)
-told old new rows (Err e) says shown = tt
+told old new rows (Ok n) first none shown = λ v h. elim (version_shown v old new rows h shown) [
+  | inl row ↦ first v row
+  | inr empty ↦ none empty.1 ∙ sym empty.0
+]
+told old new rows (Err e) first none shown = tt
 
 was_open : (old new : State) (rows : List Row) (r : Result ℕ Error) → Shown version_text [] old new rows
     → OnOk r (IsTrue old.in_transaction → IsTrue old.is_open)
@@ -28,4 +32,4 @@ returns-clause-was_open g c clean =
 pub returns-clause-told : goal.returns-clause-told
 returns-clause-told g c clean =
     told (state g.S.Store c.args.tx.now.conn.now) (state g.S.Store c.ask.new.tx.conn.now) c.in_ok-rows.rows.items c.first_number.result
-    (rw c.deref.ensures.value at c.first_number.ensures) (c.in_ok-rows.ensures.shown clean)
+    (rw c.deref.ensures.value at c.first_number.ensures.first) (rw c.deref.ensures.value at c.first_number.ensures.none) (c.in_ok-rows.ensures.shown clean)
