@@ -2,6 +2,7 @@ pub mod Status
 pub mod Streams
 pub mod Words
 pub mod Trial
+pub mod Operands
 pub mod Command
 pub mod Inputs
 pub mod Running

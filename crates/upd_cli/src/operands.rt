@@ -1,5 +1,7 @@
 //! Operands of commands, as they are written.
-ghost use Rattle.std.specs.Prelude.{◌≡◌};
+ghost use Rattle.std.specs.Prelude.{◌≡◌, MatchOption};
+ghost use Rattle.std.specs.Net.Grammar.{IsSocketText};
+ghost use Rattle.upd_cli.specs.Operands.{IsCount, IsNoAddress, IsNoCount, card_read, deck_read};
 ghost use Rattle.upd_streams.specs.Numbers.{number_of};
 ghost use Rattle.upd_text.specs.Outcome.{at_line, need};
 ghost use Rattle.upd_text.specs.declared.fault.FaultKind.TheVariants.{BadNumber};
@@ -22,22 +24,39 @@ pub(crate) fn read_number(word: &str) -> Result<u64, Fault>
 }
 
 /// The name of a deck. Another word is BadName, at 0.
-pub(crate) fn read_deck(word: &str) -> Result<Name, Fault> {
-    Name::read(word.as_bytes()).ok_or(FaultKind::BadName.without_line())
+pub(crate) fn read_deck(word: &str) -> Result<Name, Fault>
+    ensures { result ≡ deck_read word.now }
+{
+    match Name::read(word.as_bytes()) {
+        Some(name) => Ok(name),
+        None => Err(FaultKind::BadName.without_line()),
+    }
 }
 
 /// A card. A word that refers to none is BadCard, at 0.
-pub(crate) fn read_card(word: &str) -> Result<CardRef, Fault> {
-    CardRef::read(word.as_bytes()).ok_or(FaultKind::BadCard.without_line())
+pub(crate) fn read_card(word: &str) -> Result<CardRef, Fault>
+    ensures { result ≡ card_read word.now }
+{
+    match CardRef::read(word.as_bytes()) {
+        Some(card) => Ok(card),
+        None => Err(FaultKind::BadCard.without_line()),
+    }
 }
 
 /// An IP address and a port.
-pub(crate) fn read_address(word: &str) -> Option<SocketAddr> {
-    word.parse::<SocketAddr>().ok()
+pub(crate) fn read_address(word: &str) -> Option<SocketAddr>
+    ensures { MatchOption result (IsNoAddress word.now) (IsSocketText word.now) }
+{
+    match word.parse::<SocketAddr>() {
+        Ok(address) => Some(address),
+        Err(_) => None,
+    }
 }
 
 /// How many connections are served.
-pub(crate) fn read_count(word: &str) -> Option<u32> {
+pub(crate) fn read_count(word: &str) -> Option<u32>
+    ensures { MatchOption result (IsNoCount word.now) (IsCount word.now) }
+{
     match word.parse::<u32>() {
         Ok(count) if 1 <= count && count <= MAX_CONNECTIONS => Some(count),
         _ => None,
