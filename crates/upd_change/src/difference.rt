@@ -43,14 +43,14 @@ pub fn compare(alloc: Global, before: &Library, after: &Library) -> Result<Compa
         → IfOk result (λ d. d.touched.items ≡ touched before.now after.now) }
 {
     let idents = before.idents();
-    let decks = library_fates(alloc, youngest(idents), before, after)?;
+    let decks = library_fates(alloc, last_age(idents), before, after)?;
     let touched = touched(alloc, before, after.idents(), &decks)?;
     let changes = told(alloc, idents, after.idents(), &decks)?;
     Ok(Compared { changes, touched })
 }
 
 /// The age of the last ident, 0 where there is none.
-fn youngest(idents: &[Ident]) -> Serial
+fn last_age(idents: &[Ident]) -> Serial
     ensures { result ≡ option_map_or (λ i. i.age) (slice_get idents.now (length idents.now - 1)) 0 }
 {
     match idents.last() {

@@ -2,7 +2,6 @@
 ghost use Rattle.std.specs.Prelude.{◌≡◌, ◌+◌, ◌<◌, ◌≤◌, true, ◌^◌, ◌==◌, ◌&&◌, not, if◌then◌else◌, [], ◌∷◌, ◌++◌, map};
 ghost use Rattle.std.specs.Prelude.{length, drop, IfOk, OnOk};
 ghost use Rattle.std.specs.List.{flat_map};
-ghost use Rattle.upd_core.specs.Library.{ref_of};
 ghost use Rattle.upd_change.specs.Changes.{CardNew, IdentPurged, TargetsGone, change_seen};
 ghost use Rattle.upd_change.specs.Fates.{Gone, Kept, fate_seen};
 ghost use Rattle.upd_change.specs.Told.{begins, brought, card_new, entries_new, gone_of, grown, idents_told, move_to};
@@ -12,9 +11,8 @@ ghost use Rattle.upd_change.specs.Told.{targets_new, told};
 use crate::change::Change;
 use crate::fates::{DeckFates, Fate};
 use std::alloc::{AllocError, Global};
-use upd_core::ident::name_at;
-use upd_core::{Card, Entry, Ident, Serial, Target};
-use upd_text::{CardRef, Name};
+use upd_core::card::card_ref;
+use upd_core::{Card, CardRef, Entry, Ident, Serial, Target};
 
 /// The changes that lead from one directory and its cards to another.
 pub(crate) fn told(
@@ -340,14 +338,4 @@ fn begins(history: &[Entry], later: &[Entry]) -> bool
         }
     }
     true
-}
-
-/// The card as directives name it.
-pub(crate) fn card_ref(idents: &[Ident], card: &Card) -> CardRef
-    ensures { result ≡ ref_of idents.now card.now }
-{
-    CardRef {
-        name: name_at(idents, card.ident).unwrap_or(Name::none()),
-        number: card.number,
-    }
 }

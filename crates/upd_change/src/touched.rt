@@ -8,8 +8,8 @@ ghost use Rattle.upd_change.specs.Fates.{Lead, card_after, fate_seen};
 ghost use Rattle.upd_change.specs.Touched.{IsOf, same_history, stood_in, touched_in};
 
 use crate::fates::{DeckFates, Fate};
-use crate::told::card_ref;
 use std::alloc::{AllocError, Global};
+use upd_core::card::card_ref;
 use upd_core::{Card, Deck, Entry, Ident, Library, Serial};
 use upd_text::CardRef;
 

@@ -170,7 +170,8 @@ no_card_index : (n : ℕ) (cards : List CardView) (c : CardView) → AllByRecurs
 no_card_index n [] c other = refl
 no_card_index n (b ∷ cards) c other = rw (is_no_other b c other.0) (no_card_index (n + 1) cards c other.1)
 
-abbrev flat : List DeckView → List CardView
+-- the cards of decks
+abbrev pub flat : List DeckView → List CardView
 flat ds = flat_map (λ d. d.cards) ds
 
 -- a card of a deck is one of all
@@ -212,7 +213,7 @@ deck_ages_apart l sound = rising_apart (map (λ d. d.ident) (all_decks l)) sound
 
 -- ---- each card is found under its own reference
 
-card_held : (l : LibraryView) (c : CardView) → IsSound l → Contains (all_cards l) c → is_held l.idents c.ident ≡ true
+pub card_held : (l : LibraryView) (c : CardView) → IsSound l → Contains (all_cards l) c → is_held l.idents c.ident ≡ true
 card_held l c sound is = let held : IsOfHeld l.idents c = all_of_contained (IsOfHeld l.idents) (all_cards l) c sound.cards is in held.0
 
 pub place_at : (l : LibraryView) (d : DeckView) (i : ℕ) (c : CardView) → IsSound l → Contains (all_decks l) d → slice_get d.cards i ≡ Some c

@@ -1,12 +1,15 @@
 //! Cards and the entries of their histories.
 
-ghost use Rattle.std.specs.Prelude.{◌≡◌, IfOk};
+ghost use Rattle.std.specs.Prelude.{◌≡◌, length, sum_by, IfOk};
+ghost use Rattle.upd_core.specs.Counts.{capped};
 ghost use Rattle.upd_core.specs.Edits.{new_card};
+ghost use Rattle.upd_core.specs.Library.{ref_of};
 
-use crate::ident::Serial;
+use crate::ident::{Ident, Serial, name_at};
 use crate::target::Target;
 use std::alloc::{AllocError, Global};
 use std::marker::Model;
+use upd_text::{CardRef, Name};
 
 /// One entry of a card's history: an ident that switched the card on or off.
 #[derive(Clone, Copy, Debug, PartialEq, Eq)]
@@ -98,4 +101,25 @@ pub(crate) fn copy_cards(alloc: Global, cards: &[Card]) -> Result<Vec<Card>, All
         copies.push(card.copy()?)?;
     }
     Ok(copies)
+}
+
+/// The card as directives name it.
+pub fn card_ref(idents: &[Ident], card: &Card) -> CardRef
+    ensures { result ≡ ref_of idents.now card.now }
+{
+    CardRef {
+        name: name_at(idents, card.ident).unwrap_or(Name::none()),
+        number: card.number,
+    }
+}
+
+/// How many entries the histories of cards have, `usize::MAX` where that is less.
+pub fn entry_count(cards: &[Card]) -> usize
+    ensures { result ≡ capped (sum_by (λ c. length c.history) cards.now) }
+{
+    let mut count: usize = 0;
+    for card in cards {
+        count = count.saturating_add(card.history.len());
+    }
+    count
 }

@@ -11,9 +11,9 @@ ghost use Rattle.upd_core.specs.Library.{ident_of, place_of, ref_of};
 ghost use Rattle.upd_core.specs.Reach.{has_entry_of, covers, covered, is_retaken, is_reached};
 ghost use Rattle.upd_core.specs.TargetCounts.{count_in};
 
-use crate::card::{Card, Entry};
+use crate::card::{Card, Entry, card_ref};
 use crate::deck::Deck;
-use crate::ident::{Ident, Serial, name_at};
+use crate::ident::{Ident, Serial};
 use crate::library::{Library, Place, Rest};
 use crate::target::Target;
 use crate::target_counts::TargetCounts;
@@ -292,14 +292,4 @@ fn has_entry_of(ident: Serial, card: &Card) -> bool
     ensures { result ≡ has_entry_of ident card.now }
 {
     card.history.iter().any(|entry| entry.ident == ident)
-}
-
-/// The card as directives name it.
-fn card_ref(idents: &[Ident], card: &Card) -> CardRef
-    ensures { result ≡ ref_of idents.now card.now }
-{
-    CardRef {
-        name: name_at(idents, card.ident).unwrap_or(Name::none()),
-        number: card.number,
-    }
 }

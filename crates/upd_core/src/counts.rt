@@ -3,7 +3,7 @@
 ghost use Rattle.std.specs.Prelude.{◌≡◌, ◌+◌, length, sum_by, count_by};
 ghost use Rattle.upd_core.specs.Counts.{capped, AreOf};
 
-use crate::card::Card;
+use crate::card::{Card, entry_count};
 use crate::deck::Deck;
 use crate::ident::Ident;
 use crate::library::Rest;
@@ -89,17 +89,6 @@ fn card_count(decks: &[Deck]) -> usize
     let mut count: usize = 0;
     for deck in decks {
         count = count.saturating_add(deck.cards.len());
-    }
-    count
-}
-
-/// The entries of cards.
-fn entry_count(cards: &[Card]) -> usize
-    ensures { result ≡ capped (sum_by (λ c. length c.history) cards.now) }
-{
-    let mut count: usize = 0;
-    for card in cards {
-        count = count.saturating_add(card.history.len());
     }
     count
 }

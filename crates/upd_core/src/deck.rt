@@ -63,7 +63,7 @@ pub(crate) fn copy_decks(alloc: Global, decks: &[Deck]) -> Result<Vec<Deck>, All
 }
 
 /// The deck of an age.
-pub(crate) fn deck_aged(decks: &[Deck], age: Serial) -> Option<&Deck>
+pub fn deck_aged(decks: &[Deck], age: Serial) -> Option<&Deck>
     ensures { option_copied result ≡ find (is_deck age) decks.now }
 {
     for deck in decks {

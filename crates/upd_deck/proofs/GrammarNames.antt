@@ -5,7 +5,7 @@ use Rattle.std.proofs.Math.Seq.{take-append_seam, drop-append-add}
 use Rattle.std.proofs.lemmas.Bool.{or_right, or_parts, and_parts, and_from, not_from_false, not-true, ne_eqb, eqb-true, eqb-false, leb-true, le-leb, false≢true}
 use Rattle.std.proofs.lemmas.Fmt.{decimal_digit, decimal_nonempty, length-decimal-le, first_decimal, digits_decimal, digits_value-decimal, decimal-digits_value}
 use Rattle.std.proofs.lemmas.List.{drop_all}
-use Rattle.std.proofs.lemmas.Str.Parse.{IsNumeralModel, numerals_by_fold, digits_value_short}
+use Rattle.std.proofs.lemmas.Str.Parse.{digits_value_short}
 use Rattle.std.specs.Fmt.{decimal}
 use Rattle.std.specs.List.{AllByRecursion, AllZip, list_any, list_all, prefix_len, before_first, after_first}
 use Rattle.std.specs.Str.{bytes_eq}
@@ -14,6 +14,7 @@ use Rattle.upd_text.specs.declared.fault.FaultKind.{FaultKind}
 use Rattle.upd_text.specs.declared.fault.FaultKind.TheVariants as fault
 use Rattle.upd_text.specs.Names.{is_between, is_digit, is_name_byte, is_name, is_card_number, number_behind, is_point, card_text}
 use Rattle.upd_text.specs.Outcome.{◌>>=◌, need}
+use Rattle.upd_text.proofs.CardRefLemmas.{numeral_model}
 use Rattle.upd_deck.specs.declared.item.NameRange.{NameRange}
 use Rattle.upd_deck.specs.declared.item.IdentIn.{IdentIn}
 use Rattle.upd_deck.specs.Grammar.{IsName, IsCard, Card, IsRange, Two, Lone, IsPair, Pair}
@@ -175,9 +176,6 @@ range_back f r e = by_point (list_any is_point f) refl e
 
 -- ---- card references
 
-own : IsNumeralModel (λ ds. list_all is_digit ds ≡ true) (number_behind 0)
-own = numerals_by_fold _ (search rules) number_behind (search rules)
-
 number_small : (n : ℕ) → n < 10 ^ 6 → n < 2 ^ 64
 number_small n h = omega arith
 
@@ -189,7 +187,7 @@ number_read n some small =
     and_from (leb 1 (length ds)) (leb (length ds) 6) (le-leb 1 (length ds) (decimal_nonempty n wide))
     (le-leb (length ds) 6 (length-decimal-le 6 n (omega arith) small wide)) in
     let first = first_decimal n some wide in
-    and_from _ _ (and_from _ _ length_in (digits_decimal own n wide)) (not_from_false _ (ne_eqb (get_or ds 0 0) 48 (λ e. omega arith)))
+    and_from _ _ (and_from _ _ length_in (digits_decimal numeral_model n wide)) (not_from_false _ (ne_eqb (get_or ds 0 0) 48 (λ e. omega arith)))
 
 number_back : (ds : List ℕ) → is_card_number ds ≡ true → (0 < number_behind 0 ds) × (number_behind 0 ds < 10 ^ 6) × (decimal (number_behind 0 ds) ≡ ds)
 number_back ds h =
@@ -197,9 +195,9 @@ number_back ds h =
     let two = and_parts (is_between 1 6 (length ds)) (list_all is_digit ds) three.0 in
     let between = and_parts (leb 1 (length ds)) (leb (length ds) 6) two.0 in
     let no_zero : get_or ds 0 0 ≡ 48 → ⊥ = eqb-false (get_or ds 0 0) 48 (not-true (eqb (get_or ds 0 0) 48) three.1) in
-    let small : number_behind 0 ds < 10 ^ 6 = digits_value_short own ds 6 two.1 (leb-true (length ds) 6 between.1) in
+    let small : number_behind 0 ds < 10 ^ 6 = digits_value_short numeral_model ds 6 two.1 (leb-true (length ds) 6 between.1) in
     let same : decimal (number_behind 0 ds) ≡ ds =
-    decimal-digits_value own ds two.1 (leb-true 1 (length ds) between.0) (λ e. absurd (no_zero e)) (number_small _ small) in
+    decimal-digits_value numeral_model ds two.1 (leb-true 1 (length ds) between.0) (λ e. absurd (no_zero e)) (number_small _ small) in
     (by_zero (number_behind 0 ds) same no_zero, small, same)
   where
     by_zero : (n : ℕ) → decimal n ≡ ds → (get_or ds 0 0 ≡ 48 → ⊥) → 0 < n
@@ -215,7 +213,7 @@ card_read f d (Card c name some small) =
       after_point c.name ds none,
       name,
       number_read c.number some small,
-      digits_value-decimal own c.number
+      digits_value-decimal numeral_model c.number
           (number_small c.number small),
     ) refl
 

@@ -30,7 +30,7 @@ use Rattle.upd_compile.specs.File.{FileView, blanks, card_line, compile_file_of,
 use Rattle.upd_compile.specs.Walk.{WalkEvent, Line, Follow, Depth, Unknown, card_events, common_named, deck_aged, call_events, text_cards, walk}
 use Rattle.upd_laws.specs.ReadRuns.{IsMadeByRuns, IsOfRun}
 use Rattle.upd_laws.proofs.SoundListLemmas.{and_left, and_right, all_append, all_each, all_filter, all_flat, all_map, all_weaker}
-use Rattle.upd_laws.proofs.SoundCardLemmas.{flat}
+use Rattle.upd_core.proofs.FoundLemmas.{flat}
 use Rattle.upd_laws.proofs.SoundOutcomeLemmas.{holds_of}
 
 -- ---- one line

@@ -36,7 +36,8 @@ use Rattle.upd_laws.specs.ReadRuns.{IsLineText, IsOfRun, IsMadeByRuns, WereRead}
 use Rattle.upd_laws.specs.Soundness.{after_run, after_runs}
 use Rattle.upd_laws.proofs.ReadLineLemmas.{BringsName, IsReadLine, run_read}
 use Rattle.upd_laws.proofs.SoundListLemmas.{all_append, all_each, all_flat, all_map, all_weaker, more_all, at_first_all}
-use Rattle.upd_laws.proofs.SoundCardLemmas.{flat, changed, decks_with, idents_with, insert_more, more_with_yank, more_with_deck, all_purged, all_purged_in}
+use Rattle.upd_core.proofs.FoundLemmas.{flat}
+use Rattle.upd_laws.proofs.SoundCardLemmas.{changed, decks_with, idents_with, insert_more, more_with_yank, more_with_deck, all_purged, all_purged_in}
 use Rattle.upd_laws.proofs.SoundOutcomeLemmas.{through, through_need, through_refusal, through_grown, holds_of}
 use Rattle.upd_laws.proofs.SoundRunLemmas.{line_is, reached_by}
 

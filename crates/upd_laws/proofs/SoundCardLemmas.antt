@@ -19,10 +19,7 @@ use Rattle.upd_laws.proofs.SoundListLemmas.{more_front, IsPart, none, fewer, kep
 use Rattle.upd_laws.proofs.SoundListLemmas.{at_first_find, at_first_more, at_first_zip}
 use Rattle.upd_laws.proofs.SoundIdentLemmas.{held_still}
 use Rattle.upd_core.proofs.ApartLemmas.{all_front, all_back}
-
--- the cards of decks
-abbrev pub flat : List DeckView → List CardView
-flat ds = flat_map (λ d. d.cards) ds
+use Rattle.upd_core.proofs.FoundLemmas.{flat}
 
 -- a deck with its cards changed
 abbrev pub changed : (List CardView → List CardView) → DeckView → DeckView

@@ -34,12 +34,12 @@ use Rattle.upd_laws.proofs.SoundOutcomeLemmas.{each_all, through, through_need, 
 use Rattle.upd_laws.proofs.SoundListLemmas.{same_number, is_same_number, other_number, any_last, all_append, all_weaker, HasMore, zip_all, zip_length}
 use Rattle.upd_laws.proofs.SoundIdentLemmas.{held_within, held_more, held_last, held_deck_last, held_deck_held, not_some}
 use Rattle.upd_laws.proofs.SoundCardLemmas.{IsEntered, entered_some, idents_with, yanks_with, yanks_kept, standing_with, cards_with, standing, more_with_card}
-use Rattle.upd_laws.proofs.SoundCardLemmas.{more_with_yank, more_with_deck, zip_with_entries, flat}
+use Rattle.upd_laws.proofs.SoundCardLemmas.{more_with_yank, more_with_deck, zip_with_entries}
 use Rattle.upd_laws.proofs.SoundYankLemmas.{same_ident, AreYanked}
 use Rattle.upd_laws.proofs.SoundEditLemmas.{none_beyond, introduced_sound, cards_below, deck_sound, card_sound, yank_sound, entries_sound, purged_in_sound}
 use Rattle.upd_laws.proofs.SoundNumberLemmas.{next_first, next_own, next_other, next_entered, next_new}
 use Rattle.upd_core.proofs.ApartLemmas.{all_front}
-use Rattle.upd_core.proofs.FoundLemmas.{card_of_place}
+use Rattle.upd_core.proofs.FoundLemmas.{card_of_place, flat}
 
 -- ---- new idents
 

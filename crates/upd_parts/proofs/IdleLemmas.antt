@@ -22,7 +22,7 @@ use Rattle.upd_core.specs.TargetCounts.{count_on, live_count}
 use Rattle.upd_core.specs.declared.target.Target.{Target}
 use Rattle.upd_core.specs.declared.target.Target.TheVariants as target
 use Rattle.upd_core.proofs.ApartLemmas.{all_by_index, at_contained, contained_at}
-use Rattle.upd_core.proofs.FoundLemmas.{card_of_place, cards_of_deck, deck_ages_apart, in_flat, one_card, place_at, status_at}
+use Rattle.upd_core.proofs.FoundLemmas.{card_held, card_of_place, cards_of_deck, deck_ages_apart, in_flat, one_card, place_at, status_at}
 use Rattle.upd_change.specs.Rows.{same_ref}
 use Rattle.upd_change.specs.Touched.{stood_in, touched, touched_in}
 use Rattle.upd_deck.specs.Items.{LineView}
@@ -33,7 +33,7 @@ use Rattle.upd_laws.proofs.BackStepLemmas.{all_applied_grows}
 use Rattle.upd_laws.proofs.SoundListLemmas.{all_filter}
 use Rattle.upd_laws.proofs.SoundRunLemmas.{run_goes, run_sound}
 use Rattle.upd_yank.proofs.FindLemmas.{cards_found}
-use Rattle.upd_yank.proofs.KeptLemmas.{card_held, same_name}
+use Rattle.upd_yank.proofs.KeptLemmas.{same_name}
 use Rattle.upd_yank.proofs.RefLemmas.{one_ref}
 use Rattle.upd_yank.proofs.RenewLemmas.{all_passed}
 use Rattle.upd_yank.proofs.StateLemmas.{all_counted}

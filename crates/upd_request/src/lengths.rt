@@ -6,7 +6,7 @@ ghost use Rattle.upd_text.specs.Names.{number_behind};
 ghost use Rattle.upd_request.specs.Lengths.{both_say, field_says, fields_say, is_named, length_said};
 
 use httparse::spans::HeaderSpan;
-use upd_streams::all_digits;
+use upd_text::all_digits;
 use upd_text::limits::MAX_RUN_BYTES;
 
 /// What fields of a head say of the length of the body.

@@ -7,18 +7,8 @@ ghost use Rattle.upd_rows.specs.Assembling.{library_of};
 ghost use Rattle.upd_core.specs.Parts.{cards_of_decks, entries_of_decks, part_of};
 
 use std::alloc::Global;
-use upd_core::{Card, Deck, Ident, Library, Rest, Serial};
-
-/// How many entries the histories of cards have, `usize::MAX` where that is less.
-fn entry_count(cards: &[Card]) -> usize
-    ensures { result ≡ capped (sum_by (λ c. length c.history) cards.now) }
-{
-    let mut count: usize = 0;
-    for card in cards {
-        count = count.saturating_add(card.history.len());
-    }
-    count
-}
+use upd_core::card::entry_count;
+use upd_core::{Deck, Ident, Library, Rest, Serial};
 
 /// How many cards a deck has, none where it is one of these ages.
 fn cards_left(deck: &Deck, ages: &[Serial]) -> usize

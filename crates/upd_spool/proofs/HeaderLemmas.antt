@@ -11,10 +11,11 @@ use Rattle.std.proofs.lemmas.Fmt.{decimal-digits_value, decimal_digit, digits_de
 use Rattle.std.proofs.lemmas.List.Sums.{passes_at_first, split_at_first}
 use Rattle.std.proofs.lemmas.Slice.Eq.{bytes_eq-Decides}
 use Rattle.std.proofs.lemmas.Str.{IsUtf8-from_ascii}
-use Rattle.std.proofs.lemmas.Str.Parse.{IsNumeralModel, numerals_by_fold, digits_value_short}
+use Rattle.std.proofs.lemmas.Str.Parse.{digits_value_short}
 use Rattle.std.proofs.Math.Seq.{take-append_seam, drop-append-add}
 use Rattle.upd_text.specs.declared.limits.TheConstants.{MAX_RUN_BYTES}
 use Rattle.upd_text.specs.Names.{is_digit, number_behind}
+use Rattle.upd_text.proofs.CardRefLemmas.{numeral_model}
 use Rattle.upd_spool.specs.declared.header.TheConstants.{MAX_HEADER_BYTES}
 use Rattle.upd_streams.specs.Numbers.{is_number, number_of}
 use Rattle.upd_spool.specs.Header.{HeaderView, IsHeader, ◌>>=◌, cut, header_of, header_text, is_visible, is_word, size_of, where_true}
@@ -106,10 +107,6 @@ cut_whole at text parts e =
 
 -- ---- numbers
 
--- these digits are those of std's numerals
-own : IsNumeralModel (λ ds. list_all is_digit ds ≡ true) (number_behind 0)
-own = numerals_by_fold _ (search rules) number_behind (search rules)
-
 pub record IsNumber (ds : List ℕ) : Type 0 where
   pub some : 0 < length ds
   pub short : length ds ≤ 9
@@ -130,13 +127,13 @@ number_is : (ds : List ℕ) (n : ℕ) → number_of ds ≡ Some n → (ds ≡ de
 number_is ds n e =
     let (ok, same) = passes _ _ n e in
     let f = number_facts ds ok in
-    let small : number_behind 0 ds < 10 ^ 9 = digits_value_short own ds 9 f.digits f.short in
-    let written = decimal-digits_value own ds f.digits f.some f.first (omega (arith, small)) in
+    let small : number_behind 0 ds < 10 ^ 9 = digits_value_short numeral_model ds 9 f.digits f.short in
+    let written = decimal-digits_value numeral_model ds f.digits f.some f.first (omega (arith, small)) in
     (sym written ∙ ap decimal same, omega (arith, small, same))
 
 -- what is written of a number is read back
 number_read : (n : ℕ) → n < 10 ^ 9 → number_of (decimal n) ≡ Some n
-number_read n high = cond-true _ _ _ (is n high) ∙ ap Some (digits_value-decimal own n (fits n high))
+number_read n high = cond-true _ _ _ (is n high) ∙ ap Some (digits_value-decimal numeral_model n (fits n high))
   where
     fits : (n : ℕ) → n < 10 ^ 9 → n < 2 ^ 64
     fits n high = omega (arith, high)
@@ -152,7 +149,7 @@ number_read n high = cond-true _ _ _ (is n high) ∙ ap Some (digits_value-decim
     is : (n : ℕ) → n < 10 ^ 9 → is_number (decimal n) ≡ true
     is n high =
         of (length (decimal n)) (get_or (decimal n) 0 0) (list_all is_digit (decimal n)) (decimal_nonempty n (fits n high))
-        (length-decimal-le 9 n (lit< tt) high (fits n high)) (digits_decimal own n (fits n high)) (alone n high)
+        (length-decimal-le 9 n (lit< tt) high (fits n high)) (digits_decimal numeral_model n (fits n high)) (alone n high)
 
 -- ---- headers
 
@@ -192,7 +189,7 @@ digits_visible (d ∷ ds) all = more d (list_all is_digit ds) (list_all is_visib
     more d later seen ok next = grind (arith, nat_tests)
 
 pub number_without : (at : ℕ) → at < 33 → (n : ℕ) → n < 10 ^ 9 → list_any (λ b. b == at) (decimal n) ≡ false
-number_without at low n high = unseen at low (decimal n) (digits_visible (decimal n) (digits_decimal own n (omega (arith, high))))
+number_without at low n high = unseen at low (decimal n) (digits_visible (decimal n) (digits_decimal numeral_model n (omega (arith, high))))
 
 -- a header from its parts, one behind the other
 in_parts : (text command site number mode size a b c : List ℕ) (n m : ℕ)

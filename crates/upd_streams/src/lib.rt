@@ -4,5 +4,5 @@
 pub mod numbers;
 pub mod writing;
 
-pub use numbers::{all_digits, read_number};
+pub use numbers::read_number;
 pub use writing::write_parts;

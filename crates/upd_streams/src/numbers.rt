@@ -4,6 +4,8 @@ ghost use Rattle.std.specs.List.{list_all};
 ghost use Rattle.upd_streams.specs.Numbers.{is_number, number_of};
 ghost use Rattle.upd_text.specs.Names.{is_digit, number_behind};
 
+use upd_text::all_digits;
+
 /// The most digits of a number.
 pub const MAX_DIGITS: usize = 9;
 
@@ -25,13 +27,6 @@ fn is_number(digits: &[u8]) -> bool
         && digits.len() <= MAX_DIGITS
         && all_digits(digits)
         && (digits[0] != b'0' || digits.len() == 1)
-}
-
-/// Whether a text has nothing but digits. A text of no bytes has.
-pub fn all_digits(text: &[u8]) -> bool
-    ensures { result ≡ list_all is_digit text.now }
-{
-    text.iter().all(|byte| byte.is_ascii_digit())
 }
 
 /// The number that digits spell. It fits: there are 9 of them at most.

@@ -14,8 +14,8 @@ use Rattle.upd_text.specs.declared.card_ref.CardRef.{CardRef}
 use Rattle.upd_text.specs.Names.{IsReference, card_of, card_text, is_card_number, is_digit, is_name, is_name_byte, is_point, number_behind}
 
 -- these digits are those of std's numerals
-own : IsNumeralModel (λ ds. list_all is_digit ds ≡ true) (number_behind 0)
-own = numerals_by_fold _ (search rules) number_behind (search rules)
+pub numeral_model : IsNumeralModel (λ ds. list_all is_digit ds ≡ true) (number_behind 0)
+numeral_model = numerals_by_fold _ (search rules) number_behind (search rules)
 
 -- what stands before the first point, the point, and what stands behind it
 parts_again : (field : List ℕ) → 0 < length (after_first is_point field) → before_first is_point field ++ 46 ∷ after_first is_point field ≡ field
@@ -48,14 +48,14 @@ number_facts ds ok =
 decimal-number : (ds : List ℕ) → is_card_number ds ≡ true → decimal (number_behind 0 ds) ≡ ds
 decimal-number ds ok =
     let f = number_facts ds ok in
-    let small : number_behind 0 ds < 10 ^ 6 = digits_value_short own ds 6 f.digits f.short in
-    decimal-digits_value own ds f.digits f.some (λ e. absurd (f.first e)) (omega (arith, small))
+    let small : number_behind 0 ds < 10 ^ 6 = digits_value_short numeral_model ds 6 f.digits f.short in
+    decimal-digits_value numeral_model ds f.digits f.some (λ e. absurd (f.first e)) (omega (arith, small))
 
 -- the number is between 1 and 999,999
 number_is_within : (ds : List ℕ) → is_card_number ds ≡ true → (0 < number_behind 0 ds) × (number_behind 0 ds < 10 ^ 6)
 number_is_within ds ok =
     let f = number_facts ds ok in
-    (positive (number_behind 0 ds) (decimal-number ds ok) f.first, digits_value_short own ds 6 f.digits f.short)
+    (positive (number_behind 0 ds) (decimal-number ds ok) f.first, digits_value_short numeral_model ds 6 f.digits f.short)
   where
     positive : (n : ℕ) → decimal n ≡ ds → (get_or ds 0 0 ≡ 48 → ⊥) → 0 < n
     positive zero e first = absurd (first (ap (λ xs. get_or xs 0 0) (sym e ∙ decimal_digit 0 (lit< tt))))
@@ -81,7 +81,7 @@ no_point (b ∷ name) ds ok = more (is_name_byte b) (list_all is_name_byte name)
 is_card_number-decimal : (n : ℕ) → 0 < n → n < 10 ^ 6 → is_card_number (decimal n) ≡ true
 is_card_number-decimal n low high =
     of (length (decimal n)) (get_or (decimal n) 0 0) (list_all is_digit (decimal n)) (decimal_nonempty n fits) (length-decimal-le 6 n (lit< tt) high fits)
-    (digits_decimal own n fits) (first_decimal n low fits)
+    (digits_decimal numeral_model n fits) (first_decimal n low fits)
   where
     fits : n < 2 ^ 64
     fits = omega (arith, high)
@@ -131,7 +131,7 @@ card_of-card_text card ok = again _ _ before behind
     behind = rw place (drop-append-add card.name (46 ∷ decimal card.number) 1)
 
     value : number_behind 0 (decimal card.number) ≡ card.number
-    value = digits_value-decimal own card.number (omega (arith, ok.2))
+    value = digits_value-decimal numeral_model card.number (omega (arith, ok.2))
 
     again : (name digits : List ℕ) → name ≡ card.name → digits ≡ decimal card.number
         → cond (is_name name && is_card_number digits) (Some (record { name = name; number = number_behind 0 digits })) None ≡ Some card

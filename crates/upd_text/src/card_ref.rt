@@ -61,7 +61,8 @@ fn is_card_number(digits: &[u8]) -> bool
         && digits[0] != b'0'
 }
 
-fn all_digits(text: &[u8]) -> bool
+/// Whether a text has nothing but digits. A text of no bytes has.
+pub fn all_digits(text: &[u8]) -> bool
     ensures { result ≡ list_all is_digit text.now }
 {
     text.iter().all(|byte| byte.is_ascii_digit())

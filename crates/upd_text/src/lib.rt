@@ -9,6 +9,6 @@ pub mod limits;
 pub mod line;
 pub mod name;
 
-pub use card_ref::CardRef;
+pub use card_ref::{CardRef, all_digits};
 pub use fault::{Fault, FaultKind};
 pub use name::Name;

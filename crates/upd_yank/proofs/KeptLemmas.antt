@@ -8,12 +8,12 @@ use Rattle.std.proofs.lemmas.Bool.Decides.{nat_tests, Decides-eqb}
 use Rattle.std.proofs.lemmas.List.Folds.{list_any-append}
 use Rattle.std.proofs.lemmas.Option.{same_Some}
 use Rattle.upd_core.proofs.ApartLemmas.{all_of_contained, contained_at}
-use Rattle.upd_core.proofs.FoundLemmas.{held_at, in_flat, status_at}
+use Rattle.upd_core.proofs.FoundLemmas.{card_held, held_at, in_flat, status_at}
 use Rattle.upd_core.specs.declared.card.Entry.{Entry}
 use Rattle.upd_core.specs.declared.ident.Ident.{Ident}
 use Rattle.upd_core.specs.Counted.{counted_card}
 use Rattle.upd_core.specs.Library.{CardView, DeckView, LibraryView, all_decks, cards_of, is_card, name_of, ref_of}
-use Rattle.upd_core.specs.Sound.{Continues, IsOfHeld, IsSound, all_cards, is_held}
+use Rattle.upd_core.specs.Sound.{Continues, IsSound, is_held}
 use Rattle.upd_core.specs.Status.{is_active, live_cards, live_targets, status_of}
 use Rattle.upd_core.specs.TargetCounts.{live_count}
 use Rattle.upd_core.specs.Entries.{same_entry}
@@ -116,9 +116,6 @@ same_name old new z sound on held =
     name_there z old.idents at.0 (omega arith) (at.1).place ∙ sym (name_there z new.idents later.0 (omega arith) later.1 ∙ later.2)
 
 -- ---- what was kept of a card that stood
-
-pub card_held : (l : LibraryView) (c : CardView) → IsSound l → Contains (all_cards l) c → is_held l.idents c.ident ≡ true
-card_held l c sound is = let held : IsOfHeld l.idents c = all_of_contained (IsOfHeld l.idents) (all_cards l) c sound.cards is in held.0
 
 pub stood_status : (old new : LibraryView) (d : DeckView) (c : CardView) → IsSound old → Continues old.idents new.idents →
     stood_in (cards_of d.ident old) c ≡ true →

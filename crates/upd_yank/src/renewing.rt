@@ -5,14 +5,14 @@ ghost use Rattle.std.specs.List.{filter, find, flat_map};
 ghost use Rattle.std.specs.Option.{option_copied};
 ghost use Rattle.upd_core.specs.Actives.{without_past};
 ghost use Rattle.upd_core.specs.Counted.{counted_card};
-ghost use Rattle.upd_core.specs.Library.{is_deck, ref_of};
 ghost use Rattle.upd_yank.specs.Renewed.{deck_anew, deck_of_age, deck_renewed, is_active_deck};
 ghost use Rattle.upd_yank.specs.Right.{was_active};
 
 use crate::statuses::Statuses;
 use std::alloc::{AllocError, Global};
-use upd_core::ident::name_at;
-use upd_core::{ActiveDeck, Actives, Card, CardRef, Deck, Ident, Library, Name, Serial};
+use upd_core::card::card_ref;
+use upd_core::deck::deck_aged;
+use upd_core::{ActiveDeck, Actives, Card, Deck, Ident, Library, Serial};
 
 /// Each held deck of a directory: anew where a part has it, else as it was.
 pub(crate) fn renewed_decks(
@@ -82,17 +82,6 @@ fn push_aged(
     Ok(())
 }
 
-fn deck_aged(decks: &[Deck], age: Serial) -> Option<&Deck>
-    ensures { option_copied result ≡ find (is_deck age) decks.now }
-{
-    for deck in decks {
-        if deck.ident == age {
-            return Some(deck);
-        }
-    }
-    None
-}
-
 fn active_deck_aged(decks: &[ActiveDeck], age: Serial) -> Option<&ActiveDeck>
     ensures { option_copied result ≡ find (is_active_deck age) decks.now }
 {
@@ -130,19 +119,9 @@ fn push_active(
     }) }
 {
     for card in cards {
-        if statuses.of(reference(idents, card)).unwrap_or(false) {
+        if statuses.of(card_ref(idents, card)).unwrap_or(false) {
             deck.push(card.ident, card.number, &card.text)?;
         }
     }
     Ok(())
-}
-
-/// The card as directives name it.
-fn reference(idents: &[Ident], card: &Card) -> CardRef
-    ensures { result ≡ ref_of idents.now card.now }
-{
-    CardRef {
-        name: name_at(idents, card.ident).unwrap_or(Name::none()),
-        number: card.number,
-    }
 }

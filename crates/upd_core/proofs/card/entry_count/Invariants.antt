@@ -1,6 +1,6 @@
 use Rattle.std.proofs.Common.{◌≡◌, length, take, sum_by}
 use Rattle.upd_core.specs.Counts.{capped}
-use Rattle.upd_core.proofs.counts.entry_count.Given as goal
+use Rattle.upd_core.proofs.card.entry_count.Given as goal
 
 abbrev pub invariant-loop-card : goal.invariant-loop-card
 invariant-loop-card l = l.count ≡ capped (sum_by (λ c. length c.history) (take l.card-index l.cards))
