@@ -418,8 +418,25 @@ pub all_states_unlisted : reads_listing library_schema all_states ≡ false
 unfolding everything
 all_states_unlisted = refl
 
+abbrev pub each_state : List ℕ
+each_state = codes "SELECT ident, num, active FROM states"
+
+pub each_state_is : command_of (understood library_schema each_state)
+    ≡ Select (record { lets = []; body = plain_query 12 all_states_tests all_states_shown [] })
+    (codes "ident" ∷ codes "num" ∷ codes "active" ∷ [])
+unfolding understood everything
+each_state_is = refl
+
+pub each_state_plain : IsPlain (understood library_schema each_state)
+unfolding understood everything
+each_state_plain = (refl, refl)
+
+pub each_state_unlisted : reads_listing library_schema each_state ≡ false
+unfolding everything
+each_state_unlisted = refl
+
 abbrev pub all_counts : List ℕ
-all_counts = codes "SELECT kind, target, deck, n FROM counts ORDER BY kind, target, deck"
+all_counts = codes "SELECT kind, target, deck, n FROM counts"
 
 abbrev pub all_counts_tests : List Term
 all_counts_tests = []
@@ -427,11 +444,8 @@ all_counts_tests = []
 abbrev pub all_counts_shown : List Term
 all_counts_shown = col 1 1 ∷ col 1 2 ∷ col 1 3 ∷ col 1 4 ∷ []
 
-abbrev pub all_counts_order : List (Term × Key)
-all_counts_order = (col 1 1, ascending Binary) ∷ (col 1 2, ascending Binary) ∷ (col 1 3, ascending Binary) ∷ []
-
 pub all_counts_is : command_of (understood library_schema all_counts)
-    ≡ Select (record { lets = []; body = plain_query 14 all_counts_tests all_counts_shown all_counts_order })
+    ≡ Select (record { lets = []; body = plain_query 14 all_counts_tests all_counts_shown [] })
     (codes "kind" ∷ codes "target" ∷ codes "deck" ∷ codes "n" ∷ [])
 unfolding understood everything
 all_counts_is = refl

@@ -17,18 +17,17 @@ use Rattle.sqlite.specs.State.{State, HasCleanDisk, Shown}
 use Rattle.sqlite_keyed.proofs.ListLemmas.{map-map}
 use Rattle.upd_text.specs.declared.card_ref.CardRef.{CardRef}
 use Rattle.upd_text.specs.Order.{by_name}
-use Rattle.upd_core.specs.Order.{target_key}
 use Rattle.upd_core.specs.declared.ident.Ident.{Ident}
 use Rattle.upd_core.specs.declared.target.Target.{Target}
 use Rattle.upd_core.specs.declared.target.Target.TheVariants.{Set, SetIn, Deck}
-use Rattle.upd_change.specs.Rows.{CardRow, EntryRow, Rows, StateRow, TargetRow}
+use Rattle.upd_change.specs.Rows.{CardRow, EntryRow, IsSame, Rows, StateRow, TargetRow}
 use Rattle.upd_rows.specs.Tables.{state_pair, count_pair}
 use Rattle.upd_tables.proofs.Chains.{clean_before, steps_then}
 use Rattle.upd_tables.specs.Steps.{Steps}
 use Rattle.upd_sql.specs.Schema.{library_schema}
-use Rattle.upd_sql.specs.Listed.{AreInOrder, by_age, by_count, by_entry, by_place, by_state, by_state_row, by_target}
+use Rattle.upd_sql.specs.Listed.{AreInOrder, by_age, by_entry, by_place, by_state_row, by_target, in_any_order}
 use Rattle.upd_sql.specs.Commits.{Looks, WasOpen, LeavesTables}
-use Rattle.upd_sql.specs.Encoded.{num, target_code, ident_row, card_row, entry_row, target_row, state_row, kept_state, kept_count, stored}
+use Rattle.upd_sql.specs.Encoded.{num, ident_row, card_row, entry_row, target_row, state_row, kept_state, kept_count, stored}
 use Rattle.upd_sql.specs.Stands.{Stands}
 use Rattle.upd_sql.proofs.Listed.{lists, ordered_as}
 use Rattle.upd_sql.proofs.Texts as text
@@ -100,22 +99,12 @@ entries_order a b = name_order a.card b.card a.ord b.ord
 targets_order : (a b : TargetRow) → sort_cmp text.all_targets_order ([] ∷ (Null ∷ target_row a) ∷ []) ([] ∷ (Null ∷ target_row b) ∷ []) ≡ by_target a b
 targets_order a b = name_order a.card b.card a.ord b.ord
 
-states_order : (a b : CardRef × Bool) → sort_cmp text.all_states_order ([] ∷ (Null ∷ kept_state a) ∷ []) ([] ∷ (Null ∷ kept_state b) ∷ []) ≡ by_state a b
-states_order a b = ap₂ ordering_then (value_cmp-Text a.0.name b.0.name) (last_order a.0.number b.0.number)
-
 state_rows_order : (a b : StateRow) → sort_cmp text.all_states_order ([] ∷ (Null ∷ state_row a) ∷ []) ([] ∷ (Null ∷ state_row b) ∷ []) ≡ by_state_row a b
 state_rows_order a b = ap₂ ordering_then (value_cmp-Text a.card.name b.card.name) (last_order a.card.number b.card.number)
 
-key_codes : (t : Target) → target_code t ≡ num (target_key t).kind ∷ num (target_key t).age ∷ num (target_key t).deck ∷ []
-key_codes (Set a) = refl
-key_codes (SetIn a d) = refl
-key_codes (Deck d) = refl
-
-counts_order : (a b : Target × ℕ) → sort_cmp text.all_counts_order ([] ∷ (Null ∷ kept_count a) ∷ []) ([] ∷ (Null ∷ kept_count b) ∷ []) ≡ by_count a b
-counts_order a b =
-    ap₂ (λ (u v : Row). sort_cmp text.all_counts_order ([] ∷ (Null ∷ u ++ num a.1 ∷ []) ∷ []) ([] ∷ (Null ∷ v ++ num b.1 ∷ []) ∷ []))
-    (key_codes a.0) (key_codes b.0)
-    ∙ ap₂ ordering_then (nat_order _ _) (ap₂ ordering_then (nat_order _ _) (last_order _ _))
+-- what is found without a wish for an order
+in_any : {X : Type 0} {wanted all : List X} (found : List X) → wanted ≡ all → IsSame found wanted → AreInOrder in_any_order all found
+in_any found are same = record { same = subst (IsSame found) are same; sorted = λ k d low high. refl }
 
 -- ---- what each text answers
 
@@ -144,11 +133,11 @@ module _ (old new : State) (it : Rows) (h : Stands it old.now) (rows : List Row)
       text.all_targets_tests text.all_targets_shown text.all_targets_order _ text.all_targets_is refl refl refl (λ _. true) (λ x. refl) target_whole in
       (found.0, found.1, ordered_as _ by_target _ (it.targets) found.0 targets_order (all_pass (it.targets)) found.2)
 
-  pub states_listed : Shown text.all_states [] old new rows → (us : List (CardRef × Bool)) × (rows ≡ map kept_state us) × AreInOrder by_state (map state_pair it.states) us
+  pub states_listed : Shown text.each_state [] old new rows → (us : List (CardRef × Bool)) × (rows ≡ map kept_state us) × AreInOrder in_any_order (map state_pair it.states) us
   states_listed shown =
-      let found = lists 6 12 refl kept_state kept_state (stored it) (map state_pair it.states) (sym (map-map kept_state state_pair it.states)) text.all_states [] text.all_states_plain text.all_states_unlisted old new rows shown h
-      text.all_states_tests text.all_states_shown text.all_states_order _ text.all_states_is refl refl refl (λ _. true) (λ x. refl) (λ x. refl) in
-      (found.0, found.1, ordered_as _ by_state _ (map state_pair it.states) found.0 states_order (all_pass (map state_pair it.states)) found.2)
+      let found = lists 6 12 refl kept_state kept_state (stored it) (map state_pair it.states) (sym (map-map kept_state state_pair it.states)) text.each_state [] text.each_state_plain text.each_state_unlisted old new rows shown h
+      text.all_states_tests text.all_states_shown [] _ text.each_state_is refl refl refl (λ _. true) (λ x. refl) (λ x. refl) in
+      (found.0, found.1, in_any found.0 (all_pass (map state_pair it.states)) found.2.same)
 
   pub state_rows_listed : Shown text.all_states [] old new rows → (us : List StateRow) × (rows ≡ map state_row us) × AreInOrder by_state_row it.states us
   state_rows_listed shown =
@@ -156,11 +145,11 @@ module _ (old new : State) (it : Rows) (h : Stands it old.now) (rows : List Row)
       shown h text.all_states_tests text.all_states_shown text.all_states_order _ text.all_states_is refl refl refl (λ _. true) (λ x. refl) (λ x. refl) in
       (found.0, found.1, ordered_as _ by_state_row _ it.states found.0 state_rows_order (all_pass it.states) found.2)
 
-  pub counts_listed : Shown text.all_counts [] old new rows → (us : List (Target × ℕ)) × (rows ≡ map kept_count us) × AreInOrder by_count (map count_pair it.counts) us
+  pub counts_listed : Shown text.all_counts [] old new rows → (us : List (Target × ℕ)) × (rows ≡ map kept_count us) × AreInOrder in_any_order (map count_pair it.counts) us
   counts_listed shown =
       let found = lists 7 14 refl kept_count kept_count (stored it) (map count_pair it.counts) (sym (map-map kept_count count_pair it.counts)) text.all_counts [] text.all_counts_plain text.all_counts_unlisted old new rows shown h
-      text.all_counts_tests text.all_counts_shown text.all_counts_order _ text.all_counts_is refl refl refl (λ _. true) (λ x. refl) count_whole in
-      (found.0, found.1, ordered_as _ by_count _ (map count_pair it.counts) found.0 counts_order (all_pass (map count_pair it.counts)) found.2)
+      text.all_counts_tests text.all_counts_shown [] _ text.all_counts_is refl refl refl (λ _. true) (λ x. refl) count_whole in
+      (found.0, found.1, in_any found.0 (all_pass (map count_pair it.counts)) found.2.same)
 
 -- ---- one look after another
 

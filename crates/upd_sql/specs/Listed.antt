@@ -1,13 +1,10 @@
 -- What a query answers of records, and in which order.
-use Rattle.std.specs.Prelude.{ℕ, Bool, List, IsSorted}
+use Rattle.std.specs.Prelude.{List, IsSorted}
 use Rattle.std.specs.Ordering.{nat_cmp, ordering_then}
 use Rattle.std.specs.declared.cmp.Ordering.{Ordering}
 use Rattle.std.specs.declared.cmp.Ordering.TheVariants.{Equal}
-use Rattle.upd_text.specs.declared.card_ref.CardRef.{CardRef}
 use Rattle.upd_text.specs.Order.{by_name}
-use Rattle.upd_core.specs.Order.{key_order, target_key}
 use Rattle.upd_core.specs.declared.ident.Ident.{Ident}
-use Rattle.upd_core.specs.declared.target.Target.{Target}
 use Rattle.upd_change.specs.Rows.{CardRow, EntryRow, IsSame, StateRow, TargetRow}
 
 -- The records that were wanted, as often, in an order.
@@ -36,15 +33,8 @@ abbrev pub by_target : TargetRow → TargetRow → Ordering
 by_target a b = ordering_then (by_name a.card b.card) (nat_cmp a.ord b.ord)
 
 -- statuses by the names of the cards
-abbrev pub by_state : CardRef × Bool → CardRef × Bool → Ordering
-by_state a b = by_name a.0 b.0
-
 abbrev pub by_state_row : StateRow → StateRow → Ordering
 by_state_row a b = by_name a.card b.card
-
--- counts by the keys of the targets
-abbrev pub by_count : Target × ℕ → Target × ℕ → Ordering
-by_count a b = key_order (target_key a.0) (target_key b.0)
 
 -- entries of one card by their place in its history
 abbrev pub by_ord : EntryRow → EntryRow → Ordering

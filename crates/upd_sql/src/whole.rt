@@ -11,7 +11,7 @@ ghost use Rattle.upd_change.specs.Rows.{Rows};
 ghost use Rattle.upd_rows.specs.Tables.{AreByKey, AreRead, count_pair, state_pair};
 ghost use Rattle.upd_tables.specs.Steps.{Steps};
 ghost use Rattle.upd_sql.specs.Commits.{LeavesTables, Looks, WasOpen};
-ghost use Rattle.upd_sql.specs.Listed.{AreInOrder, by_age, by_count, by_entry, by_place, by_state, by_target};
+ghost use Rattle.upd_sql.specs.Listed.{AreInOrder, by_age, by_entry, by_place, by_target, in_any_order};
 ghost use Rattle.upd_sql.specs.Schema.{library_schema};
 ghost use Rattle.upd_sql.specs.Stands.{Stands};
 ghost use Rattle.upd_rows.specs.Assembling.{AreRowsOf};
@@ -21,7 +21,7 @@ use sqlite::types::ValueRef;
 use sqlite::{Alter, Error, Row, Transaction};
 use std::alloc::Global;
 use upd_core::{CardRef, Ident, States, Target};
-use upd_rows::{CardRow, EntryRow, LibraryRows, TargetRow};
+use upd_rows::{CardRow, EntryRow, LibraryRows, TargetRow, states_by_key};
 use upd_tables::ask;
 
 /// The answer of a text.
@@ -126,15 +126,10 @@ fn states_in<S: Alter>(
     alloc: Global,
 ) -> Result<Vec<(CardRef, bool)>, Error>
     ensures same_reference { tx.new.conn.ghost_name ≡ tx.old.conn.ghost_name }
-    ensures looks { Looks (λ it found. AreInOrder by_state (map state_pair it.states) found.items)
+    ensures looks { Looks (λ it found. AreInOrder in_any_order (map state_pair it.states) found.items)
         (state S.Store tx.old.conn.now) (state S.Store tx.new.conn.now) result }
 {
-    all_of(
-        tx,
-        alloc,
-        "SELECT ident, num, active FROM states ORDER BY ident, num",
-        &[],
-    )
+    all_of(tx, alloc, "SELECT ident, num, active FROM states", &[])
 }
 
 fn counts_in<S: Alter>(
@@ -142,15 +137,10 @@ fn counts_in<S: Alter>(
     alloc: Global,
 ) -> Result<Vec<(Target, u32)>, Error>
     ensures same_reference { tx.new.conn.ghost_name ≡ tx.old.conn.ghost_name }
-    ensures looks { Looks (λ it found. AreInOrder by_count (map count_pair it.counts) found.items)
+    ensures looks { Looks (λ it found. AreInOrder in_any_order (map count_pair it.counts) found.items)
         (state S.Store tx.old.conn.now) (state S.Store tx.new.conn.now) result }
 {
-    all_of(
-        tx,
-        alloc,
-        "SELECT kind, target, deck, n FROM counts ORDER BY kind, target, deck",
-        &[],
-    )
+    all_of(tx, alloc, "SELECT kind, target, deck, n FROM counts", &[])
 }
 
 /// The rows of the four tables that a library is made of, inside a transaction.
@@ -173,7 +163,8 @@ pub fn library_in<S: Alter>(
     })
 }
 
-/// The status of each card and the count of each target that a live yank card has, by the keys of their tables.
+/// The status of each card and the count of each target that a live yank card has, by the keys of their tables. They
+/// are read as they stand and put in order here: an answer by its key takes a look-up for each row.
 pub(crate) fn all_states_in<S: Alter>(
     tx: &mut Transaction<'_, S>,
     alloc: Global,
@@ -184,5 +175,5 @@ pub(crate) fn all_states_in<S: Alter>(
 {
     let states = states_in(tx, alloc)?;
     let counts = counts_in(tx, alloc)?;
-    Ok(States { states, counts })
+    Ok(states_by_key(States { states, counts }))
 }
