@@ -6,6 +6,7 @@ use std::alloc::Global;
 use std::process::Abort;
 use std::test::Fail;
 use upd_migrate::migrate;
+use upd_text::FaultKind;
 
 /// A file in memory that fails after so many calls.
 type Fused = Fuse<Memory>;
@@ -83,12 +84,15 @@ fn made(alloc: Global, file: Older) -> Result<Bytes, Fail> {
     bytes_of(alloc, &conn.into_store().close())
 }
 
-/// Leads the files on until a call fails: whether none did, and the files.
-fn led(alloc: Global, files: Files<Fused>) -> (bool, Files<Fused>) {
+/// Leads the files on until a call fails, which is told as such: whether none did, and the files.
+fn led(rt: &impl Abort, alloc: Global, files: Files<Fused>) -> (bool, Files<Fused>) {
     match opened(alloc, files) {
         Ok(mut conn) => {
-            let is_led = migrate(alloc, &mut conn).is_ok();
-            (is_led, conn.into_store().close())
+            let ended = migrate(alloc, &mut conn);
+            if let Err(fault) = ended {
+                assert_eq!(rt; fault, FaultKind::Store.without_line());
+            }
+            (ended.is_ok(), conn.into_store().close())
         }
         Err(files) => (false, files),
     }
@@ -119,7 +123,7 @@ fn stops(
     bytes: &Bytes,
     calls: Calls,
 ) -> Result<bool, Fail> {
-    let (is_led, files) = led(alloc, files_of(alloc, bytes, calls)?);
+    let (is_led, files) = led(rt, alloc, files_of(alloc, bytes, calls)?);
     if is_led {
         return Ok(false);
     }

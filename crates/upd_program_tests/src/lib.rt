@@ -6,6 +6,8 @@
 #[cfg(test)]
 mod console;
 #[cfg(test)]
+mod files;
+#[cfg(test)]
 mod library;
 #[cfg(test)]
 mod refusals;

@@ -47,13 +47,22 @@ fn a_refused_run_is_kept(rt: HostRuntime) -> Result<(), Fail> {
     remove(&rt, &file)
 }
 
+/// The words of marks one after the other, and what is told of each: a mark never goes back.
+const MARKS: &[(&[&str], &str)] = &[
+    (&["LYON", "1"], "{\"settled\":1,\"site\":\"LYON\"}\n"),
+    (&["LYON", "12"], "{\"settled\":12,\"site\":\"LYON\"}\n"),
+    (&["LYON", "3"], "{\"settled\":12,\"site\":\"LYON\"}\n"),
+];
+
 #[test]
 fn settled_runs_are_refused(rt: HostRuntime) -> Result<(), Fail> {
     let file = fresh(&rt, "settled")?;
     ask(&rt, &["init", &file], b"")?;
     ask(&rt, &["run", &file, "LYON", "1", "quick"], b"")?;
-    let settled = ask(&rt, &["settle", &file, "LYON", "1"], b"")?;
-    assert_answer(&rt, &settled, 0, "{\"settled\":1,\"site\":\"LYON\"}\n", "");
+    for (words, told) in MARKS {
+        let settled = ask_of(&rt, &file, "settle", words)?;
+        assert_answer(&rt, &settled, 0, told, "");
+    }
     let run = ask(&rt, &["run", &file, "LYON", "1", "quick"], b"")?;
     let told = "{\"at\":0,\"fault\":27,\"name\":\"Settled\"}\n";
     assert_answer(&rt, &run, 1, told, "");
@@ -101,7 +110,7 @@ fn a_spool_is_answered_line_by_line(rt: HostRuntime) -> Result<(), Fail> {
 }
 
 /// Makes a file of the second schema of one of the present: it has no table of settled marks.
-fn make_second(rt: &HostRuntime, file: &str) -> Result<(), Fail> {
+pub fn make_second(rt: &HostRuntime, file: &str) -> Result<(), Fail> {
     let mut conn = connect(rt, file, Unknown)?;
     conn.execute("DROP TABLE settled", &[])?;
     conn.execute("UPDATE meta SET v = 2", &[])?;

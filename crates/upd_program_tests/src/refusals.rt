@@ -32,7 +32,7 @@ fn operands_are_judged_before_the_file(rt: HostRuntime) -> Result<(), Fail> {
 }
 
 /// The commands that need a library, with the words behind their file.
-const COMMANDS: &[(&str, &[&str])] = &[
+pub const COMMANDS: &[(&str, &[&str])] = &[
     ("run", &["LYON", "1", "full"]),
     ("settle", &["LYON", "1"]),
     ("spool", &[]),
@@ -65,6 +65,8 @@ fn another_file_is_no_library_and_stays(rt: HostRuntime) -> Result<(), Fail> {
         let found = ask_of(&rt, &file, name, words)?;
         assert_answer(&rt, &found, 3, "", "upd: Store (29) at 0\n");
     }
+    let made = ask(&rt, &["init", &file], b"")?;
+    assert_answer(&rt, &made, 3, "", "upd: Store (29) at 0\n");
     assert!(rt; fs::read(&rt, file.as_str())?.as_slice() == TEXT);
     remove(&rt, &file)
 }
