@@ -1,37 +1,42 @@
 -- Reading the rows of some decks and cards.
-use Rattle.std.proofs.Common.{◌≡◌, ℕ, ◌+◌, ◌<◌, ◌≤◌, ◌==◌, ◌&&◌, ◌||◌, Bool, true, false, cond, List, [], ◌∷◌, ◌++◌, map, filter, take, length, get_or, drop, nat_lt}
+use Rattle.std.proofs.Common.{◌≡◌, ℕ, ◌+◌, ◌<◌, ◌≤◌, ◌==◌, ◌&&◌, ◌||◌, Bool, true, false, cond, List, [], ◌∷◌, ◌++◌, map, filter, take, length, get_or, nat_lt}
 use Rattle.std.proofs.Common.{refl, sym, ap, ap₂, subst, ◌∙◌, arith, codes}
 use Rattle.std.specs.List.{count_by, list_any}
 use Rattle.std.proofs.lemmas.Bool.Decides.{nat_tests}
-use Rattle.std.proofs.lemmas.List.{length-map, take-append-drop, take_more}
-use Rattle.sqlite_value.specs.declared.value.Value.TheVariants.{Null}
+use Rattle.std.proofs.lemmas.List.{length-map, take_more}
+use Rattle.std.proofs.lemmas.Map.Text.{is_eq-slice_cmp}
+use Rattle.std.proofs.lemmas.Slice.Eq.{bytes_eq-Decides}
+use Rattle.std.specs.BTreeSet as sorted
+use Rattle.std.specs.BTreeSet.{BTreeSet}
+use Rattle.std.specs.Cmp.Lexicographic.{slice_cmp}
+use Rattle.std.specs.Ordering.{is_eq, nat_cmp}
+use Rattle.std.specs.Str.{bytes_eq}
+use Rattle.sqlite_value.specs.declared.value.Value.TheVariants.{Text}
 use Rattle.sqlite_value.specs.Order.{Row}
-use Rattle.sqlite_sql.specs.Query.{sort_cmp}
 use Rattle.sqlite.specs.State.{State, Shown}
 use Rattle.sqlite.proofs.Callers.{reads_as}
 use Rattle.upd_text.specs.declared.card_ref.CardRef.{CardRef}
+use Rattle.upd_text.specs.Order.{by_name}
+use Rattle.upd_text.proofs.OrderLemmas.{is_same-is_eq}
 use Rattle.upd_change.specs.Rows.{CardRow, EntryRow, IsSame, Rows, same_ref}
 use Rattle.upd_change.proofs.CountLemmas.{count_append, count_cons, count_filter, same_append, same_map, same_trans}
 use Rattle.upd_rows.specs.Asked.{AreDecksOf, is_asked}
-use Rattle.upd_rows.specs.PartRows.{AreOfDistinctCards, is_loaded, is_of}
+use Rattle.upd_rows.specs.PartRows.{is_loaded, is_of}
 use Rattle.upd_tables.specs.Keyed.{at_most_64}
 use Rattle.upd_tables.proofs.Frames.{showing}
 use Rattle.upd_tables.proofs.Shapes.{counts}
 use Rattle.upd_sql.specs.Schema.{library_schema}
 use Rattle.upd_sql.specs.Encoded.{card_row, entry_row, num, stored}
-use Rattle.upd_sql.specs.Listed.{AreInOrder, by_ord, by_place, in_any_order}
+use Rattle.upd_sql.specs.Part.{is_of_ident}
+use Rattle.upd_sql.specs.Listed.{AreInOrder, by_place, in_any_order}
 use Rattle.upd_sql.specs.Stands.{Stands}
-use Rattle.upd_sql.proofs.Conditions.{card_named, card_params, entry_named, in_deck, nat_flip, ref_flip}
+use Rattle.upd_sql.proofs.Conditions.{card_named, card_params, entry_of, in_deck, nat_flip}
 use Rattle.upd_sql.proofs.Listed.{lists, ordered_as}
 use Rattle.upd_sql.proofs.Typed.{own}
-use Rattle.upd_sql.proofs.WholeLemmas.{cards_order, last_order}
+use Rattle.upd_sql.proofs.WholeLemmas.{cards_order}
 use Rattle.upd_sql.proofs.Texts as text
 
 -- ---- what each text answers
-
-entries_of_order : (params : Row) (a b : EntryRow)
-    → sort_cmp text.entries_of_card_order (params ∷ (Null ∷ entry_row a) ∷ []) (params ∷ (Null ∷ entry_row b) ∷ []) ≡ by_ord a b
-entries_of_order params a b = last_order a.ord b.ord
 
 module _ (old new : State) (it : Rows) (h : Stands it old.now) (rows : List Row) where
   pub decks_listed : (card : CardRef) → Shown text.deck_of_card (card_params card) old new rows
@@ -53,13 +58,13 @@ module _ (old new : State) (it : Rows) (h : Stands it old.now) (rows : List Row)
       (λ r. (r.deck == 0) || (r.deck == deck)) (in_deck deck) (λ x. refl) in
       (found.0, found.1, ordered_as _ by_place _ _ found.0 cards_order refl found.2)
 
-  pub own_entries_listed : (card : CardRef) → Shown text.entries_of_card (card_params card) old new rows
-      → (us : List EntryRow) × (rows ≡ map entry_row us) × AreInOrder by_ord (filter (λ e. same_ref card e.card) it.entries) us
-  own_entries_listed card shown =
-      let found = lists 3 6 refl entry_row entry_row (stored it) it.entries refl text.entries_of_card (card_params card) text.entries_of_card_plain
-      text.entries_of_card_unlisted old new rows shown h text.delete_entries_tests text.all_entries_shown text.entries_of_card_order _ text.entries_of_card_is
-      refl refl refl (λ e. same_ref card e.card) (entry_named card) (λ x. refl) in
-      (found.0, found.1, ordered_as _ by_ord _ _ found.0 (entries_of_order (card_params card)) refl found.2)
+  pub ident_entries_listed : (ident : List ℕ) → Shown text.entries_of_ident (Text ident ∷ []) old new rows
+      → (us : List EntryRow) × (rows ≡ map entry_row us) × AreInOrder in_any_order (filter (λ e. bytes_eq ident e.card.name) it.entries) us
+  ident_entries_listed ident shown =
+      let found = lists 3 6 refl entry_row entry_row (stored it) it.entries refl text.entries_of_ident (Text ident ∷ []) text.entries_of_ident_plain
+      text.entries_of_ident_unlisted old new rows shown h text.entries_of_ident_tests text.all_entries_shown [] _ text.entries_of_ident_is
+      refl refl refl (λ e. bytes_eq ident e.card.name) (entry_of ident) (λ x. refl) in
+      (found.0, found.1, record { same = found.2.same; sorted = λ k d low high. refl })
 
   pub cards_counted : Shown text.count_cards [] old new rows → rows ≡ (num (at_most_64 (length it.cards)) ∷ []) ∷ []
   cards_counted shown =
@@ -175,7 +180,7 @@ no_decks (r ∷ rows) d = no_decks rows d ∙ ap (λ b. b || list_any (λ (s : C
     never true = refl
     never false = refl
 
--- ---- entries of more and more cards
+-- ---- entries of more and more idents
 
 same_split : {A : Type 0} (p q r : A → Bool) → ((x : A) → p x ≡ true → q x ≡ false) → ((x : A) → r x ≡ (p x || q x)) → (xs : List A)
     → IsSame (filter p xs ++ filter q xs) (filter r xs)
@@ -207,65 +212,130 @@ same_split p q r apart joined xs = record {
           sums test ys,
         )
 
-within : {A : Type 0} (test keep : A → Bool) (xs : List A) → count_by (λ x. keep x && test x) xs ≤ count_by test xs
-within test keep [] = omega arith
-within test keep (x ∷ xs) =
-    omega (arith, count_cons (λ y. keep y && test y) x xs, count_cons test x xs, within test keep xs, less (keep x) (test x))
+one_more : (cards : List CardRow) (c : CardRow) (e : EntryRow) → is_of_ident (cards ++ c ∷ []) e ≡ (is_of_ident cards e || bytes_eq c.card.name e.card.name)
+one_more cards c e =
+    any_append (λ (r : CardRow). bytes_eq r.card.name e.card.name) cards (c ∷ [])
+    ∙ ap (λ b. is_of_ident cards e || b) (or_nothing (bytes_eq c.card.name e.card.name))
+
+-- the entries of one ident more
+entries_more : (cards : List CardRow) (c : CardRow) (entries found more : List EntryRow) → list_any (λ r. bytes_eq r.card.name c.card.name) cards ≡ false
+    → IsSame found (filter (is_of_ident cards) entries) → IsSame more (filter (λ e. bytes_eq c.card.name e.card.name) entries)
+    → IsSame (found ++ more) (filter (is_of_ident (cards ++ c ∷ [])) entries)
+entries_more cards c entries found more new before own =
+    same_trans (same_append before own) (same_split (is_of_ident cards) (λ (e : EntryRow). bytes_eq c.card.name e.card.name) (is_of_ident (cards ++ c ∷ [])) never (one_more cards c) entries)
   where
-    less : (a b : Bool) → cond {A = ℕ} (a && b) 1 0 ≤ cond b 1 0
-    less true b = omega arith
-    less false true = omega arith
-    less false false = omega arith
-
--- what is left of rows is as far apart
-pub apart_kept : (keep : CardRow → Bool) (rows found : List CardRow) → AreOfDistinctCards rows → IsSame found (filter keep rows) → AreOfDistinctCards found
-apart_kept keep rows found apart same card =
-    let test = λ (r : CardRow). same_ref card r.card in
-    omega (arith, apart card, same.passes test, count_filter test keep rows, within test keep rows)
-
-apart_taken : (rows : List CardRow) (n : ℕ) → AreOfDistinctCards rows → AreOfDistinctCards (take n rows)
-apart_taken rows n apart card =
-    let test = λ (r : CardRow). same_ref card r.card in
-    omega (arith, apart card, ap (count_by test) (take-append-drop n rows), count_append test (take n rows) (drop n rows))
-
-pub entries_more : (cards : List CardRow) (c : CardRow) (entries found more : List EntryRow) → AreOfDistinctCards (cards ++ c ∷ [])
-    → IsSame found (filter (is_of cards) entries)
-    → IsSame more (filter (λ e. same_ref c.card e.card) entries) → IsSame (found ++ more) (filter (is_of (cards ++ c ∷ [])) entries)
-entries_more cards c entries found more apart before own =
-    same_trans (same_append before own) (same_split (is_of cards) (λ (e : EntryRow). same_ref c.card e.card) (is_of (cards ++ c ∷ [])) never joined entries)
-  where
-    joined : (e : EntryRow) → is_of (cards ++ c ∷ []) e ≡ (is_of cards e || same_ref c.card e.card)
-    joined e = any_append (λ (r : CardRow). same_ref r.card e.card) cards (c ∷ []) ∙ ap (λ b. is_of cards e || b) (or_nothing (same_ref c.card e.card))
-
-    never : (e : EntryRow) → is_of cards e ≡ true → same_ref c.card e.card ≡ false
-    never e some = go (same_ref c.card e.card) refl
+    never : (e : EntryRow) → is_of_ident cards e ≡ true → bytes_eq c.card.name e.card.name ≡ false
+    never e some = go (bytes_eq c.card.name e.card.name) refl
       where
-        go : (b : Bool) → same_ref c.card e.card ≡ b → b ≡ false
+        go : (b : Bool) → bytes_eq c.card.name e.card.name ≡ b → b ≡ false
         go true is =
-            let test = λ (r : CardRow). same_ref e.card r.card in
-            let last : test c ≡ true = ref_flip e.card c.card ∙ is in
-            let one_more = ap {B = ℕ} (λ b. cond b 1 0) last in
-            let flipped : nat_lt 0 (count_by test cards) ≡ true =
-            sym (any_counted test cards) ∙ any_each test (λ (r : CardRow). same_ref r.card e.card) (λ r. ref_flip e.card r.card) cards ∙ some in
-            let some_before : 0 < count_by test cards = grind (arith, nat_tests, flipped) in
-            absurd (omega (arith, apart e.card, count_append test cards (c ∷ []), count_cons test c [], one_more, some_before))
+            let same : c.card.name ≡ e.card.name = (bytes_eq-Decides c.card.name e.card.name).0 is in
+            absurd (let p = sym new ∙ ap (λ n. list_any (λ (r : CardRow). bytes_eq r.card.name n) cards) same ∙ some in cc)
         go false is = refl
 
--- one more card in a walk over cards
-pub entries_next : (cards : List CardRow) (i : ℕ) (c : CardRow) (entries found more : List EntryRow) → i < length cards → c ≡ get_or cards i c
-    → (AreOfDistinctCards cards → IsSame found (filter (is_of (take i cards)) entries))
-    → IsSame more (filter (λ e. same_ref c.card e.card) entries) → AreOfDistinctCards cards → IsSame (found ++ more) (filter (is_of (take (i + 1) cards)) entries)
-entries_next cards i c entries found more inside is before own apart =
-    let next : take (i + 1) cards ≡ take i cards ++ c ∷ [] = take_more cards i c inside ∙ ap (λ x. take i cards ++ x ∷ []) (sym is) in
-    subst (λ cs. IsSame (found ++ more) (filter (is_of cs) entries)) (sym next)
-    (entries_more (take i cards) c entries found more (subst AreOfDistinctCards next (apart_taken cards (i + 1) apart)) (before apart) own)
+-- those of an ident that was asked for are there
+entries_known : (cards : List CardRow) (c : CardRow) (entries found : List EntryRow) → list_any (λ r. bytes_eq r.card.name c.card.name) cards ≡ true
+    → IsSame found (filter (is_of_ident cards) entries) → IsSame found (filter (is_of_ident (cards ++ c ∷ [])) entries)
+entries_known cards c entries found old before =
+    subst (IsSame found) (Rattle.sqlite_keyed.proofs.ListLemmas.filter_same (is_of_ident cards) (is_of_ident (cards ++ c ∷ [])) same entries) before
+  where
+    same : (e : EntryRow) → is_of_ident cards e ≡ is_of_ident (cards ++ c ∷ []) e
+    same e = go (bytes_eq c.card.name e.card.name) refl ∙ sym (one_more cards c e)
+      where
+        go : (b : Bool) → bytes_eq c.card.name e.card.name ≡ b → is_of_ident cards e ≡ (is_of_ident cards e || bytes_eq c.card.name e.card.name)
+        go true is =
+            let name : c.card.name ≡ e.card.name = (bytes_eq-Decides c.card.name e.card.name).0 is in
+            let there : is_of_ident cards e ≡ true = sym (ap (λ n. list_any (λ (r : CardRow). bytes_eq r.card.name n) cards) name) ∙ old in
+            rw there refl
+        go false is = sym (or_nothing (is_of_ident cards e)) ∙ ap (λ b. is_of_ident cards e || b) (sym is)
 
-pub no_entries : (entries : List EntryRow) → IsSame [] (filter (is_of []) entries)
+-- the names that were asked for, as a set in order and as those of cards
+abbrev pub AreAsked : List CardRow → BTreeSet (List ℕ) → Type 0
+AreAsked cards asked = (n : List ℕ) → sorted.contains (slice_cmp nat_cmp) asked n ≡ list_any (λ r. bytes_eq r.card.name n) cards
+
+-- the references of cards, as a set in order
+abbrev pub AreReferences : List CardRow → BTreeSet CardRef → Type 0
+AreReferences cards set = (k : CardRef) → sorted.contains by_name set k ≡ list_any (λ r. same_ref r.card k) cards
+
+module _ (cards : List CardRow) (i : ℕ) (c : CardRow) (inside : i < length cards) (is : c ≡ get_or cards i c) where
+  next : take (i + 1) cards ≡ take i cards ++ c ∷ []
+  next = take_more cards i c inside ∙ ap (λ x. take i cards ++ x ∷ []) (sym is)
+
+  -- a test of cards that passes what it passed before, and what it passes of one card more
+  known_next : {K : Type 0} (has : CardRow → K → Bool) (before after : K → Bool) → ((k : K) → before k ≡ list_any (λ r. has r k) (take i cards))
+      → ((k : K) → after k ≡ cond (has c k) true (before k)) → (k : K) → after k ≡ list_any (λ r. has r k) (take (i + 1) cards)
+  known_next has before after known put k =
+      put k ∙ ap (cond (has c k) true) (known k) ∙ turn (has c k) (list_any (λ r. has r k) (take i cards))
+      ∙ sym (ap (list_any (λ r. has r k)) next ∙ any_append (λ r. has r k) (take i cards) (c ∷ [])
+      ∙ ap (λ b. list_any (λ r. has r k) (take i cards) || b) (or_nothing (has c k)))
+    where
+      turn : (a b : Bool) → cond a true b ≡ (b || a)
+      turn true true = refl
+      turn true false = refl
+      turn false true = refl
+      turn false false = refl
+
+  pub asked_next : (asked after : BTreeSet (List ℕ)) → AreAsked (take i cards) asked
+      → ((n : List ℕ) → sorted.contains (slice_cmp nat_cmp) after n ≡ cond (is_eq (slice_cmp nat_cmp c.card.name n)) true (sorted.contains (slice_cmp nat_cmp) asked n))
+      → AreAsked (take (i + 1) cards) after
+  asked_next asked after before put =
+      known_next (λ (r : CardRow) (n : List ℕ). bytes_eq r.card.name n) (sorted.contains (slice_cmp nat_cmp) asked) (sorted.contains (slice_cmp nat_cmp) after) before
+      (λ n. put n ∙ ap (λ b. cond b true (sorted.contains (slice_cmp nat_cmp) asked n)) (is_eq-slice_cmp c.card.name n))
+
+  pub references_next : (had has : BTreeSet CardRef) → AreReferences (take i cards) had
+      → ((k : CardRef) → sorted.contains by_name has k ≡ cond (is_eq (by_name c.card k)) true (sorted.contains by_name had k)) → AreReferences (take (i + 1) cards) has
+  references_next had has before put =
+      known_next (λ (r : CardRow) (k : CardRef). same_ref r.card k) (sorted.contains by_name had) (sorted.contains by_name has) before
+      (λ k. put k ∙ ap (λ b. cond b true (sorted.contains by_name had k)) (sym (is_same-is_eq c.card k)))
+
+  pub entries_next : (asked : BTreeSet (List ℕ)) (entries found more : List EntryRow) → AreAsked (take i cards) asked
+      → sorted.contains (slice_cmp nat_cmp) asked c.card.name ≡ false → IsSame found (filter (is_of_ident (take i cards)) entries)
+      → IsSame more (filter (λ e. bytes_eq c.card.name e.card.name) entries) → IsSame (found ++ more) (filter (is_of_ident (take (i + 1) cards)) entries)
+  entries_next asked entries found more are new before own =
+      subst (λ cs. IsSame (found ++ more) (filter (is_of_ident cs) entries)) (sym next)
+      (entries_more (take i cards) c entries found more (sym (are c.card.name) ∙ new) before own)
+
+  pub entries_stay : (asked : BTreeSet (List ℕ)) (entries found : List EntryRow) → AreAsked (take i cards) asked
+      → sorted.contains (slice_cmp nat_cmp) asked c.card.name ≡ true → IsSame found (filter (is_of_ident (take i cards)) entries)
+      → IsSame found (filter (is_of_ident (take (i + 1) cards)) entries)
+  entries_stay asked entries found are old before =
+      subst (λ cs. IsSame found (filter (is_of_ident cs) entries)) (sym next)
+      (entries_known (take i cards) c entries found (sym (are c.card.name) ∙ old) before)
+
+pub no_entries : (entries : List EntryRow) → IsSame [] (filter (is_of_ident []) entries)
 no_entries entries = record { passes = λ test. go test entries }
   where
-    go : (test : EntryRow → Bool) (es : List EntryRow) → count_by test [] ≡ count_by test (filter (is_of []) es)
+    go : (test : EntryRow → Bool) (es : List EntryRow) → count_by test [] ≡ count_by test (filter (is_of_ident []) es)
     go test [] = refl
     go test (e ∷ es) = go test es
+
+-- the entries of cards are among those of their idents
+pub entries_kept : (cards : List CardRow) (keep : EntryRow → Bool) (entries found : List EntryRow) → ((e : EntryRow) → keep e ≡ is_of cards e)
+    → IsSame found (filter (is_of_ident cards) entries) → IsSame (filter keep found) (filter (is_of cards) entries)
+entries_kept cards keep entries found kept same = record {
+  passes = λ test.
+      count_filter test keep found ∙ same.passes (λ e. keep e && test e) ∙ count_filter (λ e. keep e && test e) (is_of_ident cards) entries
+      ∙ each test entries ∙ sym (count_filter test (is_of cards) entries);
+}
+  where
+    named : (e : EntryRow) (rs : List CardRow) → is_of rs e ≡ true → is_of_ident rs e ≡ true
+    named e [] some = absurd (cc)
+    named e (r ∷ rs) some = go (bytes_eq r.card.name e.card.name) (r.card.number == e.card.number) some (named e rs)
+      where
+        go : (a b : Bool) → ((a && b) || is_of rs e) ≡ true → (is_of rs e ≡ true → is_of_ident rs e ≡ true) → (a || is_of_ident rs e) ≡ true
+        go true b some later = refl
+        go false b some later = later some
+
+    one : (e : EntryRow) (t : Bool) → (is_of_ident cards e && (keep e && t)) ≡ (is_of cards e && t)
+    one e t = ap (λ k. is_of_ident cards e && (k && t)) (kept e) ∙ go (is_of_ident cards e) (is_of cards e) (named e cards)
+      where
+        go : (a b : Bool) → (b ≡ true → a ≡ true) → (a && (b && t)) ≡ (b && t)
+        go true b in_a = refl
+        go false true in_a = absurd (let p = in_a refl in cc)
+        go false false in_a = refl
+
+    each : (test : EntryRow → Bool) (es : List EntryRow) → count_by (λ e. is_of_ident cards e && (keep e && test e)) es ≡ count_by (λ e. is_of cards e && test e) es
+    each test es = ap (λ (f : EntryRow → Bool). count_by f es) (λ j e. one e (test e) j)
 
 pub decks_next : (cards : List CardRef) (i : ℕ) (c : CardRef) (rows : List CardRow) (ages found : List ℕ) → i < length cards → c ≡ get_or cards i c
     → AreDecksOf (take i cards) rows ages → IsSame found (map (λ r. r.deck) (filter (λ r. same_ref c r.card) rows))

@@ -550,25 +550,25 @@ pub cards_of_deck_unlisted : reads_listing library_schema cards_of_deck ≡ fals
 unfolding everything
 cards_of_deck_unlisted = refl
 
-abbrev pub entries_of_card : List ℕ
-entries_of_card = codes "SELECT ident, num, ord, who, active FROM entries WHERE ident = ?1 AND num = ?2 ORDER BY ord"
+abbrev pub entries_of_ident : List ℕ
+entries_of_ident = codes "SELECT ident, num, ord, who, active FROM entries WHERE ident = ?1"
 
-abbrev pub entries_of_card_order : List (Term × Key)
-entries_of_card_order = (col 1 3, ascending Binary) ∷ []
+abbrev pub entries_of_ident_tests : List Term
+entries_of_ident_tests = op2 (Compare Eq Binary) (col 1 1) (col 0 0) ∷ []
 
-pub entries_of_card_is : command_of (understood library_schema entries_of_card)
-    ≡ Select (record { lets = []; body = plain_query 6 delete_entries_tests all_entries_shown entries_of_card_order })
+pub entries_of_ident_is : command_of (understood library_schema entries_of_ident)
+    ≡ Select (record { lets = []; body = plain_query 6 entries_of_ident_tests all_entries_shown [] })
     (codes "ident" ∷ codes "num" ∷ codes "ord" ∷ codes "who" ∷ codes "active" ∷ [])
 unfolding understood everything
-entries_of_card_is = refl
+entries_of_ident_is = refl
 
-pub entries_of_card_plain : IsPlain (understood library_schema entries_of_card)
+pub entries_of_ident_plain : IsPlain (understood library_schema entries_of_ident)
 unfolding understood everything
-entries_of_card_plain = (refl, refl)
+entries_of_ident_plain = (refl, refl)
 
-pub entries_of_card_unlisted : reads_listing library_schema entries_of_card ≡ false
+pub entries_of_ident_unlisted : reads_listing library_schema entries_of_ident ≡ false
 unfolding everything
-entries_of_card_unlisted = refl
+entries_of_ident_unlisted = refl
 
 -- ---- how many rows there are
 

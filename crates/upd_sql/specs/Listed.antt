@@ -36,10 +36,6 @@ by_target a b = ordering_then (by_name a.card b.card) (nat_cmp a.ord b.ord)
 abbrev pub by_state_row : StateRow → StateRow → Ordering
 by_state_row a b = by_name a.card b.card
 
--- entries of one card by their place in its history
-abbrev pub by_ord : EntryRow → EntryRow → Ordering
-by_ord a b = nat_cmp a.ord b.ord
-
 -- any order is right
 abbrev pub in_any_order : {X : Type 0} → X → X → Ordering
 in_any_order a b = Equal

@@ -1,6 +1,8 @@
 -- Rows that are read of some tables or of parts of them.
-use Rattle.std.specs.Prelude.{◌≡◌, ℕ, List, length}
-use Rattle.upd_change.specs.Rows.{IsSame, Rows}
+use Rattle.std.specs.Prelude.{◌≡◌, ℕ, Bool, List, length}
+use Rattle.std.specs.List.{list_any}
+use Rattle.std.specs.Str.{bytes_eq}
+use Rattle.upd_change.specs.Rows.{CardRow, EntryRow, IsSame, Rows}
 use Rattle.upd_rows.specs.Assembling.{AreRowsOf}
 use Rattle.upd_rows.specs.PartRows.{AreOfDistinctCards, part_rows}
 use Rattle.upd_sql.specs.declared.active.ActiveRows.{ActiveRows}
@@ -11,6 +13,10 @@ pub record IsPart (ages : List ℕ) (tables : Rows) (found : Part) : Type 0 wher
   pub rows : AreOfDistinctCards tables.cards → AreRowsOf (part_rows ages tables) found.rows
   pub cards : found.cards ≡ length tables.cards
   pub entries : found.entries ≡ length tables.entries
+
+-- whether an entry is of a card of one of the idents that brought these
+abbrev pub is_of_ident : List CardRow → EntryRow → Bool
+is_of_ident cards e = list_any (λ r. bytes_eq r.card.name e.card.name) cards
 
 -- What is read of tables for the active cards: all idents, cards and statuses.
 pub record AreActiveRows (tables : Rows) (found : ActiveRows) : Type 0 where

@@ -1,20 +1,24 @@
 //! Parts of the tables: the rows of some decks and cards, and how many rows there are.
 ghost use Rattle.std.specs.Prelude.{◌≡◌, ◌==◌, ◌||◌, ℕ, [], ◌∷◌, List, length, map, IfOk, IfSome};
-ghost use Rattle.std.specs.List.{filter};
+ghost use Rattle.std.specs.List.{filter, list_any};
+ghost use Rattle.std.specs.BTreeSet as sorted;
+ghost use Rattle.std.specs.Str.{bytes_eq};
 ghost use Rattle.sqlite_value.specs.Order.{Row as SqlRow};
 ghost use Rattle.sqlite.specs.Given.{IsPlain};
 ghost use Rattle.sqlite.specs.Held.{state};
 ghost use Rattle.sqlite.specs.Listing.{understood};
 ghost use Rattle.sqlite.specs.State.{HasCleanDisk, Shown};
+ghost use Rattle.upd_text.specs.Order.{by_name};
+ghost use Rattle.upd_text.specs.declared.card_ref.CardRef.{CardRef};
 ghost use Rattle.upd_change.specs.Rows.{IsSame, Rows, same_ref};
 ghost use Rattle.upd_rows.specs.Asked.{AreDecksOf};
 ghost use Rattle.upd_rows.specs.Assembling.{AreRowsOf};
-ghost use Rattle.upd_rows.specs.PartRows.{AreOfDistinctCards, is_loaded, is_of, part_rows};
+ghost use Rattle.upd_rows.specs.PartRows.{is_loaded, is_of, part_rows};
 ghost use Rattle.upd_tables.specs.Keyed.{at_most_64};
 ghost use Rattle.upd_sql.specs.Commits.{Looks};
 ghost use Rattle.upd_sql.specs.Encoded.{num};
-ghost use Rattle.upd_sql.specs.Listed.{AreInOrder, by_ord, by_place, in_any_order};
-ghost use Rattle.upd_sql.specs.Part.{IsPart};
+ghost use Rattle.upd_sql.specs.Listed.{AreInOrder, by_place, in_any_order};
+ghost use Rattle.upd_sql.specs.Part.{IsPart, is_of_ident};
 ghost use Rattle.upd_sql.specs.Schema.{library_schema};
 ghost use Rattle.upd_sql.specs.Sizes.{AreKnown, AreSizesOf, HasSizes, card_tree, entry_tree, sizes_of};
 ghost use Rattle.upd_sql.specs.Stands.{Stands};
@@ -24,8 +28,9 @@ use crate::sizes::Sizes;
 use crate::values::{name, number};
 use crate::whole::{all_of, cards_in, idents_in, rows_of, targets_in};
 use sqlite::{Alter, Error, ErrorCode, Row, Transaction};
-use std::alloc::Global;
-use upd_core::{CardRef, Serial};
+use std::alloc::{AllocError, Global};
+use std::collections::BTreeSet;
+use upd_core::{CardRef, Name, Serial};
 use upd_rows::{CardRow, EntryRow, LibraryRows};
 
 /// The last number to which SQLite counts.
@@ -151,40 +156,78 @@ fn cards_of_decks<S: Alter>(
     }
 }
 
-/// The entries of a card.
-fn entries_of_card<S: Alter>(
+/// The entries of all cards that an ident brought.
+fn entries_of_ident<S: Alter>(
     tx: &mut Transaction<'_, S>,
     alloc: Global,
-    card: &CardRef,
+    ident: &Name,
 ) -> Result<Vec<EntryRow>, Error>
     ensures same_reference { tx.new.conn.ghost_name ≡ tx.old.conn.ghost_name }
-    ensures looks { Looks (λ it found. AreInOrder by_ord (filter (λ e. same_ref card.now e.card) it.entries) found.items)
+    ensures looks { Looks (λ it found. AreInOrder in_any_order (filter (λ e. bytes_eq ident.now e.card.name) it.entries) found.items)
         (state S.Store tx.old.conn.now) (state S.Store tx.new.conn.now) result }
 {
     all_of(
         tx,
         alloc,
-        "SELECT ident, num, ord, who, active FROM entries WHERE ident = ?1 AND num = ?2 ORDER BY ord",
-        &[name(&card.name), number(card.number)],
+        "SELECT ident, num, ord, who, active FROM entries WHERE ident = ?1",
+        &[name(ident)],
     )
 }
 
-/// The entries of cards, where no two rows are of one card.
+/// The entries of all cards of the idents that brought these: an ident is asked for once.
+fn entries_of_idents<S: Alter>(
+    tx: &mut Transaction<'_, S>,
+    alloc: Global,
+    cards: &[CardRow],
+) -> Result<Vec<EntryRow>, Error>
+    ensures same_reference { tx.new.conn.ghost_name ≡ tx.old.conn.ghost_name }
+    ensures looks { Looks (λ it found. IsSame found.items (filter (is_of_ident cards.now) it.entries))
+        (state S.Store tx.old.conn.now) (state S.Store tx.new.conn.now) result }
+{
+    look_at_nothing(tx)?;
+    let mut asked = BTreeSet::new(alloc);
+    let mut entries = Vec::new(alloc);
+    for row in cards {
+        if asked.insert(row.card.name)? {
+            let found = entries_of_ident(tx, alloc, &row.card.name)?;
+            entries.extend_from_slice(&found)?;
+        }
+    }
+    Ok(entries)
+}
+
+/// The references of cards.
+fn references_of(alloc: Global, cards: &[CardRow]) -> Result<BTreeSet<CardRef>, AllocError>
+    ensures { IfOk result (λ set. (card : CardRef) → sorted.contains by_name set card
+        ≡ list_any (λ r. same_ref r.card card) cards.now) }
+{
+    let mut references = BTreeSet::new(alloc);
+    for row in cards {
+        references.insert(row.card)?;
+    }
+    Ok(references)
+}
+
+/// Takes the entries of other cards away.
+fn keep_entries(entries: &mut Vec<EntryRow>, cards: &BTreeSet<CardRef>)
+    ensures { entries.new.items ≡ filter (λ e. sorted.contains by_name cards.now e.card) entries.old.items }
+{
+    entries.retain(|entry| cards.contains(&entry.card));
+}
+
+/// The entries of cards. All that their idents brought are read: one statement for each ident takes far less than one
+/// for each card.
 fn entries_of_cards<S: Alter>(
     tx: &mut Transaction<'_, S>,
     alloc: Global,
     cards: &[CardRow],
 ) -> Result<Vec<EntryRow>, Error>
     ensures same_reference { tx.new.conn.ghost_name ≡ tx.old.conn.ghost_name }
-    ensures looks { Looks (λ it found. AreOfDistinctCards cards.now → IsSame found.items (filter (is_of cards.now) it.entries))
+    ensures looks { Looks (λ it found. IsSame found.items (filter (is_of cards.now) it.entries))
         (state S.Store tx.old.conn.now) (state S.Store tx.new.conn.now) result }
 {
-    look_at_nothing(tx)?;
-    let mut entries = Vec::new(alloc);
-    for row in cards {
-        let found = entries_of_card(tx, alloc, &row.card)?;
-        entries.extend_from_slice(&found)?;
-    }
+    let mut entries = entries_of_idents(tx, alloc, cards)?;
+    keep_entries(&mut entries, &references_of(alloc, cards)?);
     Ok(entries)
 }
 
@@ -256,7 +299,7 @@ fn part_rows_in<S: Alter>(
     ages: &[Serial],
 ) -> Result<LibraryRows, Error>
     ensures same_reference { tx.new.conn.ghost_name ≡ tx.old.conn.ghost_name }
-    ensures looks { Looks (λ it found. AreOfDistinctCards it.cards → AreRowsOf (part_rows ages.now it) found)
+    ensures looks { Looks (λ it found. AreRowsOf (part_rows ages.now it) found)
         (state S.Store tx.old.conn.now) (state S.Store tx.new.conn.now) result }
 {
     let idents = idents_in(tx, alloc)?;

@@ -1,7 +1,7 @@
 use Rattle.std.proofs.Common.{Ok}
 use Rattle.sqlite.specs.Held.{state}
 use Rattle.upd_rows.specs.Assembling.{AreRowsOf}
-use Rattle.upd_rows.specs.PartRows.{AreOfDistinctCards, part_rows}
+use Rattle.upd_rows.specs.PartRows.{part_rows}
 use Rattle.upd_sql.specs.Part.{IsPart}
 use Rattle.upd_sql.specs.Sizes.{AreKnown, AreSizesOf}
 use Rattle.upd_sql.proofs.WholeLemmas.{looks_as, looks_then}
@@ -12,9 +12,9 @@ returns-in-Some-clause-looks g c =
     let ages = c.args.ages.now in
     let zero = state g.S.Store c.args.tx.now.conn.now in
     let one = state g.S.Store c.part_rows_in.new.tx.conn.now in
-    looks_as (λ it x. AreOfDistinctCards it.cards → AreRowsOf (part_rows ages it) x) (λ it found. AreKnown c.args.known (AreSizesOf it) → IsPart ages it found)
+    looks_as (λ it x. AreRowsOf (part_rows ages it) x) (λ it found. AreKnown c.args.known (AreSizesOf it) → IsPart ages it found)
     zero one c.in_ok-rows.rows _
-    (λ it h right. let own = right c.in-Some.sizes c.in-Some.is in record { rows = h; cards = own.0; entries = own.1 }) c.in_ok-rows.ensures.looks
+    (λ it h right. let own = right c.in-Some.sizes c.in-Some.is in record { rows = λ _. h; cards = own.0; entries = own.1 }) c.in_ok-rows.ensures.looks
 
 pub returns-clause-looks : goal.returns-clause-looks
 returns-clause-looks g c =
@@ -22,7 +22,7 @@ returns-clause-looks g c =
     let zero = state g.S.Store c.args.tx.now.conn.now in
     let one = state g.S.Store c.part_rows_in.new.tx.conn.now in
     let two = state g.S.Store c.sizes_in.new.tx.conn.now in
-    let both = looks_then (λ it x. AreOfDistinctCards it.cards → AreRowsOf (part_rows ages it) x) (λ it n. AreSizesOf it n) zero one two c.in_ok-rows.rows
+    let both = looks_then (λ it x. AreRowsOf (part_rows ages it) x) (λ it n. AreSizesOf it n) zero one two c.in_ok-rows.rows
     (Ok c.in_ok-sizes.sizes) c.in_ok-rows.ensures.looks c.in_ok-sizes.ensures.looks in
     looks_as _ (λ it found. AreKnown c.args.known (AreSizesOf it) → IsPart ages it found) zero two c.in_ok-sizes.sizes _
-    (λ it h right. record { rows = h.0; cards = h.1.0; entries = h.1.1 }) both
+    (λ it h right. record { rows = λ _. h.0; cards = h.1.0; entries = h.1.1 }) both
