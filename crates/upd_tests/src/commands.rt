@@ -275,6 +275,33 @@ fn words_that_ask_for_a_text_get_it_on_the_output(rt: HostRuntime) {
     assert!(rt; help.output.starts_with(front));
 }
 
+/// The words of each command that ask for its help, and how that begins.
+const ABOUT: &[(&[&str], &str)] = &[
+    (&["upd", "init", "--help"], "Makes an empty library"),
+    (&["upd", "run", "--help"], "Hands in the run on standard"),
+    (&["upd", "settle", "--help"], "Settles a site's runs"),
+    (&["upd", "spool", "--help"], "Hands in the runs of a spool"),
+    (&["upd", "serve", "--help"], "Serves so many HTTP"),
+    (&["upd", "compile", "--help"], "Writes the compile file"),
+    (&["upd", "list", "--help"], "Lists the cards of a deck"),
+    (
+        &["upd", "history", "--help"],
+        "Lists what is known of a card",
+    ),
+    (&["upd", "idents", "--help"], "Lists all decks and"),
+    (&["upd", "yanks", "--help"], "Lists the yank cards"),
+    (&["upd", "migrate", "--help"], "Brings the file of an older"),
+];
+
+#[test]
+fn each_command_tells_its_own_help(rt: HostRuntime) {
+    for (words, front) in ABOUT {
+        let help = run_words(&rt, words, b"");
+        assert!(rt; help.status == 0 && help.faults.is_empty());
+        assert!(rt; help.output.starts_with(front.as_bytes()));
+    }
+}
+
 const NO_MODE: &str = "\
 error: the following required arguments were not provided:
   <MODE>
