@@ -1,4 +1,4 @@
-//! What became of the cards of a library: one walk over the library before and the library after.
+//! What became of the cards of a deck: one walk over its cards before and after.
 ghost use Rattle.std.specs.Prelude.{◌≡◌, ◌↔◌, ◌+◌, ◌<◌, ◌≤◌, [], ◌∷◌, ◌++◌, true, map, length, take, IfOk, OnOk};
 ghost use Rattle.std.specs.List.{flat_map, AllByRecursion};
 ghost use Rattle.upd_core.specs.Library.{CardView};

@@ -131,7 +131,7 @@ fn stood_in(before: &[Card], card: &Card) -> bool
     false
 }
 
-/// Whether a card is another one with the same history.
+/// Whether two cards have one ident, number and history.
 fn is_same(old: &Card, card: &Card) -> bool
     ensures { result ≡ is_card card.now.ident card.now.number old.now && same_history old.now.history card.now.history }
 {

@@ -57,7 +57,7 @@ pub fn quick_file_of_no_decks_is_empty()
         → file_of Mode.Quick [] before after ≡ Ok (record { bytes = []; lines = 0 }) }
 {}
 
-/// The same from the active cards alone.
+/// The compile file of the active cards after a run and before it, as `compile_file` makes it of libraries.
 pub fn compile_active(
     alloc: Global,
     after: &Actives,

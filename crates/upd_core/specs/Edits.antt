@@ -55,7 +55,7 @@ without_entries gone c = record c { history = filter (λ e. not (gone e.ident)) 
 abbrev pub without_idents : (Age → Bool) → List CardView → List CardView
 without_idents gone cards = map (without_entries gone) (filter (λ c. not (gone c.ident)) cards)
 
--- what is left of decks without these idents
+-- what is left of a deck without these idents
 abbrev pub deck_without : (Age → Bool) → DeckView → DeckView
 deck_without gone d = record d { cards = without_idents gone d.cards }
 
@@ -63,7 +63,7 @@ deck_without gone d = record d { cards = without_idents gone d.cards }
 abbrev pub decks_without : (Age → Bool) → List DeckView → List DeckView
 decks_without gone decks = map (deck_without gone) (filter (λ d. not (gone d.ident)) decks)
 
--- the directory once these idents are purged
+-- an ident once the idents that pass a test are purged
 abbrev pub unheld : (Age → Bool) → Ident → Ident
 unheld gone i = record i { held = i.held && not (gone i.age) }
 

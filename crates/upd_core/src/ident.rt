@@ -27,7 +27,8 @@ pub struct Ident {
     pub name: Name,
     pub age: Serial,
     pub kind: Kind,
-    /// Whether callers of this common deck are left out of a normal compile file when it changes.
+    /// Whether a change of this common deck leaves its callers out of a normal compile file, unless they are chosen
+    /// for another reason.
     pub noprop: bool,
     /// Introduced and not purged.
     pub held: bool,

@@ -41,7 +41,7 @@ IsOwed owed (Err fault) = IsTrue (is_lost fault.kind) ⊎ (owed ≡ Err fault)
 abbrev pub IsAnswer : Journal → ArrivalView → Result ReplyView Fault → Type 0
 IsAnswer journal a result = IsOwed (answer journal a) result
 
--- what is in hand after an arrival: nothing once a call was answered, and one more where it was lost
+-- what is in hand after an arrival: nothing after a reply, one more where it was lost, and the same after a refusal that isn't kept
 abbrev pub in_hand_after : ArrivalView → List Event → Result ReplyView Fault → List Event
 in_hand_after a in_hand (Ok reply) = []
 in_hand_after a in_hand (Err fault) = if is_lost fault.kind then Came a ∷ in_hand else in_hand
@@ -57,7 +57,7 @@ abbrev pub after_settling : Journal → List ℕ → ℕ → Result ℕ Fault �
 after_settling journal site n (Ok mark) = Settled site n ∷ journal
 after_settling journal site n (Err fault) = journal
 
--- what is in hand after a settlement
+-- what is in hand after a settlement: nothing after a mark, one more where it was lost, and the same after a refusal
 abbrev pub in_hand_settling : List ℕ → ℕ → List Event → Result ℕ Fault → List Event
 in_hand_settling site n in_hand (Ok mark) = []
 in_hand_settling site n in_hand (Err fault) = if is_lost fault.kind then Settled site n ∷ in_hand else in_hand

@@ -28,7 +28,7 @@ pub record LeadTo (changes : List ChangeView) (rows : Rows) (l : LibraryView) : 
   pub library : Shows (done_all changes rows) l
   pub states : ShowsStates (done_all changes rows) l
 
--- how many cards are looked at for a run: those that it can have changed the status of, and none where it is refused
+-- how many cards are looked at for a run: those that it can have changed the status of, and none are counted where it is refused
 abbrev pub looked_at : LibraryView → Result Compiled Fault → ℕ
 looked_at l (Ok done) = length (affected (touched l done.reached.library) l done.reached.library)
 looked_at l (Err fault) = 0

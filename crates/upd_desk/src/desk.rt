@@ -51,7 +51,8 @@ impl<S: RowStore> Desk<S> {
         self.store
     }
 
-    /// How many cards the last arrival that was answered has looked at: 0 before one and after a repeat.
+    /// How many cards the last arrival that got a reply has looked at, as far as it was accepted: 0 before one, after a
+    /// repeat and after a refused run.
     pub fn work(&self) -> u64
         ensures { result ≡ self.now.work }
     {
@@ -63,7 +64,8 @@ impl<S: RowStore> Desk<S> {
     ///
     /// A fault is at 0 and keeps nothing: BadSite, BadNumber, BadMode or RunLong at the door; Settled where the number
     /// is at or below the site's mark; RunChanged where the key is known with another mode or other bytes; NoMemory or
-    /// Store, after which the run can be sent again.
+    /// Store, after which the run can be sent again. After Store the library may be found with the run once it is opened
+    /// again: then the run that is sent again gets its reply.
     pub fn arrive(
         &mut self,
         alloc: Global,

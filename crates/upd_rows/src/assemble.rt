@@ -242,7 +242,9 @@ pub fn assembled_part(
     Ok(part_of(alloc, idents, decks, ages))
 }
 
-/// The same from the rows of these decks and of `YANK$$$` alone, and the numbers of all cards and entries.
+/// A part of a library from its own rows: all idents and targets, the cards of `YANK$$$` and of the decks that are
+/// loaded, and the entries of these cards. `cards` and `entries` are the numbers in the whole library: what isn't among
+/// the rows is the rest.
 pub fn assembled_rest(
     alloc: Global,
     rows: LibraryRows,

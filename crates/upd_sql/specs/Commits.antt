@@ -1,4 +1,4 @@
--- What a whole transaction does to the tables of the last commit.
+-- What a whole transaction does to the tables of the last commit, and what its statements do that only look.
 use Rattle.std.specs.Prelude.{◌≡◌, Result, IsTrue, IfOk, OnOk}
 use Rattle.std.specs.List.{AllZip}
 use Rattle.sqlite_trees.specs.Tree.{Trees}

@@ -125,7 +125,7 @@ pub fn kept_states<S: Rising>(conn: &mut Connection<S>, alloc: Global) -> Result
     Ok(found)
 }
 
-/// The decks of the rows of cards, as often.
+/// The ages of the decks in the rows of these cards, 0 for `YANK$$$`. An age may stand there more than once.
 pub fn kept_decks_of<S: Rising>(
     conn: &mut Connection<S>,
     alloc: Global,

@@ -54,7 +54,7 @@ fn look_at_nothing<S: Alter>(tx: &mut Transaction<'_, S>) -> Result<(), Error>
     Ok(())
 }
 
-/// The decks of the rows of a card.
+/// The ages of the decks in the rows of a card.
 fn decks_of_card<S: Alter>(
     tx: &mut Transaction<'_, S>,
     alloc: Global,
@@ -73,7 +73,7 @@ fn decks_of_card<S: Alter>(
     )
 }
 
-/// The decks of the rows of cards.
+/// The ages of the decks in the rows of these cards, 0 for `YANK$$$`. An age may stand there more than once.
 pub(crate) fn decks_in<S: Alter>(
     tx: &mut Transaction<'_, S>,
     alloc: Global,

@@ -9,7 +9,7 @@ use upd_text::all_digits;
 /// The most digits of a number.
 pub const MAX_DIGITS: usize = 9;
 
-/// The number that digits spell.
+/// The number that digits spell, if they are one to nine, without a 0 in front of others.
 pub fn read_number(digits: &[u8]) -> Option<u32>
     ensures { result ≡ number_of digits.now }
 {

@@ -1,4 +1,4 @@
-//! How much the desk takes.
+//! The limits of runs, of libraries and of compile files.
 
 /// The longest run, in bytes.
 pub const MAX_RUN_BYTES: usize = 65_536;
