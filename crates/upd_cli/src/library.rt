@@ -129,7 +129,7 @@ pub(crate) fn serve(
 {
     let mut desk = open_desk(rt, file)?;
     let ended = match TcpListener::bind(rt, address) {
-        Ok(listener) => serve_on(rt.alloc(), &listener, count, &mut desk),
+        Ok(listener) => serve_on(rt.alloc(), rt, &listener, count, &mut desk),
         Err(_) => Err(FaultKind::Read.without_line()),
     };
     close_desk(desk);

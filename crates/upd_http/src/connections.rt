@@ -5,9 +5,10 @@ ghost use Rattle.upd_http.specs.Serving.{Leads, LeadsThrough, Made, read_failed}
 
 use crate::exchange::serve_one;
 use std::alloc::Global;
-use std::io::Read;
+use std::io;
+use std::io::{ErrorKind, Read, Write};
 use std::net::{Shutdown, TcpListener, TcpStream};
-use std::time::Duration;
+use std::time::{Clock, Duration, Instant};
 use upd_desk::Desk;
 use upd_rows::RowStore;
 use upd_text::{Fault, FaultKind};
@@ -15,13 +16,20 @@ use upd_text::{Fault, FaultKind};
 /// How long a read or a write of a connection may take, in seconds.
 const PATIENCE: u64 = 10;
 
+/// How long a connection may take in all, in seconds, but for the read or the write that it is in by then.
+const LIFETIME: u64 = 120;
+
 /// How many reads of what a client still sends are thrown away behind an answer.
 const SURPLUS_READS: u32 = 64;
 
 /// Serves so many connections, one request each. A fault of one ends that one alone. Read where no connection can be
 /// accepted.
+///
+/// A client that says or takes nothing for 10 seconds is given up, and so is one that isn't done after two minutes by
+/// the clock.
 pub fn serve_on<S: RowStore>(
     alloc: Global,
+    clock: &impl Clock,
     listener: &TcpListener,
     count: u32,
     desk: &mut Desk<S>,
@@ -32,14 +40,19 @@ pub fn serve_on<S: RowStore>(
 {
     'connections: for _ in 0..count {
         match listener.accept() {
-            Ok((stream, _)) => serve_connection(alloc, &stream, desk),
+            Ok((stream, _)) => serve_connection(alloc, clock, &stream, desk),
             Err(_) => return Err(FaultKind::Read.without_line()),
         }
     }
     Ok(())
 }
 
-fn serve_connection<S: RowStore>(alloc: Global, stream: &TcpStream, desk: &mut Desk<S>)
+fn serve_connection<'c, S: RowStore>(
+    alloc: Global,
+    clock: &'c impl Clock,
+    stream: &'c TcpStream,
+    desk: &mut Desk<S>,
+)
     ensures { (made : Made)
         × Leads S.is_honest S.is_open S.image S.shows S.may_leave S.failures_of made desk.old.store desk.new.store }
 {
@@ -47,17 +60,67 @@ fn serve_connection<S: RowStore>(alloc: Global, stream: &TcpStream, desk: &mut D
     if stream.set_read_timeout(patience).is_err() || stream.set_write_timeout(patience).is_err() {
         return;
     }
-    let _ = serve_one(alloc, &mut &*stream, &mut &*stream, desk);
+    let Ok(start) = Instant::now(clock) else {
+        return;
+    };
+    let mut reader = Client::new(stream, clock, start);
+    let mut writer = Client::new(stream, clock, start);
+    let _ = serve_one(alloc, &mut reader, &mut writer, desk);
     let _ = stream.shutdown(Shutdown::Write);
-    read_surplus(stream);
+    read_surplus(&mut reader);
+}
+
+/// A client until its time is up: from then on each read and write fails.
+#[derive(Drop)]
+struct Client<'a, C: Clock> {
+    stream: &'a TcpStream,
+    clock: &'a C,
+    start: Instant,
+}
+
+impl<'a, C: Clock> Client<'a, C> {
+    fn new(stream: &'a TcpStream, clock: &'a C, start: Instant) -> Client<'a, C> {
+        Client {
+            stream,
+            clock,
+            start,
+        }
+    }
+
+    /// TimedOut once the client's time is up.
+    fn hurry(&self) -> io::Result<()> {
+        if self.start.elapsed(self.clock)? < Duration::from_secs(LIFETIME) {
+            Ok(())
+        } else {
+            Err(io::Error::from(ErrorKind::TimedOut))
+        }
+    }
+}
+
+impl<C: Clock> Read for Client<'_, C> {
+    fn read(&mut self, buf: &mut [u8]) -> io::Result<usize> {
+        self.hurry()?;
+        (&mut &*self.stream).read(buf)
+    }
+}
+
+impl<C: Clock> Write for Client<'_, C> {
+    fn write(&mut self, buf: &[u8]) -> io::Result<usize> {
+        self.hurry()?;
+        (&mut &*self.stream).write(buf)
+    }
+
+    fn flush(&mut self) -> io::Result<()> {
+        (&mut &*self.stream).flush()
+    }
 }
 
 /// Throws away what a client still sends, up to a bound: were it left unread, closing the connection could take the
 /// answer back.
-fn read_surplus(stream: &TcpStream) {
+fn read_surplus(client: &mut impl Read) {
     let mut chunk = [0u8; 4096];
     for _ in 0..SURPLUS_READS {
-        match (&mut &*stream).read(&mut chunk) {
+        match client.read(&mut chunk) {
             Ok(0) | Err(_) => return,
             Ok(_) => {}
         }
