@@ -46,13 +46,6 @@ lt_test w v h = grind (arith, nat_tests)
 eq_test : (d : ℕ) → (d == d) ≡ true
 eq_test d = (Decides-eqb d d).1 refl
 
-ne_test : (a d : ℕ) → (a ≡ d → ⊥) → (a == d) ≡ false
-ne_test a d differ = go (a == d) refl
-  where
-    go : (b : Bool) → (a == d) ≡ b → b ≡ false
-    go true is = absurd (differ ((Decides-eqb a d).0 is))
-    go false is = refl
-
 shift : (idents : List Ident) (d w p v q : ℕ) (fates : List FateView) → w ≤ v → v + p ≡ q + w
     → map (moved_row d w (way w p)) (kept_from idents d v fates) ≡ kept_from idents d q fates
 shift idents d w p v q [] behind e = refl

@@ -9,9 +9,6 @@ use Rattle.upd_core.specs.Status.{is_good, targets_of, live_cards, liveness}
 abbrev pub live_before : CardView → List CardView → List CardView
 live_before y later = if is_good (targets_of later) 0 y then y ∷ later else later
 
-pub live_cards-step : (y : CardView) (ys : List CardView) → live_cards (y ∷ ys) ≡ live_before y (live_cards ys)
-live_cards-step y ys = refl
-
 pub good_before : (y : CardView) (later : List CardView) → is_good (targets_of later) 0 y ≡ true → live_before y later ≡ y ∷ later
 good_before y later e = ap (λ b. if b then y ∷ later else later) e
 

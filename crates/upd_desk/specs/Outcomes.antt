@@ -15,10 +15,6 @@ pub record Compiled : Type 0 where
   pub reached : Reached
   pub file : FileView
 
--- a run that left this library, brought these idents, named these decks to compile, and has this file
-abbrev pub compiled_of : LibraryView → List ℕ → List ℕ → FileView → Compiled
-compiled_of library idents decks file = record { reached = record { library = library; idents = idents; compile = decks }; file = file }
-
 -- a run read, applied and compiled, or its first refusal
 abbrev pub compiled : Mode → List ℕ → LibraryView → Result Compiled Fault
 compiled mode bytes l = do

@@ -13,9 +13,6 @@ then_equal Less = refl
 then_equal Equal = refl
 then_equal Greater = refl
 
-then_again : (r s : Ordering) → ordering_then r s ≡ ordering_then r (ordering_then s Equal)
-then_again r s = ap (ordering_then r) (then_equal s)
-
 target_by_key : (s t : Target) → target_order s t ≡ key_order (target_key s) (target_key t)
 target_by_key (Set a) (Set b) = then_equal (nat_cmp a b)
 target_by_key (Set a) (SetIn b d) = refl

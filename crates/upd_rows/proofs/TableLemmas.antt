@@ -130,10 +130,6 @@ run_at_committed cs run rows new site n = ap (find (is_run site n)) (runs_commit
         let none : run_at site n rows ≡ None = rw (← key.0, ← key.1) new in
         found_last (is_run site n) rows.runs run none hit
 
--- the marks stay
-pub mark_at_committed : (cs : List ChangeView) (run : RunView) (rows : Rows) (site : List ℕ) → mark_at site (committed cs run rows) ≡ mark_at site rows
-mark_at_committed cs run rows site = ap (λ marks. option_map_or (λ m. m.mark) (find (is_mark_of site) marks) 0) (marks_stay cs rows)
-
 -- the library, its statuses and its counts are those that the changes leave
 pub shows_committed : (cs : List ChangeView) (run : RunView) (rows : Rows) (l : LibraryView) → Shows (done_all cs rows) l → Shows (committed cs run rows) l
 shows_committed cs run rows l shown = record { idents = shown.idents; cards = shown.cards; entries = shown.entries; targets = shown.targets }
@@ -143,10 +139,6 @@ pub states_committed : (cs : List ChangeView) (run : RunView) (rows : Rows) (l :
 states_committed cs run rows l shown = record { states = shown.states; counts = shown.counts }
 
 -- ---- a settlement
-
--- one at or below the mark changes nothing
-pub settled_below : (s : List ℕ) (n : ℕ) (rows : Rows) → nat_le n (mark_at s rows) ≡ true → settled_to s n rows ≡ rows
-settled_below s n rows below = rw below refl
 
 pub max_right : (n m : ℕ) → nat_le n m ≡ true → max n m ≡ m
 max_right n m below = let le : n ≤ m = grind (arith, nat_tests) in max-eq_right le

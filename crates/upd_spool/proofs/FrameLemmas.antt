@@ -5,7 +5,7 @@ use Rattle.std.proofs.Common.{length-append}
 use Rattle.std.proofs.lemmas.Bool.{and_parts, and_from, cond-true, eqb-true, eq-eqb, false≢true, lt-ltb, ltb-true}
 use Rattle.std.proofs.lemmas.Bool.Decides.{nat_tests}
 use Rattle.std.proofs.lemmas.Grind.{common_steps}
-use Rattle.std.proofs.lemmas.List.{length-take-le, take_all}
+use Rattle.std.proofs.lemmas.List.{length-take-le}
 use Rattle.std.proofs.lemmas.List.Folds.{list_any-append}
 use Rattle.std.proofs.Math.Seq.{drop-cons, take-append_seam, drop-append-add}
 use Rattle.upd_desk.specs.Arrivals.{ArrivalView}
@@ -65,12 +65,6 @@ lf_within (x ∷ a) b (suc n) short = either (x == 10) _ (lf_within a b n (omega
   where
     either : (x y : Bool) → y ≡ true → (x || y) ≡ true
     either x y e = grind (arith, nat_tests)
-
-any_within : (a b : List ℕ) → has_lf (a ++ 10 ∷ b) ≡ true
-any_within a b = subst (λ l. has_lf l ≡ true) (take_all (length (a ++ 10 ∷ b)) (a ++ 10 ∷ b) (omega arith)) (lf_within a b (length (a ++ 10 ∷ b)) (longer a b))
-  where
-    longer : (a b : List ℕ) → length a < length (a ++ 10 ∷ b)
-    longer a b = simp length-append (omega arith)
 
 -- ---- frames
 

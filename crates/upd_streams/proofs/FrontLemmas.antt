@@ -1,11 +1,11 @@
 -- What is written before a write fails.
-use Rattle.std.proofs.Common.{◌≡◌, ℕ, ◌+◌, ◌-◌, ◌<◌, List, [], ◌++◌, Bor, Option, length, get_or, take, drop, refl, sym, ap, ◌∙◌}
+use Rattle.std.proofs.Common.{◌≡◌, ℕ, ◌+◌, ◌-◌, ◌<◌, List, [], ◌++◌, Bor, Option, length, get_or, take, drop, sym, ap, ◌∙◌}
 use Rattle.std.proofs.Common.{append_assoc, append-nil, take-append-drop}
 use Rattle.std.proofs.lemmas.List.{at_drop_more, take_rest}
 use Rattle.std.proofs.lemmas.List.Concat.{flat_map-append}
 use Rattle.std.specs.List.{flat_map}
 use Rattle.std.specs.Io.KnownBytes.{Appends}
-use Rattle.std.proofs.KnownBytes.{Appends-nil, Appends-trans}
+use Rattle.std.proofs.KnownBytes.{Appends-trans}
 use Rattle.upd_streams.specs.Fronts.{AppendsFront}
 
 -- what was done goes on by what was taken of the rest
@@ -13,10 +13,6 @@ pub front_further : (all done rest : List ℕ) (n : ℕ) → all ≡ done ++ res
 front_further all done rest n e =
     e ∙ ap (λ l. done ++ l) (sym (take-append-drop n rest)) ∙ sym (append_assoc done (take n rest) (drop n rest))
     ∙ ap (λ l. (done ++ take n rest) ++ l) (sym (take_rest rest n))
-
--- nothing, and all, are beginnings
-pub front_nothing : (old : Option (List ℕ)) (bytes : List ℕ) → AppendsFront old old bytes
-front_nothing old bytes = ([], bytes, refl, Appends-nil old)
 
 pub front_all : (old new : Option (List ℕ)) (bytes : List ℕ) → Appends old new bytes → AppendsFront old new bytes
 front_all old new bytes appended = (bytes, [], sym (append-nil bytes), appended)
