@@ -1,10 +1,9 @@
 -- A library whose histories are counted as they are read.
-use Rattle.std.specs.Prelude.{ℕ, ◌+◌, ◌-◌, ◌^◌, min, List, ◌++◌, map, Option}
-use Rattle.std.specs.Option.{option_and_then}
+use Rattle.std.specs.Prelude.{ℕ, ◌+◌, ◌-◌, ◌^◌, min, List, ◌++◌, map}
 use Rattle.std.specs.List.{flat_map}
 use Rattle.upd_core.specs.declared.ident.Ident.{Ident}
 use Rattle.upd_text.specs.declared.card_ref.CardRef.{CardRef}
-use Rattle.upd_core.specs.Library.{CardView, LibraryView, place_of, card_in, ref_of}
+use Rattle.upd_core.specs.Library.{CardView, LibraryView, ref_of}
 
 -- A library, and how many histories of it have been read.
 pub record CountedView : Type 0 where
@@ -36,7 +35,3 @@ others_of l = flat_map (λ d. map (counted_card l.idents d.ident) d.cards) l.dec
 -- all cards, by deck (`YANK$$$` first) and place
 abbrev pub counted_cards : LibraryView → List CountedCardView
 counted_cards l = yanks_of l ++ others_of l
-
--- the card that a reference names
-abbrev pub card_named : CardRef → LibraryView → Option CardView
-card_named card l = option_and_then (λ p. card_in p l) (place_of card l)

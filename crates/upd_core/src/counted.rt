@@ -1,25 +1,24 @@
 //! A library whose histories are counted as they are read: what tells how many cards have been looked at.
 
-ghost use Rattle.std.specs.Prelude.{◌≡◌, ◌++◌, map, is_some, if◌then◌else◌, IfOk, OnOk};
+ghost use Rattle.std.specs.Prelude.{◌≡◌, ◌++◌, map, IfOk, OnOk};
 ghost use Rattle.std.specs.List.{list_any, filter, flat_map};
-ghost use Rattle.std.specs.Option.{option_map, option_and_then};
 ghost use Rattle.std.specs.Result.{IsOkUnless};
 ghost use Rattle.upd_text.specs.Faults.{fault_at};
 ghost use Rattle.upd_text.specs.declared.fault.FaultKind.TheVariants.{NoMemory};
-ghost use Rattle.upd_core.specs.Counted.{one_more, counted_card, yanks_of, others_of, card_named};
-ghost use Rattle.upd_core.specs.Library.{ident_of, place_of, ref_of};
+ghost use Rattle.upd_core.specs.Counted.{one_more, counted_card, yanks_of, others_of};
+ghost use Rattle.upd_core.specs.Library.{ref_of};
 ghost use Rattle.upd_core.specs.Reach.{has_entry_of, covers, covered, is_retaken, is_reached};
 ghost use Rattle.upd_core.specs.TargetCounts.{count_in};
 
 use crate::card::{Card, Entry, card_ref};
 use crate::deck::Deck;
 use crate::ident::{Ident, Serial};
-use crate::library::{Library, Place, Rest};
+use crate::library::{Library, Rest};
 use crate::target::Target;
 use crate::target_counts::TargetCounts;
 use std::alloc::{AllocError, Global};
 use std::marker::Model;
-use upd_text::{CardRef, Fault, Name};
+use upd_text::{CardRef, Fault};
 
 /// A library that hands out histories one by one and counts them.
 #[derive(Drop)]
@@ -121,46 +120,6 @@ impl<'a> Counted<'a> {
     {
         let library = self.library;
         library.rest()
-    }
-
-    /// The age of the held ident of a name.
-    pub fn ident_of(&self, name: &Name) -> Option<Serial>
-        ensures { result ≡ ident_of name.now self.now.library }
-    {
-        let library = self.library;
-        library.ident_of(name)
-    }
-
-    /// Where the card stands that a reference names.
-    pub fn place(&self, card: CardRef) -> Option<Place>
-        ensures { result ≡ place_of card self.now.library }
-    {
-        let library = self.library;
-        library.card_at(card)
-    }
-
-    /// The targets of the card that a reference names.
-    pub fn targets(&self, card: CardRef) -> Option<&'a [Target]>
-        ensures { option_map (λ targets. targets.now) result
-            ≡ option_map (λ c. c.targets) (card_named card self.now.library) }
-    {
-        let library = self.library;
-        let place = library.card_at(card)?;
-        let card = library.card(place)?;
-        Some(&card.targets)
-    }
-
-    /// The history of the card that a reference names: one read more where the card is there.
-    pub fn history(&mut self, card: CardRef) -> Option<&'a [Entry]>
-        ensures found { option_map (λ history. history.now) result
-            ≡ option_map (λ c. c.history) (card_named card self.old.library) }
-        ensures reads { self.new ≡ (if is_some result then one_more self.old else self.old) }
-    {
-        let library = self.library;
-        let place = library.card_at(card)?;
-        let card = library.card(place)?;
-        self.count_read();
-        Some(&card.history)
     }
 
     /// The history of a card that this library showed: one read more.

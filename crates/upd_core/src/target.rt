@@ -6,7 +6,6 @@ ghost use Rattle.std.specs.declared.cmp.Ordering.TheVariants.{Equal};
 ghost use Rattle.upd_core.specs.Order.{key_order, target_key, target_order};
 ghost use Rattle.upd_core.specs.Targets.{is_same};
 ghost use Rattle.upd_core.specs.declared.target.Target.{Target};
-ghost use Rattle.upd_core.specs.Status.{takes, takes_deck};
 
 use crate::ident::Serial;
 
@@ -19,29 +18,6 @@ pub enum Target {
     SetIn(Serial, Serial),
     /// All cards of a deck.
     Deck(Serial),
-}
-
-impl Target {
-    /// Whether it takes an ident in a deck.
-    pub(crate) fn takes(self, deck: Serial, ident: Serial) -> bool
-        ensures { result ≡ takes deck ident self }
-    {
-        match self {
-            Target::Set(taken) => taken == ident,
-            Target::SetIn(taken, within) => taken == ident && within == deck,
-            Target::Deck(_) => false,
-        }
-    }
-
-    /// Whether it takes all cards of a deck.
-    pub(crate) fn takes_deck(self, deck: Serial) -> bool
-        ensures { result ≡ takes_deck deck self }
-    {
-        match self {
-            Target::Set(_) | Target::SetIn(..) => false,
-            Target::Deck(taken) => taken == deck,
-        }
-    }
 }
 
 /// Targets are ordered by their keys, and are equal by this order exactly where they are the same.

@@ -36,14 +36,6 @@ impl TargetCounts {
         }
     }
 
-    /// A copy; memory alone can fail.
-    pub fn copy(&self) -> Result<TargetCounts, AllocError>
-        ensures { IfOk result (λ copy. copy ≡ self.now) }
-    {
-        let counts = self.counts.clone()?;
-        Ok(TargetCounts { counts })
-    }
-
     /// The count of a target.
     pub fn of(&self, target: Target) -> u32
         ensures { result ≡ count_in self.now target }
