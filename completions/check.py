@@ -4,12 +4,15 @@
     python3 completions/check.py [UPD]
 
 Each command of `upd --help` stands in each of them, and no other; the man page has each command's words as its `--help` has them, and groff, which has to
-be there, sets it without a warning. UPD is crates/upd/out/upd where none is named. The exit status is 1 where something differs.
+be there, sets it without a warning. bash, and fish where it is there, are asked what they complete. UPD is crates/upd/out/upd where none is named. The exit
+status is 1 where something differs.
 """
 
 import re
+import shutil
 import subprocess
 import sys
+import tempfile
 from pathlib import Path
 
 ROOT = Path(__file__).resolve().parent.parent
@@ -18,6 +21,32 @@ UPD = sys.argv[1] if len(sys.argv) > 1 else ROOT / "crates/upd/out/upd"
 
 def said(*words):
     return subprocess.run([UPD, *words], capture_output=True, check=True, text=True).stdout
+
+
+MODES = ["full", "normal", "quick"]
+
+# How bash is asked for the completions of the words behind its script, the last of which is at hand.
+BASH = 'source "$0"; COMP_WORDS=("$@"); COMP_CWORD=$(($# - 1)); _upd; printf "%s\\n" "${COMPREPLY[@]}"'
+
+
+def completed(folder, shell, line):
+    """The completions of a line in a folder, by name, without options."""
+    if shell == "bash":
+        words = ["bash", "--norc", "-c", BASH, ROOT / "completions/upd.bash", *line.split(" ")]
+    else:
+        words = ["fish", "--no-config", "-c", f"source {ROOT}/completions/upd.fish; complete -C'{line}'"]
+    lines = subprocess.run(words, cwd=folder, capture_output=True, check=True, text=True).stdout.splitlines()
+    return sorted(name for name in (line.split("\t")[0] for line in lines) if name and not name.startswith("-"))
+
+
+def asked(shell, commands):
+    """What a shell completes otherwise than it should."""
+    wanted = {"upd ": sorted(commands), "upd ser": ["serve"], "upd trial ": MODES, "upd run library.db LYON 1 ": MODES, "upd run library.db LYON ": []}
+    wanted |= {f"upd {command} ": ["library.db"] for command in commands if command != "trial"}
+    with tempfile.TemporaryDirectory() as folder:
+        (Path(folder) / "library.db").touch()
+        found = {line: completed(folder, shell, line) for line in wanted}
+    return [f"{shell}, {line!r}: {found[line]}, and not {names}" for line, names in wanted.items() if found[line] != names]
 
 
 def main():
@@ -39,10 +68,12 @@ def main():
         words = " ".join(re.findall(r"<([A-Z]+)>", re.search(r"Usage: upd .*", said(command, "--help"))[0]))
         if synopsis.get(command) != words:
             wrong.append(f"man/upd.1, {command}: {synopsis.get(command)}, and not {words}")
+    shells = [shell for shell in ("bash", "fish") if shutil.which(shell)]
+    wrong += [line for shell in shells for line in asked(shell, commands)]
     page_fault = subprocess.run(["groff", "-man", "-Tutf8", "-ww", ROOT / "man/upd.1"], capture_output=True, check=False, text=True).stderr
     for line in wrong + page_fault.splitlines():
         print(line)
-    print(f"{len(commands)} commands, {len(wrong)} differences")
+    print(f"{len(commands)} commands, {' and '.join(shells)} asked, {len(wrong)} differences")
     sys.exit(bool(wrong or page_fault))
 
 
