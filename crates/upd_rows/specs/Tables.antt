@@ -12,6 +12,7 @@ use Rattle.upd_core.specs.declared.states.States.{States}
 use Rattle.upd_core.specs.declared.target.Target.{Target}
 use Rattle.upd_change.specs.Rows.{CountRow, IsSame, MarkRow, Rows, RunView, StateRow}
 use Rattle.upd_change.specs.Changes.{ChangeView, done_all}
+use Rattle.upd_rows.specs.Asked.{is_asked}
 
 -- whether a run is the one of a key, that is of a site and a number
 abbrev pub is_run : List ℕ → ℕ → RunView → Bool
@@ -61,6 +62,11 @@ count_pair r = (r.target, r.n)
 -- Statuses and counts that were read from tables: those of their rows, as often, in whatever order.
 pub record AreRead (rows : Rows) (found : States) : Type 0 where
   pub states : IsSame found.states.items (map state_pair rows.states)
+  pub counts : IsSame found.counts.items (map count_pair rows.counts)
+
+-- The statuses of some cards, and all counts, that were read from tables: those of their rows, as often, in whatever order.
+pub record AreReadOf (cards : List CardRef) (rows : Rows) (found : States) : Type 0 where
+  pub states : IsSame found.states.items (map state_pair (filter (λ r. is_asked cards r.card) rows.states))
   pub counts : IsSame found.counts.items (map count_pair rows.counts)
 
 -- Statuses stand by the names of their cards' idents, then by the cards' numbers; counts by kind of target (a set, a set in a deck, a deck),

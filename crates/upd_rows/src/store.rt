@@ -10,7 +10,7 @@ ghost use Rattle.upd_change.specs.Fits.{AllFit};
 ghost use Rattle.upd_rows.specs.Asked.{decks_with};
 ghost use Rattle.upd_rows.specs.Keeping.{IsLost, Keeps, MoreFailures, Tries, reads_after};
 ghost use Rattle.upd_core.specs.Parts.{part_of};
-ghost use Rattle.upd_rows.specs.Tables.{AreByKey, AreRead, committed, mark_at, run_at, settled_to};
+ghost use Rattle.upd_rows.specs.Tables.{AreByKey, AreRead, AreReadOf, committed, mark_at, run_at, settled_to};
 
 use std::alloc::Global;
 use upd_change::{Change, RunRow};
@@ -89,6 +89,21 @@ pub trait RowStore {
     fn load_states(&mut self, alloc: Global) -> Result<States, Fault>
         ensures found { is_honest self.new → IfOk result (λ found. (rows : Rows) → shows (image self.old) rows
             → AreRead rows found) }
+        ensures order { is_honest self.new → IfOk result (λ found. (rows : Rows) → shows (image self.old) rows
+            → AreByKey found) }
+        ensures open { is_honest self.new → OnOk result (is_open self.new) }
+        ensures same { Keeps is_honest is_open image shows may_leave failures_of self.old self.new }
+        ensures lost { IfErr result IsLost }
+        ensures failed { IfErr result (λ e. e.kind ≡ Store
+            → MoreFailures (failures_of self.old) (failures_of self.new)) }
+        ensures unread { reads_of self.new ≡ reads_of self.old }
+        ensures cause { IfErr result (λ e. e.kind ≡ Store → caused self.old self.new) };
+
+    /// The statuses of those of these cards that have one, and the count of each target that a live yank card has, by the
+    /// keys of their tables.
+    fn states_of(&mut self, alloc: Global, cards: &[CardRef]) -> Result<States, Fault>
+        ensures found { is_honest self.new → IfOk result (λ found. (rows : Rows) → shows (image self.old) rows
+            → AreReadOf cards.now rows found) }
         ensures order { is_honest self.new → IfOk result (λ found. (rows : Rows) → shows (image self.old) rows
             → AreByKey found) }
         ensures open { is_honest self.new → OnOk result (is_open self.new) }
