@@ -11,3 +11,4 @@ pub mod HolderLemmas
 pub mod KeyLemmas
 mod ActiveLemmas
 mod RestLemmas
+pub mod AskedLemmas

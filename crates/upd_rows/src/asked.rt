@@ -1,6 +1,8 @@
 //! What stores answer, whatever they keep their rows in.
 ghost use Rattle.std.specs.Prelude.{◌≡◌, IfOk, List, map};
+ghost use Rattle.std.specs.BTreeSet as sorted;
 ghost use Rattle.std.specs.List.{filter};
+ghost use Rattle.upd_text.specs.Order.{by_name};
 ghost use Rattle.upd_text.specs.declared.card_ref.CardRef.{CardRef};
 ghost use Rattle.upd_core.specs.Library.{LibraryView};
 ghost use Rattle.upd_core.specs.Sound.{IsSound};
@@ -12,6 +14,7 @@ ghost use Rattle.upd_rows.specs.Tables.{AreByKey, AreRead};
 use crate::list_changes::same_ref;
 use crate::rows::CardRow;
 use std::alloc::{AllocError, Global};
+use std::collections::BTreeSet;
 use upd_core::{CardRef, Library, Serial, States};
 
 /// How many decks are read with one more library; it stops at the last value.
@@ -55,6 +58,24 @@ pub fn decks_by_age(ages: Vec<Serial>) -> Vec<Serial>
     ages.sort_unstable();
     ages.dedup();
     ages
+}
+
+/// These cards as a set; memory alone can fail.
+pub fn card_set(alloc: Global, cards: &[CardRef]) -> Result<BTreeSet<CardRef>, AllocError>
+    ensures { IfOk result (λ set. (card : CardRef) → sorted.contains by_name set card ≡ is_asked cards.now card) }
+{
+    let mut set = BTreeSet::new(alloc);
+    for card in cards {
+        set.insert(*card)?;
+    }
+    Ok(set)
+}
+
+/// Takes the statuses of other cards away.
+pub fn keep_states(states: &mut Vec<(CardRef, bool)>, cards: &BTreeSet<CardRef>)
+    ensures { states.new.items ≡ filter (λ p. sorted.contains by_name cards.now p.0) states.old.items }
+{
+    states.retain(|pair| cards.contains(&pair.0));
 }
 
 /// Statuses and counts in the order of their tables' keys.

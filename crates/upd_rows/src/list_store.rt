@@ -93,6 +93,11 @@ impl RowStore for ListStore {
         Ok(states)
     }
 
+    fn states_of(&mut self, alloc: Global, cards: &[CardRef]) -> Result<States, Fault> {
+        let states = self.tables.states_of(alloc, cards)?;
+        Ok(states)
+    }
+
     fn load_active(&mut self, alloc: Global) -> Result<Actives, Fault> {
         let actives = self.tables.actives(alloc)?;
         Ok(actives)

@@ -13,11 +13,11 @@ ghost use Rattle.upd_change.specs.Rows.{Rows, Shows, ShowsStates};
 ghost use Rattle.upd_rows.specs.Asked.{decks_with};
 ghost use Rattle.upd_rows.specs.Assembling.{AreRowsOf};
 ghost use Rattle.upd_core.specs.Parts.{part_of};
-ghost use Rattle.upd_rows.specs.Tables.{AreByKey, AreRead, committed, count_pair, is_mark_of, is_settled, mark_at};
+ghost use Rattle.upd_rows.specs.Tables.{AreByKey, AreRead, AreReadOf, committed, count_pair, is_mark_of, is_settled, mark_at};
 ghost use Rattle.upd_rows.specs.Tables.{run_at, settled_to, state_pair};
 
 use crate::active::assembled_active;
-use crate::asked::{ages_of_decks, decks_by_age, states_by_key};
+use crate::asked::{ages_of_decks, card_set, decks_by_age, keep_states, states_by_key};
 use crate::assemble::{assembled, assembled_part};
 use crate::rows::{
     CardRow, CountRow, EntryRow, LibraryRows, MarkRow, StateRow, TargetRow, copy_run,
@@ -170,6 +170,17 @@ impl ListTables {
         ensures order { IfOk result AreByKey }
     {
         let states = state_pairs(alloc, &self.states)?;
+        let counts = count_pairs(alloc, &self.counts)?;
+        Ok(states_by_key(States { states, counts }))
+    }
+
+    /// The statuses of those of these cards that have one, and all counts, by their keys; memory alone can fail.
+    pub(crate) fn states_of(&self, alloc: Global, cards: &[CardRef]) -> Result<States, AllocError>
+        ensures read { IfOk result (λ found. AreReadOf cards.now self.now found) }
+        ensures order { IfOk result AreByKey }
+    {
+        let mut states = state_pairs(alloc, &self.states)?;
+        keep_states(&mut states, &card_set(alloc, cards)?);
         let counts = count_pairs(alloc, &self.counts)?;
         Ok(states_by_key(States { states, counts }))
     }
