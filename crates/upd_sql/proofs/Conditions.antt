@@ -18,9 +18,9 @@ use Rattle.upd_core.specs.Targets.{is_same}
 use Rattle.upd_change.specs.Rows.{CardRow, EntryRow, TargetRow, RunView, StateRow, CountRow, MarkRow, same_ref}
 use Rattle.upd_rows.specs.Tables.{is_run, is_settled, is_mark_of}
 use Rattle.upd_tables.proofs.Tests.{eq_text, eq_nat, le_nat, one_test, two_tests, three_tests}
-use Rattle.upd_sql.specs.Encoded.{num, target_code, card_row, entry_row, target_row, run_row, state_row, count_row, mark_row}
+use Rattle.upd_sql.specs.Encoded.{num, target_code, card_row, entry_row, kept_state, target_row, run_row, state_row, count_row, mark_row}
 use Rattle.upd_sql.proofs.Texts.{delete_card_tests, delete_entries_tests, delete_targets_tests, delete_state_tests, delete_count_tests, delete_mark_tests}
-use Rattle.upd_sql.proofs.Texts.{cards_of_deck_tests, entries_of_ident_tests, delete_runs_tests, run_of_key_tests, mark_of_site_tests}
+use Rattle.upd_sql.proofs.Texts.{cards_of_deck_tests, ident_tests, delete_runs_tests, run_of_key_tests, mark_of_site_tests}
 
 bytes_flip : (a b : List ℕ) → bytes_eq a b ≡ bytes_eq b a
 bytes_flip [] [] = refl
@@ -48,8 +48,11 @@ card_named c r = two_tests (eq_text r.card.name c.name ∙ bytes_flip r.card.nam
 pub entry_named : (c : CardRef) (r : EntryRow) → passes (card_params c) delete_entries_tests (entry_row r) ≡ same_ref c r.card
 entry_named c r = two_tests (eq_text r.card.name c.name ∙ bytes_flip r.card.name c.name) (eq_nat r.card.number c.number ∙ nat_flip r.card.number c.number)
 
-pub entry_of : (ident : List ℕ) (r : EntryRow) → passes (Text ident ∷ []) entries_of_ident_tests (entry_row r) ≡ bytes_eq ident r.card.name
+pub entry_of : (ident : List ℕ) (r : EntryRow) → passes (Text ident ∷ []) ident_tests (entry_row r) ≡ bytes_eq ident r.card.name
 entry_of ident r = one_test (eq_text r.card.name ident ∙ bytes_flip r.card.name ident)
+
+pub status_of : (ident : List ℕ) (p : CardRef × Bool) → passes (Text ident ∷ []) ident_tests (kept_state p) ≡ bytes_eq ident p.0.name
+status_of ident p = one_test (eq_text p.0.name ident ∙ bytes_flip p.0.name ident)
 
 pub target_named : (c : CardRef) (r : TargetRow) → passes (card_params c) delete_targets_tests (target_row r) ≡ same_ref c r.card
 target_named c r = two_tests (eq_text r.card.name c.name ∙ bytes_flip r.card.name c.name) (eq_nat r.card.number c.number ∙ nat_flip r.card.number c.number)

@@ -3,7 +3,7 @@ use Rattle.std.proofs.Common.{◌≡◌, ℕ, ◌+◌, ◌<◌, ◌≤◌, ◌==
 use Rattle.std.proofs.Common.{refl, sym, ap, ap₂, subst, ◌∙◌, arith, codes}
 use Rattle.std.specs.List.{count_by, list_any}
 use Rattle.std.proofs.lemmas.Bool.Decides.{nat_tests}
-use Rattle.std.proofs.lemmas.List.{length-map, take_more}
+use Rattle.std.proofs.lemmas.List.{length-map}
 use Rattle.std.proofs.lemmas.Map.Text.{is_eq-slice_cmp}
 use Rattle.std.proofs.lemmas.Slice.Eq.{bytes_eq-Decides}
 use Rattle.std.specs.BTreeSet as sorted
@@ -16,21 +16,22 @@ use Rattle.sqlite_value.specs.Order.{Row}
 use Rattle.sqlite.specs.State.{State, Shown}
 use Rattle.sqlite.proofs.Callers.{reads_as}
 use Rattle.upd_text.specs.declared.card_ref.CardRef.{CardRef}
-use Rattle.upd_text.specs.Order.{by_name}
-use Rattle.upd_text.proofs.OrderLemmas.{is_same-is_eq}
 use Rattle.upd_change.specs.Rows.{CardRow, EntryRow, IsSame, Rows, same_ref}
 use Rattle.upd_change.proofs.CountLemmas.{count_append, count_cons, count_filter, same_append, same_map, same_trans}
+use Rattle.upd_change.proofs.EffectLemmas.{any_append}
 use Rattle.upd_rows.specs.Asked.{AreDecksOf, is_asked}
 use Rattle.upd_rows.specs.PartRows.{is_loaded, is_of}
+use Rattle.upd_rows.specs.Tables.{state_pair}
+use Rattle.upd_rows.proofs.AskedLemmas.{cards_next, known_next, or_nothing}
 use Rattle.upd_tables.specs.Keyed.{at_most_64}
 use Rattle.upd_tables.proofs.Frames.{showing}
 use Rattle.upd_tables.proofs.Shapes.{counts}
 use Rattle.upd_sql.specs.Schema.{library_schema}
-use Rattle.upd_sql.specs.Encoded.{card_row, entry_row, num, stored}
+use Rattle.upd_sql.specs.Encoded.{card_row, entry_row, kept_state, num, stored}
 use Rattle.upd_sql.specs.Part.{is_of_ident}
 use Rattle.upd_sql.specs.Listed.{AreInOrder, by_place, in_any_order}
 use Rattle.upd_sql.specs.Stands.{Stands}
-use Rattle.upd_sql.proofs.Conditions.{card_named, card_params, entry_of, in_deck, nat_flip}
+use Rattle.upd_sql.proofs.Conditions.{card_named, card_params, entry_of, in_deck, nat_flip, status_of}
 use Rattle.upd_sql.proofs.Listed.{lists, ordered_as}
 use Rattle.upd_sql.proofs.Typed.{own}
 use Rattle.upd_sql.proofs.WholeLemmas.{cards_order}
@@ -62,8 +63,18 @@ module _ (old new : State) (it : Rows) (h : Stands it old.now) (rows : List Row)
       → (us : List EntryRow) × (rows ≡ map entry_row us) × AreInOrder in_any_order (filter (λ e. bytes_eq ident e.card.name) it.entries) us
   ident_entries_listed ident shown =
       let found = lists 3 6 refl entry_row entry_row (stored it) it.entries refl text.entries_of_ident (Text ident ∷ []) text.entries_of_ident_plain
-      text.entries_of_ident_unlisted old new rows shown h text.entries_of_ident_tests text.all_entries_shown [] _ text.entries_of_ident_is
+      text.entries_of_ident_unlisted old new rows shown h text.ident_tests text.all_entries_shown [] _ text.entries_of_ident_is
       refl refl refl (λ e. bytes_eq ident e.card.name) (entry_of ident) (λ x. refl) in
+      (found.0, found.1, record { same = found.2.same; sorted = λ k d low high. refl })
+
+  pub ident_states_listed : (ident : List ℕ) → Shown text.states_of_ident (Text ident ∷ []) old new rows
+      → (us : List (CardRef × Bool)) × (rows ≡ map kept_state us)
+      × AreInOrder in_any_order (filter (λ p. bytes_eq ident p.0.name) (map state_pair it.states)) us
+  ident_states_listed ident shown =
+      let found = lists 6 12 refl kept_state kept_state (stored it) (map state_pair it.states)
+      (sym (Rattle.sqlite_keyed.proofs.ListLemmas.map-map kept_state state_pair it.states)) text.states_of_ident (Text ident ∷ [])
+      text.states_of_ident_plain text.states_of_ident_unlisted old new rows shown h text.ident_tests text.all_states_shown [] _ text.states_of_ident_is
+      refl refl refl (λ p. bytes_eq ident p.0.name) (status_of ident) (λ x. refl) in
       (found.0, found.1, record { same = found.2.same; sorted = λ k d low high. refl })
 
   pub cards_counted : Shown text.count_cards [] old new rows → rows ≡ (num (at_most_64 (length it.cards)) ∷ []) ∷ []
@@ -79,14 +90,6 @@ module _ (old new : State) (it : Rows) (h : Stands it old.now) (rows : List Row)
       ∙ ap (λ n. (num (at_most_64 n) ∷ []) ∷ []) (length-map it.entries entry_row)
 
 -- ---- decks of more and more cards
-
-any_append : {A : Type 0} (test : A → Bool) (xs ys : List A) → list_any test (xs ++ ys) ≡ (list_any test xs || list_any test ys)
-any_append test [] ys = refl
-any_append test (x ∷ xs) ys = ap (λ b. test x || b) (any_append test xs ys) ∙ or_assoc (test x) _ _
-  where
-    or_assoc : (a b c : Bool) → (a || (b || c)) ≡ ((a || b) || c)
-    or_assoc true b c = refl
-    or_assoc false b c = refl
 
 -- a test passes some of a list where it passes a number of them that isn't 0
 any_counted : {A : Type 0} (test : A → Bool) (xs : List A) → list_any test xs ≡ nat_lt 0 (count_by test xs)
@@ -132,10 +135,6 @@ any_each : {A : Type 0} (f g : A → Bool) → ((x : A) → f x ≡ g x) → (xs
 any_each f g same [] = refl
 any_each f g same (x ∷ xs) = ap₂ ◌||◌ (same x) (any_each f g same xs)
 
-or_nothing : (b : Bool) → (b || false) ≡ b
-or_nothing true = refl
-or_nothing false = refl
-
 both_or : (a b c : Bool) → ((a && b) || (a && c)) ≡ (a && (b || c))
 both_or true b c = refl
 both_or false b c = refl
@@ -180,7 +179,7 @@ no_decks (r ∷ rows) d = no_decks rows d ∙ ap (λ b. b || list_any (λ (s : C
     never true = refl
     never false = refl
 
--- ---- entries of more and more idents
+-- ---- records of more and more idents
 
 same_split : {A : Type 0} (p q r : A → Bool) → ((x : A) → p x ≡ true → q x ≡ false) → ((x : A) → r x ≡ (p x || q x)) → (xs : List A)
     → IsSame (filter p xs ++ filter q xs) (filter r xs)
@@ -212,141 +211,127 @@ same_split p q r apart joined xs = record {
           sums test ys,
         )
 
-one_more : (cards : List CardRow) (c : CardRow) (e : EntryRow) → is_of_ident (cards ++ c ∷ []) e ≡ (is_of_ident cards e || bytes_eq c.card.name e.card.name)
-one_more cards c e =
-    any_append (λ (r : CardRow). bytes_eq r.card.name e.card.name) cards (c ∷ [])
-    ∙ ap (λ b. is_of_ident cards e || b) (or_nothing (bytes_eq c.card.name e.card.name))
-
--- the entries of one ident more
-entries_more : (cards : List CardRow) (c : CardRow) (entries found more : List EntryRow) → list_any (λ r. bytes_eq r.card.name c.card.name) cards ≡ false
-    → IsSame found (filter (is_of_ident cards) entries) → IsSame more (filter (λ e. bytes_eq c.card.name e.card.name) entries)
-    → IsSame (found ++ more) (filter (is_of_ident (cards ++ c ∷ [])) entries)
-entries_more cards c entries found more new before own =
-    same_trans (same_append before own) (same_split (is_of_ident cards) (λ (e : EntryRow). bytes_eq c.card.name e.card.name) (is_of_ident (cards ++ c ∷ [])) never (one_more cards c) entries)
-  where
-    never : (e : EntryRow) → is_of_ident cards e ≡ true → bytes_eq c.card.name e.card.name ≡ false
-    never e some = go (bytes_eq c.card.name e.card.name) refl
-      where
-        go : (b : Bool) → bytes_eq c.card.name e.card.name ≡ b → b ≡ false
-        go true is =
-            let same : c.card.name ≡ e.card.name = (bytes_eq-Decides c.card.name e.card.name).0 is in
-            absurd (let p = sym new ∙ ap (λ n. list_any (λ (r : CardRow). bytes_eq r.card.name n) cards) same ∙ some in cc)
-        go false is = refl
-
--- those of an ident that was asked for are there
-entries_known : (cards : List CardRow) (c : CardRow) (entries found : List EntryRow) → list_any (λ r. bytes_eq r.card.name c.card.name) cards ≡ true
-    → IsSame found (filter (is_of_ident cards) entries) → IsSame found (filter (is_of_ident (cards ++ c ∷ [])) entries)
-entries_known cards c entries found old before =
-    subst (IsSame found) (Rattle.sqlite_keyed.proofs.ListLemmas.filter_same (is_of_ident cards) (is_of_ident (cards ++ c ∷ [])) same entries) before
-  where
-    same : (e : EntryRow) → is_of_ident cards e ≡ is_of_ident (cards ++ c ∷ []) e
-    same e = go (bytes_eq c.card.name e.card.name) refl ∙ sym (one_more cards c e)
-      where
-        go : (b : Bool) → bytes_eq c.card.name e.card.name ≡ b → is_of_ident cards e ≡ (is_of_ident cards e || bytes_eq c.card.name e.card.name)
-        go true is =
-            let name : c.card.name ≡ e.card.name = (bytes_eq-Decides c.card.name e.card.name).0 is in
-            let there : is_of_ident cards e ≡ true = sym (ap (λ n. list_any (λ (r : CardRow). bytes_eq r.card.name n) cards) name) ∙ old in
-            rw there refl
-        go false is = sym (or_nothing (is_of_ident cards e)) ∙ ap (λ b. is_of_ident cards e || b) (sym is)
+one_more : (cards : List CardRef) (c card : CardRef) → is_of_ident (cards ++ c ∷ []) card ≡ (is_of_ident cards card || bytes_eq c.name card.name)
+one_more cards c card =
+    any_append (λ (r : CardRef). bytes_eq r.name card.name) cards (c ∷ []) ∙ ap (λ b. is_of_ident cards card || b) (or_nothing (bytes_eq c.name card.name))
 
 -- the names that were asked for, as a set in order and as those of cards
-abbrev pub AreAsked : List CardRow → BTreeSet (List ℕ) → Type 0
-AreAsked cards asked = (n : List ℕ) → sorted.contains (slice_cmp nat_cmp) asked n ≡ list_any (λ r. bytes_eq r.card.name n) cards
+abbrev pub AreAsked : List CardRef → BTreeSet (List ℕ) → Type 0
+AreAsked cards asked = (n : List ℕ) → sorted.contains (slice_cmp nat_cmp) asked n ≡ list_any (λ r. bytes_eq r.name n) cards
 
--- the references of cards, as a set in order
-abbrev pub AreReferences : List CardRow → BTreeSet CardRef → Type 0
-AreReferences cards set = (k : CardRef) → sorted.contains by_name set k ≡ list_any (λ r. same_ref r.card k) cards
+-- records of cards, of whatever table
+module _ {A : Type 0} (card_of : A → CardRef) where
+  abbrev pub of_idents : List CardRef → List A → List A
+  of_idents cards rows = filter (λ x. is_of_ident cards (card_of x)) rows
 
-module _ (cards : List CardRow) (i : ℕ) (c : CardRow) (inside : i < length cards) (is : c ≡ get_or cards i c) where
-  next : take (i + 1) cards ≡ take i cards ++ c ∷ []
-  next = take_more cards i c inside ∙ ap (λ x. take i cards ++ x ∷ []) (sym is)
+  abbrev pub of_ident : List ℕ → List A → List A
+  of_ident name rows = filter (λ x. bytes_eq name (card_of x).name) rows
 
-  -- a test of cards that passes what it passed before, and what it passes of one card more
-  known_next : {K : Type 0} (has : CardRow → K → Bool) (before after : K → Bool) → ((k : K) → before k ≡ list_any (λ r. has r k) (take i cards))
-      → ((k : K) → after k ≡ cond (has c k) true (before k)) → (k : K) → after k ≡ list_any (λ r. has r k) (take (i + 1) cards)
-  known_next has before after known put k =
-      put k ∙ ap (cond (has c k) true) (known k) ∙ turn (has c k) (list_any (λ r. has r k) (take i cards))
-      ∙ sym (ap (list_any (λ r. has r k)) next ∙ any_append (λ r. has r k) (take i cards) (c ∷ [])
-      ∙ ap (λ b. list_any (λ r. has r k) (take i cards) || b) (or_nothing (has c k)))
+  pub no_rows : (rows : List A) → IsSame [] (of_idents [] rows)
+  no_rows rows = record { passes = λ test. go test rows }
     where
-      turn : (a b : Bool) → cond a true b ≡ (b || a)
-      turn true true = refl
-      turn true false = refl
-      turn false true = refl
-      turn false false = refl
+      go : (test : A → Bool) (xs : List A) → count_by test [] ≡ count_by test (of_idents [] xs)
+      go test [] = refl
+      go test (x ∷ xs) = go test xs
 
-  pub asked_next : (asked after : BTreeSet (List ℕ)) → AreAsked (take i cards) asked
-      → ((n : List ℕ) → sorted.contains (slice_cmp nat_cmp) after n ≡ cond (is_eq (slice_cmp nat_cmp c.card.name n)) true (sorted.contains (slice_cmp nat_cmp) asked n))
-      → AreAsked (take (i + 1) cards) after
-  asked_next asked after before put =
-      known_next (λ (r : CardRow) (n : List ℕ). bytes_eq r.card.name n) (sorted.contains (slice_cmp nat_cmp) asked) (sorted.contains (slice_cmp nat_cmp) after) before
-      (λ n. put n ∙ ap (λ b. cond b true (sorted.contains (slice_cmp nat_cmp) asked n)) (is_eq-slice_cmp c.card.name n))
-
-  pub references_next : (had has : BTreeSet CardRef) → AreReferences (take i cards) had
-      → ((k : CardRef) → sorted.contains by_name has k ≡ cond (is_eq (by_name c.card k)) true (sorted.contains by_name had k)) → AreReferences (take (i + 1) cards) has
-  references_next had has before put =
-      known_next (λ (r : CardRow) (k : CardRef). same_ref r.card k) (sorted.contains by_name had) (sorted.contains by_name has) before
-      (λ k. put k ∙ ap (λ b. cond b true (sorted.contains by_name had k)) (sym (is_same-is_eq c.card k)))
-
-  pub entries_next : (asked : BTreeSet (List ℕ)) (entries found more : List EntryRow) → AreAsked (take i cards) asked
-      → sorted.contains (slice_cmp nat_cmp) asked c.card.name ≡ false → IsSame found (filter (is_of_ident (take i cards)) entries)
-      → IsSame more (filter (λ e. bytes_eq c.card.name e.card.name) entries) → IsSame (found ++ more) (filter (is_of_ident (take (i + 1) cards)) entries)
-  entries_next asked entries found more are new before own =
-      subst (λ cs. IsSame (found ++ more) (filter (is_of_ident cs) entries)) (sym next)
-      (entries_more (take i cards) c entries found more (sym (are c.card.name) ∙ new) before own)
-
-  pub entries_stay : (asked : BTreeSet (List ℕ)) (entries found : List EntryRow) → AreAsked (take i cards) asked
-      → sorted.contains (slice_cmp nat_cmp) asked c.card.name ≡ true → IsSame found (filter (is_of_ident (take i cards)) entries)
-      → IsSame found (filter (is_of_ident (take (i + 1) cards)) entries)
-  entries_stay asked entries found are old before =
-      subst (λ cs. IsSame found (filter (is_of_ident cs) entries)) (sym next)
-      (entries_known (take i cards) c entries found (sym (are c.card.name) ∙ old) before)
-
-pub no_entries : (entries : List EntryRow) → IsSame [] (filter (is_of_ident []) entries)
-no_entries entries = record { passes = λ test. go test entries }
-  where
-    go : (test : EntryRow → Bool) (es : List EntryRow) → count_by test [] ≡ count_by test (filter (is_of_ident []) es)
-    go test [] = refl
-    go test (e ∷ es) = go test es
-
--- the entries of cards are among those of their idents
-pub entries_kept : (cards : List CardRow) (keep : EntryRow → Bool) (entries found : List EntryRow) → ((e : EntryRow) → keep e ≡ is_of cards e)
-    → IsSame found (filter (is_of_ident cards) entries) → IsSame (filter keep found) (filter (is_of cards) entries)
-entries_kept cards keep entries found kept same = record {
-  passes = λ test.
-      count_filter test keep found ∙ same.passes (λ e. keep e && test e) ∙ count_filter (λ e. keep e && test e) (is_of_ident cards) entries
-      ∙ each test entries ∙ sym (count_filter test (is_of cards) entries);
-}
-  where
-    named : (e : EntryRow) (rs : List CardRow) → is_of rs e ≡ true → is_of_ident rs e ≡ true
-    named e [] some = absurd (cc)
-    named e (r ∷ rs) some = go (bytes_eq r.card.name e.card.name) (r.card.number == e.card.number) some (named e rs)
+  module _ (cards : List CardRef) (i : ℕ) (c : CardRef) (inside : i < length cards) (is : c ≡ get_or cards i c) where
+    pub rows_next : (asked : BTreeSet (List ℕ)) (rows found more : List A) → AreAsked (take i cards) asked
+        → sorted.contains (slice_cmp nat_cmp) asked c.name ≡ false → IsSame found (of_idents (take i cards) rows) → IsSame more (of_ident c.name rows)
+        → IsSame (found ++ more) (of_idents (take (i + 1) cards) rows)
+    rows_next asked rows found more are new before own =
+        subst (λ cs. IsSame (found ++ more) (of_idents cs rows)) (sym (cards_next cards i c inside is))
+        (same_trans (same_append before own)
+        (same_split (λ x. is_of_ident earlier (card_of x)) (λ x. bytes_eq c.name (card_of x).name) (λ x. is_of_ident (earlier ++ c ∷ []) (card_of x)) never
+        (λ x. one_more earlier c (card_of x)) rows))
       where
-        go : (a b : Bool) → ((a && b) || is_of rs e) ≡ true → (is_of rs e ≡ true → is_of_ident rs e ≡ true) → (a || is_of_ident rs e) ≡ true
-        go true b some later = refl
-        go false b some later = later some
+        earlier : List CardRef
+        earlier = take i cards
 
-    one : (e : EntryRow) (t : Bool) → (is_of_ident cards e && (keep e && t)) ≡ (is_of cards e && t)
-    one e t = ap (λ k. is_of_ident cards e && (k && t)) (kept e) ∙ go (is_of_ident cards e) (is_of cards e) (named e cards)
+        never : (x : A) → is_of_ident earlier (card_of x) ≡ true → bytes_eq c.name (card_of x).name ≡ false
+        never x some = go (bytes_eq c.name (card_of x).name) refl
+          where
+            go : (b : Bool) → bytes_eq c.name (card_of x).name ≡ b → b ≡ false
+            go true eq =
+                let same : c.name ≡ (card_of x).name = (bytes_eq-Decides c.name (card_of x).name).0 eq in
+                absurd (let p = sym (sym (are c.name) ∙ new) ∙ ap (λ n. list_any (λ (r : CardRef). bytes_eq r.name n) earlier) same ∙ some in cc)
+            go false eq = refl
+
+    -- those of an ident that was asked for are there
+    pub rows_stay : (asked : BTreeSet (List ℕ)) (rows found : List A) → AreAsked (take i cards) asked
+        → sorted.contains (slice_cmp nat_cmp) asked c.name ≡ true → IsSame found (of_idents (take i cards) rows)
+        → IsSame found (of_idents (take (i + 1) cards) rows)
+    rows_stay asked rows found are old before =
+        subst (λ cs. IsSame found (of_idents cs rows)) (sym (cards_next cards i c inside is))
+        (subst (IsSame found)
+        (Rattle.sqlite_keyed.proofs.ListLemmas.filter_same (λ x. is_of_ident earlier (card_of x)) (λ x. is_of_ident (earlier ++ c ∷ []) (card_of x))
+        (λ x. same (card_of x)) rows) before)
       where
-        go : (a b : Bool) → (b ≡ true → a ≡ true) → (a && (b && t)) ≡ (b && t)
-        go true b in_a = refl
-        go false true in_a = absurd (let p = in_a refl in cc)
-        go false false in_a = refl
+        earlier : List CardRef
+        earlier = take i cards
 
-    each : (test : EntryRow → Bool) (es : List EntryRow) → count_by (λ e. is_of_ident cards e && (keep e && test e)) es ≡ count_by (λ e. is_of cards e && test e) es
-    each test es = ap (λ (f : EntryRow → Bool). count_by f es) (λ j e. one e (test e) j)
+        same : (card : CardRef) → is_of_ident earlier card ≡ is_of_ident (earlier ++ c ∷ []) card
+        same card = go (bytes_eq c.name card.name) refl ∙ sym (one_more earlier c card)
+          where
+            go : (b : Bool) → bytes_eq c.name card.name ≡ b → is_of_ident earlier card ≡ (is_of_ident earlier card || bytes_eq c.name card.name)
+            go true eq =
+                let name : c.name ≡ card.name = (bytes_eq-Decides c.name card.name).0 eq in
+                let there : is_of_ident earlier card ≡ true = sym (ap (λ n. list_any (λ (r : CardRef). bytes_eq r.name n) earlier) name) ∙ sym (are c.name) ∙ old in
+                rw there refl
+            go false eq = sym (or_nothing (is_of_ident earlier card)) ∙ ap (λ b. is_of_ident earlier card || b) (sym eq)
+
+  -- the records of cards are among those of their idents
+  pub rows_kept : (cards : List CardRef) (keep : A → Bool) (rows found : List A) → ((x : A) → keep x ≡ is_asked cards (card_of x))
+      → IsSame found (of_idents cards rows) → IsSame (filter keep found) (filter (λ x. is_asked cards (card_of x)) rows)
+  rows_kept cards keep rows found kept same = record {
+    passes = λ test.
+        count_filter test keep found ∙ same.passes (λ x. keep x && test x)
+        ∙ count_filter (λ x. keep x && test x) (λ x. is_of_ident cards (card_of x)) rows ∙ each test rows
+        ∙ sym (count_filter test (λ x. is_asked cards (card_of x)) rows);
+  }
+    where
+      named : (card : CardRef) (rs : List CardRef) → is_asked rs card ≡ true → is_of_ident rs card ≡ true
+      named card [] some = absurd (cc)
+      named card (r ∷ rs) some = go (bytes_eq r.name card.name) (r.number == card.number) some (named card rs)
+        where
+          go : (a b : Bool) → ((a && b) || is_asked rs card) ≡ true → (is_asked rs card ≡ true → is_of_ident rs card ≡ true) → (a || is_of_ident rs card) ≡ true
+          go true b some later = refl
+          go false b some later = later some
+
+      one : (x : A) (t : Bool) → (is_of_ident cards (card_of x) && (keep x && t)) ≡ (is_asked cards (card_of x) && t)
+      one x t =
+          ap (λ k. is_of_ident cards (card_of x) && (k && t)) (kept x)
+          ∙ go (is_of_ident cards (card_of x)) (is_asked cards (card_of x)) (named (card_of x) cards)
+        where
+          go : (a b : Bool) → (b ≡ true → a ≡ true) → (a && (b && t)) ≡ (b && t)
+          go true b in_a = refl
+          go false true in_a = absurd (let p = in_a refl in cc)
+          go false false in_a = refl
+
+      each : (test : A → Bool) (xs : List A)
+          → count_by (λ x. is_of_ident cards (card_of x) && (keep x && test x)) xs ≡ count_by (λ x. is_asked cards (card_of x) && test x) xs
+      each test xs = ap (λ (f : A → Bool). count_by f xs) (λ j x. one x (test x) j)
+
+-- the names of one card more
+pub asked_next : (cards : List CardRef) (i : ℕ) (c : CardRef) → i < length cards → c ≡ get_or cards i c → (asked after : BTreeSet (List ℕ))
+    → AreAsked (take i cards) asked
+    → ((n : List ℕ) → sorted.contains (slice_cmp nat_cmp) after n ≡ cond (is_eq (slice_cmp nat_cmp c.name n)) true (sorted.contains (slice_cmp nat_cmp) asked n))
+    → AreAsked (take (i + 1) cards) after
+asked_next cards i c inside is asked after before put =
+    known_next cards i c inside is (λ (r : CardRef) (n : List ℕ). bytes_eq r.name n) (sorted.contains (slice_cmp nat_cmp) asked)
+    (sorted.contains (slice_cmp nat_cmp) after) before
+    (λ n. put n ∙ ap (λ b. cond b true (sorted.contains (slice_cmp nat_cmp) asked n)) (is_eq-slice_cmp c.name n))
 
 pub decks_next : (cards : List CardRef) (i : ℕ) (c : CardRef) (rows : List CardRow) (ages found : List ℕ) → i < length cards → c ≡ get_or cards i c
     → AreDecksOf (take i cards) rows ages → IsSame found (map (λ r. r.deck) (filter (λ r. same_ref c r.card) rows))
     → AreDecksOf (take (i + 1) cards) rows (ages ++ found)
 decks_next cards i c rows ages found inside is before more =
-    let next : take (i + 1) cards ≡ take i cards ++ c ∷ [] = take_more cards i c inside ∙ ap (λ x. take i cards ++ x ∷ []) (sym is) in
-    subst (λ cs. AreDecksOf cs rows (ages ++ found)) (sym next) (decks_more (take i cards) c rows ages found before more)
+    subst (λ cs. AreDecksOf cs rows (ages ++ found)) (sym (cards_next cards i c inside is)) (decks_more (take i cards) c rows ages found before more)
 
 -- entries of the same cards
-pub entries_of_same : (cards others : List CardRow) (entries found : List EntryRow) → IsSame cards others → IsSame found (filter (is_of cards) entries)
-    → IsSame found (filter (is_of others) entries)
-entries_of_same cards others entries found same own =
+pub entries_of_same : (cards others : List CardRow) (references : List CardRef) (entries found : List EntryRow) → IsSame cards others
+    → references ≡ map (λ r. r.card) cards → IsSame found (filter (λ e. is_asked references e.card) entries) → IsSame found (filter (is_of others) entries)
+entries_of_same cards others references entries found same are own =
     subst (λ es. IsSame found es)
-    (Rattle.sqlite_keyed.proofs.ListLemmas.filter_same (is_of cards) (is_of others) (λ e. any_same (λ r. same_ref r.card e.card) cards others same) entries) own
+    (Rattle.sqlite_keyed.proofs.ListLemmas.filter_same (λ (e : EntryRow). is_asked references e.card) (is_of others)
+    (λ e. ap (λ cs. is_asked cs e.card) are ∙ any_map (λ (c : CardRef). same_ref c e.card) (λ (r : CardRow). r.card) cards
+    ∙ any_same (λ r. same_ref r.card e.card) cards others same) entries) own

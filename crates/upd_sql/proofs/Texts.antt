@@ -553,11 +553,11 @@ cards_of_deck_unlisted = refl
 abbrev pub entries_of_ident : List ℕ
 entries_of_ident = codes "SELECT ident, num, ord, who, active FROM entries WHERE ident = ?1"
 
-abbrev pub entries_of_ident_tests : List Term
-entries_of_ident_tests = op2 (Compare Eq Binary) (col 1 1) (col 0 0) ∷ []
+abbrev pub ident_tests : List Term
+ident_tests = op2 (Compare Eq Binary) (col 1 1) (col 0 0) ∷ []
 
 pub entries_of_ident_is : command_of (understood library_schema entries_of_ident)
-    ≡ Select (record { lets = []; body = plain_query 6 entries_of_ident_tests all_entries_shown [] })
+    ≡ Select (record { lets = []; body = plain_query 6 ident_tests all_entries_shown [] })
     (codes "ident" ∷ codes "num" ∷ codes "ord" ∷ codes "who" ∷ codes "active" ∷ [])
 unfolding understood everything
 entries_of_ident_is = refl
@@ -569,6 +569,22 @@ entries_of_ident_plain = (refl, refl)
 pub entries_of_ident_unlisted : reads_listing library_schema entries_of_ident ≡ false
 unfolding everything
 entries_of_ident_unlisted = refl
+
+abbrev pub states_of_ident : List ℕ
+states_of_ident = codes "SELECT ident, num, active FROM states WHERE ident = ?1"
+
+pub states_of_ident_is : command_of (understood library_schema states_of_ident)
+    ≡ Select (record { lets = []; body = plain_query 12 ident_tests all_states_shown [] }) (codes "ident" ∷ codes "num" ∷ codes "active" ∷ [])
+unfolding understood everything
+states_of_ident_is = refl
+
+pub states_of_ident_plain : IsPlain (understood library_schema states_of_ident)
+unfolding understood everything
+states_of_ident_plain = (refl, refl)
+
+pub states_of_ident_unlisted : reads_listing library_schema states_of_ident ≡ false
+unfolding everything
+states_of_ident_unlisted = refl
 
 -- ---- how many rows there are
 

@@ -190,11 +190,11 @@ pub looks_more : {X Y Z : Type 0} (F : Rows → X → Type 0) (G : Rows → Y �
     → Looks F a b (Ok x) → Looks G b c (Ok y) → ((it : Rows) → F it x → G it y → H it z) → Looks H a c (Ok z)
 looks_more F G H a b c x y z p q both = looks_as (λ it v. F it x × G it v) H a c y z (λ it h. both it h.0 h.1) (looks_then F G a b c x (Ok y) p q)
 
--- the last look failed
-pub looks_not : {X Y : Type 0} (F : Rows → X → Type 0) (G : Rows → Y → Type 0) (a b : State) (d : Error) (r : Result Y Error) → Looks F a b (Err d) → IsErr r
+-- looks after which something failed
+pub looks_not : {X Y : Type 0} (F : Rows → X → Type 0) (G : Rows → Y → Type 0) (a b : State) (s : Result X Error) (r : Result Y Error) → Looks F a b s → IsErr r
     → Looks G a b r
-looks_not F G a b d (Ok y) p err = absurd (cc)
-looks_not F G a b d (Err e) p err = record {
+looks_not F G a b s (Ok y) p err = absurd (cc)
+looks_not F G a b s (Err e) p err = record {
   steps = record { going = λ clean. tt; kept = p.steps.kept; survives = p.steps.survives };
   was_open = λ clean. tt;
   same = λ clean. tt;

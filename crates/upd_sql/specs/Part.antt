@@ -1,10 +1,16 @@
 -- Rows that are read of some tables or of parts of them.
-use Rattle.std.specs.Prelude.{◌≡◌, ℕ, Bool, List, length}
-use Rattle.std.specs.List.{list_any}
+use Rattle.std.specs.Prelude.{◌≡◌, ℕ, Bool, List, [], ◌∷◌, length, map}
+use Rattle.std.specs.List.{filter, list_any}
 use Rattle.std.specs.Str.{bytes_eq}
-use Rattle.upd_change.specs.Rows.{CardRow, EntryRow, IsSame, Rows}
+use Rattle.sqlite_value.specs.declared.value.Value.TheVariants.{Text}
+use Rattle.sqlite_value.specs.Order.{Row}
+use Rattle.sqlite.specs.State.{State, Shown}
+use Rattle.upd_text.specs.declared.card_ref.CardRef.{CardRef}
+use Rattle.upd_change.specs.Rows.{IsSame, Rows}
 use Rattle.upd_rows.specs.Assembling.{AreRowsOf}
 use Rattle.upd_rows.specs.PartRows.{AreOfDistinctCards, part_rows}
+use Rattle.upd_sql.specs.Listed.{AreInOrder, in_any_order}
+use Rattle.upd_sql.specs.Stands.{Stands}
 use Rattle.upd_sql.specs.declared.active.ActiveRows.{ActiveRows}
 use Rattle.upd_sql.specs.declared.part.Part.{Part}
 
@@ -14,9 +20,15 @@ pub record IsPart (ages : List ℕ) (tables : Rows) (found : Part) : Type 0 wher
   pub cards : found.cards ≡ length tables.cards
   pub entries : found.entries ≡ length tables.entries
 
--- whether an entry is of a card of one of the idents that brought these
-abbrev pub is_of_ident : List CardRow → EntryRow → Bool
-is_of_ident cards e = list_any (λ r. bytes_eq r.card.name e.card.name) cards
+-- whether a card is of one of the idents that brought these
+abbrev pub is_of_ident : List CardRef → CardRef → Bool
+is_of_ident cards card = list_any (λ c. bytes_eq c.name card.name) cards
+
+-- In all states of a store, a text answers the records of the cards that an ident brought.
+pub record AnswersIdents {S A : Type 0} (state_of : S → State) (sql : List ℕ) (stored : A → Row) (listed : Rows → List A) (card_of : A → CardRef) : Type 0 where
+  pub answers : (old new : S) (it : Rows) → Stands it (state_of old).now → (rows : List Row) (ident : List ℕ)
+      → Shown sql (Text ident ∷ []) (state_of old) (state_of new) rows
+      → (us : List A) × (rows ≡ map stored us) × AreInOrder in_any_order (filter (λ x. bytes_eq ident (card_of x).name) (listed it)) us
 
 -- What is read of tables for the active cards: all idents, cards and statuses.
 pub record AreActiveRows (tables : Rows) (found : ActiveRows) : Type 0 where

@@ -4,7 +4,7 @@ ghost use Rattle.std.specs.Prelude.{◌≡◌, false, IfOk, IsTrue, OnOk};
 ghost use Rattle.sqlite.specs.Held.{state};
 ghost use Rattle.sqlite.specs.State.{HasCleanDisk, Survives};
 ghost use Rattle.upd_change.specs.Rows.{Rows};
-ghost use Rattle.upd_rows.specs.Tables.{AreByKey, AreRead, mark_at, run_at};
+ghost use Rattle.upd_rows.specs.Tables.{AreByKey, AreRead, AreReadOf, mark_at, run_at};
 ghost use Rattle.upd_sql.specs.Commits.{MayKeep};
 ghost use Rattle.upd_sql.specs.Schema.{library_schema};
 ghost use Rattle.upd_sql.specs.Stands.{ShowsTables};
@@ -16,7 +16,7 @@ ghost use Rattle.upd_sql.specs.Sizes.{AreOfCommit, HasSizes, sizes_of};
 use crate::active::ActiveRows;
 use crate::part::Part;
 use crate::sizes::Sizes;
-use crate::{active, part, reads, whole};
+use crate::{active, part, reads, statuses, whole};
 use sqlite::{Connection, Error};
 use std::alloc::Global;
 use upd_change::RunRow;
@@ -121,6 +121,36 @@ pub fn kept_states<S: Rising>(conn: &mut Connection<S>, alloc: Global) -> Result
     let _outside = conn.is_autocommit();
     let mut tx = conn.transaction();
     let found = whole::all_states_in(&mut tx, alloc)?;
+    tx.commit()?;
+    Ok(found)
+}
+
+/// The statuses of those of these cards that have one, and the count of each target that a live yank card has, by the
+/// keys of their tables.
+pub fn kept_states_of<S: Rising>(
+    conn: &mut Connection<S>,
+    alloc: Global,
+    cards: &[CardRef],
+) -> Result<States, Error>
+    requires { conn.old.in_transaction ≡ false }
+    ensures outside { conn.new.in_transaction ≡ false }
+    ensures was_open { HasCleanDisk (state S.Store conn.new) → IsTrue (state S.Store conn.new).is_open
+        → IsTrue (state S.Store conn.old).is_open }
+    ensures open { HasCleanDisk (state S.Store conn.new) → OnOk result (IsTrue (state S.Store conn.old).is_open
+        × IsTrue (state S.Store conn.new).is_open) }
+    ensures kept { HasCleanDisk (state S.Store conn.new) → IsTrue (state S.Store conn.new).is_open
+        → (state S.Store conn.old).committed.schema ≡ library_schema
+        → (state S.Store conn.new).committed ≡ (state S.Store conn.old).committed }
+    ensures crash { Survives (state S.Store conn.old) (state S.Store conn.new) (MayKeep (state S.Store conn.old)) }
+    ensures found { HasCleanDisk (state S.Store conn.new) → IfOk result
+        (λ found. (it : Rows) → ShowsTables it (state S.Store conn.old).committed → AreReadOf cards.now it found) }
+    ensures order { HasCleanDisk (state S.Store conn.new) → IfOk result
+        (λ found. (it : Rows) → ShowsTables it (state S.Store conn.old).committed → AreByKey found) }
+{
+    note_settled(conn);
+    let _outside = conn.is_autocommit();
+    let mut tx = conn.transaction();
+    let found = statuses::card_states_in(&mut tx, alloc, cards)?;
     tx.commit()?;
     Ok(found)
 }

@@ -16,6 +16,7 @@ mod record;
 mod schema;
 mod settle;
 mod sizes;
+mod statuses;
 mod values;
 mod whole;
 mod writes;
@@ -25,6 +26,7 @@ pub use changes::make_all;
 pub use commits::commit_changes;
 pub use kept::{
     kept_active, kept_decks_of, kept_library, kept_mark, kept_part, kept_run, kept_states,
+    kept_states_of,
 };
 pub use make::make_library;
 pub use part::Part;

@@ -1,8 +1,7 @@
 //! Parts of the tables: the rows of some decks and cards, and how many rows there are.
 ghost use Rattle.std.specs.Prelude.{◌≡◌, ◌==◌, ◌||◌, ℕ, [], ◌∷◌, List, length, map, IfOk, IfSome};
-ghost use Rattle.std.specs.List.{filter, list_any};
+ghost use Rattle.std.specs.List.{filter};
 ghost use Rattle.std.specs.BTreeSet as sorted;
-ghost use Rattle.std.specs.Str.{bytes_eq};
 ghost use Rattle.sqlite_value.specs.Order.{Row as SqlRow};
 ghost use Rattle.sqlite.specs.Given.{IsPlain};
 ghost use Rattle.sqlite.specs.Held.{state};
@@ -11,27 +10,28 @@ ghost use Rattle.sqlite.specs.State.{HasCleanDisk, Shown};
 ghost use Rattle.upd_text.specs.Order.{by_name};
 ghost use Rattle.upd_text.specs.declared.card_ref.CardRef.{CardRef};
 ghost use Rattle.upd_change.specs.Rows.{IsSame, Rows, same_ref};
-ghost use Rattle.upd_rows.specs.Asked.{AreDecksOf};
+ghost use Rattle.upd_rows.specs.Asked.{AreDecksOf, is_asked};
 ghost use Rattle.upd_rows.specs.Assembling.{AreRowsOf};
-ghost use Rattle.upd_rows.specs.PartRows.{is_loaded, is_of, part_rows};
+ghost use Rattle.upd_rows.specs.PartRows.{is_loaded, part_rows};
 ghost use Rattle.upd_tables.specs.Keyed.{at_most_64};
 ghost use Rattle.upd_sql.specs.Commits.{Looks};
 ghost use Rattle.upd_sql.specs.Encoded.{num};
 ghost use Rattle.upd_sql.specs.Listed.{AreInOrder, by_place, in_any_order};
-ghost use Rattle.upd_sql.specs.Part.{IsPart, is_of_ident};
+ghost use Rattle.upd_sql.specs.Part.{AnswersIdents, IsPart, is_of_ident};
 ghost use Rattle.upd_sql.specs.Schema.{library_schema};
 ghost use Rattle.upd_sql.specs.Sizes.{AreKnown, AreSizesOf, HasSizes, card_tree, entry_tree, sizes_of};
 ghost use Rattle.upd_sql.specs.Stands.{Stands};
 
 use crate::reads::mark_in;
+use crate::record::Record;
 use crate::sizes::Sizes;
 use crate::values::{name, number};
 use crate::whole::{all_of, cards_in, idents_in, rows_of, targets_in};
 use sqlite::{Alter, Error, ErrorCode, Row, Transaction};
 use std::alloc::{AllocError, Global};
 use std::collections::BTreeSet;
-use upd_core::{CardRef, Name, Serial};
-use upd_rows::{CardRow, EntryRow, LibraryRows};
+use upd_core::{CardRef, Serial};
+use upd_rows::{CardRow, EntryRow, LibraryRows, card_set};
 
 /// The last number to which SQLite counts.
 const LAST: u64 = 0x7fff_ffff_ffff_ffff;
@@ -156,56 +156,48 @@ fn cards_of_decks<S: Alter>(
     }
 }
 
-/// The entries of all cards that an ident brought.
-fn entries_of_ident<S: Alter>(
+/// The records of the idents that brought these cards, by a text that answers those of one ident. Each ident is asked for
+/// once.
+pub(crate) fn of_idents<S: Alter, T: Record + Drop>(
     tx: &mut Transaction<'_, S>,
     alloc: Global,
-    ident: &Name,
-) -> Result<Vec<EntryRow>, Error>
+    sql: &str,
+    cards: &[CardRef],
+) -> Result<Vec<T>, Error>
     ensures same_reference { tx.new.conn.ghost_name ≡ tx.old.conn.ghost_name }
-    ensures looks { Looks (λ it found. AreInOrder in_any_order (filter (λ e. bytes_eq ident.now e.card.name) it.entries) found.items)
-        (state S.Store tx.old.conn.now) (state S.Store tx.new.conn.now) result }
-{
-    all_of(
-        tx,
-        alloc,
-        "SELECT ident, num, ord, who, active FROM entries WHERE ident = ?1",
-        &[name(ident)],
-    )
-}
-
-/// The entries of all cards of the idents that brought these: an ident is asked for once.
-fn entries_of_idents<S: Alter>(
-    tx: &mut Transaction<'_, S>,
-    alloc: Global,
-    cards: &[CardRow],
-) -> Result<Vec<EntryRow>, Error>
-    ensures same_reference { tx.new.conn.ghost_name ≡ tx.old.conn.ghost_name }
-    ensures looks { Looks (λ it found. IsSame found.items (filter (is_of_ident cards.now) it.entries))
+    ensures looks { (listed : Rows → List T) (card_of : T → CardRef) → IsPlain (understood library_schema sql.now)
+        → AnswersIdents (state S.Store) sql.now T.stored listed card_of
+        → Looks (λ it found. IsSame found.items (filter (λ x. is_of_ident cards.now (card_of x)) (listed it)))
         (state S.Store tx.old.conn.now) (state S.Store tx.new.conn.now) result }
 {
     look_at_nothing(tx)?;
     let mut asked = BTreeSet::new(alloc);
-    let mut entries = Vec::new(alloc);
-    for row in cards {
-        if asked.insert(row.card.name)? {
-            let found = entries_of_ident(tx, alloc, &row.card.name)?;
-            entries.extend_from_slice(&found)?;
+    let mut found = Vec::new(alloc);
+    for card in cards {
+        if asked.insert(card.name)? {
+            let mut more = all_of(tx, alloc, sql, &[name(&card.name)])?;
+            found.append(&mut more)?;
         }
     }
-    Ok(entries)
+    Ok(found)
 }
 
-/// The references of cards.
-fn references_of(alloc: Global, cards: &[CardRow]) -> Result<BTreeSet<CardRef>, AllocError>
-    ensures { IfOk result (λ set. (card : CardRef) → sorted.contains by_name set card
-        ≡ list_any (λ r. same_ref r.card card) cards.now) }
+/// The entries of all cards of the idents that brought these.
+fn entries_of_idents<S: Alter>(
+    tx: &mut Transaction<'_, S>,
+    alloc: Global,
+    cards: &[CardRef],
+) -> Result<Vec<EntryRow>, Error>
+    ensures same_reference { tx.new.conn.ghost_name ≡ tx.old.conn.ghost_name }
+    ensures looks { Looks (λ it found. IsSame found.items (filter (λ e. is_of_ident cards.now e.card) it.entries))
+        (state S.Store tx.old.conn.now) (state S.Store tx.new.conn.now) result }
 {
-    let mut references = BTreeSet::new(alloc);
-    for row in cards {
-        references.insert(row.card)?;
-    }
-    Ok(references)
+    of_idents(
+        tx,
+        alloc,
+        "SELECT ident, num, ord, who, active FROM entries WHERE ident = ?1",
+        cards,
+    )
 }
 
 /// Takes the entries of other cards away.
@@ -220,15 +212,26 @@ fn keep_entries(entries: &mut Vec<EntryRow>, cards: &BTreeSet<CardRef>)
 fn entries_of_cards<S: Alter>(
     tx: &mut Transaction<'_, S>,
     alloc: Global,
-    cards: &[CardRow],
+    cards: &[CardRef],
 ) -> Result<Vec<EntryRow>, Error>
     ensures same_reference { tx.new.conn.ghost_name ≡ tx.old.conn.ghost_name }
-    ensures looks { Looks (λ it found. IsSame found.items (filter (is_of cards.now) it.entries))
+    ensures looks { Looks (λ it found. IsSame found.items (filter (λ e. is_asked cards.now e.card) it.entries))
         (state S.Store tx.old.conn.now) (state S.Store tx.new.conn.now) result }
 {
     let mut entries = entries_of_idents(tx, alloc, cards)?;
-    keep_entries(&mut entries, &references_of(alloc, cards)?);
+    keep_entries(&mut entries, &card_set(alloc, cards)?);
     Ok(entries)
+}
+
+/// The references of cards.
+fn references_of(alloc: Global, cards: &[CardRow]) -> Result<Vec<CardRef>, AllocError>
+    ensures { IfOk result (λ references. references.items ≡ map (λ r. r.card) cards.now) }
+{
+    let mut references = Vec::with_capacity(alloc, cards.len())?;
+    for row in cards {
+        references.push(row.card)?;
+    }
+    Ok(references)
 }
 
 /// The number that the first row begins with, 0 where there is no row. A count that stands at its last value is refused.
@@ -304,7 +307,8 @@ fn part_rows_in<S: Alter>(
 {
     let idents = idents_in(tx, alloc)?;
     let cards = cards_of_decks(tx, alloc, ages)?;
-    let entries = entries_of_cards(tx, alloc, &cards)?;
+    let references = references_of(alloc, &cards)?;
+    let entries = entries_of_cards(tx, alloc, &references)?;
     let targets = targets_in(tx, alloc)?;
     Ok(LibraryRows {
         idents,

@@ -121,7 +121,7 @@ pub(crate) fn targets_in<S: Alter>(
     )
 }
 
-fn states_in<S: Alter>(
+pub(crate) fn states_in<S: Alter>(
     tx: &mut Transaction<'_, S>,
     alloc: Global,
 ) -> Result<Vec<(CardRef, bool)>, Error>
@@ -132,7 +132,7 @@ fn states_in<S: Alter>(
     all_of(tx, alloc, "SELECT ident, num, active FROM states", &[])
 }
 
-fn counts_in<S: Alter>(
+pub(crate) fn counts_in<S: Alter>(
     tx: &mut Transaction<'_, S>,
     alloc: Global,
 ) -> Result<Vec<(Target, u32)>, Error>
