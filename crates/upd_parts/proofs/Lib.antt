@@ -12,3 +12,6 @@ pub mod PartSoundLemmas
 pub mod LeftLemmas
 pub mod IdleLemmas
 pub mod RenewLemmas
+pub mod PartStatusLemmas
+pub mod AloneLemmas
+pub mod PartLeadLemmas

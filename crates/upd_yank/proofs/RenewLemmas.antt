@@ -17,6 +17,7 @@ use Rattle.upd_core.specs.Library.{CardView, DeckView, LibraryView, all_decks, i
 use Rattle.upd_core.specs.Parts.{part}
 use Rattle.upd_core.specs.Sound.{AreAgedFrom, AreApart, AreRising, IsSound, IsWhole, is_held_deck}
 use Rattle.upd_core.specs.Status.{is_active, live_targets}
+use Rattle.upd_text.specs.declared.card_ref.CardRef.{CardRef}
 use Rattle.upd_yank.proofs.FindLemmas.{any_at}
 use Rattle.upd_yank.proofs.WorkLemmas.{all_map}
 use Rattle.upd_yank.specs.Renewed.{IsAsBefore, anew_or_before, deck_anew, deck_of_age, is_active_deck, renewed}
@@ -182,7 +183,7 @@ walk t f n (i ∷ idents) (d ∷ ds) s each =
 -- ---- the active cards of a deck
 
 -- by kept statuses that are right, the active cards of a deck are its own
-anew_is : (l : LibraryView) (cache : CacheView) (d : DeckView) → IsSound l → IsRight l cache → Contains (all_decks l) d →
+pub anew_is : (l : LibraryView) (cache : CacheView) (d : DeckView) → IsSound l → IsRight l cache → Contains (all_decks l) d →
     deck_anew cache.states l.idents d ≡ active_deck (live_targets l) d
 anew_is l cache d sound right in_decks =
     ap (λ cs. record { ident = d.ident; cards = map without_past cs }) (same d.cards (λ c is. is))
@@ -199,11 +200,13 @@ anew_is l cache d sound right in_decks =
 
 -- ---- all decks
 
-module _ (out : Age → Bool) (old new : LibraryView) (cache : CacheView) (before : IsSound old) (after : IsSound new) (whole : IsWhole new)
-    (right : IsRight new cache) (left : AllByRecursion (IsAsBefore old new) (filter (λ d. out d.ident) new.decks)) where
-  in_all : (k : ℕ) (d : DeckView) → slice_get new.decks k ≡ Some d → Contains (all_decks new) d
-  in_all k d at = at_contained (all_decks new) (suc k) d at
+-- by kept statuses, the active cards of each deck that isn't left out are its own
+abbrev pub AreAnew : (Age → Bool) → LibraryView → List (CardRef × Bool) → Type 0
+AreAnew out new states =
+    (k : ℕ) (d : DeckView) → slice_get new.decks k ≡ Some d → out d.ident ≡ false → deck_anew states new.idents d ≡ active_deck (live_targets new) d
 
+module _ (out : Age → Bool) (old new : LibraryView) (states : List (CardRef × Bool)) (before : IsSound old) (after : IsSound new) (whole : IsWhole new)
+    (anew : AreAnew out new states) (left : AllByRecursion (IsAsBefore old new) (filter (λ d. out d.ident) new.decks)) where
   of_age : (k : ℕ) (d : DeckView) → slice_get new.decks k ≡ Some d → find (is_deck d.ident) new.decks ≡ Some d
   of_age k d at =
       find_only (λ (x : DeckView). x.ident) (is_deck d.ident) new.decks k d (rising_apart (map (λ (x : DeckView). x.ident) new.decks) after.deck_ages.1) at
@@ -231,16 +234,16 @@ module _ (out : Age → Bool) (old new : LibraryView) (cache : CacheView) (befor
               own false f later = let rest = later (rw f at e) in rw f rest
 
   one_deck : (k : ℕ) (d : DeckView) → slice_get new.decks k ≡ Some d →
-      deck_of_age cache.states (part out new) (actives_of old) d.ident ≡ active_deck (live_targets new) d ∷ []
+      deck_of_age states (part out new) (actives_of old) d.ident ≡ active_deck (live_targets new) d ∷ []
   one_deck k d at = go (out d.ident) refl
     where
-      go : (b : Bool) → out d.ident ≡ b → deck_of_age cache.states (part out new) (actives_of old) d.ident ≡ active_deck (live_targets new) d ∷ []
+      go : (b : Bool) → out d.ident ≡ b → deck_of_age states (part out new) (actives_of old) d.ident ≡ active_deck (live_targets new) d ∷ []
       go false e =
-          ap (λ o. anew_or_before (option_map (deck_anew cache.states new.idents) o) (find (is_active_deck d.ident) (actives_of old).decks))
-          (found_kept out d.ident new.decks e ∙ of_age k d at) ∙ ap (λ x. x ∷ []) (anew_is new cache d after right (in_all k d at))
+          ap (λ o. anew_or_before (option_map (deck_anew states new.idents) o) (find (is_active_deck d.ident) (actives_of old).decks))
+          (found_kept out d.ident new.decks e ∙ of_age k d at) ∙ ap (λ x. x ∷ []) (anew k d at e)
       go true e =
           let as_before : IsAsBefore old new d = all_passed (IsAsBefore old new) (λ (d : DeckView). out d.ident) new.decks k d at e left in
-          (λ i. anew_or_before (option_map (deck_anew cache.states new.idents) (none_kept out d.ident new.decks e i)) (was_there d as_before.0 i))
+          (λ i. anew_or_before (option_map (deck_anew states new.idents) (none_kept out d.ident new.decks e i)) (was_there d as_before.0 i))
           ∙ ap (λ x. x ∷ []) as_before.1
 
   stand : Stand 1 new.idents new.decks
@@ -254,7 +257,14 @@ module _ (out : Age → Bool) (old new : LibraryView) (cache : CacheView) (befor
         sym (ap (λ b. b || list_any (is_deck z) new.decks) other) ∙ after.standing whole z h;
   }
 
-  pub renewed_is : renewed cache.states (part out new) (actives_of old) ≡ actives_of new
-  renewed_is = ap (λ ds. record { idents = new.idents; decks = ds })
-      (walk (deck_of_age cache.states (part out new) (actives_of old)) (active_deck (live_targets new)) 1 new.idents new.decks stand
+  pub renewed_by : renewed states (part out new) (actives_of old) ≡ actives_of new
+  renewed_by = ap (λ ds. record { idents = new.idents; decks = ds })
+      (walk (deck_of_age states (part out new) (actives_of old)) (active_deck (live_targets new)) 1 new.idents new.decks stand
       (all_by_index new.decks one_deck))
+
+-- by a cache that is right for all
+pub renewed_is : (out : Age → Bool) (old new : LibraryView) (cache : CacheView) → IsSound old → IsSound new → IsWhole new → IsRight new cache →
+    AllByRecursion (IsAsBefore old new) (filter (λ d. out d.ident) new.decks) → renewed cache.states (part out new) (actives_of old) ≡ actives_of new
+renewed_is out old new cache before after whole right =
+    renewed_by out old new cache.states before after whole
+    (λ k d at stays. anew_is new cache d after right (at_contained (all_decks new) (suc k) d at))

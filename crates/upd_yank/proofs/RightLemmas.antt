@@ -12,7 +12,7 @@ use Rattle.upd_core.specs.Counted.{CountedCardView, counted_card, counted_cards,
 use Rattle.upd_core.specs.declared.target.Target.{Target}
 use Rattle.upd_core.specs.Library.{CardView, LibraryView}
 use Rattle.upd_core.specs.Reach.{is_reached}
-use Rattle.upd_core.specs.Sound.{IsSound}
+use Rattle.upd_core.specs.Sound.{Continues, IsSound}
 use Rattle.upd_core.specs.Status.{IsAged, is_active, live_cards, live_targets, status_of}
 use Rattle.upd_core.specs.TargetCounts.{count_in, count_on, live_count}
 use Rattle.upd_apply.specs.Applying.{touched}
@@ -140,12 +140,12 @@ statuses_right touched was before known l r is =
 before_is : (old new : LibraryView) (cache : CacheView) (run : List CardRef) → IsRunBetween old new cache run → count_in cache.counts ≡ live_count old
 before_is old new cache run between = λ i t. between.right.count t i
 
-untouched_was : (old new : LibraryView) (cache : CacheView) (run : List CardRef) → IsRunBetween old new cache run →
-    AllByRecursion (λ k. is_touched run k ≡ false → status_of k.card old ≡ Some (is_active_by (count_in cache.counts) k.deck k.view)) (counted_cards new)
-untouched_was old new cache run between =
-    all_counted (λ k. is_touched run k ≡ false → status_of k.card old ≡ Some (is_active_by (count_in cache.counts) k.deck k.view)) new
-    (λ d c in_decks in_cards. λ none. untouched_status old new d c between.before between.goes_on in_decks in_cards (rw between.touched at none)
-    ∙ sym (ap (λ (n : Target → ℕ). Some (is_active_by n d.ident c)) (before_is old new cache run between)))
+-- a card that isn't touched was, before a run, what its history says by the counts before it
+untouched_was : (old new : LibraryView) → IsSound old → Continues old.idents new.idents →
+    AllByRecursion (λ k. is_touched (touched old new) k ≡ false → status_of k.card old ≡ Some (is_active_by (live_count old) k.deck k.view)) (counted_cards new)
+untouched_was old new before goes_on =
+    all_counted (λ k. is_touched (touched old new) k ≡ false → status_of k.card old ≡ Some (is_active_by (live_count old) k.deck k.view)) new
+    (λ d c in_decks in_cards. untouched_status old new d c before goes_on in_decks in_cards)
 
 pub known_between : (old new : LibraryView) (cache : CacheView) (run : List CardRef) → IsRunBetween old new cache run →
     IsKnown (is_touched run) (was_active cache.states) (count_in cache.counts) (kept_status cache.states) new
@@ -163,7 +163,11 @@ known_between old new cache run between = record {
     Was k = is_touched run k ≡ false → status_of k.card old ≡ Some (is_active_by before k.deck k.view)
 
     was : AllByRecursion Was (counted_cards new)
-    was = untouched_was old new cache run between
+    was =
+        subst (λ (n : Target → ℕ). AllByRecursion (λ k. is_touched run k ≡ false → status_of k.card old ≡ Some (is_active_by n k.deck k.view))
+        (counted_cards new)) (sym (before_is old new cache run between))
+        (subst (λ cs. AllByRecursion (λ k. is_touched cs k ≡ false → status_of k.card old ≡ Some (is_active_by (live_count old) k.deck k.view))
+        (counted_cards new)) (sym between.touched) (untouched_was old new between.before between.goes_on))
 
     both : (ks : List CountedCardView) → AllByRecursion Was ks → AllByRecursion (HasStatus new (live_count new)) ks →
         AllByRecursion (HadStatus new (is_due (is_touched run) before (live_count new)) (kept_status cache.states)) ks
@@ -204,11 +208,15 @@ least old new before run (k ∷ ks) was = go (is_due (is_touched run) before (li
         ∙ sym (status_is (live_cards new.yanks) k.deck k.view)) in
         absurd (let q = sym f ∙ ap (is_other (is_active (live_targets new) k.deck k.view)) status ∙ same_not (is_active (live_targets new) k.deck k.view) in cc)
 
+-- no more cards are new or differ in status than are affected
+pub least_affected : (old new : LibraryView) → IsSound old → Continues old.idents new.idents →
+    length (altered old new) ≤ length (affected (touched old new) old new)
+least_affected old new before goes_on = least old new (live_count old) (touched old new) (counted_cards new) (untouched_was old new before goes_on)
+
 pub least_work : (old new : LibraryView) (cache : CacheView) (run : List CardRef) → IsRunBetween old new cache run →
     length (altered old new) ≤ length (affected run old new)
 least_work old new cache run between =
-    let fewer = least old new (count_in cache.counts) run (counted_cards new) (untouched_was old new cache run between) in
-    rw (before_is old new cache run between) at fewer
+    subst (λ cs. length (altered old new) ≤ length (affected cs old new)) (sym between.touched) (least_affected old new between.before between.goes_on)
 
 -- ---- what a settling is
 

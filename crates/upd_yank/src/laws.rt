@@ -1,6 +1,6 @@
 //! What the cascade rests on.
 
-ghost use Rattle.std.specs.Prelude.{◌≡◌, ◌↔◌, ℕ, Bool, true, false, Some, List};
+ghost use Rattle.std.specs.Prelude.{◌≡◌, ◌≤◌, ◌↔◌, ℕ, Bool, true, false, Some, List, length};
 ghost use Rattle.std.specs.List.{AllByRecursion, Contains, filter};
 ghost use Rattle.upd_apply.specs.Applying.{touched};
 ghost use Rattle.upd_core.specs.declared.target.Target.{Target};
@@ -13,7 +13,7 @@ ghost use Rattle.upd_core.specs.Sound.{Continues, IsSound, IsWhole};
 ghost use Rattle.upd_core.specs.Parts.{part};
 ghost use Rattle.upd_core.specs.Status.{is_active, status_of, targets_of};
 ghost use Rattle.upd_core.specs.TargetCounts.{count_on, live_count};
-ghost use Rattle.upd_yank.specs.Affected.{is_touched};
+ghost use Rattle.upd_yank.specs.Affected.{affected, altered, is_touched};
 ghost use Rattle.upd_yank.specs.Cascade.{is_active_by};
 ghost use Rattle.upd_yank.specs.Renewed.{IsAsBefore, renewed};
 ghost use Rattle.upd_yank.specs.Right.{CacheView, IsRight};
@@ -32,6 +32,12 @@ pub fn untouched_cards_stood()
         Contains (all_decks new) d → Contains d.cards c → is_touched (touched old new)
         (counted_card new.idents d.ident c) ≡ false →
         status_of (ref_of new.idents c) old ≡ Some (is_active_by (live_count old) d.ident c) }
+{}
+
+/// No more cards are new or differ in status than a run affects.
+pub fn altered_cards_are_affected()
+    ensures { (old new : LibraryView) → IsSound old → Continues old.idents new.idents →
+        length (altered old new) ≤ length (affected (touched old new) old new) }
 {}
 
 /// A card is reached exactly where a target covers it whose count is 0 before or now, and not both.
