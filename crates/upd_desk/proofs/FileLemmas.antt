@@ -26,7 +26,7 @@ none_named common (d ∷ ds) = go (common d) (none_named common ds)
     go true none = none
     go false none = none
 
-module _ (lines : List LineView) (l : LibraryView) (reached : Reached) (run : AppliedRun) (of_run : IsRunOf lines l reached run) where
+module _ (lines : List LineView) (l loaded : LibraryView) (reached : Reached) (run : AppliedRun) (of_run : IsRunOf lines l loaded reached run) where
   -- a quick file of no decks is empty
   pub empty_file : (mode : Mode) → mode ≡ Quick → run.applied.compile.items ≡ []
       → compile_file_of mode reached.compile l reached.library ≡ Ok (record { bytes = []; lines = 0 })

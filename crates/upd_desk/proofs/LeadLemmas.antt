@@ -14,21 +14,21 @@ use Rattle.upd_change.specs.Changes.{ChangeView, IdentNew, IdentPurged, CardNew,
 use Rattle.upd_change.specs.Changes.{StatusNow, CountNow, change_seen, done, done_all}
 use Rattle.upd_change.specs.Fits.{AllFit}
 use Rattle.upd_change.specs.Rows.{Rows, RunView, Shows, ShowsStates}
-use Rattle.upd_change.specs.States.{TakeGone, tells_state}
+use Rattle.upd_change.specs.States.{tells_state}
 use Rattle.upd_change.proofs.FitLemmas.{FitsAny, any_fit, done_append, fit_append}
-use Rattle.upd_change.proofs.TellLemmas.{tells_fits, tells_shows, tells_take}
+use Rattle.upd_change.proofs.TellLemmas.{tells_fits, tells_shows}
 use Rattle.upd_deck.specs.Items.{LineView}
 use Rattle.upd_deck.specs.Reading.{reading}
 use Rattle.upd_apply.specs.Applying.{Reached, applied, touched}
 use Rattle.upd_compile.specs.declared.mode.Mode.{Mode}
 use Rattle.upd_compile.specs.File.{FileView, compile_file_of}
 use Rattle.upd_laws.proofs.SoundListLemmas.{all_weaker, and_left, and_right}
-use Rattle.upd_laws.proofs.SoundRunLemmas.{run_goes, run_sound, run_within}
+use Rattle.upd_laws.proofs.SoundRunLemmas.{run_goes}
 use Rattle.upd_rows.specs.Tables.{committed}
 use Rattle.upd_yank.specs.Affected.{affected, altered}
-use Rattle.upd_yank.specs.Right.{CacheView, IsRight, IsRunBetween}
+use Rattle.upd_yank.proofs.RightLemmas.{least_affected}
 use Rattle.upd_desk.specs.declared.outcome.AppliedRun.{AppliedRun}
-use Rattle.upd_desk.specs.declared.outcome.Outcome.{Outcome}
+use Rattle.upd_desk.specs.declared.outcome.RunOutcome.{RunOutcome}
 use Rattle.upd_desk.specs.Arrivals.{ArrivalView}
 use Rattle.upd_desk.specs.Compiling.{IsOutcomeOf, IsRunOf}
 use Rattle.upd_desk.specs.Holding.{AddsRun}
@@ -106,21 +106,12 @@ pub compiled_is : (mode : Mode) (bytes : List ℕ) (l : LibraryView) (lines : Li
     → compiled mode bytes l ≡ Ok (record { reached = reached; file = file })
 compiled_is mode bytes l lines reached file read is written = rw read (rw is (rw written refl))
 
-module _ (lines : List LineView) (l : LibraryView) (reached : Reached) (run : AppliedRun) (made : IsMade l) (of_run : IsRunOf lines l reached run) where
-  pub between : (cache : CacheView) → IsRight l cache → IsRunBetween l reached.library cache run.applied.touched.items
-  between cache right = record {
-    before = made.sound;
-    after = run_sound lines l reached made.sound of_run.applied;
-    goes_on = run_goes lines l reached of_run.applied;
-    right = right;
-    touched = of_run.touched;
-    few = few_yanks reached.library (run_within lines l reached made.within of_run.applied);
-  }
-
-  pub takes : TakeGone l reached.library (map change_seen run.applied.changes.items)
-  takes =
-      tells_take l reached.library (map change_seen run.applied.changes.items) made.sound (run_sound lines l reached made.sound of_run.applied)
-      (run_goes lines l reached of_run.applied) of_run.told
+module _ (lines : List LineView) (l loaded : LibraryView) (reached : Reached) (run : AppliedRun) (made : IsMade l)
+    (of_run : IsRunOf lines l loaded reached run) where
+  -- no more cards have another status than are affected
+  pub least : length (altered l reached.library) ≤ length (affected (touched l reached.library) l reached.library)
+  least =
+      least_affected l reached.library made.sound (run_goes lines l reached of_run.applied)
 
   pub lead : (settled : List Change) (rows : Rows) → Shows rows l → AllByRecursion (λ c. tells_state c ≡ true) (map change_seen settled)
       → ShowsStates (done_all (map change_seen settled) (done_all (map change_seen run.applied.changes.items) rows)) reached.library
@@ -143,7 +134,7 @@ module _ (lines : List LineView) (l : LibraryView) (reached : Reached) (run : Ap
 -- ---- outcomes
 
 -- what is known of the outcome of a run that is accepted
-pub accepted_outcome : (mode : Mode) (a : ArrivalView) (l : LibraryView) (rows : Rows) (done : Compiled) (changes : List Change) (o : Outcome)
+pub accepted_outcome : (mode : Mode) (a : ArrivalView) (l : LibraryView) (rows : Rows) (done : Compiled) (changes : List Change) (o : RunOutcome)
     → compiled mode a.bytes l ≡ Ok done → o.reply ≡ (outcome_by a l (Ok done)).reply → o.changes.items ≡ changes
     → LeadTo (map change_seen changes) rows done.reached.library → o.work ≡ length (affected (touched l done.reached.library) l done.reached.library)
     → length (altered l done.reached.library) ≤ o.work → IsOutcomeOf mode a l rows o
@@ -156,7 +147,7 @@ accepted_outcome mode a l rows done changes o is reply are leads work least = re
 }
 
 -- what is known of the outcome of a run that is refused
-pub refused_outcome : (mode : Mode) (a : ArrivalView) (l : LibraryView) (rows : Rows) (f : Fault) (o : Outcome) → IsMade l → Shows rows l
+pub refused_outcome : (mode : Mode) (a : ArrivalView) (l : LibraryView) (rows : Rows) (f : Fault) (o : RunOutcome) → IsMade l → Shows rows l
     → ShowsStates rows l → compiled mode a.bytes l ≡ Err f → o.reply ≡ (outcome_by a l (Err f)).reply → o.changes.items ≡ [] → o.work ≡ 0
     → IsOutcomeOf mode a l rows o
 refused_outcome mode a l rows f o made shows states is reply none idle = record {
@@ -168,7 +159,7 @@ refused_outcome mode a l rows f o made shows states is reply none idle = record 
 }
 
 -- the changes of a new run fit the tables of its library, and a commit of them adds the run
-pub outcome_adds : (mode : Mode) (a : ArrivalView) (l : LibraryView) (rows : Rows) (o : Outcome) (cs : List ChangeView) (run : RunView)
+pub outcome_adds : (mode : Mode) (a : ArrivalView) (l : LibraryView) (rows : Rows) (o : RunOutcome) (cs : List ChangeView) (run : RunView)
     → IsOutcomeOf mode a l rows o → map change_seen o.changes.items ≡ cs
     → run ≡ run_of (record { arrival = a; mode = mode; carried = None }) o.reply
     → AllFit cs rows × AddsRun mode a l rows (committed cs run rows)

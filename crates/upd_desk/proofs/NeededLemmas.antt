@@ -1,5 +1,7 @@
 -- A run that was applied to the decks which it needs has been applied to the whole library.
-use Rattle.std.proofs.Common.{◌≡◌, ℕ, Bool, true, false, not, ◌&&◌, if◌then◌else◌, List, map, Result, Ok, Err, inl, inr, refl, ap, sym, ◌∙◌, subst}
+use Rattle.std.proofs.Common.{◌≡◌, ℕ, ◌<◌, ◌^◌, Bool, true, false, not, ◌&&◌, if◌then◌else◌, List, length, map, Result, Ok, Err, inl}
+use Rattle.std.proofs.Common.{refl, ap, sym, ◌∙◌, subst}
+use Rattle.std.specs.Prelude.{◌==◌}
 use Rattle.std.specs.List.{list_any, AllByRecursion}
 use Rattle.upd_text.specs.declared.fault.Fault.{Fault}
 use Rattle.upd_core.specs.Actives.{actives_of}
@@ -7,30 +9,37 @@ use Rattle.upd_core.specs.Edits.{is_among}
 use Rattle.upd_core.specs.Library.{LibraryView}
 use Rattle.upd_core.specs.Parts.{part, part_of}
 use Rattle.upd_core.specs.Sound.{AreApart, IsSound, IsWhole, all_cards, key_of}
-use Rattle.upd_change.specs.Changes.{ChangeView, change_seen}
+use Rattle.upd_change.specs.Changes.{ChangeView, change_seen, done_all}
+use Rattle.upd_change.specs.Rows.{Rows, ShowsStates}
+use Rattle.upd_change.specs.States.{TakeGone}
 use Rattle.upd_change.specs.Told.{Told}
+use Rattle.upd_change.proofs.TellLemmas.{tells_take}
 use Rattle.upd_deck.specs.Items.{LineView}
 use Rattle.upd_apply.specs.Applying.{Reached, applied, touched}
 use Rattle.upd_rows.specs.Asked.{decks_with}
-use Rattle.upd_laws.proofs.SoundRunLemmas.{run_sound, run_whole}
-use Rattle.upd_yank.specs.Enough.{AreIdle}
+use Rattle.upd_laws.proofs.SoundRunLemmas.{run_goes, run_sound, run_whole, run_within}
+use Rattle.upd_yank.specs.Affected.{affected}
+use Rattle.upd_yank.specs.Enough.{IsEnough}
 use Rattle.upd_yank.specs.Renewed.{IsAsBefore, renewed}
-use Rattle.upd_yank.specs.Right.{CacheView, IsRight}
+use Rattle.upd_yank.specs.Right.{CacheView, IsRight, IsRunBetween}
+use Rattle.upd_yank.proofs.EnoughLemmas.{part_of_none}
 use Rattle.upd_yank.proofs.RenewLemmas.{renewed_is}
 use Rattle.upd_parts.specs.Needed.{all_named, decks_needed, is_yank_card}
-use Rattle.upd_parts.specs.Needless.{DoesWithout, IsOnWhole, are_plain, is_left_out, reached_in_part}
+use Rattle.upd_parts.specs.Needless.{DoesWithout, IsOnWhole, NamesNone, are_plain, is_left_out, reached_in_part}
+use Rattle.upd_parts.proofs.AloneLemmas.{affected_in, enough_alone}
 use Rattle.upd_parts.proofs.AppliedLemmas.{applied_same}
 use Rattle.upd_parts.proofs.CountLemmas.{none_left_out, whole_part}
-use Rattle.upd_parts.proofs.IdleLemmas.{idle_in}
 use Rattle.upd_parts.proofs.LeftLemmas.{no_yank_named}
 use Rattle.upd_parts.proofs.NeedLemmas.{others_listed, part_of_others}
 use Rattle.upd_parts.proofs.NeededLemmas.{others_unnamed}
+use Rattle.upd_parts.proofs.PartLeadLemmas.{part_leads}
 use Rattle.upd_parts.proofs.PartSoundLemmas.{part_sound}
-use Rattle.upd_parts.proofs.RenewLemmas.{renewed_in}
+use Rattle.upd_parts.proofs.RenewLemmas.{renewed_alone}
 use Rattle.upd_parts.proofs.WholeLemmas.{on_whole}
 use Rattle.upd_desk.specs.declared.outcome.AppliedRun.{AppliedRun}
 use Rattle.upd_desk.specs.Compiling.{IsRunOf}
 use Rattle.upd_desk.specs.Made.{IsMade}
+use Rattle.upd_desk.proofs.LeadLemmas.{few_yanks}
 
 abbrev here_of : AppliedRun → Reached
 here_of run = record { library = run.library; idents = run.applied.idents.items; compile = run.applied.compile.items }
@@ -49,8 +58,26 @@ renewed_all l new cache sound later whole right =
     (renewed_is (λ z. not (is_among (map (λ d. d.ident) new.decks) z)) l new cache sound later whole right
     (subst (AllByRecursion (IsAsBefore l new)) (sym (none_left_out new)) tt))
 
+-- what the settling of a run stands on where it was applied to a sound library
+between : (lines : List LineView) (m : LibraryView) (run : AppliedRun) → IsSound m → length run.library.yanks < 2 ^ 32 → IsAppliedTo lines m run
+    → (cache : CacheView) → IsRight m cache → IsRunBetween m run.library cache run.applied.touched.items
+between lines m run sound few at cache right = record {
+  before = sound;
+  after = run_sound lines m (here_of run) sound at.is;
+  goes_on = run_goes lines m (here_of run) at.is;
+  right = right;
+  touched = at.touches sound.keys;
+  few = few;
+}
+
+takes : (lines : List LineView) (m : LibraryView) (run : AppliedRun) → IsSound m → IsAppliedTo lines m run
+    → TakeGone m run.library (map change_seen run.applied.changes.items)
+takes lines m run sound at =
+    tells_take m run.library (map change_seen run.applied.changes.items) sound (run_sound lines m (here_of run) sound at.is)
+    (run_goes lines m (here_of run) at.is) at.tells
+
 -- of the whole library
-on_all : (lines : List LineView) (l : LibraryView) (run : AppliedRun) → IsMade l → IsAppliedTo lines l run → (reached : Reached) × IsRunOf lines l reached run
+on_all : (lines : List LineView) (l : LibraryView) (run : AppliedRun) → IsMade l → IsAppliedTo lines l run → (reached : Reached) × IsRunOf lines l l reached run
 on_all lines l run made at = (
   here_of run,
   record {
@@ -59,9 +86,15 @@ on_all lines l run made at = (
     compile = refl;
     directory = refl;
     told = at.tells;
-    touched = at.touches made.sound.keys;
-    enough = inl (refl, whole);
-    renews = λ cache right. renewed_all l run.library cache made.sound (run_sound lines l (here_of run) made.sound at.is) whole right;
+    part = (λ _. false, refl, part_of_none l);
+    settling = record {
+      between = between lines l run made.sound (few_yanks run.library (run_within lines l (here_of run) made.within at.is)) at;
+      enough = inl (refl, whole);
+      takes = takes lines l run made.sound at;
+      looks = ap (λ cards. length (affected cards l run.library)) (at.touches made.sound.keys);
+      leads = λ settled only here rows shows. here rows shows;
+      renews = λ cache right. renewed_all l run.library cache made.sound (run_sound lines l (here_of run) made.sound at.is) whole right;
+    };
   },
 )
   where
@@ -71,7 +104,7 @@ on_all lines l run made at = (
 -- of the decks that hold the cards which it names
 on_named : (lines : List LineView) (l : LibraryView) (run : AppliedRun) → IsMade l → are_plain lines ≡ true
     → list_any (is_yank_card l) (all_named lines) ≡ false → IsAppliedTo lines (part_of (decks_with (all_named lines) l) l) run
-    → (reached : Reached) × IsRunOf lines l reached run
+    → (reached : Reached) × IsRunOf lines l (part_of (decks_with (all_named lines) l) l) reached run
 on_named lines l run made plain none at = by (on_whole ages lines l (here_of run) changes made.sound made.within plain
     (others_unnamed lines l made.sound) at.is at.tells)
   where
@@ -87,56 +120,84 @@ on_named lines l run made plain none at = by (on_whole ages lines l (here_of run
     same : part_of ages l ≡ part out l
     same = part_of_others ages l made.sound
 
-    apart : AreApart (map key_of (all_cards (part_of ages l)))
-    apart = subst (λ (m : LibraryView). AreApart (map key_of (all_cards m))) (sym same) (part_sound out l made.sound).keys
+    sound : IsSound (part out l)
+    sound = part_sound out l made.sound
+
+    here : IsAppliedTo lines (part out l) run
+    here = subst (λ m. IsAppliedTo lines m run) same at
 
     does : DoesWithout out lines l
     does = record { plain = plain; listed = others_listed ages l; cards = others_unnamed lines l made.sound }
 
-    by : IsOnWhole out lines l (here_of run) changes → (reached : Reached) × IsRunOf lines l reached run
-    by on =
-        let touched_is : run.applied.touched.items ≡ touched l on.there.library =
-        at.touches apart ∙ ap (λ (m : LibraryView). touched m run.library) same ∙ sym on.touched in (
-          on.there,
-          record {
-            applied = on.reached;
-            idents = ap (λ (r : Reached). r.idents) on.parted;
-            compile = ap (λ (r : Reached). r.compile) on.parted;
-            directory = ap (λ (r : Reached). r.library.idents) on.parted;
-            told = on.told;
-            touched = touched_is;
-            enough = inr (
-              out,
-              ap (λ (r : Reached). r.library) on.parted,
-              subst (λ cs. AreIdle cs l on.there.library out) (sym touched_is)
-                  (idle_in out lines l on.there made.sound does (no_yank_named lines l none) on.reached),
-            );
-            renews = λ cache right.
-                ap (λ (m : LibraryView). renewed cache.states m (actives_of l)) (ap (λ (r : Reached). r.library) on.parted)
-                ∙ renewed_in out lines l on.there cache made.sound made.whole does (no_yank_named lines l none) on.reached right;
-          },
-        )
+    named : NamesNone (λ d. d == 0) lines l
+    named = no_yank_named lines l none
+
+    by : IsOnWhole out lines l (here_of run) changes → (reached : Reached) × IsRunOf lines l (part_of ages l) reached run
+    by on = (
+      on.there,
+      subst (λ m. IsRunOf lines l m on.there run) (sym same) (record {
+        applied = on.reached;
+        idents = ap (λ (r : Reached). r.idents) on.parted;
+        compile = ap (λ (r : Reached). r.compile) on.parted;
+        directory = ap (λ (r : Reached). r.library.idents) on.parted;
+        told = on.told;
+        part = (out, refl, refl);
+        settling = record {
+          between = between lines (part out l) run sound few here;
+          enough = subst (λ cards. IsEnough cards (part out l) run.library run.library) (sym (here.touches sound.keys))
+              (subst (λ m. IsEnough (touched (part out l) m) (part out l) m m) (sym library)
+              (enough_alone out lines l on.there refl made.sound does named on.reached));
+          takes = takes lines (part out l) run sound here;
+          looks = ap (λ cards. length (affected cards (part out l) run.library)) (here.touches sound.keys ∙ sym on.touched)
+              ∙ ap (λ m. length (affected (touched l on.there.library) (part out l) m)) library
+              ∙ ap length (affected_in out lines l on.there made.sound does named on.reached);
+          leads = λ settled only leads rows shows.
+              part_leads out lines l on.there refl made.sound does named on.reached changes settled
+              (subst (λ m. Told (part out l) m changes) library here.tells) only
+              (subst (λ m. (rows : Rows) → ShowsStates rows (part out l) → ShowsStates (done_all settled (done_all changes rows)) m) library leads) rows shows;
+          renews = λ cache right.
+              ap (λ m. renewed cache.states m (actives_of l)) library
+              ∙ renewed_alone out lines l on.there cache made.sound made.whole does named on.reached (subst (λ m. IsRight m cache) library right);
+        };
+      }),
+    )
+      where
+        library : run.library ≡ part out on.there.library
+        library = ap (λ (r : Reached). r.library) on.parted
+
+        few : length run.library.yanks < 2 ^ 32
+        few = subst (λ (m : LibraryView). length m.yanks < 2 ^ 32) (sym library)
+            (few_yanks on.there.library (run_within lines l on.there made.within on.reached))
 
 pub run_needed : (lines : List LineView) (l found : LibraryView) (run : AppliedRun) → IsMade l → found ≡ part_of (decks_needed lines l) l
     → applied lines found ≡ Ok (record { library = run.library; idents = run.applied.idents.items; compile = run.applied.compile.items })
     → (AreApart (map key_of (all_cards found)) → run.applied.touched.items ≡ touched found run.library)
-    → Told found run.library (map change_seen run.applied.changes.items) → (reached : Reached) × IsRunOf lines l reached run
-run_needed lines l found run made loaded is touches tells = go (are_plain lines) refl (list_any (is_yank_card l) (all_named lines)) refl
-    (subst (λ m. IsAppliedTo lines m run) loaded (record { is = is; touches = touches; tells = tells }))
+    → Told found run.library (map change_seen run.applied.changes.items) → (reached : Reached) × IsRunOf lines l found reached run
+run_needed lines l found run made loaded is touches tells = subst (Ran l) (sym loaded)
+    (go (are_plain lines) refl (list_any (is_yank_card l) (all_named lines)) refl
+    (subst (λ m. IsAppliedTo lines m run) loaded (record { is = is; touches = touches; tells = tells })))
   where
     needed : Bool → Bool → List ℕ
     needed plain yanks = if plain && not yanks then decks_with (all_named lines) l else map (λ d. d.ident) l.decks
 
-    all : (ages : List ℕ) → ages ≡ map (λ d. d.ident) l.decks → IsAppliedTo lines (part_of ages l) run → (reached : Reached) × IsRunOf lines l reached run
-    all ages e at = on_all lines l run made (subst (λ m. IsAppliedTo lines m run) (ap (λ ds. part_of ds l) e ∙ whole_part l) at)
+    Ran : LibraryView → LibraryView → Type 0
+    Ran l m = (reached : Reached) × IsRunOf lines l m reached run
+
+    all : (ages : List ℕ) → ages ≡ map (λ d. d.ident) l.decks → IsAppliedTo lines (part_of ages l) run → Ran l (part_of ages l)
+    all ages e at =
+        let whole : part_of ages l ≡ l = ap (λ ds. part_of ds l) e ∙ whole_part l in
+        subst (Ran l) (sym whole) (on_all lines l run made (subst (λ m. IsAppliedTo lines m run) whole at))
 
     go : (plain : Bool) → are_plain lines ≡ plain → (yanks : Bool) → list_any (is_yank_card l) (all_named lines) ≡ yanks
         → IsAppliedTo lines (part_of (needed (are_plain lines) (list_any (is_yank_card l) (all_named lines))) l) run
-        → (reached : Reached) × IsRunOf lines l reached run
+        → Ran l (part_of (needed (are_plain lines) (list_any (is_yank_card l) (all_named lines))) l)
     go true e true f at = all (needed (are_plain lines) (list_any (is_yank_card l) (all_named lines))) (rw (e, f) refl) at
     go false e yanks f at = all (needed (are_plain lines) (list_any (is_yank_card l) (all_named lines))) (rw e refl) at
-    go true e false f at = on_named lines l run made e f
-        (subst (λ ds. IsAppliedTo lines (part_of ds l) run) (ap (λ b. needed b (list_any (is_yank_card l) (all_named lines))) e ∙ ap (needed true) f) at)
+    go true e false f at =
+        let held = decks_with (all_named lines) l in
+        let ages : needed (are_plain lines) (list_any (is_yank_card l) (all_named lines)) ≡ held =
+        ap (λ b. needed b (list_any (is_yank_card l) (all_named lines))) e ∙ ap (needed true) f in
+        subst (λ ds. Ran l (part_of ds l)) (sym ages) (on_named lines l run made e f (subst (λ ds. IsAppliedTo lines (part_of ds l) run) ages at))
 
 -- a refusal of it is one of the whole
 pub refused_needed : (lines : List LineView) (l found : LibraryView) (f : Fault) → IsMade l → found ≡ part_of (decks_needed lines l) l

@@ -1,25 +1,32 @@
--- Statuses and counts that were read from tables are those of the library that the tables show.
-use Rattle.std.proofs.Common.{◌≡◌, ℕ, ◌==◌, Bool, true, false, ◌&&◌, if◌then◌else◌, List, [], ◌∷◌, length, map, Option, Some, None, count_by}
+-- Statuses and counts that were read from tables for the cards of a part are those of this part of the library that the tables show.
+use Rattle.std.proofs.Common.{◌≡◌, ℕ, ◌==◌, Bool, true, false, ◌&&◌, if◌then◌else◌, List, [], ◌∷◌, ◌||◌, length, map, Option, Some, None, count_by}
 use Rattle.std.proofs.Common.{refl, ap, sym, ◌∙◌, arith}
 use Rattle.std.specs.Cmp.{booleans_Decides}
-use Rattle.std.specs.List.{filter}
+use Rattle.std.specs.List.{filter, list_any}
 use Rattle.std.proofs.Math.Bool.{beq}
 use Rattle.std.proofs.lemmas.Bool.Decides.{nat_tests}
 use Rattle.std.proofs.lemmas.List.Sums.{length-filter}
 use Rattle.upd_text.specs.declared.card_ref.CardRef.{CardRef}
 use Rattle.upd_core.specs.declared.states.States.{States}
 use Rattle.upd_core.specs.declared.target.Target.{Target}
+use Rattle.upd_core.specs.Counted.{counted_cards}
 use Rattle.upd_core.specs.Library.{LibraryView}
+use Rattle.upd_core.specs.Parts.{part}
+use Rattle.upd_core.specs.Sound.{IsSound}
 use Rattle.upd_core.specs.Status.{status_of}
 use Rattle.upd_core.specs.TargetCounts.{live_count}
 use Rattle.upd_core.specs.Targets.{is_same}
 use Rattle.upd_core.proofs.CountedLemmas.{same_target, target_same}
-use Rattle.upd_change.specs.Rows.{IsSame, Rows, ShowsStates, count_rows, same_ref, state_rows}
+use Rattle.upd_change.specs.Rows.{IsSame, Rows, ShowsStates, StateRow, count_rows, same_ref, state_rows}
 use Rattle.upd_change.proofs.CountLemmas.{count_filter}
 use Rattle.upd_change.proofs.GoneLemmas.{same_ref_is, same_ref_own}
-use Rattle.upd_rows.specs.Tables.{AreRead, count_pair, state_pair}
+use Rattle.upd_rows.specs.Asked.{is_asked}
+use Rattle.upd_rows.proofs.AskedLemmas.{filter_made}
+use Rattle.upd_rows.specs.Tables.{AreReadOf, count_pair, state_pair}
+use Rattle.upd_parts.proofs.PartStatusLemmas.{status_in_part}
 use Rattle.upd_yank.specs.Right as right
 use Rattle.upd_yank.specs.Right.{ShowStates}
+use Rattle.upd_desk.specs.Compiling.{IsPartOf, references_of}
 
 -- ---- the same elements as often
 
@@ -51,17 +58,6 @@ module _ {A : Type 0} (test : A → Bool) (xs ys : List A) (same : IsSame xs ys)
       go (x ∷ []) e h = ap (λ z. z ∷ []) (alone x (single x (own x) refl h))
       go (x ∷ z ∷ zs) e h = absurd (omega arith)
 
--- what passes of elements that something was made of
-pub filter_made : {A B : Type 0} (test : B → Bool) (f : A → B) (xs : List A) → filter test (map f xs) ≡ map f (filter (λ x. test (f x)) xs)
-filter_made test f [] = refl
-filter_made {A} {B} test f (x ∷ xs) = go (test (f x)) (filter_made test f xs)
-  where
-    go : (b : Bool) → filter test (map f xs) ≡ map f (filter (λ x. test (f x)) xs)
-        → (if b then f x ∷ filter test (map f xs) else filter test (map f xs))
-        ≡ map f (if b then x ∷ filter (λ x. test (f x)) xs else filter (λ x. test (f x)) xs)
-    go true rest = ap (λ t. f x ∷ t) rest
-    go false rest = rest
-
 -- ---- statuses
 
 both : (a b : Bool) → (a && b) ≡ true → (a ≡ true) × (b ≡ true)
@@ -82,21 +78,62 @@ one_status card active p e =
     pair_is : (a b : CardRef) (x y : Bool) → a ≡ b → x ≡ y → (let p : CardRef × Bool = (a, x) in p) ≡ (b, y)
     pair_is a b x y e f = rw (e, f) refl
 
-states_shown : (rows : Rows) (found : States) (l : LibraryView) → AreRead rows found → ShowsStates rows l
-    → (card : CardRef) → filter (λ p. same_ref card p.0) found.states.items ≡ right.status_pairs card (status_of card l)
-states_shown rows found l read shown card = go (status_of card l) (shown.states card)
+-- the rows of a card among those of the cards that are asked for
+asked_rows : (cards : List CardRef) (card : CardRef) (rows : List StateRow)
+    → filter (λ r. same_ref card r.card) (filter (λ r. is_asked cards r.card) rows)
+    ≡ (if is_asked cards card then filter (λ r. same_ref card r.card) rows else [])
+asked_rows cards card [] = either (is_asked cards card)
+  where
+    either : (b : Bool) → ◌≡◌ {A = List StateRow} [] (if b then [] else [])
+    either true = refl
+    either false = refl
+asked_rows cards card (x ∷ rows) = go (same_ref card x.card) refl (is_asked cards x.card) refl (is_asked cards card) refl (asked_rows cards card rows)
+  where
+    own : same_ref card x.card ≡ true → is_asked cards x.card ≡ is_asked cards card
+    own e = ap (is_asked cards) (sym (same_ref_is card x.card e))
+
+    goal : Type 0
+    goal = filter (λ r. same_ref card r.card) (filter (λ r. is_asked cards r.card) (x ∷ rows))
+        ≡ (if is_asked cards card then filter (λ r. same_ref card r.card) (x ∷ rows) else [])
+
+    go : (s : Bool) → same_ref card x.card ≡ s → (a : Bool) → is_asked cards x.card ≡ a → (b : Bool) → is_asked cards card ≡ b
+        → filter (λ r. same_ref card r.card) (filter (λ r. is_asked cards r.card) rows)
+        ≡ (if is_asked cards card then filter (λ r. same_ref card r.card) rows else []) → goal
+    go false e true f b h later = rw (f, e) (rw h (rw h at later))
+    go false e false f b h later = rw (f, e) (rw h (rw h at later))
+    go true e true f true h later = rw (f, e, h) (ap (λ t. x ∷ t) (rw h at later))
+    go true e true f false h later = absurd (let q = sym f ∙ own e ∙ h in cc)
+    go true e false f true h later = absurd (let q = sym f ∙ own e ∙ h in cc)
+    go true e false f false h later = rw (f, h) (rw h at later)
+
+states_shown : (cards : List CardRef) (rows : Rows) (found : States) (l loaded : LibraryView) → AreReadOf cards rows found → ShowsStates rows l
+    → ((card : CardRef) → status_of card loaded ≡ (if is_asked cards card then status_of card l else None))
+    → (card : CardRef) → filter (λ p. same_ref card p.0) found.states.items ≡ right.status_pairs card (status_of card loaded)
+states_shown cards rows found l loaded read shown own card = go (status_of card loaded) (asked ∙ of_loaded (is_asked cards card) refl)
   where
     test : CardRef × Bool → Bool
     test p = same_ref card p.0
 
-    made : filter test (map state_pair rows.states) ≡ map state_pair (filter (λ r. same_ref card r.card) rows.states)
-    made = filter_made test state_pair rows.states
+    asked : filter (λ r. same_ref card r.card) (filter (λ r. is_asked cards r.card) rows.states)
+        ≡ (if is_asked cards card then filter (λ r. same_ref card r.card) rows.states else [])
+    asked = asked_rows cards card rows.states
 
-    go : (s : Option Bool) → filter (λ r. same_ref card r.card) rows.states ≡ state_rows card s → filter test found.states.items ≡ right.status_pairs card s
-    go None e = none_passes test found.states.items (map state_pair rows.states) read.states (made ∙ ap (map state_pair) e)
+    of_loaded : (b : Bool) → is_asked cards card ≡ b
+        → (if is_asked cards card then filter (λ r. same_ref card r.card) rows.states else []) ≡ state_rows card (status_of card loaded)
+    of_loaded true e = rw e (shown.states card ∙ ap (state_rows card) (sym (rw e at (own card))))
+    of_loaded false e = rw e (ap (state_rows card) (sym (rw e at (own card))))
+
+    made : filter test (map state_pair (filter (λ r. is_asked cards r.card) rows.states))
+        ≡ map state_pair (filter (λ r. same_ref card r.card) (filter (λ r. is_asked cards r.card) rows.states))
+    made = filter_made test state_pair (filter (λ r. is_asked cards r.card) rows.states)
+
+    go : (s : Option Bool) → filter (λ r. same_ref card r.card) (filter (λ r. is_asked cards r.card) rows.states) ≡ state_rows card s
+        → filter test found.states.items ≡ right.status_pairs card s
+    go None e =
+        none_passes test found.states.items (map state_pair (filter (λ r. is_asked cards r.card) rows.states)) read.states (made ∙ ap (map state_pair) e)
     go (Some active) e =
-        one_passes test found.states.items (map state_pair rows.states) read.states (is_status card active) (card, active)
-        (own_status card active) (one_status card active) (made ∙ ap (map state_pair) e)
+        one_passes test found.states.items (map state_pair (filter (λ r. is_asked cards r.card) rows.states)) read.states (is_status card active)
+        (card, active) (own_status card active) (one_status card active) (made ∙ ap (map state_pair) e)
 
 -- ---- counts
 
@@ -117,9 +154,9 @@ one_count target n p e =
     pair_is : (a b : Target) (x y : ℕ) → a ≡ b → x ≡ y → (let p : Target × ℕ = (a, x) in p) ≡ (b, y)
     pair_is a b x y e f = rw (e, f) refl
 
-counts_shown : (rows : Rows) (found : States) (l : LibraryView) → AreRead rows found → ShowsStates rows l
+counts_shown : (cards : List CardRef) (rows : Rows) (found : States) (l : LibraryView) → AreReadOf cards rows found → ShowsStates rows l
     → (target : Target) → filter (λ p. is_same target p.0) found.counts.items ≡ right.count_pairs target (live_count l target)
-counts_shown rows found l read shown target = go (live_count l target) (live_count l target == 0) refl (shown.counts target)
+counts_shown cards rows found l read shown target = go (live_count l target) (live_count l target == 0) refl (shown.counts target)
   where
     test : Target × ℕ → Bool
     test p = is_same target p.0
@@ -139,6 +176,27 @@ counts_shown rows found l read shown target = go (live_count l target) (live_cou
         row : count_rows target n ≡ record { target = target; n = n } ∷ []
         row = rw is refl
 
--- what was read shows the statuses of the library whose statuses the tables show
-pub read_states : (rows : Rows) (found : States) (l : LibraryView) → AreRead rows found → ShowsStates rows l → ShowStates found l
-read_states rows found l read shown = record { states = states_shown rows found l read shown; counts = counts_shown rows found l read shown }
+-- ---- a part of the library
+
+any_made : {A B : Type 0} (test : B → Bool) (f : A → B) (xs : List A) → list_any test (map f xs) ≡ list_any (λ x. test (f x)) xs
+any_made test f [] = refl
+any_made test f (x ∷ xs) = ap (λ b. test (f x) || b) (any_made test f xs)
+
+-- what was read of the cards of a part shows the statuses of this part of the library whose statuses the tables show
+pub read_states : (rows : Rows) (found : States) (l loaded : LibraryView) (cards : List CardRef) → IsSound l → IsPartOf l loaded
+    → cards ≡ references_of loaded → AreReadOf cards rows found → ShowsStates rows l → ShowStates found loaded
+read_states rows found l loaded cards sound (out, zero, is) are read shown = record {
+  states = states_shown cards rows found l loaded read shown own;
+  counts = λ target. counts_shown cards rows found l read shown target
+      ∙ ap (λ (m : LibraryView). right.count_pairs target (live_count m target)) (sym is);
+}
+  where
+    is_asked_by : CardRef → List CardRef → Bool
+    is_asked_by card asked = is_asked asked card
+
+    own : (card : CardRef) → status_of card loaded ≡ (if is_asked cards card then status_of card l else None)
+    own card =
+        ap (status_of card) is ∙ status_in_part out l card sound zero
+        ∙ ap (λ b. if b then status_of card l else None)
+        (sym (any_made (λ c. same_ref c card) (λ k. k.card) (counted_cards (part out l)))
+        ∙ ap (is_asked_by card) (sym (are ∙ ap references_of is)))

@@ -1,36 +1,62 @@
 -- A run as it was applied to what was loaded of a library, and as it is answered.
-use Rattle.std.specs.Prelude.{◌≡◌, ℕ, ◌≤◌, List, [], length, map, Option, Some, None, Ok}
+use Rattle.std.specs.Prelude.{◌≡◌, ℕ, ◌≤◌, Bool, true, false, List, [], length, map, Option, Some, None, Ok}
+use Rattle.std.specs.List.{AllByRecursion}
+use Rattle.upd_text.specs.declared.card_ref.CardRef.{CardRef}
 use Rattle.upd_core.specs.Actives.{ActivesView, actives_of}
+use Rattle.upd_core.specs.Ages.{Age}
+use Rattle.upd_core.specs.Counted.{counted_cards}
 use Rattle.upd_core.specs.Library.{LibraryView}
-use Rattle.upd_change.specs.Changes.{change_seen}
-use Rattle.upd_change.specs.Rows.{Rows}
+use Rattle.upd_core.specs.Parts.{part}
+use Rattle.upd_change.specs.Changes.{ChangeView, change_seen, done_all}
+use Rattle.upd_change.specs.Rows.{Rows, ShowsStates}
+use Rattle.upd_change.specs.States.{TakeGone, tells_state}
 use Rattle.upd_change.specs.Told.{Told}
 use Rattle.upd_deck.specs.Items.{LineView}
 use Rattle.upd_apply.specs.Applying.{Reached, applied, touched}
 use Rattle.upd_compile.specs.File.{FileView}
 use Rattle.upd_compile.specs.declared.mode.Mode.{Mode}
 use Rattle.upd_compile.specs.declared.mode.Mode.TheVariants.{Quick}
-use Rattle.upd_yank.specs.Affected.{altered}
+use Rattle.upd_yank.specs.Affected.{affected, altered}
 use Rattle.upd_yank.specs.Enough.{IsEnough}
 use Rattle.upd_yank.specs.Renewed.{renewed}
-use Rattle.upd_yank.specs.Right.{CacheView, IsRight}
+use Rattle.upd_yank.specs.Right.{CacheView, IsRight, IsRunBetween}
 use Rattle.upd_desk.specs.Arrivals.{ArrivalView}
 use Rattle.upd_desk.specs.Made.{LeadTo, looked_at}
 use Rattle.upd_desk.specs.Outcomes.{Compiled, compiled, outcome}
 use Rattle.upd_desk.specs.declared.outcome.AppliedRun.{AppliedRun}
-use Rattle.upd_desk.specs.declared.outcome.Outcome.{Outcome}
+use Rattle.upd_desk.specs.declared.outcome.RunOutcome.{RunOutcome}
 
--- What is known of a run that was applied to a part of a library: what it reaches from the whole, and that its row changes lead there. It
--- touched the same cards, what it left is enough to settle it, and the active cards are renewed from it.
-pub record IsRunOf (lines : List LineView) (l : LibraryView) (reached : Reached) (run : AppliedRun) : Type 0 where
+-- a part of a library, with `YANK$$$`
+abbrev pub IsPartOf : LibraryView → LibraryView → Type 0
+IsPartOf l loaded = (out : Age → Bool) × (out 0 ≡ false) × (loaded ≡ part out l)
+
+-- the references of all cards, by deck (`YANK$$$` first) and place
+abbrev pub references_of : LibraryView → List CardRef
+references_of l = map (λ k. k.card) (counted_cards l)
+
+-- What is known of the settling of a run on the part of a library to which it was applied: what it stands on there, that as many cards are looked
+-- at as are affected in the whole library, that what leads the statuses of the part leads those of the whole, and that the active cards of the
+-- whole are renewed from it.
+pub record IsSettledAlone (l loaded : LibraryView) (reached : Reached) (run : AppliedRun) : Type 0 where
+  pub between : (cache : CacheView) → IsRight loaded cache → IsRunBetween loaded run.library cache run.applied.touched.items
+  pub enough : IsEnough run.applied.touched.items loaded run.library run.library
+  pub takes : TakeGone loaded run.library (map change_seen run.applied.changes.items)
+  pub looks : length (affected run.applied.touched.items loaded run.library) ≡ length (affected (touched l reached.library) l reached.library)
+  pub leads : (settled : List ChangeView) → AllByRecursion (λ c. tells_state c ≡ true) settled
+      → ((rows : Rows) → ShowsStates rows loaded → ShowsStates (done_all settled (done_all (map change_seen run.applied.changes.items) rows)) run.library)
+      → (rows : Rows) → ShowsStates rows l → ShowsStates (done_all settled (done_all (map change_seen run.applied.changes.items) rows)) reached.library
+  pub renews : (cache : CacheView) → IsRight run.library cache → renewed cache.states run.library (actives_of l) ≡ actives_of reached.library
+
+-- What is known of a run that was applied to a part of a library: what it reaches from the whole, that its row changes lead there, and that it is
+-- settled on that part alone.
+pub record IsRunOf (lines : List LineView) (l loaded : LibraryView) (reached : Reached) (run : AppliedRun) : Type 0 where
   pub applied : applied lines l ≡ Ok reached
   pub idents : run.applied.idents.items ≡ reached.idents
   pub compile : run.applied.compile.items ≡ reached.compile
   pub directory : run.library.idents ≡ reached.library.idents
   pub told : Told l reached.library (map change_seen run.applied.changes.items)
-  pub touched : run.applied.touched.items ≡ touched l reached.library
-  pub enough : IsEnough run.applied.touched.items l reached.library run.library
-  pub renews : (cache : CacheView) → IsRight reached.library cache → renewed cache.states run.library (actives_of l) ≡ actives_of reached.library
+  pub part : IsPartOf l loaded
+  pub settling : IsSettledAlone l loaded reached run
 
 -- an accepted run is seen in what it left and in its file
 pub record IsSeen (done : Compiled) (run : AppliedRun) (file : FileView) : Type 0 where
@@ -44,7 +70,7 @@ AreActivesFor mode named l (Some before) = before ≡ actives_of l
 AreActivesFor mode named l None = (mode ≡ Quick) × (named ≡ [])
 
 -- What is known of the answer to a new run that came to a library which tables show.
-pub record IsOutcomeOf (mode : Mode) (a : ArrivalView) (l : LibraryView) (rows : Rows) (o : Outcome) : Type 0 where
+pub record IsOutcomeOf (mode : Mode) (a : ArrivalView) (l : LibraryView) (rows : Rows) (o : RunOutcome) : Type 0 where
   pub reply : o.reply ≡ (outcome mode a l).reply
   pub leads : LeadTo (map change_seen o.changes.items) rows (outcome mode a l).library
   pub work : o.work ≡ looked_at l (compiled mode a.bytes l)

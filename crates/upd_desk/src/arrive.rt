@@ -88,7 +88,7 @@ fn keep_new<S: RowStore>(
         → length (altered l (outcome mode arrival.now l).library) ≤ answered.work) }
     ensures reads { S.is_honest store.new → OnOk result ((l : LibraryView) → IsMade l → (rows : Rows)
         → S.shows (S.image store.old) rows → Shows rows l
-        → S.reads_of store.new ≤ S.reads_of store.old + length (needed arrival.now.bytes l)) }
+        → S.decks_read_of store.new ≤ S.decks_read_of store.old + length (needed arrival.now.bytes l)) }
     ensures undone { S.is_honest store.new → S.is_open store.new
         → OnErr result (S.image store.new ≡ S.image store.old) }
     ensures lost { IfErr result IsLost }
@@ -130,7 +130,7 @@ pub(crate) fn arrive_at<S: RowStore>(
         ≤ answered.work) }
     ensures reads { S.is_honest store.new → (journal : Journal)
         → (S.is_open store.old → HoldsIn S.shows journal (S.image store.old))
-        → OnOk result (S.reads_of store.new ≤ S.reads_of store.old + length (needed_by journal arrival.now)) }
+        → OnOk result (S.decks_read_of store.new ≤ S.decks_read_of store.old + length (needed_by journal arrival.now)) }
     ensures failed { IfErr result (λ fault. fault.kind ≡ Store
         → MoreFailures (S.failures_of store.old) (S.failures_of store.new)) }
 {

@@ -88,7 +88,7 @@ impl<S: RowStore> Desk<S> {
             ≤ self.new.work) }
         ensures reads { S.is_honest self.new.store → (journal : Journal)
             → (S.is_open self.old.store → HoldsIn S.shows journal (S.image self.old.store))
-            → OnOk result (S.reads_of self.new.store ≤ S.reads_of self.old.store + length (needed_by journal
+            → OnOk result (S.decks_read_of self.new.store ≤ S.decks_read_of self.old.store + length (needed_by journal
             (record { site = site.now; number = number; mode = mode.now; bytes = bytes.now }))) }
         ensures idle { OnErr result (self.new.work ≡ self.old.work) }
         ensures failed { IfErr result (λ fault. fault.kind ≡ Store
@@ -115,7 +115,7 @@ impl<S: RowStore> Desk<S> {
             ≤ self.new.work) }
         ensures reads { S.is_honest self.new.store → (journal : Journal)
             → (S.is_open self.old.store → HoldsIn S.shows journal (S.image self.old.store))
-            → OnOk result (S.reads_of self.new.store ≤ S.reads_of self.old.store
+            → OnOk result (S.decks_read_of self.new.store ≤ S.decks_read_of self.old.store
             + length (needed_by journal arrival.now)) }
         ensures idle { OnErr result (self.new.work ≡ self.old.work) }
         ensures failed { IfErr result (λ fault. fault.kind ≡ Store
@@ -183,7 +183,7 @@ impl<S: RowStore> Desk<S> {
             self.old.store self.new.store }
         ensures same { Keeps S.is_honest S.is_open S.image S.shows S.may_leave S.failures_of
             self.old.store self.new.store }
-        ensures unread { S.reads_of self.new.store ≡ S.reads_of self.old.store }
+        ensures unread { S.decks_read_of self.new.store ≡ S.decks_read_of self.old.store }
         ensures idle { self.new.work ≡ self.old.work }
         ensures failed { IfErr result (λ fault. fault.kind ≡ Store
             → MoreFailures (S.failures_of self.old.store) (S.failures_of self.new.store)) }
@@ -207,7 +207,7 @@ impl<S: RowStore> Desk<S> {
             self.old.store self.new.store }
         ensures reads { S.is_honest self.new.store → (journal : Journal)
             → (S.is_open self.old.store → HoldsIn S.shows journal (S.image self.old.store))
-            → S.reads_of self.new.store ≤ S.reads_of self.old.store + 1 }
+            → S.decks_read_of self.new.store ≤ S.decks_read_of self.old.store + 1 }
         ensures idle { self.new.work ≡ self.old.work }
         ensures failed { IfErr result (λ fault. fault.kind ≡ Store
             → MoreFailures (S.failures_of self.old.store) (S.failures_of self.new.store)) }
@@ -231,7 +231,7 @@ impl<S: RowStore> Desk<S> {
             self.old.store self.new.store }
         ensures reads { S.is_honest self.new.store → (journal : Journal)
             → (S.is_open self.old.store → HoldsIn S.shows journal (S.image self.old.store))
-            → S.reads_of self.new.store ≤ S.reads_of self.old.store + 1 }
+            → S.decks_read_of self.new.store ≤ S.decks_read_of self.old.store + 1 }
         ensures idle { self.new.work ≡ self.old.work }
         ensures failed { IfErr result (λ fault. fault.kind ≡ Store
             → MoreFailures (S.failures_of self.old.store) (S.failures_of self.new.store)) }
@@ -255,7 +255,7 @@ impl<S: RowStore> Desk<S> {
             self.old.store self.new.store }
         ensures reads { S.is_honest self.new.store → (journal : Journal)
             → (S.is_open self.old.store → HoldsIn S.shows journal (S.image self.old.store))
-            → S.reads_of self.new.store ≤ S.reads_of self.old.store }
+            → S.decks_read_of self.new.store ≤ S.decks_read_of self.old.store }
         ensures idle { self.new.work ≡ self.old.work }
         ensures failed { IfErr result (λ fault. fault.kind ≡ Store
             → MoreFailures (S.failures_of self.old.store) (S.failures_of self.new.store)) }
@@ -279,7 +279,7 @@ impl<S: RowStore> Desk<S> {
             self.old.store self.new.store }
         ensures reads { S.is_honest self.new.store → (journal : Journal)
             → (S.is_open self.old.store → HoldsIn S.shows journal (S.image self.old.store))
-            → S.reads_of self.new.store ≤ S.reads_of self.old.store }
+            → S.decks_read_of self.new.store ≤ S.decks_read_of self.old.store }
         ensures idle { self.new.work ≡ self.old.work }
         ensures failed { IfErr result (λ fault. fault.kind ≡ Store
             → MoreFailures (S.failures_of self.old.store) (S.failures_of self.new.store)) }

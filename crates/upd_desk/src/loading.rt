@@ -1,11 +1,12 @@
 //! What of a library is loaded for what is asked of it.
 
-ghost use Rattle.std.specs.Prelude.{◌≡◌, ◌+◌, ◌≤◌, [], ◌∷◌, length, true, IfErr, IfOk, OnOk};
+ghost use Rattle.std.specs.Prelude.{◌≡◌, ◌+◌, ◌≤◌, [], ◌∷◌, ◌++◌, length, map, true, IfErr, IfOk, OnOk};
 ghost use Rattle.std.specs.List.{list_all};
 ghost use Rattle.upd_change.specs.Rows.{Rows, Shows};
 ghost use Rattle.upd_compile.specs.Listings.{card_listing, deck_listing};
 ghost use Rattle.upd_core.specs.Library.{LibraryView};
 ghost use Rattle.upd_core.specs.Parts.{part_of};
+ghost use Rattle.upd_desk.specs.Compiling.{references_of};
 ghost use Rattle.upd_desk.specs.Holding.{HoldsIn};
 ghost use Rattle.upd_desk.specs.Journal.{Journal};
 ghost use Rattle.upd_desk.specs.Made.{IsMade};
@@ -16,8 +17,8 @@ ghost use Rattle.upd_rows.specs.Asked.{decks_with};
 ghost use Rattle.upd_rows.specs.Keeping.{IsLost, Keeps, MoreFailures, reads_after};
 ghost use Rattle.upd_text.specs.declared.fault.FaultKind.TheVariants.{Store};
 
-use std::alloc::Global;
-use upd_core::{CardRef, Library, Name};
+use std::alloc::{AllocError, Global};
+use upd_core::{CardRef, Counted, CountedCard, Library, Name};
 use upd_deck::Run;
 use upd_parts::needs::{cards_named, is_plain, name_yank_card};
 use upd_rows::RowStore;
@@ -33,7 +34,7 @@ pub(crate) fn load_needed<S: RowStore>(
         → S.shows (S.image store.old) rows → Shows rows l → found ≡ part_of (decks_needed run.now l) l) }
     ensures reads { S.is_honest store.new → OnOk result ((l : LibraryView) → IsMade l → (rows : Rows)
         → S.shows (S.image store.old) rows → Shows rows l
-        → S.reads_of store.new ≤ S.reads_of store.old + length (decks_needed run.now l)) }
+        → S.decks_read_of store.new ≤ S.decks_read_of store.old + length (decks_needed run.now l)) }
     ensures open { S.is_honest store.new → OnOk result (S.is_open store.new) }
     ensures same { Keeps S.is_honest S.is_open S.image S.shows S.may_leave S.failures_of store.old store.new }
     ensures lost { IfErr result IsLost }
@@ -53,6 +54,26 @@ pub(crate) fn load_needed<S: RowStore>(
     }
 }
 
+/// The references of all cards that are loaded, by deck (`YANK$$$` first) and place.
+pub(crate) fn references(alloc: Global, library: &Library) -> Result<Vec<CardRef>, AllocError>
+    ensures { IfOk result (λ cards. cards.items ≡ references_of library.now) }
+{
+    let counted = Counted::new(library);
+    let mut cards = Vec::new(alloc);
+    add_references(&mut cards, &counted.yanks(alloc)?)?;
+    add_references(&mut cards, &counted.others(alloc)?)?;
+    Ok(cards)
+}
+
+fn add_references(cards: &mut Vec<CardRef>, counted: &[CountedCard<'_>]) -> Result<(), AllocError>
+    ensures { OnOk result (cards.new.items ≡ cards.old.items ++ map (λ k. k.card) counted.now) }
+{
+    for card in counted {
+        cards.push(card.reference())?;
+    }
+    Ok(())
+}
+
 /// The same for a run that neither yanks nor purges. Where each card that it names stands in a deck, none of them is a
 /// yank card.
 fn load_named<S: RowStore>(store: &mut S, alloc: Global, run: &Run<'_>) -> Result<Library, Fault>
@@ -61,7 +82,7 @@ fn load_named<S: RowStore>(store: &mut S, alloc: Global, run: &Run<'_>) -> Resul
         → S.shows (S.image store.old) rows → Shows rows l → found ≡ part_of (decks_needed run.now l) l) }
     ensures reads { S.is_honest store.new → OnOk result ((l : LibraryView) → IsMade l → (rows : Rows)
         → S.shows (S.image store.old) rows → Shows rows l
-        → S.reads_of store.new ≤ S.reads_of store.old + length (decks_needed run.now l)) }
+        → S.decks_read_of store.new ≤ S.decks_read_of store.old + length (decks_needed run.now l)) }
     ensures open { S.is_honest store.new → OnOk result (S.is_open store.new) }
     ensures same { Keeps S.is_honest S.is_open S.image S.shows S.may_leave S.failures_of store.old store.new }
     ensures lost { IfErr result IsLost }
@@ -94,7 +115,7 @@ fn stand_in_decks<S: RowStore>(
         → S.shows (S.image store.old) rows → Shows rows l → stand ≡ list_all (stands_in_deck l) cards.now) }
     ensures there { S.is_honest store.new → OnOk result ((rows : Rows) → S.shows (S.image store.old) rows
         → S.shows (S.image store.new) rows) }
-    ensures unread { S.reads_of store.new ≡ S.reads_of store.old }
+    ensures unread { S.decks_read_of store.new ≡ S.decks_read_of store.old }
     ensures same { Keeps S.is_honest S.is_open S.image S.shows S.may_leave S.failures_of store.old store.new }
     ensures lost { IfErr result IsLost }
     ensures failed { IfErr result (λ fault. fault.kind ≡ Store
@@ -113,7 +134,7 @@ fn stand_in_decks<S: RowStore>(
 fn stands_in_deck<S: RowStore>(store: &mut S, alloc: Global, card: CardRef) -> Result<bool, Fault>
     ensures found { S.is_honest store.new → IfOk result (λ stands. (l : LibraryView) → IsMade l → (rows : Rows)
         → S.shows (S.image store.old) rows → Shows rows l → stands ≡ stands_in_deck l card) }
-    ensures unread { S.reads_of store.new ≡ S.reads_of store.old }
+    ensures unread { S.decks_read_of store.new ≡ S.decks_read_of store.old }
     ensures open { S.is_honest store.new → OnOk result (S.is_open store.new) }
     ensures same { Keeps S.is_honest S.is_open S.image S.shows S.may_leave S.failures_of store.old store.new }
     ensures lost { IfErr result IsLost }
@@ -140,7 +161,7 @@ fn load_looking<S: RowStore>(
         → S.shows (S.image store.old) rows → Shows rows l → found ≡ part_of (decks_needed run.now l) l) }
     ensures reads { S.is_honest store.new → OnOk result ((l : LibraryView) → IsMade l → (rows : Rows)
         → S.shows (S.image store.old) rows → Shows rows l
-        → S.reads_of store.new ≤ S.reads_of store.old + length (decks_needed run.now l)) }
+        → S.decks_read_of store.new ≤ S.decks_read_of store.old + length (decks_needed run.now l)) }
     ensures open { S.is_honest store.new → OnOk result (S.is_open store.new) }
     ensures same { Keeps S.is_honest S.is_open S.image S.shows S.may_leave S.failures_of store.old store.new }
     ensures lost { IfErr result IsLost }
@@ -172,7 +193,7 @@ pub(crate) fn load_holders<S: RowStore>(
 ) -> Result<Library, Fault>
     ensures found { S.is_honest store.new → IfOk result (λ found. (l : LibraryView) → IsMade l → (rows : Rows)
         → S.shows (S.image store.old) rows → Shows rows l → found ≡ part_of (decks_with cards.now l) l) }
-    ensures reads { S.reads_of store.new ≡ reads_after result (S.reads_of store.old) }
+    ensures reads { S.decks_read_of store.new ≡ reads_after result (S.decks_read_of store.old) }
     ensures open { S.is_honest store.new → OnOk result (S.is_open store.new) }
     ensures same { Keeps S.is_honest S.is_open S.image S.shows S.may_leave S.failures_of store.old store.new }
     ensures lost { IfErr result IsLost }
@@ -200,7 +221,7 @@ pub(crate) fn load_deck_with<S: RowStore>(
         → card_listing card.now found ≡ card_listing card.now l) }
     ensures reads { S.is_honest store.new → (journal : Journal)
         → (S.is_open store.old → HoldsIn S.shows journal (S.image store.old))
-        → S.reads_of store.new ≤ S.reads_of store.old + 1 }
+        → S.decks_read_of store.new ≤ S.decks_read_of store.old + 1 }
     ensures open { S.is_honest store.new → OnOk result (S.is_open store.new) }
     ensures same { Keeps S.is_honest S.is_open S.image S.shows S.may_leave S.failures_of store.old store.new }
     ensures lost { IfErr result IsLost }
@@ -223,7 +244,7 @@ pub(crate) fn load_deck_named<S: RowStore>(
         → S.shows (S.image store.old) rows → Shows rows l → deck_listing name.now found ≡ deck_listing name.now l) }
     ensures reads { S.is_honest store.new → (journal : Journal)
         → (S.is_open store.old → HoldsIn S.shows journal (S.image store.old))
-        → S.reads_of store.new ≤ S.reads_of store.old + 1 }
+        → S.decks_read_of store.new ≤ S.decks_read_of store.old + 1 }
     ensures open { S.is_honest store.new → OnOk result (S.is_open store.new) }
     ensures same { Keeps S.is_honest S.is_open S.image S.shows S.may_leave S.failures_of store.old store.new }
     ensures lost { IfErr result IsLost }

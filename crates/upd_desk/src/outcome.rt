@@ -16,23 +16,22 @@ ghost use Rattle.upd_compile.specs.File.{compile_file_of};
 ghost use Rattle.upd_compile.specs.declared.mode.Mode.{Mode};
 ghost use Rattle.upd_parts.specs.Needed.{decks_needed};
 ghost use Rattle.upd_rows.specs.Keeping.{IsLost, Keeps, MoreFailures};
-ghost use Rattle.upd_rows.specs.Tables.{AreRead};
-ghost use Rattle.upd_yank.specs.Right.{IsRight};
+ghost use Rattle.upd_yank.specs.Right.{IsRight, ShowStates};
 ghost use Rattle.upd_desk.specs.Arrivals.{door};
-ghost use Rattle.upd_desk.specs.Compiling.{AreActivesFor, IsOutcomeOf, IsRunOf, IsSeen};
+ghost use Rattle.upd_desk.specs.Compiling.{AreActivesFor, IsOutcomeOf, IsRunOf, IsSeen, references_of};
 ghost use Rattle.upd_desk.specs.Made.{IsMade};
 ghost use Rattle.upd_desk.specs.Needed.{needed};
 ghost use Rattle.upd_desk.specs.Outcomes.{Compiled, compiled, outcome_by};
 
 use crate::arrival::Arrival;
-use crate::loading::load_needed;
+use crate::loading::{load_needed, references};
 use crate::reply::Reply;
 use std::alloc::{AllocError, Global};
 use upd_apply::{Applied, apply};
 use upd_change::Change;
 use upd_compile::{CompileFile, Mode, compile_active};
 use upd_core::ident::name_at;
-use upd_core::{Actives, Counted, Ident, Library, Serial, States};
+use upd_core::{Actives, CardRef, Counted, Ident, Library, Serial, States};
 use upd_deck::{Run, read_run};
 use upd_rows::RowStore;
 use upd_text::{Fault, FaultKind, Name};
@@ -40,7 +39,7 @@ use upd_yank::Cache;
 
 /// What a new run makes of the library.
 #[derive(Debug, Drop)]
-pub(crate) struct Outcome {
+pub(crate) struct RunOutcome {
     /// The row changes by which a store follows it, in the order in which they are carried out.
     pub(crate) changes: Vec<Change>,
     pub(crate) reply: Reply,
@@ -63,14 +62,14 @@ pub(crate) fn run_outcome<S: RowStore>(
     alloc: Global,
     mode: Mode,
     arrival: &Arrival<'_>,
-) -> Result<Outcome, Fault>
+) -> Result<RunOutcome, Fault>
     requires passed { door arrival.now ≡ Ok mode }
     ensures found { S.is_honest store.new → IfOk result (λ o. (l : LibraryView) → IsMade l → (rows : Rows)
         → S.shows (S.image store.old) rows → Shows rows l → ShowsStates rows l
         → IsOutcomeOf mode arrival.now l rows o) }
     ensures reads { S.is_honest store.new → OnOk result ((l : LibraryView) → IsMade l → (rows : Rows)
         → S.shows (S.image store.old) rows → Shows rows l
-        → S.reads_of store.new ≤ S.reads_of store.old + length (needed arrival.now.bytes l)) }
+        → S.decks_read_of store.new ≤ S.decks_read_of store.old + length (needed arrival.now.bytes l)) }
     ensures same { Keeps S.is_honest S.is_open S.image S.shows S.may_leave S.failures_of store.old store.new }
     ensures lost { IfErr result IsLost }
     ensures failed { IfErr result (λ fault. fault.kind ≡ Store
@@ -95,7 +94,7 @@ fn read_outcome<S: RowStore>(
     mode: Mode,
     arrival: &Arrival<'_>,
     run: &Run<'_>,
-) -> Result<Outcome, Fault>
+) -> Result<RunOutcome, Fault>
     requires passed { door arrival.now ≡ Ok mode }
     requires read { reading arrival.now.bytes ≡ Ok run.now }
     ensures found { S.is_honest store.new → IfOk result (λ o. (l : LibraryView) → IsMade l → (rows : Rows)
@@ -103,7 +102,7 @@ fn read_outcome<S: RowStore>(
         → IsOutcomeOf mode arrival.now l rows o) }
     ensures reads { S.is_honest store.new → OnOk result ((l : LibraryView) → IsMade l → (rows : Rows)
         → S.shows (S.image store.old) rows → Shows rows l
-        → S.reads_of store.new ≤ S.reads_of store.old + length (decks_needed run.now l)) }
+        → S.decks_read_of store.new ≤ S.decks_read_of store.old + length (decks_needed run.now l)) }
     ensures same { Keeps S.is_honest S.is_open S.image S.shows S.may_leave S.failures_of store.old store.new }
     ensures lost { IfErr result IsLost }
     ensures failed { IfErr result (λ fault. fault.kind ≡ Store
@@ -113,8 +112,12 @@ fn read_outcome<S: RowStore>(
         Ok(part) => part,
         Err(fault) => return Err(fault),
     };
+    let cards = match references(alloc, &part) {
+        Ok(cards) => cards,
+        Err(_) => return Err(FaultKind::NoMemory.without_line()),
+    };
     match apply_run(alloc, part, run) {
-        Ok(applied) => match applied_outcome(store, alloc, mode, arrival, applied) {
+        Ok(applied) => match applied_outcome(store, alloc, mode, arrival, &cards, applied) {
             Ok(outcome) => Ok(outcome),
             Err(fault) => Err(fault),
         },
@@ -125,27 +128,30 @@ fn read_outcome<S: RowStore>(
     }
 }
 
-/// The same of a run that was applied: its compile file may still be refused.
+/// The same of a run that was applied: its compile file may still be refused. The cards are those of the part to which
+/// it was applied.
 fn applied_outcome<S: RowStore>(
     store: &mut S,
     alloc: Global,
     mode: Mode,
     arrival: &Arrival<'_>,
+    cards: &[CardRef],
     run: AppliedRun,
-) -> Result<Outcome, Fault>
+) -> Result<RunOutcome, Fault>
     requires passed { door arrival.now ≡ Ok mode }
     ensures found { S.is_honest store.new
-        → IfOk result (λ o. (lines : List LineView) (l : LibraryView) (reached : Reached)
-        → reading arrival.now.bytes ≡ Ok lines → IsMade l → IsRunOf lines l reached run → (rows : Rows)
+        → IfOk result (λ o. (lines : List LineView) (l loaded : LibraryView) (reached : Reached)
+        → reading arrival.now.bytes ≡ Ok lines → IsMade l → IsRunOf lines l loaded reached run
+        → cards.now ≡ references_of loaded → (rows : Rows)
         → S.shows (S.image store.old) rows → Shows rows l → ShowsStates rows l
         → IsOutcomeOf mode arrival.now l rows o) }
-    ensures unread { S.reads_of store.new ≡ S.reads_of store.old }
+    ensures unread { S.decks_read_of store.new ≡ S.decks_read_of store.old }
     ensures same { Keeps S.is_honest S.is_open S.image S.shows S.may_leave S.failures_of store.old store.new }
     ensures lost { IfErr result IsLost }
     ensures failed { IfErr result (λ fault. fault.kind ≡ Store
         → MoreFailures (S.failures_of store.old) (S.failures_of store.new)) }
 {
-    let states = match store.load_states(alloc) {
+    let states = match store.states_of(alloc, cards) {
         Ok(states) => states,
         Err(fault) => return Err(fault),
     };
@@ -169,7 +175,7 @@ fn active_rows<S: RowStore>(
     ensures found { S.is_honest store.new → IfOk result (λ before. (l : LibraryView) → IsMade l → (rows : Rows)
         → S.shows (S.image store.old) rows → Shows rows l → ShowsStates rows l
         → AreActivesFor mode run.now.applied.compile.items l before) }
-    ensures unread { S.reads_of store.new ≡ S.reads_of store.old }
+    ensures unread { S.decks_read_of store.new ≡ S.decks_read_of store.old }
     ensures same { Keeps S.is_honest S.is_open S.image S.shows S.may_leave S.failures_of store.old store.new }
     ensures lost { IfErr result IsLost }
     ensures failed { IfErr result (λ fault. fault.kind ≡ Store
@@ -188,7 +194,7 @@ fn active_rows<S: RowStore>(
 /// Applies a run to the decks that it needs.
 fn apply_run(alloc: Global, part: Library, run: &Run<'_>) -> Result<AppliedRun, Fault>
     ensures ok { (l : LibraryView) → IsMade l → part ≡ part_of (decks_needed run.now l) l
-        → IfOk result (λ applied. (reached : Reached) × IsRunOf run.now l reached applied) }
+        → IfOk result (λ applied. (reached : Reached) × IsRunOf run.now l part reached applied) }
     ensures refused { IfErr result (λ fault. FailsAt fault (applied run.now part)) }
 {
     let mut library = part;
@@ -204,12 +210,12 @@ fn settled_outcome(
     states: &States,
     before: Option<Actives>,
     run: AppliedRun,
-) -> Result<Outcome, Fault>
+) -> Result<RunOutcome, Fault>
     requires passed { door arrival.now ≡ Ok mode }
-    ensures found { IfOk result (λ o. (lines : List LineView) (l : LibraryView) (reached : Reached)
-        → reading arrival.now.bytes ≡ Ok lines → IsMade l → IsRunOf lines l reached run
+    ensures found { IfOk result (λ o. (lines : List LineView) (l loaded : LibraryView) (reached : Reached)
+        → reading arrival.now.bytes ≡ Ok lines → IsMade l → IsRunOf lines l loaded reached run
         → AreActivesFor mode run.applied.compile.items l before → (rows : Rows) → Shows rows l → ShowsStates rows l
-        → AreRead rows states.now → IsOutcomeOf mode arrival.now l rows o) }
+        → ShowStates states.now loaded → IsOutcomeOf mode arrival.now l rows o) }
     ensures lost { IsOkUnless result (fault_at NoMemory 0) }
 {
     let mut cache = Cache::of_rows(alloc, states)?;
@@ -234,13 +240,13 @@ fn file_of(
     before: &Option<Actives>,
     run: &AppliedRun,
 ) -> Result<CompileFile, Fault>
-    ensures ok { (lines : List LineView) (l : LibraryView) (reached : Reached) → IsMade l
-        → IsRunOf lines l reached run.now
-        → AreActivesFor mode run.now.applied.compile.items l before.now → IsRight reached.library cache.now
+    ensures ok { (lines : List LineView) (l loaded : LibraryView) (reached : Reached) → IsMade l
+        → IsRunOf lines l loaded reached run.now
+        → AreActivesFor mode run.now.applied.compile.items l before.now → IsRight run.now.library cache.now
         → IfOk result (λ file. compile_file_of mode reached.compile l reached.library ≡ Ok file) }
-    ensures refused { (lines : List LineView) (l : LibraryView) (reached : Reached) → IsMade l
-        → IsRunOf lines l reached run.now
-        → AreActivesFor mode run.now.applied.compile.items l before.now → IsRight reached.library cache.now
+    ensures refused { (lines : List LineView) (l loaded : LibraryView) (reached : Reached) → IsMade l
+        → IsRunOf lines l loaded reached run.now
+        → AreActivesFor mode run.now.applied.compile.items l before.now → IsRight run.now.library cache.now
         → IfErr result (λ fault. FailsAt fault (compile_file_of mode reached.compile l reached.library)) }
     ensures lost { IfErr result (λ fault. fault.kind ≡ NoMemory → fault.at ≡ 0) }
 {
@@ -267,7 +273,7 @@ fn accepted(
     settled: Vec<Change>,
     file: &CompileFile,
     work: u64,
-) -> Result<Outcome, Fault>
+) -> Result<RunOutcome, Fault>
     ensures reply { (mode : Mode) (l : LibraryView) (done : Compiled) → IsMade l → door arrival.now ≡ Ok mode
         → compiled mode arrival.now.bytes l ≡ Ok done → IsSeen done run file.now
         → IfOk result (λ o. o.reply ≡ (outcome_by arrival.now l (Ok done)).reply) }
@@ -280,7 +286,7 @@ fn accepted(
     let applied = run.applied;
     let mut changes = applied.changes;
     changes.append(&mut settled)?;
-    Ok(Outcome {
+    Ok(RunOutcome {
         changes,
         reply,
         work,
@@ -326,7 +332,7 @@ fn names(alloc: Global, idents: &[Ident], ages: &[Serial]) -> Result<Vec<Name>, 
 }
 
 /// A refused run has a reply and changes nothing. Want of memory is no refusal.
-fn refused(alloc: Global, arrival: &Arrival<'_>, fault: Fault) -> Result<Outcome, Fault>
+fn refused(alloc: Global, arrival: &Arrival<'_>, fault: Fault) -> Result<RunOutcome, Fault>
     ensures reply { (mode : Mode) (l : LibraryView) → door arrival.now ≡ Ok mode
         → IfOk result (λ o. o.reply ≡ (outcome_by arrival.now l (Err fault)).reply) }
     ensures changes { IfOk result (λ o. o.changes.items ≡ []) }
@@ -338,7 +344,7 @@ fn refused(alloc: Global, arrival: &Arrival<'_>, fault: Fault) -> Result<Outcome
         return Err(fault);
     }
     let text = upd_reply::refused(alloc, arrival.site, arrival.number, arrival.mode, fault)?;
-    Ok(Outcome {
+    Ok(RunOutcome {
         changes: Vec::new(alloc),
         reply: Reply {
             accepted: false,

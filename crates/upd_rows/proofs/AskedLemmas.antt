@@ -50,9 +50,9 @@ module _ (cards : List CardRef) (i : ℕ) (c : CardRef) (inside : i < length car
 filter_each : {A : Type 0} (p q : A → Bool) → ((x : A) → p x ≡ q x) → (xs : List A) → filter p xs ≡ filter q xs
 filter_each p q same xs = ap (λ (f : _ → Bool). filter f xs) (λ j x. same x j)
 
-filter_map : {A B : Type 0} (test : B → Bool) (f : A → B) (xs : List A) → filter test (map f xs) ≡ map f (filter (λ x. test (f x)) xs)
-filter_map test f [] = refl
-filter_map test f (x ∷ xs) = go (test (f x)) (filter_map test f xs)
+pub filter_made : {A B : Type 0} (test : B → Bool) (f : A → B) (xs : List A) → filter test (map f xs) ≡ map f (filter (λ x. test (f x)) xs)
+filter_made test f [] = refl
+filter_made test f (x ∷ xs) = go (test (f x)) (filter_made test f xs)
   where
     go : (b : Bool) → filter test (map f xs) ≡ map f (filter (λ x. test (f x)) xs)
         → cond b (f x ∷ filter test (map f xs)) (filter test (map f xs)) ≡ map f (cond b (x ∷ filter (λ x. test (f x)) xs) (filter (λ x. test (f x)) xs))
@@ -66,4 +66,4 @@ pub states_kept : (cards : List CardRef) (set : BTreeSet CardRef) (rows : Rows) 
 states_kept cards set rows all kept of same is =
     subst (λ l. IsSame l (map state_pair (filter (λ r. is_asked cards r.card) rows.states)))
     (sym (is ∙ filter_each (λ (p : CardRef × Bool). sorted.contains by_name set p.0) (λ p. is_asked cards p.0) (λ p. of p.0) all))
-    (subst (IsSame (filter (λ p. is_asked cards p.0) all)) (filter_map (λ p. is_asked cards p.0) state_pair rows.states) same)
+    (subst (IsSame (filter (λ p. is_asked cards p.0) all)) (filter_made (λ p. is_asked cards p.0) state_pair rows.states) same)

@@ -67,7 +67,7 @@ impl RowStore for ListStore {
 
     ghost failures_of = { λ _. 0 };
 
-    ghost reads_of = { λ s. s.decks_read };
+    ghost decks_read_of = { λ s. s.decks_read };
 
     ghost caused = { λ _ _. ⊥ };
 

@@ -44,7 +44,7 @@ pub trait RowStore {
     ghost failures_of: { Self → ℕ };
 
     // How many decks loads have brought.
-    ghost reads_of: { Self → ℕ };
+    ghost decks_read_of: { Self → ℕ };
 
     // What a call met, outside of this program, that answers Store: nothing else may answer so.
     ghost caused: { Self → Self → Type 0 };
@@ -58,7 +58,7 @@ pub trait RowStore {
         ensures lost { IfErr result IsLost }
         ensures failed { IfErr result (λ e. e.kind ≡ Store
             → MoreFailures (failures_of self.old) (failures_of self.new)) }
-        ensures reads { reads_of self.new ≡ reads_after result (reads_of self.old) }
+        ensures reads { decks_read_of self.new ≡ reads_after result (decks_read_of self.old) }
         ensures cause { IfErr result (λ e. e.kind ≡ Store → caused self.old self.new) };
 
     /// The directory, `YANK$$$` and those of these decks that are held; the rest counts what the others have.
@@ -70,7 +70,7 @@ pub trait RowStore {
         ensures lost { IfErr result IsLost }
         ensures failed { IfErr result (λ e. e.kind ≡ Store
             → MoreFailures (failures_of self.old) (failures_of self.new)) }
-        ensures reads { reads_of self.new ≡ reads_after result (reads_of self.old) }
+        ensures reads { decks_read_of self.new ≡ reads_after result (decks_read_of self.old) }
         ensures cause { IfErr result (λ e. e.kind ≡ Store → caused self.old self.new) };
 
     /// The decks other than `YANK$$$` that hold one of these cards, by age, each once.
@@ -82,7 +82,7 @@ pub trait RowStore {
         ensures lost { IfErr result IsLost }
         ensures failed { IfErr result (λ e. e.kind ≡ Store
             → MoreFailures (failures_of self.old) (failures_of self.new)) }
-        ensures unread { reads_of self.new ≡ reads_of self.old }
+        ensures unread { decks_read_of self.new ≡ decks_read_of self.old }
         ensures cause { IfErr result (λ e. e.kind ≡ Store → caused self.old self.new) };
 
     /// The status of each card and the count of each target that a live yank card has, by the keys of their tables.
@@ -96,7 +96,7 @@ pub trait RowStore {
         ensures lost { IfErr result IsLost }
         ensures failed { IfErr result (λ e. e.kind ≡ Store
             → MoreFailures (failures_of self.old) (failures_of self.new)) }
-        ensures unread { reads_of self.new ≡ reads_of self.old }
+        ensures unread { decks_read_of self.new ≡ decks_read_of self.old }
         ensures cause { IfErr result (λ e. e.kind ≡ Store → caused self.old self.new) };
 
     /// The statuses of those of these cards that have one, and the count of each target that a live yank card has, by the
@@ -111,7 +111,7 @@ pub trait RowStore {
         ensures lost { IfErr result IsLost }
         ensures failed { IfErr result (λ e. e.kind ≡ Store
             → MoreFailures (failures_of self.old) (failures_of self.new)) }
-        ensures unread { reads_of self.new ≡ reads_of self.old }
+        ensures unread { decks_read_of self.new ≡ decks_read_of self.old }
         ensures cause { IfErr result (λ e. e.kind ≡ Store → caused self.old self.new) };
 
     /// The directory, and the active cards of each deck other than `YANK$$$` by the table of statuses.
@@ -124,7 +124,7 @@ pub trait RowStore {
         ensures lost { IfErr result IsLost }
         ensures failed { IfErr result (λ e. e.kind ≡ Store
             → MoreFailures (failures_of self.old) (failures_of self.new)) }
-        ensures unread { reads_of self.new ≡ reads_of self.old }
+        ensures unread { decks_read_of self.new ≡ decks_read_of self.old }
         ensures cause { IfErr result (λ e. e.kind ≡ Store → caused self.old self.new) };
 
     /// The run that is kept under a key.
@@ -136,7 +136,7 @@ pub trait RowStore {
         ensures lost { IfErr result IsLost }
         ensures failed { IfErr result (λ e. e.kind ≡ Store
             → MoreFailures (failures_of self.old) (failures_of self.new)) }
-        ensures unread { reads_of self.new ≡ reads_of self.old }
+        ensures unread { decks_read_of self.new ≡ decks_read_of self.old }
         ensures cause { IfErr result (λ e. e.kind ≡ Store → caused self.old self.new) };
 
     /// The number up to which a site has settled, 0 where it never did.
@@ -148,7 +148,7 @@ pub trait RowStore {
         ensures lost { IfErr result IsLost }
         ensures failed { IfErr result (λ e. e.kind ≡ Store
             → MoreFailures (failures_of self.old) (failures_of self.new)) }
-        ensures unread { reads_of self.new ≡ reads_of self.old }
+        ensures unread { decks_read_of self.new ≡ decks_read_of self.old }
         ensures cause { IfErr result (λ e. e.kind ≡ Store → caused self.old self.new) };
 
     /// Carries out row changes and keeps the run that brought them, in one transaction. The changes have to fit the
@@ -166,7 +166,7 @@ pub trait RowStore {
         ensures lost { IfErr result IsLost }
         ensures failed { IfErr result (λ e. e.kind ≡ Store
             → MoreFailures (failures_of self.old) (failures_of self.new)) }
-        ensures unread { reads_of self.new ≡ reads_of self.old }
+        ensures unread { decks_read_of self.new ≡ decks_read_of self.old }
         ensures cause { IfErr result (λ e. e.kind ≡ Store → caused self.old self.new) };
 
     /// Settles a site's runs up to a number, and answers the site's mark afterwards.
@@ -181,7 +181,7 @@ pub trait RowStore {
         ensures lost { IfErr result IsLost }
         ensures failed { IfErr result (λ e. e.kind ≡ Store
             → MoreFailures (failures_of self.old) (failures_of self.new)) }
-        ensures unread { reads_of self.new ≡ reads_of self.old }
+        ensures unread { decks_read_of self.new ≡ decks_read_of self.old }
         ensures cause { IfErr result (λ e. e.kind ≡ Store → caused self.old self.new) };
 
     /// How often the store has failed; it stops at the last value.
@@ -190,7 +190,7 @@ pub trait RowStore {
 
     /// How many decks `load` and `load_decks` have brought, without `YANK$$$`; it stops at the last value.
     fn decks_read(&self) -> u64
-        ensures { result ≡ reads_of self.now };
+        ensures { result ≡ decks_read_of self.now };
 
     // An image shows one set of tables, at most.
     ghost one: { (i : Image) (a b : Rows) → shows i a → shows i b → a ≡ b };

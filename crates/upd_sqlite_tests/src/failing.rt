@@ -55,7 +55,7 @@ impl RowStore for Failing {
 
     ghost failures_of = { λ s. s.failures };
 
-    ghost reads_of = { λ s. s.lists.decks_read };
+    ghost decks_read_of = { λ s. s.lists.decks_read };
 
     ghost caused = { λ _ _. Unit {0} };
 

@@ -50,7 +50,7 @@ impl<S: Rising> RowStore for SqlStore<S> {
 
     ghost failures_of = { λ s. s.failures };
 
-    ghost reads_of = { λ s. s.decks_read };
+    ghost decks_read_of = { λ s. s.decks_read };
 
     ghost caused = { λ _ _. Unit {0} };
 

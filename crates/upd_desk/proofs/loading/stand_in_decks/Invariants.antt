@@ -11,7 +11,7 @@ abbrev pub invariant-loop-card : goal.invariant-loop-card
 invariant-loop-card g l =
     Keeps g.S.RowStore.is_honest g.S.RowStore.is_open g.S.RowStore.image g.S.RowStore.shows g.S.RowStore.may_leave g.S.RowStore.failures_of
     l.initial.store l.store
-    × (g.S.RowStore.reads_of l.store ≡ g.S.RowStore.reads_of l.initial.store)
+    × (g.S.RowStore.decks_read_of l.store ≡ g.S.RowStore.decks_read_of l.initial.store)
     × (g.S.RowStore.is_honest l.store → (rows : Rows) → g.S.RowStore.shows (g.S.RowStore.image l.initial.store) rows
     → g.S.RowStore.shows (g.S.RowStore.image l.store) rows)
     × (g.S.RowStore.is_honest l.store → (v : LibraryView) → IsMade v → (rows : Rows) → g.S.RowStore.shows (g.S.RowStore.image l.initial.store) rows
