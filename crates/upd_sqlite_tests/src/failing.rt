@@ -75,6 +75,10 @@ impl RowStore for Failing {
         self.lists.load_states(alloc)
     }
 
+    fn states_of(&mut self, alloc: Global, cards: &[CardRef]) -> Result<States, Fault> {
+        self.lists.states_of(alloc, cards)
+    }
+
     fn load_active(&mut self, alloc: Global) -> Result<Actives, Fault> {
         self.lists.load_active(alloc)
     }

@@ -83,7 +83,7 @@ fn loads<S: Fresh>(rt: &impl Abort, alloc: Global) -> Result<(), Fail> {
 }
 
 /// Statuses and counts, as they are kept.
-fn states_of(alloc: Global, kept: &States) -> Result<String, Fail> {
+fn lines_of(alloc: Global, kept: &States) -> Result<String, Fail> {
     let mut lines = Vec::new(alloc);
     for (card, active) in &kept.states {
         lines.push(format!(in alloc; "{card} {active}")?)?;
@@ -105,11 +105,17 @@ const CHAIN: [&str; 5] = [
 
 fn counts<S: Fresh>(rt: &impl Abort, alloc: Global) -> Result<(), Fail> {
     let mut store = after::<S>(rt, alloc, &CHAIN)?.desk.close();
-    let states = states_of(alloc, &store.load_states(alloc)?)?;
+    let states = lines_of(alloc, &store.load_states(alloc)?)?;
     assert_eq!(rt;
         states.as_str(),
         "A.1 true\nA.2 true\nA.3 true\nA.4 true\nSet(2): 1\nX.1 false\nY.1 true\nZ.1 false\n"
     );
+    let there = CardRef::read(b"A.2").ok_or("no card")?;
+    let nowhere = CardRef::read(b"Q.1").ok_or("no card")?;
+    let some = lines_of(alloc, &store.states_of(alloc, &[there, nowhere])?)?;
+    assert_eq!(rt; some.as_str(), "A.2 true\nSet(2): 1\n");
+    let many = store.states_of(alloc, &vec![in alloc; there; 10_001]?)?;
+    assert_eq!(rt; lines_of(alloc, &many)?.as_str(), some.as_str());
     Ok(())
 }
 

@@ -14,7 +14,7 @@ use upd_order::Rising;
 use upd_rows::{RowStore, assembled, assembled_active, assembled_rest, decks_by_age, reads_with};
 use upd_sql::{
     Sizes, commit_changes, is_library_schema, kept_active, kept_decks_of, kept_library, kept_mark,
-    kept_part, kept_run, kept_states, settle_site, sizes_after,
+    kept_part, kept_run, kept_states, kept_states_of, settle_site, sizes_after,
 };
 use upd_text::Fault;
 
@@ -107,6 +107,16 @@ impl<S: Rising> RowStore for SqlStore<S> {
             return Err(refused(&mut self.failures));
         }
         match kept_states(&mut self.conn, alloc) {
+            Ok(states) => Ok(states),
+            Err(error) => Err(counted(error, &mut self.failures)),
+        }
+    }
+
+    fn states_of(&mut self, alloc: Global, cards: &[CardRef]) -> Result<States, Fault> {
+        if !is_ours(&self.conn) {
+            return Err(refused(&mut self.failures));
+        }
+        match kept_states_of(&mut self.conn, alloc, cards) {
             Ok(states) => Ok(states),
             Err(error) => Err(counted(error, &mut self.failures)),
         }
