@@ -1,11 +1,12 @@
 //! A library that is changed by runs, each of which a store follows by one commit.
+use crate::check::{same, same_text};
 use crate::tables::{Tables, same_tables};
 use std::alloc::{AllocError, Global};
 use std::process::Abort;
 use std::test::Fail;
 use upd_apply::apply;
 use upd_change::{Change, RunRow};
-use upd_core::{Counted, Library, States};
+use upd_core::{CardRef, Counted, Library, States, Target};
 use upd_deck::read_run;
 use upd_rows::{ListStore, RowStore};
 use upd_text::Fault;
@@ -58,21 +59,50 @@ impl Follower {
 
     /// What the store loads is the library with its statuses and counts.
     pub fn is_followed<S: RowStore>(&self, rt: &impl Abort, store: &mut S) -> Result<(), Fail> {
-        let alloc = self.alloc;
-        let found = cards_of(alloc, &store.load(alloc)?)?;
-        let wanted = cards_of(alloc, &self.library)?;
-        assert_eq!(rt; found.as_str(), wanted.as_str());
-        let tables = Tables::of(alloc, &self.library)?;
-        let States { states, counts } = store.load_states(alloc)?;
-        assert_eq!(rt; sorted(states)?, sorted(tables.statuses(alloc)?)?);
-        assert_eq!(rt; sorted(counts)?, sorted(tables.counted(alloc)?)?);
-        Ok(())
+        let found = loaded_cards(self.alloc, store)?;
+        let wanted = cards_of(self.alloc, &self.library)?;
+        same_text(rt, "the library", found.as_str(), wanted.as_str());
+        let States { states, counts } = loaded_states(self.alloc, store)?;
+        let tables = Tables::of(self.alloc, &self.library)?;
+        has_statuses(rt, states, tables.statuses(self.alloc)?)?;
+        has_counts(rt, counts, tables.counted(self.alloc)?)
     }
 
     /// The tables of the store are those of the library with its statuses and counts, row for row.
     pub fn has_tables(&self, rt: &impl Abort, store: &ListStore) -> Result<(), Fail> {
         same_tables(rt, &self.library, store)
     }
+}
+
+/// What a store loads, printed.
+fn loaded_cards<S: RowStore>(alloc: Global, store: &mut S) -> Result<String, Fail> {
+    let library = store.load(alloc)?;
+    cards_of(alloc, &library)
+}
+
+/// The statuses and counts that a store loads.
+fn loaded_states<S: RowStore>(alloc: Global, store: &mut S) -> Result<States, Fail> {
+    Ok(store.load_states(alloc)?)
+}
+
+/// Statuses are these, in whatever order they stand.
+fn has_statuses(
+    rt: &impl Abort,
+    found: Vec<(CardRef, bool)>,
+    wanted: Vec<(CardRef, bool)>,
+) -> Result<(), Fail> {
+    same(rt, "the statuses", &sorted(found)?, &sorted(wanted)?);
+    Ok(())
+}
+
+/// Counts are these, in whatever order they stand.
+fn has_counts(
+    rt: &impl Abort,
+    found: Vec<(Target, u32)>,
+    wanted: Vec<(Target, u32)>,
+) -> Result<(), Fail> {
+    same(rt, "the counts", &sorted(found)?, &sorted(wanted)?);
+    Ok(())
 }
 
 /// What a library holds, printed: how it finds its cards is left out.

@@ -1,4 +1,5 @@
 //! Decks that are loaded alone, and the active cards that a cache renews from them.
+use crate::check::{same, same_text};
 use crate::follower::Follower;
 use crate::named::{compiled, named};
 use std::alloc::Global;
@@ -33,21 +34,45 @@ fn renewed(alloc: Global, store: &mut ListStore, part: &Library) -> Result<Activ
     Ok(cache.renew(part, &before)?)
 }
 
+/// The active cards of a store before, and those that are renewed from the part of deck B.
+fn before_and_after(alloc: Global, store: &mut ListStore) -> Result<(Actives, Actives), Fail> {
+    let part = store.load_decks(alloc, &[2])?;
+    let before = store.load_active(alloc)?;
+    let after = renewed(alloc, store, &part)?;
+    Ok((before, after))
+}
+
+/// The cards and entries of the decks other than deck B.
+fn rest_of_part(alloc: Global, store: &mut ListStore) -> Result<(usize, usize), Fail> {
+    let part = store.load_decks(alloc, &[2])?;
+    Ok((part.rest().cards, part.rest().entries))
+}
+
+/// Renewed active cards are those of the store, and compile as they do.
+fn are_renewed(
+    rt: &impl Abort,
+    alloc: Global,
+    before: &Actives,
+    after: &Actives,
+) -> Result<(), Fail> {
+    let wanted = "1: A.1 X.1 A.2 A.3 A.4\n2: B.1 B.2\n";
+    same_text(rt, "before", named(alloc, before)?.as_str(), wanted);
+    same_text(rt, "after", named(alloc, after)?.as_str(), wanted);
+    let lines = "X             1|A             2|A             3|A             4|B             2|";
+    same_text(
+        rt,
+        "the file",
+        compiled(alloc, after, before)?.as_str(),
+        lines,
+    );
+    Ok(())
+}
+
 #[test]
 fn active_cards_are_renewed_from_a_part(rt: HostRuntime) -> Result<(), Fail> {
     let alloc = rt.alloc();
     let mut store = changed(&rt, alloc)?;
-    let part = store.load_decks(alloc, &[2])?;
-    assert_eq!(rt; part.rest().cards, 5);
-    assert_eq!(rt; part.rest().entries, 5);
-    let before = store.load_active(alloc)?;
-    let wanted = "1: A.1 X.1 A.2 A.3 A.4\n2: B.1 B.2\n";
-    assert_eq!(rt; named(alloc, &before)?.as_str(), wanted);
-    let renewed = renewed(alloc, &mut store, &part)?;
-    assert_eq!(rt; named(alloc, &renewed)?.as_str(), wanted);
-    assert_eq!(rt;
-        compiled(alloc, &renewed, &before)?.as_str(),
-        "X             1|A             2|A             3|A             4|B             2|"
-    );
-    Ok(())
+    same(&rt, "the rest", &rest_of_part(alloc, &mut store)?, &(5, 5));
+    let (before, after) = before_and_after(alloc, &mut store)?;
+    are_renewed(&rt, alloc, &before, &after)
 }

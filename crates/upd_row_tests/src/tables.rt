@@ -1,5 +1,7 @@
 //! The tables of a library, made anew from its cards, beside those of a store over lists.
+use crate::check::same;
 use std::alloc::Global;
+use std::fmt::Debug;
 use std::mem;
 use std::process::Abort;
 use std::test::Fail;
@@ -21,25 +23,36 @@ pub struct Tables {
 impl Tables {
     /// The tables of a library with its statuses and counts, as its histories tell them.
     pub fn of(alloc: Global, library: &Library) -> Result<Tables, Fail> {
-        let mut tables = Tables {
-            idents: Vec::from_slice(alloc, library.idents())?,
+        let idents = Vec::from_slice(alloc, library.idents())?;
+        let mut tables = Tables::with(alloc, idents);
+        tables.add_all(library, &library.live_yanks()?)?;
+        Ok(tables)
+    }
+
+    /// Tables of idents alone.
+    fn with(alloc: Global, idents: Vec<Ident>) -> Tables {
+        Tables {
+            idents,
             cards: Vec::new(alloc),
             entries: Vec::new(alloc),
             targets: Vec::new(alloc),
             states: Vec::new(alloc),
             counts: Vec::new(alloc),
-        };
-        let live = library.live_yanks()?;
-        tables.add_cards(library, &live, 0, library.yanks())?;
+        }
+    }
+
+    /// The rows of each deck's cards, and the counts of what live yank cards name.
+    fn add_all(&mut self, library: &Library, live: &Live<'_>) -> Result<(), Fail> {
+        self.add_cards(library, live, 0, library.yanks())?;
         for deck in library.decks() {
-            tables.add_cards(library, &live, deck.ident, &deck.cards)?;
+            self.add_cards(library, live, deck.ident, &deck.cards)?;
         }
         for card in library.yanks() {
             if live.is_active(0, card) {
-                tables.count(&card.targets)?;
+                self.count(&card.targets)?;
             }
         }
-        Ok(tables)
+        Ok(())
     }
 
     fn add_cards(
@@ -123,12 +136,16 @@ impl Tables {
 /// The tables of a store are those of the library, in whatever order their rows stand.
 pub fn same_tables(rt: &impl Abort, library: &Library, store: &ListStore) -> Result<(), Fail> {
     let alloc = library.allocator();
-    let wanted = Tables::of(alloc, library)?;
-    let tables = store.tables();
-    let found = printed_rows(alloc, &format!(in alloc; "{tables:?}")?)?;
-    let wanted = printed_rows(alloc, &format!(in alloc; "{wanted:?}")?)?;
-    assert_eq!(rt; found, wanted);
+    let found = rows_of(alloc, store.tables())?;
+    let wanted = rows_of(alloc, &Tables::of(alloc, library)?)?;
+    same(rt, "the tables", &found, &wanted);
     Ok(())
+}
+
+/// The rows of tables, printed and in order.
+fn rows_of<T: Debug>(alloc: Global, tables: &T) -> Result<Vec<String>, Fail> {
+    let text = format!(in alloc; "{tables:?}")?;
+    printed_rows(alloc, text.as_str())
 }
 
 /// The rows of printed tables, but for those of runs, in order. A row is what stands in braces within brackets within
