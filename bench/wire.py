@@ -37,7 +37,7 @@ class Server:
     def __init__(self, upd, file, count):
         self.process = subprocess.Popen([upd, "serve", file, f"127.0.0.1:{PORT}", str(count)], stderr=subprocess.PIPE)
         self.count = count
-        for _ in range(200):
+        for _ in range(3000):
             sockets = [line.split() for line in Path("/proc/net/tcp").read_text().splitlines()[1:]]
             if any(words[1].endswith(f":{PORT:04X}") and words[3] == "0A" for words in sockets):
                 return
