@@ -38,16 +38,16 @@ impl Model for CompileFile {
 /// decks that the run named for the file. CallUnknown, CallDepth or CompileLong, at 0, where the walk meets one first.
 pub fn compile_file(
     alloc: Global,
-    after: &Library,
     before: &Library,
+    after: &Library,
     mode: Mode,
     named: &[Serial],
 ) -> Result<CompileFile, Fault>
     ensures { GivesAt (λ f. f) result (compile_file_of mode named.now before.now after.now) }
 {
-    let after = after.actives_shown()?;
     let before = before.actives_shown()?;
-    compile_shown(alloc, &after, &before, mode, named)
+    let after = after.actives_shown()?;
+    compile_shown(alloc, &before, &after, mode, named)
 }
 
 /// A quick compile file of no decks is empty, whatever the libraries hold: a run that calls for none needs no active
@@ -60,22 +60,22 @@ pub fn quick_file_of_no_decks_is_empty()
 /// The compile file of the active cards after a run and before it, as `compile_file` makes it of libraries.
 pub fn compile_active(
     alloc: Global,
-    after: &Actives,
     before: &Actives,
+    after: &Actives,
     mode: Mode,
     named: &[Serial],
 ) -> Result<CompileFile, Fault>
     ensures { GivesAt (λ f. f) result (file_of mode named.now before.now after.now) }
 {
-    let after = after.shown()?;
     let before = before.shown()?;
-    compile_shown(alloc, &after, &before, mode, named)
+    let after = after.shown()?;
+    compile_shown(alloc, &before, &after, mode, named)
 }
 
 fn compile_shown(
     alloc: Global,
-    after: &ActivesRef,
     before: &ActivesRef,
+    after: &ActivesRef,
     mode: Mode,
     named: &[Serial],
 ) -> Result<CompileFile, Fault>

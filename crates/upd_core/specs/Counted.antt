@@ -8,7 +8,7 @@ use Rattle.upd_core.specs.Library.{CardView, LibraryView, ref_of}
 -- A library, and how many histories of it have been read.
 pub record CountedView : Type 0 where
   pub library : LibraryView
-  pub reads : ℕ
+  pub histories_read : ℕ
 
 -- A card with its reference and the age of its deck.
 pub record CountedCardView : Type 0 where
@@ -18,7 +18,7 @@ pub record CountedCardView : Type 0 where
 
 -- one read more, up to the last value
 abbrev pub one_more : CountedView → CountedView
-one_more c = record c { reads = min (c.reads + 1) (2 ^ 64 - 1) }
+one_more c = record c { histories_read = min (c.histories_read + 1) (2 ^ 64 - 1) }
 
 -- a card of deck d
 abbrev pub counted_card : List Ident → ℕ → CardView → CountedCardView

@@ -24,7 +24,7 @@ use upd_text::{CardRef, Fault};
 #[derive(Drop)]
 pub struct Counted<'a> {
     library: &'a Library,
-    reads: u64,
+    histories_read: u64,
 }
 
 impl<'a> Model for Counted<'a> {
@@ -32,7 +32,7 @@ impl<'a> Model for Counted<'a> {
 
     ghost Value = { CountedView };
 
-    ghost view = { λ c. record { library = c.library.now; reads = c.reads } };
+    ghost view = { λ c. record { library = c.library.now; histories_read = c.histories_read } };
 }
 
 /// A card of a counted library: its reference, its deck and its targets are known, its history is read through the
@@ -102,16 +102,19 @@ fn has_retaken(before: &TargetCounts, now: &TargetCounts, deck: Serial, history:
 impl<'a> Counted<'a> {
     /// A library of which no history has been read.
     pub fn new(library: &'a Library) -> Counted<'a>
-        ensures { result ≡ record { library = library.now; reads = 0 } }
+        ensures { result ≡ record { library = library.now; histories_read = 0 } }
     {
-        Counted { library, reads: 0 }
+        Counted {
+            library,
+            histories_read: 0,
+        }
     }
 
     /// How many histories have been read, up to the last value.
-    pub fn reads(&self) -> u64
-        ensures { result ≡ self.now.reads }
+    pub fn histories_read(&self) -> u64
+        ensures { result ≡ self.now.histories_read }
     {
-        self.reads
+        self.histories_read
     }
 
     /// What the decks hold that aren't loaded: nothing in a whole library.
@@ -135,7 +138,7 @@ impl<'a> Counted<'a> {
     fn count_read(&mut self)
         ensures { self.new ≡ one_more self.old }
     {
-        self.reads = self.reads.saturating_add(1);
+        self.histories_read = self.histories_read.saturating_add(1);
     }
 
     /// The cards that a target covers, by deck (`YANK$$$` first) and place; memory alone can fail.

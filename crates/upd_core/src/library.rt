@@ -246,8 +246,8 @@ impl Library {
         ensures err { IsOkUnless result (fault_at NoMemory 0) }
     {
         let alloc = *self.idents.allocator();
-        let (_, live) = swept(alloc, &self.yanks)?;
-        let decks = active_decks(alloc, &live, self.decks())?;
+        let (_, targets) = swept(alloc, &self.yanks)?;
+        let decks = active_decks(alloc, &targets, self.decks())?;
         Ok(ActivesRef {
             idents: &self.idents,
             decks,

@@ -253,7 +253,7 @@ fn file_of(
     match before {
         Some(before) => {
             let after = cache.renew(&run.library, before)?;
-            match compile_active(alloc, &after, before, mode, &run.applied.compile) {
+            match compile_active(alloc, before, &after, mode, &run.applied.compile) {
                 Ok(file) => Ok(file),
                 Err(fault) => Err(fault),
             }

@@ -117,7 +117,7 @@ impl Plain {
         let run = read_run(alloc, sent.text.as_bytes())?;
         let mut after = self.library.copy()?;
         let applied = apply(alloc, &mut after, &run)?;
-        let file = compile_file(alloc, &after, &self.library, mode, &applied.compile)?;
+        let file = compile_file(alloc, &self.library, &after, mode, &applied.compile)?;
         let text = accepted_text(alloc, sent, after.idents(), &applied.idents, &file)?;
         let mut cache = Cache::build(alloc, &self.library)?;
         cache.settle(&mut Counted::new(&after), &applied)?;

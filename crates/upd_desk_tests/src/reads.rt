@@ -150,7 +150,7 @@ fn renews(
         shown(alloc, &before)?.as_str()
     );
     assert_eq!(rt;
-        compiled(alloc, &renewed, &before)?.as_str(),
+        compiled(alloc, &before, &renewed)?.as_str(),
         "X             1|A             2|A             3|A             4|B             2|"
     );
     Ok(())

@@ -180,11 +180,11 @@ fn one_run(rt: HostRuntime) -> Result<(), Fail> {
             apply(alloc, &mut after, &run)?
         }
     };
-    let file = match compile_file(alloc, &after, &before, Mode::Full, &applied.compile) {
+    let file = match compile_file(alloc, &before, &after, Mode::Full, &applied.compile) {
         Ok(file) => file,
         Err(fault) => {
             is_memory(&rt, fault);
-            compile_file(alloc, &after, &before, Mode::Full, &applied.compile)?
+            compile_file(alloc, &before, &after, Mode::Full, &applied.compile)?
         }
     };
     assert!(&rt; file.lines == 4 && file.bytes.len() == 388);

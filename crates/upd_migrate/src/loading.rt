@@ -16,7 +16,7 @@ use crate::version::{Version, version_in};
 use sqlite::{Connection, Error};
 use std::alloc::Global;
 use upd_core::Library;
-use upd_order::{Rising, note_settled};
+use upd_order::{Rising, note_order_outside};
 use upd_rows::{LibraryRows, assembled};
 use upd_sql::library_in;
 use upd_store::{fault_of, store_at};
@@ -38,7 +38,7 @@ fn rows_of<S: Rising>(
     ensures found { HasCleanDisk (state S.Store conn.new) → IfOk result (λ found. (it : Rows)
         → ShowsAs version it (state S.Store conn.old).committed → AreRowsOf it found) }
 {
-    note_settled(conn);
+    note_order_outside(conn);
     let _outside = conn.is_autocommit();
     let mut tx = conn.transaction();
     complete(&mut tx, version)?;

@@ -11,7 +11,7 @@ use crate::filling::fill;
 use crate::version::{Version, version_in};
 use sqlite::{Connection, Error};
 use std::alloc::Global;
-use upd_order::{Rising, note_settled};
+use upd_order::{Rising, note_order_outside};
 use upd_store::{fault_of, store_at};
 use upd_text::Fault;
 
@@ -32,7 +32,7 @@ fn migrate_from<S: Rising>(
     ensures crash { Survives (state S.Store conn.old) (state S.Store conn.new)
         (MayMigrateFrom version (state S.Store conn.old)) }
 {
-    note_settled(conn);
+    note_order_outside(conn);
     let _outside = conn.is_autocommit();
     let mut tx = conn.transaction();
     fill(&mut tx, alloc, version)?;

@@ -38,7 +38,7 @@ pub fn note_order<S: Rising>(conn: &Connection<S>)
 }
 
 /// Tells that the tables are in order as they stand, where no transaction is open. It reads nothing.
-pub fn note_settled<S: Rising>(conn: &Connection<S>)
+pub fn note_order_outside<S: Rising>(conn: &Connection<S>)
     ensures { (state S.Store conn.now).in_transaction ≡ false → IsTrue (state S.Store conn.now).is_open
         → TablesRise (state S.Store conn.now).now }
 {

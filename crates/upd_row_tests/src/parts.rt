@@ -62,7 +62,7 @@ fn are_renewed(
     same_text(
         rt,
         "the file",
-        compiled(alloc, after, before)?.as_str(),
+        compiled(alloc, before, after)?.as_str(),
         lines,
     );
     Ok(())

@@ -10,7 +10,7 @@ use Rattle.upd_rows.specs.Tables.{is_mark_of, mark_at, settled_to}
 use Rattle.upd_tables.specs.Steps.{Steps, Makes}
 use Rattle.upd_tables.proofs.Chains.{clean_before, steps_then}
 use Rattle.upd_sql.specs.Commits.{LeavesTables}
-use Rattle.upd_sql.specs.Parts.{with_runs_settled}
+use Rattle.upd_sql.specs.RowEdits.{with_runs_settled}
 use Rattle.upd_sql.specs.Stands.{Stands, AnyTables}
 
 low : (n m : ℕ) → n ≤ m → nat_le n m ≡ true

@@ -1,7 +1,7 @@
 pub mod Schema
 pub mod Encoded
 pub mod Stands
-pub mod Parts
+pub mod RowEdits
 pub mod Commits
 pub mod Listed
 pub mod Part

@@ -14,7 +14,7 @@ use crate::changes::make_all;
 use crate::writes::insert_run;
 use sqlite::{Connection, Error};
 use upd_change::{Change, RunRow};
-use upd_order::{Rising, note_settled};
+use upd_order::{Rising, note_order_outside};
 
 /// Carries out row changes and keeps the run that brought them, all or nothing.
 pub fn commit_changes<S: Rising>(
@@ -38,7 +38,7 @@ pub fn commit_changes<S: Rising>(
         → (n : Sizes) → HasSizes n (state S.Store conn.old).committed.trees
         → HasSizes (sized_all (map change_seen changes.now) n) (state S.Store conn.new).committed.trees) }
 {
-    note_settled(conn);
+    note_order_outside(conn);
     let _outside = conn.is_autocommit();
     let mut tx = conn.transaction();
     make_all(&mut tx, changes)?;

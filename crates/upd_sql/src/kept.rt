@@ -21,7 +21,7 @@ use sqlite::{Connection, Error};
 use std::alloc::Global;
 use upd_change::RunRow;
 use upd_core::{CardRef, Serial, States};
-use upd_order::{Rising, note_settled};
+use upd_order::{Rising, note_order_outside};
 use upd_rows::LibraryRows;
 
 /// The number up to which a site has settled, 0 where it never did.
@@ -39,7 +39,7 @@ pub fn kept_mark<S: Rising>(conn: &mut Connection<S>, site: &str) -> Result<u64,
     ensures found { HasCleanDisk (state S.Store conn.new) → IfOk result (λ mark. (it : Rows)
         → ShowsTables it (state S.Store conn.old).committed → mark ≡ mark_at site.now it) }
 {
-    note_settled(conn);
+    note_order_outside(conn);
     let _outside = conn.is_autocommit();
     let mut tx = conn.transaction();
     let mark = reads::mark_in(&mut tx, site)?;
@@ -66,7 +66,7 @@ pub fn kept_run<S: Rising>(
     ensures found { HasCleanDisk (state S.Store conn.new) → IfOk result
         (λ run. (it : Rows) → ShowsTables it (state S.Store conn.old).committed → run ≡ run_at site.now number it) }
 {
-    note_settled(conn);
+    note_order_outside(conn);
     let _outside = conn.is_autocommit();
     let mut tx = conn.transaction();
     let run = reads::run_in(&mut tx, site, number)?;
@@ -92,7 +92,7 @@ pub fn kept_library<S: Rising>(
     ensures found { HasCleanDisk (state S.Store conn.new) → IfOk result
         (λ found. (it : Rows) → ShowsTables it (state S.Store conn.old).committed → AreRowsOf it found) }
 {
-    note_settled(conn);
+    note_order_outside(conn);
     let _outside = conn.is_autocommit();
     let mut tx = conn.transaction();
     let found = whole::library_in(&mut tx, alloc)?;
@@ -117,7 +117,7 @@ pub fn kept_states<S: Rising>(conn: &mut Connection<S>, alloc: Global) -> Result
     ensures order { HasCleanDisk (state S.Store conn.new) → IfOk result
         (λ found. (it : Rows) → ShowsTables it (state S.Store conn.old).committed → AreByKey found) }
 {
-    note_settled(conn);
+    note_order_outside(conn);
     let _outside = conn.is_autocommit();
     let mut tx = conn.transaction();
     let found = whole::all_states_in(&mut tx, alloc)?;
@@ -147,7 +147,7 @@ pub fn kept_states_of<S: Rising>(
     ensures order { HasCleanDisk (state S.Store conn.new) → IfOk result
         (λ found. (it : Rows) → ShowsTables it (state S.Store conn.old).committed → AreByKey found) }
 {
-    note_settled(conn);
+    note_order_outside(conn);
     let _outside = conn.is_autocommit();
     let mut tx = conn.transaction();
     let found = statuses::card_states_in(&mut tx, alloc, cards)?;
@@ -174,7 +174,7 @@ pub fn kept_decks_of<S: Rising>(
     ensures found { HasCleanDisk (state S.Store conn.new) → IfOk result (λ found. (it : Rows)
         → ShowsTables it (state S.Store conn.old).committed → AreDecksOf cards.now it.cards found.items) }
 {
-    note_settled(conn);
+    note_order_outside(conn);
     let _outside = conn.is_autocommit();
     let mut tx = conn.transaction();
     let found = part::decks_in(&mut tx, alloc, cards)?;
@@ -207,7 +207,7 @@ pub fn kept_part<S: Rising>(
         (λ found. (state S.Store conn.old).committed.schema ≡ library_schema
         → HasSizes (sizes_of found) (state S.Store conn.new).committed.trees) }
 {
-    note_settled(conn);
+    note_order_outside(conn);
     let _outside = conn.is_autocommit();
     let mut tx = conn.transaction();
     let found = part::part_in(&mut tx, alloc, ages, known)?;
@@ -230,7 +230,7 @@ pub fn kept_active<S: Rising>(conn: &mut Connection<S>, alloc: Global) -> Result
     ensures found { HasCleanDisk (state S.Store conn.new) → IfOk result
         (λ found. (it : Rows) → ShowsTables it (state S.Store conn.old).committed → AreActiveRows it found) }
 {
-    note_settled(conn);
+    note_order_outside(conn);
     let _outside = conn.is_autocommit();
     let mut tx = conn.transaction();
     let found = active::active_in(&mut tx, alloc)?;

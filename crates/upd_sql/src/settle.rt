@@ -6,13 +6,13 @@ ghost use Rattle.upd_change.specs.Rows.{Rows};
 ghost use Rattle.upd_rows.specs.Tables.{mark_at, settled_to};
 ghost use Rattle.upd_tables.specs.Steps.{Makes};
 ghost use Rattle.upd_sql.specs.Commits.{Commits, MayCommit, WasOpen};
-ghost use Rattle.upd_sql.specs.Parts.{with_runs_settled};
+ghost use Rattle.upd_sql.specs.RowEdits.{with_runs_settled};
 ghost use Rattle.upd_sql.specs.Stands.{AnyTables, ShowsTables, Stands};
 
 use crate::reads::mark_in;
 use crate::writes;
 use sqlite::{Alter, Connection, Error, Transaction};
-use upd_order::{Rising, note_settled};
+use upd_order::{Rising, note_order_outside};
 
 /// The site's runs up to a number go, and the number is its mark.
 fn set_mark<S: Alter>(tx: &mut Transaction<'_, S>, site: &str, number: u64) -> Result<(), Error>
@@ -62,7 +62,7 @@ pub fn settle_site<S: Rising>(
         → ShowsTables it (state S.Store conn.old).committed
         → mark ≡ mark_at site.now (settled_to site.now number it)) }
 {
-    note_settled(conn);
+    note_order_outside(conn);
     let _outside = conn.is_autocommit();
     let mut tx = conn.transaction();
     let mark = settle_in(&mut tx, site, number)?;

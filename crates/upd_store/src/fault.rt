@@ -38,7 +38,7 @@ pub fn fault_of(error: Error) -> Fault
 }
 
 /// The fault of a file of another schema, by the version that it tells.
-pub(crate) fn fault_at(found: Result<u32, Error>) -> Fault
+pub(crate) fn version_fault(found: Result<u32, Error>) -> Fault
     ensures lost { IsLost result }
     ensures kind { MatchResult found (λ _. result.kind ≡ Store) (λ error. result.kind ≡ kind_for error) }
     ensures at { MatchResult found (λ version. result.at ≡ version) (λ _. result.at ≡ 0) }

@@ -9,7 +9,7 @@ ghost use Rattle.upd_sql.specs.Sizes.{AreOfCommit};
 ghost use Rattle.upd_sql.specs.Stands.{ShowsTables};
 ghost use Rattle.upd_store.specs.Version.{TellsVersion};
 
-use crate::fault::{fault_at, fault_of, store_at};
+use crate::fault::{fault_of, store_at, version_fault};
 use crate::version::version_of;
 use sqlite::Connection;
 use upd_order::Rising;
@@ -103,7 +103,7 @@ impl<S: Rising> SqlStore<S> {
         }
         if !is_no_schema(conn.schema()) {
             let found = version_of(&mut conn);
-            return Err((fault_at(found), conn));
+            return Err((version_fault(found), conn));
         }
         match make_library(&mut conn) {
             Ok(()) => Ok(SqlStore {

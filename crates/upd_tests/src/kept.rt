@@ -43,7 +43,7 @@ impl Kept {
             Ok(applied) => {
                 let mut counted = Counted::new(&self.library);
                 self.cache.settle(&mut counted, &applied)?;
-                assert_eq!(rt; counted.reads(), self.cache.work());
+                assert_eq!(rt; counted.histories_read(), self.cache.work());
                 let built = Cache::build(alloc, &self.library)?;
                 same_answers(rt, &self.cache, &built, &before)?;
                 same_answers(rt, &self.cache, &built, &self.library)?;

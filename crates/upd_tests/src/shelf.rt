@@ -123,7 +123,7 @@ impl Shelf {
     fn compiled(&mut self, mode: Mode, text: &str) -> Result<String, Fail> {
         let before = self.library.copy()?;
         let applied = self.apply(text)?;
-        compiled(&self.library, &before, mode, &applied.compile)
+        compiled(&before, &self.library, mode, &applied.compile)
     }
 
     fn lines(&mut self, parts: &[Part<'_>]) -> Result<String, Fail> {
@@ -179,13 +179,13 @@ fn changes(before: &Library, after: &Library) -> Result<String, Fail> {
 }
 
 fn compiled(
-    after: &Library,
     before: &Library,
+    after: &Library,
     mode: Mode,
     named: &[Serial],
 ) -> Result<String, Fail> {
     let alloc = after.allocator();
-    match compile_file(alloc, after, before, mode, named) {
+    match compile_file(alloc, before, after, mode, named) {
         Ok(file) => cards(alloc, &file),
         Err(fault) => told(alloc, fault),
     }

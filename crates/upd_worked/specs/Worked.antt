@@ -97,5 +97,5 @@ abbrev pub card : List ℕ → ℕ → CardRef
 card name number = record { name = name; number = number }
 
 -- how many live yank cards have a target
-abbrev pub live_count : Target → LibraryView → ℕ
-live_count t l = count_by (λ y. list_any (is_same t) y.targets) (live_cards l.yanks)
+abbrev pub live_yanks_on : Target → LibraryView → ℕ
+live_yanks_on t l = count_by (λ y. list_any (is_same t) y.targets) (live_cards l.yanks)

@@ -4,7 +4,7 @@ ghost use Rattle.upd_text.specs.declared.fault.FaultKind.TheVariants.{DeckUnknow
 ghost use Rattle.upd_text.specs.declared.fault.FaultKind.TheVariants.{YankText};
 ghost use Rattle.upd_core.specs.declared.target.Target.TheVariants.{Set};
 ghost use Rattle.upd_compile.specs.Listings.{card_listing, deck_listing, ident_listing, yank_listing};
-ghost use Rattle.upd_worked.specs.Worked.{active_after, after, asked, card, deck_a, live_count, refused, told};
+ghost use Rattle.upd_worked.specs.Worked.{active_after, after, asked, card, deck_a, live_yanks_on, refused, told};
 ghost use Rattle.upd_worked.specs.Yanked.{replaced, yanked_in_decks, yanked_twice, yank_yanked};
 
 /// A yank takes back what a set did, for as long as it stands.
@@ -30,18 +30,18 @@ pub fn yanks()
 /// A yank card can be deleted, restored and yanked like any other.
 pub fn yanks_of_yanks()
     // Two yanks of one set: it stays yanked until both are gone.
-    ensures two { asked yanked_twice (live_count (Set 2)) ≡ Ok 2 }
-    ensures one { asked (yanked_twice ++ codes "*IDENT U\n*DELETE V.1\n" ∷ []) (live_count (Set 2)) ≡ Ok 1 }
+    ensures two { asked yanked_twice (live_yanks_on (Set 2)) ≡ Ok 2 }
+    ensures one { asked (yanked_twice ++ codes "*IDENT U\n*DELETE V.1\n" ∷ []) (live_yanks_on (Set 2)) ≡ Ok 1 }
     ensures one_active { active_after (yanked_twice ++ codes "*IDENT U\n*DELETE V.1\n" ∷ [])
         ≡ Ok (codes "A.2 A.3 A.4 ") }
     ensures none { asked (yanked_twice ++ codes "*IDENT U\n*DELETE V.1\n" ∷ codes "*IDENT T\n*DELETE W.1\n"
-        ∷ []) (live_count (Set 2)) ≡ Ok 0 }
+        ∷ []) (live_yanks_on (Set 2)) ≡ Ok 0 }
     ensures none_active { active_after (yanked_twice ++ codes "*IDENT U\n*DELETE V.1\n"
         ∷ codes "*IDENT T\n*DELETE W.1\n" ∷ [])
         ≡ Ok (codes "X.1 A.3 A.4 ") }
     ensures again { asked (yanked_twice ++ codes "*IDENT U\n*DELETE V.1\n" ∷ codes "*IDENT T\n*DELETE W.1\n"
         ∷ codes "*IDENT S\n*RESTORE V.1\n" ∷ [])
-        (live_count (Set 2))
+        (live_yanks_on (Set 2))
         ≡ Ok 1 }
     ensures again_active { active_after (yanked_twice ++ codes "*IDENT U\n*DELETE V.1\n"
         ∷ codes "*IDENT T\n*DELETE W.1\n"

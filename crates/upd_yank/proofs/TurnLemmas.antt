@@ -163,12 +163,12 @@ others_more touched before now ks i d k found more whole within read is so_far =
 
 -- one read more where one more is found
 pub read_more : (due : Bool) (old new : CountedView) (found now : List (CardRef × Bool)) (p : CardRef × Bool) → new ≡ (if due then one_more old else old) →
-    now ≡ found ++ (if due then p ∷ [] else []) → (old.reads + 1 < 2 ^ 64 → new.reads + length found ≡ old.reads + length now) × (length now ≤ length found + 1)
+    now ≡ found ++ (if due then p ∷ [] else []) → (old.histories_read + 1 < 2 ^ 64 → new.histories_read + length found ≡ old.histories_read + length now) × (length now ≤ length found + 1)
 read_more true old new found now p reads is =
     let n : length now ≡ length found + 1 = ap length is ∙ length-append found (p ∷ []) in
-    let r : new.reads ≡ min (old.reads + 1) (2 ^ 64 - 1) = ap (λ (c : CountedView). c.reads) reads in
+    let r : new.histories_read ≡ min (old.histories_read + 1) (2 ^ 64 - 1) = ap (λ (c : CountedView). c.histories_read) reads in
     ((λ small. omega arith), omega arith)
 read_more false old new found now p reads is =
     let n : length now ≡ length found = ap length is ∙ ap length (append-nil found) in
-    let r : new.reads ≡ old.reads = ap (λ (c : CountedView). c.reads) reads in
+    let r : new.histories_read ≡ old.histories_read = ap (λ (c : CountedView). c.histories_read) reads in
     ((λ small. omega arith), omega arith)

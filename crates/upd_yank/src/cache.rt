@@ -114,7 +114,7 @@ impl Cache {
             rows)) new) }
         ensures only { IfOk result (λ changes.
             AllByRecursion (λ c. tells_state c ≡ true) (map change_seen changes.items)) }
-        ensures reads { counted.old.reads ≡ 0 → OnOk result (counted.new.reads ≡ self.new.work) }
+        ensures reads { counted.old.histories_read ≡ 0 → OnOk result (counted.new.histories_read ≡ self.new.work) }
         ensures err { IsOkUnless result (fault_at NoMemory 0) × OnErr result (self.new ≡ self.old) }
     {
         let touched = Touched::of(self.alloc, &applied.touched)?;

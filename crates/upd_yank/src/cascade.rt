@@ -170,8 +170,8 @@ fn settle_yanks<'a>(
     ensures statuses { AreCountable (views yanks.now) → IfOk result (λ found. found.statuses.items
         ≡ found_yanks (is_touched before.now.touched.now) (was_active before.now.statuses.now)
         (count_in before.now.counts.now) yanks.now) }
-    ensures reads { counted.old.reads + length yanks.now < 2 ^ 64 →
-        IfOk result (λ found. counted.new.reads ≡ counted.old.reads + length found.statuses.items) }
+    ensures reads { counted.old.histories_read + length yanks.now < 2 ^ 64 →
+        IfOk result (λ found. counted.new.histories_read ≡ counted.old.histories_read + length found.statuses.items) }
 {
     let mut found = Found {
         counts: TargetCounts::new(alloc),
@@ -217,9 +217,9 @@ fn judge_others<'a>(
     ensures statuses { OnOk result (found.new.statuses.items ≡ found.old.statuses.items
         ++ found_others (is_touched before.now.touched.now) (count_in before.now.counts.now)
         (count_in found.old.counts) cards.now) }
-    ensures reads { counted.old.reads + length cards.now < 2 ^ 64 → OnOk result (counted.new.reads
+    ensures reads { counted.old.histories_read + length cards.now < 2 ^ 64 → OnOk result (counted.new.histories_read
         + length found.old.statuses.items
-        ≡ counted.old.reads + length found.new.statuses.items) }
+        ≡ counted.old.histories_read + length found.new.statuses.items) }
 {
     let flipped = has_flipped(alloc, before.counts, &found.counts)?;
     for card in cards {
@@ -254,7 +254,7 @@ pub(crate) fn settling<'a>(
         (count_in before.now.counts.now) counted.old.library) }
     ensures statuses { IfOk result (λ left. ArePut (kept_status before.now.statuses.now)
         counted.old.library.rest.cards (yanks_of counted.old.library) (others_of counted.old.library) left.found.statuses.items left.statuses) }
-    ensures reads { counted.old.reads ≡ 0 → IfOk result (λ left. counted.new.reads ≡ length left.found.statuses.items) }
+    ensures reads { counted.old.histories_read ≡ 0 → IfOk result (λ left. counted.new.histories_read ≡ length left.found.statuses.items) }
 {
     let rest = counted.rest().cards;
     let yanks = counted.yanks(alloc)?;

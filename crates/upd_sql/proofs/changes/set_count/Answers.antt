@@ -3,7 +3,7 @@ use Rattle.sqlite.specs.Held.{state}
 use Rattle.upd_change.specs.Changes.{done, CountNow}
 use Rattle.upd_change.specs.Rows.{Rows}
 use Rattle.upd_tables.proofs.Chains.{makes_as}
-use Rattle.upd_sql.specs.Parts.{with_count, without_count}
+use Rattle.upd_sql.specs.RowEdits.{with_count, without_count}
 use Rattle.upd_sql.specs.Stands.{Stands, AnyTables}
 use Rattle.upd_sql.proofs.Typed.{makes_both}
 use Rattle.upd_sql.proofs.SizeLemmas.{sizes_kept}

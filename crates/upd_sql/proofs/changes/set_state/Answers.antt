@@ -1,5 +1,5 @@
 use Rattle.sqlite.specs.Held.{state}
-use Rattle.upd_sql.specs.Parts.{with_state, without_state}
+use Rattle.upd_sql.specs.RowEdits.{with_state, without_state}
 use Rattle.upd_sql.proofs.Typed.{makes_both}
 use Rattle.upd_sql.proofs.SizeLemmas.{sizes_kept}
 use Rattle.upd_sql.proofs.changes.set_state.Goals as goal

@@ -29,7 +29,7 @@ returns-clause-crash g c =
     (makes_then Stands (AllFit cs) AnyTables (done_all cs) (with_run c.args.row.now) begun mid last c.in_ok-make_all.field-0
     (Ok c.in_ok-insert_run.field-0) made c.in_ok-insert_run.ensures.makes) in
     let outside : IsTrue c.is_autocommit-outside.result = c.is_autocommit-outside.ensures.value ∙ ap not c.requires in
-    let left = crash_leaves (AllFit cs) (committed cs c.args.row.now) old last end c.in_ok-insert_run.field-0 (c.note_settled.ensures c.requires)
+    let left = crash_leaves (AllFit cs) (committed cs c.args.row.now) old last end c.in_ok-insert_run.field-0 (c.note_order_outside.ensures c.requires)
     (c.is_autocommit-outside.ensures.settled outside) whole
     (λ clean. let early : HasCleanDisk mid = omega (arith, c.insert_run.ensures.makes.steps.survives.clean) in (made.steps.kept early refl).was_open
     (c.in_ok-insert_run.ensures.was_open clean (made.steps.going early refl))) c.commit.ensures.survives in
@@ -54,5 +54,5 @@ returns-clause-sized g c clean =
     let early = clean_before last end _ c.commit.ensures.survives late in
     on_done c.commit.result (c.commit.ensures.ok late)
     (λ ended schema none n h. subst (λ h. HasSizes (sized_all cs n) (state g.S.Store h).committed.trees) same
-    (committed_sizes old last end c.in_ok-insert_run.field-0 (c.note_settled.ensures c.requires) (c.is_autocommit-outside.ensures.settled outside)
+    (committed_sizes old last end c.in_ok-insert_run.field-0 (c.note_order_outside.ensures c.requires) (c.is_autocommit-outside.ensures.settled outside)
     (λ n. TakeNone cs × AnySizes (sized_all cs n)) (sized_all cs) whole early ended.1 schema n (none, tt) h))

@@ -33,5 +33,5 @@ returns-clause-found g c clean it shown =
     let early = clean_before last end _ c.commit.ensures.survives (subst (λ h. HasCleanDisk (state g.S.Store h)) (sym same) clean) in
     let was_open = looks.was_open early refl in
     let first = clean_before (record old { in_transaction = true }) last _ looks.steps.survives early in
-    looks.found early it (stands_begun old (c.note_settled.ensures c.requires.outside) (c.is_autocommit-outside.ensures.settled outside) was_open it shown)
+    looks.found early it (stands_begun old (c.note_order_outside.ensures c.requires.outside) (c.is_autocommit-outside.ensures.settled outside) was_open it shown)
     (λ n is. sizes_shown n it old.committed shown (c.requires.known n is first was_open))

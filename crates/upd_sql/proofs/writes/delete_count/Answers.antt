@@ -3,7 +3,7 @@ use Rattle.sqlite_value.specs.Order.{Row}
 use Rattle.sqlite.specs.Held.{state}
 use Rattle.upd_tables.specs.Steps.{Ran}
 use Rattle.upd_sql.specs.Encoded.{target_code}
-use Rattle.upd_sql.specs.Parts.{without_count}
+use Rattle.upd_sql.specs.RowEdits.{without_count}
 use Rattle.upd_sql.specs.Stands.{AnyTables}
 use Rattle.upd_sql.proofs.Typed.{makes_from}
 use Rattle.upd_sql.proofs.Texts.{delete_count}

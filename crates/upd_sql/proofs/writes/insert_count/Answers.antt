@@ -4,7 +4,7 @@ use Rattle.sqlite.specs.Held.{state}
 use Rattle.upd_tables.specs.Steps.{Ran}
 use Rattle.upd_change.specs.Rows.{CountRow}
 use Rattle.upd_sql.specs.Encoded.{num, count_row}
-use Rattle.upd_sql.specs.Parts.{with_count}
+use Rattle.upd_sql.specs.RowEdits.{with_count}
 use Rattle.upd_sql.specs.Stands.{AnyTables}
 use Rattle.upd_sql.proofs.Typed.{makes_from}
 use Rattle.upd_sql.proofs.Texts.{insert_count}

@@ -11,7 +11,7 @@ invariant-loop-card l = record {
       ++ found_others (is_touched l.before.touched.now) (count_in l.before.counts.now) (count_in l.initial.found.counts) (drop l.card-index l.cards)
       ≡ l.initial.found.statuses.items
       ++ found_others (is_touched l.before.touched.now) (count_in l.before.counts.now) (count_in l.initial.found.counts) l.cards;
-  reads : l.initial.counted.reads + length l.cards < 2 ^ 64 →
-      l.counted.reads + length l.initial.found.statuses.items ≡ l.initial.counted.reads + length l.found.statuses.items;
+  reads : l.initial.counted.histories_read + length l.cards < 2 ^ 64 →
+      l.counted.histories_read + length l.initial.found.statuses.items ≡ l.initial.counted.histories_read + length l.found.statuses.items;
   few : length l.found.statuses.items ≤ length l.initial.found.statuses.items + l.card-index;
 }

@@ -12,6 +12,6 @@ invariant-loop-i l = record {
       ≡ count_on (live_now (is_touched l.before.touched.now) (was_active l.before.statuses.now) (count_in l.before.counts.now) (drop l.i l.yanks)) t;
   statuses : AreCountable (views l.yanks) → l.found.statuses.items
       ≡ found_yanks (is_touched l.before.touched.now) (was_active l.before.statuses.now) (count_in l.before.counts.now) (drop l.i l.yanks);
-  reads : l.initial.counted.reads + length l.yanks < 2 ^ 64 → l.counted.reads ≡ l.initial.counted.reads + length l.found.statuses.items;
+  reads : l.initial.counted.histories_read + length l.yanks < 2 ^ 64 → l.counted.histories_read ≡ l.initial.counted.histories_read + length l.found.statuses.items;
   few : length l.found.statuses.items + l.i ≤ length l.yanks;
 }

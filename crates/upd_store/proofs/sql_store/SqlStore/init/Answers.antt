@@ -13,5 +13,5 @@ named Tells (Err e) at told is v h = inr is
 
 pub returns-then-not-is_no_schema-clause-version : goal.returns-then-not-is_no_schema-clause-version
 returns-then-not-is_no_schema-clause-version g c clean =
-    named (λ v. TellsVersion v (state g.S.Store c.args.conn).committed) c.version_of-found.result c.fault_at.result.at (c.version_of-found.ensures.told clean)
-    c.fault_at.ensures.at
+    named (λ v. TellsVersion v (state g.S.Store c.args.conn).committed) c.version_of-found.result c.version_fault.result.at (c.version_of-found.ensures.told clean)
+    c.version_fault.ensures.at
