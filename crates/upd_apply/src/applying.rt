@@ -17,7 +17,7 @@ use crate::compile::named_decks;
 use crate::state::State;
 use std::alloc::{AllocError, Global};
 use upd_change::{Change, Compared, compare};
-use upd_core::{Ident, Library, Serial};
+use upd_core::{Age, Ident, Library};
 use upd_deck::{Line, Run};
 use upd_text::{CardRef, Fault};
 
@@ -25,9 +25,9 @@ use upd_text::{CardRef, Fault};
 #[derive(Debug, Drop)]
 pub struct Applied {
     /// The ages of the idents that it introduced.
-    pub idents: Vec<Serial>,
+    pub idents: Vec<Age>,
     /// The ages of the decks that `*COMPILE` named.
-    pub compile: Vec<Serial>,
+    pub compile: Vec<Age>,
     /// The cards that weren't there before, or whose history differs from before, by deck (`YANK$$$` first) and place.
     pub touched: Vec<CardRef>,
     /// The row changes by which a store follows it, in the order in which they are carried out.
@@ -91,7 +91,7 @@ fn outcome(
 }
 
 /// Purges the ident of an age and all younger ones. It takes no memory, and an age that no ident has is no fault.
-pub fn purge_back(library: &mut Library, age: Serial)
+pub fn purge_back(library: &mut Library, age: Age)
     ensures { library.new ≡ purged_back age library.old }
 {
     library.purge_from(age);
@@ -120,7 +120,7 @@ fn take_step(state: &mut State, line: &Line) -> Result<(), Fault>
 }
 
 /// The ages of idents from an index on.
-fn ages_from(alloc: Global, idents: &[Ident], from: usize) -> Result<Vec<Serial>, AllocError>
+fn ages_from(alloc: Global, idents: &[Ident], from: usize) -> Result<Vec<Age>, AllocError>
     ensures { IfOk result (λ ages. ages.items ≡ map (λ i. i.age) (drop from idents.now)) }
 {
     idents

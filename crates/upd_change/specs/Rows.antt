@@ -57,7 +57,7 @@ pub record MarkRow : Type 0 where
   pub site : List ℕ
   pub mark : ℕ
 
--- All tables. A row of idents is the ident itself.
+-- All tables but `meta`. A row of idents is the ident itself.
 pub record Rows : Type 0 where
   pub idents : List Ident
   pub cards : List CardRow

@@ -1,17 +1,17 @@
 //! Row changes: what a run does to the tables of a store.
 
-use upd_core::{CardRef, Entry, Ident, Serial, Target};
+use upd_core::{Age, CardRef, Entry, Ident, Target};
 
 /// One change of the tables. A list of them is carried out in order.
 #[derive(Debug, Drop)]
 pub enum Change {
     IdentNew(Ident),
     /// The ident of an age is no longer held.
-    IdentPurged(Serial),
+    IdentPurged(Age),
     CardNew {
         card: CardRef,
         /// 0 for `YANK$$$`.
-        deck: Serial,
+        deck: Age,
         /// From 0 in each deck.
         pos: u32,
         text: Vec<u8>,
@@ -20,7 +20,7 @@ pub enum Change {
     CardGone(CardRef),
     /// The cards of a deck that stand at a place or behind it move, towards the front where `by` is negative.
     CardsMoved {
-        deck: Serial,
+        deck: Age,
         from: u32,
         by: i64,
     },

@@ -6,12 +6,12 @@ ghost use Rattle.upd_change.specs.Fates.{Await, Paired};
 
 use crate::fates::{DeckFates, deck_fates};
 use std::alloc::{AllocError, Global};
-use upd_core::{Deck, Library, Serial};
+use upd_core::{Age, Deck, Library};
 
 /// What became of all cards, `YANK$$$` first. Cards of an age above `youngest` are taken to be new.
 pub(crate) fn library_fates<'a>(
     alloc: Global,
-    youngest: Serial,
+    youngest: Age,
     before: &'a Library,
     after: &'a Library,
 ) -> Result<Vec<DeckFates<'a>>, AllocError>
@@ -30,7 +30,7 @@ pub(crate) fn library_fates<'a>(
 fn add_decks<'a>(
     alloc: Global,
     found: &mut Vec<DeckFates<'a>>,
-    youngest: Serial,
+    youngest: Age,
     before: &'a [Deck],
     after: &'a [Deck],
 ) -> Result<usize, AllocError>
@@ -48,7 +48,7 @@ fn add_decks<'a>(
 fn add_deck<'a>(
     alloc: Global,
     found: &mut Vec<DeckFates<'a>>,
-    youngest: Serial,
+    youngest: Age,
     deck: &'a Deck,
     after: &'a [Deck],
     next: usize,
@@ -91,7 +91,7 @@ fn partner<'a>(deck: &Deck, after: &'a [Deck], next: usize) -> Option<&'a Deck>
 fn add_new_decks<'a>(
     alloc: Global,
     found: &mut Vec<DeckFates<'a>>,
-    youngest: Serial,
+    youngest: Age,
     decks: &'a [Deck],
 ) -> Result<(), AllocError>
     ensures { (olds news : List DeckView) → Await olds news found.old.items [] decks.now

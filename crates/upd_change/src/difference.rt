@@ -14,7 +14,7 @@ use crate::decks::library_fates;
 use crate::told::told;
 use crate::touched::touched;
 use std::alloc::{AllocError, Global};
-use upd_core::{Ident, Library, Serial};
+use upd_core::{Age, Ident, Library};
 use upd_text::CardRef;
 
 /// What leads from one library to another.
@@ -28,7 +28,7 @@ pub struct Compared {
 /// The row changes that lead from one library to another whose directory goes on from its own, and the cards that were
 /// touched, from one comparison of the two. Changes stand in the order in which they are carried out: idents, then all
 /// that goes, then moves, then all that comes. What comes or goes at one place of a deck is one move. Memory alone can
-/// fail, where a deck has 2^32 cards or more as well.
+/// fail; a deck with 2^32 fates, or a card with as many entries, is answered as want of memory too.
 pub fn compare(alloc: Global, before: &Library, after: &Library) -> Result<Compared, AllocError>
     ensures told { IfOk result (λ d. Told before.now after.now (map change_seen d.changes.items)) }
     ensures shows { (rows : Rows) → IsSound before.now → Continues before.now.idents after.now.idents
@@ -50,7 +50,7 @@ pub fn compare(alloc: Global, before: &Library, after: &Library) -> Result<Compa
 }
 
 /// The age of the last ident, 0 where there is none.
-fn last_age(idents: &[Ident]) -> Serial
+fn last_age(idents: &[Ident]) -> Age
     ensures { result ≡ option_map_or (λ i. i.age) (slice_get idents.now (length idents.now - 1)) 0 }
 {
     match idents.last() {

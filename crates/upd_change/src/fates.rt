@@ -7,7 +7,7 @@ ghost use Rattle.upd_change.specs.Fates.{fate_seen};
 
 use std::alloc::{AllocError, Global};
 use std::marker::Model;
-use upd_core::{Card, Serial, Target};
+use upd_core::{Age, Card, Target};
 
 /// What became of a card.
 #[derive(Clone, Copy, Debug)]
@@ -44,7 +44,7 @@ impl<'a> Fate<'a> {
 /// are numbers of 32 bits.
 #[derive(Debug, Drop)]
 pub(crate) struct DeckFates<'a> {
-    pub(crate) deck: Serial,
+    pub(crate) deck: Age,
     pub(crate) fates: Vec<Fate<'a>>,
 }
 
@@ -91,7 +91,7 @@ fn are_same_targets(targets: &[Target], others: &[Target]) -> bool
 
 /// What became of the next card before or of the next card after. A card of an ident younger than all idents before is
 /// new; otherwise an old card that isn't the next one after is gone.
-fn next_fate<'a>(youngest: Serial, was: &'a Card, is: &'a Card) -> Fate<'a>
+fn next_fate<'a>(youngest: Age, was: &'a Card, is: &'a Card) -> Fate<'a>
     ensures next { IsNextOf was.now is.now (fate_seen result) }
     ensures stays { is.now.ident ≤ youngest → is.now ≡ record was.now { history = is.now.history }
         → fate_seen result ≡ Kept was.now is.now }
@@ -109,7 +109,7 @@ fn next_fate<'a>(youngest: Serial, was: &'a Card, is: &'a Card) -> Fate<'a>
 /// What became of cards that stood in one deck, before and after.
 fn fates<'a>(
     alloc: Global,
-    youngest: Serial,
+    youngest: Age,
     before: &'a [Card],
     after: &'a [Card],
 ) -> Result<Vec<Fate<'a>>, AllocError>
@@ -151,8 +151,8 @@ fn add_new<'a>(fates: &mut Vec<Fate<'a>>, cards: &'a [Card]) -> Result<(), Alloc
 /// library stay far below.
 pub(crate) fn deck_fates<'a>(
     alloc: Global,
-    deck: Serial,
-    youngest: Serial,
+    deck: Age,
+    youngest: Age,
     before: &'a [Card],
     after: &'a [Card],
 ) -> Result<DeckFates<'a>, AllocError>

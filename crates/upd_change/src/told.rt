@@ -12,7 +12,7 @@ use crate::change::Change;
 use crate::fates::{DeckFates, Fate};
 use std::alloc::{AllocError, Global};
 use upd_core::card::card_ref;
-use upd_core::{Card, CardRef, Entry, Ident, Serial, Target};
+use upd_core::{Age, Card, CardRef, Entry, Ident, Target};
 
 /// The changes that lead from one directory and its cards to another.
 pub(crate) fn told(
@@ -147,7 +147,7 @@ fn add_all_moves(changes: &mut Vec<Change>, decks: &[DeckFates]) -> Result<(), A
 
 /// Moves each card that stays and doesn't stand where it must, and all behind it with it: so what comes or goes at one
 /// place is one move.
-fn add_moves(changes: &mut Vec<Change>, deck: Serial, fates: &[Fate]) -> Result<(), AllocError>
+fn add_moves(changes: &mut Vec<Change>, deck: Age, fates: &[Fate]) -> Result<(), AllocError>
     requires { length fates.now < 2 ^ 32 }
     ensures { OnOk result (map change_seen changes.new.items
         ≡ map change_seen changes.old.items ++ moves deck 0 0 (map fate_seen fates.now)) }
@@ -168,7 +168,7 @@ fn add_moves(changes: &mut Vec<Change>, deck: Serial, fates: &[Fate]) -> Result<
     Ok(())
 }
 
-fn add_move(changes: &mut Vec<Change>, deck: Serial, from: u32, to: u32) -> Result<(), AllocError>
+fn add_move(changes: &mut Vec<Change>, deck: Age, from: u32, to: u32) -> Result<(), AllocError>
     ensures { OnOk result (map change_seen changes.new.items ≡ map change_seen changes.old.items
         ++ move_to deck from to) }
 {
@@ -197,7 +197,7 @@ fn add_all_brought(
 fn add_brought(
     changes: &mut Vec<Change>,
     idents: &[Ident],
-    deck: Serial,
+    deck: Age,
     fates: &[Fate],
 ) -> Result<(), AllocError>
     requires { length fates.now < 2 ^ 32 }
@@ -243,7 +243,7 @@ fn add_grown(
 fn add_card(
     changes: &mut Vec<Change>,
     idents: &[Ident],
-    deck: Serial,
+    deck: Age,
     pos: u32,
     is: &Card,
 ) -> Result<(), AllocError>
@@ -259,7 +259,7 @@ fn add_card(
 fn add_card_row(
     changes: &mut Vec<Change>,
     card: &CardRef,
-    deck: Serial,
+    deck: Age,
     pos: u32,
     text: &[u8],
 ) -> Result<(), AllocError>

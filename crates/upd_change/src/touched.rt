@@ -10,7 +10,7 @@ ghost use Rattle.upd_change.specs.Touched.{IsOf, same_history, stood_in, touched
 use crate::fates::{DeckFates, Fate};
 use std::alloc::{AllocError, Global};
 use upd_core::card::card_ref;
-use upd_core::{Card, Deck, Entry, Ident, Library, Serial};
+use upd_core::{Age, Card, Deck, Entry, Ident, Library};
 use upd_text::CardRef;
 
 /// The cards of the library after that weren't there before, or whose history differs, in the order of their fates.
@@ -98,7 +98,7 @@ fn add_unless(
 }
 
 /// Whether a card that is kept has the history that it had.
-fn has_stayed(before: &[Card], youngest: Serial, sure: bool, was: &Card, is: &Card) -> bool
+fn has_stayed(before: &[Card], youngest: Age, sure: bool, was: &Card, is: &Card) -> bool
     requires { EachIndex before.now (λ i. (d : CardView) → (slice_index_or before.now i d).ident ≤ youngest) }
     ensures { AreApart (map key_of before.now) → (sure ≡ true → Contains before.now was.now)
         → is.now ≡ record was.now { history = is.now.history } → result ≡ stood_in before.now is.now }
@@ -110,7 +110,7 @@ fn has_stayed(before: &[Card], youngest: Serial, sure: bool, was: &Card, is: &Ca
 }
 
 /// Whether a card stood in these cards, the youngest of which is of this age, with the same history.
-fn has_stood(before: &[Card], youngest: Serial, card: &Card) -> bool
+fn has_stood(before: &[Card], youngest: Age, card: &Card) -> bool
     requires { EachIndex before.now (λ i. (d : CardView) → (slice_index_or before.now i d).ident ≤ youngest) }
     ensures { result ≡ stood_in before.now card.now }
 {
@@ -124,7 +124,7 @@ fn stood_in(before: &[Card], card: &Card) -> bool
     ensures { result ≡ stood_in before.now card.now }
 {
     for old in before {
-        if is_same(old, card) {
+        if is_same_card(old, card) {
             return true;
         }
     }
@@ -132,7 +132,7 @@ fn stood_in(before: &[Card], card: &Card) -> bool
 }
 
 /// Whether two cards have one ident, number and history.
-fn is_same(old: &Card, card: &Card) -> bool
+fn is_same_card(old: &Card, card: &Card) -> bool
     ensures { result ≡ is_card card.now.ident card.now.number old.now && same_history old.now.history card.now.history }
 {
     old.ident == card.ident
@@ -141,7 +141,7 @@ fn is_same(old: &Card, card: &Card) -> bool
 }
 
 /// The age of the youngest ident of these cards.
-fn youngest(cards: &[Card]) -> Serial
+fn youngest(cards: &[Card]) -> Age
     ensures { EachIndex cards.now (λ i. (d : CardView) → (slice_index_or cards.now i d).ident ≤ result) }
 {
     let mut youngest = 0;

@@ -14,7 +14,7 @@ use crate::progress::Progress;
 use crate::walk::walk_all;
 use std::alloc::Global;
 use std::marker::Model;
-use upd_core::{ActiveDeckRef, Actives, ActivesRef, Library, Serial};
+use upd_core::{ActiveDeckRef, Actives, ActivesRef, Age, Library};
 use upd_text::Fault;
 use upd_text::limits::MAX_DEPTH;
 
@@ -41,7 +41,7 @@ pub fn compile_file(
     before: &Library,
     after: &Library,
     mode: Mode,
-    named: &[Serial],
+    named: &[Age],
 ) -> Result<CompileFile, Fault>
     ensures { GivesAt (λ f. f) result (compile_file_of mode named.now before.now after.now) }
 {
@@ -63,7 +63,7 @@ pub fn compile_active(
     before: &Actives,
     after: &Actives,
     mode: Mode,
-    named: &[Serial],
+    named: &[Age],
 ) -> Result<CompileFile, Fault>
     ensures { GivesAt (λ f. f) result (file_of mode named.now before.now after.now) }
 {
@@ -77,7 +77,7 @@ fn compile_shown(
     before: &ActivesRef,
     after: &ActivesRef,
     mode: Mode,
-    named: &[Serial],
+    named: &[Age],
 ) -> Result<CompileFile, Fault>
     ensures { GivesAt (λ f. f) result (file_of mode named.now before.now after.now) }
 {

@@ -11,7 +11,7 @@ ghost use Rattle.upd_compile.specs.Walk.{WalkEvent, card_events, walk};
 
 use crate::indexed::Indexed;
 use crate::progress::Progress;
-use upd_core::{ActiveCardRef, ActiveDeckRef, Serial};
+use upd_core::{ActiveCardRef, ActiveDeckRef, Age};
 use upd_text::FaultKind;
 use upd_text::line::{called, is_call};
 
@@ -22,7 +22,7 @@ pub fn walks_go_by_depth()
         → Walks a 1 d events ↔ (events ≡ walk MAX_DEPTH a d) }
 {}
 
-/// Walks through decks, one after the other, where calls may go so deep.
+/// Walks through decks, one after the other, where calls are followed so many levels deep.
 pub(crate) fn walk_all(
     source: &Indexed,
     decks: &[&ActiveDeckRef],
@@ -38,7 +38,7 @@ pub(crate) fn walk_all(
     Ok(())
 }
 
-/// Walks through a deck, where calls may go so deep.
+/// Walks through a deck, where calls are followed so many levels deep.
 #[cycle(walk)]
 pub(crate) fn walk(
     source: &Indexed,
@@ -82,7 +82,7 @@ fn meet(
 }
 
 /// Whether a card is the first of the deck of an ident.
-pub(crate) fn is_first(card: &ActiveCardRef, deck: Serial) -> bool
+pub(crate) fn is_first(card: &ActiveCardRef, deck: Age) -> bool
     ensures { result ≡ (card.now.ident == deck) && (card.now.number == 1) }
 {
     card.ident == deck && card.number == 1

@@ -1,4 +1,4 @@
--- A library whose histories are counted as they are read.
+-- A library that counts the histories that it hands out.
 use Rattle.std.specs.Prelude.{ℕ, ◌+◌, ◌-◌, ◌^◌, min, List, ◌++◌, map}
 use Rattle.std.specs.List.{flat_map}
 use Rattle.upd_core.specs.declared.ident.Ident.{Ident}
@@ -16,7 +16,7 @@ pub record CountedCardView : Type 0 where
   pub deck : ℕ
   pub view : CardView
 
--- one read more, up to the last value
+-- one read more; the count stays at its last value
 abbrev pub one_more : CountedView → CountedView
 one_more c = record c { histories_read = min (c.histories_read + 1) (2 ^ 64 - 1) }
 

@@ -1,4 +1,4 @@
-//! A library whose histories are counted as they are read: what tells how many cards have been looked at.
+//! A library that counts the histories that it hands out: what tells how many cards have been looked at.
 
 ghost use Rattle.std.specs.Prelude.{◌≡◌, ◌++◌, map, IfOk, OnOk};
 ghost use Rattle.std.specs.List.{list_any, filter, flat_map};
@@ -12,7 +12,7 @@ ghost use Rattle.upd_core.specs.TargetCounts.{count_in};
 
 use crate::card::{Card, Entry, card_ref};
 use crate::deck::Deck;
-use crate::ident::{Ident, Serial};
+use crate::ident::{Age, Ident};
 use crate::library::{Library, Rest};
 use crate::target::Target;
 use crate::target_counts::TargetCounts;
@@ -35,12 +35,12 @@ impl<'a> Model for Counted<'a> {
     ghost view = { λ c. record { library = c.library.now; histories_read = c.histories_read } };
 }
 
-/// A card of a counted library: its reference, its deck and its targets are known, its history is read through the
-/// `Counted`.
+/// A card of a counted library: its reference, its deck, its targets and the idents of its entries are known, its
+/// history is handed out by the `Counted`, which counts it.
 #[derive(Drop)]
 pub struct CountedCard<'a> {
     reference: CardRef,
-    deck: Serial,
+    deck: Age,
     card: &'a Card,
 }
 
@@ -61,7 +61,7 @@ impl<'a> CountedCard<'a> {
     }
 
     /// The age of its deck, 0 for `YANK$$$`.
-    pub fn deck(&self) -> Serial
+    pub fn deck(&self) -> Age
         ensures { result ≡ self.now.deck }
     {
         self.deck
@@ -86,7 +86,7 @@ impl<'a> CountedCard<'a> {
     }
 }
 
-fn has_retaken(before: &TargetCounts, now: &TargetCounts, deck: Serial, history: &[Entry]) -> bool
+fn has_retaken(before: &TargetCounts, now: &TargetCounts, deck: Age, history: &[Entry]) -> bool
     ensures { result ≡ list_any (is_retaken (count_in before.now) (count_in now.now) deck) history.now }
 {
     for entry in history {
@@ -110,7 +110,7 @@ impl<'a> Counted<'a> {
         }
     }
 
-    /// How many histories have been read, up to the last value.
+    /// How many histories have been read; the count stays at `u64::MAX`.
     pub fn histories_read(&self) -> u64
         ensures { result ≡ self.now.histories_read }
     {
@@ -191,7 +191,7 @@ fn add_cards_of<'a>(
 fn add_cards<'a>(
     found: &mut Vec<CountedCard<'a>>,
     idents: &[Ident],
-    deck: Serial,
+    deck: Age,
     cards: &'a [Card],
 ) -> Result<(), AllocError>
     ensures { OnOk result (found.new.items ≡ found.old.items ++ map (counted_card idents.now deck) cards.now) }
@@ -225,7 +225,7 @@ fn add_covered_of(
 fn add_covered(
     found: &mut Vec<CardRef>,
     idents: &[Ident],
-    deck: Serial,
+    deck: Age,
     cards: &[Card],
     target: Target,
 ) -> Result<(), AllocError>
@@ -240,7 +240,7 @@ fn add_covered(
     Ok(())
 }
 
-fn covers(deck: Serial, card: &Card, target: Target) -> bool
+fn covers(deck: Age, card: &Card, target: Target) -> bool
     ensures { result ≡ covers deck card.now target }
 {
     match target {
@@ -250,7 +250,7 @@ fn covers(deck: Serial, card: &Card, target: Target) -> bool
     }
 }
 
-fn has_entry_of(ident: Serial, card: &Card) -> bool
+fn has_entry_of(ident: Age, card: &Card) -> bool
     ensures { result ≡ has_entry_of ident card.now }
 {
     card.history.iter().any(|entry| entry.ident == ident)

@@ -30,7 +30,7 @@ pub use actives::{ActiveDeck, Actives};
 pub use card::{Card, Entry};
 pub use counted::{Counted, CountedCard};
 pub use deck::Deck;
-pub use ident::{Ident, Kind, Serial};
+pub use ident::{Age, Ident, Kind};
 pub use library::{Library, Place, Rest};
 pub use live::Live;
 pub use states::States;

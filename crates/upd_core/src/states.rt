@@ -3,7 +3,8 @@
 use crate::target::Target;
 use upd_text::CardRef;
 
-/// The status of each card, by card, and the count of each target that a live yank card has, by target.
+/// Statuses by card, of all cards or of those that were asked for, and the count of each target that a live yank card
+/// has, by target.
 #[derive(Debug, Drop)]
 pub struct States {
     pub states: Vec<(CardRef, bool)>,

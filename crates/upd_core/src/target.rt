@@ -7,17 +7,17 @@ ghost use Rattle.upd_core.specs.Order.{key_order, target_key, target_order};
 ghost use Rattle.upd_core.specs.Targets.{is_same};
 ghost use Rattle.upd_core.specs.declared.target.Target.{Target};
 
-use crate::ident::Serial;
+use crate::ident::Age;
 
 /// What a yank card takes out of use while it is live.
 #[derive(Clone, Copy, Debug, PartialEq, Eq, PartialOrd, Ord, Hash)]
 pub enum Target {
     /// All that a set did.
-    Set(Serial),
+    Set(Age),
     /// All that a set did in one deck: the set, then the deck.
-    SetIn(Serial, Serial),
+    SetIn(Age, Age),
     /// All cards of a deck.
-    Deck(Serial),
+    Deck(Age),
 }
 
 /// Targets are ordered by their keys, and are equal by this order exactly where they are the same.

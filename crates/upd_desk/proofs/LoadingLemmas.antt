@@ -17,8 +17,8 @@ use Rattle.upd_core.proofs.FoundLemmas.{place_found}
 use Rattle.upd_deck.specs.Items.{LineView}
 use Rattle.upd_rows.specs.Asked.{decks_with}
 use Rattle.upd_rows.specs.Keeping.{reads_with}
-use Rattle.upd_parts.specs.Needed.{all_named, decks_needed, is_yank_card}
-use Rattle.upd_parts.specs.Needless.{are_plain}
+use Rattle.upd_parts.specs.Needed.{cards_named, decks_needed, is_yank_card}
+use Rattle.upd_parts.specs.Needless.{is_plain}
 use Rattle.upd_parts.proofs.CountLemmas.{decks_few, whole_part}
 use Rattle.upd_deck.specs.Reading.{reading}
 use Rattle.upd_desk.specs.Needed.{needed}
@@ -78,30 +78,30 @@ yanks_same l head cards sound is =
 abbrev all_ages : LibraryView → List ℕ
 all_ages l = map (λ d. d.ident) l.decks
 
-pub needs_all : (lines : List LineView) (l : LibraryView) → are_plain lines ≡ false → decks_needed lines l ≡ all_ages l
+pub needs_all : (lines : List LineView) (l : LibraryView) → is_plain lines ≡ false → decks_needed lines l ≡ all_ages l
 needs_all lines l plain = rw plain refl
 
-pub needs_yanks : (lines : List LineView) (l head : LibraryView) (cards : List CardRef) → IsSound l → head ≡ part_of [] l → cards ≡ all_named lines
+pub needs_yanks : (lines : List LineView) (l head : LibraryView) (cards : List CardRef) → IsSound l → head ≡ part_of [] l → cards ≡ cards_named lines
     → list_any (is_yank_card head) cards ≡ true → decks_needed lines l ≡ all_ages l
-needs_yanks lines l head cards sound is named yanks = go (are_plain lines)
+needs_yanks lines l head cards sound is named yanks = go (is_plain lines)
   where
-    some : list_any (is_yank_card l) (all_named lines) ≡ true
+    some : list_any (is_yank_card l) (cards_named lines) ≡ true
     some = ap (list_any (is_yank_card l)) (sym named) ∙ sym (yanks_same l head cards sound is) ∙ yanks
 
     go : (plain : Bool)
-        → (if plain && not (list_any (is_yank_card l) (all_named lines)) then decks_with (all_named lines) l else all_ages l) ≡ all_ages l
+        → (if plain && not (list_any (is_yank_card l) (cards_named lines)) then decks_with (cards_named lines) l else all_ages l) ≡ all_ages l
     go true = rw some refl
     go false = refl
 
-pub needs_standing : (lines : List LineView) (l : LibraryView) (cards : List CardRef) → are_plain lines ≡ true → cards ≡ all_named lines
+pub needs_standing : (lines : List LineView) (l : LibraryView) (cards : List CardRef) → is_plain lines ≡ true → cards ≡ cards_named lines
     → list_any (is_yank_card l) cards ≡ false → decks_needed lines l ≡ decks_with cards l
 needs_standing lines l cards plain named none =
-    let no : list_any (is_yank_card l) (all_named lines) ≡ false = ap (list_any (is_yank_card l)) (sym named) ∙ none in
-    let same : decks_needed lines l ≡ decks_with (all_named lines) l = rw (plain, no) refl in
+    let no : list_any (is_yank_card l) (cards_named lines) ≡ false = ap (list_any (is_yank_card l)) (sym named) ∙ none in
+    let same : decks_needed lines l ≡ decks_with (cards_named lines) l = rw (plain, no) refl in
     same ∙ ap (λ cs. decks_with cs l) (sym named)
 
-pub needs_named : (lines : List LineView) (l head : LibraryView) (cards : List CardRef) → IsSound l → are_plain lines ≡ true → head ≡ part_of [] l
-    → cards ≡ all_named lines → list_any (is_yank_card head) cards ≡ false → decks_needed lines l ≡ decks_with cards l
+pub needs_named : (lines : List LineView) (l head : LibraryView) (cards : List CardRef) → IsSound l → is_plain lines ≡ true → head ≡ part_of [] l
+    → cards ≡ cards_named lines → list_any (is_yank_card head) cards ≡ false → decks_needed lines l ≡ decks_with cards l
 needs_named lines l head cards sound plain is named none =
     needs_standing lines l cards plain named (sym (yanks_same l head cards sound is) ∙ none)
 

@@ -24,8 +24,8 @@ use Rattle.upd_yank.specs.Renewed.{IsAsBefore, renewed}
 use Rattle.upd_yank.specs.Right.{CacheView, IsRight, IsRunBetween}
 use Rattle.upd_yank.proofs.EnoughLemmas.{part_of_none}
 use Rattle.upd_yank.proofs.RenewLemmas.{renewed_is}
-use Rattle.upd_parts.specs.Needed.{all_named, decks_needed, is_yank_card}
-use Rattle.upd_parts.specs.Needless.{DoesWithout, IsOnWhole, NamesNone, are_plain, is_left_out, reached_in_part}
+use Rattle.upd_parts.specs.Needed.{cards_named, decks_needed, is_yank_card}
+use Rattle.upd_parts.specs.Needless.{DoesWithout, IsOnWhole, NamesNone, is_plain, is_left_out, reached_in_part}
 use Rattle.upd_parts.proofs.AloneLemmas.{affected_in, enough_alone}
 use Rattle.upd_parts.proofs.AppliedLemmas.{applied_same}
 use Rattle.upd_parts.proofs.CountLemmas.{none_left_out, whole_part}
@@ -102,14 +102,14 @@ on_all lines l run made at = (
     whole = run_whole lines l (here_of run) made.whole at.is
 
 -- of the decks that hold the cards which it names
-on_named : (lines : List LineView) (l : LibraryView) (run : AppliedRun) → IsMade l → are_plain lines ≡ true
-    → list_any (is_yank_card l) (all_named lines) ≡ false → IsAppliedTo lines (part_of (decks_with (all_named lines) l) l) run
-    → (reached : Reached) × IsRunOf lines l (part_of (decks_with (all_named lines) l) l) reached run
+on_named : (lines : List LineView) (l : LibraryView) (run : AppliedRun) → IsMade l → is_plain lines ≡ true
+    → list_any (is_yank_card l) (cards_named lines) ≡ false → IsAppliedTo lines (part_of (decks_with (cards_named lines) l) l) run
+    → (reached : Reached) × IsRunOf lines l (part_of (decks_with (cards_named lines) l) l) reached run
 on_named lines l run made plain none at = by (on_whole ages lines l (here_of run) changes made.sound made.within plain
     (others_unnamed lines l made.sound) at.is at.tells)
   where
     ages : List ℕ
-    ages = decks_with (all_named lines) l
+    ages = decks_with (cards_named lines) l
 
     out : ℕ → Bool
     out = is_left_out ages l
@@ -174,11 +174,11 @@ pub run_needed : (lines : List LineView) (l found : LibraryView) (run : AppliedR
     → (AreApart (map key_of (all_cards found)) → run.applied.touched.items ≡ touched found run.library)
     → Told found run.library (map change_seen run.applied.changes.items) → (reached : Reached) × IsRunOf lines l found reached run
 run_needed lines l found run made loaded is touches tells = subst (Ran l) (sym loaded)
-    (go (are_plain lines) refl (list_any (is_yank_card l) (all_named lines)) refl
+    (go (is_plain lines) refl (list_any (is_yank_card l) (cards_named lines)) refl
     (subst (λ m. IsAppliedTo lines m run) loaded (record { is = is; touches = touches; tells = tells })))
   where
     needed : Bool → Bool → List ℕ
-    needed plain yanks = if plain && not yanks then decks_with (all_named lines) l else map (λ d. d.ident) l.decks
+    needed plain yanks = if plain && not yanks then decks_with (cards_named lines) l else map (λ d. d.ident) l.decks
 
     Ran : LibraryView → LibraryView → Type 0
     Ran l m = (reached : Reached) × IsRunOf lines l m reached run
@@ -188,28 +188,28 @@ run_needed lines l found run made loaded is touches tells = subst (Ran l) (sym l
         let whole : part_of ages l ≡ l = ap (λ ds. part_of ds l) e ∙ whole_part l in
         subst (Ran l) (sym whole) (on_all lines l run made (subst (λ m. IsAppliedTo lines m run) whole at))
 
-    go : (plain : Bool) → are_plain lines ≡ plain → (yanks : Bool) → list_any (is_yank_card l) (all_named lines) ≡ yanks
-        → IsAppliedTo lines (part_of (needed (are_plain lines) (list_any (is_yank_card l) (all_named lines))) l) run
-        → Ran l (part_of (needed (are_plain lines) (list_any (is_yank_card l) (all_named lines))) l)
-    go true e true f at = all (needed (are_plain lines) (list_any (is_yank_card l) (all_named lines))) (rw (e, f) refl) at
-    go false e yanks f at = all (needed (are_plain lines) (list_any (is_yank_card l) (all_named lines))) (rw e refl) at
+    go : (plain : Bool) → is_plain lines ≡ plain → (yanks : Bool) → list_any (is_yank_card l) (cards_named lines) ≡ yanks
+        → IsAppliedTo lines (part_of (needed (is_plain lines) (list_any (is_yank_card l) (cards_named lines))) l) run
+        → Ran l (part_of (needed (is_plain lines) (list_any (is_yank_card l) (cards_named lines))) l)
+    go true e true f at = all (needed (is_plain lines) (list_any (is_yank_card l) (cards_named lines))) (rw (e, f) refl) at
+    go false e yanks f at = all (needed (is_plain lines) (list_any (is_yank_card l) (cards_named lines))) (rw e refl) at
     go true e false f at =
-        let held = decks_with (all_named lines) l in
-        let ages : needed (are_plain lines) (list_any (is_yank_card l) (all_named lines)) ≡ held =
-        ap (λ b. needed b (list_any (is_yank_card l) (all_named lines))) e ∙ ap (needed true) f in
+        let held = decks_with (cards_named lines) l in
+        let ages : needed (is_plain lines) (list_any (is_yank_card l) (cards_named lines)) ≡ held =
+        ap (λ b. needed b (list_any (is_yank_card l) (cards_named lines))) e ∙ ap (needed true) f in
         subst (λ ds. Ran l (part_of ds l)) (sym ages) (on_named lines l run made e f (subst (λ ds. IsAppliedTo lines (part_of ds l) run) ages at))
 
 -- a refusal of it is one of the whole
 pub refused_needed : (lines : List LineView) (l found : LibraryView) (f : Fault) → IsMade l → found ≡ part_of (decks_needed lines l) l
     → applied lines found ≡ Err f → applied lines l ≡ Err f
-refused_needed lines l found f made loaded is = go (are_plain lines) refl (list_any (is_yank_card l) (all_named lines)) refl
+refused_needed lines l found f made loaded is = go (is_plain lines) refl (list_any (is_yank_card l) (cards_named lines)) refl
     (ap (applied lines) (sym loaded) ∙ is)
   where
     needed : Bool → Bool → List ℕ
-    needed plain yanks = if plain && not yanks then decks_with (all_named lines) l else map (λ d. d.ident) l.decks
+    needed plain yanks = if plain && not yanks then decks_with (cards_named lines) l else map (λ d. d.ident) l.decks
 
     ages : List ℕ
-    ages = decks_with (all_named lines) l
+    ages = decks_with (cards_named lines) l
 
     all : (ages : List ℕ) → ages ≡ map (λ d. d.ident) l.decks → applied lines (part_of ages l) ≡ Err f → applied lines l ≡ Err f
     all ages e at = sym (ap (applied lines) (ap (λ ds. part_of ds l) e ∙ whole_part l)) ∙ at
@@ -218,16 +218,16 @@ refused_needed lines l found f made loaded is = go (are_plain lines) refl (list_
     refused (Ok reached) e = absurd (cc)
     refused (Err g) e = e
 
-    named : are_plain lines ≡ true → applied lines (part_of ages l) ≡ Err f → applied lines l ≡ Err f
+    named : is_plain lines ≡ true → applied lines (part_of ages l) ≡ Err f → applied lines l ≡ Err f
     named plain at =
         let does : DoesWithout (is_left_out ages l) lines l =
         record { plain = plain; listed = others_listed ages l; cards = others_unnamed lines l made.sound } in
         refused (applied lines l) (sym (ap (applied lines) (part_of_others ages l made.sound)
         ∙ applied_same (is_left_out ages l) lines l refl made.sound does) ∙ at)
 
-    go : (plain : Bool) → are_plain lines ≡ plain → (yanks : Bool) → list_any (is_yank_card l) (all_named lines) ≡ yanks
-        → applied lines (part_of (needed (are_plain lines) (list_any (is_yank_card l) (all_named lines))) l) ≡ Err f → applied lines l ≡ Err f
-    go true e true g at = all (needed (are_plain lines) (list_any (is_yank_card l) (all_named lines))) (rw (e, g) refl) at
-    go false e yanks g at = all (needed (are_plain lines) (list_any (is_yank_card l) (all_named lines))) (rw e refl) at
+    go : (plain : Bool) → is_plain lines ≡ plain → (yanks : Bool) → list_any (is_yank_card l) (cards_named lines) ≡ yanks
+        → applied lines (part_of (needed (is_plain lines) (list_any (is_yank_card l) (cards_named lines))) l) ≡ Err f → applied lines l ≡ Err f
+    go true e true g at = all (needed (is_plain lines) (list_any (is_yank_card l) (cards_named lines))) (rw (e, g) refl) at
+    go false e yanks g at = all (needed (is_plain lines) (list_any (is_yank_card l) (cards_named lines))) (rw e refl) at
     go true e false g at = named e
-        (subst (λ ds. applied lines (part_of ds l) ≡ Err f) (ap (λ b. needed b (list_any (is_yank_card l) (all_named lines))) e ∙ ap (needed true) g) at)
+        (subst (λ ds. applied lines (part_of ds l) ≡ Err f) (ap (λ b. needed b (list_any (is_yank_card l) (cards_named lines))) e ∙ ap (needed true) g) at)

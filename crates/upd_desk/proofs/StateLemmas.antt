@@ -25,7 +25,7 @@ use Rattle.upd_rows.proofs.AskedLemmas.{filter_made}
 use Rattle.upd_rows.specs.Tables.{AreReadOf, count_pair, state_pair}
 use Rattle.upd_parts.proofs.PartStatusLemmas.{status_in_part}
 use Rattle.upd_yank.specs.Right as right
-use Rattle.upd_yank.specs.Right.{ShowStates}
+use Rattle.upd_yank.specs.Right.{AreStatesOf}
 use Rattle.upd_desk.specs.Compiling.{IsPartOf, references_of}
 
 -- ---- the same elements as often
@@ -184,7 +184,7 @@ any_made test f (x ∷ xs) = ap (λ b. test (f x) || b) (any_made test f xs)
 
 -- what was read of the cards of a part shows the statuses of this part of the library whose statuses the tables show
 pub read_states : (rows : Rows) (found : States) (l loaded : LibraryView) (cards : List CardRef) → IsSound l → IsPartOf l loaded
-    → cards ≡ references_of loaded → AreReadOf cards rows found → ShowsStates rows l → ShowStates found loaded
+    → cards ≡ references_of loaded → AreReadOf cards rows found → ShowsStates rows l → AreStatesOf found loaded
 read_states rows found l loaded cards sound (out, zero, is) are read shown = record {
   states = states_shown cards rows found l loaded read shown own;
   counts = λ target. counts_shown cards rows found l read shown target

@@ -11,8 +11,8 @@ ghost use Rattle.upd_desk.specs.Holding.{HoldsIn};
 ghost use Rattle.upd_desk.specs.Journal.{Journal};
 ghost use Rattle.upd_desk.specs.Made.{IsMade};
 ghost use Rattle.upd_desk.specs.Needed.{stands_in_deck};
-ghost use Rattle.upd_parts.specs.Needed.{all_named, decks_needed};
-ghost use Rattle.upd_parts.specs.Needless.{are_plain};
+ghost use Rattle.upd_parts.specs.Needed.{cards_named, decks_needed};
+ghost use Rattle.upd_parts.specs.Needless.{is_plain};
 ghost use Rattle.upd_rows.specs.Asked.{decks_with};
 ghost use Rattle.upd_rows.specs.Keeping.{IsLost, Keeps, MoreFailures, reads_after};
 ghost use Rattle.upd_text.specs.declared.fault.FaultKind.TheVariants.{Store};
@@ -20,7 +20,7 @@ ghost use Rattle.upd_text.specs.declared.fault.FaultKind.TheVariants.{Store};
 use std::alloc::{AllocError, Global};
 use upd_core::{CardRef, Counted, CountedCard, Library, Name};
 use upd_deck::Run;
-use upd_parts::needs::{cards_named, is_plain, name_yank_card};
+use upd_parts::needs::{any_names_yank_card, cards_named, is_plain};
 use upd_rows::RowStore;
 use upd_text::{Fault, FaultKind};
 
@@ -77,7 +77,7 @@ fn add_references(cards: &mut Vec<CardRef>, counted: &[CountedCard<'_>]) -> Resu
 /// The same for a run that neither yanks nor purges. Where each card that it names stands in a deck, none of them is a
 /// yank card.
 fn load_named<S: RowStore>(store: &mut S, alloc: Global, run: &Run<'_>) -> Result<Library, Fault>
-    requires plain { are_plain run.now ≡ true }
+    requires plain { is_plain run.now ≡ true }
     ensures found { S.is_honest store.new → IfOk result (λ found. (l : LibraryView) → IsMade l → (rows : Rows)
         → S.shows (S.image store.old) rows → Shows rows l → found ≡ part_of (decks_needed run.now l) l) }
     ensures reads { S.is_honest store.new → OnOk result ((l : LibraryView) → IsMade l → (rows : Rows)
@@ -155,8 +155,8 @@ fn load_looking<S: RowStore>(
     run: &Run<'_>,
     cards: &[CardRef],
 ) -> Result<Library, Fault>
-    requires plain { are_plain run.now ≡ true }
-    requires named { cards.now ≡ all_named run.now }
+    requires plain { is_plain run.now ≡ true }
+    requires named { cards.now ≡ cards_named run.now }
     ensures found { S.is_honest store.new → IfOk result (λ found. (l : LibraryView) → IsMade l → (rows : Rows)
         → S.shows (S.image store.old) rows → Shows rows l → found ≡ part_of (decks_needed run.now l) l) }
     ensures reads { S.is_honest store.new → OnOk result ((l : LibraryView) → IsMade l → (rows : Rows)
@@ -172,7 +172,7 @@ fn load_looking<S: RowStore>(
         Ok(head) => head,
         Err(fault) => return Err(fault),
     };
-    if name_yank_card(cards, &head) {
+    if any_names_yank_card(cards, &head) {
         match store.load(alloc) {
             Ok(library) => Ok(library),
             Err(fault) => Err(fault),

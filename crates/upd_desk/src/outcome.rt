@@ -16,7 +16,7 @@ ghost use Rattle.upd_compile.specs.File.{compile_file_of};
 ghost use Rattle.upd_compile.specs.declared.mode.Mode.{Mode};
 ghost use Rattle.upd_parts.specs.Needed.{decks_needed};
 ghost use Rattle.upd_rows.specs.Keeping.{IsLost, Keeps, MoreFailures};
-ghost use Rattle.upd_yank.specs.Right.{IsRight, ShowStates};
+ghost use Rattle.upd_yank.specs.Right.{IsRight, AreStatesOf};
 ghost use Rattle.upd_desk.specs.Arrivals.{door};
 ghost use Rattle.upd_desk.specs.Compiling.{AreActivesFor, IsOutcomeOf, IsRunOf, IsSeen, references_of};
 ghost use Rattle.upd_desk.specs.Made.{IsMade};
@@ -31,7 +31,7 @@ use upd_apply::{Applied, apply};
 use upd_change::Change;
 use upd_compile::{CompileFile, Mode, compile_active};
 use upd_core::ident::name_at;
-use upd_core::{Actives, CardRef, Counted, Ident, Library, Serial, States};
+use upd_core::{Actives, Age, CardRef, Counted, Ident, Library, States};
 use upd_deck::{Run, read_run};
 use upd_rows::RowStore;
 use upd_text::{Fault, FaultKind, Name};
@@ -215,7 +215,7 @@ fn settled_outcome(
     ensures found { IfOk result (λ o. (lines : List LineView) (l loaded : LibraryView) (reached : Reached)
         → reading arrival.now.bytes ≡ Ok lines → IsMade l → IsRunOf lines l loaded reached run
         → AreActivesFor mode run.applied.compile.items l before → (rows : Rows) → Shows rows l → ShowsStates rows l
-        → ShowStates states.now loaded → IsOutcomeOf mode arrival.now l rows o) }
+        → AreStatesOf states.now loaded → IsOutcomeOf mode arrival.now l rows o) }
     ensures lost { IsOkUnless result (fault_at NoMemory 0) }
 {
     let mut cache = Cache::of_rows(alloc, states)?;
@@ -321,7 +321,7 @@ fn accepted_reply(
 }
 
 /// The names of the idents of these ages.
-fn names(alloc: Global, idents: &[Ident], ages: &[Serial]) -> Result<Vec<Name>, AllocError>
+fn names(alloc: Global, idents: &[Ident], ages: &[Age]) -> Result<Vec<Name>, AllocError>
     ensures { IfOk result (λ names. names.items ≡ map (name_of idents.now) ages.now) }
 {
     let mut names = Vec::new(alloc);

@@ -5,7 +5,7 @@ use std::test::Fail;
 use upd_apply::apply;
 use upd_compile::{CompileFile, Mode, compile_file};
 use upd_core::ident::name_at;
-use upd_core::{Counted, Ident, Library, Serial};
+use upd_core::{Age, Counted, Ident, Library};
 use upd_deck::read_run;
 use upd_text::{Fault, FaultKind};
 use upd_yank::Cache;
@@ -164,7 +164,7 @@ fn accepted_text(
     alloc: Global,
     sent: Sent<'_>,
     directory: &[Ident],
-    idents: &[Serial],
+    idents: &[Age],
     file: &CompileFile,
 ) -> Result<String, Fault> {
     let mut text = String::from_str(alloc, "{\"compile\":\"")?;
@@ -195,7 +195,7 @@ fn accepted_text(
     Ok(text)
 }
 
-fn add_name(text: &mut String, directory: &[Ident], age: Serial) -> Result<(), Fault> {
+fn add_name(text: &mut String, directory: &[Ident], age: Age) -> Result<(), Fault> {
     if let Some(name) = name_at(directory, age) {
         for byte in name.as_bytes() {
             add_escaped(text, *byte)?;

@@ -6,10 +6,10 @@ use Rattle.upd_text.specs.declared.fault.Fault.{Fault}
 use Rattle.upd_text.specs.declared.fault.FaultKind.TheVariants.{BadFrame}
 use Rattle.upd_reply.specs.Texts.{fault_text, settled_text}
 use Rattle.upd_desk.specs.Outcomes.{ReplyView}
-use Rattle.upd_request.specs.Verbs.{verb_text}
+use Rattle.upd_request.specs.Methods.{method_text}
 use Rattle.upd_request.specs.declared.call.Refusal.{Refusal}
 use Rattle.upd_request.specs.declared.call.Refusal.TheVariants.{Silent, Told, NoRoute, OtherMethod}
-use Rattle.upd_request.specs.declared.call.Verb.{Verb}
+use Rattle.upd_request.specs.declared.call.Method.{Method}
 use Rattle.upd_http.specs.Statuses.{fault_status, media_text, status_line}
 use Rattle.upd_http.specs.declared.status.Media.{Media}
 use Rattle.upd_http.specs.declared.status.Media.TheVariants.{Json, Plain}
@@ -20,15 +20,15 @@ use Rattle.upd_http.specs.declared.status.Status.TheVariants.{Done, Unprocessabl
 pub record Response : Type 0 where
   pub status : Status
   pub media : Media
-  pub allow : Option Verb
+  pub allow : Option Method
   pub body : List ℕ
 
 -- ---- bytes
 
 -- the line that names the method of a path
-abbrev pub allow_line : Option Verb → List ℕ
+abbrev pub allow_line : Option Method → List ℕ
 allow_line None = []
-allow_line (Some verb) = codes "\r\nAllow: " ++ verb_text verb
+allow_line (Some method) = codes "\r\nAllow: " ++ method_text method
 
 -- the head of an answer: its lines, each with CR LF, and an empty line
 abbrev pub head_text : Response → List ℕ
@@ -72,4 +72,4 @@ abbrev pub refusal_answer : Refusal → Result Response Fault
 refusal_answer (Silent fault) = Err fault
 refusal_answer (Told fault) = Ok (fault_response fault)
 refusal_answer NoRoute = Ok (record (fault_response (fault_at BadFrame 0)) { status = NotFound })
-refusal_answer (OtherMethod verb) = Ok (record (fault_response (fault_at BadFrame 0)) { status = MethodNotAllowed; allow = Some verb })
+refusal_answer (OtherMethod method) = Ok (record (fault_response (fault_at BadFrame 0)) { status = MethodNotAllowed; allow = Some method })

@@ -10,7 +10,7 @@ use crate::status::{Media, Status};
 use itoa::Buffer;
 use std::alloc::Global;
 use upd_desk::Reply;
-use upd_request::{Refusal, Verb};
+use upd_request::{Method, Refusal};
 use upd_text::{Fault, FaultKind};
 
 /// The room that any head of an answer has enough of, in bytes.
@@ -22,7 +22,7 @@ pub struct Answer {
     pub(crate) status: Status,
     pub(crate) media: Media,
     /// The method of the path, where another one was asked.
-    pub(crate) allow: Option<Verb>,
+    pub(crate) allow: Option<Method>,
     pub(crate) body: Vec<u8>,
 }
 
@@ -85,11 +85,11 @@ impl Answer {
                     ..answer
                 })
             }
-            Refusal::OtherMethod(verb) => {
+            Refusal::OtherMethod(method) => {
                 let answer = Answer::fault(alloc, FaultKind::BadFrame.without_line())?;
                 Ok(Answer {
                     status: Status::MethodNotAllowed,
-                    allow: Some(verb),
+                    allow: Some(method),
                     ..answer
                 })
             }
@@ -115,14 +115,14 @@ impl Answer {
 }
 
 /// The line that names the method of a path, where another one was asked.
-fn allow_line(allow: Option<Verb>) -> &'static str
+fn allow_line(allow: Option<Method>) -> &'static str
     ensures value { result.now ≡ allow_line allow }
     ensures short { length result.now ≤ 16 }
 {
     match allow {
         None => "",
-        Some(Verb::Get) => "\r\nAllow: GET",
-        Some(Verb::Post) => "\r\nAllow: POST",
+        Some(Method::Get) => "\r\nAllow: GET",
+        Some(Method::Post) => "\r\nAllow: POST",
     }
 }
 

@@ -18,7 +18,7 @@ use Rattle.upd_yank.specs.Affected.{affected, is_touched}
 use Rattle.upd_yank.specs.Cascade.{is_due}
 use Rattle.upd_yank.specs.Enough.{AreIdle, IsEnough}
 use Rattle.upd_yank.proofs.EnoughLemmas.{part_of_none, sees}
-use Rattle.upd_parts.specs.Needless.{DoesWithout, NamesNone, cards_named, left_out, reached_in_part}
+use Rattle.upd_parts.specs.Needless.{DoesWithout, NamesNone, cards_of_item, left_out, reached_in_part}
 use Rattle.upd_parts.proofs.AppliedLemmas.{applied_same}
 use Rattle.upd_parts.proofs.IdleLemmas.{idle_in}
 use Rattle.upd_parts.proofs.NeedLemmas.{none_in}
@@ -34,12 +34,12 @@ StandsOut out l card = (p : Place) → place_of card l ≡ Some p → out p.deck
 named_in_part : (out test : ℕ → Bool) (lines : List LineView) (l : LibraryView) → out 0 ≡ false → IsSound l → NamesNone out lines l → NamesNone test lines l
     → NamesNone test lines (part out l)
 named_in_part out test lines l yanks sound names none =
-    all_weaker (λ line. AllByRecursion (StandsOut test l) (cards_named line.item) × AllByRecursion (IsNotIn (left_out out l) l) (cards_named line.item))
-    (λ line. AllByRecursion (StandsOut test (part out l)) (cards_named line.item)) lines
-    (λ line both. all_weaker (λ card. StandsOut test l card × IsNotIn (left_out out l) l card) (StandsOut test (part out l)) (cards_named line.item)
+    all_weaker (λ line. AllByRecursion (StandsOut test l) (cards_of_item line.item) × AllByRecursion (IsNotIn (left_out out l) l) (cards_of_item line.item))
+    (λ line. AllByRecursion (StandsOut test (part out l)) (cards_of_item line.item)) lines
+    (λ line both. all_weaker (λ card. StandsOut test l card × IsNotIn (left_out out l) l card) (StandsOut test (part out l)) (cards_of_item line.item)
     (λ card here p at. here.0 p (sym (place_same out l card yanks here.1) ∙ at))
-    (all_both (StandsOut test l) (IsNotIn (left_out out l) l) (cards_named line.item) both.0 both.1))
-    (all_both (λ line. AllByRecursion (StandsOut test l) (cards_named line.item)) (λ line. AllByRecursion (IsNotIn (left_out out l) l) (cards_named line.item))
+    (all_both (StandsOut test l) (IsNotIn (left_out out l) l) (cards_of_item line.item) both.0 both.1))
+    (all_both (λ line. AllByRecursion (StandsOut test l) (cards_of_item line.item)) (λ line. AllByRecursion (IsNotIn (left_out out l) l) (cards_of_item line.item))
     lines none (none_in out lines l sound names))
 
 -- ---- a part alone
@@ -59,9 +59,9 @@ module _ (out : ℕ → Bool) (lines : List LineView) (l : LibraryView) (reached
       (record {
         plain = does.plain;
         listed = λ z later. refl;
-        cards = all_weaker (λ line. AllByRecursion (StandsOut (λ d. d == 0) old) (cards_named line.item))
-            (λ line. AllByRecursion (StandsOut (λ _. false) old) (cards_named line.item)) lines
-            (λ line all. all_weaker (StandsOut (λ d. d == 0) old) (StandsOut (λ _. false) old) (cards_named line.item) (λ card h p at. refl) all) none;
+        cards = all_weaker (λ line. AllByRecursion (StandsOut (λ d. d == 0) old) (cards_of_item line.item))
+            (λ line. AllByRecursion (StandsOut (λ _. false) old) (cards_of_item line.item)) lines
+            (λ line all. all_weaker (StandsOut (λ d. d == 0) old) (StandsOut (λ _. false) old) (cards_of_item line.item) (λ card h p at. refl) all) none;
       })
       none (applied_same out lines l yanks sound does ∙ ap (reached_in_part out) is)
     where

@@ -16,17 +16,17 @@ use Rattle.upd_deck.specs.Items.{LineView}
 use Rattle.upd_apply.specs.Applying.{Reached, applied}
 use Rattle.upd_laws.proofs.SoundListLemmas.{all_each}
 use Rattle.upd_laws.proofs.SoundRunLemmas.{run_goes, run_sound}
-use Rattle.upd_parts.specs.Needed.{all_named, is_yank_card}
-use Rattle.upd_parts.specs.Needless.{DoesWithout, NamesNone, are_plain, cards_named, left_out}
+use Rattle.upd_parts.specs.Needed.{cards_named, is_yank_card}
+use Rattle.upd_parts.specs.Needless.{DoesWithout, NamesNone, is_plain, cards_of_item, left_out}
 use Rattle.upd_parts.proofs.AppliedLemmas.{applied_left}
 use Rattle.upd_parts.proofs.NeedLemmas.{among}
 use Rattle.upd_parts.proofs.StayLemmas.{yanks_stay}
 
 -- ---- runs that name no yank card
 
-pub no_yank_named : (lines : List LineView) (l : LibraryView) → list_any (is_yank_card l) (all_named lines) ≡ false → NamesNone (λ d. d == 0) lines l
+pub no_yank_named : (lines : List LineView) (l : LibraryView) → list_any (is_yank_card l) (cards_named lines) ≡ false → NamesNone (λ d. d == 0) lines l
 no_yank_named lines l none =
-    all_each _ (λ (line : LineView). cards_named line.item) lines (each (all_named lines) none)
+    all_each _ (λ (line : LineView). cards_of_item line.item) lines (each (cards_named lines) none)
   where
     each : (cards : List CardRef) → list_any (is_yank_card l) cards ≡ false
         → AllByRecursion (λ card. (p : Place) → place_of card l ≡ Some p → (p.deck == 0) ≡ false) cards
@@ -35,8 +35,8 @@ no_yank_named lines l none =
         let parts = or_parts (is_yank_card l card) (list_any (is_yank_card l) cards) none in
         ((λ p at. rw at at parts.0), each cards parts.1)
 
-pub yanks_kept : (lines : List LineView) (l : LibraryView) (reached : Reached) → IsSound l → are_plain lines ≡ true
-    → list_any (is_yank_card l) (all_named lines) ≡ false → applied lines l ≡ Ok reached → reached.library.yanks ≡ l.yanks
+pub yanks_kept : (lines : List LineView) (l : LibraryView) (reached : Reached) → IsSound l → is_plain lines ≡ true
+    → list_any (is_yank_card l) (cards_named lines) ≡ false → applied lines l ≡ Ok reached → reached.library.yanks ≡ l.yanks
 yanks_kept lines l reached sound plain none is =
     yanks_stay (λ d. d == 0) lines l reached sound (record { plain = plain; listed = λ z later. young z later; cards = no_yank_named lines l none }) is refl
   where

@@ -15,7 +15,7 @@ use Rattle.upd_deck.specs.Items.{LineView}
 use Rattle.upd_core.specs.Parts.{cards_of_decks, entries_of_decks, part, part_of}
 use Rattle.upd_laws.proofs.SoundIdentLemmas.{held_deck_held, held_within}
 use Rattle.upd_laws.proofs.SoundListLemmas.{all_each, all_filter, all_weaker, and_left, and_right, same_number}
-use Rattle.upd_parts.specs.Needless.{NamesNone, cards_named, is_left_out, left_out}
+use Rattle.upd_parts.specs.Needless.{NamesNone, cards_of_item, is_left_out, left_out}
 use Rattle.upd_parts.proofs.PartLemmas.{AreNotIn, IsNotIn}
 use Rattle.upd_parts.proofs.RunLemmas.{AreOfListed}
 
@@ -133,4 +133,4 @@ not_in out l card sound stays z is = go (place_in (left_out out l) z card.number
 -- a run that names no card of what is left out
 pub none_in : (out : ℕ → Bool) (lines : List LineView) (l : LibraryView) → IsSound l → NamesNone out lines l → AreNotIn (left_out out l) l lines
 none_in out lines l sound names =
-    all_weaker _ _ lines (λ line all. all_weaker _ _ (cards_named line.item) (λ card. not_in out l card sound) all) names
+    all_weaker _ _ lines (λ line all. all_weaker _ _ (cards_of_item line.item) (λ card. not_in out l card sound) all) names

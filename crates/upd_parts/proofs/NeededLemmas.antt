@@ -21,8 +21,8 @@ use Rattle.upd_rows.specs.Asked.{decks_with, holds_one, is_asked}
 use Rattle.upd_laws.proofs.SoundListLemmas.{all_each, all_weaker, same_number}
 use Rattle.upd_parts.proofs.NeedLemmas.{not_in}
 use Rattle.upd_parts.proofs.PartLemmas.{cards_same, place_same}
-use Rattle.upd_parts.specs.Needed.{all_named}
-use Rattle.upd_parts.specs.Needless.{NamesNone, cards_named, is_left_out}
+use Rattle.upd_parts.specs.Needed.{cards_named}
+use Rattle.upd_parts.specs.Needless.{NamesNone, cards_of_item, is_left_out}
 
 -- ---- a card that is asked for is held by a deck
 
@@ -86,14 +86,14 @@ told_or_yank cards l card p sound asked at = go (0 == p.deck) refl (p.deck == 0)
     go false e false f = let told = among e in rw told (end (not (p.deck == 0)) (nat_le p.deck (length l.idents)))
 
 -- a run that names cards can do without the decks that hold none of them
-pub others_unnamed : (lines : List LineView) (l : LibraryView) → IsSound l → NamesNone (is_left_out (decks_with (all_named lines) l) l) lines l
-others_unnamed lines l sound = all_weaker _ _ lines (λ line all. all_weaker _ _ (cards_named line.item) unnamed all) asked
+pub others_unnamed : (lines : List LineView) (l : LibraryView) → IsSound l → NamesNone (is_left_out (decks_with (cards_named lines) l) l) lines l
+others_unnamed lines l sound = all_weaker _ _ lines (λ line all. all_weaker _ _ (cards_of_item line.item) unnamed all) asked
   where
     cards : List CardRef
-    cards = all_named lines
+    cards = cards_named lines
 
-    asked : AllByRecursion (λ line. AllByRecursion (λ card. is_asked cards card ≡ true) (cards_named line.item)) lines
-    asked = all_each (λ card. is_asked cards card ≡ true) (λ (line : LineView). cards_named line.item) lines
+    asked : AllByRecursion (λ line. AllByRecursion (λ card. is_asked cards card ≡ true) (cards_of_item line.item)) lines
+    asked = all_each (λ card. is_asked cards card ≡ true) (λ (line : LineView). cards_of_item line.item) lines
         (all_by_index cards (λ k card. asked_own cards k card))
 
     unnamed : (card : CardRef) → is_asked cards card ≡ true → (p : Place) → place_of card l ≡ Some p → is_left_out (decks_with cards l) l p.deck ≡ false

@@ -15,7 +15,7 @@ use Rattle.upd_core.specs.Library.{CardView, DeckView, LibraryView, all_decks, c
 use Rattle.upd_core.specs.Limits.{card_count, entry_count, is_within_limits}
 use Rattle.upd_core.specs.Parts.{cards_of_decks, entries_of_decks, part}
 use Rattle.upd_laws.proofs.SoundListLemmas.{same_number}
-use Rattle.upd_parts.specs.Needless.{cards_named, left_out}
+use Rattle.upd_parts.specs.Needless.{cards_of_item, left_out}
 use Rattle.upd_deck.specs.Items.{LineView}
 
 abbrev pub kept_of : (ℕ → Bool) → List DeckView → List DeckView
@@ -30,7 +30,7 @@ IsNotIn decks l card = (z : ℕ) → ident_of card.name l ≡ Some z → place_i
 
 -- a run names no card of these decks
 abbrev pub AreNotIn : List DeckView → LibraryView → List LineView → Type 0
-AreNotIn decks l lines = AllByRecursion (λ line. AllByRecursion (IsNotIn decks l) (cards_named line.item)) lines
+AreNotIn decks l lines = AllByRecursion (λ line. AllByRecursion (IsNotIn decks l) (cards_of_item line.item)) lines
 
 -- ---- places
 

@@ -30,7 +30,7 @@ use Rattle.upd_apply.specs.Step.{new_name, set_begun, deck_begun, placed_after, 
 use Rattle.upd_apply.proofs.StepLemmas.{after_grown}
 use Rattle.upd_laws.proofs.BackLibraryLemmas.{idents-with_card, idents-with_entries, length-introduced}
 use Rattle.upd_laws.proofs.SoundListLemmas.{all_weaker}
-use Rattle.upd_parts.specs.Needless.{are_plain, cards_named, is_plain, left_out}
+use Rattle.upd_parts.specs.Needless.{is_plain, cards_of_item, is_plain_item, left_out}
 use Rattle.upd_parts.proofs.PartLemmas.{AreNotIn, IsNotIn, deck_kept, with_cards_left, with_deck_left}
 use Rattle.upd_parts.proofs.StepLemmas.{Leaves, SpotStays, done_same, in_part, parted}
 
@@ -143,8 +143,8 @@ text_keeps out text s (Inside d after) stays here =
     (idents-with_card d after _ s.library) here)))
 
 done_keeps : (out : ℕ → Bool) (item : ItemView) (text : List ℕ) (s : State) → Leaves out s → AreOfListed (left_out out s.library) s.library
-    → is_plain item ≡ true
-    → AllByRecursion (IsNotIn (left_out out s.library) s.library) (cards_named item) → IfOk (line_done item text s) (Keeps out s)
+    → is_plain_item item ≡ true
+    → AllByRecursion (IsNotIn (left_out out s.library) s.library) (cards_of_item item) → IfOk (line_done item text s) (Keeps out s)
 done_keeps out Text text s leaves old plain lacks = text_keeps out text s s.spot leaves.spot leaves.spot
 done_keeps out (Call name) text s leaves old plain lacks = text_keeps out text s s.spot leaves.spot leaves.spot
 done_keeps out (Ident name) text s leaves old plain lacks = set_keeps out name s old
@@ -179,18 +179,18 @@ lines_more : (out : ℕ → Bool) (s t : State) (lines : List LineView) → Keep
     → AreNotIn (left_out out t.library) t.library lines
 lines_more out s t lines k lacks =
     subst (λ gone. AreNotIn gone t.library lines) (sym k.left)
-    (all_weaker _ _ lines (λ line all. all_weaker _ _ (cards_named line.item) k.named all) lacks)
+    (all_weaker _ _ lines (λ line all. all_weaker _ _ (cards_of_item line.item) k.named all) lacks)
 
 -- what a run does to a part, and what it leaves of what is left out
 pub record Runs (out : ℕ → Bool) (lines : List LineView) (s : State) : Type 0 where
   pub same : out 0 ≡ false → stepped lines (parted out s) ≡ in_part out (stepped lines s)
   pub left : IfOk (stepped lines s) (λ t. left_out out t.library ≡ left_out out s.library)
 
-pub runs : (out : ℕ → Bool) (lines : List LineView) (s : State) → Leaves out s → AreOfListed (left_out out s.library) s.library → IsTrue (are_plain lines)
+pub runs : (out : ℕ → Bool) (lines : List LineView) (s : State) → Leaves out s → AreOfListed (left_out out s.library) s.library → IsTrue (is_plain lines)
     → AreNotIn (left_out out s.library) s.library lines → Runs out lines s
 runs out [] s leaves old plain lacks = record { same = λ yanks. refl; left = refl }
 runs out (line ∷ lines) s leaves old plain lacks =
-    let both = and_parts (is_plain line.item) (are_plain lines) plain in
+    let both = and_parts (is_plain_item line.item) (is_plain lines) plain in
     go (step line s) refl (λ yanks. done_same out line.item line.text s yanks leaves both.0 lacks.0)
     (done_keeps out line.item line.text s leaves old both.0 lacks.0)
     (λ t k. runs out lines t (leaves_more out s t leaves k) (listed_more out s t old k) both.1 (lines_more out s t lines k lacks.1))

@@ -20,7 +20,7 @@ use Rattle.upd_apply.specs.declared.state.Spot.TheVariants.{Nowhere, End, Inside
 use Rattle.upd_apply.specs.declared.state.State.{State}
 use Rattle.upd_apply.specs.Step.{within_limits, new_name, set_begun, deck_begun, placed_after, placed_before, switched, text_put, is_deck_card, line_done}
 use Rattle.upd_core.specs.Parts.{part}
-use Rattle.upd_parts.specs.Needless.{cards_named, is_plain, left_out}
+use Rattle.upd_parts.specs.Needless.{cards_of_item, is_plain_item, left_out}
 use Rattle.upd_parts.proofs.PartLemmas.{IsNotIn, cards_same, deck_kept, limits_same, place_same, with_cards_same, with_deck_same}
 
 -- the state with a part of its library
@@ -152,8 +152,8 @@ pub record Leaves (out : ℕ → Bool) (s : State) : Type 0 where
   pub fresh : (z : ℕ) → length s.library.idents < z → out z ≡ false
   pub spot : SpotStays out s.spot
 
-pub done_same : (out : ℕ → Bool) (item : ItemView) (text : List ℕ) (s : State) → out 0 ≡ false → Leaves out s → is_plain item ≡ true
-    → AllByRecursion (IsNotIn (left_out out s.library) s.library) (cards_named item) → line_done item text (parted out s) ≡ in_part out (line_done item text s)
+pub done_same : (out : ℕ → Bool) (item : ItemView) (text : List ℕ) (s : State) → out 0 ≡ false → Leaves out s → is_plain_item item ≡ true
+    → AllByRecursion (IsNotIn (left_out out s.library) s.library) (cards_of_item item) → line_done item text (parted out s) ≡ in_part out (line_done item text s)
 done_same out Text text s yanks leaves plain lacks = text_same out text s.spot s leaves.spot
 done_same out (Call name) text s yanks leaves plain lacks = text_same out text s.spot s leaves.spot
 done_same out (Ident name) text s yanks leaves plain lacks = set_same out name s

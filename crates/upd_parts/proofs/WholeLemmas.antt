@@ -26,7 +26,7 @@ use Rattle.upd_laws.specs.PurgingBack.{DecksGoOn, is_purge, purges_nothing}
 use Rattle.upd_laws.proofs.BackLibraryLemmas.{Grows}
 use Rattle.upd_laws.proofs.BackStepLemmas.{all_applied_grows}
 use Rattle.upd_laws.proofs.SoundListLemmas.{all_filter, all_weaker, and_left, and_right, both, is_same_number}
-use Rattle.upd_parts.specs.Needless.{DoesWithout, IsOnWhole, NamesNone, are_plain, is_left_out, is_plain, left_out, reached_in_part}
+use Rattle.upd_parts.specs.Needless.{DoesWithout, IsOnWhole, NamesNone, is_plain, is_left_out, is_plain_item, left_out, reached_in_part}
 use Rattle.upd_parts.proofs.AppliedLemmas.{applied_left, applied_same}
 use Rattle.upd_parts.proofs.NeedLemmas.{others_listed, part_of_others}
 use Rattle.upd_parts.proofs.PartLemmas.{cards_same, kept_all, kept_of, left_of}
@@ -34,25 +34,25 @@ use Rattle.upd_parts.proofs.WeaveLemmas.{AreFew, StandFirst, each_few, same_entr
 
 -- ---- plain runs leave decks where they stand
 
-no_purge : (item : ItemView) → is_plain item ≡ true → not (is_purge item) ≡ true
+no_purge : (item : ItemView) → is_plain_item item ≡ true → not (is_purge item) ≡ true
 no_purge (Purge ranges) plain = absurd (cc)
 no_purge (PurgeFrom name) plain = absurd (cc)
 no_purge (SelPurge pairs) plain = absurd (cc)
 no_purge (PurDeck ranges) plain = absurd (cc)
 no_purge _ plain = refl
 
-pub no_purges : (lines : List LineView) → are_plain lines ≡ true → purges_nothing lines ≡ true
+pub no_purges : (lines : List LineView) → is_plain lines ≡ true → purges_nothing lines ≡ true
 no_purges [] plain = refl
 no_purges (line ∷ lines) plain =
-    both (not (is_purge line.item)) (purges_nothing lines) (no_purge line.item (and_left (is_plain line.item) _ plain))
-    (no_purges lines (and_right (is_plain line.item) (are_plain lines) plain))
+    both (not (is_purge line.item)) (purges_nothing lines) (no_purge line.item (and_left (is_plain_item line.item) _ plain))
+    (no_purges lines (and_right (is_plain_item line.item) (is_plain lines) plain))
 
 first_of_on : (P : ℕ → Type 0) (ds es : List DeckView) → DecksGoOn P ds es → StandFirst ds es
 first_of_on P [] es on = tt
 first_of_on P (d ∷ ds) [] on = absurd on
 first_of_on P (d ∷ ds) (e ∷ es) on = (on.0, first_of_on P ds es on.2)
 
-decks_first : (lines : List LineView) (l : LibraryView) (reached : Reached) → are_plain lines ≡ true → applied lines l ≡ Ok reached
+decks_first : (lines : List LineView) (l : LibraryView) (reached : Reached) → is_plain lines ≡ true → applied lines l ≡ Ok reached
     → StandFirst l.decks reached.library.decks
 decks_first lines l reached plain is =
     let x = suc (length l.idents) in
@@ -151,7 +151,7 @@ same_ok : (x y : Reached) (r s : Result Reached Fault) → r ≡ Ok x → s ≡ 
 same_ok x y r s p q e = cc
 
 pub on_whole : (ages : List ℕ) (lines : List LineView) (l : LibraryView) (here : Reached) (changes : List ChangeView) → IsSound l
-    → is_within_limits l ≡ true → are_plain lines ≡ true → NamesNone (is_left_out ages l) lines l → applied lines (part_of ages l) ≡ Ok here
+    → is_within_limits l ≡ true → is_plain lines ≡ true → NamesNone (is_left_out ages l) lines l → applied lines (part_of ages l) ≡ Ok here
     → Told (part_of ages l) here.library changes → IsOnWhole (is_left_out ages l) lines l here changes
 on_whole ages lines l here changes sound within plain names is told = go (applied lines l) refl
   where

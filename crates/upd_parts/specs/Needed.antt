@@ -7,11 +7,11 @@ use Rattle.upd_core.specs.Ages.{Age}
 use Rattle.upd_core.specs.Library.{LibraryView, place_of}
 use Rattle.upd_deck.specs.Items.{LineView}
 use Rattle.upd_rows.specs.Asked.{decks_with}
-use Rattle.upd_parts.specs.Needless.{are_plain, cards_named}
+use Rattle.upd_parts.specs.Needless.{is_plain, cards_of_item}
 
 -- the cards that the lines of a run name, in their order
-abbrev pub all_named : List LineView → List CardRef
-all_named lines = flat_map (λ line. cards_named line.item) lines
+abbrev pub cards_named : List LineView → List CardRef
+cards_named lines = flat_map (λ line. cards_of_item line.item) lines
 
 -- whether a reference names a yank card
 abbrev pub is_yank_card : LibraryView → CardRef → Bool
@@ -20,4 +20,4 @@ is_yank_card l card = option_map_or (λ p. p.deck == 0) (place_of card l) false
 -- A run needs all decks where it yanks, purges or names a yank card; otherwise those that hold a card which it names. `YANK$$$` is no deck here.
 abbrev pub decks_needed : List LineView → LibraryView → List Age
 decks_needed lines l =
-    if are_plain lines && not (list_any (is_yank_card l) (all_named lines)) then decks_with (all_named lines) l else map (λ d. d.ident) l.decks
+    if is_plain lines && not (list_any (is_yank_card l) (cards_named lines)) then decks_with (cards_named lines) l else map (λ d. d.ident) l.decks

@@ -14,27 +14,27 @@ use Rattle.upd_apply.specs.Applying.{Reached, applied, touched}
 use Rattle.upd_core.specs.Parts.{part}
 
 -- whether a line neither yanks nor purges
-abbrev pub is_plain : ItemView → Bool
-is_plain (Yank ranges) = false
-is_plain (SelYank pairs) = false
-is_plain (YankDeck names) = false
-is_plain (Purge ranges) = false
-is_plain (PurgeFrom name) = false
-is_plain (SelPurge pairs) = false
-is_plain (PurDeck ranges) = false
-is_plain _ = true
+abbrev pub is_plain_item : ItemView → Bool
+is_plain_item (Yank ranges) = false
+is_plain_item (SelYank pairs) = false
+is_plain_item (YankDeck names) = false
+is_plain_item (Purge ranges) = false
+is_plain_item (PurgeFrom name) = false
+is_plain_item (SelPurge pairs) = false
+is_plain_item (PurDeck ranges) = false
+is_plain_item _ = true
 
 -- no line of a run yanks or purges
-abbrev pub are_plain : List LineView → Bool
-are_plain lines = list_all (λ line. is_plain line.item) lines
+abbrev pub is_plain : List LineView → Bool
+is_plain lines = list_all (λ line. is_plain_item line.item) lines
 
 -- the cards that a line names
-abbrev pub cards_named : ItemView → List CardRef
-cards_named (Insert card) = card ∷ []
-cards_named (Before card) = card ∷ []
-cards_named (Delete first last) = first ∷ last ∷ []
-cards_named (Restore first last) = first ∷ last ∷ []
-cards_named _ = []
+abbrev pub cards_of_item : ItemView → List CardRef
+cards_of_item (Insert card) = card ∷ []
+cards_of_item (Before card) = card ∷ []
+cards_of_item (Delete first last) = first ∷ last ∷ []
+cards_of_item (Restore first last) = first ∷ last ∷ []
+cards_of_item _ = []
 
 -- the ages of a library's directory that aren't among these: those of the decks that a part with these decks alone leaves out
 abbrev pub is_left_out : List Age → LibraryView → Age → Bool
@@ -47,11 +47,11 @@ left_out out l = filter (λ d. out d.ident) (all_decks l)
 -- each card that a run names, where there is such a card, stands in a deck of an age that doesn't pass the test
 abbrev pub NamesNone : (Age → Bool) → List LineView → LibraryView → Type 0
 NamesNone out lines l =
-    AllByRecursion (λ line. AllByRecursion (λ card. (p : Place) → place_of card l ≡ Some p → out p.deck ≡ false) (cards_named line.item)) lines
+    AllByRecursion (λ line. AllByRecursion (λ card. (p : Place) → place_of card l ≡ Some p → out p.deck ≡ false) (cards_of_item line.item)) lines
 
 -- A run without yanks and purges does without decks of which it names no card. The test passes no age that is yet to come.
 pub record DoesWithout (out : Age → Bool) (lines : List LineView) (l : LibraryView) : Type 0 where
-  pub plain : IsTrue (are_plain lines)
+  pub plain : IsTrue (is_plain lines)
   pub listed : (z : Age) → length l.idents < z → out z ≡ false
   pub cards : NamesNone out lines l
 

@@ -3,8 +3,8 @@
 ghost use Rattle.std.specs.Prelude.{◌≡◌, ◌++◌, IfOk, OnOk};
 ghost use Rattle.std.specs.List.{list_any};
 ghost use Rattle.upd_deck.specs.LineFields.{seen};
-ghost use Rattle.upd_parts.specs.Needed.{all_named, is_yank_card};
-ghost use Rattle.upd_parts.specs.Needless.{are_plain, cards_named, is_plain};
+ghost use Rattle.upd_parts.specs.Needed.{cards_named, is_yank_card};
+ghost use Rattle.upd_parts.specs.Needless.{cards_of_item, is_plain, is_plain_item};
 
 use std::alloc::{AllocError, Global};
 use upd_core::Library;
@@ -13,13 +13,13 @@ use upd_text::CardRef;
 
 /// Whether no line of a run yanks or purges.
 pub fn is_plain(run: &Run<'_>) -> bool
-    ensures { result ≡ are_plain run.now }
+    ensures { result ≡ is_plain run.now }
 {
     run.lines().iter().all(|line| is_plain_item(&line.item))
 }
 
 fn is_plain_item(item: &Item) -> bool
-    ensures { result ≡ is_plain (seen item.now) }
+    ensures { result ≡ is_plain_item (seen item.now) }
 {
     match item {
         Item::Yank(_)
@@ -35,17 +35,17 @@ fn is_plain_item(item: &Item) -> bool
 
 /// The cards that the lines of a run name, in their order; one may stand there more than once.
 pub fn cards_named(alloc: Global, run: &Run<'_>) -> Result<Vec<CardRef>, AllocError>
-    ensures { IfOk result (λ cards. cards.items ≡ all_named run.now) }
+    ensures { IfOk result (λ cards. cards.items ≡ cards_named run.now) }
 {
     let mut cards = Vec::new(alloc);
     for line in run.lines() {
-        push_named(&mut cards, &line.item)?;
+        push_cards_of_item(&mut cards, &line.item)?;
     }
     Ok(cards)
 }
 
-fn push_named(cards: &mut Vec<CardRef>, item: &Item) -> Result<(), AllocError>
-    ensures { OnOk result (cards.new.items ≡ cards.old.items ++ cards_named (seen item.now)) }
+fn push_cards_of_item(cards: &mut Vec<CardRef>, item: &Item) -> Result<(), AllocError>
+    ensures { OnOk result (cards.new.items ≡ cards.old.items ++ cards_of_item (seen item.now)) }
 {
     match item {
         Item::Insert(card) | Item::Before(card) => cards.push(*card)?,
@@ -59,7 +59,7 @@ fn push_named(cards: &mut Vec<CardRef>, item: &Item) -> Result<(), AllocError>
 }
 
 /// Whether one of these references names a yank card.
-pub fn name_yank_card(cards: &[CardRef], library: &Library) -> bool
+pub fn any_names_yank_card(cards: &[CardRef], library: &Library) -> bool
     ensures { result ≡ list_any (is_yank_card library.now) cards.now }
 {
     cards.iter().any(|card| is_yank_card(*card, library))
@@ -68,7 +68,7 @@ pub fn name_yank_card(cards: &[CardRef], library: &Library) -> bool
 fn is_yank_card(card: CardRef, library: &Library) -> bool
     ensures { result ≡ is_yank_card library.now card }
 {
-    match library.card_at(card) {
+    match library.place_of(card) {
         Some(place) => place.deck == 0,
         None => false,
     }

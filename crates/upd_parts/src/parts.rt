@@ -15,15 +15,15 @@ ghost use Rattle.upd_change.specs.Touched.{touched};
 ghost use Rattle.upd_deck.specs.Items.{LineView};
 ghost use Rattle.upd_apply.specs.Applying.{Reached, applied};
 ghost use Rattle.upd_core.specs.Parts.{part, part_of};
-ghost use Rattle.upd_parts.specs.Needed.{all_named, is_yank_card};
-ghost use Rattle.upd_parts.specs.Needless.{DoesWithout, IsOnWhole, NamesNone, are_plain, is_left_out, left_out};
+ghost use Rattle.upd_parts.specs.Needed.{cards_named, is_yank_card};
+ghost use Rattle.upd_parts.specs.Needless.{DoesWithout, IsOnWhole, NamesNone, is_plain, is_left_out, left_out};
 ghost use Rattle.upd_parts.specs.Needless.{reached_in_part};
 
 /// Loaded with the decks that hold the cards which a run names, a library gives the same refusal as the whole one, or
 /// the same idents and named decks; and what the run reaches then is the part of what it reaches from the whole: the
 /// decks that were loaded, and the new ones.
 pub fn runs_need_the_decks_that_they_name()
-    ensures { (ages : List Age) (lines : List LineView) (l : LibraryView) → IsSound l → IsTrue (are_plain lines)
+    ensures { (ages : List Age) (lines : List LineView) (l : LibraryView) → IsSound l → IsTrue (is_plain lines)
         → NamesNone (is_left_out ages l) lines l
         → applied lines (part_of ages l) ≡ reached_in_part (is_left_out ages l) (applied lines l) }
 {}
@@ -68,7 +68,7 @@ pub fn changes_of_a_part_are_changes_of_the_whole()
 /// A run that was applied to the decks which hold the cards that it names has been applied to the whole library.
 pub fn runs_on_a_part_are_runs_on_the_whole()
     ensures { (ages : List Age) (lines : List LineView) (l : LibraryView) (here : Reached)
-        → (changes : List ChangeView) → IsSound l → IsTrue (is_within_limits l) → IsTrue (are_plain lines)
+        → (changes : List ChangeView) → IsSound l → IsTrue (is_within_limits l) → IsTrue (is_plain lines)
         → NamesNone (is_left_out ages l) lines l → applied lines (part_of ages l) ≡ Ok here
         → Told (part_of ages l) here.library changes → IsOnWhole (is_left_out ages l) lines l here changes }
 {}
@@ -90,13 +90,13 @@ pub fn changes_lead_to_what_is_reached()
 /// A run without yanks and purges that names no yank card leaves `YANK$$$` as it is, and the cards in decks that it does
 /// without keep their statuses.
 pub fn cards_left_out_keep_their_statuses()
-    ensures named { (lines : List LineView) (l : LibraryView) → list_any (is_yank_card l) (all_named lines) ≡ false
+    ensures named { (lines : List LineView) (l : LibraryView) → list_any (is_yank_card l) (cards_named lines) ≡ false
         → NamesNone (λ d. d == 0) lines l }
     ensures yanks { (lines : List LineView) (l : LibraryView) (reached : Reached) → IsSound l
-        → IsTrue (are_plain lines) → list_any (is_yank_card l) (all_named lines) ≡ false
+        → IsTrue (is_plain lines) → list_any (is_yank_card l) (cards_named lines) ≡ false
         → applied lines l ≡ Ok reached → reached.library.yanks ≡ l.yanks }
     ensures statuses { (out : Age → Bool) (lines : List LineView) (l : LibraryView) (reached : Reached) → IsSound l
-        → DoesWithout out lines l → list_any (is_yank_card l) (all_named lines) ≡ false
+        → DoesWithout out lines l → list_any (is_yank_card l) (cards_named lines) ≡ false
         → applied lines l ≡ Ok reached
         → (d : DeckView) (c : CardView) → Contains (left_out out l) d → Contains d.cards c
         → status_of (ref_of l.idents c) reached.library ≡ status_of (ref_of l.idents c) l }

@@ -1,6 +1,6 @@
 pub mod Calls
 pub mod Lengths
-pub mod Verbs
+pub mod Methods
 pub mod Parameters
 pub mod Routes
 pub mod Requests

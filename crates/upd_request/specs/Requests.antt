@@ -8,8 +8,8 @@ use Rattle.upd_text.specs.Outcome.{◌>>=◌}
 use Rattle.upd_request.specs.Calls.{Asked, bad_frame, cut_frame, no_memory_refusal, read_failed_refusal, told_refusal}
 use Rattle.upd_request.specs.Lengths.{fields_say}
 use Rattle.upd_request.specs.Parameters.{path_of, segments_of}
-use Rattle.upd_request.specs.Routes.{call_of, route_of, verb_of}
-use Rattle.upd_request.specs.Verbs.{verb_text}
+use Rattle.upd_request.specs.Routes.{call_of, route_of, method_of}
+use Rattle.upd_request.specs.Methods.{method_text}
 use Rattle.upd_request.specs.declared.call.Refusal.{Refusal}
 use Rattle.upd_request.specs.declared.call.Refusal.TheVariants.{NoRoute, OtherMethod}
 use Rattle.upd_request.specs.declared.head.TheConstants.{MAX_HEAD_BYTES, MAX_HEADERS}
@@ -55,7 +55,7 @@ routed None = Err NoRoute
 
 -- a route has one method
 abbrev pub with_method : Route → List ℕ → Result Route Refusal
-with_method route method = if bytes_eq method (verb_text (verb_of route)) then Ok route else Err (OtherMethod (verb_of route))
+with_method route method = if bytes_eq method (method_text (method_of route)) then Ok route else Err (OtherMethod (method_of route))
 
 -- how many bytes the body has, as many as a run at most
 abbrev pub counted : BodyLength → Result ℕ Refusal

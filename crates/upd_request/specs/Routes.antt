@@ -13,8 +13,8 @@ use Rattle.upd_text.specs.Outcome.{◌>>=◌}
 use Rattle.upd_request.specs.Calls.{Asked, run, settle, compile, deck, card, idents, yanks}
 use Rattle.upd_request.specs.Parameters.{name_of, or_told, parameter, text_of}
 use Rattle.upd_request.specs.declared.call.Refusal.{Refusal}
-use Rattle.upd_request.specs.declared.call.Verb.{Verb}
-use Rattle.upd_request.specs.declared.call.Verb.TheVariants.{Get, Post}
+use Rattle.upd_request.specs.declared.call.Method.{Method}
+use Rattle.upd_request.specs.declared.call.Method.TheVariants.{Get, Post}
 use Rattle.upd_request.specs.declared.routes.Route.{Route}
 use Rattle.upd_request.specs.declared.routes.Route.TheVariants as route
 
@@ -58,14 +58,14 @@ abbrev pub route_of : List ℕ → Option Route
 route_of path = option_map (λ found. found.value) (first routes path)
 
 -- the one method of a route
-abbrev pub verb_of : Route → Verb
-verb_of route.Run = Post
-verb_of route.Settled = Post
-verb_of route.Compile = Get
-verb_of route.Deck = Get
-verb_of route.Card = Get
-verb_of route.Idents = Get
-verb_of route.Yanks = Get
+abbrev pub method_of : Route → Method
+method_of route.Run = Post
+method_of route.Settled = Post
+method_of route.Compile = Get
+method_of route.Deck = Get
+method_of route.Card = Get
+method_of route.Idents = Get
+method_of route.Yanks = Get
 
 -- What a route asks, by the segments of its path and the body: the leftmost parameter that can't be read is the refusal.
 abbrev pub call_of : Route → List (List ℕ) → List ℕ → Result Asked Refusal

@@ -2,7 +2,7 @@
 
 ghost use Rattle.std.specs.Prelude.{◌≡◌};
 ghost use Rattle.upd_text.specs.Faults.{fault_at};
-ghost use Rattle.upd_request.specs.Verbs.{verb_text};
+ghost use Rattle.upd_request.specs.Methods.{method_text};
 ghost use Rattle.upd_text.specs.declared.fault.FaultKind.TheVariants.{NoMemory};
 
 use std::alloc::{AllocError, AllocFailed};
@@ -37,19 +37,19 @@ pub enum Call {
 
 /// A method that a route has.
 #[derive(Clone, Copy, Debug, PartialEq, Eq)]
-pub enum Verb {
+pub enum Method {
     Get,
     Post,
 }
 
-impl Verb {
+impl Method {
     /// How it is written.
     pub fn text(self) -> &'static str
-        ensures { result.now ≡ verb_text self }
+        ensures { result.now ≡ method_text self }
     {
         match self {
-            Verb::Get => "GET",
-            Verb::Post => "POST",
+            Method::Get => "GET",
+            Method::Post => "POST",
         }
     }
 }
@@ -64,7 +64,7 @@ pub enum Refusal {
     /// No route: BadFrame with status 404.
     NoRoute,
     /// A known path that has this method alone: BadFrame with status 405.
-    OtherMethod(Verb),
+    OtherMethod(Method),
 }
 
 impl Refusal {

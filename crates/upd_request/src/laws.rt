@@ -1,4 +1,4 @@
-//! Laws of requests, as definitions. The function does nothing: each clause is a theorem.
+//! A law of requests. The function has an empty body, and each clause of it is a theorem about the definitions.
 ghost use Rattle.std.specs.Prelude.{◌≡◌, List, ℕ};
 ghost use Rattle.upd_request.specs.Calls.{Asked};
 ghost use Rattle.upd_request.specs.Requests.{HasCutHead, Says};

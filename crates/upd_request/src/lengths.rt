@@ -18,7 +18,7 @@ pub enum BodyLength {
     Bytes(usize),
     /// More bytes than a run may have.
     Long,
-    /// No length, two of them, or a coding that isn't understood.
+    /// A length that is empty or not of digits alone, two lengths, or any `Transfer-Encoding`.
     Bad,
 }
 

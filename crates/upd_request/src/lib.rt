@@ -12,7 +12,7 @@ mod parameters;
 mod request;
 mod routes;
 
-pub use call::{Call, Refusal, Verb};
+pub use call::{Call, Method, Refusal};
 pub use laws::requests_ask_one_thing;
 pub use request::read_call;
 pub use routes::routes_are_plain;

@@ -74,9 +74,9 @@ fn read_wanted<'b>(
     let Some(route) = route_of(alloc, path)? else {
         return Err(Refusal::NoRoute);
     };
-    let verb = route.verb();
-    if spans.method.of(buf) != verb.text().as_bytes() {
-        return Err(Refusal::OtherMethod(verb));
+    let method = route.method();
+    if spans.method.of(buf) != method.text().as_bytes() {
+        return Err(Refusal::OtherMethod(method));
     }
     match said {
         BodyLength::Bytes(count) => Ok(Wanted { route, path, count }),

@@ -4,9 +4,9 @@ ghost use Rattle.std.specs.Prelude.{◌≡◌, ℕ, true, List, IfOk, OnOk};
 ghost use Rattle.upd_request.specs.Calls.{Gives, asked};
 ghost use Rattle.upd_request.specs.Parameters.{segments_of};
 ghost use Rattle.upd_request.specs.Paths.{AreBytes, ArePlain};
-ghost use Rattle.upd_request.specs.Routes.{call_of, is_free, route_of, routes, verb_of, with_route};
+ghost use Rattle.upd_request.specs.Routes.{call_of, is_free, route_of, routes, method_of, with_route};
 
-use crate::call::{Call, Refusal, Verb};
+use crate::call::{Call, Method, Refusal};
 use crate::parameters::{card_at, name_at, number_at, text_at};
 use matchit::{InsertError, Router};
 use std::alloc::{AllocError, Global};
@@ -26,12 +26,12 @@ pub enum Route {
 
 impl Route {
     /// The one method that it has.
-    pub(crate) fn verb(self) -> Verb
-        ensures { result ≡ verb_of self }
+    pub(crate) fn method(self) -> Method
+        ensures { result ≡ method_of self }
     {
         match self {
-            Route::Run | Route::Settled => Verb::Post,
-            _ => Verb::Get,
+            Route::Run | Route::Settled => Method::Post,
+            _ => Method::Get,
         }
     }
 }

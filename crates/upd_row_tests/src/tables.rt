@@ -6,7 +6,7 @@ use std::mem;
 use std::process::Abort;
 use std::test::Fail;
 use upd_core::ident::name_at;
-use upd_core::{Card, CardRef, Ident, Library, Live, Serial, Target};
+use upd_core::{Age, Card, CardRef, Ident, Library, Live, Target};
 use upd_rows::{CardRow, CountRow, EntryRow, ListStore, StateRow, TargetRow};
 
 /// The tables that runs change.
@@ -59,7 +59,7 @@ impl Tables {
         &mut self,
         library: &Library,
         live: &Live<'_>,
-        deck: Serial,
+        deck: Age,
         cards: &[Card],
     ) -> Result<(), Fail> {
         for (pos, card) in cards.iter().enumerate() {

@@ -14,7 +14,7 @@ use crate::rows::{CardRow, StateRow};
 use std::alloc::{AllocError, Global};
 use std::collections::BTreeMap;
 use std::mem;
-use upd_core::{ActiveDeck, Actives, CardRef, Ident, Serial};
+use upd_core::{ActiveDeck, Actives, Age, CardRef, Ident};
 use upd_text::Name;
 
 fn states_by_card(rows: Vec<StateRow>) -> Vec<StateRow>
@@ -47,7 +47,7 @@ fn is_active(states: &[StateRow], card: &CardRef) -> bool
 fn add_row(
     deck: &mut ActiveDeck,
     row: &CardRow,
-    ages: &BTreeMap<Name, Serial>,
+    ages: &BTreeMap<Name, Age>,
     states: &[StateRow],
 ) -> Result<(), AllocError>
     requires { AreStatesByCard states.now }

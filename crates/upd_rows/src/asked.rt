@@ -15,7 +15,7 @@ use crate::list_changes::same_ref;
 use crate::rows::CardRow;
 use std::alloc::{AllocError, Global};
 use std::collections::BTreeSet;
-use upd_core::{CardRef, Library, Serial, States};
+use upd_core::{Age, CardRef, Library, States};
 
 /// How many decks are read with one more library; it stops at the last value.
 pub fn reads_with(reads: u64, library: &Library) -> u64
@@ -36,7 +36,7 @@ pub(crate) fn ages_of_decks(
     alloc: Global,
     rows: &[CardRow],
     cards: &[CardRef],
-) -> Result<Vec<Serial>, AllocError>
+) -> Result<Vec<Age>, AllocError>
     ensures { IfOk result (λ ages. ages.items ≡ map (λ r. r.deck) (filter (λ r. is_asked cards.now r.card) rows.now)) }
 {
     let mut ages = Vec::new(alloc);
@@ -49,7 +49,7 @@ pub(crate) fn ages_of_decks(
 }
 
 /// The decks of rows of cards by age, each once, without `YANK$$$`.
-pub fn decks_by_age(ages: Vec<Serial>) -> Vec<Serial>
+pub fn decks_by_age(ages: Vec<Age>) -> Vec<Age>
     ensures { (cards : List CardRef) (rows : Rows) (l : LibraryView) → IsSound l → Shows rows l
         → AreDecksOf cards rows.cards ages.items → result.items ≡ decks_with cards l }
 {

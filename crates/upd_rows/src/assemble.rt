@@ -16,7 +16,7 @@ use crate::rows::{CardRow, EntryRow, LibraryRows, TargetRow};
 use std::alloc::{AllocError, Global};
 use std::collections::BTreeMap;
 use std::mem;
-use upd_core::{Card, CardRef, Deck, Entry, Ident, Library, Rest, Serial, Target};
+use upd_core::{Age, Card, CardRef, Deck, Entry, Ident, Library, Rest, Target};
 use upd_text::Name;
 
 pub(crate) fn by_age(idents: Vec<Ident>) -> Vec<Ident>
@@ -100,10 +100,7 @@ fn targets_of(alloc: Global, rows: &[TargetRow], card: &CardRef) -> Result<Vec<T
 }
 
 /// The ages of held idents, by name.
-pub(crate) fn held_ages(
-    alloc: Global,
-    idents: &[Ident],
-) -> Result<BTreeMap<Name, Serial>, AllocError>
+pub(crate) fn held_ages(alloc: Global, idents: &[Ident]) -> Result<BTreeMap<Name, Age>, AllocError>
     ensures { IfOk result (λ ages. AreAgesOf idents.now ages) }
 {
     let mut ages = BTreeMap::new(alloc);
@@ -117,7 +114,7 @@ pub(crate) fn held_ages(
 }
 
 /// The age of the held ident of a name, 0 where there is none.
-pub(crate) fn age_of(ages: &BTreeMap<Name, Serial>, name: &Name) -> Serial
+pub(crate) fn age_of(ages: &BTreeMap<Name, Age>, name: &Name) -> Age
     ensures { (idents : List Ident) → AreAgesOf idents ages.now → result ≡ age_named idents name.now }
 {
     match ages.get(name) {
@@ -130,7 +127,7 @@ pub(crate) fn age_of(ages: &BTreeMap<Name, Serial>, name: &Name) -> Serial
 fn card_of(
     alloc: Global,
     row: &CardRow,
-    ages: &BTreeMap<Name, Serial>,
+    ages: &BTreeMap<Name, Age>,
     rows: &LibraryRows,
 ) -> Result<Card, AllocError>
     requires ages { AreAgesOf rows.now.idents.items ages.now }
@@ -230,11 +227,7 @@ pub fn assembled(alloc: Global, rows: LibraryRows) -> Result<Library, AllocError
 }
 
 /// The same without the decks other than `YANK$$$` that aren't of these ages: what they have is counted.
-pub fn assembled_part(
-    alloc: Global,
-    rows: LibraryRows,
-    ages: &[Serial],
-) -> Result<Library, AllocError>
+pub fn assembled_part(alloc: Global, rows: LibraryRows, ages: &[Age]) -> Result<Library, AllocError>
     ensures { (tables : Rows) (l : LibraryView) → IsSound l → IsWhole l → Shows tables l → AreRowsOf tables rows
         → IfOk result (λ found. found ≡ part_of ages.now l) }
 {

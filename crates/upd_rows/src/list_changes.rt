@@ -13,12 +13,12 @@ use crate::list_tables::ListTables;
 use crate::rows::{CardRow, CountRow, EntryRow, StateRow, TargetRow};
 use std::alloc::AllocError;
 use upd_change::Change;
-use upd_core::{CardRef, Entry, Ident, Serial, Target};
+use upd_core::{Age, CardRef, Entry, Ident, Target};
 
 // ---- one table
 
 /// An ident, no longer held where it is of an age.
-fn purged(ident: Ident, age: Serial) -> Ident
+fn purged(ident: Ident, age: Age) -> Ident
     ensures { result ≡ purged_row age ident }
 {
     if ident.age == age {
@@ -32,7 +32,7 @@ fn purged(ident: Ident, age: Serial) -> Ident
 }
 
 /// The ident of an age is no longer held.
-fn purge_ident(idents: &mut [Ident], age: Serial)
+fn purge_ident(idents: &mut [Ident], age: Age)
     ensures { idents.new ≡ map (purged_row age) idents.old }
 {
     for ident in idents.iter_mut() {
@@ -52,7 +52,7 @@ fn moved(place: u32, by: i64) -> u32
 }
 
 /// Moves a card where it stands in a deck at a place or behind it.
-fn move_card(row: &mut CardRow, deck: Serial, from: u32, by: &i64)
+fn move_card(row: &mut CardRow, deck: Age, from: u32, by: &i64)
     ensures { row.new ≡ kept_row deck from by.now row.old }
 {
     if row.deck == deck && from <= row.pos {
@@ -61,7 +61,7 @@ fn move_card(row: &mut CardRow, deck: Serial, from: u32, by: &i64)
 }
 
 /// Moves the cards of a deck that stand at a place or behind it.
-fn move_cards(cards: &mut [CardRow], deck: Serial, from: u32, by: &i64)
+fn move_cards(cards: &mut [CardRow], deck: Age, from: u32, by: &i64)
     ensures { cards.new ≡ map (kept_row deck from by.now) cards.old }
 {
     for row in cards.iter_mut() {
@@ -117,7 +117,7 @@ impl ListTables {
     fn add_card(
         &mut self,
         card: CardRef,
-        deck: Serial,
+        deck: Age,
         pos: u32,
         text: &[u8],
     ) -> Result<(), AllocError>
@@ -140,7 +140,7 @@ impl ListTables {
         drop_state(&mut self.states, card);
     }
 
-    fn shift_cards(&mut self, deck: Serial, from: u32, by: &i64)
+    fn shift_cards(&mut self, deck: Age, from: u32, by: &i64)
         ensures { self.new ≡ carried (CardsMoved deck from by.now) self.old }
     {
         move_cards(&mut self.cards, deck, from, by);

@@ -10,7 +10,7 @@ use crate::rows::copy_run;
 use crate::store::RowStore;
 use std::alloc::Global;
 use upd_change::{Change, RunRow};
-use upd_core::{Actives, CardRef, Library, Serial, States};
+use upd_core::{Actives, Age, CardRef, Library, States};
 use upd_text::Fault;
 
 /// Tables that are lists. Nothing but want of memory fails here.
@@ -77,13 +77,13 @@ impl RowStore for ListStore {
         Ok(library)
     }
 
-    fn load_decks(&mut self, alloc: Global, decks: &[Serial]) -> Result<Library, Fault> {
+    fn load_decks(&mut self, alloc: Global, decks: &[Age]) -> Result<Library, Fault> {
         let library = self.tables.part(alloc, decks)?;
         self.decks_read = reads_with(self.decks_read, &library);
         Ok(library)
     }
 
-    fn decks_of(&mut self, alloc: Global, cards: &[CardRef]) -> Result<Vec<Serial>, Fault> {
+    fn decks_of(&mut self, alloc: Global, cards: &[CardRef]) -> Result<Vec<Age>, Fault> {
         let decks = self.tables.decks_of(alloc, cards)?;
         Ok(decks)
     }

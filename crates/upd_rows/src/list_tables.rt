@@ -25,7 +25,7 @@ use crate::rows::{
 use std::alloc::{AllocError, Global};
 use std::marker::Model;
 use upd_change::{Change, RunRow};
-use upd_core::{Actives, CardRef, Ident, Library, Serial, States, Target};
+use upd_core::{Actives, Age, CardRef, Ident, Library, States, Target};
 
 /// The tables as lists.
 #[derive(Debug, Drop)]
@@ -131,7 +131,7 @@ impl ListTables {
     }
 
     /// The library without the decks that aren't of these ages; memory alone can fail.
-    pub(crate) fn part(&self, alloc: Global, ages: &[Serial]) -> Result<Library, AllocError>
+    pub(crate) fn part(&self, alloc: Global, ages: &[Age]) -> Result<Library, AllocError>
         ensures { (l : LibraryView) → IsSound l → IsWhole l → Shows self.now l
             → IfOk result (λ found. found ≡ part_of ages.now l) }
     {
@@ -186,11 +186,7 @@ impl ListTables {
     }
 
     /// The decks other than `YANK$$$` that hold one of these cards; memory alone can fail.
-    pub(crate) fn decks_of(
-        &self,
-        alloc: Global,
-        cards: &[CardRef],
-    ) -> Result<Vec<Serial>, AllocError>
+    pub(crate) fn decks_of(&self, alloc: Global, cards: &[CardRef]) -> Result<Vec<Age>, AllocError>
         ensures { (l : LibraryView) → IsSound l → Shows self.now l
             → IfOk result (λ found. found.items ≡ decks_with cards.now l) }
     {

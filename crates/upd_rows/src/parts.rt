@@ -8,10 +8,10 @@ ghost use Rattle.upd_core.specs.Parts.{cards_of_decks, entries_of_decks, part_of
 
 use std::alloc::Global;
 use upd_core::card::entry_count;
-use upd_core::{Deck, Ident, Library, Rest, Serial};
+use upd_core::{Age, Deck, Ident, Library, Rest};
 
 /// How many cards a deck has, none where it is one of these ages.
-fn cards_left(deck: &Deck, ages: &[Serial]) -> usize
+fn cards_left(deck: &Deck, ages: &[Age]) -> usize
     ensures { result ≡ (if not (is_among ages.now deck.now.ident) then capped (length deck.now.cards) else 0) }
 {
     if ages.contains(&deck.ident) {
@@ -22,7 +22,7 @@ fn cards_left(deck: &Deck, ages: &[Serial]) -> usize
 }
 
 /// How many entries a deck has, none where it is one of these ages.
-fn entries_left(deck: &Deck, ages: &[Serial]) -> usize
+fn entries_left(deck: &Deck, ages: &[Age]) -> usize
     ensures { result ≡ (if not (is_among ages.now deck.now.ident)
         then capped (sum_by (λ c. length c.history) deck.now.cards) else 0) }
 {
@@ -34,7 +34,7 @@ fn entries_left(deck: &Deck, ages: &[Serial]) -> usize
 }
 
 /// How many cards the decks of other ages have.
-fn all_cards_left(decks: &[Deck], ages: &[Serial]) -> usize
+fn all_cards_left(decks: &[Deck], ages: &[Age]) -> usize
     ensures { result ≡ capped (cards_of_decks (filter (λ d. not (is_among ages.now d.ident)) decks.now)) }
 {
     let mut count: usize = 0;
@@ -45,7 +45,7 @@ fn all_cards_left(decks: &[Deck], ages: &[Serial]) -> usize
 }
 
 /// How many entries the decks of other ages have.
-fn all_entries_left(decks: &[Deck], ages: &[Serial]) -> usize
+fn all_entries_left(decks: &[Deck], ages: &[Age]) -> usize
     ensures { result ≡ capped (entries_of_decks (filter (λ d. not (is_among ages.now d.ident)) decks.now)) }
 {
     let mut count: usize = 0;
@@ -56,7 +56,7 @@ fn all_entries_left(decks: &[Deck], ages: &[Serial]) -> usize
 }
 
 /// Takes the decks of other ages away.
-fn keep_decks(decks: &mut Vec<Deck>, ages: &[Serial])
+fn keep_decks(decks: &mut Vec<Deck>, ages: &[Age])
     ensures { decks.new.items ≡ filter (λ d. not (not (is_among ages.now d.ident))) decks.old.items }
 {
     decks.retain(|deck| ages.contains(&deck.ident));
@@ -64,12 +64,7 @@ fn keep_decks(decks: &mut Vec<Deck>, ages: &[Serial])
 
 /// The library of a directory and decks, of which the first is `YANK$$$`, without the other decks that aren't of these
 /// ages.
-pub(crate) fn part_of(
-    alloc: Global,
-    idents: Vec<Ident>,
-    decks: Vec<Deck>,
-    ages: &[Serial],
-) -> Library
+pub(crate) fn part_of(alloc: Global, idents: Vec<Ident>, decks: Vec<Deck>, ages: &[Age]) -> Library
     ensures { cards_of_decks (library_of idents.items decks.items).decks < 2 ^ 64
         → entries_of_decks (library_of idents.items decks.items).decks < 2 ^ 64
         → result ≡ part_of ages.now (library_of idents.items decks.items) }

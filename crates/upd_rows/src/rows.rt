@@ -6,14 +6,14 @@ ghost use Rattle.upd_change.specs.Rows.{RunView};
 use std::alloc::{AllocError, Global};
 use std::marker::Model;
 use upd_change::RunRow;
-use upd_core::{CardRef, Entry, Ident, Serial, Target};
+use upd_core::{Age, CardRef, Entry, Ident, Target};
 
 /// A card in its deck.
 #[derive(Debug, Drop)]
 pub struct CardRow {
     pub card: CardRef,
     /// 0 for `YANK$$$`.
-    pub deck: Serial,
+    pub deck: Age,
     /// From 0 in each deck.
     pub pos: u32,
     pub body: Vec<u8>,

@@ -14,7 +14,7 @@ ghost use Rattle.upd_rows.specs.Tables.{AreByKey, AreRead, AreReadOf, committed,
 
 use std::alloc::Global;
 use upd_change::{Change, RunRow};
-use upd_core::{Actives, CardRef, Library, Serial, States};
+use upd_core::{Actives, Age, CardRef, Library, States};
 use upd_text::Fault;
 
 /// Tables of rows that are changed by commits, each of which is all or nothing, also where the machine stops.
@@ -62,7 +62,7 @@ pub trait RowStore {
         ensures cause { IfErr result (λ e. e.kind ≡ Store → caused self.old self.new) };
 
     /// The directory, `YANK$$$` and those of these decks that are held; the rest counts what the others have.
-    fn load_decks(&mut self, alloc: Global, decks: &[Serial]) -> Result<Library, Fault>
+    fn load_decks(&mut self, alloc: Global, decks: &[Age]) -> Result<Library, Fault>
         ensures found { is_honest self.new → IfOk result (λ found. (l : LibraryView) → IsSound l → IsWhole l
             → (rows : Rows) → shows (image self.old) rows → Shows rows l → found ≡ part_of decks.now l) }
         ensures open { is_honest self.new → OnOk result (is_open self.new) }
@@ -74,7 +74,7 @@ pub trait RowStore {
         ensures cause { IfErr result (λ e. e.kind ≡ Store → caused self.old self.new) };
 
     /// The decks other than `YANK$$$` that hold one of these cards, by age, each once.
-    fn decks_of(&mut self, alloc: Global, cards: &[CardRef]) -> Result<Vec<Serial>, Fault>
+    fn decks_of(&mut self, alloc: Global, cards: &[CardRef]) -> Result<Vec<Age>, Fault>
         ensures found { is_honest self.new → IfOk result (λ found. (l : LibraryView) → IsSound l → IsWhole l
             → (rows : Rows) → shows (image self.old) rows → Shows rows l → found.items ≡ decks_with cards.now l) }
         ensures open { is_honest self.new → OnOk result (is_open self.new) }

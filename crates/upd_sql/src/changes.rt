@@ -10,7 +10,7 @@ ghost use Rattle.upd_sql.specs.Stands.{AnyTables, Stands};
 use crate::writes;
 use sqlite::{Alter, Error, Transaction};
 use upd_change::Change;
-use upd_core::{CardRef, Serial, Target};
+use upd_core::{Age, CardRef, Target};
 
 /// The card goes, and its status with it.
 fn remove_card<S: Alter>(tx: &mut Transaction<'_, S>, card: &CardRef) -> Result<(), Error>
@@ -56,7 +56,7 @@ fn set_count<S: Alter>(tx: &mut Transaction<'_, S>, target: Target, n: u32) -> R
 /// The cards of a deck that stand at a place or behind it move.
 fn move_cards<S: Alter>(
     tx: &mut Transaction<'_, S>,
-    deck: Serial,
+    deck: Age,
     from: u32,
     by: i64,
 ) -> Result<(), Error>

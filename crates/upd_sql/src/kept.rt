@@ -20,7 +20,7 @@ use crate::{active, part, reads, statuses, whole};
 use sqlite::{Connection, Error};
 use std::alloc::Global;
 use upd_change::RunRow;
-use upd_core::{CardRef, Serial, States};
+use upd_core::{Age, CardRef, States};
 use upd_order::{Rising, note_order_outside};
 use upd_rows::LibraryRows;
 
@@ -160,7 +160,7 @@ pub fn kept_decks_of<S: Rising>(
     conn: &mut Connection<S>,
     alloc: Global,
     cards: &[CardRef],
-) -> Result<Vec<Serial>, Error>
+) -> Result<Vec<Age>, Error>
     requires { conn.old.in_transaction ≡ false }
     ensures outside { conn.new.in_transaction ≡ false }
     ensures was_open { HasCleanDisk (state S.Store conn.new) → IsTrue (state S.Store conn.new).is_open
@@ -187,7 +187,7 @@ pub fn kept_decks_of<S: Rising>(
 pub fn kept_part<S: Rising>(
     conn: &mut Connection<S>,
     alloc: Global,
-    ages: &[Serial],
+    ages: &[Age],
     known: Option<Sizes>,
 ) -> Result<Part, Error>
     requires outside { conn.old.in_transaction ≡ false }

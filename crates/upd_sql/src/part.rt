@@ -30,7 +30,7 @@ use crate::whole::{all_of, cards_in, idents_in, rows_of, targets_in};
 use sqlite::{Alter, Error, ErrorCode, Row, Transaction};
 use std::alloc::{AllocError, Global};
 use std::collections::BTreeSet;
-use upd_core::{CardRef, Serial};
+use upd_core::{Age, CardRef};
 use upd_rows::{CardRow, EntryRow, LibraryRows, card_set};
 
 /// The last number to which SQLite counts.
@@ -59,7 +59,7 @@ fn decks_of_card<S: Alter>(
     tx: &mut Transaction<'_, S>,
     alloc: Global,
     card: &CardRef,
-) -> Result<Vec<Serial>, Error>
+) -> Result<Vec<Age>, Error>
     ensures same_reference { tx.new.conn.ghost_name ≡ tx.old.conn.ghost_name }
     ensures looks { Looks (λ it found. AreInOrder in_any_order
         (map (λ r. r.deck) (filter (λ r. same_ref card.now r.card) it.cards)) found.items)
@@ -78,7 +78,7 @@ pub(crate) fn decks_in<S: Alter>(
     tx: &mut Transaction<'_, S>,
     alloc: Global,
     cards: &[CardRef],
-) -> Result<Vec<Serial>, Error>
+) -> Result<Vec<Age>, Error>
     ensures same_reference { tx.new.conn.ghost_name ≡ tx.old.conn.ghost_name }
     ensures looks { Looks (λ it found. AreDecksOf cards.now it.cards found.items) (state S.Store tx.old.conn.now)
         (state S.Store tx.new.conn.now) result }
@@ -96,7 +96,7 @@ pub(crate) fn decks_in<S: Alter>(
 fn cards_of_deck<S: Alter>(
     tx: &mut Transaction<'_, S>,
     alloc: Global,
-    deck: Serial,
+    deck: Age,
 ) -> Result<Vec<CardRow>, Error>
     ensures same_reference { tx.new.conn.ghost_name ≡ tx.old.conn.ghost_name }
     ensures looks { Looks (λ it found. AreInOrder by_place
@@ -112,14 +112,14 @@ fn cards_of_deck<S: Alter>(
 }
 
 /// Whether a deck is `YANK$$$` or of these ages.
-fn is_loaded(ages: &[Serial], deck: Serial) -> bool
+fn is_loaded(ages: &[Age], deck: Age) -> bool
     ensures { result ≡ is_loaded ages.now deck }
 {
     deck == 0 || ages.contains(&deck)
 }
 
 /// The deck that is asked for where it is one alone, `YANK$$$` where there is none.
-fn lone_deck(ages: &[Serial]) -> Option<Serial>
+fn lone_deck(ages: &[Age]) -> Option<Age>
     ensures { IfSome result (λ deck. (d : ℕ) → is_loaded ages.now d ≡ ((d == 0) || (d == deck))) }
 {
     match ages {
@@ -130,7 +130,7 @@ fn lone_deck(ages: &[Serial]) -> Option<Serial>
 }
 
 /// Takes the cards of other decks away.
-fn keep_cards(cards: &mut Vec<CardRow>, ages: &[Serial])
+fn keep_cards(cards: &mut Vec<CardRow>, ages: &[Age])
     ensures { cards.new.items ≡ filter (λ r. is_loaded ages.now r.deck) cards.old.items }
 {
     cards.retain(|card| is_loaded(ages, card.deck));
@@ -140,7 +140,7 @@ fn keep_cards(cards: &mut Vec<CardRow>, ages: &[Serial])
 fn cards_of_decks<S: Alter>(
     tx: &mut Transaction<'_, S>,
     alloc: Global,
-    ages: &[Serial],
+    ages: &[Age],
 ) -> Result<Vec<CardRow>, Error>
     ensures same_reference { tx.new.conn.ghost_name ≡ tx.old.conn.ghost_name }
     ensures looks { Looks (λ it found. IsSame found.items (filter (λ r. is_loaded ages.now r.deck) it.cards))
@@ -299,7 +299,7 @@ fn entry_count<S: Alter>(tx: &mut Transaction<'_, S>) -> Result<u64, Error>
 fn part_rows_in<S: Alter>(
     tx: &mut Transaction<'_, S>,
     alloc: Global,
-    ages: &[Serial],
+    ages: &[Age],
 ) -> Result<LibraryRows, Error>
     ensures same_reference { tx.new.conn.ghost_name ≡ tx.old.conn.ghost_name }
     ensures looks { Looks (λ it found. AreRowsOf (part_rows ages.now it) found)
@@ -336,7 +336,7 @@ fn sizes_in<S: Alter>(tx: &mut Transaction<'_, S>) -> Result<Sizes, Error>
 pub(crate) fn part_in<S: Alter>(
     tx: &mut Transaction<'_, S>,
     alloc: Global,
-    ages: &[Serial],
+    ages: &[Age],
     known: Option<Sizes>,
 ) -> Result<Part, Error>
     ensures same_reference { tx.new.conn.ghost_name ≡ tx.old.conn.ghost_name }

@@ -15,7 +15,7 @@ ghost use Rattle.upd_sql.specs.Stands.{AnyTables, Stands};
 use crate::values::{self, blob, codes_of, flag, kind, name, number, text, wide};
 use sqlite::{Alter, Error, Transaction};
 use upd_change::RunRow;
-use upd_core::{CardRef, Entry, Ident, Serial, Target};
+use upd_core::{Age, CardRef, Entry, Ident, Target};
 use upd_tables::run;
 
 pub(crate) fn insert_ident<S: Alter>(
@@ -40,7 +40,7 @@ pub(crate) fn insert_ident<S: Alter>(
     )
 }
 
-pub(crate) fn purge_ident<S: Alter>(tx: &mut Transaction<'_, S>, age: Serial) -> Result<(), Error>
+pub(crate) fn purge_ident<S: Alter>(tx: &mut Transaction<'_, S>, age: Age) -> Result<(), Error>
     ensures same_reference { tx.new.conn.ghost_name ≡ tx.old.conn.ghost_name }
     ensures makes { Makes Stands AnyTables (done (IdentPurged age)) (state S.Store tx.old.conn.now)
         (state S.Store tx.new.conn.now) result }
@@ -56,7 +56,7 @@ pub(crate) fn purge_ident<S: Alter>(tx: &mut Transaction<'_, S>, age: Serial) ->
 pub(crate) fn insert_card<S: Alter>(
     tx: &mut Transaction<'_, S>,
     card: &CardRef,
-    deck: Serial,
+    deck: Age,
     pos: u32,
     body: &[u8],
 ) -> Result<(), Error>
@@ -324,7 +324,7 @@ pub(crate) fn delete_runs<S: Alter>(
 /// The cards of a deck that stand at a place or behind it move away from the front.
 pub(crate) fn move_back<S: Alter>(
     tx: &mut Transaction<'_, S>,
-    deck: Serial,
+    deck: Age,
     from: u32,
     by: u64,
 ) -> Result<(), Error>
@@ -344,7 +344,7 @@ pub(crate) fn move_back<S: Alter>(
 /// They move towards the front.
 pub(crate) fn move_up<S: Alter>(
     tx: &mut Transaction<'_, S>,
-    deck: Serial,
+    deck: Age,
     from: u32,
     by: u64,
 ) -> Result<(), Error>

@@ -9,7 +9,7 @@ use std::alloc::Global;
 use std::process::Abort;
 use std::test::Fail;
 use upd_change::{Change, RunRow};
-use upd_core::{Actives, CardRef, Library, Serial, States};
+use upd_core::{Actives, Age, CardRef, Library, States};
 use upd_desk::{Arrival, Desk};
 use upd_desk_tests::plain::Sent;
 use upd_rows::{ListStore, RowStore};
@@ -63,11 +63,11 @@ impl RowStore for Failing {
         self.lists.load(alloc)
     }
 
-    fn load_decks(&mut self, alloc: Global, decks: &[Serial]) -> Result<Library, Fault> {
+    fn load_decks(&mut self, alloc: Global, decks: &[Age]) -> Result<Library, Fault> {
         self.lists.load_decks(alloc, decks)
     }
 
-    fn decks_of(&mut self, alloc: Global, cards: &[CardRef]) -> Result<Vec<Serial>, Fault> {
+    fn decks_of(&mut self, alloc: Global, cards: &[CardRef]) -> Result<Vec<Age>, Fault> {
         self.lists.decks_of(alloc, cards)
     }
 

@@ -9,7 +9,7 @@ use crate::sql_store::SqlStore;
 use sqlite::Connection;
 use std::alloc::Global;
 use upd_change::{Change, RunRow};
-use upd_core::{Actives, CardRef, Library, Serial, States};
+use upd_core::{Actives, Age, CardRef, Library, States};
 use upd_order::Rising;
 use upd_rows::{RowStore, assembled, assembled_active, assembled_rest, decks_by_age, reads_with};
 use upd_sql::{
@@ -70,7 +70,7 @@ impl<S: Rising> RowStore for SqlStore<S> {
         }
     }
 
-    fn load_decks(&mut self, alloc: Global, decks: &[Serial]) -> Result<Library, Fault> {
+    fn load_decks(&mut self, alloc: Global, decks: &[Age]) -> Result<Library, Fault> {
         if !is_ours(&self.conn) {
             return Err(refused(&mut self.failures));
         }
@@ -92,7 +92,7 @@ impl<S: Rising> RowStore for SqlStore<S> {
         }
     }
 
-    fn decks_of(&mut self, alloc: Global, cards: &[CardRef]) -> Result<Vec<Serial>, Fault> {
+    fn decks_of(&mut self, alloc: Global, cards: &[CardRef]) -> Result<Vec<Age>, Fault> {
         if !is_ours(&self.conn) {
             return Err(refused(&mut self.failures));
         }

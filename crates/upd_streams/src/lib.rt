@@ -1,4 +1,4 @@
-//! What all wires of the desk do alike: parts are written until a write fails, and numbers are read from digits.
+//! What spools, HTTP and the command line do alike: parts are written until a write fails, and numbers are read from digits.
 #![tactic(auto)]
 
 pub mod numbers;

@@ -5,7 +5,7 @@ use std::process::Abort;
 use std::test::Fail;
 use upd_compile::{Mode, compile_active};
 use upd_core::ident::name_at;
-use upd_core::{Card, Deck, Entry, Kind, Library, Live, Place, Serial, Target};
+use upd_core::{Age, Card, Deck, Entry, Kind, Library, Live, Place, Target};
 use upd_text::limits::MAX_INTRODUCED;
 use upd_text::{CardRef, Fault, Name};
 
@@ -24,19 +24,19 @@ fn introduce(library: &mut Library, text: &str, kind: Kind) -> Result<(), Fail> 
     Ok(())
 }
 
-fn push_deck(library: &mut Library, ident: Serial, text: &[u8]) -> Result<(), Fail> {
+fn push_deck(library: &mut Library, ident: Age, text: &[u8]) -> Result<(), Fail> {
     let deck = Deck::new(library.allocator(), ident, text)?;
     Ok(library.push_deck(deck)?)
 }
 
-fn insert(library: &mut Library, ident: Serial, number: u32, text: &[u8]) -> Result<(), Fail> {
+fn insert(library: &mut Library, ident: Age, number: u32, text: &[u8]) -> Result<(), Fail> {
     let alloc = library.allocator();
     let card = Card::new(alloc, ident, number, text, Vec::new(alloc))?;
     Ok(library.insert_card(1, 0, card)?)
 }
 
 /// An entry of an ident, off, on the second card of deck A.
-fn switch_off(library: &mut Library, ident: Serial) -> Result<(), Fail> {
+fn switch_off(library: &mut Library, ident: Age) -> Result<(), Fail> {
     let off = Entry {
         ident,
         active: false,
@@ -44,7 +44,7 @@ fn switch_off(library: &mut Library, ident: Serial) -> Result<(), Fail> {
     Ok(library.enter(1, 1, 1, off)?)
 }
 
-fn push_yank(library: &mut Library, ident: Serial, text: &[u8], set: Serial) -> Result<(), Fail> {
+fn push_yank(library: &mut Library, ident: Age, text: &[u8], set: Age) -> Result<(), Fail> {
     let alloc = library.allocator();
     let targets = Vec::from_slice(alloc, &[Target::Set(set)])?;
     Ok(library.push_yank(Card::new(alloc, ident, 1, text, targets)?)?)
@@ -144,7 +144,7 @@ fn purges_in_one_deck_and_purges_back(rt: HostRuntime) -> Result<(), Fail> {
     Shelf::new(library).check(&rt, ASKED)
 }
 
-fn check_name(rt: &impl Abort, library: &Library, name: Name, ident: Serial, deck: Option<Serial>) {
+fn check_name(rt: &impl Abort, library: &Library, name: Name, ident: Age, deck: Option<Age>) {
     assert!(rt; library.ident_of(&name) == Some(ident) && library.deck_of(&name) == deck);
     assert!(rt; library.held(&name).is_some());
     assert!(rt; name_at(library.idents(), ident) == Some(name));
@@ -171,7 +171,7 @@ fn counts_decks_and_cards(rt: HostRuntime) -> Result<(), Fail> {
 const PLACE: Place = Place { deck: 1, index: 2 };
 
 fn place(library: &Library, card: &str) -> Result<Option<Place>, Fail> {
-    Ok(library.card_at(card_ref(card)?))
+    Ok(library.place_of(card_ref(card)?))
 }
 
 #[test]
@@ -179,7 +179,7 @@ fn finds_cards(rt: HostRuntime) -> Result<(), Fail> {
     let library = corrected(rt.alloc())?;
     assert_eq!(rt; place(&library, "X.1")?, Some(PLACE));
     assert_eq!(rt; place(&library, "A.4")?, None);
-    assert!(rt; library.card(PLACE).is_some());
+    assert!(rt; library.card_in(PLACE).is_some());
     Ok(())
 }
 
@@ -217,13 +217,13 @@ fn check_taken(rt: &impl Abort, live: &Live<'_>, card: &Card) {
 #[test]
 fn knows_what_yanks_take(rt: HostRuntime) -> Result<(), Fail> {
     let library = corrected(rt.alloc())?;
-    let card = library.card(PLACE).ok_or("X.1")?;
+    let card = library.card_in(PLACE).ok_or("X.1")?;
     check_taken(&rt, &library.live_yanks()?, card);
     Ok(())
 }
 
 /// How many lines the compile file of a deck has.
-fn line_count(library: &Library, deck: Serial) -> Result<u32, Fault> {
+fn line_count(library: &Library, deck: Age) -> Result<u32, Fault> {
     let alloc = library.allocator();
     let actives = library.actives()?;
     let file = compile_active(alloc, &actives, &actives, Mode::Quick, &[deck])?;

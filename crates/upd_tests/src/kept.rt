@@ -5,7 +5,7 @@ use std::process::Abort;
 use std::test::Fail;
 use upd_apply::apply;
 use upd_core::ident::name_at;
-use upd_core::{Card, CardRef, Counted, Library, Serial, Target};
+use upd_core::{Age, Card, CardRef, Counted, Library, Target};
 use upd_deck::read_run;
 use upd_row_tests::dice::{DECKS, Dice, random_run};
 use upd_text::Name;

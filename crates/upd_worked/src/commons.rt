@@ -50,7 +50,7 @@ pub fn depth()
     ensures eight { compiled Full [] (chained ++ codes "*COMDECK C8\nDEEP\n") ≡ Ok (codes "C8.2 ") }
     ensures nine { file_after Full [] (chained ++ codes "*COMDECK C8\n*CALL C9\n*COMDECK C9\nDEEP\n")
         ≡ refused CallDepth 0 }
-    // A cycle of calls is too deep, where its decks are chosen.
+    // A cycle of calls is too deep where a walk reaches it.
     ensures cycle { file_after Full [] (codes "*COMDECK C\n*CALL C\n*DECK A\n*CALL C\n") ≡ refused CallDepth 0 }
     ensures quick_cycle { file_after Quick [] (codes "*COMDECK C\n*CALL C\n*DECK A\n*CALL C\n")
         ≡ Ok (record { bytes = []; lines = 0 }) }

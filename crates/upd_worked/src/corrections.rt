@@ -30,7 +30,8 @@ pub fn insertions()
     // Text may go behind a deck's first card.
     ensures top { active_after (deck_a ∷ codes "*DECK B\nBEE\n" ∷ codes "*IDENT X\n*INSERT A.1\nTOP\n" ∷ [])
         ≡ Ok (codes "X.1 A.2 A.3 A.4 B.2 ") }
-    // Text behind a deletion goes behind the last card; its words and fields may be short, with blanks and remarks.
+    // Text behind a deletion goes behind the last card. Words may be short, blanks may stand beside a comma, and a remark
+    // ends the fields; a comment is no card, and an unknown word is text.
     ensures replaced { active_after (deck_a ∷ codes "*ID X cleanup\n*D A.2 , A.3 old lines\n*/ note\nNEW\n*FOO\n" ∷ [])
         ≡ Ok (codes "X.1 X.2 A.4 ") }
     // A deleted card may be restored, and inactive cards may be named.

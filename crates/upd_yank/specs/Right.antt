@@ -64,6 +64,6 @@ count_pairs target n = if n == 0 then [] else (target, n) ∷ []
 
 -- Rows that show the statuses of a library: each card is there once with its status, each target that a live yank card has is there once with
 -- the number of these, and there are no others.
-pub record ShowStates (rows : States) (l : LibraryView) : Type 0 where
+pub record AreStatesOf (rows : States) (l : LibraryView) : Type 0 where
   pub states : (card : CardRef) → filter (λ p. same_ref card p.0) rows.states.items ≡ status_pairs card (status_of card l)
   pub counts : (target : Target) → filter (λ p. is_same target p.0) rows.counts.items ≡ count_pairs target (live_count l target)

@@ -1,4 +1,4 @@
-//! The cache: kept statuses and counts, from nothing, from rows, or settled after a run.
+//! The cache: kept statuses and counts, from histories, from rows, or settled after a run.
 
 ghost use Rattle.std.specs.Prelude.{◌≡◌, ◌<◌, ◌≤◌, ◌^◌, length, map, true, IfOk, OnErr, OnOk};
 ghost use Rattle.std.specs.List.{AllByRecursion};
@@ -15,7 +15,7 @@ ghost use Rattle.upd_change.specs.States.{TakeGone, tells_state};
 ghost use Rattle.upd_yank.specs.Affected.{affected, altered};
 ghost use Rattle.upd_yank.specs.Enough.{IsEnough};
 ghost use Rattle.upd_yank.specs.Renewed.{renewed};
-ghost use Rattle.upd_yank.specs.Right.{IsRight, IsRunBetween, ShowStates, kept_status, put_counts};
+ghost use Rattle.upd_yank.specs.Right.{IsRight, IsRunBetween, AreStatesOf, kept_status, put_counts};
 
 use crate::cascade::{Before, settling};
 use crate::renewing::renewed_decks;
@@ -28,7 +28,8 @@ use upd_apply::Applied;
 use upd_change::Change;
 use upd_core::{Actives, CardRef, Counted, Fault, Library, States, Target, TargetCounts};
 
-/// The status of each card and the count of each target, kept from run to run.
+/// Statuses of cards and the counts of all targets: those of a whole library, or of the cards that were loaded for a
+/// run.
 #[derive(Drop)]
 pub struct Cache {
     alloc: Global,
@@ -73,7 +74,7 @@ impl Cache {
     /// The cache of rows as a store has them; where they show the statuses of a library, it is the cache of that
     /// library. Memory alone can fail.
     pub fn of_rows(alloc: Global, rows: &States) -> Result<Cache, Fault>
-        ensures right { (l : LibraryView) → ShowStates rows.now l → IfOk result (IsRight l) }
+        ensures right { (l : LibraryView) → AreStatesOf rows.now l → IfOk result (IsRight l) }
         ensures work { IfOk result (λ cache. cache.work ≡ 0) }
         ensures err { IsOkUnless result (fault_at NoMemory 0) }
     {

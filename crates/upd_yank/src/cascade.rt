@@ -19,7 +19,7 @@ ghost use Rattle.upd_yank.specs.Right.{AreCountable, kept_status, was_active};
 use crate::statuses::Statuses;
 use crate::touched::Touched;
 use std::alloc::{AllocError, Global};
-use upd_core::{CardRef, Counted, CountedCard, Entry, Serial, Target, TargetCounts};
+use upd_core::{Age, CardRef, Counted, CountedCard, Entry, Target, TargetCounts};
 
 /// What is known before the cascade.
 #[derive(Drop)]
@@ -37,14 +37,14 @@ pub(crate) struct Found {
 }
 
 /// Whether an ident is taken in a deck.
-fn is_taken(counts: &TargetCounts, deck: Serial, ident: Serial) -> bool
+fn is_taken(counts: &TargetCounts, deck: Age, ident: Age) -> bool
     ensures { result ≡ is_taken_by (count_in counts.now) deck ident }
 {
     counts.of(Target::Set(ident)) != 0 || counts.of(Target::SetIn(ident, deck)) != 0
 }
 
 /// Whether a history stays on in a deck.
-fn stays_on(counts: &TargetCounts, deck: Serial, history: &[Entry]) -> bool
+fn stays_on(counts: &TargetCounts, deck: Age, history: &[Entry]) -> bool
     ensures { result ≡ stays_on (is_taken_by (count_in counts.now) deck) history.now }
 {
     for i in (0..history.len()).rev() {
@@ -73,7 +73,7 @@ fn is_due(before: &Before, now: &TargetCounts, card: &CountedCard) -> bool
 }
 
 /// The status of a card anew if it is due, which is put to what is found.
-fn find<'a>(
+fn judge_if_due<'a>(
     counted: &mut Counted<'a>,
     before: &Before,
     found: &mut Found,
@@ -103,7 +103,7 @@ fn find<'a>(
 }
 
 /// The status of a card: anew if it is due, else as it was.
-fn look<'a>(
+fn status_now<'a>(
     counted: &mut Counted<'a>,
     before: &Before,
     found: &mut Found,
@@ -122,14 +122,14 @@ fn look<'a>(
         (count_in found.old.counts) card.now
         then one_more counted.old else counted.old)) }
 {
-    match find(counted, before, found, card)? {
+    match judge_if_due(counted, before, found, card)? {
         Some(active) => Ok(active),
         None => Ok(before.statuses.of(card.reference()).unwrap_or(false)),
     }
 }
 
 /// Looks at a card of `YANK$$$`; its targets are counted if it is live.
-fn turn<'a>(
+fn settle_yank<'a>(
     counted: &mut Counted<'a>,
     before: &Before,
     found: &mut Found,
@@ -150,7 +150,7 @@ fn turn<'a>(
         (count_in found.old.counts) card.now
         then one_more counted.old else counted.old)) }
 {
-    if look(counted, before, found, card)? {
+    if status_now(counted, before, found, card)? {
         found.counts.raise(card.targets())?;
     }
     Ok(())
@@ -178,7 +178,7 @@ fn settle_yanks<'a>(
         statuses: Vec::new(alloc),
     };
     for i in (0..yanks.len()).rev() {
-        turn(counted, before, &mut found, &yanks[i])?;
+        settle_yank(counted, before, &mut found, &yanks[i])?;
     }
     Ok(found)
 }
@@ -226,14 +226,14 @@ fn judge_others<'a>(
         if !flipped && !before.touched.has(card.reference()) {
             continue;
         }
-        find(counted, before, found, card)?;
+        judge_if_due(counted, before, found, card)?;
     }
     Ok(())
 }
 
 /// What a settling leaves: statuses and counts, and what it found of the cards that it looked at.
 #[derive(Drop)]
-pub(crate) struct Settled {
+pub(crate) struct Settling {
     pub(crate) statuses: Statuses,
     pub(crate) found: Found,
 }
@@ -244,7 +244,7 @@ pub(crate) fn settling<'a>(
     alloc: Global,
     counted: &mut Counted<'a>,
     before: &Before,
-) -> Result<Settled, AllocError>
+) -> Result<Settling, AllocError>
     ensures counts { AreCountable counted.old.library.yanks → IfOk result (λ left. (t : Target) →
         count_in left.found.counts t
         ≡ count_on (live_now (is_touched before.now.touched.now) (was_active before.now.statuses.now)
@@ -269,12 +269,12 @@ pub(crate) fn settling<'a>(
         &others,
         &found.statuses,
     )?;
-    Ok(Settled { statuses, found })
+    Ok(Settling { statuses, found })
 }
 
-/// What is found, put to the statuses that are known. Where some cards aren't loaded, all of these stay, those of
-/// the cards that aren't among them. Else, if they are then as many as the cards, no card is gone; if not, those of
-/// the cards are put together anew.
+/// The statuses once what was found is put to those that are known. Where some cards aren't loaded, every known status
+/// stays. Where all are loaded and there are then as many statuses as cards, no card is gone; else those of the cards
+/// alone are kept.
 fn put_found(
     alloc: Global,
     known: &Statuses,

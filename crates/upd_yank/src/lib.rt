@@ -1,5 +1,5 @@
-//! Kept statuses: the status of each card and the count of each target, changed in place when a run yanks, purges or
-//! corrects.
+//! Kept statuses of cards and counts of targets, led on after each run by looking anew only at the cards whose status it
+//! can have changed.
 #![tactic(auto)]
 
 pub mod cache;

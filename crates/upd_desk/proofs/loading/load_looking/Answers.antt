@@ -12,7 +12,7 @@ returns-in-Ok-load-clause-found g c honest l made rows shown shows =
     all_loaded c.args.run.now l c.in-Ok-load.library (c.in-Ok-load.ensures.found honest l made.sound made.whole rows there shows)
     (needs_yanks c.args.run.now l c.in-Ok.head c.args.cards.now made.sound
     (c.in-Ok.ensures.found before l made.sound made.whole rows shown shows) c.requires.named
-    (sym c.name_yank_card.ensures ∙ c.if-name_yank_card.true))
+    (sym c.any_names_yank_card.ensures ∙ c.if-any_names_yank_card.true))
 
 pub returns-in-Ok-load-clause-reads : goal.returns-in-Ok-load-clause-reads
 returns-in-Ok-load-clause-reads g c honest l made rows shown shows =
@@ -30,7 +30,7 @@ returns-in-Ok-load_holders-clause-found g c honest l made rows shown shows =
     (c.in-Ok-load_holders.ensures.found honest l made rows there shows)
     (needs_named c.args.run.now l c.in-Ok.head c.args.cards.now made.sound c.requires.plain
     (c.in-Ok.ensures.found before l made.sound made.whole rows shown shows) c.requires.named
-    (sym c.name_yank_card.ensures ∙ c.if-name_yank_card.false))
+    (sym c.any_names_yank_card.ensures ∙ c.if-any_names_yank_card.false))
 
 pub returns-in-Ok-load_holders-clause-reads : goal.returns-in-Ok-load_holders-clause-reads
 returns-in-Ok-load_holders-clause-reads g c honest l made rows shown shows =

@@ -13,12 +13,12 @@ loop-card-preserved c =
     let before = count_in c.args.before.now.counts.now in
     let now = count_in c.args.found.now.counts in
     let k = c.card-item.result in
-    let statuses = rw c.loop-card.invariant.counts at c.in_ok-find.ensures.statuses in
-    let reads = rw c.loop-card.invariant.counts at c.in_ok-find.ensures.reads in
-    let more = read_more (is_due touched before now k) c.loop-card.counted c.find.new.counted c.loop-card.found.statuses.items c.find.new.found.statuses.items
+    let statuses = rw c.loop-card.invariant.counts at c.in_ok-judge_if_due.ensures.statuses in
+    let reads = rw c.loop-card.invariant.counts at c.in_ok-judge_if_due.ensures.reads in
+    let more = read_more (is_due touched before now k) c.loop-card.counted c.judge_if_due.new.counted c.loop-card.found.statuses.items c.judge_if_due.new.found.statuses.items
     (found_of now k) reads statuses in
     record {
-      counts = c.in_ok-find.ensures.counts ∙ c.loop-card.invariant.counts;
+      counts = c.in_ok-judge_if_due.ensures.counts ∙ c.loop-card.invariant.counts;
       statuses = others_more touched before now c.args.cards.now c.loop-card.card-index _ k _ _ _ c.loop-card-test.true c.card-item.is statuses
           c.loop-card.invariant.statuses;
       reads = λ small. omega (arith, more.0, c.loop-card.invariant.reads small);

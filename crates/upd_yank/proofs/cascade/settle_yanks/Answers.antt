@@ -17,13 +17,13 @@ loop-i-preserved c =
     let within : i < length c.args.yanks.now = omega arith in
     let f = count_in c.loop-i.found.counts in
     let k = c.index-yanks-i.result in
-    let more = read_more (is_due touched before f k) c.loop-i.counted c.turn.new.counted c.loop-i.found.statuses.items c.turn.new.found.statuses.items
-    (found_of f k) c.in_ok-turn.ensures.reads c.in_ok-turn.ensures.statuses in
+    let more = read_more (is_due touched before f k) c.loop-i.counted c.settle_yank.new.counted c.loop-i.found.statuses.items c.settle_yank.new.found.statuses.items
+    (found_of f k) c.in_ok-settle_yank.ensures.reads c.in_ok-settle_yank.ensures.statuses in
     record {
-      counts = λ countable. turned_counts touched was before f (count_in c.turn.new.found.counts) c.args.yanks.now i _ k within c.index-yanks-i.is countable
-          (known.counts countable) c.in_ok-turn.ensures.counts;
+      counts = λ countable. turned_counts touched was before f (count_in c.settle_yank.new.found.counts) c.args.yanks.now i _ k within c.index-yanks-i.is countable
+          (known.counts countable) c.in_ok-settle_yank.ensures.counts;
       statuses = λ countable. turned_found touched was before f c.args.yanks.now i _ k _ _ within c.index-yanks-i.is (known.counts countable)
-          (known.statuses countable) c.in_ok-turn.ensures.statuses;
+          (known.statuses countable) c.in_ok-settle_yank.ensures.statuses;
       reads = λ small. omega (arith, more.0, more.1, known.reads small, known.few);
       few = omega (arith, more.1, known.few);
     }

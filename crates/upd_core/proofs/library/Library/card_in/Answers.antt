@@ -1,6 +1,6 @@
 use Rattle.std.proofs.Common.{arith}
 use Rattle.std.proofs.lemmas.Grind.{elements}
-use Rattle.upd_core.proofs.library.Library.card.Goals as goal
+use Rattle.upd_core.proofs.library.Library.card_in.Goals as goal
 
 pub returns : goal.returns
 returns c = grind (arith, elements)
