@@ -127,7 +127,7 @@ def on_copies(upd, file, words, given, times):
     def anew(measure):
         shutil.copy(file, copy)
         Path(f"{copy}-wal").unlink(missing_ok=True)
-        return measure([upd, words[0], str(copy), *words[1:]], given)
+        return measure(words_of(upd, copy, words), given)
 
     return statistics.median(anew(processor) for _ in range(times)), anew(instructions), anew(memory)
 

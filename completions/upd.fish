@@ -7,7 +7,7 @@ complete -c upd -n "not __fish_seen_subcommand_from $commands" -a run -d 'hand i
 complete -c upd -n "not __fish_seen_subcommand_from $commands" -a settle -d 'settle a site up to a number'
 complete -c upd -n "not __fish_seen_subcommand_from $commands" -a spool -d 'hand in the runs of a spool'
 complete -c upd -n "not __fish_seen_subcommand_from $commands" -a serve -d 'serve HTTP connections'
-complete -c upd -n "not __fish_seen_subcommand_from $commands" -a compile -d 'write the compile file of all decks'
+complete -c upd -n "not __fish_seen_subcommand_from $commands" -a compile -d 'write the full compile file'
 complete -c upd -n "not __fish_seen_subcommand_from $commands" -a list -d 'list the cards of a deck'
 complete -c upd -n "not __fish_seen_subcommand_from $commands" -a history -d 'list what is known of a card'
 complete -c upd -n "not __fish_seen_subcommand_from $commands" -a idents -d 'list all decks and correction sets'

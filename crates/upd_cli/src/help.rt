@@ -80,7 +80,8 @@ Example:
 pub(crate) const SERVE: Text = Text {
     about: "Serves so many HTTP connections, one after the other, one request each",
     more: "\
-Reads and writes connections alone. A client that says nothing for 10 seconds is given up.
+Reads and writes connections alone. A client that says or takes nothing for 10 seconds is given up,
+and so is one that isn't done after two minutes.
 
 Exit status: 0 done, 2 no command line, ADDRESS or COUNT is none, 3 want of memory, the store
 failed, the address can't be bound, or no connection can be accepted. What failed is one line on
@@ -93,7 +94,7 @@ Example:
 };
 
 pub(crate) const COMPILE: Text = Text {
-    about: "Writes the compile file of all decks",
+    about: "Writes the compile file of all decks that aren't common",
     more: "\
 Reads nothing, and writes lines of 97 bytes. Changes nothing.
 

@@ -45,7 +45,7 @@ pub(crate) fn carry_out<R: Read, W: Write>(
     ensures silent { IfErr result (λ fault. exit_status fault.kind ≡ 1 → MayTell asked.now ⊎ (output.new ≡ output.old)) }
 {
     match asked {
-        Asked::Init => make(rt, file),
+        Asked::Init => init_file(rt, file),
         Asked::Run { site, number, mode } => { run_on(rt, file, site, number, mode, input, output) }
         Asked::Settle { site, number } => settle_on(rt, file, site, number, output),
         Asked::Spool => {
@@ -55,12 +55,12 @@ pub(crate) fn carry_out<R: Read, W: Write>(
             ended?;
             Ok(DONE)
         }
-        Asked::Compile => answer(rt, file, &Question::Compile, output),
-        Asked::List { deck } => answer(rt, file, &Question::Deck(read_deck(deck)?), output),
-        Asked::History { card } => answer(rt, file, &Question::Card(read_card(card)?), output),
-        Asked::Idents => answer(rt, file, &Question::Idents, output),
-        Asked::Yanks => answer(rt, file, &Question::Yanks, output),
-        Asked::Migrate => bring_up(rt, file),
+        Asked::Compile => answer_on(rt, file, &Question::Compile, output),
+        Asked::List { deck } => answer_on(rt, file, &Question::Deck(read_deck(deck)?), output),
+        Asked::History { card } => answer_on(rt, file, &Question::Card(read_card(card)?), output),
+        Asked::Idents => answer_on(rt, file, &Question::Idents, output),
+        Asked::Yanks => answer_on(rt, file, &Question::Yanks, output),
+        Asked::Migrate => migrate_file(rt, file),
     }
 }
 
@@ -137,7 +137,7 @@ pub(crate) fn serve(
     Ok(DONE)
 }
 
-fn make(rt: &HostRuntime, file: &str) -> Result<u8, Fault>
+fn init_file(rt: &HostRuntime, file: &str) -> Result<u8, Fault>
     ensures { IfOk result (λ status. status ≡ 0) }
 {
     let library = create(rt, file, Unknown)?;
@@ -146,7 +146,7 @@ fn make(rt: &HostRuntime, file: &str) -> Result<u8, Fault>
 }
 
 /// Brings the file to the present schema.
-fn bring_up(rt: &HostRuntime, file: &str) -> Result<u8, Fault>
+fn migrate_file(rt: &HostRuntime, file: &str) -> Result<u8, Fault>
     ensures { IfOk result (λ status. status ≡ 0) }
 {
     let mut conn = connect(rt, file, Unknown)?;
@@ -156,7 +156,7 @@ fn bring_up(rt: &HostRuntime, file: &str) -> Result<u8, Fault>
     Ok(DONE)
 }
 
-fn answer<W: Write>(
+fn answer_on<W: Write>(
     rt: &HostRuntime,
     file: &str,
     question: &Question,

@@ -8,7 +8,7 @@ use Rattle.upd_change.specs.Rows.{Rows, Shows, ShowsStates}
 use Rattle.upd_compile.specs.declared.mode.Mode.{Mode}
 use Rattle.upd_rows.specs.Tables.{is_run, run_at, is_mark_of}
 use Rattle.upd_desk.specs.Arrivals.{ArrivalView, door}
-use Rattle.upd_desk.specs.Journal.{Alike, Event, Came, Carried, Settled, Heard, Journal, mark, has_key, with_arrival, distinct, made_by, world, answered, kept}
+use Rattle.upd_desk.specs.Journal.{Alike, Event, Came, Carried, Settled, Heard, Journal, mark, has_key, with_arrival, distinct, made_by, library_after, answered, kept}
 use Rattle.upd_desk.specs.Outcomes.{outcome}
 use Rattle.upd_desk.specs.Holding.{Holds, AddsRun}
 use Rattle.upd_desk.proofs.JournalLemmas.{answered_any, heard_new}
@@ -52,7 +52,7 @@ unheard_key j rows site n held above none = unkept_key j site n above (sym (held
 
 -- tables that a new run was added to hold what is owed after its arrival
 pub holds_new : (j : Journal) (a : ArrivalView) (mode : Mode) (rows new : Rows) → Holds j rows → door a ≡ Ok mode
-    → nat_lt (mark j a.site) a.number ≡ true → run_at a.site a.number rows ≡ None → AddsRun mode a (world j) rows new → Holds (Came a ∷ j) new
+    → nat_lt (mark j a.site) a.number ≡ true → run_at a.site a.number rows ≡ None → AddsRun mode a (library_after j) rows new → Holds (Came a ∷ j) new
 holds_new j a mode rows new held passed above none adds =
     let fresh = unheard_key j rows a.site a.number held above none in
     let heard : distinct (Came a ∷ j) ≡ h ∷ distinct j = heard_new j a mode passed above fresh in
@@ -60,7 +60,7 @@ holds_new j a mode rows new held passed above none adds =
       library = subst (λ runs. Shows new (made_by runs)) (sym heard) adds.library;
       states = subst (λ runs. ShowsStates new (made_by runs)) (sym heard) adds.states;
       runs = λ site n. ap (find (is_run site n)) adds.runs
-          ∙ kept_with_run j h (outcome mode a (world j)).reply rows held.runs above fresh site n ∙ rw heard refl;
+          ∙ kept_with_run j h (outcome mode a (library_after j)).reply rows held.runs above fresh site n ∙ rw heard refl;
       marks = λ site. ap (λ rows. option_map_or (λ m. m.mark) (find (is_mark_of site) rows) 0) adds.settled ∙ held.marks site;
     }
   where

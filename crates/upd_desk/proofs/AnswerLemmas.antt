@@ -10,7 +10,7 @@ use Rattle.upd_compile.specs.declared.mode.Mode.{Mode}
 use Rattle.upd_compile.specs.Modes.{mode_named}
 use Rattle.upd_rows.specs.Tables.{run_at, mark_at}
 use Rattle.upd_desk.specs.Arrivals.{ArrivalView, is_site, is_run_number, door}
-use Rattle.upd_desk.specs.Journal.{Came, Journal, mark, distinct, world, kept, reply_to, answer}
+use Rattle.upd_desk.specs.Journal.{Came, Journal, mark, distinct, library_after, kept, reply_to, answer}
 use Rattle.upd_desk.specs.Outcomes.{ReplyView, outcome}
 use Rattle.upd_desk.specs.Holding.{Holds, is_lost}
 use Rattle.upd_desk.proofs.JournalLemmas.{unheard_known}
@@ -62,23 +62,23 @@ answer_settled j a mode rows held passed below =
 
 -- above it the answer goes by what is kept under the key
 answer_above : (j : Journal) (a : ArrivalView) (mode : Mode) (rows : Rows) (run : Option RunView) → Holds j rows → door a ≡ Ok mode
-    → nat_lt (mark_at a.site rows) a.number ≡ true → run_at a.site a.number rows ≡ run → answer j a ≡ reply_to mode a (world j) run
+    → nat_lt (mark_at a.site rows) a.number ≡ true → run_at a.site a.number rows ≡ run → answer j a ≡ reply_to mode a (library_after j) run
 answer_above j a mode rows run held passed above is =
     let higher : nat_lt (mark j a.site) a.number ≡ true = rw (← held.marks a.site) above in
     let kept_is : kept j a.site a.number ≡ run = sym (held.runs a.site a.number) ∙ is in
     by (not_below (mark j a.site) a.number higher) kept_is
   where
-    by : nat_le a.number (mark j a.site) ≡ false → kept j a.site a.number ≡ run → answer j a ≡ reply_to mode a (world j) run
+    by : nat_le a.number (mark j a.site) ≡ false → kept j a.site a.number ≡ run → answer j a ≡ reply_to mode a (library_after j) run
     by high kept_is = ap (λ m. go m (nat_le a.number (mark j a.site)) (kept j a.site a.number)) passed
-        ∙ ap (λ b. go (Ok mode) b (kept j a.site a.number)) high ∙ ap (reply_to mode a (world j)) kept_is
+        ∙ ap (λ b. go (Ok mode) b (kept j a.site a.number)) high ∙ ap (reply_to mode a (library_after j)) kept_is
       where
         go : Result Mode Fault → Bool → Option RunView → Result ReplyView Fault
-        go d settled k = d >>= λ mode. at_line 0 (refuse_if settled fault.Settled) >>= λ _. reply_to mode a (world j) k
+        go d settled k = d >>= λ mode. at_line 0 (refuse_if settled fault.Settled) >>= λ _. reply_to mode a (library_after j) k
 
 -- a key that is kept gets what is kept, and isn't heard again
 pub answer_again : (j : Journal) (a : ArrivalView) (mode : Mode) (rows : Rows) (run : RunView) → Holds j rows → door a ≡ Ok mode
     → nat_lt (mark_at a.site rows) a.number ≡ true → run_at a.site a.number rows ≡ Some run
-    → (answer j a ≡ reply_to mode a (world j) (Some run)) × (distinct (Came a ∷ j) ≡ distinct j)
+    → (answer j a ≡ reply_to mode a (library_after j) (Some run)) × (distinct (Came a ∷ j) ≡ distinct j)
 answer_again j a mode rows run held passed above is = (
   answer_above j a mode rows (Some run) held passed above is,
   unheard_known j a mode passed (known_where_kept j a.site a.number run (sym (held.runs a.site a.number) ∙ is)),
@@ -86,5 +86,5 @@ answer_again j a mode rows run held passed above is = (
 
 -- a new key gets the reply of its own outcome
 pub answer_new : (j : Journal) (a : ArrivalView) (mode : Mode) (rows : Rows) → Holds j rows → door a ≡ Ok mode
-    → nat_lt (mark_at a.site rows) a.number ≡ true → run_at a.site a.number rows ≡ None → answer j a ≡ Ok (outcome mode a (world j)).reply
+    → nat_lt (mark_at a.site rows) a.number ≡ true → run_at a.site a.number rows ≡ None → answer j a ≡ Ok (outcome mode a (library_after j)).reply
 answer_new j a mode rows held passed above is = answer_above j a mode rows None held passed above is

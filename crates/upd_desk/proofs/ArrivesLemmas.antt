@@ -13,7 +13,7 @@ use Rattle.upd_rows.specs.Keeping.{IsLost, Keeps, MoreFailures, OfMemory, OfStor
 use Rattle.upd_rows.specs.Tables.{mark_at, run_at}
 use Rattle.upd_rows.proofs.StoreLemmas.{keeps_still}
 use Rattle.upd_desk.specs.Arrivals.{ArrivalView, door, mode_number}
-use Rattle.upd_desk.specs.Journal.{Alike, Event, Came, Journal, answer, distinct, mark, reply_to, world}
+use Rattle.upd_desk.specs.Journal.{Alike, Event, Came, Journal, answer, distinct, mark, reply_to, library_after}
 use Rattle.upd_desk.specs.Made.{IsMade}
 use Rattle.upd_desk.specs.Outcomes.{ReplyView, outcome}
 use Rattle.upd_desk.specs.Holding.{Arrives, Becomes, Guards, HoldsIn, IsLeft, TriesRun, is_lost}
@@ -133,15 +133,15 @@ module _ {S : Type 0} {Image : Type 0} (is_honest is_open : S → Type 0) (image
     pub above : is_open s → (rows : Rows) → shows (image s) rows → nat_lt (mark_at a.site rows) a.number ≡ true
     pub found : is_open s → (rows : Rows) → shows (image s) rows → run_at a.site a.number rows ≡ kept
 
-  becomes_held : (made : (j : Journal) → IsMade (world j)) (mode : Mode) (a : ArrivalView) (old : S) (i : Image) (j : Journal) → IsAsked mode a None old
+  becomes_held : (made : (j : Journal) → IsMade (library_after j)) (mode : Mode) (a : ArrivalView) (old : S) (i : Image) (j : Journal) → IsAsked mode a None old
       → is_open old → HoldsIn shows j (image old) → Becomes shows mode a (image old) i → HoldsIn shows (Came a ∷ j) i
   becomes_held made mode a old i j new is (rows, shown, held) becomes =
-      let later = becomes (world j) (made j) rows shown held.library held.states in
+      let later = becomes (library_after j) (made j) rows shown held.library held.states in
       let above : nat_lt (mark j a.site) a.number ≡ true = rw (← held.marks a.site) (new.above is rows shown) in
       (later.0, later.1, holds_new j a mode rows later.0 held new.passed above (new.found is rows shown) later.2)
 
   -- A call that failed and may have tried to keep a new run: it is in hand.
-  pub loses_new : (made : (j : Journal) → IsMade (world j)) (mode : Mode) (a : ArrivalView) (f : Fault) (old new : S)
+  pub loses_new : (made : (j : Journal) → IsMade (library_after j)) (mode : Mode) (a : ArrivalView) (f : Fault) (old new : S)
       → TriesRun is_honest is_open image shows may_leave failures mode a old new → (is_honest old → IsAsked mode a None old) → IsLost f
       → (is_honest new → is_open new → image new ≡ image old) → Went a (Err f) old new
   loses_new made mode a f old new tries is_new lost same = record {
@@ -160,7 +160,7 @@ module _ {S : Type 0} {Image : Type 0} (is_honest is_open : S → Type 0) (image
           (becomes_held made mode a old i j (is_new (tries.honest honest)) is (guards.shown is) becomes)
 
   -- A new run was kept: the store holds the journal with it, and nothing is in hand.
-  pub keeps_new : (made : (j : Journal) → IsMade (world j))
+  pub keeps_new : (made : (j : Journal) → IsMade (library_after j))
       (settles : (s : S) (i : Image) → is_honest s → is_open s → may_leave s i → i ≡ image s) (mode : Mode) (a : ArrivalView) (reply : ReplyView)
       (old new : S) → TriesRun is_honest is_open image shows may_leave failures mode a old new → (is_honest old → IsAsked mode a None old)
       → (is_honest new → is_open new) → (is_honest new → Becomes shows mode a (image old) (image new))
@@ -188,7 +188,7 @@ module _ {S : Type 0} {Image : Type 0} (is_honest is_open : S → Type 0) (image
       owed honest j (rows, shown, held) =
           let new = is_new (tries.honest honest) in
           let first = answer_new j a mode rows held new.passed (new.above (was_open honest) rows shown) (new.found (was_open honest) rows shown) in
-          first ∙ ap Ok (sym (replies honest (world j) (made j) rows shown held.library held.states))
+          first ∙ ap Ok (sym (replies honest (library_after j) (made j) rows shown held.library held.states))
 
   -- ---- calls before that only read
 
@@ -252,7 +252,7 @@ module _ {S : Type 0} {Image : Type 0} (is_honest is_open : S → Type 0) (image
       owed honest j held = by j honest (held (keeps.was_open honest (opens honest)))
 
   known : (mode : Mode) (a : ArrivalView) (run : RunView) (s : S) (j : Journal) → is_open s → IsAsked mode a (Some run) s
-      → HoldsIn shows j (image s) → (answer j a ≡ reply_to mode a (world j) (Some run)) × (distinct (Came a ∷ j) ≡ distinct j)
+      → HoldsIn shows j (image s) → (answer j a ≡ reply_to mode a (library_after j) (Some run)) × (distinct (Came a ∷ j) ≡ distinct j)
   known mode a run s j is asks (rows, shown, held) = answer_again j a mode rows run held asks.passed (asks.above is rows shown) (asks.found is rows shown)
 
   pub tells_kept : (settles : (s : S) (i : Image) → is_honest s → is_open s → may_leave s i → i ≡ image s) (mode : Mode) (a : ArrivalView)
@@ -263,10 +263,10 @@ module _ {S : Type 0} {Image : Type 0} (is_honest is_open : S → Type 0) (image
       owed : is_honest s → (j : Journal) → HeldAt s j → (answer j a ≡ Ok reply) × (distinct (Came a ∷ j) ≡ distinct j)
       owed honest j held =
           let both = known mode a run s j (opens honest) (asks honest) (held (opens honest)) in
-          (both.0 ∙ sym (told (world j)), both.1)
+          (both.0 ∙ sym (told (library_after j)), both.1)
 
   pub refuses_changed : (mode : Mode) (a : ArrivalView) (run : RunView) (f : Fault) (s : S) → (is_honest s → is_open s)
       → (is_honest s → IsAsked mode a (Some run) s) → ((l : LibraryView) → Err f ≡ reply_to mode a l (Some run)) → Went a (Err f) s s
   refuses_changed mode a run f s opens asks told = refuses a f s s (keeps_still is_honest is_open image shows may_leave failures s)
       (changed_keeps mode a empty run f (told empty))
-      (λ honest j held. (known mode a run s j (opens honest) (asks honest) (held (opens honest))).0 ∙ sym (told (world j)))
+      (λ honest j held. (known mode a run s j (opens honest) (asks honest) (held (opens honest))).0 ∙ sym (told (library_after j)))

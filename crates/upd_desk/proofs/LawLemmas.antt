@@ -16,7 +16,7 @@ use Rattle.upd_rows.specs.Tables.{is_run}
 use Rattle.upd_rows.proofs.TableLemmas.{is_same_bytes, max_left, max_right, same_bytes, same_key}
 use Rattle.upd_desk.specs.Arrivals.{ArrivalView, door, mode_number}
 use Rattle.upd_desk.specs.Journal.{Alike, Event, Came, Carried, Settled, Heard, Journal, answer, answered, distinct, first_arrivals, has_key, heard}
-use Rattle.upd_desk.specs.Journal.{heard_one, kept, made_by, mark, reply_to, run_of, with_arrival, world}
+use Rattle.upd_desk.specs.Journal.{heard_one, kept, made_by, mark, reply_to, run_of, with_arrival, library_after}
 use Rattle.upd_desk.specs.Outcomes.{Compiled, ReplyView, compiled, outcome, outcome_by}
 use Rattle.upd_desk.proofs.AlikeLemmas.{alike_more, unkept_key}
 use Rattle.upd_desk.proofs.AnswerLemmas.{answer_at_door}
@@ -132,7 +132,7 @@ pub record IsReplied (j : Journal) (a : ArrivalView) (reply : ReplyView) : Type 
   pub mode : Mode
   pub passed : door a ≡ Ok mode
   pub above : nat_lt (mark j a.site) a.number ≡ true
-  pub told : reply_to mode a (world j) (kept j a.site a.number) ≡ Ok reply
+  pub told : reply_to mode a (library_after j) (kept j a.site a.number) ≡ Ok reply
 
 -- a refusal is no reply
 no_reply : {P : Type 0} (f : Fault) (reply : ReplyView) → ◌≡◌ {A = Result ReplyView Fault} (Err f) (Ok reply) → P
@@ -149,7 +149,7 @@ replied j a reply is = by_door (door a) refl
         let refused : answer j a ≡ Err (record { kind = fault.Settled; at = 0 }) = rw (passed, settled) refl in
         no_reply (record { kind = fault.Settled; at = 0 }) reply (sym refused ∙ is)
     by_mark mode passed false above =
-        let told : answer j a ≡ reply_to mode a (world j) (kept j a.site a.number) = rw (passed, above) refl in
+        let told : answer j a ≡ reply_to mode a (library_after j) (kept j a.site a.number) = rw (passed, above) refl in
         record { mode = mode; passed = passed; above = higher above; told = sym told ∙ is }
 
     by_door : (d : Result Mode Fault) → door a ≡ d → IsReplied j a reply
@@ -165,18 +165,18 @@ refused_outcome mode a l is = go (compiled mode a.bytes l) is
     go (Err f) refused = refl
 
 pub refused_leaves : (j : Journal) (a : ArrivalView) (reply : ReplyView) → answer j a ≡ Ok reply → reply.accepted ≡ false
-    → world (Came a ∷ j) ≡ world j
+    → library_after (Came a ∷ j) ≡ library_after j
 refused_leaves j a reply is refused = by (replied j a reply is)
   where
     by_kept : (mode : Mode) → door a ≡ Ok mode → nat_lt (mark j a.site) a.number ≡ true → (k : Option RunView) → kept j a.site a.number ≡ k
-        → reply_to mode a (world j) k ≡ Ok reply → world (Came a ∷ j) ≡ world j
+        → reply_to mode a (library_after j) k ≡ Ok reply → library_after (Came a ∷ j) ≡ library_after j
     by_kept mode passed above (Some run) there told = ap made_by (unheard_known j a mode passed (known_where_kept j a.site a.number run there))
     by_kept mode passed above None none told =
-        let own = ok_same (outcome mode a (world j)).reply reply told in
+        let own = ok_same (outcome mode a (library_after j)).reply reply told in
         ap made_by (heard_new j a mode passed above (unkept_key j a.site a.number above none))
-        ∙ refused_outcome mode a (world j) (ap (λ r. r.accepted) own ∙ refused)
+        ∙ refused_outcome mode a (library_after j) (ap (λ r. r.accepted) own ∙ refused)
 
-    by : IsReplied j a reply → world (Came a ∷ j) ≡ world j
+    by : IsReplied j a reply → library_after (Came a ∷ j) ≡ library_after j
     by its = by_kept its.mode its.passed its.above (kept j a.site a.number) refl its.told
 
 -- a run that is told again is the one of this arrival and its reply
@@ -214,22 +214,22 @@ reply_kept j a mode reply passed is = by (replied j a reply is)
         → (if nat_le a.number (mark j a.site) then None else find (is_run a.site a.number) (answered hs)) ≡ find (is_run a.site a.number) (answered hs)
     unsettled above hs = rw (not_below (mark j a.site) a.number above) refl
 
-    by_kept : nat_lt (mark j a.site) a.number ≡ true → (k : Option RunView) → kept j a.site a.number ≡ k → reply_to mode a (world j) k ≡ Ok reply
+    by_kept : nat_lt (mark j a.site) a.number ≡ true → (k : Option RunView) → kept j a.site a.number ≡ k → reply_to mode a (library_after j) k ≡ Ok reply
         → kept (Came a ∷ j) a.site a.number ≡ Some (run_of (record { arrival = a; mode = mode; carried = None }) reply)
     by_kept above (Some run) there told =
         let same = unheard_known j a mode passed (known_where_kept j a.site a.number run there) in
         let found : find (is_run a.site a.number) (answered (distinct j)) ≡ Some run = sym (unsettled above (distinct j)) ∙ there in
         let own = find_passes (is_run a.site a.number) (answered (distinct j)) run found in
         ap (λ hs. if nat_le a.number (mark j a.site) then None else find (is_run a.site a.number) (answered hs)) same ∙ there
-        ∙ ap Some (told_run mode a (world j) run reply own told)
+        ∙ ap Some (told_run mode a (library_after j) run reply own told)
     by_kept above None none told =
         unsettled above (distinct (Came a ∷ j)) ∙ found_own j a mode passed above (unkept_key j a.site a.number above none)
-        ∙ ap (λ r. Some (run_of (record { arrival = a; mode = mode; carried = None }) r)) (ok_same (outcome mode a (world j)).reply reply told)
+        ∙ ap (λ r. Some (run_of (record { arrival = a; mode = mode; carried = None }) r)) (ok_same (outcome mode a (library_after j)).reply reply told)
 
     by : IsReplied j a reply → kept (Came a ∷ j) a.site a.number ≡ Some (run_of (record { arrival = a; mode = mode; carried = None }) reply)
     by its =
         let same : its.mode ≡ mode = ok_same its.mode mode (sym its.passed ∙ passed) in
-        by_kept its.above (kept j a.site a.number) refl (subst (λ m. reply_to m a (world j) (kept j a.site a.number) ≡ Ok reply) same its.told)
+        by_kept its.above (kept j a.site a.number) refl (subst (λ m. reply_to m a (library_after j) (kept j a.site a.number) ≡ Ok reply) same its.told)
 
 pub others_kept : (j : Journal) (a : ArrivalView) (site : List ℕ) (n : ℕ) → ((a.site ≡ site) × (a.number ≡ n) → ⊥)
     → kept (Came a ∷ j) site n ≡ kept j site n

@@ -15,7 +15,7 @@ use Rattle.upd_laws.proofs.ReadRunLemmas.{empty_made, run_made}
 use Rattle.upd_laws.proofs.SoundOutcomeLemmas.{holds_of, through}
 use Rattle.upd_laws.proofs.SoundRunLemmas.{empty_sound, run_sound, run_whole, run_within}
 use Rattle.upd_desk.specs.Arrivals.{ArrivalView, door, is_run_number, is_site, key_door}
-use Rattle.upd_desk.specs.Journal.{Heard, Journal, distinct, made_by, outcome_of, world}
+use Rattle.upd_desk.specs.Journal.{Heard, Journal, distinct, made_by, outcome_of, library_after}
 use Rattle.upd_desk.specs.Made.{IsMade}
 use Rattle.upd_desk.specs.Outcomes.{Compiled, compiled, outcome, outcome_by}
 
@@ -68,8 +68,8 @@ runs_made (h ∷ earlier) = go h.carried (runs_made earlier)
     go None made = outcome_made h.mode h.arrival (made_by earlier) made
     go (Some reply) made = made
 
-pub world_made : (journal : Journal) → IsMade (world journal)
-world_made journal = runs_made (distinct journal)
+pub library_made : (journal : Journal) → IsMade (library_after journal)
+library_made journal = runs_made (distinct journal)
 
 -- ---- the door
 

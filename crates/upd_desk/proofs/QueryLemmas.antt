@@ -16,10 +16,10 @@ use Rattle.upd_compile.specs.Walk.{WalkEvent, Line, Follow, Depth, Unknown, walk
 use Rattle.upd_compile.specs.declared.mode.Mode.{Mode}
 use Rattle.upd_change.specs.Rows.{Rows, Shows, ShowsStates}
 use Rattle.upd_rows.specs.Keeping.{Keeps}
-use Rattle.upd_desk.specs.Journal.{Journal, world}
+use Rattle.upd_desk.specs.Journal.{Journal, library_after}
 use Rattle.upd_desk.specs.Made.{IsMade}
 use Rattle.upd_desk.specs.Holding.{HoldsIn, IsOwed, Tells, is_lost}
-use Rattle.upd_desk.proofs.MadeLemmas.{world_made}
+use Rattle.upd_desk.proofs.MadeLemmas.{library_made}
 use Rattle.upd_desk.proofs.RefusedLemmas.{fails_by}
 
 -- a call that failed as defined, but for want of memory, met what is owed or was lost
@@ -40,20 +40,20 @@ pub of_held : {Image Open P : Type 0} (shows : Image → Rows → Type 0) (image
 of_held {P = P} shows image opened all j held = by (held opened)
   where
     by : HoldsIn shows j image → P
-    by (rows, shown, holds) = all (world j) (world_made j) rows shown holds.library
+    by (rows, shown, holds) = all (library_after j) (library_made j) rows shown holds.library
 
 module _ {S : Type 0} {Image : Type 0} (is_honest is_open : S → Type 0) (image : S → Image) (shows : Image → Rows → Type 0)
     (may_leave : S → Image → Type 0) (failures : S → ℕ) where
   -- what is owed of what was loaded is owed of the library after the journal, where the same is defined of both
-  pub tells_same : (made : (j : Journal) → IsMade (world j)) {A : Type 0} (defined : LibraryView → Result A Fault) (owed result : Result A Fault)
+  pub tells_same : (made : (j : Journal) → IsMade (library_after j)) {A : Type 0} (defined : LibraryView → Result A Fault) (owed result : Result A Fault)
       (old new : S) → Keeps is_honest is_open image shows may_leave failures old new → (is_honest new → is_open new)
       → (is_honest new → (l : LibraryView) → IsMade l → (rows : Rows) → shows (image old) rows → Shows rows l → ShowsStates rows l → owed ≡ defined l)
       → IsOwed owed result → Tells is_honest is_open image shows may_leave failures defined result old new
   tells_same made defined owed result old new keeps opens same meets honest j held = by (held (keeps.was_open honest (opens honest)))
     where
-      by : HoldsIn shows j (image old) → IsOwed (defined (world j)) result
+      by : HoldsIn shows j (image old) → IsOwed (defined (library_after j)) result
       by (rows, shown, holds) =
-          subst (λ o. IsOwed o result) (same honest (world j) (made j) rows shown holds.library holds.states) meets
+          subst (λ o. IsOwed o result) (same honest (library_after j) (made j) rows shown holds.library holds.states) meets
 
   -- what tables showed before a call that only read them they show after it
   pub shown_there : (old mid : S) → Keeps is_honest is_open image shows may_leave failures old mid → is_honest mid → is_open mid → (rows : Rows)

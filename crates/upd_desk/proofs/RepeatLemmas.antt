@@ -12,7 +12,7 @@ use Rattle.upd_compile.specs.declared.mode.Mode.{Mode}
 use Rattle.upd_rows.specs.Tables.{is_run}
 use Rattle.upd_rows.proofs.TableLemmas.{is_same_bytes, same_key}
 use Rattle.upd_desk.specs.Arrivals.{ArrivalView, door, mode_number}
-use Rattle.upd_desk.specs.Journal.{Came, Carried, Settled, Heard, Journal, mark, has_key, with_arrival, distinct, outcome_of, made_by, world, run_of, answered}
+use Rattle.upd_desk.specs.Journal.{Came, Carried, Settled, Heard, Journal, mark, has_key, with_arrival, distinct, outcome_of, made_by, library_after, run_of, answered}
 use Rattle.upd_desk.specs.Journal.{kept, reply_to, answer}
 use Rattle.upd_desk.specs.Outcomes.{ReplyView, outcome}
 use Rattle.upd_desk.proofs.JournalLemmas.{unheard_door, unheard_settled, unheard_known, heard_new, answered_any}
@@ -44,7 +44,7 @@ known_where_kept j site n run is = go (list_any (has_key site n) (distinct j)) r
 pub refused_unheard : (j : Journal) (a : ArrivalView) (fault : Fault) → answer j a ≡ Err fault → distinct (Came a ∷ j) ≡ distinct j
 refused_unheard j a fault refused = by_door (door a) refl refused
   where
-    by_kept : (mode : Mode) → door a ≡ Ok mode → (k : Option RunView) → kept j a.site a.number ≡ k → reply_to mode a (world j) k ≡ Err fault
+    by_kept : (mode : Mode) → door a ≡ Ok mode → (k : Option RunView) → kept j a.site a.number ≡ k → reply_to mode a (library_after j) k ≡ Err fault
         → distinct (Came a ∷ j) ≡ distinct j
     by_kept mode passed None is answers = grind rules
     by_kept mode passed (Some run) is answers = unheard_known j a mode passed (known_where_kept j a.site a.number run is)
@@ -56,7 +56,7 @@ refused_unheard j a fault refused = by_door (door a) refl refused
         → distinct (Came a ∷ j) ≡ distinct j
     by_mark mode passed true settled answers = unheard_settled j a mode passed (below_mark settled)
     by_mark mode passed false above answers =
-        let answered_by : answer j a ≡ reply_to mode a (world j) (kept j a.site a.number) = rw (passed, above) refl in
+        let answered_by : answer j a ≡ reply_to mode a (library_after j) (kept j a.site a.number) = rw (passed, above) refl in
         by_kept mode passed (kept j a.site a.number) refl (sym answered_by ∙ answers)
 
     by_door : (d : Result Mode Fault) → door a ≡ d → answer j a ≡ Err fault → distinct (Came a ∷ j) ≡ distinct j
@@ -114,7 +114,7 @@ found_later (Settled s m ∷ es) k site n run is = found_later es k site n run i
 
 -- the answer to an arrival that passes the door and isn't settled goes by what was answered under its key
 answer_is : (j : Journal) (a : ArrivalView) (mode : Mode) → door a ≡ Ok mode → nat_lt (mark j a.site) a.number ≡ true
-    → answer j a ≡ reply_to mode a (world j) (find (is_run a.site a.number) (answered (distinct j)))
+    → answer j a ≡ reply_to mode a (library_after j) (find (is_run a.site a.number) (answered (distinct j)))
 answer_is j a mode passed above = rw (passed, not_below (mark j a.site) a.number above) refl
 
 -- a run gets its own reply again
@@ -129,7 +129,7 @@ own_reply mode a l reply = rw (is_same_bytes a.bytes, same_number (mode_number m
 pub found_own : (before : Journal) (a : ArrivalView) (mode : Mode) → door a ≡ Ok mode → nat_lt (mark before a.site) a.number ≡ true
     → list_any (has_key a.site a.number) (distinct before) ≡ false
     → find (is_run a.site a.number) (answered (distinct (Came a ∷ before)))
-    ≡ Some (run_of (record { arrival = a; mode = mode; carried = None }) (outcome mode a (world before)).reply)
+    ≡ Some (run_of (record { arrival = a; mode = mode; carried = None }) (outcome mode a (library_after before)).reply)
 found_own before a mode passed above fresh = rw (heard_new before a mode passed above fresh, is_same_bytes a.site, same_number a.number) refl
   where
     same_number : (n : ℕ) → (n == n) ≡ true
@@ -146,7 +146,7 @@ repeated between before a mode passed above = by_known (list_any (has_key a.site
     earlier = let rises = mark_rises between (Came a ∷ before) a.site in grind (arith, nat_tests)
 
     later : answer (between ++ Came a ∷ before) a
-        ≡ reply_to mode a (world (between ++ Came a ∷ before)) (find key (answered (distinct (between ++ Came a ∷ before))))
+        ≡ reply_to mode a (library_after (between ++ Came a ∷ before)) (find key (answered (distinct (between ++ Came a ∷ before))))
     later = answer_is (between ++ Came a ∷ before) a mode passed above
 
     by_found : (k : Option RunView) → find key (answered (distinct before)) ≡ k → list_any (has_key a.site a.number) (distinct before) ≡ true
@@ -157,8 +157,8 @@ repeated between before a mode passed above = by_known (list_any (has_key a.site
     by_found (Some run) is known =
         let with_it = found_with before a None (door a) a.site a.number run is in
         let still = found_later between (Came a ∷ before) a.site a.number run with_it in
-        let again : answer (between ++ Came a ∷ before) a ≡ reply_to mode a (world before) (Some run) = later ∙ rw still refl in
-        let first : answer before a ≡ reply_to mode a (world before) (Some run) = answer_is before a mode passed earlier ∙ rw is refl in
+        let again : answer (between ++ Came a ∷ before) a ≡ reply_to mode a (library_after before) (Some run) = later ∙ rw still refl in
+        let first : answer before a ≡ reply_to mode a (library_after before) (Some run) = answer_is before a mode passed earlier ∙ rw is refl in
         again ∙ sym first
 
     by_known : (known : Bool) → list_any (has_key a.site a.number) (distinct before) ≡ known
@@ -166,9 +166,9 @@ repeated between before a mode passed above = by_known (list_any (has_key a.site
     by_known true known = by_found (find key (answered (distinct before))) refl known
     by_known false fresh =
         let still = found_later between (Came a ∷ before) a.site a.number _ (found_own before a mode passed earlier fresh) in
-        let first : answer before a ≡ Ok (outcome mode a (world before)).reply
+        let first : answer before a ≡ Ok (outcome mode a (library_after before)).reply
         = answer_is before a mode passed earlier
         ∙ rw (none_found key (answered (distinct before)) (answered_any a.site a.number (distinct before) ∙ fresh)) refl in
-        let again : answer (between ++ Came a ∷ before) a ≡ Ok (outcome mode a (world before)).reply
-        = later ∙ rw still (own_reply mode a (world (between ++ Came a ∷ before)) (outcome mode a (world before)).reply) in
+        let again : answer (between ++ Came a ∷ before) a ≡ Ok (outcome mode a (library_after before)).reply
+        = later ∙ rw still (own_reply mode a (library_after (between ++ Came a ∷ before)) (outcome mode a (library_after before)).reply) in
         again ∙ sym first

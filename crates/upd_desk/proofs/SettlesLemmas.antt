@@ -11,7 +11,7 @@ use Rattle.upd_rows.specs.Keeping.{IsLost, Keeps, Tries}
 use Rattle.upd_rows.specs.Tables.{mark_at, settled_to}
 use Rattle.upd_rows.proofs.TableLemmas.{max_right, same_bytes, shows_settled, states_settled}
 use Rattle.upd_desk.specs.Arrivals.{is_run_number, is_site, key_door}
-use Rattle.upd_desk.specs.Journal.{Alike, Event, Settled, Journal, mark, world}
+use Rattle.upd_desk.specs.Journal.{Alike, Event, Settled, Journal, mark, library_after}
 use Rattle.upd_desk.specs.Holding.{Guards, Holds, HoldsIn, IsLeft, Settles, is_lost, mark_after}
 use Rattle.upd_desk.proofs.ArrivesLemmas.{holds_in_alike, left_here, left_more, lost_kind}
 use Rattle.upd_desk.proofs.KeptLemmas.{kept_settled, mark_settled}
@@ -43,8 +43,8 @@ alike_settled j s n below = record { runs = refl; marks = λ site. go site (byte
 -- tables that a settlement has changed hold what is owed after it
 pub holds_settled : (j : Journal) (s : List ℕ) (n : ℕ) (rows : Rows) → Holds j rows → Holds (Settled s n ∷ j) (settled_to s n rows)
 holds_settled j s n rows held = record {
-  library = shows_settled s n rows (world j) held.library;
-  states = states_settled s n rows (world j) held.states;
+  library = shows_settled s n rows (library_after j) held.library;
+  states = states_settled s n rows (library_after j) held.states;
   runs = kept_settled j s n rows held.marks held.runs;
   marks = mark_settled j s n rows held.marks;
 }

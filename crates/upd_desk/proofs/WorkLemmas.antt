@@ -9,7 +9,7 @@ use Rattle.upd_rows.specs.Keeping.{Keeps}
 use Rattle.upd_rows.specs.Tables.{run_at}
 use Rattle.upd_yank.specs.Affected.{altered}
 use Rattle.upd_desk.specs.Arrivals.{ArrivalView, door}
-use Rattle.upd_desk.specs.Journal.{Came, Journal, distinct, kept, made_by, mark, world}
+use Rattle.upd_desk.specs.Journal.{Came, Journal, distinct, kept, made_by, mark, library_after}
 use Rattle.upd_desk.specs.Made.{IsMade, looked_at, work_of}
 use Rattle.upd_desk.specs.Needed.{needed, needed_by}
 use Rattle.upd_desk.specs.Outcomes.{compiled, outcome}
@@ -18,7 +18,7 @@ use Rattle.upd_desk.proofs.AlikeLemmas.{unheard_key}
 use Rattle.upd_desk.proofs.AnswerLemmas.{answer_again}
 use Rattle.upd_desk.proofs.ArrivesLemmas.{IsAsked}
 use Rattle.upd_desk.proofs.JournalLemmas.{heard_new}
-use Rattle.upd_desk.proofs.MadeLemmas.{world_made}
+use Rattle.upd_desk.proofs.MadeLemmas.{library_made}
 use Rattle.upd_desk.proofs.RefusedLemmas.{unaltered}
 
 -- for a key that is kept no card is looked at
@@ -27,21 +27,21 @@ work_again j a run is = rw is refl
 
 -- for a new key those are looked at that its run can have changed
 work_new : (j : Journal) (a : ArrivalView) (mode : Mode) → door a ≡ Ok mode → kept j a.site a.number ≡ None
-    → looked_at (world j) (compiled mode a.bytes (world j)) ≡ work_of j a
+    → looked_at (library_after j) (compiled mode a.bytes (library_after j)) ≡ work_of j a
 work_new j a mode passed is = rw (is, passed) refl
 
 -- where no run is heard no card has another status
-none_altered : (j : Journal) (a : ArrivalView) (n : ℕ) → distinct (Came a ∷ j) ≡ distinct j → length (altered (world j) (world (Came a ∷ j))) ≤ n
+none_altered : (j : Journal) (a : ArrivalView) (n : ℕ) → distinct (Came a ∷ j) ≡ distinct j → length (altered (library_after j) (library_after (Came a ∷ j))) ≤ n
 none_altered j a n same =
-    subst (λ (l : LibraryView). length (altered (world j) l) ≤ n) (ap made_by (sym same))
-    (subst (λ (ks : List CountedCardView). length ks ≤ n) (sym (unaltered (world j) (world_made j).sound)) (omega arith))
+    subst (λ (l : LibraryView). length (altered (library_after j) l) ≤ n) (ap made_by (sym same))
+    (subst (λ (ks : List CountedCardView). length ks ≤ n) (sym (unaltered (library_after j) (library_made j).sound)) (omega arith))
 
 -- where a run is heard those cards have that its outcome gives another status
 its_altered : (j : Journal) (a : ArrivalView) (mode : Mode) (rows : Rows) (n : ℕ) → Holds j rows → door a ≡ Ok mode
     → nat_lt (mark j a.site) a.number ≡ true → run_at a.site a.number rows ≡ None
-    → length (altered (world j) (outcome mode a (world j)).library) ≤ n → length (altered (world j) (world (Came a ∷ j))) ≤ n
+    → length (altered (library_after j) (outcome mode a (library_after j)).library) ≤ n → length (altered (library_after j) (library_after (Came a ∷ j))) ≤ n
 its_altered j a mode rows n held passed above none less =
-    subst (λ runs. length (altered (world j) (made_by runs)) ≤ n)
+    subst (λ runs. length (altered (library_after j) (made_by runs)) ≤ n)
     (sym (heard_new j a mode passed above (unheard_key j rows a.site a.number held above none))) less
 
 module _ {S : Type 0} {Image : Type 0} (is_honest is_open : S → Type 0) (image : S → Image) (shows : Image → Rows → Type 0)
@@ -68,10 +68,10 @@ module _ {S : Type 0} {Image : Type 0} (is_honest is_open : S → Type 0) (image
 
   pub least_told : (mode : Mode) (a : ArrivalView) (run : RunView) (old mid : S) → Stays old mid → (is_honest mid → is_open mid)
       → (is_honest mid → Asks mode a (Some run) mid) → is_honest mid → (j : Journal) → (is_open old → HoldsIn shows j (image old))
-      → length (altered (world j) (world (Came a ∷ j))) ≤ 0
+      → length (altered (library_after j) (library_after (Came a ∷ j))) ≤ 0
   least_told mode a run old mid keeps opens asks honest j held = by (asks honest) (held_there old mid keeps honest (opens honest) j held)
     where
-      by : Asks mode a (Some run) mid → HoldsIn shows j (image mid) → length (altered (world j) (world (Came a ∷ j))) ≤ 0
+      by : Asks mode a (Some run) mid → HoldsIn shows j (image mid) → length (altered (library_after j) (library_after (Came a ∷ j))) ≤ 0
       by its (rows, shown, holds) = none_altered j a 0
           (answer_again j a mode rows run holds its.passed (its.above (opens honest) rows shown) (its.found (opens honest) rows shown)).1
 
@@ -89,7 +89,7 @@ module _ {S : Type 0} {Image : Type 0} (is_honest is_open : S → Type 0) (image
       by is (asks before) (held_there old mid keeps before is j held)
     where
       by : is_open mid → Asks mode a None mid → HoldsIn shows j (image mid) → work ≡ work_of j a
-      by is its (rows, shown, holds) = looks honest (world j) (world_made j) rows shown holds.library holds.states
+      by is its (rows, shown, holds) = looks honest (library_after j) (library_made j) rows shown holds.library holds.states
           ∙ work_new j a mode its.passed (sym (holds.runs a.site a.number) ∙ its.found is rows shown)
 
   pub least_kept : (mode : Mode) (a : ArrivalView) (work : ℕ) (old mid new : S) → Stays old mid
@@ -97,17 +97,17 @@ module _ {S : Type 0} {Image : Type 0} (is_honest is_open : S → Type 0) (image
       → (is_honest mid → Asks mode a None mid) → (is_honest new → is_open new)
       → (is_honest new → (l : LibraryView) → IsMade l → (rows : Rows) → shows (image mid) rows → Shows rows l → ShowsStates rows l
       → length (altered l (outcome mode a l).library) ≤ work)
-      → is_honest new → (j : Journal) → (is_open old → HoldsIn shows j (image old)) → length (altered (world j) (world (Came a ∷ j))) ≤ work
+      → is_honest new → (j : Journal) → (is_open old → HoldsIn shows j (image old)) → length (altered (library_after j) (library_after (Came a ∷ j))) ≤ work
   least_kept mode a work old mid new keeps tries asks opens least honest j held =
       let before = tries.honest honest in
       let is = tries.was_open honest (opens honest) in
       by is (asks before) (held_there old mid keeps before is j held)
     where
-      by : is_open mid → Asks mode a None mid → HoldsIn shows j (image mid) → length (altered (world j) (world (Came a ∷ j))) ≤ work
+      by : is_open mid → Asks mode a None mid → HoldsIn shows j (image mid) → length (altered (library_after j) (library_after (Came a ∷ j))) ≤ work
       by is its (rows, shown, holds) =
           let above : nat_lt (mark j a.site) a.number ≡ true = rw (← holds.marks a.site) (its.above is rows shown) in
           its_altered j a mode rows work holds its.passed above (its.found is rows shown)
-          (least honest (world j) (world_made j) rows shown holds.library holds.states)
+          (least honest (library_after j) (library_made j) rows shown holds.library holds.states)
 
   -- no more decks are read than a new run needs
   pub reads_kept : (mode : Mode) (a : ArrivalView) (first after next : ℕ) (old mid new : S) → Stays old mid
@@ -124,6 +124,6 @@ module _ {S : Type 0} {Image : Type 0} (is_honest is_open : S → Type 0) (image
       by : is_open mid → Asks mode a None mid → HoldsIn shows j (image mid) → next ≤ first + length (needed_by j a)
       by is its (rows, shown, holds) =
           let unkept : kept j a.site a.number ≡ None = sym (holds.runs a.site a.number) ∙ its.found is rows shown in
-          let same : needed_by j a ≡ needed a.bytes (world j) = rw unkept refl in
-          subst (λ ds. next ≤ first + length ds) (sym same) (subst (λ n. next ≤ n + length (needed a.bytes (world j))) none
-          (reads honest (world j) (world_made j) rows shown holds.library))
+          let same : needed_by j a ≡ needed a.bytes (library_after j) = rw unkept refl in
+          subst (λ ds. next ≤ first + length ds) (sym same) (subst (λ n. next ≤ n + length (needed a.bytes (library_after j))) none
+          (reads honest (library_after j) (library_made j) rows shown holds.library))

@@ -10,14 +10,14 @@ use Rattle.upd_change.specs.Rows.{Rows, Shows, ShowsStates}
 use Rattle.upd_compile.specs.declared.mode.Mode.{Mode}
 use Rattle.upd_rows.specs.Tables.{mark_at, run_at}
 use Rattle.upd_desk.specs.Arrivals.{ArrivalView, key_door}
-use Rattle.upd_desk.specs.Journal.{Event, Came, Settled, Journal, answer, kept, mark, run_of, world}
+use Rattle.upd_desk.specs.Journal.{Event, Came, Settled, Journal, answer, kept, mark, run_of, library_after}
 use Rattle.upd_desk.specs.Made.{IsMade, work_of}
 use Rattle.upd_desk.specs.Outcomes.{ReplyView, outcome}
 
 -- Tables hold what is owed after a journal: the library with its statuses and counts, the kept replies, and the marks.
 pub record Holds (journal : Journal) (rows : Rows) : Type 0 where
-  pub library : Shows rows (world journal)
-  pub states : ShowsStates rows (world journal)
+  pub library : Shows rows (library_after journal)
+  pub states : ShowsStates rows (library_after journal)
   pub runs : (site : List ℕ) (number : ℕ) → run_at site number rows ≡ kept journal site number
   pub marks : (site : List ℕ) → mark_at site rows ≡ mark journal site
 
@@ -169,4 +169,4 @@ module _ {S : Type 0} {Image : Type 0} (is_honest is_open : S → Type 0) (image
   -- A query answers what is defined of the library after any journal that the store holds.
   abbrev pub Tells : {A : Type 0} → (LibraryView → Result A Fault) → Result A Fault → S → S → Type 0
   Tells defined result old new = is_honest new → (journal : Journal) → (is_open old → HoldsIn shows journal (image old))
-      → IsOwed (defined (world journal)) result
+      → IsOwed (defined (library_after journal)) result

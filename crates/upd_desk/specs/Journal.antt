@@ -99,8 +99,8 @@ made_by [] = empty
 made_by (h ∷ earlier) = (outcome_of h (made_by earlier)).library
 
 -- the library after a journal
-abbrev pub world : Journal → LibraryView
-world journal = made_by (distinct journal)
+abbrev pub library_after : Journal → LibraryView
+library_after journal = made_by (distinct journal)
 
 -- a run with its reply, as it is kept
 abbrev pub run_of : Heard → ReplyView → RunView
@@ -137,7 +137,7 @@ abbrev pub answer : Journal → ArrivalView → Result ReplyView Fault
 answer journal a = do
   mode ← door a
   _ ← at_line 0 (refuse_if (nat_le a.number (mark journal a.site)) fault.Settled)
-  reply_to mode a (world journal) (kept journal a.site a.number)
+  reply_to mode a (library_after journal) (kept journal a.site a.number)
 
 -- ---- journals that go on alike
 

@@ -12,7 +12,7 @@ use Rattle.upd_compile.specs.declared.mode.Mode.{Mode}
 use Rattle.upd_laws.specs.ReadRuns.{IsMadeByRuns}
 use Rattle.upd_yank.specs.Affected.{affected}
 use Rattle.upd_desk.specs.Arrivals.{ArrivalView, door}
-use Rattle.upd_desk.specs.Journal.{Journal, kept, world}
+use Rattle.upd_desk.specs.Journal.{Journal, kept, library_after}
 use Rattle.upd_desk.specs.Outcomes.{Compiled, compiled}
 
 -- What is known of the library after each journal: it is sound and whole, no limit is passed, and names and cards are as runs bring them.
@@ -39,5 +39,5 @@ work_of journal a = by (kept journal a.site a.number) (door a)
   where
     by : Option RunView → Result Mode Fault → ℕ
     by (Some run) mode = 0
-    by None (Ok mode) = looked_at (world journal) (compiled mode a.bytes (world journal))
+    by None (Ok mode) = looked_at (library_after journal) (compiled mode a.bytes (library_after journal))
     by None (Err fault) = 0

@@ -11,7 +11,7 @@ use Rattle.upd_deck.specs.Reading.{reading}
 use Rattle.upd_rows.specs.Asked.{holds_one}
 use Rattle.upd_parts.specs.Needed.{decks_needed}
 use Rattle.upd_desk.specs.Arrivals.{ArrivalView}
-use Rattle.upd_desk.specs.Journal.{Journal, kept, world}
+use Rattle.upd_desk.specs.Journal.{Journal, kept, library_after}
 
 -- the decks that the bytes of a run need of a library: none where they aren't read
 abbrev pub needed : List ℕ → LibraryView → List Age
@@ -27,7 +27,7 @@ needed_by journal a = by (kept journal a.site a.number)
   where
     by : Option RunView → List Age
     by (Some run) = []
-    by None = needed a.bytes (world journal)
+    by None = needed a.bytes (library_after journal)
 
 -- whether a card stands in a deck other than `YANK$$$`
 abbrev pub stands_in_deck : LibraryView → CardRef → Bool

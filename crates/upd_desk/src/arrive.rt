@@ -8,7 +8,7 @@ ghost use Rattle.upd_desk.specs.Arrivals.{door};
 ghost use Rattle.upd_desk.specs.Holding.{Arrives, Becomes, HoldsIn, TriesRun};
 ghost use Rattle.upd_desk.specs.Made.{IsMade, looked_at, work_of};
 ghost use Rattle.upd_desk.specs.Needed.{needed, needed_by};
-ghost use Rattle.upd_desk.specs.Journal.{Came, Journal, reply_to, run_of, world};
+ghost use Rattle.upd_desk.specs.Journal.{Came, Journal, reply_to, run_of, library_after};
 ghost use Rattle.upd_desk.specs.Outcomes.{compiled, outcome};
 ghost use Rattle.upd_rows.specs.Keeping.{IsLost, MoreFailures};
 ghost use Rattle.upd_rows.specs.Tables.{run_at};
@@ -126,7 +126,7 @@ pub(crate) fn arrive_at<S: RowStore>(
         → IfOk result (λ answered. answered.work ≡ work_of journal arrival.now) }
     ensures least { S.is_honest store.new → (journal : Journal)
         → (S.is_open store.old → HoldsIn S.shows journal (S.image store.old))
-        → IfOk result (λ answered. length (altered (world journal) (world (Came arrival.now ∷ journal)))
+        → IfOk result (λ answered. length (altered (library_after journal) (library_after (Came arrival.now ∷ journal)))
         ≤ answered.work) }
     ensures reads { S.is_honest store.new → (journal : Journal)
         → (S.is_open store.old → HoldsIn S.shows journal (S.image store.old))

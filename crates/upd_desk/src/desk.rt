@@ -7,7 +7,7 @@ ghost use Rattle.upd_compile.specs.File.{compile_file_of};
 ghost use Rattle.upd_compile.specs.Listings.{card_listing, deck_listing, ident_listing, yank_listing};
 ghost use Rattle.upd_compile.specs.declared.mode.Mode.TheVariants.{Full};
 ghost use Rattle.upd_desk.specs.Holding.{ArriveAll, Arrives, HoldsIn, Settles, Tells, work_after_all};
-ghost use Rattle.upd_desk.specs.Journal.{Came, Journal, world};
+ghost use Rattle.upd_desk.specs.Journal.{Came, Journal, library_after};
 ghost use Rattle.upd_desk.specs.Made.{work_of};
 ghost use Rattle.upd_desk.specs.Needed.{needed_by};
 ghost use Rattle.upd_rows.specs.Keeping.{Keeps, MoreFailures};
@@ -83,7 +83,7 @@ impl<S: RowStore> Desk<S> {
             (record { site = site.now; number = number; mode = mode.now; bytes = bytes.now })) }
         ensures least { S.is_honest self.new.store → (journal : Journal)
             → (S.is_open self.old.store → HoldsIn S.shows journal (S.image self.old.store))
-            → IfOk result (λ reply. length (altered (world journal) (world (Came
+            → IfOk result (λ reply. length (altered (library_after journal) (library_after (Came
             (record { site = site.now; number = number; mode = mode.now; bytes = bytes.now }) ∷ journal)))
             ≤ self.new.work) }
         ensures reads { S.is_honest self.new.store → (journal : Journal)
@@ -111,7 +111,7 @@ impl<S: RowStore> Desk<S> {
             → IfOk result (λ reply. self.new.work ≡ work_of journal arrival.now) }
         ensures least { S.is_honest self.new.store → (journal : Journal)
             → (S.is_open self.old.store → HoldsIn S.shows journal (S.image self.old.store))
-            → IfOk result (λ reply. length (altered (world journal) (world (Came arrival.now ∷ journal)))
+            → IfOk result (λ reply. length (altered (library_after journal) (library_after (Came arrival.now ∷ journal)))
             ≤ self.new.work) }
         ensures reads { S.is_honest self.new.store → (journal : Journal)
             → (S.is_open self.old.store → HoldsIn S.shows journal (S.image self.old.store))

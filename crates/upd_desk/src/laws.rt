@@ -8,7 +8,7 @@ ghost use Rattle.upd_compile.specs.declared.mode.Mode.{Mode};
 ghost use Rattle.upd_desk.specs.Arrivals.{ArrivalView, door};
 ghost use Rattle.upd_desk.specs.Holding.{Holds};
 ghost use Rattle.upd_desk.specs.Journal.{Alike, Came, Journal, Settled, answer, distinct, first_arrivals, heard, kept};
-ghost use Rattle.upd_desk.specs.Journal.{mark, run_of, world};
+ghost use Rattle.upd_desk.specs.Journal.{mark, run_of, library_after};
 ghost use Rattle.upd_desk.specs.Made.{IsMade};
 ghost use Rattle.upd_desk.specs.Outcomes.{ReplyView, outcome};
 
@@ -29,7 +29,7 @@ pub fn marks_are_the_greatest_settled()
 /// Journals with the same distinct runs in the same order and the same marks leave the same library; tables that hold
 /// one, with its statuses and its kept replies, hold the other; both owe each arrival the same answer, and go on alike.
 pub fn alike_journals_owe_the_same()
-    ensures library { (a b : Journal) → Alike a b → world a ≡ world b }
+    ensures library { (a b : Journal) → Alike a b → library_after a ≡ library_after b }
     ensures kept { (a b : Journal) → Alike a b → (site : List ℕ) (n : ℕ) → kept a site n ≡ kept b site n }
     ensures tables { (a b : Journal) → Alike a b → (rows : Rows) → Holds a rows → Holds b rows }
     ensures answers { (a b : Journal) → Alike a b → (arrival : ArrivalView) → answer a arrival ≡ answer b arrival }
@@ -49,7 +49,7 @@ pub fn replies_are_kept()
 #[tactic(auto, using(crate::proofs::LawLemmas::refused_leaves))]
 pub fn refused_runs_leave_the_library()
     ensures { (journal : Journal) (a : ArrivalView) (reply : ReplyView) → answer journal a ≡ Ok reply
-        → reply.accepted ≡ false → world (Came a ∷ journal) ≡ world journal }
+        → reply.accepted ≡ false → library_after (Came a ∷ journal) ≡ library_after journal }
 {}
 
 /// An arrival that is refused without being kept leaves the distinct runs as they were, and with them the library and
@@ -72,6 +72,6 @@ pub fn repeats_get_first_answers()
 /// The library after each journal is sound and whole, no limit is passed, and its names and cards are as runs bring
 /// them: a new run keeps it so.
 pub fn libraries_are_as_runs_make_them()
-    ensures world { (journal : Journal) → IsMade (world journal) }
+    ensures library_after { (journal : Journal) → IsMade (library_after journal) }
     ensures outcome { (mode : Mode) (a : ArrivalView) (l : LibraryView) → IsMade l → IsMade (outcome mode a l).library }
 {}

@@ -74,7 +74,7 @@ fn add_references(cards: &mut Vec<CardRef>, counted: &[CountedCard<'_>]) -> Resu
     Ok(())
 }
 
-/// The same for a run that neither yanks nor purges. Where each card that it names stands in a deck, none of them is a
+/// What a run that neither yanks nor purges is applied to. Where each card that it names stands in a deck, none of them is a
 /// yank card.
 fn load_named<S: RowStore>(store: &mut S, alloc: Global, run: &Run<'_>) -> Result<Library, Fault>
     requires plain { is_plain run.now ≡ true }
@@ -97,7 +97,7 @@ fn load_named<S: RowStore>(store: &mut S, alloc: Global, run: &Run<'_>) -> Resul
             Ok(part) => Ok(part),
             Err(fault) => Err(fault),
         },
-        Ok(false) => match load_looking(store, alloc, run, &cards) {
+        Ok(false) => match load_head_first(store, alloc, run, &cards) {
             Ok(part) => Ok(part),
             Err(fault) => Err(fault),
         },
@@ -147,9 +147,9 @@ fn stands_in_deck<S: RowStore>(store: &mut S, alloc: Global, card: CardRef) -> R
     }
 }
 
-/// The same for a run that names a card which stands in no deck. Whether it names a yank card is seen before any deck
-/// is read.
-fn load_looking<S: RowStore>(
+/// What such a run is applied to where it names a card which stands in no deck. Whether it names a yank card is seen
+/// before any deck is read.
+fn load_head_first<S: RowStore>(
     store: &mut S,
     alloc: Global,
     run: &Run<'_>,

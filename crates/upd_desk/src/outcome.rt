@@ -155,7 +155,7 @@ fn applied_outcome<S: RowStore>(
         Ok(states) => states,
         Err(fault) => return Err(fault),
     };
-    let before = match active_rows(store, alloc, mode, &run) {
+    let before = match active_before(store, alloc, mode, &run) {
         Ok(before) => before,
         Err(fault) => return Err(fault),
     };
@@ -166,7 +166,7 @@ fn applied_outcome<S: RowStore>(
 }
 
 /// The active cards before a run, where its compile file can have a line.
-fn active_rows<S: RowStore>(
+fn active_before<S: RowStore>(
     store: &mut S,
     alloc: Global,
     mode: Mode,

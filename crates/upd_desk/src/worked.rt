@@ -3,7 +3,7 @@ ghost use Rattle.std.specs.Prelude.{◌≡◌, ◌++◌, [], ◌∷◌, codes, f
 ghost use Rattle.upd_text.specs.declared.fault.FaultKind.TheVariants.{CallUnknown, CardUnknown, RunChanged};
 ghost use Rattle.upd_text.specs.declared.fault.FaultKind.TheVariants as fault;
 ghost use Rattle.upd_reply.specs.Texts.{fault_text, settled_text};
-ghost use Rattle.upd_desk.specs.Journal.{Came, Settled, answer, mark, world};
+ghost use Rattle.upd_desk.specs.Journal.{Came, Settled, answer, mark, library_after};
 ghost use Rattle.upd_desk.specs.Worked.{accepted, answers, deck_a, delete, line, lyon, refused, unanswered};
 ghost use Rattle.upd_desk.specs.Worked.{with_common};
 
@@ -45,10 +45,10 @@ pub fn kept_refusals()
         ∷ accepted (codes "LYON") 4 (codes "full") (codes "A" ∷ []) (line (codes "ONE") (codes "A") (codes "2")
         ∷ line (codes "TWO") (codes "A") (codes "3") ∷ line (codes "THREE") (codes "A") (codes "4") ∷ [])
         ∷ refused 3 (codes "full") CardUnknown 2 ∷ unanswered RunChanged ∷ unanswered RunChanged ∷ [] }
-    ensures library { world (Came (lyon 3 (codes "quick") (delete (codes "A.2")))
+    ensures library { library_after (Came (lyon 3 (codes "quick") (delete (codes "A.2")))
         ∷ Came (lyon 3 (codes "full") (delete (codes "A.3"))) ∷ Came (lyon 3 (codes "full") (delete (codes "A.2")))
         ∷ Came (lyon 4 (codes "full") deck_a) ∷ Came (lyon 3 (codes "full") (delete (codes "A.2"))) ∷ [])
-        ≡ world (Came (lyon 4 (codes "full") deck_a) ∷ []) }
+        ≡ library_after (Came (lyon 4 (codes "full") deck_a) ∷ []) }
     ensures changed { fault_text (record { kind = RunChanged; at = 0 })
         ≡ codes "{\"at\":0,\"fault\":26,\"name\":\"RunChanged\"}" }
 {}

@@ -88,7 +88,7 @@ impl<'a, C: Clock> Client<'a, C> {
     }
 
     /// TimedOut once the client's time is up.
-    fn hurry(&self) -> io::Result<()> {
+    fn check_time(&self) -> io::Result<()> {
         if self.start.elapsed(self.clock)? < Duration::from_secs(LIFETIME) {
             Ok(())
         } else {
@@ -99,14 +99,14 @@ impl<'a, C: Clock> Client<'a, C> {
 
 impl<C: Clock> Read for Client<'_, C> {
     fn read(&mut self, buf: &mut [u8]) -> io::Result<usize> {
-        self.hurry()?;
+        self.check_time()?;
         (&mut &*self.stream).read(buf)
     }
 }
 
 impl<C: Clock> Write for Client<'_, C> {
     fn write(&mut self, buf: &[u8]) -> io::Result<usize> {
-        self.hurry()?;
+        self.check_time()?;
         (&mut &*self.stream).write(buf)
     }
 

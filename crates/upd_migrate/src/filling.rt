@@ -17,7 +17,7 @@ use crate::version::Version;
 use sqlite::{Alter, Error, ErrorCode, Transaction};
 use std::alloc::Global;
 use upd_rows::assembled;
-use upd_sql::{library_in, make_all};
+use upd_sql::{carry_out_all, library_in};
 
 /// The statuses and counts of the library that the tables show, where they have none.
 fn fill_states<S: Alter>(tx: &mut Transaction<'_, S>, alloc: Global) -> Result<(), Error>
@@ -33,7 +33,7 @@ fn fill_states<S: Alter>(tx: &mut Transaction<'_, S>, alloc: Global) -> Result<(
         Ok(changes) => changes,
         Err(_) => return Err(Error::SqliteFailure(ErrorCode::OutOfMemory)),
     };
-    make_all(tx, &changes)
+    carry_out_all(tx, &changes)
 }
 
 /// Makes what a version lacks, fills it, and sets the version of the present schema.

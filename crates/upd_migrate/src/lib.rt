@@ -12,5 +12,5 @@ mod migrating;
 mod telling;
 mod version;
 
-pub use loading::load_rows;
+pub use loading::load_library;
 pub use migrating::migrate;

@@ -12,7 +12,7 @@ ghost use Rattle.upd_migrate.specs.Older.{ShowsAs};
 ghost use Rattle.upd_migrate.specs.declared.version.Version.{Version};
 
 use crate::completing::complete;
-use crate::version::{Version, version_in};
+use crate::version::{Version, known_version};
 use sqlite::{Connection, Error};
 use std::alloc::Global;
 use upd_core::Library;
@@ -49,7 +49,7 @@ fn rows_of<S: Rising>(
 
 /// The library that the tables of a file show, of the present schema or an older one. No row is changed. Where the
 /// file has no schema of the library's the fault is Store, at the version that the file tells, 0 where there is none.
-pub fn load_rows<S: Rising>(alloc: Global, conn: &mut Connection<S>) -> Result<Library, Fault>
+pub fn load_library<S: Rising>(alloc: Global, conn: &mut Connection<S>) -> Result<Library, Fault>
     ensures shown { HasCleanDisk (state S.Store conn.new) → IsTrue (state S.Store conn.new).is_open → IfOk result
         (λ library. (version : Version) (l : LibraryView) (rows : Rows) → AreLibraryRows l rows
         → ShowsAs version rows (state S.Store conn.old).committed → library ≡ l) }
@@ -64,7 +64,7 @@ pub fn load_rows<S: Rising>(alloc: Global, conn: &mut Connection<S>) -> Result<L
     if !conn.is_autocommit() {
         return Err(store_at(0));
     }
-    let version = match version_in(conn) {
+    let version = match known_version(conn) {
         Ok(version) => version,
         Err(fault) => return Err(fault),
     };

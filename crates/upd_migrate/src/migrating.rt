@@ -8,7 +8,7 @@ ghost use Rattle.upd_store.specs.Version.{TellsVersion};
 ghost use Rattle.upd_migrate.specs.Migrated.{HasKnown, MayMigrate, MayMigrateFrom, Migrates, MigratesFrom};
 
 use crate::filling::fill;
-use crate::version::{Version, version_in};
+use crate::version::{Version, known_version};
 use sqlite::{Connection, Error};
 use std::alloc::Global;
 use upd_order::{Rising, note_order_outside};
@@ -64,7 +64,7 @@ pub fn migrate<S: Rising>(alloc: Global, conn: &mut Connection<S>) -> Result<(),
     if !conn.is_autocommit() {
         return Err(store_at(0));
     }
-    let version = match version_in(conn) {
+    let version = match known_version(conn) {
         Ok(version) => version,
         Err(fault) => return Err(fault),
     };

@@ -53,7 +53,7 @@ fn version_with(number: u32, schema: &Schema) -> Option<Version>
 
 /// The version that a file tells and whose tables it has. Else the fault is Store, at the version that the file
 /// tells, 0 where there is none. Nothing is written.
-pub(crate) fn version_in<S: Rising>(conn: &mut Connection<S>) -> Result<Version, Fault>
+pub(crate) fn known_version<S: Rising>(conn: &mut Connection<S>) -> Result<Version, Fault>
     requires { conn.old.in_transaction ≡ false }
     ensures outside { conn.new.in_transaction ≡ false }
     ensures found { IfOk result (λ version. IsTrue (state S.Store conn.new).is_open

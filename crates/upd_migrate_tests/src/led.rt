@@ -7,7 +7,7 @@ use std::test::Fail;
 use upd_compile::{list_card, list_deck, list_idents, list_yanks};
 use upd_core::{CardRef, Library, Name};
 use upd_desk::Desk;
-use upd_migrate::{load_rows, migrate};
+use upd_migrate::{load_library, migrate};
 use upd_store::SqlStore;
 
 fn older(alloc: Global, file: Older) -> Result<Connection<MemStore>, Fail> {
@@ -59,7 +59,7 @@ fn listed(file: Older) -> &'static str {
 /// migration changes nothing.
 fn is_led(rt: &impl Abort, alloc: Global, file: Older) -> Result<Connection<MemStore>, Fail> {
     let mut conn = older(alloc, file)?;
-    let library = load_rows(alloc, &mut conn)?;
+    let library = load_library(alloc, &mut conn)?;
     assert_eq!(rt;
         listings(alloc, &library)?.as_str(),
         listed(file),
@@ -72,7 +72,7 @@ fn is_led(rt: &impl Abort, alloc: Global, file: Older) -> Result<Connection<MemS
         let after = tables(alloc, &mut conn)?;
         assert_eq!(rt; after.as_str(), file.after(alloc)?.as_str(), "{file:?}");
     }
-    let library = load_rows(alloc, &mut conn)?;
+    let library = load_library(alloc, &mut conn)?;
     assert_eq!(rt;
         listings(alloc, &library)?.as_str(),
         listed(file),
@@ -170,7 +170,7 @@ fn refused_at(
             assert_eq!(rt; format!(in alloc; "{fault}")?.as_str(), wanted);
         }
     }
-    match load_rows(alloc, conn) {
+    match load_library(alloc, conn) {
         Ok(_) => return Err("a library was read".into()),
         Err(fault) => {
             assert_eq!(rt; format!(in alloc; "{fault}")?.as_str(), wanted);

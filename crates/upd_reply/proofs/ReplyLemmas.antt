@@ -12,8 +12,8 @@ use Rattle.upd_text.specs.declared.fault.Fault.{Fault}
 use Rattle.upd_text.specs.declared.fault.FaultKind.{FaultKind}
 use Rattle.upd_text.specs.declared.fault.FaultKind.TheVariants as kind
 use Rattle.upd_text.specs.Faults.{fault_name}
-use Rattle.upd_reply.specs.Texts.{is_shown, AreShown, escaped, listed, accepted_text, refused_text, fault_text, settled_text}
-use Rattle.upd_reply.specs.Values.{items, accepted_value, refused_value, fault_value, settled_value}
+use Rattle.upd_reply.specs.Texts.{is_shown, AreShown, escaped, listed, accepted_text, refused_text, fault_text}
+use Rattle.upd_reply.specs.Values.{items, accepted_value, refused_value, fault_value}
 
 -- a byte that can stand in a reply is escaped as JSON's writer does it
 escape_is : (b : ℕ) → IsTrue (is_shown b) → escape_byte b ≡ escaped b
@@ -23,10 +23,6 @@ escape_is b shown = grind (arith, nat_tests)
 pub escapes_are : (text : List ℕ) → AreShown text → escape text ≡ flat_map escaped text
 escapes_are [] shown = refl
 escapes_are (b ∷ bs) shown = rw (escape_is b shown.0, escapes_are bs shown.1) refl
-
-pub settled_written : (site : List ℕ) (mark : ℕ) → AreShown site → compact_text (settled_value site mark) ≡ settled_text site mark
-unfolding serde_json_on_literals
-settled_written site mark shown = rw (escapes_are site shown) refl
 
 -- the test of all bytes
 abbrev shows_all : List ℕ → Bool

@@ -29,6 +29,3 @@ abbrev pub fault_value : Fault → Data
 fault_value fault =
     object (member (codes "at") (whole fault.at) (member (codes "fault") (whole (fault_number fault.kind))
     (member (codes "name") (string (fault_name fault.kind)) no_members)))
-
-abbrev pub settled_value : List ℕ → ℕ → Data
-settled_value site mark = object (member (codes "settled") (whole mark) (member (codes "site") (string site) no_members))

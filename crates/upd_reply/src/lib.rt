@@ -8,7 +8,7 @@ mod values;
 
 ghost use Rattle.std.specs.Prelude.{◌≡◌, IfOk};
 ghost use Rattle.std.specs.List.{AllByRecursion};
-ghost use Rattle.upd_reply.specs.Texts.{AreShown, accepted_text, fault_text, refused_text, settled_text};
+ghost use Rattle.upd_reply.specs.Texts.{AreShown, accepted_text, fault_text, refused_text};
 
 use std::alloc::{AllocError, Global};
 use upd_text::{Fault, Name};
@@ -53,15 +53,6 @@ pub fn fault(alloc: Global, fault: Fault) -> Result<Vec<u8>, AllocError>
     ensures { IfOk result (λ text. text.items ≡ fault_text fault) }
 {
     let value = values::fault(alloc, fault)?;
-    let text = value.to_vec(alloc)?;
-    Ok(text)
-}
-
-/// The answer to a settlement: the site's mark afterwards.
-pub fn settled(alloc: Global, site: &str, mark: u64) -> Result<Vec<u8>, AllocError>
-    ensures { AreShown site.now → IfOk result (λ text. text.items ≡ settled_text site.now mark) }
-{
-    let value = values::settled(alloc, site, mark)?;
     let text = value.to_vec(alloc)?;
     Ok(text)
 }

@@ -4,7 +4,7 @@ ghost use Rattle.std.specs.Str.{IsUtf8};
 ghost use Rattle.serde_json.specs.Data.{array};
 ghost use Rattle.serde_json.specs.View.{view};
 ghost use Rattle.std.specs.List.{AllByRecursion};
-ghost use Rattle.upd_reply.specs.Values.{accepted_value, fault_value, items, refused_value, settled_value};
+ghost use Rattle.upd_reply.specs.Values.{accepted_value, fault_value, items, refused_value};
 
 use serde_json::{Value, json};
 use std::alloc::{AllocError, Global};
@@ -57,10 +57,4 @@ pub(crate) fn fault(alloc: Global, fault: Fault) -> Result<Value, AllocError>
     ensures { IfOk result (λ v. view v ≡ fault_value fault) }
 {
     json!(in alloc; {"at": fault.at, "fault": fault.kind.number(), "name": fault.kind.name()})
-}
-
-pub(crate) fn settled(alloc: Global, site: &str, mark: u64) -> Result<Value, AllocError>
-    ensures { IfOk result (λ v. view v ≡ settled_value site.now mark) }
-{
-    json!(in alloc; {"settled": mark, "site": site})
 }

@@ -29,7 +29,7 @@ use Rattle.upd_change.proofs.ComeLemmas.{same_entry_is}
 use Rattle.upd_change.proofs.CountLemmas.{same_filter, same_of, same_trans}
 use Rattle.upd_change.proofs.GoneLemmas.{same_ref_is, same_ref_own}
 use Rattle.upd_change.specs.Rows.{CardRow, EntryRow, IsSame, TargetRow, card_rows, entry_rows, rows_of, same_ref, target_rows}
-use Rattle.upd_rows.specs.Assembling.{AreByAge, AreByCard, AreByPlace, AreTargetsByCard, age_named, card_of_row, decks_from, decks_in, entries_of}
+use Rattle.upd_rows.specs.Assembling.{AreByAge, AreEntriesByCard, AreByPlace, AreTargetsByCard, age_named, card_of_row, decks_from, decks_in, entries_of}
 use Rattle.upd_rows.specs.Assembling.{library_of, targets_of}
 use Rattle.upd_rows.proofs.PlaceLemmas.{age_order, ages_rise, in_front, older, place_order, places_rise}
 use Rattle.upd_rows.proofs.RowLemmas.{entries_again, entries_rise, of_entries, of_targets, own_rows, row_below, row_order, targets_again, targets_rise}
@@ -163,7 +163,7 @@ age_found (Some i) z e = same_Some i.age z e
 age_found None z e = absurd (cc)
 
 module _ (l : LibraryView) (sound : IsSound l) (entries : List EntryRow) (targets : List TargetRow) where
-  histories_are : IsSame entries (rows_of l).entries → AreByCard entries
+  histories_are : IsSame entries (rows_of l).entries → AreEntriesByCard entries
       → AllByRecursion (λ c. entries_of (ref_of l.idents c) entries ≡ c.history) (all_cards l)
   histories_are same up = weaker (all_cards l) (λ c own. is c own) (own_rows (λ r. r.card) (ref_of l.idents)
       (λ c. entry_rows (ref_of l.idents c) 0 c.history) (λ c. of_entries (ref_of l.idents c) 0 c.history) (all_cards l) (refs_apart l sound))
@@ -194,7 +194,7 @@ module _ (l : LibraryView) (sound : IsSound l) (entries : List EntryRow) (target
   abbrev IsItsRow : CardView → Type 0
   IsItsRow c = (d p : ℕ) → card_of_row l.idents entries targets (record { card = ref_of l.idents c; deck = d; pos = p; body = c.text }) ≡ c
 
-  cards_are : IsSame entries (rows_of l).entries → AreByCard entries → IsSame targets (rows_of l).targets → AreTargetsByCard targets
+  cards_are : IsSame entries (rows_of l).entries → AreEntriesByCard entries → IsSame targets (rows_of l).targets → AreTargetsByCard targets
       → AllByRecursion IsItsRow (all_cards l)
   cards_are same_entries entries_up same_targets targets_up =
       all_three (all_cards l) (λ c held history targets d p. is c (age_found _ _ (held_found l c.ident sound held.0)) history targets d p) sound.cards
@@ -272,7 +272,7 @@ cards_in_place l cards sound same by_place =
 -- rows in order, as often as a sound library has them, make that library
 pub made_again : (l : LibraryView) (idents : List Ident) (cards : List CardRow) (entries : List EntryRow) (targets : List TargetRow) → IsSound l
     → IsSame idents (rows_of l).idents → IsSame cards (rows_of l).cards → IsSame entries (rows_of l).entries → IsSame targets (rows_of l).targets
-    → AreByAge idents → AreByPlace cards → AreByCard entries → AreTargetsByCard targets
+    → AreByAge idents → AreByPlace cards → AreEntriesByCard entries → AreTargetsByCard targets
     → library_of idents (decks_in idents entries targets cards) ≡ record l { rest = empty.rest }
 made_again l idents cards entries targets sound same_idents same_cards same_entries same_targets by_age by_place by_card targets_by_card =
     let one = idents_in_place l idents sound same_idents by_age in

@@ -32,8 +32,8 @@ abbrev pub AreByPlace : List CardRow → Type 0
 AreByPlace rows = IsSortedBy (λ a b. is_lt (ordering_then (nat_cmp a.deck b.deck) (nat_cmp a.pos b.pos))) rows
 
 -- entries stand by card, then by their place in its history
-abbrev pub AreByCard : List EntryRow → Type 0
-AreByCard rows = IsSortedBy (λ a b. is_lt (ordering_then (card_order a.card b.card) (nat_cmp a.ord b.ord))) rows
+abbrev pub AreEntriesByCard : List EntryRow → Type 0
+AreEntriesByCard rows = IsSortedBy (λ a b. is_lt (ordering_then (card_order a.card b.card) (nat_cmp a.ord b.ord))) rows
 
 -- and targets by their place among those of the card
 abbrev pub AreTargetsByCard : List TargetRow → Type 0

@@ -5,7 +5,7 @@ ghost use Rattle.upd_core.specs.Library.{LibraryView, empty};
 ghost use Rattle.upd_core.specs.Sound.{IsSound, IsWhole};
 ghost use Rattle.upd_core.specs.declared.ident.Ident.{Ident};
 ghost use Rattle.upd_change.specs.Rows.{Rows, Shows, same_ref};
-ghost use Rattle.upd_rows.specs.Assembling.{AreAgesOf, AreByAge, AreByCard, AreByPlace, AreRowsOf};
+ghost use Rattle.upd_rows.specs.Assembling.{AreAgesOf, AreByAge, AreEntriesByCard, AreByPlace, AreRowsOf};
 ghost use Rattle.upd_rows.specs.Assembling.{AreTargetsByCard, age_named, card_of_row, decks_in, entries_of, library_of};
 ghost use Rattle.upd_rows.specs.Assembling.{targets_of};
 ghost use Rattle.upd_core.specs.Parts.{part_of};
@@ -39,7 +39,7 @@ pub(crate) fn by_place(rows: Vec<CardRow>) -> Vec<CardRow>
 
 fn entries_by_card(rows: Vec<EntryRow>) -> Vec<EntryRow>
     ensures permutation { IsPermutation rows.items result.items }
-    ensures sorted { AreByCard result.items }
+    ensures sorted { AreEntriesByCard result.items }
 {
     let mut rows = rows;
     rows.sort_unstable_by_key(|row| (row.card, row.ord));
@@ -57,7 +57,7 @@ fn targets_by_card(rows: Vec<TargetRow>) -> Vec<TargetRow>
 
 /// The rows of a card's entries: they stand side by side.
 fn entry_rows<'a>(rows: &'a [EntryRow], card: &CardRef) -> &'a [EntryRow]
-    requires { AreByCard rows.now }
+    requires { AreEntriesByCard rows.now }
     ensures { result.now ≡ filter (λ r. same_ref card.now r.card) rows.now }
 {
     let behind = &rows[rows.partition_point(|row| row.card.cmp(card).is_lt())..];
@@ -75,7 +75,7 @@ fn target_rows<'a>(rows: &'a [TargetRow], card: &CardRef) -> &'a [TargetRow]
 
 /// The history of a card.
 fn history_of(alloc: Global, rows: &[EntryRow], card: &CardRef) -> Result<Vec<Entry>, AllocError>
-    requires { AreByCard rows.now }
+    requires { AreEntriesByCard rows.now }
     ensures { IfOk result (λ history. history.items ≡ entries_of card.now rows.now) }
 {
     let own = entry_rows(rows, card);
@@ -131,7 +131,7 @@ fn card_of(
     rows: &LibraryRows,
 ) -> Result<Card, AllocError>
     requires ages { AreAgesOf rows.now.idents.items ages.now }
-    requires entries { AreByCard rows.now.entries.items }
+    requires entries { AreEntriesByCard rows.now.entries.items }
     requires targets { AreTargetsByCard rows.now.targets.items }
     ensures { IfOk result (λ card. card
         ≡ card_of_row rows.now.idents.items rows.now.entries.items rows.now.targets.items row.now) }
@@ -149,8 +149,8 @@ fn card_of(
 }
 
 /// All decks, `YANK$$$` in front.
-fn decks_of(alloc: Global, rows: &LibraryRows) -> Result<Vec<Deck>, AllocError>
-    requires entries { AreByCard rows.now.entries.items }
+fn decks_in(alloc: Global, rows: &LibraryRows) -> Result<Vec<Deck>, AllocError>
+    requires entries { AreEntriesByCard rows.now.entries.items }
     requires targets { AreTargetsByCard rows.now.targets.items }
     ensures { IfOk result (λ decks. decks.items
         ≡ decks_in rows.now.idents.items rows.now.entries.items rows.now.targets.items rows.now.cards.items) }
@@ -210,7 +210,7 @@ fn idents_and_decks(alloc: Global, rows: LibraryRows) -> Result<(Vec<Ident>, Vec
         entries: entries_by_card(rows.entries),
         targets: targets_by_card(rows.targets),
     };
-    let decks = decks_of(alloc, &rows)?;
+    let decks = decks_in(alloc, &rows)?;
     Ok((rows.idents, decks))
 }
 

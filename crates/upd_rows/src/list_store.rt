@@ -140,9 +140,9 @@ impl RowStore for ListStore {
         self.decks_read
     }
 
-    ghost one = { λ i a b shown other. sym shown ∙ other };
+    ghost shows_one = { λ i a b shown other. sym shown ∙ other };
 
-    ghost settled = { λ s i _ _ left. left };
+    ghost leaves_image = { λ s i _ _ left. left };
 
     ghost stays = { λ s _ _. refl };
 

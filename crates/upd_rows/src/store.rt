@@ -193,10 +193,10 @@ pub trait RowStore {
         ensures { result ≡ decks_read_of self.now };
 
     // An image shows one set of tables, at most.
-    ghost one: { (i : Image) (a b : Rows) → shows i a → shows i b → a ≡ b };
+    ghost shows_one: { (i : Image) (a b : Rows) → shows i a → shows i b → a ≡ b };
 
     // While the store is open, a crash leaves what it keeps, and nothing else.
-    ghost settled: { (s : Self) (i : Image) → is_honest s → is_open s → may_leave s i → i ≡ image s };
+    ghost leaves_image: { (s : Self) (i : Image) → is_honest s → is_open s → may_leave s i → i ≡ image s };
 
     ghost stays: { (s : Self) → is_honest s → is_open s → may_leave s (image s) };
 

@@ -73,7 +73,7 @@ fn move_cards<S: Alter>(
 }
 
 /// Carries out one change.
-fn make<S: Alter>(tx: &mut Transaction<'_, S>, change: &Change) -> Result<(), Error>
+fn carry_out<S: Alter>(tx: &mut Transaction<'_, S>, change: &Change) -> Result<(), Error>
     ensures same_reference { tx.new.conn.ghost_name ≡ tx.old.conn.ghost_name }
     ensures makes { Makes Stands (Fits (change_seen change.now)) (done (change_seen change.now))
         (state S.Store tx.old.conn.now) (state S.Store tx.new.conn.now) result }
@@ -101,7 +101,7 @@ fn make<S: Alter>(tx: &mut Transaction<'_, S>, change: &Change) -> Result<(), Er
 }
 
 /// Carries out changes in order, inside a transaction.
-pub fn make_all<S: Alter>(tx: &mut Transaction<'_, S>, changes: &[Change]) -> Result<(), Error>
+pub fn carry_out_all<S: Alter>(tx: &mut Transaction<'_, S>, changes: &[Change]) -> Result<(), Error>
     ensures same_reference { tx.new.conn.ghost_name ≡ tx.old.conn.ghost_name }
     ensures makes { Makes Stands (AllFit (map change_seen changes.now)) (done_all (map change_seen changes.now))
         (state S.Store tx.old.conn.now) (state S.Store tx.new.conn.now) result }
@@ -109,7 +109,7 @@ pub fn make_all<S: Alter>(tx: &mut Transaction<'_, S>, changes: &[Change]) -> Re
         (state S.Store tx.old.conn.now) (state S.Store tx.new.conn.now) result }
 {
     for change in changes {
-        make(tx, change)?;
+        carry_out(tx, change)?;
     }
     Ok(())
 }

@@ -10,7 +10,7 @@ ghost use Rattle.upd_sql.specs.Schema.{library_schema};
 ghost use Rattle.upd_sql.specs.Sizes.{HasSizes, TakeNone, sized_all};
 ghost use Rattle.upd_sql.specs.declared.sizes.Sizes.{Sizes};
 
-use crate::changes::make_all;
+use crate::changes::carry_out_all;
 use crate::writes::insert_run;
 use sqlite::{Connection, Error};
 use upd_change::{Change, RunRow};
@@ -41,7 +41,7 @@ pub fn commit_changes<S: Rising>(
     note_order_outside(conn);
     let _outside = conn.is_autocommit();
     let mut tx = conn.transaction();
-    make_all(&mut tx, changes)?;
+    carry_out_all(&mut tx, changes)?;
     insert_run(&mut tx, row)?;
     tx.commit()
 }

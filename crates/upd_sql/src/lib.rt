@@ -1,7 +1,7 @@
 //! The library in a file that any SQLite shell opens.
 //!
-//! Nine tables of whole numbers, texts and bytes. Each text that is run on them is fixed, and stands in a function of its
-//! own whose contract is what the text makes of the tables.
+//! Nine tables of whole numbers, texts and bytes. Each text that is run on them is fixed. But for those that make
+//! the tables each stands in a function of its own, whose contract is what the text reads or makes of the tables.
 #![tactic(auto)]
 
 mod active;
@@ -22,7 +22,7 @@ mod whole;
 mod writes;
 
 pub use active::ActiveRows;
-pub use changes::make_all;
+pub use changes::carry_out_all;
 pub use commits::commit_changes;
 pub use kept::{
     kept_active, kept_decks_of, kept_library, kept_mark, kept_part, kept_run, kept_states,

@@ -29,7 +29,7 @@ fn insert_version<S: Alter>(tx: &mut Transaction<'_, S>) -> Result<(), Error>
     run(tx, "INSERT INTO meta (k, v) VALUES ('version', 3)", &[])
 }
 
-/// The tables of the idents and of the cards.
+/// The tables of the version, the idents and the cards.
 fn create_cards<S: Alter>(tx: &mut Transaction<'_, S>) -> Result<(), Error>
     ensures same_reference { tx.new.conn.ghost_name ≡ tx.old.conn.ghost_name }
     ensures leads { Leads (HasMade 0) (HasMade 3) (state S.Store tx.old.conn.now)

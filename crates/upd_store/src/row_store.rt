@@ -189,9 +189,9 @@ impl<S: Rising> RowStore for SqlStore<S> {
         self.decks_read
     }
 
-    ghost one = { shows_one };
+    ghost shows_one = { shows_one };
 
-    ghost settled = { λ s i clean is_open may. S.Store.settled s.conn.store i is_open may };
+    ghost leaves_image = { λ s i clean is_open may. S.Store.settled s.conn.store i is_open may };
 
     ghost stays = { λ s clean is_open. S.Store.stays s.conn.store is_open };
 

@@ -233,7 +233,7 @@ fn judge_others<'a>(
 
 /// What a settling leaves: statuses and counts, and what it found of the cards that it looked at.
 #[derive(Drop)]
-pub(crate) struct Settling {
+pub(crate) struct AfterSettling {
     pub(crate) statuses: Statuses,
     pub(crate) found: Found,
 }
@@ -244,7 +244,7 @@ pub(crate) fn settling<'a>(
     alloc: Global,
     counted: &mut Counted<'a>,
     before: &Before,
-) -> Result<Settling, AllocError>
+) -> Result<AfterSettling, AllocError>
     ensures counts { AreCountable counted.old.library.yanks → IfOk result (λ left. (t : Target) →
         count_in left.found.counts t
         ≡ count_on (live_now (is_touched before.now.touched.now) (was_active before.now.statuses.now)
@@ -269,7 +269,7 @@ pub(crate) fn settling<'a>(
         &others,
         &found.statuses,
     )?;
-    Ok(Settling { statuses, found })
+    Ok(AfterSettling { statuses, found })
 }
 
 /// The statuses once what was found is put to those that are known. Where some cards aren't loaded, every known status

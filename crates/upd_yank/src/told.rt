@@ -10,7 +10,7 @@ ghost use Rattle.upd_yank.specs.Right.{kept_status};
 ghost use Rattle.upd_yank.specs.Told.{all_again_told, count_told, counts_told, settling_told, status_of_card};
 ghost use Rattle.upd_yank.specs.Told.{statuses_told, zero_told};
 
-use crate::cascade::{Before, Settling};
+use crate::cascade::{AfterSettling, Before};
 use crate::statuses::Statuses;
 use std::alloc::{AllocError, Global};
 use upd_change::Change;
@@ -20,7 +20,7 @@ use upd_core::{CardRef, Target, TargetCounts};
 pub(crate) fn tell(
     alloc: Global,
     before: &Before,
-    left: &Settling,
+    left: &AfterSettling,
     run: &[Change],
 ) -> Result<Vec<Change>, AllocError>
     ensures { IfOk result (λ changes. map change_seen changes.items ≡ settling_told before.now.statuses.now

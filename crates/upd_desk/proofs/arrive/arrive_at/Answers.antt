@@ -6,7 +6,7 @@ use Rattle.upd_rows.proofs.StoreLemmas.{keeps_keeps}
 use Rattle.upd_desk.proofs.ArrivesLemmas.{asked, changed_keeps, keeps_arrives, keeps_new, loses, loses_new}
 use Rattle.upd_desk.proofs.ArrivesLemmas.{refuses_at_door, refuses_changed, refuses_settled, tells_kept, unstored}
 use Rattle.upd_desk.proofs.LoadingLemmas.{none_read_again}
-use Rattle.upd_desk.proofs.MadeLemmas.{world_made}
+use Rattle.upd_desk.proofs.MadeLemmas.{library_made}
 use Rattle.upd_desk.proofs.WorkLemmas.{least_kept, least_told, reads_kept, work_kept, work_told}
 use Rattle.upd_desk.proofs.arrive.arrive_at.Goals as goal
 
@@ -34,7 +34,7 @@ pub returns-in-Ok-told_again-clause-arrives : goal.returns-in-Ok-told_again-clau
 returns-in-Ok-told_again-clause-arrives g c =
     keeps_arrives _ _ _ _ _ _ c.args.arrival.now (Ok c.in-Ok-told_again.reply) c.args.store.now c.kept_run.new.self c.kept_run.new.self
     (keeps_keeps _ _ _ _ _ _ c.in-Ok-mark.ensures.same c.in-Ok-kept_run.ensures.same)
-    (tells_kept _ _ _ _ _ _ g.met.S.RowStore.settled c.in-Ok.mode c.args.arrival.now c.in-Some.run' c.in-Ok-told_again.reply c.kept_run.new.self
+    (tells_kept _ _ _ _ _ _ g.met.S.RowStore.leaves_image c.in-Ok.mode c.args.arrival.now c.in-Some.run' c.in-Ok-told_again.reply c.kept_run.new.self
     c.in-Ok-kept_run.ensures.open
     (λ honest. asked _ _ _ _ _ _ c.in-Ok.mode c.args.arrival.now c.in-Ok-mark.mark (Some c.in-Some.run') c.args.store.now c.mark.new.self
     c.kept_run.new.self c.in-Ok-mark.ensures.same c.in-Ok-kept_run.ensures.same (sym c.in-Ok.ensures)
@@ -67,7 +67,7 @@ pub returns-in-Ok-keep_new-clause-arrives : goal.returns-in-Ok-keep_new-clause-a
 returns-in-Ok-keep_new-clause-arrives g c =
     keeps_arrives _ _ _ _ _ _ c.args.arrival.now (Ok c.in-Ok-keep_new.answered.reply) c.args.store.now c.kept_run.new.self c.keep_new.new.store
     (keeps_keeps _ _ _ _ _ _ c.in-Ok-mark.ensures.same c.in-Ok-kept_run.ensures.same)
-    (keeps_new _ _ _ _ _ _ world_made g.met.S.RowStore.settled c.in-Ok.mode c.args.arrival.now c.in-Ok-keep_new.answered.reply c.kept_run.new.self
+    (keeps_new _ _ _ _ _ _ library_made g.met.S.RowStore.leaves_image c.in-Ok.mode c.args.arrival.now c.in-Ok-keep_new.answered.reply c.kept_run.new.self
     c.keep_new.new.store c.in-Ok-keep_new.ensures.tries
     (λ honest. asked _ _ _ _ _ _ c.in-Ok.mode c.args.arrival.now c.in-Ok-mark.mark None c.args.store.now c.mark.new.self
     c.kept_run.new.self c.in-Ok-mark.ensures.same c.in-Ok-kept_run.ensures.same (sym c.in-Ok.ensures)
@@ -81,7 +81,7 @@ pub returns-in-Err-keep_new-clause-arrives : goal.returns-in-Err-keep_new-clause
 returns-in-Err-keep_new-clause-arrives g c =
     keeps_arrives _ _ _ _ _ _ c.args.arrival.now (Err c.in-Err-keep_new.fault) c.args.store.now c.kept_run.new.self c.keep_new.new.store
     (keeps_keeps _ _ _ _ _ _ c.in-Ok-mark.ensures.same c.in-Ok-kept_run.ensures.same)
-    (loses_new _ _ _ _ _ _ world_made c.in-Ok.mode c.args.arrival.now c.in-Err-keep_new.fault c.kept_run.new.self c.keep_new.new.store
+    (loses_new _ _ _ _ _ _ library_made c.in-Ok.mode c.args.arrival.now c.in-Err-keep_new.fault c.kept_run.new.self c.keep_new.new.store
     c.in-Err-keep_new.ensures.tries
     (λ honest. asked _ _ _ _ _ _ c.in-Ok.mode c.args.arrival.now c.in-Ok-mark.mark None c.args.store.now c.mark.new.self
     c.kept_run.new.self c.in-Ok-mark.ensures.same c.in-Ok-kept_run.ensures.same (sym c.in-Ok.ensures)

@@ -16,12 +16,12 @@ returns-in-Err-mark-clause-settles g c =
 
 pub returns-then-number-mark-clause-settles : goal.returns-then-number-mark-clause-settles
 returns-then-number-mark-clause-settles g c =
-    tells_mark _ _ _ _ _ _ g.met.S.RowStore.settled c.args.site.now c.args.number c.in-Ok-mark.mark c.args.store.now c.mark.new.self
+    tells_mark _ _ _ _ _ _ g.met.S.RowStore.leaves_image c.args.site.now c.args.number c.in-Ok-mark.mark c.args.store.now c.mark.new.self
     c.in-Ok-mark.ensures.same c.in-Ok-mark.ensures.open (sym c.in-Ok.ensures) c.in-Ok-mark.ensures.found c.if-number-mark.true
 
 pub returns-in-Ok-settle_to-clause-settles : goal.returns-in-Ok-settle_to-clause-settles
 returns-in-Ok-settle_to-clause-settles g c =
-    settles_after _ _ _ _ _ _ g.met.S.RowStore.settled c.args.site.now c.args.number c.in-Ok-settle_to.mark c.args.store.now c.mark.new.self
+    settles_after _ _ _ _ _ _ g.met.S.RowStore.leaves_image c.args.site.now c.args.number c.in-Ok-settle_to.mark c.args.store.now c.mark.new.self
     c.settle_to.new.self c.in-Ok-mark.ensures.same c.in-Ok-settle_to.ensures.crash c.in-Ok-settle_to.ensures.open (sym c.in-Ok.ensures)
     c.in-Ok-settle_to.ensures.done
 

@@ -12,8 +12,8 @@ pub returns-clause-leads : goal.returns-clause-leads
 returns-clause-leads g c l it lib states counts =
     let old = state g.S.Store c.args.tx.now.conn.now in
     let mid = state g.S.Store c.library_in.new.tx.conn.now in
-    let new = state g.S.Store c.make_all.new.tx.conn.now in
-    let makes = subst (λ (xs : List Change). Makes Stands (AllFit (map change_seen xs)) (done_all (map change_seen xs)) mid new c.make_all.result)
-    c.deref.ensures.value c.make_all.ensures.makes in
-    states_filled l c.in_ok-library.library it (map change_seen c.in-Ok.changes.items) old mid new c.in_ok-rows.rows c.make_all.result lib
+    let new = state g.S.Store c.carry_out_all.new.tx.conn.now in
+    let makes = subst (λ (xs : List Change). Makes Stands (AllFit (map change_seen xs)) (done_all (map change_seen xs)) mid new c.carry_out_all.result)
+    c.deref.ensures.value c.carry_out_all.ensures.makes in
+    states_filled l c.in_ok-library.library it (map change_seen c.in-Ok.changes.items) old mid new c.in_ok-rows.rows c.carry_out_all.result lib
     c.in_ok-rows.ensures.looks c.in_ok-library.ensures.whole (λ sound. c.in-Ok.ensures.states sound it states counts) c.in-Ok.ensures.only makes

@@ -8,7 +8,7 @@ use Rattle.upd_migrate.proofs.migrating.migrate.Goals as goal
 pub returns-in-Ok-migrate_from-clause-done : goal.returns-in-Ok-migrate_from-clause-done
 returns-in-Ok-migrate_from-clause-done g c clean o =
     let old = state g.S.Store c.args.conn.now in
-    let mid = state g.S.Store c.version_in.new.conn in
+    let mid = state g.S.Store c.known_version.new.conn in
     let new = state g.S.Store c.migrate_from.new.conn in
     let done = c.in-Ok-migrate_from.ensures.done clean in
     migrates_any c.in-Ok.version old mid c.in-Ok.ensures.found c.in-Ok.ensures.same new
@@ -16,17 +16,17 @@ returns-in-Ok-migrate_from-clause-done g c clean o =
 
 pub returns-in-Ok-migrate_from-clause-crash : goal.returns-in-Ok-migrate_from-clause-crash
 returns-in-Ok-migrate_from-clause-crash g c =
-    any_leaves c.in-Ok.version (state g.S.Store c.args.conn.now) (state g.S.Store c.version_in.new.conn) c.in-Ok.ensures.found c.in-Ok.ensures.same
+    any_leaves c.in-Ok.version (state g.S.Store c.args.conn.now) (state g.S.Store c.known_version.new.conn) c.in-Ok.ensures.found c.in-Ok.ensures.same
     (state g.S.Store c.migrate_from.new.conn) c.in-Ok.ensures.was_open c.in-Ok.ensures.survives c.in-Ok-migrate_from.ensures.crash
 
 pub returns-in-Err-migrate_from-clause-crash : goal.returns-in-Err-migrate_from-clause-crash
 returns-in-Err-migrate_from-clause-crash g c =
-    any_leaves c.in-Ok.version (state g.S.Store c.args.conn.now) (state g.S.Store c.version_in.new.conn) c.in-Ok.ensures.found c.in-Ok.ensures.same
+    any_leaves c.in-Ok.version (state g.S.Store c.args.conn.now) (state g.S.Store c.known_version.new.conn) c.in-Ok.ensures.found c.in-Ok.ensures.same
     (state g.S.Store c.migrate_from.new.conn) c.in-Ok.ensures.was_open c.in-Ok.ensures.survives c.in-Err-migrate_from.ensures.crash
 
 pub returns-in-Ok-migrate_from-clause-known : goal.returns-in-Ok-migrate_from-clause-known
 returns-in-Ok-migrate_from-clause-known g c clean o =
-    let mid = state g.S.Store c.version_in.new.conn in
+    let mid = state g.S.Store c.known_version.new.conn in
     let new = state g.S.Store c.migrate_from.new.conn in
     let early = clean_before mid new _ c.in-Ok-migrate_from.ensures.crash clean in
     let was_open = (c.in-Ok-migrate_from.ensures.done clean).1 in

@@ -18,15 +18,15 @@ pub returns-clause-crash : goal.returns-clause-crash
 returns-clause-crash g c =
     let old = state g.S.Store c.args.conn.now in
     let begun = record old { in_transaction = true } in
-    let mid = state g.S.Store c.make_all.new.tx.conn.now in
+    let mid = state g.S.Store c.carry_out_all.new.tx.conn.now in
     let last = state g.S.Store c.insert_run.new.tx.conn.now in
     let end = state g.S.Store c.commit.new.self.0 in
     let cs = map change_seen c.args.changes.now in
-    let made : Makes {X = Unit {0}} Stands (AllFit cs) (done_all cs) begun mid (Ok c.in_ok-make_all.field-0) =
-    rw c.transaction-tx.ensures.begun at c.in_ok-make_all.ensures.makes in
+    let made : Makes {X = Unit {0}} Stands (AllFit cs) (done_all cs) begun mid (Ok c.in_ok-carry_out_all.field-0) =
+    rw c.transaction-tx.ensures.begun at c.in_ok-carry_out_all.ensures.makes in
     let whole : Makes {X = Unit {0}} Stands (AllFit cs) (committed cs c.args.row.now) begun last (Ok c.in_ok-insert_run.field-0) =
     makes_as Stands _ (AllFit cs) _ (committed cs c.args.row.now) begun last (Ok c.in_ok-insert_run.field-0) (λ it fits. (fits, tt)) (λ it. refl)
-    (makes_then Stands (AllFit cs) AnyTables (done_all cs) (with_run c.args.row.now) begun mid last c.in_ok-make_all.field-0
+    (makes_then Stands (AllFit cs) AnyTables (done_all cs) (with_run c.args.row.now) begun mid last c.in_ok-carry_out_all.field-0
     (Ok c.in_ok-insert_run.field-0) made c.in_ok-insert_run.ensures.makes) in
     let outside : IsTrue c.is_autocommit-outside.result = c.is_autocommit-outside.ensures.value ∙ ap not c.requires in
     let left = crash_leaves (AllFit cs) (committed cs c.args.row.now) old last end c.in_ok-insert_run.field-0 (c.note_order_outside.ensures c.requires)
@@ -41,12 +41,12 @@ pub returns-clause-sized : goal.returns-clause-sized
 returns-clause-sized g c clean =
     let old = state g.S.Store c.args.conn.now in
     let begun = record old { in_transaction = true } in
-    let mid = state g.S.Store c.make_all.new.tx.conn.now in
+    let mid = state g.S.Store c.carry_out_all.new.tx.conn.now in
     let last = state g.S.Store c.insert_run.new.tx.conn.now in
     let end = state g.S.Store c.commit.new.self.0 in
     let cs = map change_seen c.args.changes.now in
-    let made : SizedAll {X = Unit {0}} cs begun mid (Ok c.in_ok-make_all.field-0) = rw c.transaction-tx.ensures.begun at c.in_ok-make_all.ensures.sized in
-    let whole = makes_then HoldsSizes (λ _. TakeNone cs) AnySizes (sized_all cs) (λ n. n) begun mid last c.in_ok-make_all.field-0
+    let made : SizedAll {X = Unit {0}} cs begun mid (Ok c.in_ok-carry_out_all.field-0) = rw c.transaction-tx.ensures.begun at c.in_ok-carry_out_all.ensures.sized in
+    let whole = makes_then HoldsSizes (λ _. TakeNone cs) AnySizes (sized_all cs) (λ n. n) begun mid last c.in_ok-carry_out_all.field-0
     (Ok c.in_ok-insert_run.field-0) made c.in_ok-insert_run.ensures.sized in
     let outside : IsTrue c.is_autocommit-outside.result = c.is_autocommit-outside.ensures.value ∙ ap not c.requires in
     let same : c.commit.new.self.0 ≡ c.conn-2-1.given.0 = search rules in

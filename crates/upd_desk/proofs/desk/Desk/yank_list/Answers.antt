@@ -3,14 +3,14 @@ use Rattle.std.proofs.Common.{Ok, ap, inl, sym}
 use Rattle.upd_compile.specs.Listings.{yank_listing}
 use Rattle.upd_desk.proofs.ArrivesLemmas.{lost_kind}
 use Rattle.upd_desk.proofs.LoadingLemmas.{none_read}
-use Rattle.upd_desk.proofs.MadeLemmas.{world_made}
+use Rattle.upd_desk.proofs.MadeLemmas.{library_made}
 use Rattle.upd_desk.proofs.QueryLemmas.{of_held, tells_same}
 use Rattle.upd_desk.proofs.StoreLemmas.{lost_memory}
 use Rattle.upd_desk.proofs.desk.Desk.yank_list.Goals as goal
 
 pub returns-in-Ok-list_yanks-clause-text : goal.returns-in-Ok-list_yanks-clause-text
 returns-in-Ok-list_yanks-clause-text g c =
-    tells_same _ _ _ _ _ _ world_made (λ l. Ok (yank_listing l)) (Ok (yank_listing c.in-Ok.head)) (Ok c.in-Ok-list_yanks.text.items)
+    tells_same _ _ _ _ _ _ library_made (λ l. Ok (yank_listing l)) (Ok (yank_listing c.in-Ok.head)) (Ok c.in-Ok-list_yanks.text.items)
     c.args.self.now.store c.load_decks.new.self c.in-Ok.ensures.same c.in-Ok.ensures.open
     (λ honest l made rows shown shows states. ap (λ l. Ok (yank_listing l)) (c.in-Ok.ensures.found honest l made.sound made.whole rows shown shows))
     (ap Ok (sym c.in-Ok-list_yanks.ensures.ok))

@@ -2,7 +2,7 @@
 use Rattle.std.proofs.Common.{refl, sym, ◌∙◌}
 use Rattle.upd_desk.proofs.LoadingLemmas.{all_loaded, named_loaded, needed_read, needs_named, needs_yanks, none_read}
 use Rattle.upd_desk.proofs.QueryLemmas.{shown_there}
-use Rattle.upd_desk.proofs.loading.load_looking.Goals as goal
+use Rattle.upd_desk.proofs.loading.load_head_first.Goals as goal
 
 pub returns-in-Ok-load-clause-found : goal.returns-in-Ok-load-clause-found
 returns-in-Ok-load-clause-found g c honest l made rows shown shows =

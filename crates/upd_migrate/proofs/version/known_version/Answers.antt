@@ -1,5 +1,5 @@
 use Rattle.std.proofs.Common.{inl, sym, ◌∙◌}
-use Rattle.upd_migrate.proofs.version.version_in.Goals as goal
+use Rattle.upd_migrate.proofs.version.known_version.Goals as goal
 
 pub returns-in-Some-clause-told : goal.returns-in-Some-clause-told
 returns-in-Some-clause-told g c clean v h = sym (c.in-Ok.ensures.told clean v h) ∙ c.in-Some.ensures.number

@@ -1,6 +1,6 @@
 use Rattle.std.proofs.Common.{◌≡◌, ◌++◌, drop}
 use Rattle.upd_rows.specs.Assembling.{decks_from, decks_in}
-use Rattle.upd_rows.proofs.assemble.decks_of.Given as goal
+use Rattle.upd_rows.proofs.assemble.decks_in.Given as goal
 
 abbrev pub invariant-loop-row : goal.invariant-loop-row
 invariant-loop-row l =

@@ -5,7 +5,7 @@ use Rattle.upd_change.specs.Fits.{AllFit}
 use Rattle.upd_tables.specs.Steps.{Makes}
 use Rattle.upd_sql.specs.Sizes.{SizedAll}
 use Rattle.upd_sql.specs.Stands.{Stands}
-use Rattle.upd_sql.proofs.changes.make_all.Given as goal
+use Rattle.upd_sql.proofs.changes.carry_out_all.Given as goal
 
 abbrev pub invariant-loop-change : goal.invariant-loop-change
 invariant-loop-change g l =
