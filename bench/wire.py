@@ -1,5 +1,5 @@
 #!/usr/bin/env python3
-"""Tries the lasting executable as sites do: curl and plain sockets against `upd serve`, spools, and the sqlite3 shell on the file.
+"""Tries the lasting executable as sites do: curl and plain sockets against `upd serve`, and the sqlite3 shell on the file.
 
     python3 bench/wire.py [--upd PATH] [--times]
 
