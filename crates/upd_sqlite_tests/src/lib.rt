@@ -7,6 +7,8 @@
 #[cfg(test)]
 mod beside;
 #[cfg(test)]
+mod check;
+#[cfg(test)]
 mod failing;
 #[cfg(test)]
 mod loads;
