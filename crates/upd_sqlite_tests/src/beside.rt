@@ -1,4 +1,5 @@
 //! Lists made at random over tables of SQLite, beside a plain program.
+use crate::check::{same_number, same_text};
 use crate::shelf::{Fresh, adopted};
 use crate::tables::{kept_tables, wanted_tables};
 use crate::talk::{Ask, Talk, told};
@@ -9,7 +10,7 @@ use std::test::Fail;
 use upd_compile::{Mode, compile_file, list_card, list_deck, list_idents, list_yanks};
 use upd_core::{CardRef, Name};
 use upd_desk_tests::dice::{DECKS, Dice, random_run};
-use upd_desk_tests::plain::Sent;
+use upd_desk_tests::plain::{Plain, Sent};
 use upd_rows::RowStore;
 use upd_store::SqlStore;
 use upd_text::Fault;
@@ -25,36 +26,57 @@ fn same_tables(rt: &impl Abort, talk: Stored) -> Result<Stored, Fail> {
         alloc,
     } = talk;
     let store = desk.close();
-    assert_eq!(rt; store.decks_read(), plain.needed);
+    same_number(rt, "the decks read", store.decks_read(), plain.needed);
     plain.needed = 0;
     let mut conn = store.into_connection();
     let found = kept_tables(alloc, &mut conn)?;
-    let wanted = wanted_tables(alloc, &plain, &SITES)?;
-    assert_eq!(rt; found.as_str(), wanted.as_str());
+    are_wanted(rt, &plain, found.as_str())?;
     Ok(Talk::over(adopted(conn)?, plain))
+}
+
+/// The tables are those of the plain program.
+fn are_wanted(rt: &impl Abort, plain: &Plain, found: &str) -> Result<(), Fail> {
+    let wanted = wanted_tables(plain.library.allocator(), plain, &SITES)?;
+    same_text(rt, "the tables", found, wanted.as_str());
+    Ok(())
 }
 
 /// The listings and the full compile file are those of the plain program's library.
 fn same_listings(rt: &impl Abort, talk: &mut Stored) -> Result<(), Fail> {
-    let alloc = talk.alloc;
-    let wanted = list_idents(alloc, &talk.plain.library);
-    same(rt, talk, Ask::Idents, wanted)?;
-    let wanted = list_yanks(alloc, &talk.plain.library);
-    same(rt, talk, Ask::Yanks, wanted)?;
+    same_idents_and_yanks(rt, talk)?;
     for deck in ["P0", "P1", "P2", "S1", "YANK$$$"] {
-        let name = Name::read(deck.as_bytes()).ok_or("no name")?;
-        let wanted = list_deck(alloc, &talk.plain.library, &name);
-        same(rt, talk, Ask::Deck(deck), wanted)?;
+        same_deck(rt, talk, deck)?;
     }
-    let card = CardRef::read(b"P0.2").ok_or("no card reference")?;
-    let wanted = list_card(alloc, &talk.plain.library, card);
-    same(rt, talk, Ask::Card("P0.2"), wanted)?;
-    let library = &talk.plain.library;
-    let wanted = compile_file(alloc, library, library, Mode::Full, &[]);
-    same(rt, talk, Ask::Compile, wanted.map(|file| file.bytes))
+    same_card(rt, talk, "P0.2")?;
+    same_file(rt, talk)
 }
 
-fn same(
+fn same_idents_and_yanks(rt: &impl Abort, talk: &mut Stored) -> Result<(), Fail> {
+    let idents = list_idents(talk.alloc, &talk.plain.library);
+    says_same(rt, talk, Ask::Idents, idents)?;
+    let yanks = list_yanks(talk.alloc, &talk.plain.library);
+    says_same(rt, talk, Ask::Yanks, yanks)
+}
+
+fn same_deck(rt: &impl Abort, talk: &mut Stored, deck: &str) -> Result<(), Fail> {
+    let name = Name::read(deck.as_bytes()).ok_or("no name")?;
+    let wanted = list_deck(talk.alloc, &talk.plain.library, &name);
+    says_same(rt, talk, Ask::Deck(deck), wanted)
+}
+
+fn same_card(rt: &impl Abort, talk: &mut Stored, card: &str) -> Result<(), Fail> {
+    let reference = CardRef::read(card.as_bytes()).ok_or("no card reference")?;
+    let wanted = list_card(talk.alloc, &talk.plain.library, reference);
+    says_same(rt, talk, Ask::Card(card), wanted)
+}
+
+fn same_file(rt: &impl Abort, talk: &mut Stored) -> Result<(), Fail> {
+    let library = &talk.plain.library;
+    let wanted = compile_file(talk.alloc, library, library, Mode::Full, &[]);
+    says_same(rt, talk, Ask::Compile, wanted.map(|file| file.bytes))
+}
+
+fn says_same(
     rt: &impl Abort,
     talk: &mut Stored,
     ask: Ask<'_>,
@@ -103,8 +125,23 @@ fn asked(rt: &impl Abort, talk: &mut Stored, ask: Ask<'_>) -> Result<bool, Fail>
     Ok(talk.plain.work > 0)
 }
 
-/// One arrival at random. Numbers are few, so that runs come again; text and mode go by the list and the number, but
-/// for some that are changed.
+/// The text of a run, by the list and the number, but for some that are changed.
+fn random_text(alloc: Global, dice: &mut Dice, list: u32, number: u32) -> Result<String, Fail> {
+    let changed = if dice.below(10) == 0 { 1 } else { 0 };
+    let seed = list
+        .wrapping_mul(100)
+        .wrapping_add(number.wrapping_mul(2))
+        .wrapping_add(changed);
+    random_run(alloc, &mut Dice(seed), number)
+}
+
+/// The mode of a run, by its number, but for some that are changed.
+fn random_mode(dice: &mut Dice, number: u32) -> &'static str {
+    let mode = if dice.below(12) == 0 { 0 } else { number % 3 };
+    MODES.get(mode as usize).copied().unwrap_or("")
+}
+
+/// One arrival at random. Numbers are few, so that runs come again.
 fn random_arrival(
     rt: &impl Abort,
     talk: &mut Stored,
@@ -113,20 +150,20 @@ fn random_arrival(
 ) -> Result<bool, Fail> {
     let site = either_site(dice);
     let number = dice.below(24).saturating_add(1);
-    let changed = if dice.below(10) == 0 { 1 } else { 0 };
-    let mode = if dice.below(12) == 0 { 0 } else { number % 3 };
-    let seed = list
-        .wrapping_mul(100)
-        .wrapping_add(number.wrapping_mul(2))
-        .wrapping_add(changed);
-    let text = random_run(talk.alloc, &mut Dice(seed), number)?;
+    let text = random_text(talk.alloc, dice, list, number)?;
     let sent = Sent {
         site,
         number: u64::from(number),
-        mode: MODES.get(mode as usize).copied().unwrap_or(""),
+        mode: random_mode(dice, number),
         text: text.as_str(),
     };
     asked(rt, talk, Ask::Run(sent))
+}
+
+fn random_settlement(rt: &impl Abort, talk: &mut Stored, dice: &mut Dice) -> Result<bool, Fail> {
+    let site = either_site(dice);
+    let number = u64::from(dice.below(12));
+    asked(rt, talk, Ask::Settle(site, number))
 }
 
 /// An arrival, a settlement or something bad: whether it was a new run that was accepted.
@@ -138,32 +175,25 @@ fn random_step(
     long: &str,
 ) -> Result<bool, Fail> {
     match dice.below(24) {
-        0 | 1 => {
-            let site = either_site(dice);
-            asked(rt, talk, Ask::Settle(site, u64::from(dice.below(12))))
-        }
-        2 => {
-            let run = bad_run(dice, long);
-            asked(rt, talk, Ask::Run(run))
-        }
+        0 | 1 => random_settlement(rt, talk, dice),
+        2 => asked(rt, talk, Ask::Run(bad_run(dice, long))),
         3 => asked(rt, talk, Ask::Settle(bad_site(dice), 1)),
         _ => random_arrival(rt, talk, dice, list),
     }
 }
 
-/// A list of so many steps; the tables are compared after each of them, or after all. How many runs were accepted.
-fn random_list(
-    rt: &impl Abort,
-    alloc: Global,
-    dice: &mut Dice,
-    list: u32,
-    each: bool,
-) -> Result<u32, Fail> {
-    let mut talk = Talk::new(alloc, SqlStore::fresh(alloc)?);
+/// A text one byte too long for a run.
+fn long_text(alloc: Global) -> Result<String, Fail> {
     let mut long = String::new(alloc);
     for _ in 0..65_537 {
         long.push(' ')?;
     }
+    Ok(long)
+}
+
+/// A library with the decks that random runs change.
+fn with_decks(rt: &impl Abort, alloc: Global) -> Result<Stored, Fail> {
+    let mut talk = Talk::new(alloc, SqlStore::fresh(alloc)?);
     let base = Sent {
         site: "BASE",
         number: 1,
@@ -171,15 +201,39 @@ fn random_list(
         text: DECKS,
     };
     talk.ask_both(rt, Ask::Run(base))?;
+    Ok(talk)
+}
+
+/// Twenty steps; the tables are compared after each of them, or after every tenth. How many runs were accepted.
+fn random_steps(
+    rt: &impl Abort,
+    mut talk: Stored,
+    dice: &mut Dice,
+    list: u32,
+    each: bool,
+) -> Result<(Stored, u32), Fail> {
+    let long = long_text(talk.alloc)?;
     let mut accepted: u32 = 0;
     for step in 0..20 {
-        if random_step(rt, &mut talk, dice, list, long.as_str())? {
-            accepted = accepted.saturating_add(1);
-        }
+        let is_accepted = random_step(rt, &mut talk, dice, list, long.as_str())?;
+        accepted = accepted.saturating_add(u32::from(is_accepted));
         if each || step % 10 == 9 {
             talk = same_tables(rt, talk)?;
         }
     }
+    Ok((talk, accepted))
+}
+
+/// A list of random steps, and then the listings: how many runs were accepted.
+fn random_list(
+    rt: &impl Abort,
+    alloc: Global,
+    dice: &mut Dice,
+    list: u32,
+    each: bool,
+) -> Result<u32, Fail> {
+    let talk = with_decks(rt, alloc)?;
+    let (mut talk, accepted) = random_steps(rt, talk, dice, list, each)?;
     same_listings(rt, &mut talk)?;
     Ok(accepted)
 }

@@ -4,7 +4,8 @@ ghost use Rattle.std.proofs.Common.{sym, ◌∙◌};
 ghost use Rattle.upd_change.specs.Rows.{Rows};
 ghost use Rattle.upd_rows.specs.Keeping.{IsLost};
 
-use crate::talk::{Ask, Talk, accepted, lyon, refused, told};
+use crate::check::{same_number, same_text};
+use crate::talk::{Ask, Talk, accepted, lyon, refused, same_answer, told};
 use std::alloc::Global;
 use std::process::Abort;
 use std::test::Fail;
@@ -151,15 +152,26 @@ fn after_loss(
     mut talk: Talk<Failing>,
     sent: Sent<'_>,
 ) -> Result<Talk<Failing>, Fail> {
-    let answer = talk.ask(Ask::Run(sent))?;
-    assert_eq!(rt; answer.as_str(), "Store (29) at 0", "{sent:?}");
-    let alloc = talk.alloc;
-    let Talk { desk, plain, .. } = talk;
+    let ask = Ask::Run(sent);
+    let answer = talk.ask(ask)?;
+    same_answer(rt, ask, answer.as_str(), "Store (29) at 0");
+    let Talk { desk, plain, alloc } = talk;
     let mut store = desk.close();
-    let kept = store.kept_run(alloc, sent.site, sent.number)?;
-    assert!(rt; kept.is_none(), "{sent:?}");
-    assert_eq!(rt; store.failures(), 1);
+    keeps_none(rt, alloc, &mut store, sent)?;
     Ok(Talk::over(store, plain))
+}
+
+/// The run isn't kept, and one commit has failed.
+fn keeps_none(
+    rt: &impl Abort,
+    alloc: Global,
+    store: &mut Failing,
+    sent: Sent<'_>,
+) -> Result<(), Fail> {
+    let kept = store.kept_run(alloc, sent.site, sent.number)?.is_some();
+    assert!(rt; !kept, "{sent:?}");
+    same_number(rt, "the failures", store.failures(), 1);
+    Ok(())
 }
 
 #[test]
@@ -197,38 +209,81 @@ fn arrival(sent: Sent<'_>) -> Arrival<'_> {
     }
 }
 
+/// Run 7 makes deck A.
+fn deck() -> Sent<'static> {
+    lyon(7, "full", DECK_A)
+}
+
+/// Run 6 deletes a card of deck A.
+fn deleted() -> Sent<'static> {
+    lyon(6, "full", "*IDENT X\n*DELETE A.3\n")
+}
+
+/// The replies to the two runs: the second is refused where there is no deck yet.
+#[derive(Drop)]
+struct Replies {
+    made: String,
+    corrected: String,
+    unknown: String,
+}
+
+fn replies(alloc: Global) -> Result<Replies, Fail> {
+    let lines = [("ONE", "A", 2), ("TWO", "A", 3), ("THREE", "A", 4)];
+    let made = accepted(alloc, deck(), &["A"], &lines)?;
+    let lines = [("ONE", "A", 2), ("THREE", "A", 4)];
+    let corrected = accepted(alloc, deleted(), &["X"], &lines)?;
+    let unknown = refused(alloc, deleted(), "CardUnknown 13 at 2")?;
+    Ok(Replies {
+        made,
+        corrected,
+        unknown,
+    })
+}
+
+/// The two runs and their repeats are answered so where the commit after so many fails.
+fn answers_are(rt: &impl Abort, alloc: Global, passing: u64, wanted: &str) -> Result<(), Fail> {
+    let list = [
+        arrival(deck()),
+        arrival(deleted()),
+        arrival(deck()),
+        arrival(deleted()),
+    ];
+    let answers = run_all(alloc, &list, passing)?;
+    same_text(rt, "the answers", answers.as_str(), wanted);
+    Ok(())
+}
+
+fn first_is_lost(rt: &impl Abort, alloc: Global, replies: &Replies) -> Result<(), Fail> {
+    let Replies { made, unknown, .. } = replies;
+    let wanted = format!(in alloc; "Store (29) at 0\n{unknown}\n{made}\n{unknown}\n")?;
+    answers_are(rt, alloc, 0, wanted.as_str())
+}
+
+fn second_is_lost(rt: &impl Abort, alloc: Global, replies: &Replies) -> Result<(), Fail> {
+    let Replies {
+        made,
+        corrected,
+        ..
+    } = replies;
+    let wanted = format!(in alloc; "{made}\nStore (29) at 0\n{made}\n{corrected}\n")?;
+    answers_are(rt, alloc, 1, wanted.as_str())
+}
+
+fn none_is_lost(rt: &impl Abort, alloc: Global, replies: &Replies) -> Result<(), Fail> {
+    let Replies {
+        made,
+        corrected,
+        ..
+    } = replies;
+    let wanted = format!(in alloc; "{made}\n{corrected}\n{made}\n{corrected}\n")?;
+    answers_are(rt, alloc, 2, wanted.as_str())
+}
+
 #[test]
 fn a_lost_run_is_passed_over(rt: HostRuntime) -> Result<(), Fail> {
     let alloc = rt.alloc();
-    let deck = lyon(7, "full", DECK_A);
-    let deleted = lyon(6, "full", "*IDENT X\n*DELETE A.3\n");
-    let list = [
-        arrival(deck),
-        arrival(deleted),
-        arrival(deck),
-        arrival(deleted),
-    ];
-    let made = accepted(
-        alloc,
-        deck,
-        &["A"],
-        &[("ONE", "A", 2), ("TWO", "A", 3), ("THREE", "A", 4)],
-    )?;
-    let corrected = accepted(
-        alloc,
-        deleted,
-        &["X"],
-        &[("ONE", "A", 2), ("THREE", "A", 4)],
-    )?;
-    let unknown = refused(alloc, deleted, "CardUnknown 13 at 2")?;
-    let answers = run_all(alloc, &list, 0)?;
-    let wanted = format!(in alloc; "Store (29) at 0\n{unknown}\n{made}\n{unknown}\n")?;
-    assert_eq!(&rt; answers.as_str(), wanted.as_str());
-    let answers = run_all(alloc, &list, 1)?;
-    let wanted = format!(in alloc; "{made}\nStore (29) at 0\n{made}\n{corrected}\n")?;
-    assert_eq!(&rt; answers.as_str(), wanted.as_str());
-    let answers = run_all(alloc, &list, 2)?;
-    let wanted = format!(in alloc; "{made}\n{corrected}\n{made}\n{corrected}\n")?;
-    assert_eq!(&rt; answers.as_str(), wanted.as_str());
-    Ok(())
+    let replies = replies(alloc)?;
+    first_is_lost(&rt, alloc, &replies)?;
+    second_is_lost(&rt, alloc, &replies)?;
+    none_is_lost(&rt, alloc, &replies)
 }

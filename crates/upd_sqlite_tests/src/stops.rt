@@ -1,4 +1,5 @@
 //! A stop at each call of the disk: what is opened again holds the answered arrivals, with or without the one in hand.
+use crate::check::same;
 use crate::tables::{kept_tables, wanted_tables};
 use crate::talk::{Ask, Talk, lyon, plainly, told};
 use sqlite::{Connection, FileStore, Options};
@@ -74,10 +75,14 @@ fn library_in(alloc: Global, files: Files<Fused>) -> Result<FileStored, Files<Fu
     let conn = connected(alloc, files)?;
     match SqlStore::adopt(conn) {
         Ok(store) => Ok(store),
-        Err((_, conn)) => match SqlStore::init(conn) {
-            Ok(store) => Ok(store),
-            Err((_, conn)) => Err(files_of(conn)),
-        },
+        Err((_, conn)) => new_library(conn),
+    }
+}
+
+fn new_library(conn: Connection<FileStore<Fused>>) -> Result<FileStored, Files<Fused>> {
+    match SqlStore::init(conn) {
+        Ok(store) => Ok(store),
+        Err((_, conn)) => Err(files_of(conn)),
     }
 }
 
@@ -87,13 +92,15 @@ fn tables_in(alloc: Global, files: Files<Fused>) -> Result<(String, Files<Fused>
         return Err("the files can't be opened".into());
     };
     match SqlStore::adopt(conn) {
-        Ok(store) => {
-            let mut conn = store.into_connection();
-            let text = kept_tables(alloc, &mut conn)?;
-            Ok((text, files_of(conn)))
-        }
+        Ok(store) => tables_of(alloc, store),
         Err((_, conn)) => Ok((String::new(alloc), files_of(conn))),
     }
+}
+
+fn tables_of(alloc: Global, store: FileStored) -> Result<(String, Files<Fused>), Fail> {
+    let mut conn = store.into_connection();
+    let text = kept_tables(alloc, &mut conn)?;
+    Ok((text, files_of(conn)))
 }
 
 /// What came of a list.
@@ -110,26 +117,40 @@ fn is_lost(fault: Fault) -> bool {
     matches!(fault.kind, FaultKind::NoMemory | FaultKind::Store)
 }
 
+/// The answer to what is asked, none where a call failed.
+fn answer(talk: &mut Talk<FileStored>, ask: Ask<'_>) -> Result<Option<String>, Fail> {
+    match talk.answer(ask)? {
+        Err(fault) if is_lost(fault) => Ok(None),
+        answer => Ok(Some(told(talk.alloc, answer)?)),
+    }
+}
+
+/// The answers up to the first failure.
+fn answers(talk: &mut Talk<FileStored>, list: &[Ask<'_>]) -> Result<Vec<String>, Fail> {
+    let mut answers = Vec::new(talk.alloc);
+    for ask in list {
+        let Some(answer) = answer(talk, *ask)? else {
+            break;
+        };
+        answers.push(answer)?;
+    }
+    Ok(answers)
+}
+
 /// Asks until a call fails.
 fn send(alloc: Global, files: Files<Fused>, list: &[Ask<'_>]) -> Result<Sending, Fail> {
-    let mut answers = Vec::new(alloc);
-    let store = match library_in(alloc, files) {
-        Ok(store) => store,
-        Err(files) => {
-            return Ok(Sending {
-                opened: false,
-                answers,
-                files,
-            });
-        }
-    };
-    let mut talk = Talk::new(alloc, store);
-    for ask in list {
-        match talk.answer(*ask)? {
-            Err(fault) if is_lost(fault) => break,
-            answer => answers.push(told(alloc, answer)?)?,
-        }
+    match library_in(alloc, files) {
+        Ok(store) => send_to(Talk::new(alloc, store), list),
+        Err(files) => Ok(Sending {
+            opened: false,
+            answers: Vec::new(alloc),
+            files,
+        }),
     }
+}
+
+fn send_to(mut talk: Talk<FileStored>, list: &[Ask<'_>]) -> Result<Sending, Fail> {
+    let answers = answers(&mut talk, list)?;
     Ok(Sending {
         opened: true,
         answers,
@@ -146,6 +167,86 @@ fn plain_after(alloc: Global, list: &[Ask<'_>], count: usize) -> Result<Plain, F
     Ok(plain)
 }
 
+/// Two texts are the same after so many answers.
+fn same_after(rt: &impl Abort, answered: usize, found: &str, wanted: &str) {
+    assert_eq!(rt; found, wanted, "after {answered}");
+}
+
+/// The plain program that has such tables, after the answered part of the list and one more.
+fn one_more(
+    rt: &impl Abort,
+    alloc: Global,
+    list: &[Ask<'_>],
+    answered: usize,
+    found: &str,
+) -> Result<Plain, Fail> {
+    let plain = plain_after(alloc, list, answered.saturating_add(1))?;
+    let with = wanted_tables(alloc, &plain, &SITES)?;
+    same_after(rt, answered, found, with.as_str());
+    Ok(plain)
+}
+
+/// The plain program that has the tables that a stop left: after the answered part of the list, or after one more. Before
+/// the first answer there may also be no library.
+fn left_by(
+    rt: &impl Abort,
+    alloc: Global,
+    list: &[Ask<'_>],
+    stop: &Sending,
+    found: &str,
+) -> Result<Plain, Fail> {
+    let answered = stop.answers.len();
+    let plain = plain_after(alloc, list, answered)?;
+    let without = wanted_tables(alloc, &plain, &SITES)?;
+    let is_none = found.is_empty() && !stop.opened;
+    if found == without.as_str() || is_none {
+        return Ok(plain);
+    }
+    one_more(rt, alloc, list, answered, found)
+}
+
+/// The answer is that of the plain program.
+fn is_answered(
+    rt: &impl Abort,
+    plain: &mut Plain,
+    ask: Ask<'_>,
+    answer: &str,
+    answered: usize,
+) -> Result<(), Fail> {
+    let wanted = plainly(plain, ask)?;
+    assert_eq!(rt; answer, wanted.as_str(), "{ask:?} after {answered}");
+    Ok(())
+}
+
+/// Each of a list has an answer, that of the plain program.
+fn are_answered(
+    rt: &impl Abort,
+    plain: &mut Plain,
+    list: &[Ask<'_>],
+    answers: &[String],
+    answered: usize,
+) -> Result<(), Fail> {
+    same(rt, "the answers", &answers.len(), &list.len());
+    for (ask, answer) in list.iter().zip(answers) {
+        is_answered(rt, plain, *ask, answer.as_str(), answered)?;
+    }
+    Ok(())
+}
+
+/// The tables in the files are those of the plain program.
+fn has_tables(
+    rt: &impl Abort,
+    plain: &Plain,
+    files: Files<Fused>,
+    answered: usize,
+) -> Result<(), Fail> {
+    let alloc = plain.library.allocator();
+    let (found, _) = tables_in(alloc, files)?;
+    let wanted = wanted_tables(alloc, plain, &SITES)?;
+    same_after(rt, answered, found.as_str(), wanted.as_str());
+    Ok(())
+}
+
 /// What a stop left is the library after the answered part of the list, or after one more; before the first answer it
 /// may also be no library. The whole list, sent again, is answered as the plain program does.
 fn holds(
@@ -157,28 +258,10 @@ fn holds(
 ) -> Result<(), Fail> {
     let answered = stop.answers.len();
     let (found, files) = tables_in(alloc, files)?;
-    let mut plain = plain_after(alloc, list, answered)?;
-    let without = wanted_tables(alloc, &plain, &SITES)?;
-    let is_none = found.is_empty() && !stop.opened;
-    if found.as_str() != without.as_str() && !is_none {
-        plain = plain_after(alloc, list, answered.saturating_add(1))?;
-        let with = wanted_tables(alloc, &plain, &SITES)?;
-        assert_eq!(rt; found.as_str(), with.as_str(), "after {answered}");
-    }
+    let mut plain = left_by(rt, alloc, list, stop, found.as_str())?;
     let again = send(alloc, files, list)?;
-    assert_eq!(rt; again.answers.len(), list.len());
-    for (ask, answer) in list.iter().zip(&again.answers) {
-        let wanted = plainly(&mut plain, *ask)?;
-        assert_eq!(rt;
-            answer.as_str(),
-            wanted.as_str(),
-            "{ask:?} after {answered}"
-        );
-    }
-    let (found, _) = tables_in(alloc, again.files)?;
-    let wanted = wanted_tables(alloc, &plain, &SITES)?;
-    assert_eq!(rt; found.as_str(), wanted.as_str(), "after {answered}");
-    Ok(())
+    are_answered(rt, &mut plain, list, &again.answers, answered)?;
+    has_tables(rt, &plain, again.files, answered)
 }
 
 /// A stop after so many calls, by a kill and by a crash: whether there was one.
@@ -194,23 +277,39 @@ fn stops(rt: &impl Abort, alloc: Global, list: &[Ask<'_>], calls: Calls) -> Resu
     Ok(true)
 }
 
-/// Stops at each call of the log, then at each of the database file: how many there were.
-fn stops_at_each_call(rt: &impl Abort, alloc: Global, list: &[Ask<'_>]) -> Result<u64, Fail> {
-    let mut log_stops = 0;
+/// Stops at each call of the log: how many there were.
+fn stops_of_log(rt: &impl Abort, alloc: Global, list: &[Ask<'_>]) -> Result<u64, Fail> {
     for log in 0..10_000 {
         let calls = Calls { log, db: u64::MAX };
         if !stops(rt, alloc, list, calls)? {
-            log_stops = log;
-            break;
-        }
-    }
-    for db in 0..10_000_u64 {
-        let calls = Calls { log: u64::MAX, db };
-        if !stops(rt, alloc, list, calls)? {
-            return Ok(db.saturating_add(log_stops));
+            return Ok(log);
         }
     }
     Err("no end of stops".into())
+}
+
+/// Stops at each call of the database file: how many there were.
+fn stops_of_db(rt: &impl Abort, alloc: Global, list: &[Ask<'_>]) -> Result<u64, Fail> {
+    for db in 0..10_000 {
+        let calls = Calls { log: u64::MAX, db };
+        if !stops(rt, alloc, list, calls)? {
+            return Ok(db);
+        }
+    }
+    Err("no end of stops".into())
+}
+
+/// Stops at each call of the log, then at each of the database file, and that there were more than so many.
+fn survives_stops(
+    rt: &impl Abort,
+    alloc: Global,
+    list: &[Ask<'_>],
+    least: u64,
+) -> Result<(), Fail> {
+    let of_log = stops_of_log(rt, alloc, list)?;
+    let stops = stops_of_db(rt, alloc, list)?.saturating_add(of_log);
+    assert!(rt; stops > least, "{stops}");
+    Ok(())
 }
 
 const DECK_A: &str = "*DECK A\nONE\nTWO\nTHREE\n";
@@ -226,9 +325,7 @@ fn five_commits_and_a_settlement_survive_stops(rt: HostRuntime) -> Result<(), Fa
         Ask::Run(lyon(5, "full", "*IDENT W\n*DELETE Z.1\n")),
         Ask::Settle("LYON", 2),
     ];
-    let stops = stops_at_each_call(&rt, rt.alloc(), &list)?;
-    assert!(&rt; stops > 50, "{stops}");
-    Ok(())
+    survives_stops(&rt, rt.alloc(), &list, 50)
 }
 
 /// Two runs and their repeats, then a settlement of the one that came second.
@@ -237,7 +334,5 @@ fn repeats_survive_stops(rt: HostRuntime) -> Result<(), Fail> {
     let deck = Ask::Run(lyon(7, "full", DECK_A));
     let deleted = Ask::Run(lyon(6, "full", "*IDENT X\n*DELETE A.3\n"));
     let list = [deck, deleted, deck, deleted, Ask::Settle("LYON", 6)];
-    let stops = stops_at_each_call(&rt, rt.alloc(), &list)?;
-    assert!(&rt; stops > 30, "{stops}");
-    Ok(())
+    survives_stops(&rt, rt.alloc(), &list, 30)
 }

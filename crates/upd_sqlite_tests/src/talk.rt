@@ -62,9 +62,9 @@ impl<S: RowStore> Talk<S> {
         let answer = self.ask(ask)?;
         self.plain.work = 0;
         let wanted = plainly(&mut self.plain, ask)?;
-        assert_eq!(rt; answer.as_str(), wanted.as_str(), "{ask:?}");
+        same_answer(rt, ask, answer.as_str(), wanted.as_str());
         if answer.starts_with("{") {
-            assert_eq!(rt; self.desk.work(), self.plain.work, "{ask:?}");
+            same_work(rt, ask, self.desk.work(), self.plain.work);
         }
         Ok(answer)
     }
@@ -77,21 +77,30 @@ impl<S: RowStore> Talk<S> {
 
     /// The answer of the desk alone, as its bytes; a mark as its digits.
     pub fn answer(&mut self, ask: Ask<'_>) -> Result<Result<Vec<u8>, Fault>, Fail> {
-        Ok(match ask {
-            Ask::Run(sent) => self.reply(sent),
-            Ask::Settle(site, number) => self.mark(site, number)?,
-            Ask::Compile => self.desk.full_compile(self.alloc).map(|file| file.bytes),
-            Ask::Deck(deck) => {
-                let name = Name::read(deck.as_bytes()).ok_or("no name")?;
-                self.desk.deck_list(self.alloc, &name)
-            }
-            Ask::Card(card) => {
-                let card = CardRef::read(card.as_bytes()).ok_or("no card reference")?;
-                self.desk.card_list(self.alloc, card)
-            }
-            Ask::Idents => self.desk.ident_list(self.alloc),
-            Ask::Yanks => self.desk.yank_list(self.alloc),
-        })
+        match ask {
+            Ask::Run(sent) => Ok(self.reply(sent)),
+            Ask::Settle(site, number) => self.mark(site, number),
+            Ask::Compile => Ok(self.compile_file()),
+            Ask::Deck(deck) => self.deck(deck),
+            Ask::Card(card) => self.card(card),
+            Ask::Idents => Ok(self.desk.ident_list(self.alloc)),
+            Ask::Yanks => Ok(self.desk.yank_list(self.alloc)),
+        }
+    }
+
+    fn compile_file(&mut self) -> Result<Vec<u8>, Fault> {
+        let file = self.desk.full_compile(self.alloc);
+        file.map(|file| file.bytes)
+    }
+
+    fn deck(&mut self, deck: &str) -> Result<Result<Vec<u8>, Fault>, Fail> {
+        let name = Name::read(deck.as_bytes()).ok_or("no name")?;
+        Ok(self.desk.deck_list(self.alloc, &name))
+    }
+
+    fn card(&mut self, card: &str) -> Result<Result<Vec<u8>, Fault>, Fail> {
+        let card = CardRef::read(card.as_bytes()).ok_or("no card reference")?;
+        Ok(self.desk.card_list(self.alloc, card))
     }
 
     fn reply(&mut self, sent: Sent<'_>) -> Result<Vec<u8>, Fault> {
@@ -104,10 +113,7 @@ impl<S: RowStore> Talk<S> {
 
     fn mark(&mut self, site: &str, number: u64) -> Result<Result<Vec<u8>, Fault>, Fail> {
         match self.desk.settle_site(self.alloc, site, number) {
-            Ok(mark) => {
-                let text = format!(in self.alloc; "{mark}")?;
-                Ok(Ok(Vec::from_slice(self.alloc, text.as_bytes())?))
-            }
+            Ok(mark) => Ok(Ok(digits(self.alloc, mark)?)),
             Err(fault) => Ok(Err(fault)),
         }
     }
@@ -118,7 +124,7 @@ impl<S: RowStore> Talk<S> {
             Ask::Run(_) | Ask::Settle(..) => self.ask_both(rt, ask)?,
             _ => self.ask(ask)?,
         };
-        assert_eq!(rt; answer.as_str(), wanted, "{ask:?}");
+        same_answer(rt, ask, answer.as_str(), wanted);
         Ok(())
     }
 
@@ -145,6 +151,21 @@ impl<S: RowStore> Talk<S> {
         let wanted = written(self.alloc, lines, "\n")?;
         self.says(rt, Ask::Compile, wanted.as_str())
     }
+}
+
+/// Two answers are the same.
+pub fn same_answer(rt: &impl Abort, ask: Ask<'_>, found: &str, wanted: &str) {
+    assert_eq!(rt; found, wanted, "{ask:?}");
+}
+
+/// As many cards were looked at.
+fn same_work(rt: &impl Abort, ask: Ask<'_>, found: u64, wanted: u64) {
+    assert_eq!(rt; found, wanted, "{ask:?}");
+}
+
+fn digits(alloc: Global, number: u64) -> Result<Vec<u8>, Fail> {
+    let text = format!(in alloc; "{number}")?;
+    Ok(Vec::from_slice(alloc, text.as_bytes())?)
 }
 
 /// The plain program's answer.

@@ -1,10 +1,12 @@
 //! Worked lists of runs, over both stores. A run in full mode shows all active cards in its reply.
+use crate::check::same_number;
 use crate::shelf::Fresh;
 use crate::talk::{Ask, Line, Talk, lyon};
 use sqlite::MemStore;
 use std::alloc::Global;
 use std::process::Abort;
 use std::test::Fail;
+use upd_desk_tests::plain::Sent;
 use upd_rows::{ListStore, RowStore};
 use upd_store::SqlStore;
 
@@ -318,17 +320,20 @@ const LISTS: [&[Step]; 17] = [
     A_SETTLED_RUN_NEVER_ACTS_AGAIN,
 ];
 
+/// The empty run 1 of PARIS in full mode.
+fn paris() -> Sent<'static> {
+    let mut run = lyon(1, "full", "");
+    run.site = "PARIS";
+    run
+}
+
 fn take<S: RowStore>(rt: &impl Abort, talk: &mut Talk<S>, step: Step) -> Result<(), Fail> {
     match step {
         Accepts(number, mode, text, idents, lines) => {
             talk.accepts(rt, lyon(number, mode, text), idents, lines)
         }
         Refuses(number, mode, text, fault) => talk.refuses(rt, lyon(number, mode, text), fault),
-        Paris(lines) => {
-            let mut run = lyon(1, "full", "");
-            run.site = "PARIS";
-            talk.accepts(rt, run, &[], lines)
-        }
+        Paris(lines) => talk.accepts(rt, paris(), &[], lines),
         Fails(number, mode, text, fault) => {
             talk.says(rt, Ask::Run(lyon(number, mode, text)), fault)
         }
@@ -364,20 +369,30 @@ fn chain(alloc: Global) -> Result<String, Fail> {
 
 const TAKEN_BACK: Step = Accepts(4, "full", "*IDENT W\n*DELETE Y900.1\n", &["W"], ALL);
 
+/// The chain is accepted, with two compile lines.
+fn take_yanks<S: RowStore>(rt: &impl Abort, talk: &mut Talk<S>) -> Result<(), Fail> {
+    let chain = chain(talk.alloc)?;
+    let reply = talk.ask_both(rt, Ask::Run(lyon(3, "full", chain.as_str())))?;
+    let end = "\"lines\":2,\"mode\":\"full\",\"run\":3,\"site\":\"LYON\",\"state\":\"accepted\"}";
+    assert!(rt; reply.ends_with(end), "{reply}");
+    Ok(())
+}
+
+/// The last yank is taken back, for which so many cards are looked at.
+fn take_back<S: RowStore>(rt: &impl Abort, talk: &mut Talk<S>, work: u64) -> Result<(), Fail> {
+    take(rt, talk, TAKEN_BACK)?;
+    same_number(rt, "the work", talk.desk.work(), work);
+    Ok(())
+}
+
 fn take_chain<S: Fresh>(rt: &impl Abort, alloc: Global) -> Result<(), Fail> {
     let mut talk = Talk::new(alloc, S::fresh(alloc)?);
     let set = Accepts(2, "full", "*IDENT X\n*DELETE A.2\n", &["X"], &[TWO, THREE]);
     take_list(rt, &mut talk, &[DECK, set])?;
-    let chain = chain(alloc)?;
-    let reply = talk.ask_both(rt, Ask::Run(lyon(3, "full", chain.as_str())))?;
-    let end = "\"lines\":2,\"mode\":\"full\",\"run\":3,\"site\":\"LYON\",\"state\":\"accepted\"}";
-    assert!(rt; reply.ends_with(end), "{reply}");
-    take(rt, &mut talk, TAKEN_BACK)?;
+    take_yanks(rt, &mut talk)?;
     // Each of the yank cards, and the card that set X deleted.
-    assert_eq!(rt; talk.desk.work(), 901);
-    take(rt, &mut talk, TAKEN_BACK)?;
-    assert_eq!(rt; talk.desk.work(), 0);
-    Ok(())
+    take_back(rt, &mut talk, 901)?;
+    take_back(rt, &mut talk, 0)
 }
 
 #[test]
