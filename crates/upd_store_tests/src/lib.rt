@@ -5,6 +5,8 @@
 #![tactic(auto)]
 
 #[cfg(test)]
+mod check;
+#[cfg(test)]
 mod shelf;
 #[cfg(test)]
 mod stored;

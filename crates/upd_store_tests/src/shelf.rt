@@ -4,7 +4,7 @@ ghost use Rattle.std.specs.Prelude.{◌≡◌, IfOk};
 use std::alloc::Global;
 use std::test::Fail;
 use upd_apply::apply;
-use upd_change::RunRow;
+use upd_change::{Change, RunRow};
 use upd_compile::{list_deck, list_idents, list_yanks};
 use upd_core::Library;
 use upd_deck::read_run;
@@ -12,7 +12,7 @@ use upd_rows::RowStore;
 use upd_text::Name;
 
 /// The row of a run that was accepted, with an empty reply.
-pub fn row_of(alloc: Global, site: &str, number: u64, text: &str) -> Result<RunRow, Fail>
+fn row_of(alloc: Global, site: &str, number: u64, text: &str) -> Result<RunRow, Fail>
     ensures { IfOk result (λ row. (row.site ≡ site.now) × (row.number ≡ number)) }
 {
     Ok(RunRow {
@@ -25,6 +25,29 @@ pub fn row_of(alloc: Global, site: &str, number: u64, text: &str) -> Result<RunR
     })
 }
 
+/// Commits what the run of a number changes, which the store doesn't keep yet.
+pub fn commit<R: RowStore>(
+    alloc: Global,
+    store: &mut R,
+    number: u64,
+    text: &str,
+    changes: &[Change],
+) -> Result<(), Fail> {
+    let row = row_of(alloc, "LYON", number, text)?;
+    match store.kept_run(alloc, "LYON", number)? {
+        Some(_) => return Err("the key is known".into()),
+        None => {}
+    }
+    store.commit(alloc, changes, row)?;
+    Ok(())
+}
+
+/// What a run changes in a library, to which it is applied.
+fn changes_of(alloc: Global, library: &mut Library, text: &str) -> Result<Vec<Change>, Fail> {
+    let run = read_run(alloc, text.as_bytes())?;
+    Ok(apply(alloc, library, &run)?.changes)
+}
+
 /// Applies a run to the library that the store keeps, and commits what it changes.
 pub fn keep<R: RowStore>(
     alloc: Global,
@@ -33,23 +56,15 @@ pub fn keep<R: RowStore>(
     text: &str,
 ) -> Result<(), Fail> {
     let mut library = store.load(alloc)?;
-    let run = read_run(alloc, text.as_bytes())?;
-    let applied = apply(alloc, &mut library, &run)?;
-    let row = row_of(alloc, "LYON", number, text)?;
-    match store.kept_run(alloc, "LYON", number)? {
-        Some(_) => return Err("the key is known".into()),
-        None => {}
-    }
-    store.commit(alloc, &applied.changes, row)?;
-    Ok(())
+    let changes = changes_of(alloc, &mut library, text)?;
+    commit(alloc, store, number, text, &changes)
 }
 
 /// The library that runs make of the empty one.
 pub fn applied(alloc: Global, runs: &[&str]) -> Result<Library, Fail> {
     let mut library = Library::new(alloc);
     for text in runs {
-        let run = read_run(alloc, text.as_bytes())?;
-        apply(alloc, &mut library, &run)?;
+        changes_of(alloc, &mut library, text)?;
     }
     Ok(library)
 }
@@ -62,15 +77,22 @@ pub fn kept<R: RowStore>(alloc: Global, store: &mut R, number: u64) -> Result<St
     }
 }
 
-fn text_of(alloc: Global, text: &[u8]) -> Result<String, Fail> {
-    Ok(String::from_str(alloc, std::str::from_utf8(text)?)?)
+/// Texts one behind the other.
+fn joined(alloc: Global, texts: &[Vec<u8>]) -> Result<String, Fail> {
+    let mut told = String::new(alloc);
+    for text in texts {
+        told.push_str(std::str::from_utf8(text)?)?;
+    }
+    Ok(told)
 }
 
 /// The listing of the idents, of a deck and of the yanks.
 pub fn listings(alloc: Global, library: &Library, deck: &str) -> Result<String, Fail> {
     let name = Name::read(deck.as_bytes()).ok_or("no name")?;
-    let mut told = text_of(alloc, &list_idents(alloc, library)?)?;
-    told.push_str(&text_of(alloc, &list_deck(alloc, library, &name)?)?)?;
-    told.push_str(&text_of(alloc, &list_yanks(alloc, library)?)?)?;
-    Ok(told)
+    let lists = [
+        list_idents(alloc, library)?,
+        list_deck(alloc, library, &name)?,
+        list_yanks(alloc, library)?,
+    ];
+    joined(alloc, &lists)
 }

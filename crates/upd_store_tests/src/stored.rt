@@ -1,10 +1,14 @@
 //! Runs that are kept in tables.
+use crate::check::{same, same_number, same_text};
 use crate::shelf::{applied, keep, kept, listings};
 use sqlite::{Connection, MemStore};
 use std::alloc::Global;
+use std::process::Abort;
 use std::test::Fail;
+use upd_core::Library;
 use upd_rows::RowStore;
 use upd_store::SqlStore;
+use upd_text::Fault;
 
 const DECK_A: &str = "*DECK A\nONE\nTWO\nTHREE\n";
 
@@ -31,81 +35,151 @@ fn again(store: SqlStore<MemStore>) -> Result<SqlStore<MemStore>, Fail> {
 
 const RUNS: [&str; 4] = [DECK_A, DECK_B, REPLACED, YANKED];
 
-#[test]
-fn what_runs_leave_is_kept(rt: HostRuntime) -> Result<(), Fail> {
-    let alloc = rt.alloc();
+/// A library in which these runs are kept, numbered from 1.
+fn made_of(alloc: Global, runs: &[&str]) -> Result<SqlStore<MemStore>, Fail> {
     let mut store = made(alloc)?;
-    for (number, run) in (1..5).zip(&RUNS) {
+    for (number, run) in (1..).zip(runs) {
+        keep(alloc, &mut store, number, run)?;
+    }
+    Ok(store)
+}
+
+/// The same, and the library is taken up anew behind each run.
+fn made_again_of(alloc: Global, runs: &[&str]) -> Result<SqlStore<MemStore>, Fail> {
+    let mut store = made(alloc)?;
+    for (number, run) in (1..).zip(runs) {
         keep(alloc, &mut store, number, run)?;
         store = again(store)?;
     }
-    let library = store.load(alloc)?;
-    let wanted = applied(alloc, &RUNS)?;
-    for deck in ["A", "B"] {
-        let found = listings(alloc, &library, deck)?;
-        assert_eq!(rt; found.as_str(), listings(alloc, &wanted, deck)?.as_str());
-    }
-    assert_eq!(rt; kept(alloc, &mut store, 3)?.as_str(), REPLACED);
-    assert_eq!(rt; kept(alloc, &mut store, 5)?.as_str(), "none");
-    assert_eq!(rt; store.failures(), 0);
+    Ok(store)
+}
+
+/// Two libraries have the same listings, with those of a deck.
+fn lists_the_same(
+    rt: &impl Abort,
+    alloc: Global,
+    deck: &str,
+    found: &Library,
+    wanted: &Library,
+) -> Result<(), Fail> {
+    let found = listings(alloc, found, deck)?;
+    let wanted = listings(alloc, wanted, deck)?;
+    same_text(rt, deck, &found, &wanted);
     Ok(())
+}
+
+/// The library that is kept is the one that the runs make.
+fn has_the_runs(
+    rt: &impl Abort,
+    alloc: Global,
+    store: &mut SqlStore<MemStore>,
+) -> Result<(), Fail> {
+    let found = store.load(alloc)?;
+    let wanted = applied(alloc, &RUNS)?;
+    lists_the_same(rt, alloc, "A", &found, &wanted)?;
+    lists_the_same(rt, alloc, "B", &found, &wanted)
+}
+
+/// The run of this number is kept with these bytes, or there is "none".
+fn keeps(
+    rt: &impl Abort,
+    alloc: Global,
+    store: &mut SqlStore<MemStore>,
+    number: u64,
+    wanted: &str,
+) -> Result<(), Fail> {
+    same_text(rt, "the run", &kept(alloc, store, number)?, wanted);
+    Ok(())
+}
+
+#[test]
+fn what_runs_leave_is_kept(rt: HostRuntime) -> Result<(), Fail> {
+    let alloc = rt.alloc();
+    let mut store = made_again_of(alloc, &RUNS)?;
+    has_the_runs(&rt, alloc, &mut store)?;
+    keeps(&rt, alloc, &mut store, 3, REPLACED)?;
+    keeps(&rt, alloc, &mut store, 5, "none")?;
+    same_number(&rt, "failures", store.failures(), 0);
+    Ok(())
+}
+
+/// Whether the first line of deck A is listed.
+fn lists_its_line(alloc: Global, library: &Library) -> Result<bool, Fail> {
+    Ok(listings(alloc, library, "A")?.contains("ONE"))
 }
 
 #[test]
 fn decks_are_loaded_alone(rt: HostRuntime) -> Result<(), Fail> {
     let alloc = rt.alloc();
-    let mut store = made(alloc)?;
-    keep(alloc, &mut store, 1, DECK_A)?;
-    keep(alloc, &mut store, 2, DECK_B)?;
-    let library = store.load_decks(alloc, &[2])?;
-    let wanted = applied(alloc, &[DECK_A, DECK_B])?;
-    let found = listings(alloc, &library, "B")?;
-    assert_eq!(rt; found.as_str(), listings(alloc, &wanted, "B")?.as_str());
-    assert!(rt; listings(alloc, &wanted, "A")?.contains("ONE"));
-    assert!(rt; !listings(alloc, &library, "A")?.contains("ONE"));
+    let part = made_of(alloc, &[DECK_A, DECK_B])?.load_decks(alloc, &[2])?;
+    let whole = applied(alloc, &[DECK_A, DECK_B])?;
+    lists_the_same(&rt, alloc, "B", &part, &whole)?;
+    let is_listed = [
+        lists_its_line(alloc, &part)?,
+        lists_its_line(alloc, &whole)?,
+    ];
+    same(&rt, "a line of deck A", &is_listed, &[false, true]);
     Ok(())
+}
+
+/// The marks that a site's settlements answer.
+fn settled(alloc: Global, store: &mut SqlStore<MemStore>) -> Result<[u64; 4], Fail> {
+    Ok([
+        store.mark(alloc, "LYON")?,
+        store.settle_to(alloc, "LYON", 1)?,
+        store.settle_to(alloc, "LYON", 1)?,
+        store.settle_to(alloc, "PARIS", 7)?,
+    ])
 }
 
 #[test]
 fn settled_runs_go(rt: HostRuntime) -> Result<(), Fail> {
     let alloc = rt.alloc();
-    let mut store = made(alloc)?;
-    keep(alloc, &mut store, 1, DECK_A)?;
-    keep(alloc, &mut store, 2, DECK_B)?;
-    assert_eq!(rt; store.mark(alloc, "LYON")?, 0);
-    assert_eq!(rt; store.settle_to(alloc, "LYON", 1)?, 1);
-    assert_eq!(rt; store.settle_to(alloc, "LYON", 1)?, 1);
-    assert_eq!(rt; store.settle_to(alloc, "PARIS", 7)?, 7);
+    let mut store = made_of(alloc, &[DECK_A, DECK_B])?;
+    same(
+        &rt,
+        "the marks",
+        &settled(alloc, &mut store)?,
+        &[0, 1, 1, 7],
+    );
     let mut store = again(store)?;
-    assert_eq!(rt; store.mark(alloc, "LYON")?, 1);
-    assert_eq!(rt; kept(alloc, &mut store, 1)?.as_str(), "none");
-    assert_eq!(rt; kept(alloc, &mut store, 2)?.as_str(), DECK_B);
-    Ok(())
+    same_number(&rt, "the mark", store.mark(alloc, "LYON")?, 1);
+    keeps(&rt, alloc, &mut store, 1, "none")?;
+    keeps(&rt, alloc, &mut store, 2, DECK_B)
+}
+
+type Taken = Result<SqlStore<MemStore>, (Fault, Connection<MemStore>)>;
+
+/// No library is made or taken up, for this fault; the connection comes back.
+fn is_refused(
+    rt: &impl Abort,
+    alloc: Global,
+    taken: Taken,
+    wanted: &str,
+) -> Result<Connection<MemStore>, Fail> {
+    match taken {
+        Ok(_) => Err("there is a library".into()),
+        Err((fault, conn)) => {
+            same_text(rt, "the fault", &format!(in alloc; "{fault}")?, wanted);
+            Ok(conn)
+        }
+    }
 }
 
 #[test]
 fn a_library_is_made_once(rt: HostRuntime) -> Result<(), Fail> {
     let alloc = rt.alloc();
-    let store = made(alloc)?;
-    match SqlStore::init(store.into_connection()) {
-        Ok(_) => Err("made twice".into()),
-        Err((fault, _)) => {
-            assert_eq!(rt; format!(in alloc; "{fault}")?.as_str(), "Store (29) at 3");
-            Ok(())
-        }
-    }
+    let conn = made(alloc)?.into_connection();
+    is_refused(&rt, alloc, SqlStore::init(conn), "Store (29) at 3")?;
+    Ok(())
 }
 
 #[test]
 fn no_library_is_taken_up(rt: HostRuntime) -> Result<(), Fail> {
     let alloc = rt.alloc();
-    match SqlStore::adopt(Connection::open_in_memory(alloc)?) {
-        Ok(_) => Err("no tables".into()),
-        Err((fault, _)) => {
-            assert_eq!(rt; format!(in alloc; "{fault}")?.as_str(), "Store (29) at 0");
-            Ok(())
-        }
-    }
+    let conn = Connection::open_in_memory(alloc)?;
+    is_refused(&rt, alloc, SqlStore::adopt(conn), "Store (29) at 0")?;
+    Ok(())
 }
 
 #[test]
@@ -113,18 +187,7 @@ fn a_file_without_a_version_is_no_library(rt: HostRuntime) -> Result<(), Fail> {
     let alloc = rt.alloc();
     let mut conn = made(alloc)?.into_connection();
     conn.execute("DELETE FROM meta", &[])?;
-    let conn = match SqlStore::adopt(conn) {
-        Ok(_) => return Err("no version".into()),
-        Err((fault, conn)) => {
-            assert_eq!(rt; format!(in alloc; "{fault}")?.as_str(), "Store (29) at 0");
-            conn
-        }
-    };
-    match SqlStore::init(conn) {
-        Ok(_) => Err("made over tables".into()),
-        Err((fault, _)) => {
-            assert_eq!(rt; format!(in alloc; "{fault}")?.as_str(), "Store (29) at 0");
-            Ok(())
-        }
-    }
+    let conn = is_refused(&rt, alloc, SqlStore::adopt(conn), "Store (29) at 0")?;
+    is_refused(&rt, alloc, SqlStore::init(conn), "Store (29) at 0")?;
+    Ok(())
 }

@@ -1,9 +1,11 @@
 //! Libraries in files in memory, as large as a library may be; `bench/store.py` times these tests.
-use crate::shelf::row_of;
+use crate::check::{same, same_number};
+use crate::shelf::commit;
 use sqlite::types::ToSql;
-use sqlite::{Connection, FileStore, Options, params};
+use sqlite::{Connection, FileStore, Options, Transaction, params};
 use sqlite_disk::{Disk, Files, Memory};
 use std::alloc::Global;
+use std::process::Abort;
 use std::test::Fail;
 use upd_change::Change;
 use upd_core::{CardRef, Entry, Ident, Kind, Name};
@@ -47,49 +49,34 @@ fn made(alloc: Global) -> Result<Library, Fail> {
 }
 
 fn closed(store: Library) -> Result<Files<Memory>, Fail> {
-    let files = close(store)?;
-    Ok(files)
+    Ok(close(store)?)
 }
 
-fn card_new(alloc: Global, name: &Name, number: u32, deck: u32, pos: u32) -> Result<Change, Fail> {
+fn card_new(alloc: Global, card: CardRef, deck: u32, pos: u32) -> Result<Change, Fail> {
     Ok(Change::CardNew {
-        card: CardRef {
-            name: *name,
-            number,
-        },
+        card,
         deck,
         pos,
         text: Vec::from_slice(alloc, b"      CONTINUE")?,
     })
 }
 
-fn entry_new(name: &Name, number: u32, ord: u32, ident: u32) -> Change {
+fn entry_new(card: CardRef, ord: u32, ident: u32) -> Change {
+    let active = ord % 2 == 0;
     Change::EntryNew {
-        card: CardRef {
-            name: *name,
-            number,
-        },
+        card,
         ord,
-        entry: Entry {
-            ident,
-            active: ord % 2 == 0,
-        },
+        entry: Entry { ident, active },
     }
 }
 
-fn status_now(name: &Name, number: u32) -> Change {
-    Change::StatusNow {
-        card: CardRef {
-            name: *name,
-            number,
-        },
-        active: true,
-    }
+fn status_now(card: CardRef) -> Change {
+    Change::StatusNow { card, active: true }
 }
 
-fn ident_new(name: &Name, age: u32) -> Change {
+fn ident_new(name: Name, age: u32) -> Change {
     Change::IdentNew(Ident {
-        name: *name,
+        name,
         age,
         kind: Kind::Deck,
         noprop: false,
@@ -97,52 +84,64 @@ fn ident_new(name: &Name, age: u32) -> Change {
     })
 }
 
+/// Adds a card of a deck with its status and four entries.
+fn add_card(changes: &mut Vec<Change>, new: Change, card: CardRef, age: u32) -> Result<(), Fail> {
+    changes.push(new)?;
+    changes.push(status_now(card))?;
+    for ord in 0..4 {
+        changes.push(entry_new(card, ord, age))?;
+    }
+    Ok(())
+}
+
+fn deck_name(alloc: Global, age: u32) -> Result<Name, Fail> {
+    let text = format!(in alloc; "DECK{age}")?;
+    Ok(Name::read(text.as_bytes()).ok_or("no name")?)
+}
+
 /// A deck of this age with so many cards, each with its status and four entries.
 fn deck_of(alloc: Global, age: u32, cards: u32) -> Result<Vec<Change>, Fail> {
-    let name = Name::read(format!(in alloc; "DECK{age}")?.as_bytes()).ok_or("no name")?;
+    let name = deck_name(alloc, age)?;
     let mut changes = Vec::new(alloc);
-    changes.push(ident_new(&name, age))?;
+    changes.push(ident_new(name, age))?;
     for (number, pos) in (1..).zip(0..cards) {
-        changes.push(card_new(alloc, &name, number, age, pos)?)?;
-        changes.push(status_now(&name, number))?;
-        for ord in 0..4 {
-            changes.push(entry_new(&name, number, ord, age))?;
-        }
+        let card = CardRef { name, number };
+        let new = card_new(alloc, card, age, pos)?;
+        add_card(&mut changes, new, card, age)?;
     }
     Ok(changes)
 }
 
-fn commit<R: RowStore>(
-    alloc: Global,
-    store: &mut R,
-    number: u64,
-    changes: &[Change],
-) -> Result<(), Fail> {
-    let row = row_of(alloc, "LYON", number, "")?;
-    match store.kept_run(alloc, "LYON", number)? {
-        Some(_) => return Err("the key is known".into()),
-        None => {}
-    }
-    store.commit(alloc, changes, row)?;
-    Ok(())
+/// Commits a deck of this age with so many cards, as the run of this number.
+fn add_deck(alloc: Global, store: &mut Library, age: u32, cards: u32) -> Result<(), Fail> {
+    let changes = deck_of(alloc, age, cards)?;
+    commit(alloc, store, u64::from(age), "", &changes)
 }
 
 /// 50,000 cards with 200,000 entries, in 25 decks.
 fn with_50000_cards(alloc: Global) -> Result<Library, Fail> {
     let mut store = made(alloc)?;
     for age in 1..26 {
-        let changes = deck_of(alloc, age, 2000)?;
-        commit(alloc, &mut store, u64::from(age), &changes)?;
+        add_deck(alloc, &mut store, age, 2000)?;
     }
     Ok(store)
+}
+
+/// A library's site LYON has never settled.
+fn is_unsettled(rt: &impl Abort, alloc: Global, store: &mut Library) -> Result<(), Fail> {
+    same_number(rt, "the mark", store.mark(alloc, "LYON")?, 0);
+    Ok(())
 }
 
 #[test]
 fn keeps_50000_cards(rt: HostRuntime) -> Result<(), Fail> {
     let alloc = rt.alloc();
     let mut store = with_50000_cards(alloc)?;
-    assert_eq!(rt; store.mark(alloc, "LYON")?, 0);
-    Ok(())
+    is_unsettled(&rt, alloc, &mut store)
+}
+
+fn count_decks(alloc: Global, store: &mut Library) -> Result<usize, Fail> {
+    Ok(store.load(alloc)?.decks().len())
 }
 
 #[test]
@@ -150,8 +149,7 @@ fn loads_50000_cards_10_times(rt: HostRuntime) -> Result<(), Fail> {
     let alloc = rt.alloc();
     let mut store = with_50000_cards(alloc)?;
     for _ in 0..10 {
-        let library = store.load(alloc)?;
-        assert_eq!(rt; library.decks().len(), 25);
+        same(&rt, "decks", &count_decks(alloc, &mut store)?, &25);
     }
     Ok(())
 }
@@ -165,16 +163,29 @@ fn changes_50(alloc: Global, age: u32) -> Result<Vec<Change>, Fail> {
 
 fn with_500_cards(alloc: Global) -> Result<Library, Fail> {
     let mut store = made(alloc)?;
-    let changes = deck_of(alloc, 1, 500)?;
-    commit(alloc, &mut store, 1, &changes)?;
+    add_deck(alloc, &mut store, 1, 500)?;
     Ok(store)
+}
+
+/// The run of this number is kept.
+fn keeps(rt: &impl Abort, alloc: Global, store: &mut Library, number: u64) -> Result<(), Fail> {
+    let run = store.kept_run(alloc, "LYON", number)?;
+    assert!(rt; run.is_some());
+    Ok(())
 }
 
 #[test]
 fn keeps_500_cards(rt: HostRuntime) -> Result<(), Fail> {
-    let mut store = with_500_cards(rt.alloc())?;
-    assert!(rt; store.kept_run(rt.alloc(), "LYON", 1)?.is_some());
-    Ok(())
+    let alloc = rt.alloc();
+    let mut store = with_500_cards(alloc)?;
+    keeps(&rt, alloc, &mut store, 1)
+}
+
+/// Commits 50 changes, as the run of this number.
+fn commit_50(rt: &impl Abort, alloc: Global, store: &mut Library, age: u32) -> Result<(), Fail> {
+    let changes = changes_50(alloc, age)?;
+    same(rt, "changes", &changes.len(), &50);
+    commit(alloc, store, u64::from(age), "", &changes)
 }
 
 #[test]
@@ -182,12 +193,16 @@ fn commits_50_changes_200_times(rt: HostRuntime) -> Result<(), Fail> {
     let alloc = rt.alloc();
     let mut store = with_500_cards(alloc)?;
     for age in 2..202 {
-        let changes = changes_50(alloc, age)?;
-        assert_eq!(rt; changes.len(), 50);
-        commit(alloc, &mut store, u64::from(age), &changes)?;
+        commit_50(&rt, alloc, &mut store, age)?;
     }
-    assert!(rt; store.kept_run(alloc, "LYON", 201)?.is_some());
-    Ok(())
+    keeps(&rt, alloc, &mut store, 201)
+}
+
+/// Opens files, asks the library in them for a mark and closes it.
+fn open_once(rt: &impl Abort, alloc: Global, files: Files<Memory>) -> Result<Files<Memory>, Fail> {
+    let mut store = taken(SqlStore::adopt(opened(alloc, files)?))?;
+    is_unsettled(rt, alloc, &mut store)?;
+    closed(store)
 }
 
 #[test]
@@ -195,24 +210,29 @@ fn opens_500_cards_20_times(rt: HostRuntime) -> Result<(), Fail> {
     let alloc = rt.alloc();
     let mut files = closed(with_500_cards(alloc)?)?;
     for _ in 0..20 {
-        let mut store = taken(SqlStore::adopt(opened(alloc, files)?))?;
-        assert_eq!(rt; store.mark(alloc, "LYON")?, 0);
-        files = closed(store)?;
+        files = open_once(&rt, alloc, files)?;
+    }
+    Ok(())
+}
+
+const INSERT: &str =
+    "INSERT INTO runs (site, num, mode, body, accepted, reply) VALUES ('LYON', ?1, 0, ?2, 1, ?3)";
+
+/// Inserts the runs of numbers up to 100,000, of 200 bytes, each with a reply of 300.
+fn insert_runs(tx: &mut Transaction<'_, FileStore<Memory>>) -> Result<(), Fail> {
+    let (body, reply) = ([b'B'; 200], [b'R'; 300]);
+    let insert = tx.prepare(INSERT)?;
+    for number in 1..100_001i64 {
+        tx.execute_prepared(&insert, params![number, body.as_slice(), reply.as_slice()])?;
     }
     Ok(())
 }
 
 /// 100,000 runs of 200 bytes, each with a reply of 300.
 fn with_100000_runs(alloc: Global) -> Result<Library, Fail> {
-    let (body, reply) = ([b'B'; 200], [b'R'; 300]);
     let mut conn = made(alloc)?.into_connection();
     let mut tx = conn.transaction();
-    let insert = tx.prepare(
-        "INSERT INTO runs (site, num, mode, body, accepted, reply) VALUES ('LYON', ?1, 0, ?2, 1, ?3)",
-    )?;
-    for number in 1..100_001i64 {
-        tx.execute_prepared(&insert, params![number, body.as_slice(), reply.as_slice()])?;
-    }
+    insert_runs(&mut tx)?;
     tx.commit()?;
     taken(SqlStore::adopt(conn))
 }
@@ -221,8 +241,7 @@ fn with_100000_runs(alloc: Global) -> Result<Library, Fail> {
 fn keeps_100000_runs(rt: HostRuntime) -> Result<(), Fail> {
     let alloc = rt.alloc();
     let mut store = with_100000_runs(alloc)?;
-    assert!(rt; store.kept_run(alloc, "LYON", 100_000)?.is_some());
-    Ok(())
+    keeps(&rt, alloc, &mut store, 100_000)
 }
 
 #[test]
@@ -230,8 +249,7 @@ fn finds_each_of_100000_runs(rt: HostRuntime) -> Result<(), Fail> {
     let alloc = rt.alloc();
     let mut store = with_100000_runs(alloc)?;
     for number in 1..100_001 {
-        let run = store.kept_run(alloc, "LYON", number)?;
-        assert!(rt; run.is_some());
+        keeps(&rt, alloc, &mut store, number)?;
     }
     Ok(())
 }
