@@ -1,4 +1,5 @@
 //! Older files in memory, led to the present schema: the same listings, the same repeats, and a desk that goes on.
+use crate::check::{same, same_text};
 use crate::older::{Older, tables};
 use sqlite::{Connection, MemStore};
 use std::alloc::Global;
@@ -27,13 +28,30 @@ fn text_of(alloc: Global, text: &[u8]) -> Result<String, Fail> {
     Ok(String::from_str(alloc, std::str::from_utf8(text)?)?)
 }
 
-/// The listings of idents, of deck A, of yanks, and of the card A.3.
-fn listings(alloc: Global, library: &Library) -> Result<String, Fail> {
+/// Texts one behind the other.
+fn joined(alloc: Global, texts: &[Vec<u8>]) -> Result<String, Fail> {
+    let mut told = String::new(alloc);
+    for text in texts {
+        told.push_str(std::str::from_utf8(text)?)?;
+    }
+    Ok(told)
+}
+
+/// The listings of idents, of deck A and of yanks.
+fn lists(alloc: Global, library: &Library) -> Result<String, Fail> {
     let deck = Name::read(b"A").ok_or("no name")?;
+    let texts = [
+        list_idents(alloc, library)?,
+        list_deck(alloc, library, &deck)?,
+        list_yanks(alloc, library)?,
+    ];
+    joined(alloc, &texts)
+}
+
+/// The listings, with that of the card A.3.
+fn listings(alloc: Global, library: &Library) -> Result<String, Fail> {
     let card = CardRef::read(b"A.3").ok_or("no card reference")?;
-    let mut text = text_of(alloc, &list_idents(alloc, library)?)?;
-    text.push_str(&text_of(alloc, &list_deck(alloc, library, &deck)?)?)?;
-    text.push_str(&text_of(alloc, &list_yanks(alloc, library)?)?)?;
+    let mut text = lists(alloc, library)?;
     text.push_str(&text_of(alloc, &list_card(alloc, library, card)?)?)?;
     Ok(text)
 }
@@ -55,56 +73,73 @@ fn listed(file: Older) -> &'static str {
     }
 }
 
-/// Reading an older file shows its library and changes no row; after a migration the tables are filled, and a second
-/// migration changes nothing.
+/// The library that is read is the one of the file.
+fn is_listed(
+    rt: &impl Abort,
+    alloc: Global,
+    conn: &mut Connection<MemStore>,
+    file: Older,
+) -> Result<(), Fail> {
+    let library = load_library(alloc, conn)?;
+    let found = listings(alloc, &library)?;
+    same_text(rt, "the listings", &found, listed(file));
+    Ok(())
+}
+
+/// A migration fills the tables, and a second one changes nothing.
+fn is_migrated(
+    rt: &impl Abort,
+    alloc: Global,
+    conn: &mut Connection<MemStore>,
+    file: Older,
+) -> Result<(), Fail> {
+    for _ in 0..2 {
+        migrate(alloc, conn)?;
+        file.is_after(rt, alloc, conn)?;
+    }
+    Ok(())
+}
+
+/// Reading an older file shows its library and changes no row; so it does after a migration.
 fn is_led(rt: &impl Abort, alloc: Global, file: Older) -> Result<Connection<MemStore>, Fail> {
     let mut conn = older(alloc, file)?;
-    let library = load_library(alloc, &mut conn)?;
-    assert_eq!(rt;
-        listings(alloc, &library)?.as_str(),
-        listed(file),
-        "{file:?}"
-    );
-    let before = tables(alloc, &mut conn)?;
-    assert_eq!(rt; before.as_str(), file.before(alloc)?.as_str(), "{file:?}");
-    for _ in 0..2 {
-        migrate(alloc, &mut conn)?;
-        let after = tables(alloc, &mut conn)?;
-        assert_eq!(rt; after.as_str(), file.after(alloc)?.as_str(), "{file:?}");
-    }
-    let library = load_library(alloc, &mut conn)?;
-    assert_eq!(rt;
-        listings(alloc, &library)?.as_str(),
-        listed(file),
-        "{file:?}"
-    );
+    is_listed(rt, alloc, &mut conn, file)?;
+    file.is_before(rt, alloc, &mut conn)?;
+    is_migrated(rt, alloc, &mut conn, file)?;
+    is_listed(rt, alloc, &mut conn, file)?;
     Ok(conn)
+}
+
+type TableDesk = Desk<SqlStore<MemStore>>;
+
+/// The answer to a run of this number and mode.
+fn answer_to(
+    alloc: Global,
+    desk: &mut TableDesk,
+    (number, mode, text): (u64, &str, &str),
+) -> Result<String, Fail> {
+    match desk.arrive(alloc, "LYON", number, mode, text.as_bytes()) {
+        Ok(reply) => text_of(alloc, &reply.text),
+        Err(fault) => Ok(format!(in alloc; "{fault}")?),
+    }
 }
 
 fn arrives(
     rt: &impl Abort,
     alloc: Global,
-    desk: &mut Desk<SqlStore<MemStore>>,
+    desk: &mut TableDesk,
     sent: (u64, &str, &str),
     wanted: &str,
 ) -> Result<(), Fail> {
-    let (number, mode, text) = sent;
-    let answer = match desk.arrive(alloc, "LYON", number, mode, text.as_bytes()) {
-        Ok(reply) => text_of(alloc, &reply.text)?,
-        Err(fault) => format!(in alloc; "{fault}")?,
-    };
-    assert_eq!(rt; answer.as_str(), wanted, "{sent:?}");
+    let answer = answer_to(alloc, desk, sent)?;
+    same_text(rt, sent.2, &answer, wanted);
     Ok(())
 }
 
 const DECK_A: &str = "*DECK A\nONE\nTWO\nTHREE\n";
 
 /// Repeats get the replies that were kept, a refusal too; a known number with another mode is refused.
-fn repeats(
-    rt: &impl Abort,
-    alloc: Global,
-    desk: &mut Desk<SqlStore<MemStore>>,
-) -> Result<(), Fail> {
+fn repeats(rt: &impl Abort, alloc: Global, desk: &mut TableDesk) -> Result<(), Fail> {
     arrives(rt, alloc, desk, (1, "quick", DECK_A), "kept 1")?;
     arrives(rt, alloc, desk, (6, "full", "*IDENT X\n"), "kept 6")?;
     arrives(
@@ -116,37 +151,57 @@ fn repeats(
     )
 }
 
+/// A desk over a file that was led, behind the repeats.
+fn desk_over(rt: &impl Abort, alloc: Global, file: Older) -> Result<TableDesk, Fail> {
+    let conn = is_led(rt, alloc, file)?;
+    let mut desk = Desk::open(adopted(conn)?);
+    repeats(rt, alloc, &mut desk)?;
+    Ok(desk)
+}
+
+fn lists_yanks(
+    rt: &impl Abort,
+    alloc: Global,
+    desk: &mut TableDesk,
+    wanted: &str,
+) -> Result<(), Fail> {
+    let found = desk.yank_list(alloc)?;
+    same_text(rt, "the yanks", std::str::from_utf8(&found)?, wanted);
+    Ok(())
+}
+
+/// The card A.2 is listed so.
+fn lists_card(
+    rt: &impl Abort,
+    alloc: Global,
+    desk: &mut TableDesk,
+    wanted: &str,
+) -> Result<(), Fail> {
+    let card = CardRef::read(b"A.2").ok_or("no card reference")?;
+    let found = desk.card_list(alloc, card)?;
+    same_text(rt, "the card", std::str::from_utf8(&found)?, wanted);
+    Ok(())
+}
+
 #[test]
 fn a_file_of_the_first_schema_is_led(rt: HostRuntime) -> Result<(), Fail> {
     let alloc = rt.alloc();
-    let conn = is_led(&rt, alloc, Older::First)?;
-    let mut desk = Desk::open(adopted(conn)?);
-    repeats(&rt, alloc, &mut desk)?;
+    let mut desk = desk_over(&rt, alloc, Older::First)?;
     let run = (7, "quick", "*IDENT V\n*DELETE Y.1\n");
     let reply =
         "{\"compile\":\"\",\"idents\":[\"V\"],\"lines\":0,\"mode\":\"quick\",\"run\":7,\"site\":\"LYON\",\"state\":\"accepted\"}";
     arrives(&rt, alloc, &mut desk, run, reply)?;
-    let yanks = desk.yank_list(alloc)?;
-    assert_eq!(&rt;
-        std::str::from_utf8(&yanks)?,
-        "dead Y.1 *YANK X\n set X\ndead Z.1 *YANK Y\n set Y\n"
-    );
-    let card = CardRef::read(b"A.2").ok_or("no card reference")?;
-    let text = desk.card_list(alloc, card)?;
-    assert_eq!(&rt;
-        std::str::from_utf8(&text)?,
-        "CARD A.2\nDECK A\nTEXT ONE\nSTATUS inactive\nENTRY A on\nENTRY X off\n"
-    );
-    Ok(())
+    let yanks = "dead Y.1 *YANK X\n set X\ndead Z.1 *YANK Y\n set Y\n";
+    lists_yanks(&rt, alloc, &mut desk, yanks)?;
+    let card = "CARD A.2\nDECK A\nTEXT ONE\nSTATUS inactive\nENTRY A on\nENTRY X off\n";
+    lists_card(&rt, alloc, &mut desk, card)
 }
 
 #[test]
 fn a_file_of_the_second_schema_is_led(rt: HostRuntime) -> Result<(), Fail> {
     let alloc = rt.alloc();
-    let conn = is_led(&rt, alloc, Older::Second)?;
-    let mut desk = Desk::open(adopted(conn)?);
-    repeats(&rt, alloc, &mut desk)?;
-    assert_eq!(&rt; desk.settle_site(alloc, "LYON", 1)?, 1);
+    let mut desk = desk_over(&rt, alloc, Older::Second)?;
+    same(&rt, "the mark", &desk.settle_site(alloc, "LYON", 1)?, &1);
     arrives(
         &rt,
         alloc,
@@ -157,6 +212,23 @@ fn a_file_of_the_second_schema_is_led(rt: HostRuntime) -> Result<(), Fail> {
     arrives(&rt, alloc, &mut desk, (6, "full", "*IDENT X\n"), "kept 6")
 }
 
+/// The fault of a migration.
+fn migration_fault(alloc: Global, conn: &mut Connection<MemStore>) -> Result<String, Fail> {
+    match migrate(alloc, conn) {
+        Ok(()) => Err("a file was taken".into()),
+        Err(fault) => Ok(format!(in alloc; "{fault}")?),
+    }
+}
+
+/// The fault of a reading.
+fn reading_fault(alloc: Global, conn: &mut Connection<MemStore>) -> Result<String, Fail> {
+    match load_library(alloc, conn) {
+        Ok(_) => Err("a library was read".into()),
+        Err(fault) => Ok(format!(in alloc; "{fault}")?),
+    }
+}
+
+/// A file is neither led nor read, for this fault, and its tables stay.
 fn refused_at(
     rt: &impl Abort,
     alloc: Global,
@@ -164,33 +236,25 @@ fn refused_at(
     wanted: &str,
 ) -> Result<(), Fail> {
     let before = tables(alloc, conn)?;
-    match migrate(alloc, conn) {
-        Ok(()) => return Err("a file was taken".into()),
-        Err(fault) => {
-            assert_eq!(rt; format!(in alloc; "{fault}")?.as_str(), wanted);
-        }
-    }
-    match load_library(alloc, conn) {
-        Ok(_) => return Err("a library was read".into()),
-        Err(fault) => {
-            assert_eq!(rt; format!(in alloc; "{fault}")?.as_str(), wanted);
-        }
-    }
-    assert_eq!(rt; tables(alloc, conn)?.as_str(), before.as_str());
+    same_text(rt, "a migration", &migration_fault(alloc, conn)?, wanted);
+    same_text(rt, "a reading", &reading_fault(alloc, conn)?, wanted);
+    same_text(rt, "the tables", &tables(alloc, conn)?, &before);
     Ok(())
+}
+
+/// The fault of an older file that is taken up as it is, and the file.
+fn fault_of(alloc: Global, file: Older) -> Result<(String, Connection<MemStore>), Fail> {
+    match SqlStore::adopt(older(alloc, file)?) {
+        Ok(_) => Err("an older file was taken up".into()),
+        Err((fault, conn)) => Ok((format!(in alloc; "{fault}")?, conn)),
+    }
 }
 
 /// A file of an older schema isn't taken up as it is: the fault tells its version, and the tables stay.
 fn is_not_taken_up(rt: &impl Abort, alloc: Global, file: Older, wanted: &str) -> Result<(), Fail> {
-    match SqlStore::adopt(older(alloc, file)?) {
-        Ok(_) => Err("an older file was taken up".into()),
-        Err((fault, mut conn)) => {
-            assert_eq!(rt; format!(in alloc; "{fault}")?.as_str(), wanted, "{file:?}");
-            let after = tables(alloc, &mut conn)?;
-            assert_eq!(rt; after.as_str(), file.before(alloc)?.as_str(), "{file:?}");
-            Ok(())
-        }
-    }
+    let (fault, mut conn) = fault_of(alloc, file)?;
+    same_text(rt, "the fault", &fault, wanted);
+    file.is_before(rt, alloc, &mut conn)
 }
 
 #[test]
@@ -200,21 +264,31 @@ fn older_files_are_not_taken_up(rt: HostRuntime) -> Result<(), Fail> {
     is_not_taken_up(&rt, alloc, Older::Second, "Store (29) at 2")
 }
 
+/// A file of the first schema that a statement has changed is refused.
+fn is_refused(rt: &impl Abort, alloc: Global, change: &str, wanted: &str) -> Result<(), Fail> {
+    let mut conn = older(alloc, Older::First)?;
+    conn.execute(change, &[])?;
+    refused_at(rt, alloc, &mut conn, wanted)
+}
+
+/// Changes of a file of the first schema, and the fault: another version, none, and one table more.
+const OTHERS: [(&str, &str); 4] = [
+    ("UPDATE meta SET v = 7", "Store (29) at 7"),
+    ("UPDATE meta SET v = 2", "Store (29) at 2"),
+    ("DELETE FROM meta", "Store (29) at 0"),
+    (
+        "CREATE TABLE notes (text TEXT NOT NULL) STRICT",
+        "Store (29) at 1",
+    ),
+];
+
 #[test]
 fn other_files_are_refused(rt: HostRuntime) -> Result<(), Fail> {
     let alloc = rt.alloc();
     let mut none = Connection::open_in_memory(alloc)?;
     refused_at(&rt, alloc, &mut none, "Store (29) at 0")?;
-    let mut later = older(alloc, Older::First)?;
-    later.execute("UPDATE meta SET v = 7", &[])?;
-    refused_at(&rt, alloc, &mut later, "Store (29) at 7")?;
-    let mut fewer = older(alloc, Older::First)?;
-    fewer.execute("UPDATE meta SET v = 2", &[])?;
-    refused_at(&rt, alloc, &mut fewer, "Store (29) at 2")?;
-    let mut untold = older(alloc, Older::First)?;
-    untold.execute("DELETE FROM meta", &[])?;
-    refused_at(&rt, alloc, &mut untold, "Store (29) at 0")?;
-    let mut more = older(alloc, Older::First)?;
-    more.execute("CREATE TABLE notes (text TEXT NOT NULL) STRICT", &[])?;
-    refused_at(&rt, alloc, &mut more, "Store (29) at 1")
+    for (change, wanted) in OTHERS {
+        is_refused(&rt, alloc, change, wanted)?;
+    }
+    Ok(())
 }

@@ -1,7 +1,9 @@
 //! Older files, statement by statement, and what their tables hold once they are led to the present schema.
+use crate::check::same_text;
 use sqlite::types::ValueRef;
 use sqlite::{Alter, Connection, Row};
 use std::alloc::Global;
+use std::process::Abort;
 use std::test::Fail;
 
 /// The tables that each schema has.
@@ -73,11 +75,16 @@ pub enum Older {
 }
 
 impl Older {
+    fn name(self) -> &'static str {
+        match self {
+            Older::First => "the first schema",
+            Older::Second => "the second schema",
+        }
+    }
+
     /// Makes the file's tables and rows.
     pub fn make<S: Alter>(self, conn: &mut Connection<S>) -> Result<(), Fail> {
-        for text in FIRST_TABLES {
-            conn.execute(text, &[])?;
-        }
+        run_all(conn, &FIRST_TABLES)?;
         match self {
             Older::First => run_all(conn, &FIRST_ROWS),
             Older::Second => {
@@ -88,7 +95,7 @@ impl Older {
     }
 
     /// The tables before.
-    pub fn before(self, alloc: Global) -> Result<String, Fail> {
+    fn before(self, alloc: Global) -> Result<String, Fail> {
         match self {
             Older::First => Ok(format!(in alloc; "meta|version|1\n{FIRST_KEPT}")?),
             Older::Second => {
@@ -98,7 +105,7 @@ impl Older {
     }
 
     /// The tables after a migration.
-    pub fn after(self, alloc: Global) -> Result<String, Fail> {
+    fn after(self, alloc: Global) -> Result<String, Fail> {
         match self {
             Older::First => {
                 Ok(format!(in alloc; "meta|version|3\n{FIRST_KEPT}{FIRST_STATES}{COUNTS}")?)
@@ -107,6 +114,44 @@ impl Older {
                 Ok(format!(in alloc; "meta|version|3\n{SECOND_KEPT}{SECOND_STATES}{COUNTS}")?)
             }
         }
+    }
+
+    /// The connection has the tables before.
+    pub fn is_before<S: Alter>(
+        self,
+        rt: &impl Abort,
+        alloc: Global,
+        conn: &mut Connection<S>,
+    ) -> Result<(), Fail> {
+        let found = tables(alloc, conn)?;
+        same_text(rt, self.name(), &found, &self.before(alloc)?);
+        Ok(())
+    }
+
+    /// The connection has the tables after a migration.
+    pub fn is_after<S: Alter>(
+        self,
+        rt: &impl Abort,
+        alloc: Global,
+        conn: &mut Connection<S>,
+    ) -> Result<(), Fail> {
+        let found = tables(alloc, conn)?;
+        same_text(rt, self.name(), &found, &self.after(alloc)?);
+        Ok(())
+    }
+
+    /// The connection has the tables before or those after a migration.
+    pub fn is_either<S: Alter>(
+        self,
+        rt: &impl Abort,
+        alloc: Global,
+        conn: &mut Connection<S>,
+    ) -> Result<(), Fail> {
+        let found = tables(alloc, conn)?;
+        let is_before = found.as_str() == self.before(alloc)?.as_str();
+        let is_after = found.as_str() == self.after(alloc)?.as_str();
+        assert!(rt; is_before || is_after, "{found}");
+        Ok(())
     }
 }
 
@@ -165,10 +210,15 @@ pub fn tables<S: Alter>(alloc: Global, conn: &mut Connection<S>) -> Result<Strin
 fn add_rows(text: &mut String, table: &str, rows: &[Row]) -> Result<(), Fail> {
     for row in rows {
         text.push_str(table)?;
-        for at in 0..row.column_count() {
-            add_value(text, row.get_ref(at)?)?;
-        }
+        add_values(text, row)?;
         text.push_str("\n")?;
+    }
+    Ok(())
+}
+
+fn add_values(text: &mut String, row: &Row) -> Result<(), Fail> {
+    for at in 0..row.column_count() {
+        add_value(text, row.get_ref(at)?)?;
     }
     Ok(())
 }

@@ -1,5 +1,6 @@
 //! A stop at each call of the disk: the file opened again is the old one or the migrated one, and can be led on.
-use crate::older::{Older, tables};
+use crate::check::same;
+use crate::older::Older;
 use sqlite::{Connection, FileStore, Options};
 use sqlite_disk::{Crash, Disk, Files, Fuse, Memory};
 use std::alloc::Global;
@@ -72,27 +73,41 @@ fn opened(
     }
 }
 
+/// The database in files that don't fail.
+fn opened_whole(alloc: Global, bytes: &Bytes) -> Result<Connection<FileStore<Fused>>, Fail> {
+    match opened(alloc, files_of(alloc, bytes, ALL)?) {
+        Ok(conn) => Ok(conn),
+        Err(_) => Err("the files can't be opened".into()),
+    }
+}
+
 fn made(alloc: Global, file: Older) -> Result<Bytes, Fail> {
     let none = Bytes {
         log: Vec::new(alloc),
         db: Vec::new(alloc),
     };
-    let Ok(mut conn) = opened(alloc, files_of(alloc, &none, ALL)?) else {
-        return Err("the files can't be opened".into());
-    };
+    let mut conn = opened_whole(alloc, &none)?;
     file.make(&mut conn)?;
     bytes_of(alloc, &conn.into_store().close())
 }
 
-/// Leads the files on until a call fails, which is told as such: whether none did, and the files.
+/// Whether a migration ends. One that doesn't has met a failed call, and tells it as such.
+fn ends(rt: &impl Abort, alloc: Global, conn: &mut Connection<FileStore<Fused>>) -> bool {
+    match migrate(alloc, conn) {
+        Ok(()) => true,
+        Err(fault) => {
+            same(rt, "the fault", &fault, &FaultKind::Store.without_line());
+            false
+        }
+    }
+}
+
+/// Leads the files on until a call fails: whether none did, and the files.
 fn led(rt: &impl Abort, alloc: Global, files: Files<Fused>) -> (bool, Files<Fused>) {
     match opened(alloc, files) {
         Ok(mut conn) => {
-            let ended = migrate(alloc, &mut conn);
-            if let Err(fault) = ended {
-                assert_eq!(rt; fault, FaultKind::Store.without_line());
-            }
-            (ended.is_ok(), conn.into_store().close())
+            let is_led = ends(rt, alloc, &mut conn);
+            (is_led, conn.into_store().close())
         }
         Err(files) => (false, files),
     }
@@ -100,19 +115,16 @@ fn led(rt: &impl Abort, alloc: Global, files: Files<Fused>) -> (bool, Files<Fuse
 
 /// What a stop left is the old file or the migrated one, and is led on to the migrated one.
 fn holds(rt: &impl Abort, alloc: Global, file: Older, left: &Bytes) -> Result<(), Fail> {
-    let Ok(mut conn) = opened(alloc, files_of(alloc, left, ALL)?) else {
-        return Err("the files can't be opened again".into());
-    };
-    let after = file.after(alloc)?;
-    let found = tables(alloc, &mut conn)?;
-    let is_migrated = found.as_str() == after.as_str();
-    assert!(rt;
-        is_migrated || found.as_str() == file.before(alloc)?.as_str(),
-        "{found}"
-    );
+    let mut conn = opened_whole(alloc, left)?;
+    file.is_either(rt, alloc, &mut conn)?;
     migrate(alloc, &mut conn)?;
-    assert_eq!(rt; tables(alloc, &mut conn)?.as_str(), after.as_str());
-    Ok(())
+    file.is_after(rt, alloc, &mut conn)
+}
+
+/// What is found after a kill holds, and what is found after a crash.
+fn both_hold(rt: &impl Abort, alloc: Global, file: Older, files: Files<Fused>) -> Result<(), Fail> {
+    holds(rt, alloc, file, &bytes_of(alloc, &files)?)?;
+    holds(rt, alloc, file, &synced_of(alloc, files)?)
 }
 
 /// A stop after so many calls, by a kill and by a crash: whether there was one.
@@ -127,41 +139,47 @@ fn stops(
     if is_led {
         return Ok(false);
     }
-    holds(rt, alloc, file, &bytes_of(alloc, &files)?)?;
-    holds(rt, alloc, file, &synced_of(alloc, files)?)?;
+    both_hold(rt, alloc, file, files)?;
     Ok(true)
 }
 
-/// Stops at each call of the log, then at each of the database file: how many there were.
-fn stops_at_each_call(rt: &impl Abort, alloc: Global, file: Older) -> Result<u64, Fail> {
-    let bytes = made(alloc, file)?;
-    let mut log_stops = 0;
+/// Stops at each call of the log: how many there were.
+fn log_stops(rt: &impl Abort, alloc: Global, file: Older, bytes: &Bytes) -> Result<u64, Fail> {
     for log in 0..10_000 {
         let calls = Calls { log, db: u64::MAX };
-        if !stops(rt, alloc, file, &bytes, calls)? {
-            log_stops = log;
-            break;
-        }
-    }
-    for db in 0..10_000_u64 {
-        let calls = Calls { log: u64::MAX, db };
-        if !stops(rt, alloc, file, &bytes, calls)? {
-            return Ok(db.saturating_add(log_stops));
+        if !stops(rt, alloc, file, bytes, calls)? {
+            return Ok(log);
         }
     }
     Err("no end of stops".into())
 }
 
-#[test]
-fn a_migration_from_the_first_schema_survives_stops(rt: HostRuntime) -> Result<(), Fail> {
-    let stops = stops_at_each_call(&rt, rt.alloc(), Older::First)?;
-    assert!(&rt; stops > 10, "{stops}");
+/// Stops at each call of the database file: how many there were.
+fn db_stops(rt: &impl Abort, alloc: Global, file: Older, bytes: &Bytes) -> Result<u64, Fail> {
+    for db in 0..10_000 {
+        let calls = Calls { log: u64::MAX, db };
+        if !stops(rt, alloc, file, bytes, calls)? {
+            return Ok(db);
+        }
+    }
+    Err("no end of stops".into())
+}
+
+/// A migration is stopped at each call of the log, then at each of the database file. There are more than ten.
+fn survives_stops(rt: &impl Abort, alloc: Global, file: Older) -> Result<(), Fail> {
+    let bytes = made(alloc, file)?;
+    let log = log_stops(rt, alloc, file, &bytes)?;
+    let stops = db_stops(rt, alloc, file, &bytes)?.saturating_add(log);
+    assert!(rt; stops > 10, "{stops}");
     Ok(())
 }
 
 #[test]
+fn a_migration_from_the_first_schema_survives_stops(rt: HostRuntime) -> Result<(), Fail> {
+    survives_stops(&rt, rt.alloc(), Older::First)
+}
+
+#[test]
 fn a_migration_from_the_second_schema_survives_stops(rt: HostRuntime) -> Result<(), Fail> {
-    let stops = stops_at_each_call(&rt, rt.alloc(), Older::Second)?;
-    assert!(&rt; stops > 10, "{stops}");
-    Ok(())
+    survives_stops(&rt, rt.alloc(), Older::Second)
 }
