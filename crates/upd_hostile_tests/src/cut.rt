@@ -1,4 +1,5 @@
 //! Input that is cut, garbled, or can't be read or answered to its end, and runs whose compile files have no end.
+use crate::check::{same, same_bytes};
 use crate::streams::{Room, Single};
 use std::alloc::Global;
 use std::process::Abort;
@@ -45,35 +46,51 @@ fn wanted_of_front(alloc: Global, front: &str) -> Result<String, Fail> {
     Ok(format!(in alloc; "{lines} lines")?)
 }
 
+/// A front of the run is read as it is to be.
+fn front_is_read(rt: &impl Abort, alloc: Global, front: &str) -> Result<(), Fail> {
+    let found = read(alloc, front.as_bytes())?;
+    let wanted = wanted_of_front(alloc, front)?;
+    same(rt, front, &found.as_str(), &wanted.as_str());
+    Ok(())
+}
+
 #[test]
 fn each_front_of_a_run_is_read_as_a_run(rt: HostRuntime) -> Result<(), Fail> {
     let alloc = rt.alloc();
     for length in 0..=RUN.len() {
         let front = RUN.get(..length).ok_or("no front")?;
-        let wanted = wanted_of_front(alloc, front)?;
-        assert_eq!(&rt;
-            read(alloc, front.as_bytes())?.as_str(),
-            wanted.as_str(),
-            "{length}"
-        );
+        front_is_read(&rt, alloc, front)?;
     }
+    Ok(())
+}
+
+/// How the run is read with a zero byte.
+fn read_with_zero(alloc: Global, at: usize) -> Result<String, Fail> {
+    let mut text = Vec::from_slice(alloc, RUN.as_bytes())?;
+    if let Some(byte) = text.get_mut(at) {
+        *byte = 0;
+    }
+    read(alloc, &text)
+}
+
+/// A zero byte is refused at this line.
+fn zero_is_refused(rt: &impl Abort, alloc: Global, at: usize, line: u32) -> Result<(), Fail> {
+    let found = read_with_zero(alloc, at)?;
+    let wanted = format!(in alloc; "BadByte (3) at {line}")?;
+    same(rt, "the fault", &found.as_str(), &wanted.as_str());
     Ok(())
 }
 
 #[test]
 fn a_zero_byte_is_refused_at_its_line(rt: HostRuntime) -> Result<(), Fail> {
-    let alloc = rt.alloc();
     let mut line: u32 = 1;
-    for at in 0..RUN.len() {
-        let mut text = Vec::from_slice(alloc, RUN.as_bytes())?;
-        text[at] = 0;
-        let wanted = format!(in alloc; "BadByte (3) at {line}")?;
-        assert_eq!(&rt; read(alloc, &text)?.as_str(), wanted.as_str(), "{at}");
-        if RUN.as_bytes()[at] == b'\n' {
+    for (at, byte) in RUN.bytes().enumerate() {
+        zero_is_refused(&rt, rt.alloc(), at, line)?;
+        if byte == b'\n' {
             line = line.saturating_add(1);
         }
     }
-    assert_eq!(&rt; line, 6);
+    same(&rt, "the lines", &line, &6);
     Ok(())
 }
 
@@ -138,9 +155,48 @@ fn keeps(
     let mut store = desk.close();
     for number in 1..=3_u32 {
         let kept = store.kept_run(alloc, "LYON", u64::from(number))?;
-        assert_eq!(rt; kept.is_some(), number <= frames, "{number}");
+        same(
+            rt,
+            "a run",
+            &(number, kept.is_some()),
+            &(number, number <= frames),
+        );
     }
     Ok(Desk::open(store))
+}
+
+/// A front of the spool ends as it is to, with these answers.
+fn ends(rt: &impl Abort, front: &[u8], ended: Result<u32, Fault>, found: &[u8], wanted: &[u8]) {
+    assert_eq!(rt; ended, wanted_end(front.len()), "{}", front.len());
+    same_bytes(rt, "the answers", found, wanted);
+}
+
+/// A front of the spool is read byte by byte: the desk, which has kept its runs.
+fn byte_by_byte(
+    rt: &impl Abort,
+    alloc: Global,
+    front: &[u8],
+    wanted: &[u8],
+) -> Result<Desk<ListStore>, Fail> {
+    let mut desk = Desk::open(ListStore::new(alloc));
+    let mut output = Vec::new(alloc);
+    let ended = spool(alloc, &mut Single::new(front, 0), &mut output, &mut desk);
+    ends(rt, front, ended, &output, wanted);
+    keeps(rt, alloc, desk, whole_frames(front.len()))
+}
+
+/// A front of the spool is read all at once, and answered byte by byte.
+fn all_at_once(
+    rt: &impl Abort,
+    alloc: Global,
+    front: &[u8],
+    wanted: &[u8],
+    mut desk: Desk<ListStore>,
+) {
+    let mut output = Room::new(Vec::new(alloc), ANSWER_ENDS[3]);
+    let mut rest = front;
+    let ended = spool(alloc, &mut rest, &mut output, &mut desk);
+    ends(rt, front, ended, &output.taken, wanted);
 }
 
 /// All at once and byte by byte, the same comes out.
@@ -150,20 +206,31 @@ fn each_front_of_a_spool_answers_its_whole_frames(rt: HostRuntime) -> Result<(),
     let (text, answers) = worked(alloc)?;
     for length in 0..=text.len() {
         let front = &text.as_bytes()[..length];
-        let whole = whole_frames(length);
-        let wanted = answers_of(&answers, whole)?;
-        let mut desk = Desk::open(ListStore::new(alloc));
-        let mut output = Vec::new(alloc);
-        let ended = spool(alloc, &mut Single::new(front, 0), &mut output, &mut desk);
-        assert_eq!(&rt; ended, wanted_end(length), "{length}");
-        assert!(&rt; output.as_slice() == wanted, "{length}");
-        desk = keeps(&rt, alloc, desk, whole)?;
-        let mut output = Room::new(Vec::new(alloc), answers.len());
-        let mut rest = front;
-        let ended = spool(alloc, &mut rest, &mut output, &mut desk);
-        assert_eq!(&rt; ended, wanted_end(length), "{length}");
-        assert!(&rt; output.taken.as_slice() == wanted, "{length}");
+        let wanted = answers_of(&answers, whole_frames(length))?;
+        let desk = byte_by_byte(&rt, alloc, front, wanted)?;
+        all_at_once(&rt, alloc, front, wanted, desk);
     }
+    Ok(())
+}
+
+/// A spool whose read of this number fails, behind so many whole frames.
+fn read_fails(
+    rt: &impl Abort,
+    alloc: Global,
+    mut input: Single<'_>,
+    whole: u32,
+    wanted: &[u8],
+) -> Result<(), Fail> {
+    let mut desk = Desk::open(ListStore::new(alloc));
+    let mut output = Vec::new(alloc);
+    let ended = spool(alloc, &mut input, &mut output, &mut desk);
+    let fault = Fault {
+        kind: FaultKind::Read,
+        at: whole.saturating_add(1),
+    };
+    same(rt, "the end", &ended, &Err(fault));
+    same_bytes(rt, "the answers", &output, wanted);
+    keeps(rt, alloc, desk, whole)?;
     Ok(())
 }
 
@@ -174,20 +241,9 @@ fn a_failed_read_keeps_no_run_of_its_frame(rt: HostRuntime) -> Result<(), Fail> 
     let (text, answers) = worked(alloc)?;
     for fails_at in 1..=text.len().saturating_add(1) {
         let whole = whole_frames(fails_at.saturating_sub(1));
-        let mut desk = Desk::open(ListStore::new(alloc));
-        let mut output = Vec::new(alloc);
-        let mut input = Single::new(text.as_bytes(), fails_at);
-        let ended = spool(alloc, &mut input, &mut output, &mut desk);
-        let fault = Fault {
-            kind: FaultKind::Read,
-            at: whole.saturating_add(1),
-        };
-        assert_eq!(&rt; ended, Err(fault), "{fails_at}");
-        assert!(&rt;
-            output.as_slice() == answers_of(&answers, whole)?,
-            "{fails_at}"
-        );
-        keeps(&rt, alloc, desk, whole)?;
+        let wanted = answers_of(&answers, whole)?;
+        let input = Single::new(text.as_bytes(), fails_at);
+        read_fails(&rt, alloc, input, whole, wanted)?;
     }
     Ok(())
 }
@@ -212,8 +268,8 @@ fn is_not_answered(
     let mut desk = Desk::open(ListStore::new(alloc));
     let mut output = Vec::new(alloc);
     let ended = serve_one(alloc, &mut input, &mut output, &mut desk);
-    assert_eq!(rt; ended, Err(kind.without_line()));
-    assert!(rt; output.is_empty());
+    same(rt, "the end", &ended, &Err(kind.without_line()));
+    same_bytes(rt, "the answer", &output, b"");
     keeps(rt, alloc, desk, 0)?;
     Ok(())
 }
@@ -230,21 +286,59 @@ fn a_request_that_is_cut_or_cannot_be_read_keeps_no_run(rt: HostRuntime) -> Resu
     Ok(())
 }
 
+/// A writer takes so many bytes of the answer: the desk, which has kept the run.
+fn write_fails(rt: &impl Abort, alloc: Global, room: usize) -> Result<Desk<ListStore>, Fail> {
+    let mut desk = Desk::open(ListStore::new(alloc));
+    let mut output = Room::new(Vec::new(alloc), room);
+    let ended = serve_one(alloc, &mut QUICK.as_bytes(), &mut output, &mut desk);
+    let fault = FaultKind::Write.without_line();
+    same(rt, "the end", &(room, ended), &(room, Err(fault)));
+    let wanted = QUICK_ANSWER.as_bytes().get(..room).ok_or("no front")?;
+    same_bytes(rt, "the front", &output.taken, wanted);
+    keeps(rt, alloc, desk, 1)
+}
+
+/// The request has its answer.
+fn is_answered(rt: &impl Abort, alloc: Global, mut desk: Desk<ListStore>) -> Result<(), Fail> {
+    let mut output = Vec::new(alloc);
+    serve_one(alloc, &mut QUICK.as_bytes(), &mut output, &mut desk)?;
+    same_bytes(rt, "the answer", &output, QUICK_ANSWER.as_bytes());
+    Ok(())
+}
+
 #[test]
 fn a_failed_write_keeps_the_run_and_its_answer(rt: HostRuntime) -> Result<(), Fail> {
-    let alloc = rt.alloc();
-    let answer = QUICK_ANSWER.as_bytes();
-    for room in 0..answer.len() {
-        let mut desk = Desk::open(ListStore::new(alloc));
-        let mut output = Room::new(Vec::new(alloc), room);
-        let ended = serve_one(alloc, &mut QUICK.as_bytes(), &mut output, &mut desk);
-        assert_eq!(&rt; ended, Err(FaultKind::Write.without_line()), "{room}");
-        assert!(&rt; output.taken.as_slice() == &answer[..room], "{room}");
-        desk = keeps(&rt, alloc, desk, 1)?;
-        let mut output = Vec::new(alloc);
-        serve_one(alloc, &mut QUICK.as_bytes(), &mut output, &mut desk)?;
-        assert!(&rt; output.as_slice() == answer, "{room}");
+    for room in 0..QUICK_ANSWER.len() {
+        let desk = write_fails(&rt, rt.alloc(), room)?;
+        is_answered(&rt, rt.alloc(), desk)?;
     }
+    Ok(())
+}
+
+/// A run in full mode is refused with this reply, and nothing of it is in the library.
+fn run_is_refused(
+    rt: &impl Abort,
+    alloc: Global,
+    desk: &mut Desk<ListStore>,
+    text: &str,
+    wanted: &str,
+) -> Result<(), Fail> {
+    let reply = desk.arrive(alloc, "LYON", 1, "full", text.as_bytes())?;
+    let found = (reply.accepted, std::str::from_utf8(&reply.text)?);
+    same(rt, "the reply", &found, &(false, wanted));
+    same_bytes(rt, "the idents", &desk.ident_list(alloc)?, b"");
+    Ok(())
+}
+
+/// A run in quick mode is accepted, without a compile file.
+fn run_is_accepted(
+    rt: &impl Abort,
+    alloc: Global,
+    mut desk: Desk<ListStore>,
+    text: &str,
+) -> Result<(), Fail> {
+    let reply = desk.arrive(alloc, "LYON", 2, "quick", text.as_bytes())?;
+    assert!(rt; reply.accepted && reply.text.starts_with(b"{\"compile\":\"\","));
     Ok(())
 }
 
@@ -252,15 +346,10 @@ fn a_failed_write_keeps_the_run_and_its_answer(rt: HostRuntime) -> Result<(), Fa
 fn is_refused(rt: &impl Abort, alloc: Global, text: &str, wanted: &str) -> Result<(), Fail> {
     let mut desk = Desk::open(ListStore::new(alloc));
     for _ in 0..2 {
-        let reply = desk.arrive(alloc, "LYON", 1, "full", text.as_bytes())?;
-        assert!(rt; !reply.accepted);
-        assert_eq!(rt; std::str::from_utf8(&reply.text)?, wanted);
-        assert!(rt; desk.ident_list(alloc)?.is_empty());
+        run_is_refused(rt, alloc, &mut desk, text, wanted)?;
     }
-    desk = keeps(rt, alloc, desk, 1)?;
-    let reply = desk.arrive(alloc, "LYON", 2, "quick", text.as_bytes())?;
-    assert!(rt; reply.accepted && reply.text.starts_with(b"{\"compile\":\"\","));
-    Ok(())
+    let desk = keeps(rt, alloc, desk, 1)?;
+    run_is_accepted(rt, alloc, desk, text)
 }
 
 #[test]
@@ -271,11 +360,8 @@ fn a_deck_that_calls_itself_is_refused_and_kept(rt: HostRuntime) -> Result<(), F
     is_refused(&rt, rt.alloc(), text, wanted)
 }
 
-#[test]
-fn decks_that_call_each_other_ten_times_are_refused_and_kept(rt: HostRuntime) -> Result<(), Fail> {
-    let alloc = rt.alloc();
-    let wanted = "{\"at\":0,\"fault\":22,\"mode\":\"full\",\"name\":\"CompileLong\",\"run\":1,\
-\"site\":\"LYON\",\"state\":\"refused\"}";
+/// Seven common decks, each of which calls the next one ten times, and a deck that calls the first.
+fn calls_of_calls(alloc: Global) -> Result<String, Fail> {
     let mut text = String::new(alloc);
     for deck in 1..=7_u32 {
         write!(text, "*COMDECK C{deck}\n")?;
@@ -283,5 +369,13 @@ fn decks_that_call_each_other_ten_times_are_refused_and_kept(rt: HostRuntime) ->
         text.push_str(&call.repeat(alloc, 10)?)?;
     }
     text.push_str("*COMDECK C8\n*DECK A\n*CALL C1\n")?;
-    is_refused(&rt, alloc, &text, wanted)
+    Ok(text)
+}
+
+#[test]
+fn decks_that_call_each_other_ten_times_are_refused_and_kept(rt: HostRuntime) -> Result<(), Fail> {
+    let wanted = "{\"at\":0,\"fault\":22,\"mode\":\"full\",\"name\":\"CompileLong\",\"run\":1,\
+\"site\":\"LYON\",\"state\":\"refused\"}";
+    let text = calls_of_calls(rt.alloc())?;
+    is_refused(&rt, rt.alloc(), &text, wanted)
 }

@@ -2,13 +2,14 @@
 //!
 //! Two desks are asked the same. At most one call meets the refusal: its desk is then as the other one, which isn't
 //! asked yet, and what it answers next is what the other one does.
+use crate::check::{same, same_bytes};
 use std::alloc::Global;
 use std::process::Abort;
 use std::test::Fail;
-use upd_apply::apply;
-use upd_compile::{Mode, compile_file, list_idents};
-use upd_core::Library;
-use upd_deck::read_run;
+use upd_apply::{Applied, apply};
+use upd_compile::{CompileFile, Mode, compile_file, list_idents};
+use upd_core::{Age, Library};
+use upd_deck::{Run, read_run};
 use upd_desk::{Arrival, Desk, Reply};
 use upd_rows::{ListStore, RowStore};
 use upd_text::{Fault, FaultKind};
@@ -88,46 +89,76 @@ impl Twins {
         }
     }
 
-    /// Asks both: the answer, which both give.
-    fn ask(self, rt: &impl Abort, alloc: Global, asked: Ask<'_>) -> Result<(Twins, Answer), Fail> {
+    /// Asks the first alone.
+    fn put_first(self, alloc: Global, asked: Ask<'_>) -> (Twins, Answer) {
         let (first, answer) = put(alloc, self.first, asked);
         let second = self.second;
-        let (twins, answer) = if answer.is_lost() {
-            let twins = Twins { first, second }.are_alike(rt, alloc)?;
-            let (first, answer) = put(alloc, twins.first, asked);
-            let second = twins.second;
-            (Twins { first, second }, answer)
+        (Twins { first, second }, answer)
+    }
+
+    /// Asks the first, and once more where memory is refused: both show the same then.
+    fn ask_first(
+        self,
+        rt: &impl Abort,
+        alloc: Global,
+        asked: Ask<'_>,
+    ) -> Result<(Twins, Answer), Fail> {
+        let (twins, answer) = self.put_first(alloc, asked);
+        if answer.is_lost() {
+            let twins = twins.are_alike(rt, alloc)?;
+            Ok(twins.put_first(alloc, asked))
         } else {
-            (Twins { first, second }, answer)
-        };
+            Ok((twins, answer))
+        }
+    }
+
+    /// Asks both: the answer, which both give.
+    fn ask(self, rt: &impl Abort, alloc: Global, asked: Ask<'_>) -> Result<(Twins, Answer), Fail> {
+        let (twins, answer) = self.ask_first(rt, alloc, asked)?;
         let (second, wanted) = put_again(alloc, twins.second, asked);
         assert!(rt; answer.is(&wanted), "{asked:?}");
         let first = twins.first;
         Ok((Twins { first, second }, answer))
     }
 
+    /// Both give the same listing.
+    fn list_alike(self, rt: &impl Abort, alloc: Global, asked: Ask<'_>) -> Twins {
+        let (first, answer) = put_again(alloc, self.first, asked);
+        let (second, wanted) = put_again(alloc, self.second, asked);
+        assert!(rt; answer.is(&wanted), "{asked:?}");
+        Twins { first, second }
+    }
+
     /// Both show the same library, and the same runs are known to both.
     fn are_alike(self, rt: &impl Abort, alloc: Global) -> Result<Twins, Fail> {
         let mut twins = self;
         for asked in [Ask::Idents, Ask::Yanks, Ask::Compile] {
-            let (first, answer) = put_again(alloc, twins.first, asked);
-            let (second, wanted) = put_again(alloc, twins.second, asked);
-            assert!(rt; answer.is(&wanted), "{asked:?}");
-            twins = Twins { first, second };
+            twins = twins.list_alike(rt, alloc, asked);
         }
-        let mark = twins.first.mark(alloc, "LYON")?;
-        assert_eq!(rt; mark, twins.second.mark(alloc, "LYON")?);
-        twins.know_the_same(rt, alloc)
+        twins.have_the_same_mark(rt, alloc)?;
+        twins.know_the_same(rt, alloc)?;
+        Ok(twins)
     }
 
-    fn know_the_same(self, rt: &impl Abort, alloc: Global) -> Result<Twins, Fail> {
-        let mut twins = self;
+    fn have_the_same_mark(&mut self, rt: &impl Abort, alloc: Global) -> Result<(), Fail> {
+        let first = self.first.mark(alloc, "LYON")?;
+        let second = self.second.mark(alloc, "LYON")?;
+        same(rt, "the mark", &first, &second);
+        Ok(())
+    }
+
+    fn know_the_same(&mut self, rt: &impl Abort, alloc: Global) -> Result<(), Fail> {
         for number in 1..=9 {
-            let first = twins.first.kept_run(alloc, "LYON", number)?;
-            let second = twins.second.kept_run(alloc, "LYON", number)?;
-            assert_eq!(rt; first.is_some(), second.is_some(), "{number}");
+            let first = self.first.kept_run(alloc, "LYON", number)?;
+            let second = self.second.kept_run(alloc, "LYON", number)?;
+            same(
+                rt,
+                "a run",
+                &(number, first.is_some()),
+                &(number, second.is_some()),
+            );
         }
-        Ok(twins)
+        Ok(())
     }
 }
 
@@ -159,35 +190,60 @@ fn is_memory(rt: &impl Abort, fault: Fault) {
     assert_eq!(rt; fault, FaultKind::NoMemory.without_line());
 }
 
+/// The run, read again where memory is refused.
+fn read_again(rt: &impl Abort, alloc: Global) -> Result<Run<'static>, Fail> {
+    match read_run(alloc, TRIAL.as_bytes()) {
+        Ok(run) => Ok(run),
+        Err(fault) => {
+            is_memory(rt, fault);
+            Ok(read_run(alloc, TRIAL.as_bytes())?)
+        }
+    }
+}
+
+/// A run is applied to an empty library, which stays so and is tried again where memory is refused.
+fn apply_again(
+    rt: &impl Abort,
+    alloc: Global,
+    library: &mut Library,
+    run: &Run<'_>,
+) -> Result<Applied, Fail> {
+    match apply(alloc, library, run) {
+        Ok(applied) => Ok(applied),
+        Err(fault) => {
+            is_memory(rt, fault);
+            assert!(rt; list_idents(alloc, library)?.is_empty());
+            Ok(apply(alloc, library, run)?)
+        }
+    }
+}
+
+/// What has become of an empty library is compiled in full mode, again where memory is refused.
+fn compile_again(
+    rt: &impl Abort,
+    alloc: Global,
+    after: &Library,
+    asked: &[Age],
+) -> Result<CompileFile, Fail> {
+    let before = Library::new(alloc);
+    match compile_file(alloc, &before, after, Mode::Full, asked) {
+        Ok(file) => Ok(file),
+        Err(fault) => {
+            is_memory(rt, fault);
+            Ok(compile_file(alloc, &before, after, Mode::Full, asked)?)
+        }
+    }
+}
+
 /// A run that is read, applied to an empty library and compiled, each again where memory is refused.
 #[test]
 fn one_run(rt: HostRuntime) -> Result<(), Fail> {
     let alloc = rt.alloc();
-    let run = match read_run(alloc, TRIAL.as_bytes()) {
-        Ok(run) => run,
-        Err(fault) => {
-            is_memory(&rt, fault);
-            read_run(alloc, TRIAL.as_bytes())?
-        }
-    };
-    let before = Library::new(alloc);
-    let mut after = Library::new(alloc);
-    let applied = match apply(alloc, &mut after, &run) {
-        Ok(applied) => applied,
-        Err(fault) => {
-            is_memory(&rt, fault);
-            assert!(&rt; list_idents(alloc, &after)?.is_empty());
-            apply(alloc, &mut after, &run)?
-        }
-    };
-    let file = match compile_file(alloc, &before, &after, Mode::Full, &applied.compile) {
-        Ok(file) => file,
-        Err(fault) => {
-            is_memory(&rt, fault);
-            compile_file(alloc, &before, &after, Mode::Full, &applied.compile)?
-        }
-    };
-    assert!(&rt; file.lines == 4 && file.bytes.len() == 388);
+    let run = read_again(&rt, alloc)?;
+    let mut library = Library::new(alloc);
+    let applied = apply_again(&rt, alloc, &mut library, &run)?;
+    let file = compile_again(&rt, alloc, &library, &applied.compile)?;
+    same(&rt, "sizes", &(file.lines, file.bytes.len()), &(4, 388));
     assert!(&rt; file.bytes.starts_with(b"ONE "));
     Ok(())
 }
@@ -245,6 +301,13 @@ fn calls_of_a_common_deck(rt: HostRuntime) -> Result<(), Fail> {
     calls(&rt, rt.alloc(), commons)
 }
 
+/// A run that was accepted, with its compile file.
+fn is_compiled(rt: &impl Abort, text: &[u8]) {
+    let end = b"\"lines\":3,\"mode\":\"full\",\"run\":4,\"site\":\"LYON\",\"state\":\"accepted\"}";
+    assert!(rt; text.starts_with(b"{\"compile\":\"ONE "));
+    assert!(rt; text.ends_with(end));
+}
+
 /// The last of six yanks in a row is taken back: six yank cards and one text are looked at.
 #[test]
 fn six_yanks_in_a_row(rt: HostRuntime) -> Result<(), Fail> {
@@ -257,14 +320,8 @@ fn six_yanks_in_a_row(rt: HostRuntime) -> Result<(), Fail> {
         Ask::Run(4, "full", "*IDENT W\n*DELETE Y6.1\n"),
     ];
     let answer = ask_all(&rt, rt.alloc(), &list)?;
-    assert_eq!(&rt; answer.work, 7);
-    let text = answer.text?;
-    assert!(&rt; text.starts_with(b"{\"compile\":\"ONE "));
-    assert!(&rt;
-        text.ends_with(
-            b"\"lines\":3,\"mode\":\"full\",\"run\":4,\"site\":\"LYON\",\"state\":\"accepted\"}"
-        )
-    );
+    same(&rt, "the work", &answer.work, &7);
+    is_compiled(&rt, &answer.text?);
     Ok(())
 }
 
@@ -295,10 +352,67 @@ fn arrival<'a>(number: u64, text: &'a str) -> Arrival<'a> {
     }
 }
 
-/// A list of runs and their repeats that arrive together. One that is refused memory is as good as not sent.
+/// How a list that arrives at a desk over a store is answered.
+fn answers_to(
+    alloc: Global,
+    store: ListStore,
+    list: &[Arrival<'_>],
+) -> (ListStore, Result<Vec<Result<Reply, Fault>>, Fault>) {
+    let mut desk = Desk::open(store);
+    let answers = desk.run_all(alloc, list);
+    (desk.close(), answers)
+}
+
+/// One that was answered arrives at another desk, and is answered alike.
+fn arrives_beside(
+    rt: &impl Abort,
+    alloc: Global,
+    store: ListStore,
+    arrival: &Arrival<'_>,
+    reply: &Reply,
+) -> Result<ListStore, Fail> {
+    let text = std::str::from_utf8(arrival.bytes)?;
+    let asked = Ask::Run(arrival.number, "full", text);
+    let (left, wanted) = put_again(alloc, store, asked);
+    same_bytes(rt, text, &reply.text, &wanted.text?);
+    Ok(left)
+}
+
+/// Those that were answered arrive at another desk one by one, and are answered alike.
+fn all_arrive_beside(
+    rt: &impl Abort,
+    alloc: Global,
+    mut store: ListStore,
+    list: &[Arrival<'_>],
+    answers: &[Result<Reply, Fault>],
+) -> Result<ListStore, Fail> {
+    same(rt, "answers", &answers.len(), &list.len());
+    for (arrival, answer) in list.iter().zip(answers) {
+        match answer {
+            Ok(reply) => store = arrives_beside(rt, alloc, store, arrival, reply)?,
+            Err(fault) => is_memory(rt, *fault),
+        }
+    }
+    Ok(store)
+}
+
+/// A list arrives at two desks, at once and one by one. One that is refused memory is as good as not sent.
+fn arrives_at_both(rt: &impl Abort, alloc: Global, list: &[Arrival<'_>]) -> Result<Twins, Fail> {
+    let Twins { first, second } = Twins::new(alloc);
+    let (first, answers) = answers_to(alloc, first, list);
+    let second = match answers {
+        Ok(answers) => all_arrive_beside(rt, alloc, second, list, &answers)?,
+        Err(fault) => {
+            is_memory(rt, fault);
+            second
+        }
+    };
+    Ok(Twins { first, second })
+}
+
+/// A list of runs and their repeats that arrive together.
 #[test]
 fn runs_that_arrive_together(rt: HostRuntime) -> Result<(), Fail> {
-    let alloc = rt.alloc();
     let corrected = "*IDENT X\n*DELETE A.3\n";
     let list = [
         arrival(7, DECK_A),
@@ -306,41 +420,7 @@ fn runs_that_arrive_together(rt: HostRuntime) -> Result<(), Fail> {
         arrival(7, DECK_A),
         arrival(6, corrected),
     ];
-    let Twins { first, second } = Twins::new(alloc);
-    let mut desk = Desk::open(first);
-    let answers = desk.run_all(alloc, &list);
-    let first = desk.close();
-    let second = match answers {
-        Ok(answers) => arrive_beside(&rt, alloc, second, &list, &answers)?,
-        Err(fault) => {
-            is_memory(&rt, fault);
-            second
-        }
-    };
-    Twins { first, second }.are_alike(&rt, alloc)?;
+    let twins = arrives_at_both(&rt, rt.alloc(), &list)?;
+    twins.are_alike(&rt, rt.alloc())?;
     Ok(())
-}
-
-/// Those that were answered arrive at another desk one by one, and are answered alike.
-fn arrive_beside(
-    rt: &impl Abort,
-    alloc: Global,
-    mut store: ListStore,
-    list: &[Arrival<'_>],
-    answers: &[Result<Reply, Fault>],
-) -> Result<ListStore, Fail> {
-    assert_eq!(rt; answers.len(), list.len());
-    for (arrival, answer) in list.iter().zip(answers) {
-        match answer {
-            Ok(reply) => {
-                let text = std::str::from_utf8(arrival.bytes)?;
-                let asked = Ask::Run(arrival.number, "full", text);
-                let (left, wanted) = put_again(alloc, store, asked);
-                store = left;
-                assert!(rt; reply.text.as_slice() == wanted.text?.as_slice());
-            }
-            Err(fault) => is_memory(rt, *fault),
-        }
-    }
-    Ok(store)
 }

@@ -1,4 +1,5 @@
 //! Spools and requests that are refused memory once.
+use crate::check::same;
 use crate::cut::{QUICK, QUICK_ANSWER};
 use crate::streams::Room;
 use std::alloc::Global;
@@ -45,9 +46,42 @@ fn keeps(
 ) -> Result<ListStore, Fail> {
     for number in 1..=3 {
         let kept = store.kept_run(alloc, "LYON", number)?;
-        assert_eq!(rt; kept.is_some(), number <= frames, "{number}");
+        same(
+            rt,
+            "a run",
+            &(number, kept.is_some()),
+            &(number, number <= frames),
+        );
     }
     Ok(store)
+}
+
+/// How many frames were answered by a spool that ended so: those before one that was refused memory.
+fn answered_frames(rt: &impl Abort, ended: Result<u32, Fault>) -> u32 {
+    match ended {
+        Ok(count) => count,
+        Err(fault) => {
+            same(rt, "the fault", &fault.kind, &FaultKind::NoMemory);
+            fault.at.saturating_sub(1)
+        }
+    }
+}
+
+/// The answers to the spool, which is sent again where it is refused memory.
+fn spooled_whole(
+    rt: &impl Abort,
+    alloc: Global,
+    store: ListStore,
+) -> Result<(ListStore, Vec<u8>), Fail> {
+    let (store, ended, answers) = spooled(alloc, store)?;
+    match ended {
+        Ok(_) => Ok((store, answers)),
+        Err(fault) => {
+            same(rt, "the fault", &fault.kind, &FaultKind::NoMemory);
+            let (store, _, answers) = spooled(alloc, store)?;
+            Ok((store, answers))
+        }
+    }
 }
 
 /// The frames before the one that is refused memory are answered and kept; the whole spool, sent again, is answered.
@@ -55,25 +89,11 @@ fn keeps(
 fn a_spool(rt: HostRuntime) -> Result<(), Fail> {
     let alloc = rt.alloc();
     let (store, ended, before) = spooled(alloc, ListStore::new(alloc))?;
-    let frames = match ended {
-        Ok(count) => count,
-        Err(fault) => {
-            assert_eq!(&rt; fault.kind, FaultKind::NoMemory);
-            fault.at.saturating_sub(1)
-        }
-    };
-    assert_eq!(&rt; count_lines(&before), frames);
+    let frames = answered_frames(&rt, ended);
+    same(&rt, "answers before", &count_lines(&before), &frames);
     let store = keeps(&rt, alloc, store, u64::from(frames))?;
-    let (store, ended, answers) = spooled(alloc, store)?;
-    let (store, answers) = match ended {
-        Ok(_) => (store, answers),
-        Err(fault) => {
-            assert_eq!(&rt; fault.kind, FaultKind::NoMemory);
-            let (store, _, answers) = spooled(alloc, store)?;
-            (store, answers)
-        }
-    };
-    assert_eq!(&rt; count_lines(&answers), 3);
+    let (store, answers) = spooled_whole(&rt, alloc, store)?;
+    same(&rt, "answers", &count_lines(&answers), &3);
     assert!(&rt; answers.starts_with(&before));
     keeps(&rt, alloc, store, 3)?;
     Ok(())
@@ -108,8 +128,25 @@ fn answered(
     Ok((desk.close(), output.taken))
 }
 
-/// A request is answered by this text; where it is refused memory, the run of number 1 is known as before, and the
-/// request is answered when it comes again.
+/// What is written for a request. Where it is refused memory, the run of number 1 is known as before, and the request
+/// comes again.
+fn answered_again(
+    rt: &impl Abort,
+    alloc: Global,
+    store: ListStore,
+    request: &str,
+    known: u64,
+) -> Result<(ListStore, Vec<u8>), Fail> {
+    let (store, answer) = answered(rt, alloc, store, request)?;
+    if answer.is_empty() || answer.as_slice() == NO_MEMORY.as_bytes() {
+        let store = keeps(rt, alloc, store, known)?;
+        answered(rt, alloc, store, request)
+    } else {
+        Ok((store, answer))
+    }
+}
+
+/// A request is answered by this text, if not at first, then when it comes again.
 fn says(
     rt: &impl Abort,
     alloc: Global,
@@ -118,14 +155,8 @@ fn says(
     known: u64,
     wanted: &str,
 ) -> Result<ListStore, Fail> {
-    let (store, answer) = answered(rt, alloc, store, request)?;
-    let (store, answer) = if answer.is_empty() || answer.as_slice() == NO_MEMORY.as_bytes() {
-        let store = keeps(rt, alloc, store, known)?;
-        answered(rt, alloc, store, request)?
-    } else {
-        (store, answer)
-    };
-    assert_eq!(rt; std::str::from_utf8(&answer)?, wanted);
+    let (store, answer) = answered_again(rt, alloc, store, request, known)?;
+    same(rt, request, &std::str::from_utf8(&answer)?, &wanted);
     Ok(store)
 }
 
