@@ -1,5 +1,7 @@
 //! Requests and their answers, each with its status.
-use crate::streams::{answer_to, empty_desk, expect, expect_plain, post};
+use crate::streams::{Lists, empty_desk, expect, expect_plain, expect_read, post};
+use std::alloc::Global;
+use std::process::Abort;
 use std::test::Fail;
 
 const DECK_A: &str = "*DECK A\nONE\nTWO\nTHREE\n";
@@ -25,28 +27,33 @@ const NO_ROUTE: &str =
 Connection: close\r\n\r\n{\"at\":0,\"fault\":30,\"name\":\"BadFrame\"}";
 
 /// A run, its repeat, its number with another mode, and a deck that isn't there.
+const REPEATS: [(&str, &str); 4] = [
+    (QUICK, QUICK_ANSWER),
+    (QUICK, QUICK_ANSWER),
+    (
+        "POST /sites/LYON/runs/1/full HTTP/1.1\r\nHost: lib\r\nContent-Length: 0\r\n\r\n",
+        CHANGED,
+    ),
+    (
+        "GET /decks/NOPE HTTP/1.1\r\n\r\n",
+        "HTTP/1.1 404 Not Found\r\nContent-Type: application/json\r\nContent-Length: 40\r\n\
+Connection: close\r\n\r\n{\"at\":0,\"fault\":12,\"name\":\"DeckUnknown\"}",
+    ),
+];
+
+/// They are answered by a desk that reads at most so many bytes at a time.
+fn repeats_are_answered(rt: &impl Abort, alloc: Global, most: usize) -> Result<(), Fail> {
+    let mut desk = empty_desk(alloc);
+    for (request, wanted) in REPEATS {
+        expect_read(rt, alloc, &mut desk, (request, most), wanted)?;
+    }
+    Ok(())
+}
+
 #[test]
 fn a_run_and_its_repeats(rt: HostRuntime) -> Result<(), Fail> {
-    let alloc = rt.alloc();
     for most in [1, 7, 65_536] {
-        let mut desk = empty_desk(alloc);
-        let requests = [
-            (QUICK, QUICK_ANSWER),
-            (QUICK, QUICK_ANSWER),
-            (
-                "POST /sites/LYON/runs/1/full HTTP/1.1\r\nHost: lib\r\nContent-Length: 0\r\n\r\n",
-                CHANGED,
-            ),
-            (
-                "GET /decks/NOPE HTTP/1.1\r\n\r\n",
-                "HTTP/1.1 404 Not Found\r\nContent-Type: application/json\r\nContent-Length: 40\r\n\
-Connection: close\r\n\r\n{\"at\":0,\"fault\":12,\"name\":\"DeckUnknown\"}",
-            ),
-        ];
-        for (request, wanted) in requests {
-            let answer = answer_to(alloc, &mut desk, request.as_bytes(), most)?;
-            assert_eq!(&rt; std::str::from_utf8(&answer)?, wanted, "{request}");
-        }
+        repeats_are_answered(&rt, rt.alloc(), most)?;
     }
     Ok(())
 }
@@ -150,6 +157,23 @@ DECK A/B\nA A/B.1 *DECK A/B\nA A/B.2 ONE\n";
     expect_plain(&rt, alloc, &mut desk, "GET /decks/A/B", NO_ROUTE)
 }
 
+/// A request is answered by a fault of this number and name.
+fn expect_bad(
+    rt: &impl Abort,
+    alloc: Global,
+    desk: &mut Lists,
+    line: &str,
+    (number, name): (u32, &str),
+) -> Result<(), Fail> {
+    let body = format!(in alloc; "{{\"at\":0,\"fault\":{number},\"name\":\"{name}\"}}")?;
+    let length = body.len();
+    let wanted = format!(in alloc;
+        "HTTP/1.1 400 Bad Request\r\nContent-Type: application/json\r\n\
+Content-Length: {length}\r\nConnection: close\r\n\r\n{body}"
+    )?;
+    expect_plain(rt, alloc, desk, line, &wanted)
+}
+
 /// The leftmost bad parameter is the answer; a site or a mode that is a text is left to the desk.
 #[test]
 fn bad_parameters(rt: HostRuntime) -> Result<(), Fail> {
@@ -171,13 +195,7 @@ fn bad_parameters(rt: HostRuntime) -> Result<(), Fail> {
         ("GET /cards/A.1/2", 6, "BadCard"),
     ];
     for (line, number, name) in requests {
-        let body = format!(in alloc; "{{\"at\":0,\"fault\":{number},\"name\":\"{name}\"}}")?;
-        let length = body.len();
-        let wanted = format!(in alloc;
-            "HTTP/1.1 400 Bad Request\r\nContent-Type: application/json\r\n\
-Content-Length: {length}\r\nConnection: close\r\n\r\n{body}"
-        )?;
-        expect_plain(&rt, alloc, &mut desk, line, &wanted)?;
+        expect_bad(&rt, alloc, &mut desk, line, (number, name))?;
     }
     Ok(())
 }

@@ -1,9 +1,12 @@
 //! Connections on this machine.
+use crate::check::{same, same_bytes};
 use crate::streams::empty_desk;
+use std::alloc::Global;
 use std::cell::Cell;
 use std::io;
 use std::io::{Read, Write};
-use std::net::{Shutdown, TcpListener, TcpStream};
+use std::net::{Shutdown, SocketAddr, TcpListener, TcpStream};
+use std::process::Abort;
 use std::test::Fail;
 use std::time::{Clock, Duration, Instant};
 use upd_http::serve_on;
@@ -17,49 +20,54 @@ const QUICK_ANSWER: &str =
 Connection: close\r\n\r\n{\"compile\":\"\",\"idents\":[],\"lines\":0,\"mode\":\"quick\",\"run\":1,\"site\":\"LYON\",\
 \"state\":\"accepted\"}";
 
+/// A client that has written this and writes no more.
+fn client_with(rt: &HostRuntime, address: SocketAddr, sent: &[u8]) -> Result<TcpStream, Fail> {
+    let mut client = TcpStream::connect(rt, address)?;
+    client.write_all(sent)?;
+    client.shutdown(Shutdown::Write)?;
+    Ok(client)
+}
+
+/// What a client reads to the end is this.
+fn reads(rt: &impl Abort, alloc: Global, mut client: TcpStream, wanted: &str) -> Result<(), Fail> {
+    let mut answer = Vec::new(alloc);
+    client.read_to_end(&mut answer)?;
+    same_bytes(rt, "the answer", &answer, wanted.as_bytes());
+    Ok(())
+}
+
 /// A client connects and writes, then the connection is served, then the client reads. One that goes away before its
 /// request is whole takes nobody else's answer.
 #[test]
 fn connections_are_served(rt: HostRuntime) -> Result<(), Fail> {
-    let alloc = rt.alloc();
-    let mut desk = empty_desk(alloc);
     let listener = TcpListener::bind(&rt, "127.0.0.1:0")?;
     let address = listener.local_addr()?;
-    let mut gone = TcpStream::connect(&rt, address)?;
-    gone.write_all(&QUICK.as_bytes()[..30])?;
-    gone.shutdown(Shutdown::Write)?;
-    let mut client = TcpStream::connect(&rt, address)?;
-    client.write_all(QUICK.as_bytes())?;
-    client.shutdown(Shutdown::Write)?;
-    serve_on(alloc, &rt, &listener, 2, &mut desk)?;
-    let mut nothing = Vec::new(alloc);
-    gone.read_to_end(&mut nothing)?;
-    assert!(&rt; nothing.is_empty());
-    let mut answer = Vec::new(alloc);
-    client.read_to_end(&mut answer)?;
-    assert_eq!(&rt; std::str::from_utf8(&answer)?, QUICK_ANSWER);
-    Ok(())
+    let gone = client_with(&rt, address, &QUICK.as_bytes()[..30])?;
+    let client = client_with(&rt, address, QUICK.as_bytes())?;
+    serve_on(rt.alloc(), &rt, &listener, 2, &mut empty_desk(rt.alloc()))?;
+    reads(&rt, rt.alloc(), gone, "")?;
+    reads(&rt, rt.alloc(), client, QUICK_ANSWER)
+}
+
+/// The request of a run that is too long.
+fn long_request(alloc: Global) -> Result<Vec<u8>, Fail> {
+    let head = b"POST /sites/LYON/runs/1/quick HTTP/1.1\r\nContent-Length: 65537\r\n\r\n";
+    let mut request = Vec::from_slice(alloc, head)?;
+    request.extend_from_slice(&[b'x'; 65_537])?;
+    Ok(request)
 }
 
 /// A client that sends more than it may has its answer all the same.
 #[test]
 fn a_long_body_is_answered(rt: HostRuntime) -> Result<(), Fail> {
-    let alloc = rt.alloc();
-    let mut desk = empty_desk(alloc);
     let listener = TcpListener::bind(&rt, "127.0.0.1:0")?;
-    let mut client = TcpStream::connect(&rt, listener.local_addr()?)?;
-    client.write_all(b"POST /sites/LYON/runs/1/quick HTTP/1.1\r\nContent-Length: 65537\r\n\r\n")?;
-    client.write_all(&[b'x'; 65_537])?;
-    client.shutdown(Shutdown::Write)?;
-    serve_on(alloc, &rt, &listener, 1, &mut desk)?;
-    let mut answer = Vec::new(alloc);
-    client.read_to_end(&mut answer)?;
-    assert_eq!(&rt;
-        std::str::from_utf8(&answer)?,
+    let request = long_request(rt.alloc())?;
+    let client = client_with(&rt, listener.local_addr()?, &request)?;
+    serve_on(rt.alloc(), &rt, &listener, 1, &mut empty_desk(rt.alloc()))?;
+    let wanted =
         "HTTP/1.1 413 Payload Too Large\r\nContent-Type: application/json\r\nContent-Length: 35\r\n\
-Connection: close\r\n\r\n{\"at\":0,\"fault\":1,\"name\":\"RunLong\"}"
-    );
-    Ok(())
+Connection: close\r\n\r\n{\"at\":0,\"fault\":1,\"name\":\"RunLong\"}";
+    reads(&rt, rt.alloc(), client, wanted)
 }
 
 /// A connection that can't be accepted isn't passed over. Nobody has connected here, and the listener doesn't wait.
@@ -69,24 +77,30 @@ fn an_accept_that_fails_is_told(rt: HostRuntime) -> Result<(), Fail> {
     let listener = TcpListener::bind(&rt, "127.0.0.1:0")?;
     listener.set_nonblocking(true)?;
     let served = serve_on(alloc, &rt, &listener, 2, &mut empty_desk(alloc));
-    assert_eq!(&rt; served, Err(FaultKind::Read.without_line()));
+    same(
+        &rt,
+        "the end",
+        &served,
+        &Err(FaultKind::Read.without_line()),
+    );
     Ok(())
+}
+
+/// How many seconds a connection at a listener is served.
+fn seconds_served(rt: &HostRuntime, listener: &TcpListener) -> Result<u64, Fail> {
+    let start = Instant::now(rt)?;
+    serve_on(rt.alloc(), rt, listener, 1, &mut empty_desk(rt.alloc()))?;
+    Ok(start.elapsed(rt)?.as_secs())
 }
 
 /// A client that says nothing is waited for ten seconds, and once more behind what it is answered, which is nothing.
 #[test]
 fn a_silent_client_is_not_waited_for_for_ever(rt: HostRuntime) -> Result<(), Fail> {
-    let alloc = rt.alloc();
     let listener = TcpListener::bind(&rt, "127.0.0.1:0")?;
-    let mut client = TcpStream::connect(&rt, listener.local_addr()?)?;
-    let start = Instant::now(&rt)?;
-    serve_on(alloc, &rt, &listener, 1, &mut empty_desk(alloc))?;
-    let waited = start.elapsed(&rt)?.as_secs();
+    let client = TcpStream::connect(&rt, listener.local_addr()?)?;
+    let waited = seconds_served(&rt, &listener)?;
     assert!(&rt; 20 <= waited && waited < 30, "{waited}");
-    let mut answer = Vec::new(alloc);
-    client.read_to_end(&mut answer)?;
-    assert!(&rt; answer.is_empty());
-    Ok(())
+    reads(&rt, rt.alloc(), client, "")
 }
 
 /// A clock that goes on by two minutes whenever it is read.

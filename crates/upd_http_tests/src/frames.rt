@@ -1,5 +1,6 @@
 //! Heads and bodies at their limits, and streams that fail.
-use crate::streams::{Held, Lists, Narrow, Pieces, answer_to, empty_desk};
+use crate::check::{same, same_bytes};
+use crate::streams::{Held, Lists, Narrow, Pieces, empty_desk, expect_read};
 use std::alloc::Global;
 use std::process::Abort;
 use std::test::Fail;
@@ -25,6 +26,7 @@ const RUN_LONG: &str =
     "HTTP/1.1 413 Payload Too Large\r\nContent-Type: application/json\r\nContent-Length: 35\r\n\
 Connection: close\r\n\r\n{\"at\":0,\"fault\":1,\"name\":\"RunLong\"}";
 
+/// The answer to a request that is read a thousand bytes at a time is this text.
 fn expect(
     rt: &impl Abort,
     alloc: Global,
@@ -32,9 +34,7 @@ fn expect(
     request: &str,
     wanted: &str,
 ) -> Result<(), Fail> {
-    let answer = answer_to(alloc, desk, request.as_bytes(), 1000)?;
-    assert_eq!(rt; std::str::from_utf8(&answer)?, wanted);
-    Ok(())
+    expect_read(rt, alloc, desk, (request, 1000), wanted)
 }
 
 /// A text of so many bytes.
@@ -46,18 +46,33 @@ fn filler(alloc: Global, count: usize) -> Result<String, Fail> {
     Ok(text)
 }
 
+/// A request with a head of so many bytes.
+fn long_head(alloc: Global, bytes: usize) -> Result<String, Fail> {
+    let around = "GET /idents HTTP/1.1\r\nX: \r\n\r\n".len();
+    let pad = filler(alloc, bytes.saturating_sub(around))?;
+    Ok(format!(in alloc; "GET /idents HTTP/1.1\r\nX: {pad}\r\n\r\n")?)
+}
+
 #[test]
 fn heads_have_8192_bytes_at_most(rt: HostRuntime) -> Result<(), Fail> {
     let alloc = rt.alloc();
     let mut desk = empty_desk(alloc);
-    let around = "GET /idents HTTP/1.1\r\nX: \r\n\r\n".len();
     for (bytes, wanted) in [(8_192, EMPTY_LISTING), (8_193, BAD_FRAME)] {
-        let pad = filler(alloc, bytes - around)?;
-        let request = format!(in alloc; "GET /idents HTTP/1.1\r\nX: {pad}\r\n\r\n")?;
-        assert_eq!(&rt; request.len(), bytes);
+        let request = long_head(alloc, bytes)?;
+        same(&rt, "bytes", &request.len(), &bytes);
         expect(&rt, alloc, &mut desk, &request, wanted)?;
     }
     Ok(())
+}
+
+/// A request with so many headers.
+fn many_headers(alloc: Global, count: u32) -> Result<String, Fail> {
+    let mut request = String::from_str(alloc, "GET /yanks HTTP/1.0\r\n")?;
+    for _ in 0..count {
+        request.push_str("A: b\r\n")?;
+    }
+    request.push_str("\r\n")?;
+    Ok(request)
 }
 
 #[test]
@@ -65,40 +80,79 @@ fn heads_have_32_headers_at_most(rt: HostRuntime) -> Result<(), Fail> {
     let alloc = rt.alloc();
     let mut desk = empty_desk(alloc);
     for (count, wanted) in [(32, EMPTY_LISTING), (33, BAD_FRAME)] {
-        let mut request = String::from_str(alloc, "GET /yanks HTTP/1.0\r\n")?;
-        for _ in 0..count {
-            request.push_str("A: b\r\n")?;
-        }
-        request.push_str("\r\n")?;
+        let request = many_headers(alloc, count)?;
         expect(&rt, alloc, &mut desk, &request, wanted)?;
     }
     Ok(())
 }
+
+/// A request with a body of 65,536 bytes, and this length.
+fn long_body(alloc: Global, line: &str, length: &str) -> Result<String, Fail> {
+    let body = filler(alloc, 65_536)?;
+    Ok(format!(in alloc; "{line} HTTP/1.1\r\nContent-Length: {length}\r\n\r\n{body}")?)
+}
+
+/// Requests, and the lengths of bodies that are too long.
+const TOO_LONG: [(&str, &str); 4] = [
+    ("POST /sites/LYON/runs/2/quick", "65537"),
+    ("GET /idents", "65537"),
+    (
+        "POST /sites/LYON/runs/2/quick",
+        "99999999999999999999999999",
+    ),
+    ("GET /idents", "99999999999999999999999999"),
+];
 
 /// A body of 65,536 bytes is a run; a longer one isn't read, on any known path.
 #[test]
 fn bodies_have_65536_bytes_at_most(rt: HostRuntime) -> Result<(), Fail> {
     let alloc = rt.alloc();
     let mut desk = empty_desk(alloc);
-    let body = filler(alloc, 65_536)?;
-    expect(
-        &rt,
-        alloc,
-        &mut desk,
-        &format!(in alloc;
-            "POST /sites/LYON/runs/1/quick HTTP/1.1\r\nContent-Length: 65536\r\n\r\n{body}"
-        )?,
+    let request = long_body(alloc, "POST /sites/LYON/runs/1/quick", "65536")?;
+    let wanted =
         "HTTP/1.1 422 Unprocessable Entity\r\nContent-Type: application/json\r\nContent-Length: 91\r\n\
 Connection: close\r\n\r\n{\"at\":1,\"fault\":4,\"mode\":\"quick\",\"name\":\"LineLong\",\"run\":1,\
-\"site\":\"LYON\",\"state\":\"refused\"}",
-    )?;
-    for length in ["65537", "99999999999999999999999999"] {
-        for line in ["POST /sites/LYON/runs/2/quick", "GET /idents"] {
-            let request = format!(in alloc;
-                "{line} HTTP/1.1\r\nContent-Length: {length}\r\n\r\n{body}"
-            )?;
-            expect(&rt, alloc, &mut desk, &request, RUN_LONG)?;
-        }
+\"site\":\"LYON\",\"state\":\"refused\"}";
+    expect(&rt, alloc, &mut desk, &request, wanted)?;
+    for (line, length) in TOO_LONG {
+        let request = long_body(alloc, line, length)?;
+        expect(&rt, alloc, &mut desk, &request, RUN_LONG)?;
+    }
+    Ok(())
+}
+
+/// Headers of a request for idents, and its answer.
+const HEADERS: [(&str, &str); 10] = [
+    ("Content-Length: 0\r\nContent-Length: 0\r\n", BAD_FRAME),
+    ("Content-Length: 0\r\ncontent-length: 0\r\n", BAD_FRAME),
+    ("Content-Length:\r\n", BAD_FRAME),
+    ("Content-Length: +0\r\n", BAD_FRAME),
+    ("Content-Length: 0 0\r\n", BAD_FRAME),
+    ("Content-Length: 0x0\r\n", BAD_FRAME),
+    ("Transfer-Encoding: chunked\r\n", BAD_FRAME),
+    (
+        "transfer-encoding: identity\r\nContent-Length: 0\r\n",
+        BAD_FRAME,
+    ),
+    ("CONTENT-LENGTH: \t000 \r\n", EMPTY_LISTING),
+    ("Expect: 100-continue\r\n", EMPTY_LISTING),
+];
+
+/// A request for idents with this header is answered by this text.
+fn expect_with(
+    rt: &impl Abort,
+    alloc: Global,
+    desk: &mut Lists,
+    header: &str,
+    wanted: &str,
+) -> Result<(), Fail> {
+    let request = format!(in alloc; "GET /idents HTTP/1.1\r\n{header}\r\n")?;
+    expect(rt, alloc, desk, &request, wanted)
+}
+
+fn headers_are_answered(rt: &impl Abort, alloc: Global, desk: &mut Lists) -> Result<(), Fail> {
+    for (header, wanted) in HEADERS {
+        expect_with(rt, alloc, desk, header, wanted)?;
     }
     Ok(())
 }
@@ -108,46 +162,19 @@ Connection: close\r\n\r\n{\"at\":1,\"fault\":4,\"mode\":\"quick\",\"name\":\"Lin
 fn lengths_stand_once_in_digits(rt: HostRuntime) -> Result<(), Fail> {
     let alloc = rt.alloc();
     let mut desk = empty_desk(alloc);
-    let headers = [
-        ("Content-Length: 0\r\nContent-Length: 0\r\n", BAD_FRAME),
-        ("Content-Length: 0\r\ncontent-length: 0\r\n", BAD_FRAME),
-        ("Content-Length:\r\n", BAD_FRAME),
-        ("Content-Length: +0\r\n", BAD_FRAME),
-        ("Content-Length: 0 0\r\n", BAD_FRAME),
-        ("Content-Length: 0x0\r\n", BAD_FRAME),
-        ("Transfer-Encoding: chunked\r\n", BAD_FRAME),
+    headers_are_answered(&rt, alloc, &mut desk)?;
+    let others = [
         (
-            "transfer-encoding: identity\r\nContent-Length: 0\r\n",
+            "GET /nowhere HTTP/1.1\r\nTransfer-Encoding: chunked\r\n\r\n",
             BAD_FRAME,
         ),
-        ("CONTENT-LENGTH: \t000 \r\n", EMPTY_LISTING),
-        ("Expect: 100-continue\r\n", EMPTY_LISTING),
+        ("GET /idents HTTP/2.0\r\n\r\n", BAD_FRAME),
+        ("GET /idents HTTP/1.0\r\n\r\n", EMPTY_LISTING),
     ];
-    for (header, wanted) in headers {
-        let request = format!(in alloc; "GET /idents HTTP/1.1\r\n{header}\r\n")?;
-        expect(&rt, alloc, &mut desk, &request, wanted)?;
+    for (request, wanted) in others {
+        expect(&rt, alloc, &mut desk, request, wanted)?;
     }
-    expect(
-        &rt,
-        alloc,
-        &mut desk,
-        "GET /nowhere HTTP/1.1\r\nTransfer-Encoding: chunked\r\n\r\n",
-        BAD_FRAME,
-    )?;
-    expect(
-        &rt,
-        alloc,
-        &mut desk,
-        "GET /idents HTTP/2.0\r\n\r\n",
-        BAD_FRAME,
-    )?;
-    expect(
-        &rt,
-        alloc,
-        &mut desk,
-        "GET /idents HTTP/1.0\r\n\r\n",
-        EMPTY_LISTING,
-    )
+    Ok(())
 }
 
 /// What stands behind the body isn't looked at.
@@ -168,44 +195,64 @@ fn cut(alloc: Global, request: &[u8], fails_at: usize) -> (Result<(), Fault>, Ve
     (ended, output)
 }
 
+/// A request that is cut, or whose read of this number fails, is answered by nothing.
+fn is_not_answered(
+    rt: &impl Abort,
+    alloc: Global,
+    request: &[u8],
+    fails_at: usize,
+    kind: FaultKind,
+) {
+    let (ended, output) = cut(alloc, request, fails_at);
+    same(rt, "the end", &ended, &Err(kind.without_line()));
+    same_bytes(rt, "the answer", &output, b"");
+}
+
 /// Each request that ends too early is answered by nothing, and so is one that can't be read to its end.
 #[test]
 fn cut_requests_are_not_answered(rt: HostRuntime) -> Result<(), Fail> {
     let alloc = rt.alloc();
     let request =
-        "POST /sites/LYON/runs/1/quick HTTP/1.1\r\nHost: lib\r\nContent-Length: 3\r\n\r\nabc";
+        b"POST /sites/LYON/runs/1/quick HTTP/1.1\r\nHost: lib\r\nContent-Length: 3\r\n\r\nabc";
     for length in 0..request.len() {
-        let (ended, output) = cut(alloc, &request.as_bytes()[..length], 0);
-        assert_eq!(&rt; ended, Err(FaultKind::CutFrame.without_line()), "{length}");
-        assert!(&rt; output.is_empty());
-        let (ended, output) = cut(alloc, request.as_bytes(), length + 1);
-        assert_eq!(&rt; ended, Err(FaultKind::Read.without_line()), "{length}");
-        assert!(&rt; output.is_empty());
+        is_not_answered(&rt, alloc, &request[..length], 0, FaultKind::CutFrame);
+        is_not_answered(&rt, alloc, request, length + 1, FaultKind::Read);
     }
     Ok(())
+}
+
+/// A writer takes so many bytes of the answer: the desk.
+fn write_fails(rt: &impl Abort, alloc: Global, room: usize) -> Result<Lists, Fail> {
+    let mut desk = empty_desk(alloc);
+    let mut output = Narrow::new(alloc, room);
+    let ended = serve_one(alloc, &mut QUICK.as_bytes(), &mut output, &mut desk);
+    let wanted = QUICK_ANSWER.as_bytes().get(..room).ok_or("no front")?;
+    same(rt, "the end", &ended, &Err(FaultKind::Write.without_line()));
+    same_bytes(rt, "the front", &output.taken, wanted);
+    Ok(desk)
+}
+
+/// The number of the run is known with its mode, and its repeat has the reply.
+fn run_is_kept(rt: &impl Abort, alloc: Global, desk: &mut Lists) -> Result<(), Fail> {
+    expect(
+        rt,
+        alloc,
+        desk,
+        "POST /sites/LYON/runs/1/full HTTP/1.1\r\n\r\n",
+        "HTTP/1.1 409 Conflict\r\nContent-Type: application/json\r\nContent-Length: 39\r\n\
+Connection: close\r\n\r\n{\"at\":0,\"fault\":26,\"name\":\"RunChanged\"}",
+    )?;
+    expect(rt, alloc, desk, QUICK, QUICK_ANSWER)
 }
 
 /// After a failed write a beginning of the answer is out. The run is kept: its repeat has the reply.
 #[test]
 fn failed_writes_keep_the_run(rt: HostRuntime) -> Result<(), Fail> {
     let alloc = rt.alloc();
-    for room in 0..QUICK_ANSWER.len() {
-        let mut desk = empty_desk(alloc);
-        let mut output = Narrow::new(alloc, room);
-        let ended = serve_one(alloc, &mut QUICK.as_bytes(), &mut output, &mut desk);
-        assert_eq!(&rt; ended, Err(FaultKind::Write.without_line()));
-        assert_eq!(&rt; output.taken.as_slice(), &QUICK_ANSWER.as_bytes()[..room]);
-        if room == 0 {
-            expect(
-                &rt,
-                alloc,
-                &mut desk,
-                "POST /sites/LYON/runs/1/full HTTP/1.1\r\n\r\n",
-                "HTTP/1.1 409 Conflict\r\nContent-Type: application/json\r\nContent-Length: 39\r\n\
-Connection: close\r\n\r\n{\"at\":0,\"fault\":26,\"name\":\"RunChanged\"}",
-            )?;
-            expect(&rt, alloc, &mut desk, QUICK, QUICK_ANSWER)?;
-        }
+    let mut desk = write_fails(&rt, alloc, 0)?;
+    run_is_kept(&rt, alloc, &mut desk)?;
+    for room in 1..QUICK_ANSWER.len() {
+        write_fails(&rt, alloc, room)?;
     }
     Ok(())
 }
@@ -217,7 +264,12 @@ fn a_failed_flush_keeps_the_run(rt: HostRuntime) -> Result<(), Fail> {
     let mut desk = empty_desk(alloc);
     let mut output = Held::new(alloc, 1);
     let ended = serve_one(alloc, &mut QUICK.as_bytes(), &mut output, &mut desk);
-    assert_eq!(&rt; ended, Err(FaultKind::Write.without_line()));
-    assert!(&rt; output.flushed.is_empty());
+    same(
+        &rt,
+        "the end",
+        &ended,
+        &Err(FaultKind::Write.without_line()),
+    );
+    same_bytes(&rt, "the answer", &output.flushed, b"");
     expect(&rt, alloc, &mut desk, QUICK, QUICK_ANSWER)
 }

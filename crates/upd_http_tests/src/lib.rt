@@ -6,6 +6,8 @@
 #[cfg(test)]
 mod answers;
 #[cfg(test)]
+mod check;
+#[cfg(test)]
 mod connections;
 #[cfg(test)]
 mod frames;

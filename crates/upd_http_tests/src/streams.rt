@@ -1,4 +1,5 @@
 //! Readers and writers over memory, and a desk that is asked through them.
+use crate::check::same;
 use std::alloc::Global;
 use std::io;
 use std::io::{ErrorKind, Read, Write};
@@ -135,6 +136,19 @@ pub fn answer_to(
     Ok(output.flushed)
 }
 
+/// The answer to a request that is read at most so many bytes at a time is this text.
+pub fn expect_read(
+    rt: &impl Abort,
+    alloc: Global,
+    desk: &mut Lists,
+    (request, most): (&str, usize),
+    wanted: &str,
+) -> Result<(), Fail> {
+    let answer = answer_to(alloc, desk, request.as_bytes(), most)?;
+    same(rt, request, &std::str::from_utf8(&answer)?, &wanted);
+    Ok(())
+}
+
 /// The answer to a request is this text.
 pub fn expect(
     rt: &impl Abort,
@@ -143,9 +157,7 @@ pub fn expect(
     request: &str,
     wanted: &str,
 ) -> Result<(), Fail> {
-    let answer = answer_to(alloc, desk, request.as_bytes(), 65_536)?;
-    assert_eq!(rt; std::str::from_utf8(&answer)?, wanted, "{request}");
-    Ok(())
+    expect_read(rt, alloc, desk, (request, 65_536), wanted)
 }
 
 /// The answer to a request without headers and body is this text.
