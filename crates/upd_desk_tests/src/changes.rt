@@ -1,10 +1,12 @@
 //! The row changes that runs tell, in their order.
+use crate::check::{same, same_text};
 use std::alloc::Global;
+use std::fmt::Display;
 use std::process::Abort;
 use std::test::Fail;
 use upd_apply::apply;
 use upd_change::Change;
-use upd_core::Library;
+use upd_core::{CardRef, Entry, Ident, Library, Serial, Target};
 use upd_deck::read_run;
 
 const DECK_A: &str = "*DECK A\nONE\nTWO\nTHREE\n";
@@ -22,8 +24,12 @@ fn run(library: &mut Library, text: &str) -> Result<String, Fail> {
     let alloc = library.allocator();
     let run = read_run(alloc, text.as_bytes())?;
     let applied = apply(alloc, library, &run)?;
+    lines_of(alloc, &applied.changes)
+}
+
+fn lines_of(alloc: Global, changes: &[Change]) -> Result<String, Fail> {
     let mut told = String::new(alloc);
-    for change in &applied.changes {
+    for change in changes {
         tell(&mut told, change)?;
     }
     Ok(told)
@@ -31,43 +37,82 @@ fn run(library: &mut Library, text: &str) -> Result<String, Fail> {
 
 fn tell(told: &mut String, change: &Change) -> Result<(), Fail> {
     match change {
-        Change::IdentNew(ident) => {
-            write!(
-                told,
-                "ident {} {} {:?}\n",
-                ident.age, ident.name, ident.kind
-            )?
-        }
-        Change::IdentPurged(age) => write!(told, "ident {age} purged\n")?,
+        Change::IdentNew(ident) => tell_ident(told, ident),
+        Change::IdentPurged(age) => tell_end(told, "ident", age, "purged"),
         Change::CardNew {
             card,
             deck,
             pos,
             text,
-        } => {
-            let text = std::str::from_utf8(text)?;
-            write!(told, "card {card} in {deck} at {pos}: {text}\n")?
-        }
-        Change::CardGone(card) => write!(told, "card {card} gone\n")?,
-        Change::CardsMoved { deck, from, by } => {
-            write!(told, "cards of {deck} from {from} by {by}\n")?
-        }
-        Change::EntryNew { card, ord, entry } => write!(
-            told,
-            "entry {ord} of {card}: {} {}\n",
-            entry.ident, entry.active
-        )?,
-        Change::EntriesGone(card) => write!(told, "entries of {card} gone\n")?,
-        Change::TargetNew { card, ord, target } => {
-            write!(told, "target {ord} of {card}: {target:?}\n")?
-        }
-        Change::TargetsGone { card, targets } => {
-            write!(told, "targets of {card} gone: {:?}\n", targets.as_slice())?
-        }
-        Change::StatusNow { card, active } => write!(told, "status of {card}: {active}\n")?,
-        Change::CountNow { target, n } => write!(told, "count of {target:?}: {n}\n")?,
+        } => tell_card(told, card, (*deck, *pos), text),
+        Change::CardGone(card) => tell_end(told, "card", card, "gone"),
+        Change::CardsMoved { deck, from, by } => tell_move(told, *deck, *from, *by),
+        Change::EntryNew { card, ord, entry } => tell_entry(told, card, *ord, entry),
+        Change::EntriesGone(card) => tell_end(told, "entries of", card, "gone"),
+        Change::TargetNew { card, ord, target } => tell_target(told, card, *ord, target),
+        Change::TargetsGone { card, targets } => tell_targets_gone(told, card, targets),
+        Change::StatusNow { card, active } => tell_status(told, card, *active),
+        Change::CountNow { target, n } => tell_count(told, target, *n),
     }
-    Ok(())
+}
+
+fn tell_ident(told: &mut String, ident: &Ident) -> Result<(), Fail> {
+    let Ident {
+        age,
+        name,
+        kind,
+        ..
+    } = ident;
+    Ok(write!(told, "ident {age} {name} {kind:?}\n")?)
+}
+
+/// A line of something that ends.
+fn tell_end<T: Display>(told: &mut String, what: &str, of: &T, end: &str) -> Result<(), Fail> {
+    Ok(write!(told, "{what} {of} {end}\n")?)
+}
+
+fn tell_card(
+    told: &mut String,
+    card: &CardRef,
+    (deck, pos): (Serial, u32),
+    text: &[u8],
+) -> Result<(), Fail> {
+    let text = std::str::from_utf8(text)?;
+    Ok(write!(told, "card {card} in {deck} at {pos}: {text}\n")?)
+}
+
+fn tell_move(told: &mut String, deck: Serial, from: u32, by: i64) -> Result<(), Fail> {
+    Ok(write!(told, "cards of {deck} from {from} by {by}\n")?)
+}
+
+fn tell_entry(told: &mut String, card: &CardRef, ord: u32, entry: &Entry) -> Result<(), Fail> {
+    let Entry { ident, active } = entry;
+    Ok(write!(told, "entry {ord} of {card}: {ident} {active}\n")?)
+}
+
+fn tell_target(told: &mut String, card: &CardRef, ord: u32, target: &Target) -> Result<(), Fail> {
+    Ok(write!(told, "target {ord} of {card}: {target:?}\n")?)
+}
+
+fn tell_targets_gone(told: &mut String, card: &CardRef, targets: &[Target]) -> Result<(), Fail> {
+    Ok(write!(told, "targets of {card} gone: {targets:?}\n")?)
+}
+
+fn tell_status(told: &mut String, card: &CardRef, active: bool) -> Result<(), Fail> {
+    Ok(write!(told, "status of {card}: {active}\n")?)
+}
+
+fn tell_count(told: &mut String, target: &Target, n: u32) -> Result<(), Fail> {
+    Ok(write!(told, "count of {target:?}: {n}\n")?)
+}
+
+/// The library that runs leave which come one after the other.
+fn changed(alloc: Global, runs: &[&str]) -> Result<Library, Fail> {
+    let mut library = Library::new(alloc);
+    for text in runs {
+        run(&mut library, text)?;
+    }
+    Ok(library)
 }
 
 /// Runs one after the other on an empty library: the last one tells what is wanted.
@@ -78,12 +123,9 @@ fn last_tells(
     last: &str,
     wanted: &str,
 ) -> Result<(), Fail> {
-    let mut library = Library::new(alloc);
-    for text in runs {
-        run(&mut library, text)?;
-    }
+    let mut library = changed(alloc, runs)?;
     let told = run(&mut library, last)?;
-    assert_eq!(rt; told.as_str(), wanted, "{last:?}");
+    same_text(rt, last, told.as_str(), wanted);
     Ok(())
 }
 
@@ -190,44 +232,54 @@ fn a_name_that_comes_again_is_gone_and_new(rt: HostRuntime) -> Result<(), Fail> 
     )
 }
 
+/// A run that brings a deck of 2,000 cards.
+fn deck_of_2000(alloc: Global, deck: u32) -> Result<String, Fail> {
+    let mut text = format!(in alloc; "*DECK DECK{deck}\n")?;
+    for _ in 1..2000 {
+        text.push_str("      CONTINUE\n")?;
+    }
+    Ok(text)
+}
+
 /// Brings decks of 2,000 cards.
 pub fn with_decks(alloc: Global, decks: u32) -> Result<Library, Fail> {
     let mut library = Library::new(alloc);
-    for n in 0..decks {
-        let mut text = format!(in alloc; "*DECK DECK{n}\n")?;
-        for _ in 1..2000 {
-            text.push_str("      CONTINUE\n")?;
-        }
-        run(&mut library, text.as_str())?;
+    for deck in 0..decks {
+        run(&mut library, deck_of_2000(alloc, deck)?.as_str())?;
     }
     Ok(library)
+}
+
+/// How many lines begin with this.
+fn lines_with(told: &str, front: &str) -> usize {
+    told.lines().filter(|line| line.starts_with(front)).count()
 }
 
 #[test]
 fn holds_48000_cards(rt: HostRuntime) -> Result<(), Fail> {
     let library = with_decks(rt.alloc(), 24)?;
-    assert_eq!(&rt; library.decks().len(), 24);
+    same(&rt, "the decks", &library.decks().len(), &24);
     Ok(())
+}
+
+/// A run of 1,998 texts behind one card.
+fn texts_at_one_place(alloc: Global) -> Result<String, Fail> {
+    let mut text = String::from_str(alloc, "*IDENT X\n*INSERT DECK7.1000\n")?;
+    for _ in 0..1998 {
+        text.push_str("TEXT\n")?;
+    }
+    Ok(text)
 }
 
 #[test]
 fn takes_1998_texts_at_one_place_of_48000_cards(rt: HostRuntime) -> Result<(), Fail> {
     let mut library = with_decks(rt.alloc(), 24)?;
-    let mut text = String::from_str(rt.alloc(), "*IDENT X\n*INSERT DECK7.1000\n")?;
-    for _ in 0..1998 {
-        text.push_str("TEXT\n")?;
-    }
+    let text = texts_at_one_place(rt.alloc())?;
     let told = run(&mut library, text.as_str())?;
-    let moves = told
-        .as_str()
-        .lines()
-        .filter(|line| line.starts_with("cards of"))
-        .count();
-    assert_eq!(&rt; moves, 1);
-    assert!(&rt;
-        told.as_str()
-            .starts_with("ident 25 X Set\ncards of 8 from 1000 by 1998\n")
-    );
+    let moves = lines_with(told.as_str(), "cards of");
+    let front = "ident 25 X Set\ncards of 8 from 1000 by 1998\n";
+    let is_first = told.as_str().starts_with(front);
+    same(&rt, "the moves", &(moves, is_first), &(1, true));
     Ok(())
 }
 
@@ -235,12 +287,8 @@ fn takes_1998_texts_at_one_place_of_48000_cards(rt: HostRuntime) -> Result<(), F
 fn purges_40000_of_48000_cards(rt: HostRuntime) -> Result<(), Fail> {
     let mut library = with_decks(rt.alloc(), 24)?;
     let told = run(&mut library, "*PURGE DECK4,*\n")?;
-    let gone = told
-        .as_str()
-        .lines()
-        .filter(|line| line.starts_with("card "))
-        .count();
-    assert_eq!(&rt; gone, 40_000);
-    assert_eq!(&rt; library.decks().len(), 4);
+    let gone = lines_with(told.as_str(), "card ");
+    let left = library.decks().len();
+    same(&rt, "cards gone, decks left", &(gone, left), &(40_000, 4));
     Ok(())
 }

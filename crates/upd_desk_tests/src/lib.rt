@@ -8,6 +8,8 @@
 mod arrivals;
 #[cfg(test)]
 mod changes;
+#[cfg(test)]
+mod check;
 pub mod dice;
 #[cfg(test)]
 mod keeping;
