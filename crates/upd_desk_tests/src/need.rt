@@ -38,6 +38,20 @@ fn add_holders(library: &Library, card: &CardRef, found: &mut Vec<Age>) -> Resul
     Ok(())
 }
 
+/// The decks that hold the cards of a line are found: whether all decks are needed instead.
+fn needs_all(library: &Library, line: &Line, found: &mut Vec<Serial>) -> Result<bool, Fail> {
+    let Some(cards) = cards_of(line) else {
+        return Ok(true);
+    };
+    for card in cards.iter().flatten() {
+        if has_card(library, library.yanks(), card) {
+            return Ok(true);
+        }
+        add_holders(library, card, found)?;
+    }
+    Ok(false)
+}
+
 /// How many decks a run needs: none where it isn't read, all where it yanks, purges or names a yank card, and
 /// otherwise those that hold a card which it names.
 pub fn decks_needed(library: &Library, text: &str) -> Result<usize, Fail> {
@@ -45,17 +59,10 @@ pub fn decks_needed(library: &Library, text: &str) -> Result<usize, Fail> {
     let Ok(run) = read_run(alloc, text.as_bytes()) else {
         return Ok(0);
     };
-    let all = library.decks().len();
     let mut found = Vec::new(alloc);
     for line in run.lines() {
-        let Some(cards) = cards_of(line) else {
-            return Ok(all);
-        };
-        for card in cards.iter().flatten() {
-            if has_card(library, library.yanks(), card) {
-                return Ok(all);
-            }
-            add_holders(library, card, &mut found)?;
+        if needs_all(library, line, &mut found)? {
+            return Ok(library.decks().len());
         }
     }
     Ok(found.len())

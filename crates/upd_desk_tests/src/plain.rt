@@ -2,7 +2,7 @@
 use crate::need::decks_needed;
 use std::alloc::Global;
 use std::test::Fail;
-use upd_apply::apply;
+use upd_apply::{Applied, apply};
 use upd_compile::{CompileFile, Mode, compile_file};
 use upd_core::ident::name_at;
 use upd_core::{Age, Counted, Ident, Library};
@@ -66,18 +66,29 @@ impl Plain {
         let Some(mode) = Mode::read(sent.mode) else {
             return self.fault("BadMode (25) at 0");
         };
+        if let Some(fault) = self.refused_unread(sent) {
+            return self.fault(fault);
+        }
+        match self.kept_run(sent) {
+            Some(run) => self.again(run, sent),
+            None => self.keep(mode, sent),
+        }
+    }
+
+    /// Why an arrival in a mode is refused before its text is read, if it is.
+    fn refused_unread(&self, sent: Sent<'_>) -> Option<&'static str> {
         if sent.text.len() > 65_536 {
-            return self.fault("RunLong (1) at 0");
+            return Some("RunLong (1) at 0");
         }
         if sent.number <= self.mark(sent.site) {
-            return self.fault("Settled (27) at 0");
+            return Some("Settled (27) at 0");
         }
-        for run in &self.kept {
-            if run.site.as_str() == sent.site && run.number == sent.number {
-                return self.again(run, sent);
-            }
-        }
-        self.keep(mode, sent)
+        None
+    }
+
+    /// The run that came before under the same site and number.
+    fn kept_run(&self, sent: Sent<'_>) -> Option<&Kept> {
+        self.kept.iter().find(|run| run.site.as_str() == sent.site && run.number == sent.number)
     }
 
     fn fault(&self, text: &str) -> Result<String, Fail> {
@@ -93,37 +104,58 @@ impl Plain {
     }
 
     fn keep(&mut self, mode: Mode, sent: Sent<'_>) -> Result<String, Fail> {
-        let alloc = self.alloc();
         let need = decks_needed(&self.library, sent.text)? as u64;
         self.needed = self.needed.saturating_add(need);
-        let answer = match self.run(mode, sent) {
-            Ok(text) => text,
-            Err(fault) => refused_text(alloc, sent, fault)?,
-        };
-        let told = String::from_str(alloc, answer.as_str())?;
-        self.kept.push(Kept {
-            site: String::from_str(alloc, sent.site)?,
-            number: sent.number,
-            mode: String::from_str(alloc, sent.mode)?,
-            text: String::from_str(alloc, sent.text)?,
-            answer,
-        })?;
-        Ok(told)
+        let answer = self.answer(mode, sent)?;
+        let kept = with_answer(self.alloc(), sent, answer.as_str())?;
+        self.kept.push(kept)?;
+        Ok(answer)
+    }
+
+    /// The reply to a run that is new.
+    fn answer(&mut self, mode: Mode, sent: Sent<'_>) -> Result<String, Fail> {
+        match self.run(mode, sent) {
+            Ok(text) => Ok(text),
+            Err(fault) => refused_text(self.alloc(), sent, fault),
+        }
     }
 
     /// Applies a run and compiles it: the reply, or the first refusal.
     fn run(&mut self, mode: Mode, sent: Sent<'_>) -> Result<String, Fault> {
-        let alloc = self.alloc();
-        let run = read_run(alloc, sent.text.as_bytes())?;
-        let mut after = self.library.copy()?;
-        let applied = apply(alloc, &mut after, &run)?;
-        let file = compile_file(alloc, &self.library, &after, mode, &applied.compile)?;
-        let text = accepted_text(alloc, sent, after.idents(), &applied.idents, &file)?;
-        let mut cache = Cache::build(alloc, &self.library)?;
-        cache.settle(&mut Counted::new(&after), &applied)?;
-        self.work = cache.work();
+        let (after, applied) = self.applied(sent.text)?;
+        let text = self.compiled(mode, sent, &after, &applied)?;
+        self.work = self.settled(&after, &applied)?;
         self.library = after;
         Ok(text)
+    }
+
+    /// The library after a run, and what the run tells.
+    fn applied(&self, text: &str) -> Result<(Library, Applied), Fault> {
+        let alloc = self.alloc();
+        let run = read_run(alloc, text.as_bytes())?;
+        let mut after = self.library.copy()?;
+        let applied = apply(alloc, &mut after, &run)?;
+        Ok((after, applied))
+    }
+
+    /// The reply to a run that is accepted, unless its compile file is refused.
+    fn compiled(
+        &self,
+        mode: Mode,
+        sent: Sent<'_>,
+        after: &Library,
+        applied: &Applied,
+    ) -> Result<String, Fault> {
+        let alloc = self.alloc();
+        let file = compile_file(alloc, &self.library, after, mode, &applied.compile)?;
+        accepted_text(alloc, sent, after.idents(), &applied.idents, &file)
+    }
+
+    /// How many cards a cache made anew looks at when it settles a run.
+    fn settled(&self, after: &Library, applied: &Applied) -> Result<u64, Fault> {
+        let mut cache = Cache::build(self.alloc(), &self.library)?;
+        cache.settle(&mut Counted::new(after), applied)?;
+        Ok(cache.work())
     }
 
     /// The mark of a site.
@@ -160,6 +192,17 @@ fn refused_at_door(site: &str, number: u64) -> Option<&'static str> {
     None
 }
 
+/// A run with its answer, to be kept.
+fn with_answer(alloc: Global, sent: Sent<'_>, answer: &str) -> Result<Kept, Fail> {
+    Ok(Kept {
+        site: String::from_str(alloc, sent.site)?,
+        number: sent.number,
+        mode: String::from_str(alloc, sent.mode)?,
+        text: String::from_str(alloc, sent.text)?,
+        answer: String::from_str(alloc, answer)?,
+    })
+}
+
 fn accepted_text(
     alloc: Global,
     sent: Sent<'_>,
@@ -168,51 +211,65 @@ fn accepted_text(
     file: &CompileFile,
 ) -> Result<String, Fault> {
     let mut text = String::from_str(alloc, "{\"compile\":\"")?;
-    for byte in &file.bytes {
-        add_escaped(&mut text, *byte)?;
-    }
+    add_escaped(&mut text, &file.bytes)?;
     text.push_str("\",\"idents\":[")?;
-    let mut comma = "";
-    for age in idents {
-        text.push_str(comma)?;
-        text.push_str("\"")?;
-        add_name(&mut text, directory, *age)?;
-        text.push_str("\"")?;
-        comma = ",";
-    }
+    add_idents(&mut text, directory, idents)?;
+    let end = end_of_accepted(alloc, sent, file.lines)?;
+    text.push_str(end.as_str())?;
+    Ok(text)
+}
+
+/// What stands behind the idents.
+fn end_of_accepted(alloc: Global, sent: Sent<'_>, lines: u32) -> Result<String, Fault> {
     let Sent {
         site,
         number,
         mode,
         ..
     } = sent;
-    let rest = format!(in alloc;
-        "],\"lines\":{},\"mode\":\"{mode}\",\"run\":{number},\"site\":\"{site}\",\"state\":\"accepted\"}}",
-        file.lines
-    )
-    .map_err(|_| FaultKind::NoMemory.without_line())?;
-    text.push_str(rest.as_str())?;
-    Ok(text)
+    format!(in alloc;
+        "],\"lines\":{lines},\"mode\":\"{mode}\",\"run\":{number},\"site\":\"{site}\",\"state\":\"accepted\"}}"
+    ).map_err(|_| FaultKind::NoMemory.without_line())
 }
 
-fn add_name(text: &mut String, directory: &[Ident], age: Age) -> Result<(), Fault> {
-    if let Some(name) = name_at(directory, age) {
-        for byte in name.as_bytes() {
-            add_escaped(text, *byte)?;
+/// Names in quotes, with commas between them.
+fn add_idents(text: &mut String, directory: &[Ident], idents: &[Serial]) -> Result<(), Fault> {
+    let mut before = "\"";
+    for age in idents {
+        text.push_str(before)?;
+        add_name(text, directory, *age)?;
+        text.push_str("\"")?;
+        before = ",\"";
+    }
+    Ok(())
+}
+
+fn add_name(text: &mut String, directory: &[Ident], age: Serial) -> Result<(), Fault> {
+    match name_at(directory, age) {
+        Some(name) => add_escaped(text, name.as_bytes()),
+        None => Ok(()),
+    }
+}
+
+fn add_escaped(text: &mut String, bytes: &[u8]) -> Result<(), Fault> {
+    for byte in bytes {
+        match escape(*byte) {
+            Some(escape) => text.push_str(escape)?,
+            None => text.push(char::from(*byte))?,
         }
     }
     Ok(())
 }
 
-fn add_escaped(text: &mut String, byte: u8) -> Result<(), Fault> {
+/// What stands in a text of JSON for a byte that doesn't stand for itself.
+fn escape(byte: u8) -> Option<&'static str> {
     match byte {
-        b'"' => text.push_str("\\\"")?,
-        b'\\' => text.push_str("\\\\")?,
-        b'\n' => text.push_str("\\n")?,
-        b'\t' => text.push_str("\\t")?,
-        _ => text.push(char::from(byte))?,
+        b'"' => Some("\\\""),
+        b'\\' => Some("\\\\"),
+        b'\n' => Some("\\n"),
+        b'\t' => Some("\\t"),
+        _ => None,
     }
-    Ok(())
 }
 
 fn refused_text(alloc: Global, sent: Sent<'_>, fault: Fault) -> Result<String, Fail> {
