@@ -1,4 +1,5 @@
 //! A desk over a store, beside a desk as a plain program.
+use crate::check::{same_number, same_text};
 use crate::dice::{DECKS, Dice, random_run};
 use crate::plain::{Plain, Sent};
 use std::alloc::Global;
@@ -6,17 +7,29 @@ use std::process::Abort;
 use std::test::Fail;
 use upd_compile::{Mode, compile_file, list_card, list_deck, list_idents, list_yanks};
 use upd_core::{CardRef, Name};
-use upd_desk::{Desk, Reply};
+use upd_desk::Desk;
 use upd_rows::{ListStore, RowStore};
 use upd_text::Fault;
 
 pub const DECK_A: &str = "*DECK A\nONE\nTWO\nTHREE\n";
 
-/// An answer as text.
-fn shown(alloc: Global, answer: Result<Reply, Fault>) -> Result<String, Fail> {
+/// An answer or a listing as text, or its fault.
+fn shown(alloc: Global, answer: Result<Vec<u8>, Fault>) -> Result<String, Fail> {
     match answer {
-        Ok(reply) => Ok(String::from_str(alloc, std::str::from_utf8(&reply.text)?)?),
-        Err(fault) => Ok(format!(in alloc; "{fault}")?),
+        Ok(text) => Ok(String::from_utf8(text)?),
+        Err(fault) => told(alloc, fault),
+    }
+}
+
+fn told(alloc: Global, fault: Fault) -> Result<String, Fail> {
+    Ok(format!(in alloc; "{fault}")?)
+}
+
+/// A mark as text, or its fault.
+fn shown_mark(alloc: Global, mark: Result<u64, Fault>) -> Result<String, Fail> {
+    match mark {
+        Ok(mark) => Ok(format!(in alloc; "{mark}")?),
+        Err(fault) => told(alloc, fault),
     }
 }
 
@@ -24,20 +37,19 @@ fn shown(alloc: Global, answer: Result<Reply, Fault>) -> Result<String, Fail> {
 fn same(
     rt: &impl Abort,
     alloc: Global,
+    what: &str,
     found: Result<Vec<u8>, Fault>,
     wanted: Result<Vec<u8>, Fault>,
 ) -> Result<(), Fail> {
-    let found = listing(alloc, found)?;
-    let wanted = listing(alloc, wanted)?;
-    assert_eq!(rt; found.as_str(), wanted.as_str());
+    let found = shown(alloc, found)?;
+    let wanted = shown(alloc, wanted)?;
+    same_text(rt, what, found.as_str(), wanted.as_str());
     Ok(())
 }
 
-fn listing(alloc: Global, listing: Result<Vec<u8>, Fault>) -> Result<String, Fail> {
-    match listing {
-        Ok(text) => Ok(String::from_str(alloc, std::str::from_utf8(&text)?)?),
-        Err(fault) => Ok(format!(in alloc; "{fault}")?),
-    }
+/// A run is answered as it should be.
+fn same_answer(rt: &impl Abort, sent: Sent<'_>, found: &str, wanted: &str) {
+    assert_eq!(rt; found, wanted, "{sent:?}");
 }
 
 /// A desk with the plain program that it is held to.
@@ -61,31 +73,41 @@ impl<S: RowStore> Pair<S> {
     pub fn arrive(&mut self, rt: &impl Abort, sent: Sent<'_>) -> Result<bool, Fail> {
         self.plain.work = 0;
         let wanted = self.plain.arrive(sent)?;
+        let answer = self.hand_in(sent);
+        let is_reply = answer.is_ok();
+        let answer = shown(self.alloc, answer)?;
+        same_answer(rt, sent, answer.as_str(), wanted.as_str());
+        if is_reply {
+            same_number(rt, sent.text, self.desk.work(), self.plain.work);
+        }
+        Ok(self.plain.work > 0)
+    }
+
+    /// A run arrives at the desk alone: the text of its reply, or its fault.
+    fn hand_in(&mut self, sent: Sent<'_>) -> Result<Vec<u8>, Fault> {
         let Sent {
             site,
             number,
             mode,
             text,
         } = sent;
-        let answer = self
-            .desk
-            .arrive(self.alloc, site, number, mode, text.as_bytes());
-        let is_reply = answer.is_ok();
-        let answer = shown(self.alloc, answer)?;
-        assert_eq!(rt; answer.as_str(), wanted.as_str(), "{sent:?}");
-        if is_reply {
-            assert_eq!(rt; self.desk.work(), self.plain.work, "{sent:?}");
-        }
-        Ok(self.plain.work > 0)
+        self.desk
+            .arrive(self.alloc, site, number, mode, text.as_bytes())
+            .map(|reply| reply.text)
+    }
+
+    /// A run arrives at the desk alone, which answers this.
+    fn answers(&mut self, rt: &impl Abort, sent: Sent<'_>, wanted: &str) -> Result<(), Fail> {
+        let answer = self.hand_in(sent);
+        same_answer(rt, sent, shown(self.alloc, answer)?.as_str(), wanted);
+        Ok(())
     }
 
     fn settle(&mut self, rt: &impl Abort, site: &str, number: u64) -> Result<(), Fail> {
         let wanted = self.plain.settle(site, number)?;
-        let answer = match self.desk.settle_site(self.alloc, site, number) {
-            Ok(mark) => format!(in self.alloc; "{mark}")?,
-            Err(fault) => format!(in self.alloc; "{fault}")?,
-        };
-        assert_eq!(rt; answer.as_str(), wanted.as_str(), "{site:?} {number}");
+        let mark = self.desk.settle_site(self.alloc, site, number);
+        let mark = shown_mark(self.alloc, mark)?;
+        same_text(rt, site, mark.as_str(), wanted.as_str());
         Ok(())
     }
 
@@ -106,6 +128,7 @@ impl<S: RowStore> Pair<S> {
         same(
             rt,
             self.alloc,
+            "the compile file",
             found.map(|file| file.bytes),
             wanted.map(|file| file.bytes),
         )
@@ -118,35 +141,50 @@ impl<S: RowStore> Pair<S> {
         decks: &[&str],
         cards: &[&str],
     ) -> Result<(), Fail> {
-        let alloc = self.alloc;
-        let wanted = list_idents(alloc, &self.plain.library);
-        same(rt, alloc, self.desk.ident_list(alloc), wanted)?;
-        let wanted = list_yanks(alloc, &self.plain.library);
-        same(rt, alloc, self.desk.yank_list(alloc), wanted)?;
+        self.same_idents(rt)?;
+        self.same_yanks(rt)?;
+        self.same_decks(rt, decks)?;
+        self.same_cards(rt, cards)
+    }
+
+    fn same_idents(&mut self, rt: &impl Abort) -> Result<(), Fail> {
+        let found = self.desk.ident_list(self.alloc);
+        let wanted = list_idents(self.alloc, &self.plain.library);
+        same(rt, self.alloc, "the idents", found, wanted)
+    }
+
+    fn same_yanks(&mut self, rt: &impl Abort) -> Result<(), Fail> {
+        let found = self.desk.yank_list(self.alloc);
+        let wanted = list_yanks(self.alloc, &self.plain.library);
+        same(rt, self.alloc, "the yanks", found, wanted)
+    }
+
+    fn same_decks(&mut self, rt: &impl Abort, decks: &[&str]) -> Result<(), Fail> {
         for deck in decks {
             self.same_deck(rt, deck)?;
-        }
-        for card in cards {
-            self.same_card(rt, card)?;
         }
         Ok(())
     }
 
     fn same_deck(&mut self, rt: &impl Abort, deck: &str) -> Result<(), Fail> {
         let name = Name::read(deck.as_bytes()).ok_or("no name")?;
+        let found = self.desk.deck_list(self.alloc, &name);
         let wanted = list_deck(self.alloc, &self.plain.library, &name);
-        same(
-            rt,
-            self.alloc,
-            self.desk.deck_list(self.alloc, &name),
-            wanted,
-        )
+        same(rt, self.alloc, deck, found, wanted)
+    }
+
+    fn same_cards(&mut self, rt: &impl Abort, cards: &[&str]) -> Result<(), Fail> {
+        for card in cards {
+            self.same_card(rt, card)?;
+        }
+        Ok(())
     }
 
     fn same_card(&mut self, rt: &impl Abort, card: &str) -> Result<(), Fail> {
-        let found = self.desk.card_list(self.alloc, card_ref(card)?);
-        let wanted = list_card(self.alloc, &self.plain.library, card_ref(card)?);
-        same(rt, self.alloc, found, wanted)
+        let reference = card_ref(card)?;
+        let found = self.desk.card_list(self.alloc, reference);
+        let wanted = list_card(self.alloc, &self.plain.library, reference);
+        same(rt, self.alloc, card, found, wanted)
     }
 }
 
@@ -158,6 +196,37 @@ const SITES: [&str; 3] = ["LYON", "PARIS", "lyon"];
 
 const MODES: [&str; 4] = ["full", "quick", "normal", "FULL"];
 
+/// The number of a site, a few times of one that is refused.
+fn random_site(dice: &mut Dice) -> u32 {
+    if dice.below(20) == 0 {
+        2
+    } else {
+        dice.below(2)
+    }
+}
+
+/// A seed of its own for each site and number, but for some that are changed.
+fn random_seed(dice: &mut Dice, site: u32, number: u32) -> u32 {
+    let changed = if dice.below(10) == 0 { 1 } else { 0 };
+    site.wrapping_mul(1000)
+        .wrapping_add(number)
+        .wrapping_add(changed)
+}
+
+/// The number of a mode, which goes by the number of the run, but for some.
+fn random_mode(dice: &mut Dice, number: u32) -> u32 {
+    if dice.below(10) == 0 {
+        dice.below(4)
+    } else {
+        number % 3
+    }
+}
+
+/// The word at a place.
+fn word(words: &[&'static str], place: u32) -> &'static str {
+    words.get(place as usize).copied().unwrap_or("")
+}
+
 /// One arrival at random. Numbers are few, so that runs come again; the text goes by the site and the number, but
 /// for some that are changed.
 pub fn random_arrival(
@@ -165,33 +234,46 @@ pub fn random_arrival(
     pair: &mut Pair<impl RowStore>,
     dice: &mut Dice,
 ) -> Result<bool, Fail> {
-    let site = if dice.below(20) == 0 {
-        2
-    } else {
-        dice.below(2)
-    };
+    let site = random_site(dice);
     let number = dice.below(24);
-    let changed = if dice.below(10) == 0 { 1 } else { 0 };
-    let mode = if dice.below(10) == 0 {
-        dice.below(4)
-    } else {
-        number % 3
-    };
-    let seed = site
-        .wrapping_mul(1000)
-        .wrapping_add(number)
-        .wrapping_add(changed);
+    let seed = random_seed(dice, site, number);
+    let mode = random_mode(dice, number);
     let text = random_run(pair.alloc, &mut Dice(seed), number)?;
-    pair.arrive(
-        rt,
-        Sent {
-            site: SITES.get(site as usize).copied().unwrap_or(""),
-            number: u64::from(number),
-            mode: MODES.get(mode as usize).copied().unwrap_or(""),
-            text: text.as_str(),
-        },
-    )
+    let sent = Sent {
+        site: word(&SITES, site),
+        number: u64::from(number),
+        mode: word(&MODES, mode),
+        text: text.as_str(),
+    };
+    pair.arrive(rt, sent)
 }
+
+/// A settlement at random.
+fn random_settlement(
+    rt: &impl Abort,
+    pair: &mut Pair<impl RowStore>,
+    dice: &mut Dice,
+) -> Result<(), Fail> {
+    let site = if dice.below(2) == 0 { "LYON" } else { "PARIS" };
+    pair.settle(rt, site, u64::from(dice.below(12)))
+}
+
+/// A settlement now and then, and else an arrival: whether a run was accepted.
+fn random_step(
+    rt: &impl Abort,
+    pair: &mut Pair<impl RowStore>,
+    dice: &mut Dice,
+) -> Result<bool, Fail> {
+    if dice.below(12) == 0 {
+        random_settlement(rt, pair, dice)?;
+        return Ok(false);
+    }
+    random_arrival(rt, pair, dice)
+}
+
+const LISTED_DECKS: &[&str] = &["P0", "P1", "P2", "S1", "YANK$$$"];
+
+const LISTED_CARDS: &[&str] = &["P0.2", "S3.1", "Q.1"];
 
 /// A list of arrivals and settlements: how many runs were accepted.
 fn random_list(
@@ -201,19 +283,24 @@ fn random_list(
 ) -> Result<u32, Fail> {
     let mut accepted: u32 = 0;
     for _ in 0..12 {
-        if dice.below(12) == 0 {
-            let site = if dice.below(2) == 0 { "LYON" } else { "PARIS" };
-            pair.settle(rt, site, u64::from(dice.below(12)))?;
-        } else if random_arrival(rt, pair, dice)? {
+        if random_step(rt, pair, dice)? {
             accepted = accepted.saturating_add(1);
         }
     }
-    pair.same_listings(
-        rt,
-        &["P0", "P1", "P2", "S1", "YANK$$$"],
-        &["P0.2", "S3.1", "Q.1"],
-    )?;
+    pair.same_listings(rt, LISTED_DECKS, LISTED_CARDS)?;
     pair.same_compile(rt)?;
+    Ok(accepted)
+}
+
+/// Three lists, after each of which the store is handed to another desk: how many runs were accepted.
+fn random_lists(rt: &impl Abort, alloc: Global, dice: &mut Dice) -> Result<u32, Fail> {
+    let mut pair = Pair::new(alloc, ListStore::new(alloc));
+    pair.arrive(rt, base(DECKS))?;
+    let mut accepted: u32 = 0;
+    for _ in 0..3 {
+        accepted = accepted.saturating_add(random_list(rt, &mut pair, dice)?);
+        pair = pair.reopened();
+    }
     Ok(accepted)
 }
 
@@ -228,16 +315,10 @@ pub fn base(text: &str) -> Sent<'_> {
 
 #[test]
 fn answers_200_random_lists_as_the_plain_program(rt: HostRuntime) -> Result<(), Fail> {
-    let alloc = rt.alloc();
     let mut dice = Dice(1973);
     let mut accepted: u32 = 0;
     for _ in 0..200 {
-        let mut pair = Pair::new(alloc, ListStore::new(alloc));
-        pair.arrive(&rt, base(DECKS))?;
-        for _ in 0..3 {
-            accepted = accepted.saturating_add(random_list(&rt, &mut pair, &mut dice)?);
-            pair = pair.reopened();
-        }
+        accepted = accepted.saturating_add(random_lists(&rt, rt.alloc(), &mut dice)?);
     }
     assert!(&rt; accepted > 500, "{accepted}");
     Ok(())
@@ -253,33 +334,26 @@ pub fn lyon<'a>(number: u64, mode: &'a str, text: &'a str) -> Sent<'a> {
     }
 }
 
-/// What arrives at a desk, and its answer.
-fn answers(rt: &impl Abort, alloc: Global, list: &[(Sent<'_>, &str)]) -> Result<(), Fail> {
-    let mut pair = Pair::new(alloc, ListStore::new(alloc));
-    for (sent, wanted) in list {
-        let answer = pair.desk.arrive(
-            alloc,
-            sent.site,
-            sent.number,
-            sent.mode,
-            sent.text.as_bytes(),
-        );
-        let answer = shown(alloc, answer)?;
-        assert_eq!(rt; answer.as_str(), *wanted, "{sent:?}");
-    }
-    Ok(())
-}
-
 #[test]
 fn an_empty_run_is_accepted(rt: HostRuntime) -> Result<(), Fail> {
-    answers(
+    let mut pair = Pair::new(rt.alloc(), ListStore::new(rt.alloc()));
+    pair.answers(
         &rt,
-        rt.alloc(),
-        &[(
-            lyon(1, "quick", ""),
-            "{\"compile\":\"\",\"idents\":[],\"lines\":0,\"mode\":\"quick\",\"run\":1,\"site\":\"LYON\",\"state\":\"accepted\"}",
-        )],
+        lyon(1, "quick", ""),
+        "{\"compile\":\"\",\"idents\":[],\"lines\":0,\"mode\":\"quick\",\"run\":1,\"site\":\"LYON\",\"state\":\"accepted\"}",
     )
+}
+
+/// Runs arrive at a desk one after the other, each with its answer.
+fn each_is_answered(
+    rt: &impl Abort,
+    pair: &mut Pair<impl RowStore>,
+    list: &[(Sent<'_>, &str)],
+) -> Result<(), Fail> {
+    for (sent, wanted) in list {
+        pair.answers(rt, *sent, wanted)?;
+    }
+    Ok(())
 }
 
 const DELETED: &str = "*IDENT X\n*DELETE A.2\n";
@@ -287,54 +361,83 @@ const DELETED: &str = "*IDENT X\n*DELETE A.2\n";
 const UNKNOWN: &str =
     "{\"at\":2,\"fault\":13,\"mode\":\"full\",\"name\":\"CardUnknown\",\"run\":3,\"site\":\"LYON\",\"state\":\"refused\"}";
 
-#[test]
-fn a_refusal_is_kept_and_a_changed_repeat_is_refused(rt: HostRuntime) -> Result<(), Fail> {
-    let alloc = rt.alloc();
-    let mut pair = Pair::new(alloc, ListStore::new(alloc));
-    let answer = shown(
-        alloc,
-        pair.desk
-            .arrive(alloc, "LYON", 3, "full", DELETED.as_bytes()),
-    )?;
-    assert_eq!(&rt; answer.as_str(), UNKNOWN);
-    let answer = shown(
-        alloc,
-        pair.desk
-            .arrive(alloc, "LYON", 4, "full", DECK_A.as_bytes()),
-    )?;
-    assert!(&rt;
+const CHANGED: &str = "RunChanged (26) at 0";
+
+/// A run that brings deck A is accepted.
+fn deck_is_accepted(rt: &impl Abort, pair: &mut Pair<impl RowStore>) -> Result<(), Fail> {
+    let answer = pair.hand_in(lyon(4, "full", DECK_A));
+    let answer = shown(pair.alloc, answer)?;
+    assert!(rt;
         answer.as_str().ends_with("\"state\":\"accepted\"}"),
         "{answer}"
     );
-    let answer = shown(
-        alloc,
-        pair.desk
-            .arrive(alloc, "LYON", 3, "full", DELETED.as_bytes()),
-    )?;
-    assert_eq!(&rt; answer.as_str(), UNKNOWN);
-    let idents = listing(alloc, pair.desk.ident_list(alloc))?;
-    assert_eq!(&rt; idents.as_str(), "1 A deck held\n");
-    let changed = pair
-        .desk
-        .arrive(alloc, "LYON", 3, "full", b"*IDENT X\n*DELETE A.3\n");
-    assert_eq!(&rt; shown(alloc, changed)?.as_str(), "RunChanged (26) at 0");
-    let changed = pair
-        .desk
-        .arrive(alloc, "LYON", 3, "quick", DELETED.as_bytes());
-    assert_eq!(&rt; shown(alloc, changed)?.as_str(), "RunChanged (26) at 0");
+    Ok(())
+}
+
+/// Deck A is the only ident.
+fn holds_deck_alone(rt: &impl Abort, pair: &mut Pair<impl RowStore>) -> Result<(), Fail> {
+    let idents = pair.desk.ident_list(pair.alloc);
+    let idents = shown(pair.alloc, idents)?;
+    same_text(rt, "the idents", idents.as_str(), "1 A deck held\n");
     Ok(())
 }
 
 #[test]
+fn a_refusal_is_kept_and_a_changed_repeat_is_refused(rt: HostRuntime) -> Result<(), Fail> {
+    let mut pair = Pair::new(rt.alloc(), ListStore::new(rt.alloc()));
+    let refused = lyon(3, "full", DELETED);
+    pair.answers(&rt, refused, UNKNOWN)?;
+    deck_is_accepted(&rt, &mut pair)?;
+    pair.answers(&rt, refused, UNKNOWN)?;
+    holds_deck_alone(&rt, &mut pair)?;
+    let changed = [
+        (lyon(3, "full", "*IDENT X\n*DELETE A.3\n"), CHANGED),
+        (lyon(3, "quick", DELETED), CHANGED),
+    ];
+    each_is_answered(&rt, &mut pair, &changed)
+}
+
+const SETTLED: &str = "Settled (27) at 0";
+
+/// A settlement of LYON up to a number leaves this mark.
+fn settles_to(
+    rt: &impl Abort,
+    pair: &mut Pair<impl RowStore>,
+    number: u64,
+    mark: u64,
+) -> Result<(), Fail> {
+    let found = pair.desk.settle_site(pair.alloc, "LYON", number)?;
+    same_number(rt, "the mark", found, mark);
+    Ok(())
+}
+
+/// A mark that runs don't reach yet settles them, and doesn't fall.
+fn settles_ahead(rt: &impl Abort, pair: &mut Pair<impl RowStore>) -> Result<(), Fail> {
+    settles_to(rt, pair, 3, 3)?;
+    pair.answers(rt, lyon(3, "full", ""), SETTLED)?;
+    settles_to(rt, pair, 2, 3)
+}
+
+/// Runs 1 and 2 of LYON, of which the first is settled.
+fn settle_first(
+    rt: &impl Abort,
+    pair: &mut Pair<impl RowStore>,
+    first: Sent<'_>,
+    second: Sent<'_>,
+) -> Result<(), Fail> {
+    pair.arrive(rt, first)?;
+    pair.arrive(rt, second)?;
+    pair.settle(rt, "LYON", 1)
+}
+
+#[test]
 fn a_settled_run_never_acts_again(rt: HostRuntime) -> Result<(), Fail> {
-    let alloc = rt.alloc();
-    let mut pair = Pair::new(alloc, ListStore::new(alloc));
+    let mut pair = Pair::new(rt.alloc(), ListStore::new(rt.alloc()));
+    let first = lyon(1, "full", DECK_A);
     let second = lyon(2, "full", "*IDENT X\n*DELETE A.3\n");
-    pair.arrive(&rt, lyon(1, "full", DECK_A))?;
-    pair.arrive(&rt, second)?;
-    pair.settle(&rt, "LYON", 1)?;
-    answers_with(&rt, &mut pair, lyon(1, "full", DECK_A), "Settled (27) at 0")?;
-    answers_with(&rt, &mut pair, lyon(1, "quick", ""), "Settled (27) at 0")?;
+    settle_first(&rt, &mut pair, first, second)?;
+    let settled = [(first, SETTLED), (lyon(1, "quick", ""), SETTLED)];
+    each_is_answered(&rt, &mut pair, &settled)?;
     pair.arrive(&rt, second)?;
     let paris = Sent {
         site: "PARIS",
@@ -343,25 +446,5 @@ fn a_settled_run_never_acts_again(rt: HostRuntime) -> Result<(), Fail> {
         text: "",
     };
     pair.arrive(&rt, paris)?;
-    assert_eq!(&rt; pair.desk.settle_site(alloc, "LYON", 3)?, 3);
-    answers_with(&rt, &mut pair, lyon(3, "full", ""), "Settled (27) at 0")?;
-    assert_eq!(&rt; pair.desk.settle_site(alloc, "LYON", 2)?, 3);
-    Ok(())
-}
-
-fn answers_with(
-    rt: &impl Abort,
-    pair: &mut Pair<impl RowStore>,
-    sent: Sent<'_>,
-    wanted: &str,
-) -> Result<(), Fail> {
-    let answer = pair.desk.arrive(
-        pair.alloc,
-        sent.site,
-        sent.number,
-        sent.mode,
-        sent.text.as_bytes(),
-    );
-    assert_eq!(rt; shown(pair.alloc, answer)?.as_str(), wanted, "{sent:?}");
-    Ok(())
+    settles_ahead(&rt, &mut pair)
 }
