@@ -1,4 +1,5 @@
 //! Whole command lines over readers and writers in memory.
+use crate::check::{same, same_number};
 use std::alloc::Global;
 use std::io;
 use std::io::{ErrorKind, Read, Write};
@@ -108,10 +109,15 @@ fn run_words(rt: &HostRuntime, words: &[&str], mut run: &[u8]) -> Answer {
     run_input(rt, words, &mut run)
 }
 
+/// The same bytes; `what` names them where they are not.
+fn same_bytes(rt: &impl Abort, what: &str, found: &[u8], wanted: &[u8]) {
+    assert!(rt; found == wanted, "{what}");
+}
+
 fn assert_answer(rt: &impl Abort, found: &Answer, status: u8, output: &[u8], faults: &[u8]) {
-    assert_eq!(rt; found.status, status);
-    assert!(rt; found.output.as_slice() == output);
-    assert!(rt; found.faults.as_slice() == faults);
+    same(rt, "the status", &found.status, &status);
+    same_bytes(rt, "the output", &found.output, output);
+    same_bytes(rt, "the faults", &found.faults, faults);
 }
 
 const INSERTION: &str = "*DECK A\nONE\nTWO\nTHREE\n*IDENT X\n*INSERT A.2\nNEW\n";
@@ -137,10 +143,15 @@ type Case = (
 );
 
 fn check(abort: &impl Abort, rt: &HostRuntime, cases: &[Case]) {
-    for (words, run, status, output, faults) in cases {
-        let found = run_words(rt, words, run.as_bytes());
-        assert_answer(abort, &found, *status, output.as_bytes(), faults.as_bytes());
+    for case in cases {
+        is_answered(abort, rt, *case);
     }
+}
+
+fn is_answered(abort: &impl Abort, rt: &HostRuntime, case: Case) {
+    let (words, run, status, output, faults) = case;
+    let found = run_words(rt, words, run.as_bytes());
+    assert_answer(abort, &found, status, output.as_bytes(), faults.as_bytes());
 }
 
 #[test]
@@ -173,7 +184,7 @@ fn the_mode_is_looked_at_before_the_input(rt: HostRuntime) {
     let mut input = Dribble::new(1);
     let found = run_input(&rt, SLOW, &mut input);
     assert_answer(&rt, &found, 1, b"", b"upd: BadMode (25) at 0\n");
-    assert_eq!(rt; input.reads, 0);
+    same(&rt, "reads", &input.reads, &0);
 }
 
 #[test]
@@ -181,7 +192,7 @@ fn a_run_that_is_too_long_is_not_read_to_its_end(rt: HostRuntime) {
     let mut input = Endless { given: 0 };
     let found = run_input(&rt, FULL, &mut input);
     assert_answer(&rt, &found, 1, b"", b"upd: RunLong (1) at 0\n");
-    assert_eq!(rt; input.given, 65_537);
+    same_number(&rt, "bytes", input.given, 65_537);
 }
 
 #[test]
@@ -262,6 +273,19 @@ Example:
   printf '*DECK A\\nONE\\n' | upd trial full
 ";
 
+/// Words are answered by a text on the output that begins like this, and by nothing else.
+fn writes(abort: &impl Abort, rt: &HostRuntime, words: &[&str], front: &str) {
+    let found = run_words(rt, words, b"");
+    let begins = found.output.starts_with(front.as_bytes());
+    let is_silent = found.faults.is_empty();
+    same(
+        abort,
+        front,
+        &(found.status, is_silent, begins),
+        &(0, true, true),
+    );
+}
+
 #[test]
 fn words_that_ask_for_a_text_get_it_on_the_output(rt: HostRuntime) {
     const CASES: &[Case] = &[
@@ -269,10 +293,8 @@ fn words_that_ask_for_a_text_get_it_on_the_output(rt: HostRuntime) {
         (&["upd", "trial", "--help"], "", 0, TRIAL_HELP, ""),
     ];
     check(&rt, &rt, CASES);
-    let help = run_words(&rt, &["upd", "--help"], b"");
-    let front = b"The desk of a program library\n\nUsage: upd <COMMAND>\n";
-    assert!(rt; help.status == 0 && help.faults.is_empty());
-    assert!(rt; help.output.starts_with(front));
+    let front = "The desk of a program library\n\nUsage: upd <COMMAND>\n";
+    writes(&rt, &rt, &["upd", "--help"], front);
 }
 
 /// The words of each command that ask for its help, and how that begins.
@@ -296,9 +318,7 @@ const ABOUT: &[(&[&str], &str)] = &[
 #[test]
 fn each_command_tells_its_own_help(rt: HostRuntime) {
     for (words, front) in ABOUT {
-        let help = run_words(&rt, words, b"");
-        assert!(rt; help.status == 0 && help.faults.is_empty());
-        assert!(rt; help.output.starts_with(front.as_bytes()));
+        writes(&rt, &rt, words, front);
     }
 }
 
@@ -329,6 +349,19 @@ Usage: upd <COMMAND>
 For more information, try '--help'.
 ";
 
+/// Words are no command line, which is told by a text on the fault stream that begins like this.
+fn complains(abort: &impl Abort, rt: &HostRuntime, words: &[&str], front: &str) {
+    let found = run_words(rt, words, b"");
+    let begins = found.faults.starts_with(front.as_bytes());
+    let is_silent = found.output.is_empty();
+    same(
+        abort,
+        front,
+        &(found.status, is_silent, begins),
+        &(2, true, true),
+    );
+}
+
 #[test]
 fn words_that_are_no_command_line_are_told_on_the_fault_stream(rt: HostRuntime) {
     const CASES: &[Case] = &[
@@ -337,22 +370,37 @@ fn words_that_are_no_command_line_are_told_on_the_fault_stream(rt: HostRuntime) 
         (&["upd", "trail", "full"], "", 2, "", MISSPELT),
     ];
     check(&rt, &rt, CASES);
-    let unread = run_words(&rt, &["upd"], b"");
-    let front = b"error: 'upd' requires a subcommand but one was not provided\n";
-    assert!(rt; unread.status == 2 && unread.output.is_empty());
-    assert!(rt; unread.faults.starts_with(front));
+    let front = "error: 'upd' requires a subcommand but one was not provided\n";
+    complains(&rt, &rt, &["upd"], front);
+}
+
+/// An error of the words has this status and this line.
+fn is_reported(rt: &impl Abort, faults: &mut Vec<u8>, kind: ErrorKind, status: u8, line: &str) {
+    faults.clear();
+    let found = report_words(&io::Error::from(kind), faults);
+    same(rt, line, &found, &status);
+    same_bytes(rt, line, faults, line.as_bytes());
 }
 
 #[test]
 fn words_that_cannot_be_had(rt: HostRuntime) {
     let mut faults = Vec::new(rt.alloc());
-    let status = report_words(&io::Error::from(ErrorKind::InvalidData), &mut faults);
-    let line = b"error: the words of the command line can't be read as text\n";
-    assert!(rt; status == 2 && faults.as_slice() == line.as_slice());
-    faults.clear();
-    let status = report_words(&io::Error::from(ErrorKind::OutOfMemory), &mut faults);
-    let line = b"upd: NoMemory (28) at 0\n";
-    assert!(rt; status == 3 && faults.as_slice() == line.as_slice());
+    let line = "error: the words of the command line can't be read as text\n";
+    is_reported(&rt, &mut faults, ErrorKind::InvalidData, 2, line);
+    let line = "upd: NoMemory (28) at 0\n";
+    is_reported(&rt, &mut faults, ErrorKind::OutOfMemory, 3, line);
+}
+
+/// A trial of a run gives these bytes in so many lines.
+fn is_tried(
+    rt: &impl Abort,
+    alloc: Global,
+    (mode, run, wanted, lines): (Mode, &str, &str, u32),
+) -> Result<(), Fail> {
+    let file = trial(alloc, mode, run.as_bytes())?;
+    same_bytes(rt, run, &file.bytes, wanted.as_bytes());
+    same(rt, "the lines", &file.lines, &lines);
+    Ok(())
 }
 
 #[test]
@@ -361,10 +409,8 @@ fn trials_are_calls(rt: HostRuntime) -> Result<(), Fail> {
         (Mode::Full, INSERTION, INSERTED, 4),
         (Mode::Quick, INSERTION, "", 0),
     ];
-    for (mode, run, wanted, lines) in TRIALS {
-        let file = trial(rt.alloc(), *mode, run.as_bytes())?;
-        assert!(rt; file.bytes.as_slice() == wanted.as_bytes());
-        assert_eq!(rt; file.lines, *lines);
+    for tried in TRIALS {
+        is_tried(&rt, rt.alloc(), *tried)?;
     }
     Ok(())
 }
