@@ -1,4 +1,5 @@
 //! Each edit of a library and each look at it, called directly.
+use crate::check::same;
 use crate::shelf::{Ask, Asked, Shelf};
 use std::alloc::Global;
 use std::process::Abort;
@@ -81,7 +82,7 @@ const BEFORE: &str = "DECK A\nA A.1 *DECK A\nA A.2 ONE\nI X.1 NEW\nA A.3 TWO\n";
 #[test]
 fn decks_get_cards_and_entries(rt: HostRuntime) -> Result<(), Fail> {
     let library = corrected(rt.alloc())?;
-    assert!(rt; library.is_within_limits());
+    same(&rt, "within limits", &library.is_within_limits(), &true);
     const ASKED: Asked = &[
         (Ask::Deck("A"), BEFORE),
         (Ask::Deck("B"), "DECK B\nA B.1 *DECK B\n"),
@@ -144,26 +145,38 @@ fn purges_in_one_deck_and_purges_back(rt: HostRuntime) -> Result<(), Fail> {
     Shelf::new(library).check(&rt, ASKED)
 }
 
-fn check_name(rt: &impl Abort, library: &Library, name: Name, ident: Age, deck: Option<Age>) {
-    assert!(rt; library.ident_of(&name) == Some(ident) && library.deck_of(&name) == deck);
-    assert!(rt; library.held(&name).is_some());
-    assert!(rt; name_at(library.idents(), ident) == Some(name));
+/// A name is that of a held ident, and of a deck or not.
+fn check_name(
+    rt: &impl Abort,
+    library: &Library,
+    text: &str,
+    ident: Serial,
+    deck: Option<Serial>,
+) -> Result<(), Fail> {
+    let name = name(text)?;
+    let found = (library.ident_of(&name), library.deck_of(&name));
+    same(rt, text, &found, &(Some(ident), deck));
+    let is_held = library.held(&name).is_some();
+    let named = name_at(library.idents(), ident);
+    same(rt, text, &(is_held, named), &(true, Some(name)));
+    Ok(())
 }
 
 #[test]
 fn finds_idents_and_decks(rt: HostRuntime) -> Result<(), Fail> {
     let library = corrected(rt.alloc())?;
-    check_name(&rt, &library, name("Y")?, 3, None);
-    check_name(&rt, &library, name("B")?, 4, Some(4));
-    assert!(rt; name_at(library.idents(), 5).is_none());
+    check_name(&rt, &library, "Y", 3, None)?;
+    check_name(&rt, &library, "B", 4, Some(4))?;
+    same(&rt, "ident 5", &name_at(library.idents(), 5), &None);
     Ok(())
 }
 
 #[test]
 fn counts_decks_and_cards(rt: HostRuntime) -> Result<(), Fail> {
     let library = corrected(rt.alloc())?;
-    assert!(rt; library.decks().len() == 2 && library.cards_of(4).len() == 1);
-    assert!(rt; library.rest().cards == 0);
+    let (decks, cards) = (library.decks().len(), library.cards_of(4).len());
+    let counts = [decks, cards, library.rest().cards];
+    same(&rt, "counts", &counts, &[2, 1, 0]);
     Ok(())
 }
 
@@ -177,9 +190,9 @@ fn place(library: &Library, card: &str) -> Result<Option<Place>, Fail> {
 #[test]
 fn finds_cards(rt: HostRuntime) -> Result<(), Fail> {
     let library = corrected(rt.alloc())?;
-    assert_eq!(rt; place(&library, "X.1")?, Some(PLACE));
-    assert_eq!(rt; place(&library, "A.4")?, None);
-    assert!(rt; library.card_in(PLACE).is_some());
+    let places = [place(&library, "X.1")?, place(&library, "A.4")?];
+    same(&rt, "places", &places, &[Some(PLACE), None]);
+    same(&rt, "a card", &library.card(PLACE).is_some(), &true);
     Ok(())
 }
 
@@ -193,25 +206,31 @@ fn live_yank(library: &Library, card: CardRef) -> Result<Option<bool>, Fault> {
     Ok(live.live_yank(card))
 }
 
+/// The status of a card, and whether it is a live yank card.
+fn statuses(library: &Library, card: &str) -> Result<(Option<bool>, Option<bool>), Fail> {
+    let card = card_ref(card)?;
+    Ok((status(library, card)?, live_yank(library, card)?))
+}
+
 #[test]
 fn reads_the_status_off_histories(rt: HostRuntime) -> Result<(), Fail> {
-    const CARDS: &[(&str, Option<bool>, Option<bool>)] = &[
-        ("Y.1", Some(true), Some(true)),
-        ("X.1", Some(false), None),
-        ("A.4", None, None),
+    const CARDS: &[(&str, (Option<bool>, Option<bool>))] = &[
+        ("Y.1", (Some(true), Some(true))),
+        ("X.1", (Some(false), None)),
+        ("A.4", (None, None)),
     ];
     let library = corrected(rt.alloc())?;
-    for (text, active, live) in CARDS {
-        let card = card_ref(text)?;
-        assert_eq!(rt; status(&library, card)?, *active, "{text}");
-        assert_eq!(rt; live_yank(&library, card)?, *live, "{text}");
+    for (card, wanted) in CARDS {
+        same(&rt, card, &statuses(&library, card)?, wanted);
     }
     Ok(())
 }
 
 fn check_taken(rt: &impl Abort, live: &Live<'_>, card: &Card) {
-    assert!(rt; live.is_taken(1, 2) && !live.is_taken(1, 1));
-    assert!(rt; !live.is_good(1, card) && !live.is_active(1, card));
+    let taken = [live.is_taken(1, 2), live.is_taken(1, 1)];
+    same(rt, "taken", &taken, &[true, false]);
+    let active = [live.is_good(1, card), live.is_active(1, card)];
+    same(rt, "active", &active, &[false, false]);
 }
 
 #[test]
@@ -233,7 +252,7 @@ fn line_count(library: &Library, deck: Age) -> Result<u32, Fault> {
 #[test]
 fn compiles_the_active_cards(rt: HostRuntime) -> Result<(), Fail> {
     let library = corrected(rt.alloc())?;
-    assert_eq!(rt; line_count(&library, 1)?, 2);
-    assert_eq!(rt; line_count(&library, 4)?, 0);
+    let lines = [line_count(&library, 1)?, line_count(&library, 4)?];
+    same(&rt, "lines", &lines, &[2, 0]);
     Ok(())
 }
