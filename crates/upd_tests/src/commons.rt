@@ -1,5 +1,6 @@
 //! Common decks, calls, modes and the limits of compile files.
 
+use crate::check::same;
 use crate::parts::Part;
 use crate::shelf::{Ask, Asked, check};
 use std::test::Fail;
@@ -138,8 +139,14 @@ fn cards_without_text_are_listed(rt: HostRuntime) -> Result<(), Fail> {
 
 #[test]
 fn modes_have_names(rt: HostRuntime) {
-    assert!(rt; matches!(Mode::read("full"), Some(Mode::Full)));
-    assert!(rt; matches!(Mode::read("quick"), Some(Mode::Quick)));
-    assert!(rt; matches!(Mode::read("normal"), Some(Mode::Normal)));
-    assert!(rt; Mode::read("Full").is_none() && Mode::read("").is_none());
+    const NAMES: &[(&str, Option<Mode>)] = &[
+        ("full", Some(Mode::Full)),
+        ("quick", Some(Mode::Quick)),
+        ("normal", Some(Mode::Normal)),
+        ("Full", None),
+        ("", None),
+    ];
+    for (name, mode) in NAMES {
+        same(&rt, name, &Mode::read(name), mode);
+    }
 }
