@@ -1,6 +1,8 @@
 //! Names, card references, lines and whole runs, as they are read.
+use crate::check::{same, same_text};
 use crate::parts::text;
 use std::alloc::Global;
+use std::process::Abort;
 use std::test::Fail;
 use upd_deck::{Item, Span, read_run};
 use upd_text::line::{called, fields, is_call, is_comment, is_starred, split_once, word};
@@ -8,12 +10,17 @@ use upd_text::{CardRef, Name};
 
 const NO_NAMES: &[&str] = &["", "*", "ABCDEFGHIJ", "a", "A.B"];
 
+/// Whether a text is read as a name.
+fn is_name(text: &str) -> bool {
+    Name::read(text.as_bytes()).is_some()
+}
+
 #[test]
 fn names_have_one_to_nine_bytes(rt: HostRuntime) -> Result<(), Fail> {
     let name = Name::read(b"Z+-*/()$=").ok_or("a name of nine bytes")?;
-    assert!(rt; name.as_bytes() == b"Z+-*/()$=".as_slice());
+    same_text(&rt, "nine bytes", text(name.as_bytes())?, "Z+-*/()$=");
     for text in NO_NAMES {
-        assert!(rt; Name::read(text.as_bytes()).is_none(), "{text}");
+        same(&rt, text, &is_name(text), &false);
     }
     Ok(())
 }
@@ -43,14 +50,19 @@ const NO_CARDS: &[&str] = &[
 fn card_references_are_written_as_they_were_read(rt: HostRuntime) -> Result<(), Fail> {
     let card = CardRef::read(b"DECK1.999999").ok_or("a card")?;
     let text = format!(in rt.alloc(); "{card}")?;
-    assert_eq!(rt; text.as_str(), "DECK1.999999");
+    same_text(&rt, "a card", text.as_str(), "DECK1.999999");
     Ok(())
+}
+
+/// Whether a text is read as a card reference.
+fn is_card(text: &str) -> bool {
+    CardRef::read(text.as_bytes()).is_some()
 }
 
 #[test]
 fn card_references_have_a_name_and_a_number(rt: HostRuntime) {
     for text in NO_CARDS {
-        assert!(rt; CardRef::read(text.as_bytes()).is_none(), "{text}");
+        same(&rt, text, &is_card(text), &false);
     }
 }
 
@@ -106,7 +118,7 @@ const LINES: &[(&str, &str)] = &[
 fn lines_have_words_and_fields(rt: HostRuntime) -> Result<(), Fail> {
     for (line, wanted) in LINES {
         let told = told(rt.alloc(), line.as_bytes())?;
-        assert_eq!(rt; told.as_str(), *wanted, "{line}");
+        same_text(&rt, line, told.as_str(), wanted);
     }
     Ok(())
 }
@@ -114,8 +126,10 @@ fn lines_have_words_and_fields(rt: HostRuntime) -> Result<(), Fail> {
 #[test]
 fn texts_are_split_at_the_first(rt: HostRuntime) -> Result<(), Fail> {
     let (before, behind) = split_once(b"A.B.C", b'.').ok_or("a point")?;
-    assert!(rt; before == b"A".as_slice() && behind == b"B.C".as_slice());
-    assert!(rt; split_once(b"A", b'.').is_none());
+    let wanted = (b"A".as_slice(), b"B.C".as_slice());
+    same(&rt, "the two", &(before, behind), &wanted);
+    let is_split = split_once(b"A", b'.').is_some();
+    same(&rt, "no point", &is_split, &false);
     Ok(())
 }
 
@@ -123,17 +137,20 @@ fn texts_are_split_at_the_first(rt: HostRuntime) -> Result<(), Fail> {
 fn item_name(item: &Item) -> &'static str {
     match item {
         Item::Text => "text",
-        Item::Ident(name) if name.as_bytes() == b"X".as_slice() => "ident X",
-        Item::Delete { first, last } if first.number == 2 && last.number == 3 => "delete 2 to 3",
+        Item::Ident(name) => name_if(name.as_bytes() == b"X".as_slice(), "ident X"),
+        Item::Delete { first, last } => {
+            name_if((first.number, last.number) == (2, 3), "delete 2 to 3")
+        }
         Item::PurgeFrom(_) => "purge from",
-        Item::Yank(ranges) if ranges.len() == 2 => "yank two",
-        Item::SelYank(idents) if idents.len() == 1 => "selyank one",
-        Item::CommonDeck {
-            name: _,
-            noprop: true,
-        } => "common deck, noprop",
+        Item::Yank(ranges) => name_if(ranges.len() == 2, "yank two"),
+        Item::SelYank(idents) => name_if(idents.len() == 1, "selyank one"),
+        Item::CommonDeck { name: _, noprop } => name_if(*noprop, "common deck, noprop"),
         _ => "another",
     }
+}
+
+fn name_if(is_it: bool, name: &'static str) -> &'static str {
+    if is_it { name } else { "another" }
 }
 
 /// The lines of a run, each with its number and span.
@@ -183,7 +200,7 @@ common deck, noprop
 fn runs_are_read_line_by_line(rt: HostRuntime) -> Result<(), Fail> {
     let told = told_lines(rt.alloc(), THREE_LINES.as_bytes())?;
     let wanted = "1 0..13 *ID X cleanup\n3 25..33 *IDENT\tY\n4 34..39 last\t\n";
-    assert_eq!(rt; told.as_str(), wanted);
+    same_text(&rt, "the lines", told.as_str(), wanted);
     Ok(())
 }
 
@@ -195,7 +212,7 @@ fn fields_are_read_by_their_word(rt: HostRuntime) -> Result<(), Fail> {
     ];
     for (run, wanted) in RUNS {
         let told = told_items(rt.alloc(), run.as_bytes())?;
-        assert_eq!(rt; told.as_str(), *wanted, "{run}");
+        same_text(&rt, run, told.as_str(), wanted);
     }
     Ok(())
 }
@@ -231,15 +248,23 @@ const REFUSED: &[(&str, &str)] = &[
 fn faulty_lines_are_refused(rt: HostRuntime) -> Result<(), Fail> {
     for (run, wanted) in REFUSED {
         let refusal = refusal(rt.alloc(), run.as_bytes())?;
-        assert_eq!(rt; refusal.as_str(), *wanted, "{run}");
+        same_text(&rt, run, refusal.as_str(), wanted);
     }
     Ok(())
 }
 
-/// The fault of a run of so many bytes that are all the same.
-fn repeated_refusal(alloc: Global, count: usize, byte: u8) -> Result<String, Fail> {
+/// A run of so many bytes that are all the same has this fault.
+fn is_refused(
+    rt: &impl Abort,
+    alloc: Global,
+    count: usize,
+    byte: u8,
+    wanted: &str,
+) -> Result<(), Fail> {
     let run = vec![in alloc; byte; count]?;
-    refusal(alloc, &run)
+    let refusal = refusal(alloc, &run)?;
+    same_text(rt, "a long run", refusal.as_str(), wanted);
+    Ok(())
 }
 
 #[test]
@@ -252,8 +277,7 @@ fn lines_have_80_bytes_and_runs_2000_lines_and_65536_bytes(rt: HostRuntime) -> R
         (65_537, b'\n', "RunLong (1) at 0"),
     ];
     for (count, byte, wanted) in RUNS {
-        let refusal = repeated_refusal(rt.alloc(), *count, *byte)?;
-        assert_eq!(rt; refusal.as_str(), *wanted);
+        is_refused(&rt, rt.alloc(), *count, *byte, wanted)?;
     }
     Ok(())
 }
