@@ -1,4 +1,5 @@
 //! A desk over lists that keeps a library of 500 cards: what `bench/apply.py` times.
+use crate::check::{same, same_number};
 use std::alloc::Global;
 use std::process::Abort;
 use std::test::Fail;
@@ -10,19 +11,29 @@ fn ten_decks(alloc: Global) -> Result<String, Fail> {
     let mut text = String::new(alloc);
     for deck in 0..10_u32 {
         write!(text, "*DECK DECK{deck}\n")?;
-        for line in 2..51_u32 {
-            write!(text, "LINE {line}\n")?;
-        }
+        add_lines(&mut text)?;
     }
     Ok(text)
+}
+
+/// The lines of the 49 cards behind the first one of a deck.
+fn add_lines(text: &mut String) -> Result<(), Fail> {
+    for line in 2..51_u32 {
+        write!(text, "LINE {line}\n")?;
+    }
+    Ok(())
+}
+
+/// A run was accepted, and so many cards were looked at for it.
+fn is_accepted(rt: &impl Abort, desk: &Desk<ListStore>, reply: &Reply, work: u64) {
+    same(rt, "work", &(reply.accepted, desk.work()), &(true, work));
 }
 
 fn with_500_cards(rt: &impl Abort, alloc: Global) -> Result<Desk<ListStore>, Fail> {
     let mut desk = Desk::open(ListStore::new(alloc));
     let text = ten_decks(alloc)?;
     let reply = desk.arrive(alloc, "BASE", 1, "normal", text.as_bytes())?;
-    assert!(rt; reply.accepted);
-    assert_eq!(rt; desk.work(), 500);
+    is_accepted(rt, &desk, &reply, 500);
     Ok(desk)
 }
 
@@ -34,6 +45,20 @@ fn replace(desk: &mut Desk<ListStore>, alloc: Global, number: u32) -> Result<Rep
     Ok(desk.arrive(alloc, "LYON", u64::from(number), "quick", text.as_bytes())?)
 }
 
+/// Replacements by the runs from 1 to a number.
+fn replace_each(
+    rt: &impl Abort,
+    desk: &mut Desk<ListStore>,
+    alloc: Global,
+    runs: u32,
+) -> Result<(), Fail> {
+    for number in 1..=runs {
+        let reply = replace(desk, alloc, number)?;
+        is_accepted(rt, desk, &reply, 2);
+    }
+    Ok(())
+}
+
 fn replaced(
     rt: &impl Abort,
     alloc: Global,
@@ -41,16 +66,10 @@ fn replaced(
     repeats: u32,
 ) -> Result<Desk<ListStore>, Fail> {
     let mut desk = with_500_cards(rt, alloc)?;
-    for number in 0..runs {
-        let number = number.saturating_add(1);
-        let reply = replace(&mut desk, alloc, number)?;
-        assert!(rt; reply.accepted, "{number}");
-        assert_eq!(rt; desk.work(), 2, "{number}");
-    }
+    replace_each(rt, &mut desk, alloc, runs)?;
     for _ in 0..repeats {
         let reply = replace(&mut desk, alloc, 1)?;
-        assert!(rt; reply.accepted);
-        assert_eq!(rt; desk.work(), 0);
+        is_accepted(rt, &desk, &reply, 0);
     }
     Ok(desk)
 }
@@ -76,9 +95,9 @@ fn answers_10000_repeats_of_one_of_50_runs(rt: HostRuntime) -> Result<(), Fail> 
 #[test]
 fn settles_5000_times(rt: HostRuntime) -> Result<(), Fail> {
     let mut desk = replaced(&rt, rt.alloc(), 50, 0)?;
-    for number in 0..5000_u64 {
-        let number = number.saturating_add(1);
-        assert_eq!(&rt; desk.settle_site(rt.alloc(), "LYON", number)?, number);
+    for number in 1..=5000_u64 {
+        let mark = desk.settle_site(rt.alloc(), "LYON", number)?;
+        same_number(&rt, "the mark", mark, number);
     }
     Ok(())
 }
