@@ -26,15 +26,19 @@ pub fn text(bytes: &[u8]) -> Result<&str, Fail> {
 pub fn text_of(alloc: Global, parts: &[Part<'_>]) -> Result<String, Fail> {
     let mut text = String::new(alloc);
     for part in parts {
-        match *part {
-            Part::Line(line) => push_times(&mut text, 1, line)?,
-            Part::Times(count, line) => push_times(&mut text, count, line)?,
-            Part::Idents(first, last) => push_idents(&mut text, first, last)?,
-            Part::Deletions(count) => push_deletions(&mut text, count)?,
-            Part::Chain(first, last, calls) => push_chain(&mut text, first, last, calls)?,
-        }
+        push_part(&mut text, *part)?;
     }
     Ok(text)
+}
+
+fn push_part(text: &mut String, part: Part<'_>) -> Result<(), Fail> {
+    match part {
+        Part::Line(line) => push_times(text, 1, line),
+        Part::Times(count, line) => push_times(text, count, line),
+        Part::Idents(first, last) => push_idents(text, first, last),
+        Part::Deletions(count) => push_deletions(text, count),
+        Part::Chain(first, last, calls) => push_chain(text, first, last, calls),
+    }
 }
 
 fn push_times(text: &mut String, count: u32, line: &str) -> Result<(), Fail> {
@@ -61,10 +65,15 @@ fn push_deletions(text: &mut String, count: u32) -> Result<(), Fail> {
 fn push_chain(text: &mut String, first: u32, last: u32, calls: u32) -> Result<(), Fail> {
     for n in first..=last {
         write!(text, "*COMDECK C{n}\n")?;
-        let next = n.saturating_add(1);
-        for _ in 0..calls {
-            write!(text, "*CALL C{next}\n")?;
-        }
+        push_calls(text, n.saturating_add(1), calls)?;
+    }
+    Ok(())
+}
+
+/// So many calls of a common deck.
+fn push_calls(text: &mut String, called: u32, calls: u32) -> Result<(), Fail> {
+    for _ in 0..calls {
+        write!(text, "*CALL C{called}\n")?;
     }
     Ok(())
 }

@@ -65,7 +65,7 @@ impl Shelf {
     pub fn check(&mut self, rt: &impl Abort, asked: &[(Ask<'_>, &str)]) -> Result<(), Fail> {
         for (ask, wanted) in asked {
             let answer = self.answer(*ask)?;
-            assert_eq!(rt; answer.as_str(), *wanted, "{ask:?}");
+            same_answer(rt, *ask, answer.as_str(), wanted);
         }
         Ok(())
     }
@@ -153,6 +153,10 @@ impl Shelf {
         purge_back(&mut self.library, age);
         Ok(String::new(self.alloc()))
     }
+}
+
+fn same_answer(rt: &impl Abort, ask: Ask<'_>, found: &str, wanted: &str) {
+    assert_eq!(rt; found, wanted, "{ask:?}");
 }
 
 fn told(alloc: Global, fault: Fault) -> Result<String, Fail> {
