@@ -1,12 +1,13 @@
 //! Settlings at the limits of a library: what `bench/apply.py` times.
 use crate::changes::with_decks;
+use crate::check::same;
 use std::alloc::Global;
 use std::collections::BTreeMap;
 use std::process::Abort;
 use std::test::Fail;
 use upd_apply::{Applied, apply};
 use upd_core::ident::name_at;
-use upd_core::{Card, CardRef, Counted, Library};
+use upd_core::{Card, CardRef, Counted, Deck, Library};
 use upd_deck::read_run;
 use upd_yank::Cache;
 
@@ -30,6 +31,28 @@ fn deletions(alloc: Global, set: u32, count: u32) -> Result<String, Fail> {
     Ok(text)
 }
 
+/// A run of so many deletions: as many cards are touched.
+fn delete(rt: &impl Abort, library: &mut Library, set: u32, lines: u32) -> Result<Applied, Fail> {
+    let text = deletions(library.allocator(), set, lines)?;
+    let done = applied(library, text.as_str())?;
+    same(rt, "touched", &done.touched.len(), &(lines as usize));
+    Ok(done)
+}
+
+/// A run of so many deletions is settled: as many cards are told and looked at.
+fn settle(
+    rt: &impl Abort,
+    cache: &mut Cache,
+    library: &Library,
+    done: &Applied,
+    lines: u32,
+) -> Result<(), Fail> {
+    let told = cache.settle(&mut Counted::new(library), done)?;
+    let wanted = (lines as usize, u64::from(lines));
+    same(rt, "told, work", &(told.len(), cache.work()), &wanted);
+    Ok(())
+}
+
 /// Runs of so many deletions on 48,000 cards, each settled where this is asked.
 fn settled(
     rt: &impl Abort,
@@ -41,13 +64,9 @@ fn settled(
     let mut library = with_decks(alloc, 24)?;
     let mut cache = Cache::build(alloc, &library)?;
     for set in 0..runs {
-        let text = deletions(alloc, set, lines)?;
-        let done = applied(&mut library, text.as_str())?;
-        assert_eq!(rt; done.touched.len(), lines as usize);
+        let done = delete(rt, &mut library, set, lines)?;
         if settles {
-            let told = cache.settle(&mut Counted::new(&library), &done)?;
-            assert_eq!(rt; told.len(), lines as usize);
-            assert_eq!(rt; cache.work(), u64::from(lines));
+            settle(rt, &mut cache, &library, &done, lines)?;
         }
     }
     Ok(())
@@ -81,20 +100,40 @@ fn reference(library: &Library, card: &Card) -> Result<CardRef, Fail> {
     })
 }
 
-/// The statuses of 48,000 cards by card, as a cache keeps them, copied so many times.
-fn copied(rt: &impl Abort, alloc: Global, copies: u32) -> Result<(), Fail> {
-    let library = with_decks(alloc, 24)?;
-    let cache = Cache::build(alloc, &library)?;
+type Statuses = BTreeMap<CardRef, bool>;
+
+/// The statuses of a deck's cards come to the others.
+fn add_statuses(
+    statuses: &mut Statuses,
+    library: &Library,
+    cache: &Cache,
+    deck: &Deck,
+) -> Result<(), Fail> {
+    for card in &deck.cards {
+        let card = reference(library, card)?;
+        let active = cache.active(card).ok_or("no status")?;
+        statuses.insert(card, active)?;
+    }
+    Ok(())
+}
+
+/// The statuses of a library's cards by card, as a cache keeps them.
+fn statuses_of(alloc: Global, library: &Library) -> Result<Statuses, Fail> {
+    let cache = Cache::build(alloc, library)?;
     let mut statuses = BTreeMap::new(alloc);
     for deck in library.decks() {
-        for card in &deck.cards {
-            let active = cache.active(reference(&library, card)?).ok_or("no status")?;
-            statuses.insert(reference(&library, card)?, active)?;
-        }
+        add_statuses(&mut statuses, library, &cache, deck)?;
     }
+    Ok(statuses)
+}
+
+/// The statuses of 48,000 cards, copied so many times.
+fn copied(rt: &impl Abort, alloc: Global, copies: u32) -> Result<(), Fail> {
+    let library = with_decks(alloc, 24)?;
+    let statuses = statuses_of(alloc, &library)?;
     for _ in 0..copies {
         let copy = statuses.clone()?;
-        assert_eq!(rt; copy.len(), 48_000);
+        same(rt, "the statuses", &copy.len(), &48_000);
     }
     Ok(())
 }
@@ -115,25 +154,41 @@ fn first_line(cache: &Cache) -> Result<Option<bool>, Fail> {
     Ok(cache.active(card))
 }
 
-/// 900 sets, each of which yanks the one before it, settled one by one; then the last is taken back and put in force
-/// again so many times.
-fn chain(rt: &impl Abort, alloc: Global, turns: u32) -> Result<(), Fail> {
-    let mut library = Library::new(alloc);
-    applied(&mut library, "*DECK A\nONE\nTWO\nTHREE\n")?;
-    applied(&mut library, "*IDENT X\n*DELETE A.2\n")?;
+/// A run of 900 sets, each of which yanks the one before it; the first yanks X.
+fn yanks_in_a_row(alloc: Global) -> Result<String, Fail> {
     let mut text = String::from_str(alloc, "*IDENT Y1\n*YANK X\n")?;
     for n in 1..900_u32 {
         write!(text, "*IDENT Y{}\n*YANK Y{n}\n", n.saturating_add(1))?;
     }
-    applied(&mut library, text.as_str())?;
+    Ok(text)
+}
+
+/// Deck A, whose first line is deleted, and behind it 900 yanks in a row.
+fn yanked(alloc: Global) -> Result<Library, Fail> {
+    let mut library = Library::new(alloc);
+    applied(&mut library, "*DECK A\nONE\nTWO\nTHREE\n")?;
+    applied(&mut library, "*IDENT X\n*DELETE A.2\n")?;
+    applied(&mut library, yanks_in_a_row(alloc)?.as_str())?;
+    Ok(library)
+}
+
+/// The last yank is taken back in even turns, and put in force again in odd ones.
+fn turn_last(library: &mut Library, turn: u32) -> Result<Applied, Fail> {
+    let line = if turn % 2 == 0 { "*DELETE" } else { "*RESTORE" };
+    let text = format!(in library.allocator(); "*IDENT W{turn}\n{line} Y900.1\n")?;
+    applied(library, text.as_str())
+}
+
+/// 900 sets, each of which yanks the one before it, settled one by one; then the last is taken back and put in force
+/// again so many times.
+fn chain(rt: &impl Abort, alloc: Global, turns: u32) -> Result<(), Fail> {
+    let mut library = yanked(alloc)?;
     let mut cache = Cache::build(alloc, &library)?;
     for turn in 0..turns {
-        let line = if turn % 2 == 0 { "*DELETE" } else { "*RESTORE" };
-        let text = format!(in alloc; "*IDENT W{turn}\n{line} Y900.1\n")?;
-        let done = applied(&mut library, text.as_str())?;
+        let done = turn_last(&mut library, turn)?;
         cache.settle(&mut Counted::new(&library), &done)?;
-        assert_eq!(rt; cache.work(), 901);
-        assert_eq!(rt; first_line(&cache)?, Some(turn % 2 == 0));
+        let found = (cache.work(), first_line(&cache)?);
+        same(rt, "a turn", &found, &(901, Some(turn % 2 == 0)));
     }
     Ok(())
 }
