@@ -39,7 +39,7 @@ fn add_holders(library: &Library, card: &CardRef, found: &mut Vec<Age>) -> Resul
 }
 
 /// The decks that hold the cards of a line are found: whether all decks are needed instead.
-fn needs_all(library: &Library, line: &Line, found: &mut Vec<Serial>) -> Result<bool, Fail> {
+fn needs_all(library: &Library, line: &Line, found: &mut Vec<Age>) -> Result<bool, Fail> {
     let Some(cards) = cards_of(line) else {
         return Ok(true);
     };

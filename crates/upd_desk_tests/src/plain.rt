@@ -233,7 +233,7 @@ fn end_of_accepted(alloc: Global, sent: Sent<'_>, lines: u32) -> Result<String, 
 }
 
 /// Names in quotes, with commas between them.
-fn add_idents(text: &mut String, directory: &[Ident], idents: &[Serial]) -> Result<(), Fault> {
+fn add_idents(text: &mut String, directory: &[Ident], idents: &[Age]) -> Result<(), Fault> {
     let mut before = "\"";
     for age in idents {
         text.push_str(before)?;
@@ -244,7 +244,7 @@ fn add_idents(text: &mut String, directory: &[Ident], idents: &[Serial]) -> Resu
     Ok(())
 }
 
-fn add_name(text: &mut String, directory: &[Ident], age: Serial) -> Result<(), Fault> {
+fn add_name(text: &mut String, directory: &[Ident], age: Age) -> Result<(), Fault> {
     match name_at(directory, age) {
         Some(name) => add_escaped(text, name.as_bytes()),
         None => Ok(()),

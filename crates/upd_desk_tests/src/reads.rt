@@ -6,7 +6,7 @@ use crate::plain::Sent;
 use std::alloc::Global;
 use std::process::Abort;
 use std::test::Fail;
-use upd_core::{Actives, Library, Serial};
+use upd_core::{Actives, Age, Library};
 use upd_desk::Desk;
 use upd_row_tests::named::{compiled, named};
 use upd_rows::{ListStore, RowStore};
@@ -205,7 +205,7 @@ fn renews<S: RowStore>(
 }
 
 /// The decks that hold one of two cards, of which one is in no deck.
-fn decks_of_cards<S: RowStore>(alloc: Global, store: &mut S) -> Result<Vec<Serial>, Fail> {
+fn decks_of_cards<S: RowStore>(alloc: Global, store: &mut S) -> Result<Vec<Age>, Fail> {
     Ok(store.decks_of(alloc, &[card_ref("B.2")?, card_ref("Q.1")?])?)
 }
 

@@ -150,8 +150,8 @@ fn check_name(
     rt: &impl Abort,
     library: &Library,
     text: &str,
-    ident: Serial,
-    deck: Option<Serial>,
+    ident: Age,
+    deck: Option<Age>,
 ) -> Result<(), Fail> {
     let name = name(text)?;
     let found = (library.ident_of(&name), library.deck_of(&name));
@@ -192,7 +192,7 @@ fn finds_cards(rt: HostRuntime) -> Result<(), Fail> {
     let library = corrected(rt.alloc())?;
     let places = [place(&library, "X.1")?, place(&library, "A.4")?];
     same(&rt, "places", &places, &[Some(PLACE), None]);
-    same(&rt, "a card", &library.card(PLACE).is_some(), &true);
+    same(&rt, "a card", &library.card_in(PLACE).is_some(), &true);
     Ok(())
 }
 
