@@ -103,17 +103,30 @@ fn a_silent_client_is_not_waited_for_for_ever(rt: HostRuntime) -> Result<(), Fai
     reads(&rt, rt.alloc(), client, "")
 }
 
-/// A clock that goes on by two minutes whenever it is read.
+/// A clock that goes on by some seconds whenever it is read, behind some first readings.
 #[derive(Drop)]
-struct Hasty {
+struct Ticking {
     readings: Cell<u64>,
+    still: u64,
+    step: u64,
 }
 
-impl Clock for Hasty {
+impl Ticking {
+    fn new(still: u64, step: u64) -> Ticking {
+        Ticking {
+            readings: Cell::new(0),
+            still,
+            step,
+        }
+    }
+}
+
+impl Clock for Ticking {
     fn monotonic(&self) -> io::Result<Duration> {
         let readings = self.readings.get().saturating_add(1);
         self.readings.set(readings);
-        Ok(Duration::from_secs(readings.saturating_mul(120)))
+        let ticks = readings.saturating_sub(self.still);
+        Ok(Duration::from_secs(ticks.saturating_mul(self.step)))
     }
 
     fn since_1970(&self) -> io::Result<Duration> {
@@ -121,21 +134,60 @@ impl Clock for Hasty {
     }
 }
 
+/// A client reads nothing, and then the connection's end.
+fn reads_nothing(rt: &impl Abort, alloc: Global, mut client: TcpStream) {
+    let mut answer = Vec::new(alloc);
+    let _ = client.read_to_end(&mut answer);
+    assert!(rt; answer.is_empty());
+}
+
 /// A client that isn't done after two minutes is given up, and its run isn't kept: the key is free for another one.
 #[test]
 fn a_slow_client_is_given_up(rt: HostRuntime) -> Result<(), Fail> {
-    let alloc = rt.alloc();
-    let mut desk = empty_desk(alloc);
+    let mut desk = empty_desk(rt.alloc());
     let listener = TcpListener::bind(&rt, "127.0.0.1:0")?;
     let mut client = TcpStream::connect(&rt, listener.local_addr()?)?;
     client.write_all(QUICK.as_bytes())?;
-    let clock = Hasty {
-        readings: Cell::new(0),
-    };
-    serve_on(alloc, &clock, &listener, 1, &mut desk)?;
-    let mut answer = Vec::new(alloc);
-    let _ = client.read_to_end(&mut answer);
-    assert!(&rt; answer.is_empty());
-    desk.arrive(alloc, "LYON", 1, "full", b"")?;
+    serve_on(rt.alloc(), &Ticking::new(0, 120), &listener, 1, &mut desk)?;
+    reads_nothing(&rt, rt.alloc(), client);
+    desk.arrive(rt.alloc(), "LYON", 1, "full", b"")?;
+    Ok(())
+}
+
+/// A client whose time is up behind its request isn't answered. Its run is kept: the key is that run's.
+#[test]
+fn a_client_that_takes_its_answer_late_is_given_up(rt: HostRuntime) -> Result<(), Fail> {
+    let mut desk = empty_desk(rt.alloc());
+    let listener = TcpListener::bind(&rt, "127.0.0.1:0")?;
+    let client = client_with(&rt, listener.local_addr()?, QUICK.as_bytes())?;
+    serve_on(rt.alloc(), &Ticking::new(2, 120), &listener, 1, &mut desk)?;
+    reads_nothing(&rt, rt.alloc(), client);
+    assert!(rt; desk.arrive(rt.alloc(), "LYON", 1, "full", b"").is_err());
+    Ok(())
+}
+
+/// Clients that each have sent the same request.
+fn clients_with(
+    rt: &HostRuntime,
+    address: SocketAddr,
+    count: usize,
+) -> Result<Vec<TcpStream>, Fail> {
+    let mut clients = Vec::new(rt.alloc());
+    for _ in 0..count {
+        clients.push(client_with(rt, address, QUICK.as_bytes())?)?;
+    }
+    Ok(clients)
+}
+
+/// Each connection has two minutes of its own: four of them that take forty seconds and more are all served.
+#[test]
+fn each_connection_has_its_own_time(rt: HostRuntime) -> Result<(), Fail> {
+    let listener = TcpListener::bind(&rt, "127.0.0.1:0")?;
+    let clients = clients_with(&rt, listener.local_addr()?, 4)?;
+    let mut desk = empty_desk(rt.alloc());
+    serve_on(rt.alloc(), &Ticking::new(0, 20), &listener, 4, &mut desk)?;
+    for client in clients {
+        reads(&rt, rt.alloc(), client, QUICK_ANSWER)?;
+    }
     Ok(())
 }

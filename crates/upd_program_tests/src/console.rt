@@ -1,4 +1,5 @@
 //! A command line, what it reads, and what it answers.
+use std::io::Read;
 use std::process::Abort;
 use std::test::Fail;
 use std::{env, fs, process};
@@ -29,12 +30,12 @@ pub struct Answer {
 }
 
 /// The answer to the words of a command line behind the program's name, over this input.
-pub fn ask(rt: &HostRuntime, words: &[&str], mut input: &[u8]) -> Result<Answer, Fail> {
+pub fn ask<R: Read>(rt: &HostRuntime, words: &[&str], input: &mut R) -> Result<Answer, Fail> {
     let mut line = Vec::new(rt.alloc());
     line.push("upd")?;
     line.extend_from_slice(words)?;
     let (mut output, mut faults) = (Vec::new(rt.alloc()), Vec::new(rt.alloc()));
-    let status = run_command(rt, &line, &mut input, &mut output, &mut faults);
+    let status = run_command(rt, &line, input, &mut output, &mut faults);
     Ok(Answer {
         status,
         output,
@@ -42,29 +43,56 @@ pub fn ask(rt: &HostRuntime, words: &[&str], mut input: &[u8]) -> Result<Answer,
     })
 }
 
-/// The answer to a command on the library in a file, over no input: its name, and its words behind the file.
-pub fn ask_of<'a>(
+/// Whether an answer has this exit status, this output and these words on the fault stream.
+pub fn assert_answer(rt: &impl Abort, found: &Answer, (status, output, faults): (u8, &str, &str)) {
+    assert_eq!(rt; found.status, status);
+    assert!(rt; found.output.as_slice() == output.as_bytes());
+    assert!(rt; found.faults.as_slice() == faults.as_bytes());
+}
+
+/// Whether a command line over this input answers just this.
+pub fn answers(
+    rt: &HostRuntime,
+    words: &[&str],
+    mut input: &[u8],
+    told: (u8, &str, &str),
+) -> Result<(), Fail> {
+    let found = ask(rt, words, &mut input)?;
+    assert_answer(rt, &found, told);
+    Ok(())
+}
+
+/// Whether a command on the library in a file answers just this over no input: its name, and its words behind the file.
+pub fn answers_of<'a>(
     rt: &HostRuntime,
     file: &'a str,
     name: &'a str,
     words: &[&'a str],
-) -> Result<Answer, Fail> {
+    told: (u8, &str, &str),
+) -> Result<(), Fail> {
     let mut line = Vec::new(rt.alloc());
     line.push(name)?;
     line.push(file)?;
     line.extend_from_slice(words)?;
-    ask(rt, &line, b"")
+    answers(rt, &line, b"", told)
 }
 
-/// Whether a command line answers just this.
-pub fn assert_answer(
-    rt: &(impl Abort + Sized),
-    found: &Answer,
-    status: u8,
-    output: &str,
-    faults: &str,
-) {
-    assert_eq!(rt; found.status, status);
-    assert!(rt; found.output.as_slice() == output.as_bytes());
-    assert!(rt; found.faults.as_slice() == faults.as_bytes());
+/// A path of a new library without decks.
+pub fn library(rt: &HostRuntime, name: &str) -> Result<String, Fail> {
+    let file = fresh(rt, name)?;
+    answers(rt, &["init", &file], b"", (0, "", ""))?;
+    Ok(file)
+}
+
+/// A run of site LYON is handed in and accepted.
+pub fn accepts(
+    rt: &HostRuntime,
+    file: &str,
+    number: &str,
+    mode: &str,
+    mut run: &[u8],
+) -> Result<(), Fail> {
+    let found = ask(rt, &["run", file, "LYON", number, mode], &mut run)?;
+    assert_eq!(rt; found.status, 0);
+    Ok(())
 }

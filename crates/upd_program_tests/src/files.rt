@@ -1,7 +1,7 @@
 //! What stands in the file of a library, and what in its log.
-use crate::console::{Answer, ask, ask_of, assert_answer, fresh, remove};
+use crate::console::{accepts, answers, fresh, library, remove};
 use crate::library::make_second;
-use crate::refusals::COMMANDS;
+use crate::refusals::all_answer;
 use sqlite_disk::Unknown;
 use std::fs;
 use std::net::TcpListener;
@@ -9,53 +9,97 @@ use std::process::Abort;
 use std::test::Fail;
 use upd_file::connect;
 
-const DECK: &[u8] = b"*DECK A\nONE\n";
+const ONE_DECK: &str = "1 A deck held\n";
+
+/// Takes away the log of a library, if there is one.
+fn without_log(rt: &HostRuntime, file: &str) -> Result<(), Fail> {
+    let _ = fs::remove_file(rt, format!(in rt.alloc(); "{file}-wal")?.as_str());
+    Ok(())
+}
 
 /// What is told of the idents once the log is taken away.
-fn idents_alone(rt: &HostRuntime, file: &str) -> Result<Answer, Fail> {
-    let _ = fs::remove_file(rt, format!(in rt.alloc(); "{file}-wal")?.as_str());
-    ask(rt, &["idents", file], b"")
+fn tells_alone(rt: &HostRuntime, file: &str, idents: &str) -> Result<(), Fail> {
+    without_log(rt, file)?;
+    answers(rt, &["idents", file], b"", (0, idents, ""))
 }
 
 #[test]
 fn the_file_alone_is_the_library(rt: HostRuntime) -> Result<(), Fail> {
-    let file = fresh(&rt, "alone")?;
-    ask(&rt, &["init", &file], b"")?;
-    assert_answer(&rt, &idents_alone(&rt, &file)?, 0, "", "");
-    ask(&rt, &["run", &file, "LYON", "1", "full"], DECK)?;
-    let told = "1 A deck held\n";
-    assert_answer(&rt, &idents_alone(&rt, &file)?, 0, told, "");
+    let file = library(&rt, "alone")?;
+    tells_alone(&rt, &file, "")?;
+    accepts(&rt, &file, "1", "full", b"*DECK A\nONE\n")?;
+    tells_alone(&rt, &file, ONE_DECK)?;
     make_second(&rt, &file)?;
-    ask(&rt, &["migrate", &file], b"")?;
-    assert_answer(&rt, &idents_alone(&rt, &file)?, 0, told, "");
+    answers(&rt, &["migrate", &file], b"", (0, "", ""))?;
+    tells_alone(&rt, &file, ONE_DECK)?;
+    remove(&rt, &file)
+}
+
+const REPLY: &str =
+    "{\"compile\":\"\",\"idents\":[\"A\"],\"lines\":0,\"mode\":\"quick\",\"run\":1,\"site\":\"LYON\",\"state\":\"accepted\"}\n";
+
+#[test]
+fn the_file_alone_has_the_runs_of_a_spool(rt: HostRuntime) -> Result<(), Fail> {
+    let file = library(&rt, "spooled")?;
+    let frame = b"RUN LYON 1 quick 12\n*DECK A\nONE\n\n";
+    answers(&rt, &["spool", &file], frame, (0, REPLY, ""))?;
+    tells_alone(&rt, &file, ONE_DECK)?;
+    remove(&rt, &file)
+}
+
+#[test]
+fn the_file_alone_has_the_runs_before_the_cut_of_a_spool(rt: HostRuntime) -> Result<(), Fail> {
+    let file = library(&rt, "cut")?;
+    let frames = b"RUN LYON 1 quick 12\n*DECK A\nONE\n\nRUN";
+    answers(
+        &rt,
+        &["spool", &file],
+        frames,
+        (1, REPLY, "upd: CutFrame (31) at 2\n"),
+    )?;
+    tells_alone(&rt, &file, ONE_DECK)?;
+    remove(&rt, &file)
+}
+
+#[test]
+fn the_file_alone_has_a_mark(rt: HostRuntime) -> Result<(), Fail> {
+    let file = library(&rt, "mark")?;
+    let mark = "{\"settled\":1,\"site\":\"LYON\"}\n";
+    answers(&rt, &["settle", &file, "LYON", "1"], b"", (0, mark, ""))?;
+    without_log(&rt, &file)?;
+    let settled = "{\"at\":0,\"fault\":27,\"name\":\"Settled\"}\n";
+    answers(
+        &rt,
+        &["run", &file, "LYON", "1", "quick"],
+        b"",
+        (1, settled, ""),
+    )?;
     remove(&rt, &file)
 }
 
 /// A program that ends without copying its log into the file leaves what it committed in the log.
 #[test]
 fn what_stands_in_the_log_alone_is_found(rt: HostRuntime) -> Result<(), Fail> {
-    let file = fresh(&rt, "log")?;
-    ask(&rt, &["init", &file], b"")?;
+    let file = library(&rt, "log")?;
     let mut conn = connect(&rt, &file, Unknown)?;
     conn.execute("UPDATE meta SET v = 2", &[])?;
     drop(conn);
-    let found = ask(&rt, &["idents", &file], b"")?;
-    assert_answer(&rt, &found, 3, "", "upd: Store (29) at 2\n");
+    answers(
+        &rt,
+        &["idents", &file],
+        b"",
+        (3, "", "upd: Store (29) at 2\n"),
+    )?;
     remove(&rt, &file)
 }
 
 #[test]
 fn a_library_in_use_is_refused(rt: HostRuntime) -> Result<(), Fail> {
-    let file = fresh(&rt, "used")?;
-    ask(&rt, &["init", &file], b"")?;
+    let file = library(&rt, "used")?;
     let conn = connect(&rt, &file, Unknown)?;
-    for (name, words) in COMMANDS {
-        let found = ask_of(&rt, &file, name, words)?;
-        assert_answer(&rt, &found, 3, "", "upd: Store (29) at 0\n");
-    }
+    all_answer(&rt, &file, (3, "", "upd: Store (29) at 0\n"))?;
     conn.close()?;
-    let free = ask(&rt, &["idents", &file], b"")?;
-    assert_answer(&rt, &free, 0, "", "");
+    answers(&rt, &["idents", &file], b"", (0, "", ""))?;
     remove(&rt, &file)
 }
 
@@ -63,10 +107,7 @@ fn a_library_in_use_is_refused(rt: HostRuntime) -> Result<(), Fail> {
 fn an_empty_file_is_no_library(rt: HostRuntime) -> Result<(), Fail> {
     let file = fresh(&rt, "empty")?;
     fs::write(&rt, file.as_str(), b"")?;
-    for (name, words) in COMMANDS {
-        let found = ask_of(&rt, &file, name, words)?;
-        assert_answer(&rt, &found, 3, "", "upd: Store (29) at 0\n");
-    }
+    all_answer(&rt, &file, (3, "", "upd: Store (29) at 0\n"))?;
     assert!(rt; fs::read(&rt, file.as_str())?.is_empty());
     remove(&rt, &file)
 }
@@ -76,10 +117,28 @@ fn an_address_in_use_is_told_behind_the_file(rt: HostRuntime) -> Result<(), Fail
     let file = fresh(&rt, "address")?;
     let listener = TcpListener::bind(&rt, "127.0.0.1:0")?;
     let address = format!(in rt.alloc(); "{}", listener.local_addr()?)?;
-    let missing = ask(&rt, &["serve", &file, &address, "1"], b"")?;
-    assert_answer(&rt, &missing, 3, "", "upd: Store (29) at 0\n");
-    ask(&rt, &["init", &file], b"")?;
-    let used = ask(&rt, &["serve", &file, &address, "1"], b"")?;
-    assert_answer(&rt, &used, 3, "", "upd: Read (32) at 0\n");
+    answers(
+        &rt,
+        &["serve", &file, &address, "1"],
+        b"",
+        (3, "", "upd: Store (29) at 0\n"),
+    )?;
+    answers(&rt, &["init", &file], b"", (0, "", ""))?;
+    answers(
+        &rt,
+        &["serve", &file, &address, "1"],
+        b"",
+        (3, "", "upd: Read (32) at 0\n"),
+    )?;
+    remove(&rt, &file)
+}
+
+/// A library is made in an empty file as where there is none.
+#[test]
+fn a_library_is_made_in_an_empty_file(rt: HostRuntime) -> Result<(), Fail> {
+    let file = fresh(&rt, "blank")?;
+    fs::write(&rt, file.as_str(), b"")?;
+    answers(&rt, &["init", &file], b"", (0, "", ""))?;
+    answers(&rt, &["idents", &file], b"", (0, "", ""))?;
     remove(&rt, &file)
 }

@@ -1,5 +1,5 @@
 //! What sites do with a library: they make it, hand runs in, settle, and ask.
-use crate::console::{ask, ask_of, assert_answer, fresh, remove};
+use crate::console::{accepts, answers, answers_of, fresh, library, remove};
 use sqlite_disk::Unknown;
 use std::process::Abort;
 use std::test::Fail;
@@ -13,36 +13,49 @@ const EMPTY_REPLY: &str =
 #[test]
 fn a_library_is_made_once(rt: HostRuntime) -> Result<(), Fail> {
     let file = fresh(&rt, "made")?;
-    let made = ask(&rt, &["init", &file], b"")?;
-    assert_answer(&rt, &made, 0, "", "");
-    let again = ask(&rt, &["init", &file], b"")?;
-    assert_answer(&rt, &again, 3, "", "upd: Store (29) at 3\n");
+    answers(&rt, &["init", &file], b"", (0, "", ""))?;
+    answers(
+        &rt,
+        &["init", &file],
+        b"",
+        (3, "", "upd: Store (29) at 3\n"),
+    )?;
     remove(&rt, &file)
 }
 
 #[test]
 fn a_run_acts_once(rt: HostRuntime) -> Result<(), Fail> {
-    let file = fresh(&rt, "once")?;
-    ask(&rt, &["init", &file], b"")?;
+    let file = library(&rt, "once")?;
     for _ in 0..2 {
-        let run = ask(&rt, &["run", &file, "LYON", "1", "quick"], b"")?;
-        assert_answer(&rt, &run, 0, EMPTY_REPLY, "");
+        answers(
+            &rt,
+            &["run", &file, "LYON", "1", "quick"],
+            b"",
+            (0, EMPTY_REPLY, ""),
+        )?;
     }
-    let changed = ask(&rt, &["run", &file, "LYON", "1", "full"], b"")?;
     let told = "{\"at\":0,\"fault\":26,\"name\":\"RunChanged\"}\n";
-    assert_answer(&rt, &changed, 1, told, "");
+    answers(
+        &rt,
+        &["run", &file, "LYON", "1", "full"],
+        b"",
+        (1, told, ""),
+    )?;
     remove(&rt, &file)
 }
 
 #[test]
 fn a_refused_run_is_kept(rt: HostRuntime) -> Result<(), Fail> {
-    let file = fresh(&rt, "refused")?;
-    ask(&rt, &["init", &file], b"")?;
+    let file = library(&rt, "refused")?;
     let told =
         "{\"at\":1,\"fault\":9,\"mode\":\"full\",\"name\":\"TextNowhere\",\"run\":2,\"site\":\"LYON\",\"state\":\"refused\"}\n";
     for _ in 0..2 {
-        let run = ask(&rt, &["run", &file, "LYON", "2", "full"], b"HELLO\n")?;
-        assert_answer(&rt, &run, 1, told, "");
+        answers(
+            &rt,
+            &["run", &file, "LYON", "2", "full"],
+            b"HELLO\n",
+            (1, told, ""),
+        )?;
     }
     remove(&rt, &file)
 }
@@ -56,16 +69,18 @@ const MARKS: &[(&[&str], &str)] = &[
 
 #[test]
 fn settled_runs_are_refused(rt: HostRuntime) -> Result<(), Fail> {
-    let file = fresh(&rt, "settled")?;
-    ask(&rt, &["init", &file], b"")?;
-    ask(&rt, &["run", &file, "LYON", "1", "quick"], b"")?;
+    let file = library(&rt, "settled")?;
+    accepts(&rt, &file, "1", "quick", b"")?;
     for (words, told) in MARKS {
-        let settled = ask_of(&rt, &file, "settle", words)?;
-        assert_answer(&rt, &settled, 0, told, "");
+        answers_of(&rt, &file, "settle", words, (0, told, ""))?;
     }
-    let run = ask(&rt, &["run", &file, "LYON", "1", "quick"], b"")?;
     let told = "{\"at\":0,\"fault\":27,\"name\":\"Settled\"}\n";
-    assert_answer(&rt, &run, 1, told, "");
+    answers(
+        &rt,
+        &["run", &file, "LYON", "1", "quick"],
+        b"",
+        (1, told, ""),
+    )?;
     remove(&rt, &file)
 }
 
@@ -88,24 +103,29 @@ const ANSWERS: &[(&str, &[&str], &str)] = &[
 
 #[test]
 fn questions_are_answered(rt: HostRuntime) -> Result<(), Fail> {
-    let file = fresh(&rt, "asked")?;
-    ask(&rt, &["init", &file], b"")?;
-    ask(&rt, &["run", &file, "LYON", "1", "full"], b"*DECK A\nONE\n")?;
+    let file = library(&rt, "asked")?;
+    accepts(&rt, &file, "1", "full", b"*DECK A\nONE\n")?;
     for (name, words, told) in ANSWERS {
-        let found = ask_of(&rt, &file, name, words)?;
-        assert_answer(&rt, &found, 0, told, "");
+        answers_of(&rt, &file, name, words, (0, told, ""))?;
     }
     remove(&rt, &file)
 }
 
 #[test]
 fn a_spool_is_answered_line_by_line(rt: HostRuntime) -> Result<(), Fail> {
-    let file = fresh(&rt, "spool")?;
-    ask(&rt, &["init", &file], b"")?;
-    let spool = ask(&rt, &["spool", &file], b"RUN LYON 1 quick 0\n\nRUN LYON")?;
-    assert_answer(&rt, &spool, 1, EMPTY_REPLY, "upd: CutFrame (31) at 2\n");
-    let whole = ask(&rt, &["spool", &file], b"RUN LYON 1 quick 0\n\n")?;
-    assert_answer(&rt, &whole, 0, EMPTY_REPLY, "");
+    let file = library(&rt, "spool")?;
+    answers(
+        &rt,
+        &["spool", &file],
+        b"RUN LYON 1 quick 0\n\nRUN LYON",
+        (1, EMPTY_REPLY, "upd: CutFrame (31) at 2\n"),
+    )?;
+    answers(
+        &rt,
+        &["spool", &file],
+        b"RUN LYON 1 quick 0\n\n",
+        (0, EMPTY_REPLY, ""),
+    )?;
     remove(&rt, &file)
 }
 
@@ -120,29 +140,36 @@ pub fn make_second(rt: &HostRuntime, file: &str) -> Result<(), Fail> {
 
 #[test]
 fn an_older_file_is_led_by_a_migration(rt: HostRuntime) -> Result<(), Fail> {
-    let file = fresh(&rt, "second")?;
-    ask(&rt, &["init", &file], b"")?;
-    ask(&rt, &["run", &file, "LYON", "1", "quick"], b"")?;
+    let file = library(&rt, "second")?;
+    accepts(&rt, &file, "1", "quick", b"")?;
     make_second(&rt, &file)?;
-    let older = ask(&rt, &["idents", &file], b"")?;
-    assert_answer(&rt, &older, 3, "", "upd: Store (29) at 2\n");
-    let migrated = ask(&rt, &["migrate", &file], b"")?;
-    assert_answer(&rt, &migrated, 0, "", "");
-    let again = ask(&rt, &["run", &file, "LYON", "1", "quick"], b"")?;
-    assert_answer(&rt, &again, 0, EMPTY_REPLY, "");
-    let settled = ask(&rt, &["settle", &file, "LYON", "1"], b"")?;
-    assert_answer(&rt, &settled, 0, "{\"settled\":1,\"site\":\"LYON\"}\n", "");
+    answers(
+        &rt,
+        &["idents", &file],
+        b"",
+        (3, "", "upd: Store (29) at 2\n"),
+    )?;
+    answers(&rt, &["migrate", &file], b"", (0, "", ""))?;
+    answers(
+        &rt,
+        &["run", &file, "LYON", "1", "quick"],
+        b"",
+        (0, EMPTY_REPLY, ""),
+    )?;
+    answers(
+        &rt,
+        &["settle", &file, "LYON", "1"],
+        b"",
+        (0, "{\"settled\":1,\"site\":\"LYON\"}\n", ""),
+    )?;
     remove(&rt, &file)
 }
 
 #[test]
 fn a_present_file_is_left_by_a_migration(rt: HostRuntime) -> Result<(), Fail> {
-    let file = fresh(&rt, "migrated")?;
-    ask(&rt, &["init", &file], b"")?;
-    ask(&rt, &["run", &file, "LYON", "1", "full"], DECK)?;
-    let migrated = ask(&rt, &["migrate", &file], b"")?;
-    assert_answer(&rt, &migrated, 0, "", "");
-    let asked = ask(&rt, &["idents", &file], b"")?;
-    assert_answer(&rt, &asked, 0, "1 A deck held\n", "");
+    let file = library(&rt, "migrated")?;
+    accepts(&rt, &file, "1", "full", DECK)?;
+    answers(&rt, &["migrate", &file], b"", (0, "", ""))?;
+    answers(&rt, &["idents", &file], b"", (0, "1 A deck held\n", ""))?;
     remove(&rt, &file)
 }

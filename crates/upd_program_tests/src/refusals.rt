@@ -1,9 +1,10 @@
 //! What is refused, in which order, and where it is told.
-use crate::console::{ask, ask_of, assert_answer, fresh, remove};
+use crate::console::{answers, answers_of, ask, assert_answer, fresh, library, remove};
 use sqlite_disk::Unknown;
-use std::fs;
+use std::io::{ErrorKind, Read};
 use std::process::Abort;
 use std::test::Fail;
+use std::{fs, io};
 use upd_file::connect;
 
 /// The words of a command line behind its name and file, and the line on the fault stream, with status 1.
@@ -24,8 +25,7 @@ const OPERANDS: &[(&str, &[&str], &str)] = &[
 fn operands_are_judged_before_the_file(rt: HostRuntime) -> Result<(), Fail> {
     let file = fresh(&rt, "operands")?;
     for (name, words, told) in OPERANDS {
-        let found = ask_of(&rt, &file, name, words)?;
-        assert_answer(&rt, &found, 1, "", told);
+        answers_of(&rt, &file, name, words, (1, "", told))?;
     }
     assert!(rt; !fs::exists(&rt, file.as_str())?);
     Ok(())
@@ -45,15 +45,41 @@ pub const COMMANDS: &[(&str, &[&str])] = &[
     ("migrate", &[]),
 ];
 
+/// Each of these commands on a file answers just this.
+pub fn all_answer(rt: &HostRuntime, file: &str, told: (u8, &str, &str)) -> Result<(), Fail> {
+    for (name, words) in COMMANDS {
+        answers_of(rt, file, name, words, told)?;
+    }
+    Ok(())
+}
+
 #[test]
 fn a_missing_file_is_no_library_and_is_not_made(rt: HostRuntime) -> Result<(), Fail> {
     let file = fresh(&rt, "missing")?;
-    for (name, words) in COMMANDS {
-        let found = ask_of(&rt, &file, name, words)?;
-        assert_answer(&rt, &found, 3, "", "upd: Store (29) at 0\n");
-    }
+    all_answer(&rt, &file, (3, "", "upd: Store (29) at 0\n"))?;
     assert!(rt; !fs::exists(&rt, file.as_str())?);
     Ok(())
+}
+
+/// A reader that can't be read.
+struct Unreadable;
+
+impl Read for Unreadable {
+    fn read(&mut self, _buf: &mut [u8]) -> io::Result<usize> {
+        Err(io::Error::from(ErrorKind::Other))
+    }
+}
+
+#[test]
+fn a_missing_file_is_told_before_the_run_is_read(rt: HostRuntime) -> Result<(), Fail> {
+    let file = fresh(&rt, "unheard")?;
+    let words = ["run", &file, "LYON", "1", "full"];
+    let found = ask(&rt, &words, &mut Unreadable)?;
+    assert_answer(&rt, &found, (3, "", "upd: Store (29) at 0\n"));
+    answers(&rt, &["init", &file], b"", (0, "", ""))?;
+    let found = ask(&rt, &words, &mut Unreadable)?;
+    assert_answer(&rt, &found, (3, "", "upd: Read (32) at 0\n"));
+    remove(&rt, &file)
 }
 
 #[test]
@@ -61,12 +87,13 @@ fn another_file_is_no_library_and_stays(rt: HostRuntime) -> Result<(), Fail> {
     const TEXT: &[u8] = b"this is a text and no library\n";
     let file = fresh(&rt, "text")?;
     fs::write(&rt, file.as_str(), TEXT)?;
-    for (name, words) in COMMANDS {
-        let found = ask_of(&rt, &file, name, words)?;
-        assert_answer(&rt, &found, 3, "", "upd: Store (29) at 0\n");
-    }
-    let made = ask(&rt, &["init", &file], b"")?;
-    assert_answer(&rt, &made, 3, "", "upd: Store (29) at 0\n");
+    all_answer(&rt, &file, (3, "", "upd: Store (29) at 0\n"))?;
+    answers(
+        &rt,
+        &["init", &file],
+        b"",
+        (3, "", "upd: Store (29) at 0\n"),
+    )?;
     assert!(rt; fs::read(&rt, file.as_str())?.as_slice() == TEXT);
     remove(&rt, &file)
 }
@@ -74,17 +101,17 @@ fn another_file_is_no_library_and_stays(rt: HostRuntime) -> Result<(), Fail> {
 /// A file that tells another version is refused at that version, whatever is asked of it.
 #[test]
 fn a_file_of_another_schema_is_told_by_its_version(rt: HostRuntime) -> Result<(), Fail> {
-    let file = fresh(&rt, "older")?;
-    ask(&rt, &["init", &file], b"")?;
+    let file = library(&rt, "older")?;
     let mut conn = connect(&rt, &file, Unknown)?;
     conn.execute("UPDATE meta SET v = 2", &[])?;
     conn.close()?;
-    for (name, words) in COMMANDS {
-        let found = ask_of(&rt, &file, name, words)?;
-        assert_answer(&rt, &found, 3, "", "upd: Store (29) at 2\n");
-    }
-    let made = ask(&rt, &["init", &file], b"")?;
-    assert_answer(&rt, &made, 3, "", "upd: Store (29) at 2\n");
+    all_answer(&rt, &file, (3, "", "upd: Store (29) at 2\n"))?;
+    answers(
+        &rt,
+        &["init", &file],
+        b"",
+        (3, "", "upd: Store (29) at 2\n"),
+    )?;
     remove(&rt, &file)
 }
 
@@ -106,29 +133,42 @@ const DOOR: &[(&[&str], &str)] = &[
 
 #[test]
 fn a_run_is_refused_at_the_door_on_the_output(rt: HostRuntime) -> Result<(), Fail> {
-    let file = fresh(&rt, "door")?;
-    ask(&rt, &["init", &file], b"")?;
+    let file = library(&rt, "door")?;
     for (words, told) in DOOR {
-        let found = ask_of(&rt, &file, "run", words)?;
-        assert_answer(&rt, &found, 1, told, "");
+        answers_of(&rt, &file, "run", words, (1, told, ""))?;
     }
     let long = vec![in rt.alloc(); b'T'; 65_537]?;
-    let found = ask(&rt, &["run", &file, "LYON", "1", "full"], &long)?;
     let told = "{\"at\":0,\"fault\":1,\"name\":\"RunLong\"}\n";
-    assert_answer(&rt, &found, 1, told, "");
+    answers(
+        &rt,
+        &["run", &file, "LYON", "1", "full"],
+        &long,
+        (1, told, ""),
+    )?;
     remove(&rt, &file)
 }
 
 #[test]
 fn a_question_about_nothing_is_refused(rt: HostRuntime) -> Result<(), Fail> {
-    let file = fresh(&rt, "nothing")?;
-    ask(&rt, &["init", &file], b"")?;
-    let deck = ask(&rt, &["list", &file, "NOPE"], b"")?;
-    assert_answer(&rt, &deck, 1, "", "upd: DeckUnknown (12) at 0\n");
-    let card = ask(&rt, &["history", &file, "A.2"], b"")?;
-    assert_answer(&rt, &card, 1, "", "upd: CardUnknown (13) at 0\n");
-    let site = ask(&rt, &["settle", &file, "lyon", "1"], b"")?;
-    assert_answer(&rt, &site, 1, "", "upd: BadSite (23) at 0\n");
+    let file = library(&rt, "nothing")?;
+    answers(
+        &rt,
+        &["list", &file, "NOPE"],
+        b"",
+        (1, "", "upd: DeckUnknown (12) at 0\n"),
+    )?;
+    answers(
+        &rt,
+        &["history", &file, "A.2"],
+        b"",
+        (1, "", "upd: CardUnknown (13) at 0\n"),
+    )?;
+    answers(
+        &rt,
+        &["settle", &file, "lyon", "1"],
+        b"",
+        (1, "", "upd: BadSite (23) at 0\n"),
+    )?;
     remove(&rt, &file)
 }
 
@@ -136,6 +176,10 @@ fn a_question_about_nothing_is_refused(rt: HostRuntime) -> Result<(), Fail> {
 const UNREAD: &[(&[&str], &str)] = &[
     (
         &["localhost", "1"],
+        "error: invalid value 'localhost' for '<ADDRESS>': no IP address and port\n\nFor more information, try '--help'.\n",
+    ),
+    (
+        &["localhost", "0"],
         "error: invalid value 'localhost' for '<ADDRESS>': no IP address and port\n\nFor more information, try '--help'.\n",
     ),
     (
@@ -152,8 +196,7 @@ const UNREAD: &[(&[&str], &str)] = &[
 fn an_address_or_a_count_that_is_none_is_no_command_line(rt: HostRuntime) -> Result<(), Fail> {
     let file = fresh(&rt, "unread")?;
     for (words, told) in UNREAD {
-        let found = ask_of(&rt, &file, "serve", words)?;
-        assert_answer(&rt, &found, 2, "", told);
+        answers_of(&rt, &file, "serve", words, (2, "", told))?;
     }
     assert!(rt; !fs::exists(&rt, file.as_str())?);
     Ok(())

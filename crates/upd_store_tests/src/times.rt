@@ -154,6 +154,21 @@ fn loads_50000_cards_10_times(rt: HostRuntime) -> Result<(), Fail> {
     Ok(())
 }
 
+/// How many cards and entries a part of one deck leaves out.
+fn rest_of_part(alloc: Global, store: &mut Library) -> Result<(usize, usize), Fail> {
+    let rest = store.load_decks(alloc, &[2])?.rest();
+    Ok((rest.cards, rest.entries))
+}
+
+#[test]
+fn a_part_tells_what_it_leaves_of_50000_cards(rt: HostRuntime) -> Result<(), Fail> {
+    let alloc = rt.alloc();
+    let mut store = with_50000_cards(alloc)?;
+    let rest = rest_of_part(alloc, &mut store)?;
+    same(&rt, "the rest", &rest, &(48_000, 192_000));
+    Ok(())
+}
+
 /// An ident, 8 cards with a status and four entries each, and a purged ident.
 fn changes_50(alloc: Global, age: u32) -> Result<Vec<Change>, Fail> {
     let mut changes = deck_of(alloc, age, 8)?;

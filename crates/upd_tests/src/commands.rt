@@ -209,6 +209,21 @@ fn a_failed_read_ends_the_run(rt: HostRuntime) {
     }
 }
 
+/// A reader that wants memory and has none.
+struct Poor;
+
+impl Read for Poor {
+    fn read(&mut self, _buf: &mut [u8]) -> io::Result<usize> {
+        Err(io::Error::from(ErrorKind::OutOfMemory))
+    }
+}
+
+#[test]
+fn want_of_memory_in_a_read_is_told_as_that(rt: HostRuntime) {
+    let found = run_input(&rt, FULL, &mut Poor);
+    assert_answer(&rt, &found, 3, b"", b"upd: NoMemory (28) at 0\n");
+}
+
 /// The answer where the writer of the output takes so many bytes.
 fn run_into(rt: &HostRuntime, room: usize) -> Answer {
     let mut output = Narrow::new(rt.alloc(), room);
