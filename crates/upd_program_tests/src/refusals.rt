@@ -62,6 +62,7 @@ fn a_missing_file_is_no_library_and_is_not_made(rt: HostRuntime) -> Result<(), F
 }
 
 /// A reader that can't be read.
+#[derive(Drop)]
 struct Unreadable;
 
 impl Read for Unreadable {

@@ -210,6 +210,7 @@ fn a_failed_read_ends_the_run(rt: HostRuntime) {
 }
 
 /// A reader that wants memory and has none.
+#[derive(Drop)]
 struct Poor;
 
 impl Read for Poor {
