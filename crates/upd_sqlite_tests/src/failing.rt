@@ -227,7 +227,7 @@ struct Replies {
     unknown: String,
 }
 
-fn replies(alloc: Global) -> Result<Replies, Fail> {
+fn wanted_replies(alloc: Global) -> Result<Replies, Fail> {
     let lines = [("ONE", "A", 2), ("TWO", "A", 3), ("THREE", "A", 4)];
     let made = accepted(alloc, deck(), &["A"], &lines)?;
     let lines = [("ONE", "A", 2), ("THREE", "A", 4)];
@@ -282,7 +282,7 @@ fn none_is_lost(rt: &impl Abort, alloc: Global, replies: &Replies) -> Result<(),
 #[test]
 fn a_lost_run_is_passed_over(rt: HostRuntime) -> Result<(), Fail> {
     let alloc = rt.alloc();
-    let replies = replies(alloc)?;
+    let replies = wanted_replies(alloc)?;
     first_is_lost(&rt, alloc, &replies)?;
     second_is_lost(&rt, alloc, &replies)?;
     none_is_lost(&rt, alloc, &replies)
