@@ -181,9 +181,8 @@ impl<S: RowStore> Pair<S> {
     }
 
     fn same_card(&mut self, rt: &impl Abort, card: &str) -> Result<(), Fail> {
-        let reference = card_ref(card)?;
-        let found = self.desk.card_list(self.alloc, reference);
-        let wanted = list_card(self.alloc, &self.plain.library, reference);
+        let found = self.desk.card_list(self.alloc, card_ref(card)?);
+        let wanted = list_card(self.alloc, &self.plain.library, card_ref(card)?);
         same(rt, self.alloc, card, found, wanted)
     }
 }

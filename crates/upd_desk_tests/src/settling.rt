@@ -110,9 +110,8 @@ fn add_statuses(
     deck: &Deck,
 ) -> Result<(), Fail> {
     for card in &deck.cards {
-        let card = reference(library, card)?;
-        let active = cache.active(card).ok_or("no status")?;
-        statuses.insert(card, active)?;
+        let active = cache.active(reference(library, card)?).ok_or("no status")?;
+        statuses.insert(reference(library, card)?, active)?;
     }
     Ok(())
 }
