@@ -1,6 +1,6 @@
 //! A command line, what it reads, and what it answers.
+use std::alloc::Global;
 use std::io::Read;
-use std::process::Abort;
 use std::test::Fail;
 use std::{env, fs, process};
 use upd_cli::run_command;
@@ -43,11 +43,21 @@ pub fn ask<R: Read>(rt: &HostRuntime, words: &[&str], input: &mut R) -> Result<A
     })
 }
 
-/// Whether an answer has this exit status, this output and these words on the fault stream.
-pub fn assert_answer(rt: &impl Abort, found: &Answer, (status, output, faults): (u8, &str, &str)) {
-    assert_eq!(rt; found.status, status);
-    assert!(rt; found.output.as_slice() == output.as_bytes());
-    assert!(rt; found.faults.as_slice() == faults.as_bytes());
+/// Whether an answer has this exit status, this output and these words on the fault stream. Another one is the error.
+pub fn is_told(
+    alloc: Global,
+    found: &Answer,
+    (status, output, faults): (u8, &str, &str),
+) -> Result<(), Fail> {
+    let is_output = found.output.as_slice() == output.as_bytes();
+    let is_fault = found.faults.as_slice() == faults.as_bytes();
+    if found.status == status && is_output && is_fault {
+        return Ok(());
+    }
+    let output = std::str::from_utf8(&found.output)?;
+    let faults = std::str::from_utf8(&found.faults)?;
+    let told = format!(in alloc; "{}, {output:?}, {faults:?}", found.status)?;
+    Err(Fail::new(told))
 }
 
 /// Whether a command line over this input answers just this.
@@ -58,8 +68,7 @@ pub fn answers(
     told: (u8, &str, &str),
 ) -> Result<(), Fail> {
     let found = ask(rt, words, &mut input)?;
-    assert_answer(rt, &found, told);
-    Ok(())
+    is_told(rt.alloc(), &found, told)
 }
 
 /// Whether a command on the library in a file answers just this over no input: its name, and its words behind the file.
@@ -93,6 +102,9 @@ pub fn accepts(
     mut run: &[u8],
 ) -> Result<(), Fail> {
     let found = ask(rt, &["run", file, "LYON", number, mode], &mut run)?;
-    assert_eq!(rt; found.status, 0);
-    Ok(())
+    if found.status == 0 {
+        Ok(())
+    } else {
+        Err("the run isn't accepted".into())
+    }
 }

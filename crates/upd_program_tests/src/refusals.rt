@@ -1,5 +1,5 @@
 //! What is refused, in which order, and where it is told.
-use crate::console::{answers, answers_of, ask, assert_answer, fresh, library, remove};
+use crate::console::{answers, answers_of, ask, fresh, is_told, library, remove};
 use sqlite_disk::Unknown;
 use std::io::{ErrorKind, Read};
 use std::process::Abort;
@@ -76,10 +76,10 @@ fn a_missing_file_is_told_before_the_run_is_read(rt: HostRuntime) -> Result<(), 
     let file = fresh(&rt, "unheard")?;
     let words = ["run", &file, "LYON", "1", "full"];
     let found = ask(&rt, &words, &mut Unreadable)?;
-    assert_answer(&rt, &found, (3, "", "upd: Store (29) at 0\n"));
+    is_told(rt.alloc(), &found, (3, "", "upd: Store (29) at 0\n"))?;
     answers(&rt, &["init", &file], b"", (0, "", ""))?;
     let found = ask(&rt, &words, &mut Unreadable)?;
-    assert_answer(&rt, &found, (3, "", "upd: Read (32) at 0\n"));
+    is_told(rt.alloc(), &found, (3, "", "upd: Read (32) at 0\n"))?;
     remove(&rt, &file)
 }
 
