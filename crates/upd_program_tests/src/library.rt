@@ -1,7 +1,6 @@
 //! What sites do with a library: they make it, hand runs in, settle, and ask.
 use crate::console::{accepts, answers, answers_of, fresh, library, remove};
 use sqlite_disk::Unknown;
-use std::process::Abort;
 use std::test::Fail;
 use upd_file::connect;
 
