@@ -52,31 +52,41 @@ fn closed(store: Library) -> Result<Files<Memory>, Fail> {
     Ok(close(store)?)
 }
 
-fn card_new(alloc: Global, card: CardRef, deck: u32, pos: u32) -> Result<Change, Fail> {
+fn card_of(name: &Name, number: u32) -> CardRef {
+    CardRef {
+        name: *name,
+        number,
+    }
+}
+
+fn card_new(alloc: Global, card: &CardRef, deck: u32, pos: u32) -> Result<Change, Fail> {
     Ok(Change::CardNew {
-        card,
+        card: *card,
         deck,
         pos,
         text: Vec::from_slice(alloc, b"      CONTINUE")?,
     })
 }
 
-fn entry_new(card: CardRef, ord: u32, ident: u32) -> Change {
+fn entry_new(card: &CardRef, ord: u32, ident: u32) -> Change {
     let active = ord % 2 == 0;
     Change::EntryNew {
-        card,
+        card: *card,
         ord,
         entry: Entry { ident, active },
     }
 }
 
-fn status_now(card: CardRef) -> Change {
-    Change::StatusNow { card, active: true }
+fn status_now(card: &CardRef) -> Change {
+    Change::StatusNow {
+        card: *card,
+        active: true,
+    }
 }
 
-fn ident_new(name: Name, age: u32) -> Change {
+fn ident_new(name: &Name, age: u32) -> Change {
     Change::IdentNew(Ident {
-        name,
+        name: *name,
         age,
         kind: Kind::Deck,
         noprop: false,
@@ -85,7 +95,7 @@ fn ident_new(name: Name, age: u32) -> Change {
 }
 
 /// Adds a card of a deck with its status and four entries.
-fn add_card(changes: &mut Vec<Change>, new: Change, card: CardRef, age: u32) -> Result<(), Fail> {
+fn add_card(changes: &mut Vec<Change>, new: Change, card: &CardRef, age: u32) -> Result<(), Fail> {
     changes.push(new)?;
     changes.push(status_now(card))?;
     for ord in 0..4 {
@@ -103,11 +113,11 @@ fn deck_name(alloc: Global, age: u32) -> Result<Name, Fail> {
 fn deck_of(alloc: Global, age: u32, cards: u32) -> Result<Vec<Change>, Fail> {
     let name = deck_name(alloc, age)?;
     let mut changes = Vec::new(alloc);
-    changes.push(ident_new(name, age))?;
+    changes.push(ident_new(&name, age))?;
     for (number, pos) in (1..).zip(0..cards) {
-        let card = CardRef { name, number };
-        let new = card_new(alloc, card, age, pos)?;
-        add_card(&mut changes, new, card, age)?;
+        let card = card_of(&name, number);
+        let new = card_new(alloc, &card, age, pos)?;
+        add_card(&mut changes, new, &card, age)?;
     }
     Ok(changes)
 }
