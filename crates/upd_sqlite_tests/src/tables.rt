@@ -1,10 +1,10 @@
 //! The tables as text: as SQL reads them, and as the plain program's library makes them.
-use sqlite::{Alter, Connection, Row};
+use sqlite::{Alter, Connection};
 use sqlite_value::value::ValueRef;
 use std::alloc::Global;
 use std::test::Fail;
 use upd_core::ident::name_at;
-use upd_core::{Card, CardRef, Entry, Ident, Kind, Library, Live, Target};
+use upd_core::{Card, CardRef, Ident, Kind, Library, Name, Target};
 use upd_desk_tests::plain::{Kept, Plain};
 
 const TABLES: [(&str, &str); 9] = [
@@ -35,33 +35,22 @@ fn add_rows<S: Alter>(
     query: &str,
 ) -> Result<(), Fail> {
     for row in &conn.query_all(query, &[])? {
-        lines.push(row_line(*lines.allocator(), table, row)?)?;
+        let mut line = String::from_str(*lines.allocator(), table)?;
+        for at in 0..row.column_count() {
+            add_value(&mut line, row.get_ref(at)?)?;
+        }
+        lines.push(line)?;
     }
     Ok(())
-}
-
-fn row_line(alloc: Global, table: &str, row: &Row) -> Result<String, Fail> {
-    let mut line = String::from_str(alloc, table)?;
-    for at in 0..row.column_count() {
-        add_value(&mut line, row.get_ref(at)?)?;
-    }
-    Ok(line)
 }
 
 fn add_value(line: &mut String, value: ValueRef<'_>) -> Result<(), Fail> {
     match value {
         ValueRef::Int(number) => write!(line, "|{number}")?,
-        ValueRef::Text(text) => add_quoted(line, "", text)?,
-        ValueRef::Blob(bytes) => add_quoted(line, "x", bytes)?,
+        ValueRef::Text(text) => write!(line, "|'{}'", std::str::from_utf8(text)?)?,
+        ValueRef::Blob(bytes) => write!(line, "|x'{}'", std::str::from_utf8(bytes)?)?,
         _ => return Err("a column of another kind".into()),
     }
-    Ok(())
-}
-
-/// Bytes in quotes, behind a mark of their kind.
-fn add_quoted(line: &mut String, mark: &str, bytes: &[u8]) -> Result<(), Fail> {
-    let text = std::str::from_utf8(bytes)?;
-    write!(line, "|{mark}'{text}'")?;
     Ok(())
 }
 
@@ -80,46 +69,26 @@ pub fn wanted_tables(alloc: Global, plain: &Plain, sites: &[&str]) -> Result<Str
     let mut lines = Vec::new(alloc);
     lines.push(String::from_str(alloc, "meta|'version'|3")?)?;
     add_library(&mut lines, &plain.library)?;
-    add_runs(&mut lines, plain)?;
-    add_marks(&mut lines, plain, sites)?;
-    joined(alloc, lines)
-}
-
-/// The lines of the runs that are not settled.
-fn add_runs(lines: &mut Vec<String>, plain: &Plain) -> Result<(), Fail> {
     for run in &plain.kept {
         if run.number > plain.mark(run.site.as_str()) {
-            lines.push(run_line(*lines.allocator(), run)?)?;
+            lines.push(run_line(alloc, run)?)?;
         }
     }
-    Ok(())
-}
-
-/// The lines of the sites that were settled.
-fn add_marks(lines: &mut Vec<String>, plain: &Plain, sites: &[&str]) -> Result<(), Fail> {
     for site in sites {
         let mark = plain.mark(site);
         if mark > 0 {
-            lines.push(mark_line(*lines.allocator(), site, mark)?)?;
+            lines.push(format!(in alloc; "settled|'{site}'|{mark}")?)?;
         }
     }
-    Ok(())
-}
-
-fn mark_line(alloc: Global, site: &str, mark: u64) -> Result<String, Fail> {
-    Ok(format!(in alloc; "settled|'{site}'|{mark}")?)
-}
-
-fn mode_number(mode: &str) -> u8 {
-    match mode {
-        "full" => 0,
-        "quick" => 1,
-        _ => 2,
-    }
+    joined(alloc, lines)
 }
 
 fn run_line(alloc: Global, run: &Kept) -> Result<String, Fail> {
-    let mode = mode_number(run.mode.as_str());
+    let mode = match run.mode.as_str() {
+        "full" => 0,
+        "quick" => 1,
+        _ => 2,
+    };
     let accepted = u8::from(run.answer.ends_with("\"state\":\"accepted\"}"));
     Ok(format!(in alloc;
         "runs|'{}'|{}|{mode}|x'{}'|{accepted}|x'{}'",
@@ -129,7 +98,9 @@ fn run_line(alloc: Global, run: &Kept) -> Result<String, Fail> {
 
 /// The lines of a library, with its statuses and counts as its histories say them.
 pub fn add_library(lines: &mut Vec<String>, library: &Library) -> Result<(), Fail> {
-    add_idents(lines, library)?;
+    for ident in library.idents() {
+        lines.push(ident_line(*lines.allocator(), ident)?)?;
+    }
     add_cards(lines, library, 0, library.yanks())?;
     for deck in library.decks() {
         add_cards(lines, library, deck.ident, &deck.cards)?;
@@ -137,35 +108,17 @@ pub fn add_library(lines: &mut Vec<String>, library: &Library) -> Result<(), Fai
     add_counts(lines, library)
 }
 
-fn add_idents(lines: &mut Vec<String>, library: &Library) -> Result<(), Fail> {
-    for ident in library.idents() {
-        lines.push(ident_line(*lines.allocator(), ident)?)?;
-    }
-    Ok(())
-}
-
-fn kind_number(kind: Kind) -> u8 {
-    match kind {
+fn ident_line(alloc: Global, ident: &Ident) -> Result<String, Fail> {
+    let kind = match ident.kind {
         Kind::Set => 0,
         Kind::Deck => 1,
         Kind::Common => 2,
-    }
-}
-
-fn ident_line(alloc: Global, ident: &Ident) -> Result<String, Fail> {
-    let kind = kind_number(ident.kind);
+    };
     let (noprop, held) = (u8::from(ident.noprop), u8::from(ident.held));
     Ok(format!(in alloc;
         "idents|{}|'{}'|{kind}|{noprop}|{held}",
         ident.age, ident.name
     )?)
-}
-
-/// How a directive names a card.
-fn reference_of(library: &Library, card: &Card) -> Result<CardRef, Fail> {
-    let name = name_at(library.idents(), card.ident).ok_or("no name")?;
-    let number = card.number;
-    Ok(CardRef { name, number })
 }
 
 fn add_cards(
@@ -176,64 +129,31 @@ fn add_cards(
 ) -> Result<(), Fail> {
     let live = library.live_yanks()?;
     for (pos, card) in cards.iter().enumerate() {
-        let reference = reference_of(library, card)?;
-        add_card(lines, reference, (deck, pos), card)?;
-        add_state(lines, library, &live, reference)?;
+        let name = name_at(library.idents(), card.ident).ok_or("no name")?;
+        let reference = CardRef {
+            name,
+            number: card.number,
+        };
+        let active = library.status(&live, reference).ok_or("no status")?;
+        let text = std::str::from_utf8(&card.text)?;
+        let alloc = *lines.allocator();
+        let number = card.number;
+        lines.push(format!(in alloc; "cards|'{name}'|{number}|{deck}|{pos}|'{text}'")?)?;
+        lines.push(format!(in alloc; "states|'{name}'|{number}|{}", u8::from(active))?)?;
+        add_parts(lines, name, card)?;
     }
     Ok(())
 }
 
-/// The lines of a card at such a place in a deck, of its history and of its targets.
-fn add_card(
-    lines: &mut Vec<String>,
-    reference: CardRef,
-    (deck, pos): (u32, usize),
-    card: &Card,
-) -> Result<(), Fail> {
+/// The entries and targets of a card.
+fn add_parts(lines: &mut Vec<String>, name: Name, card: &Card) -> Result<(), Fail> {
     let alloc = *lines.allocator();
-    let CardRef { name, number } = reference;
-    let text = std::str::from_utf8(&card.text)?;
-    lines.push(format!(in alloc; "cards|'{name}'|{number}|{deck}|{pos}|'{text}'")?)?;
-    add_entries(lines, reference, &card.history)?;
-    add_targets(lines, reference, &card.targets)
-}
-
-/// The line of a card's status.
-fn add_state(
-    lines: &mut Vec<String>,
-    library: &Library,
-    live: &Live<'_>,
-    reference: CardRef,
-) -> Result<(), Fail> {
-    let alloc = *lines.allocator();
-    let CardRef { name, number } = reference;
-    let active = library.status(live, reference).ok_or("no status")?;
-    let active = u8::from(active);
-    lines.push(format!(in alloc; "states|'{name}'|{number}|{active}")?)?;
-    Ok(())
-}
-
-fn add_entries(
-    lines: &mut Vec<String>,
-    CardRef { name, number }: CardRef,
-    history: &[Entry],
-) -> Result<(), Fail> {
-    let alloc = *lines.allocator();
-    for (ord, entry) in history.iter().enumerate() {
+    let number = card.number;
+    for (ord, entry) in card.history.iter().enumerate() {
         let active = u8::from(entry.active);
-        let ident = entry.ident;
-        lines.push(format!(in alloc; "entries|'{name}'|{number}|{ord}|{ident}|{active}")?)?;
+        lines.push(format!(in alloc; "entries|'{name}'|{number}|{ord}|{}|{active}", entry.ident)?)?;
     }
-    Ok(())
-}
-
-fn add_targets(
-    lines: &mut Vec<String>,
-    CardRef { name, number }: CardRef,
-    targets: &[Target],
-) -> Result<(), Fail> {
-    let alloc = *lines.allocator();
-    for (ord, target) in targets.iter().enumerate() {
+    for (ord, target) in card.targets.iter().enumerate() {
         let key = key_of(alloc, *target)?;
         lines.push(format!(in alloc; "targets|'{name}'|{number}|{ord}|{key}")?)?;
     }
@@ -248,32 +168,27 @@ fn key_of(alloc: Global, target: Target) -> Result<String, Fail> {
     })
 }
 
-/// The targets of live yank cards, in order.
-fn live_targets(alloc: Global, library: &Library) -> Result<Vec<Target>, Fail> {
+/// How many live yank cards have each target.
+fn add_counts(lines: &mut Vec<String>, library: &Library) -> Result<(), Fail> {
+    let alloc = *lines.allocator();
     let mut targets = Vec::new(alloc);
     let live = library.live_yanks()?;
     for card in library.yanks() {
-        if live.live_yank(reference_of(library, card)?) == Some(true) {
+        let name = name_at(library.idents(), card.ident).ok_or("no name")?;
+        if live.live_yank(CardRef {
+            name,
+            number: card.number,
+        }) == Some(true)
+        {
             targets.extend_from_slice(&card.targets)?;
         }
     }
     targets.sort()?;
-    Ok(targets)
-}
-
-/// How many live yank cards have each target.
-fn add_counts(lines: &mut Vec<String>, library: &Library) -> Result<(), Fail> {
-    let alloc = *lines.allocator();
-    let targets = live_targets(alloc, library)?;
     for same in targets.chunk_by(|a, b| a == b) {
         if let Some(target) = same.first() {
-            lines.push(count_line(alloc, *target, same.len())?)?;
+            let key = key_of(alloc, *target)?;
+            lines.push(format!(in alloc; "counts|{key}|{}", same.len())?)?;
         }
     }
     Ok(())
-}
-
-fn count_line(alloc: Global, target: Target, count: usize) -> Result<String, Fail> {
-    let key = key_of(alloc, target)?;
-    Ok(format!(in alloc; "counts|{key}|{count}")?)
 }
