@@ -10,6 +10,7 @@ requests to a library of 500 cards, of spools of 10,000 runs, of a run on a full
 import argparse
 import json
 import resource
+import shutil
 import socket
 import statistics
 import subprocess
@@ -171,6 +172,14 @@ def try_sockets(upd, file):
              json.loads(body(exchange(post % (3, len(RUN), RUN.replace(b"A/B", b"D/E")))))["idents"], ["D/E"])
 
 
+def try_file_alone(upd, file):
+    """Once `serve` has ended, its file alone is the library: a copy without the log has all that was answered."""
+    copy = file.parent / "alone.db"
+    shutil.copyfile(file, copy)
+    found = subprocess.run([upd, "idents", copy], capture_output=True, check=False, text=True).stdout
+    told("the file alone, behind serve, has the idents", found.splitlines(), ["1 A/B deck held", "2 D/E deck held"])
+
+
 def try_sqlite3(file):
     shell = subprocess.run(["sqlite3", file, "SELECT site, num, mode, accepted FROM runs ORDER BY site, num; PRAGMA integrity_check;"],
                            capture_output=True, check=False, text=True)
@@ -317,6 +326,7 @@ def main():
         subprocess.run([words.upd, "init", file], check=True)
         try_curl(words.upd, file)
         try_sockets(words.upd, file)
+        try_file_alone(words.upd, file)
         try_sqlite3(file)
         if words.times:
             try_times(words.upd, Path(folder))

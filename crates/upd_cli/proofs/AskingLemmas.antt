@@ -4,8 +4,8 @@ use Rattle.std.specs.Result.{result_map_both}
 use Rattle.upd_text.specs.declared.fault.Fault.{Fault}
 use Rattle.upd_change.specs.Rows.{Rows}
 use Rattle.upd_rows.specs.Keeping.{Keeps}
+use Rattle.upd_desk.specs.Answers.{CountsFailure}
 use Rattle.upd_desk.specs.Holding.{Tells}
-use Rattle.upd_http.specs.Serving.{CountsFailure}
 use Rattle.upd_http.proofs.AskLemmas.{fails_alike}
 use Rattle.upd_cli.specs.Errands.{IsAnswered, answer_text}
 use Rattle.upd_cli.specs.declared.asking.Question.{Question}
@@ -15,7 +15,7 @@ module _ {S : Type 0} {Image : Type 0} (is_honest is_open : S → Type 0) (image
   -- what was asked is this question
   pub answered_as : {V : Type 0} (items : V → List ℕ) (result : Result V Fault) (question asked : Question) (old new : S) → question ≡ asked
       → Tells is_honest is_open image shows may_leave failures (answer_text asked) (result_map_both items (λ fault. fault) result) old new
-      → Keeps is_honest is_open image shows may_leave failures old new → CountsFailure is_honest is_open image shows may_leave failures result old new
+      → Keeps is_honest is_open image shows may_leave failures old new → CountsFailure failures result old new
       → IsAnswered is_honest is_open image shows may_leave failures question (result_map_both items (λ fault. fault) result) old new
   answered_as items result question asked old new is tells same counts =
       let P : Question → Type 0 =

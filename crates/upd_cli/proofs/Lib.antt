@@ -6,3 +6,4 @@ pub mod RequestLemmas
 pub mod TellingLemmas
 pub mod AskingLemmas
 pub mod LeavingLemmas
+pub mod SpoolingLemmas

@@ -8,7 +8,7 @@ use Rattle.upd_streams.specs.Numbers.{number_of}
 use Rattle.clap.specs.Words.{Text}
 use Rattle.upd_cli.specs.Command.{IsTold}
 use Rattle.upd_cli.specs.Status.{exit_status, fault_line, no_memory}
-use Rattle.upd_cli.specs.Telling.{TellsMark, TellsRun, TellsText}
+use Rattle.upd_cli.specs.Telling.{TellsLines, TellsMark, TellsRun, TellsText}
 use Rattle.upd_cli.specs.Words.{IsAskedFor}
 use Rattle.upd_cli.specs.declared.words.Request.{Request}
 use Rattle.upd_cli.specs.declared.words.Request.TheVariants.{Library, Serve, Unread}
@@ -29,11 +29,11 @@ module _ (ended : Result ℕ Fault) (output output' : Option (List ℕ)) where
   TellsNumbered (Some number) told = told ⊎ TellsNothing
   TellsNumbered None told = (ended ≡ Err no_number) × Appends output output' []
 
-  -- What a command leaves on the output, as it ends: an answer to what it asks, and of `spool` nothing is said here.
+  -- What a command leaves on the output, as it ends: an answer to what it asks, and `spool` the lines of answers.
   abbrev pub Leaves : Asked → Type 0
   Leaves (asks.Run site number mode) = TellsNumbered (number_of number.now) ((answer : Result ReplyView Fault) × TellsRun answer ended output output')
   Leaves (asks.Settle site number) = TellsNumbered (number_of number.now) ((answer : Result ℕ Fault) × TellsMark site.now answer ended output output')
-  Leaves asks.Spool = Unit {0}
+  Leaves asks.Spool = TellsLines ended output output'
   Leaves asks.Init = IfOk ended (λ status. status ≡ 0) × Appends output output' []
   Leaves asks.Migrate = IfOk ended (λ status. status ≡ 0) × Appends output output' []
   Leaves _ = (answer : Result (List ℕ) Fault) × TellsText answer ended output output'

@@ -10,9 +10,9 @@ use Rattle.upd_rows.specs.Keeping.{Keeps}
 use Rattle.upd_compile.specs.File.{compile_file_of}
 use Rattle.upd_compile.specs.Listings.{card_listing, deck_listing, ident_listing, yank_listing}
 use Rattle.upd_compile.specs.declared.mode.Mode.TheVariants as mode
+use Rattle.upd_desk.specs.Answers.{CountsFailure}
 use Rattle.upd_desk.specs.Holding.{Arrives, Settles, Tells}
 use Rattle.upd_desk.specs.Outcomes.{ReplyView}
-use Rattle.upd_http.specs.Serving.{CountsFailure}
 use Rattle.upd_cli.specs.Status.{no_memory, read_failed}
 use Rattle.upd_cli.specs.Telling.{TellsMark, TellsRun, TellsText}
 use Rattle.upd_cli.specs.declared.asking.Question.{Question}
@@ -41,20 +41,20 @@ module _ {S : Type 0} {Image : Type 0} (is_honest is_open : S → Type 0) (image
   HandsIn site number mode input result old new output output' =
       ((bytes : List ℕ) × (answer : Result ReplyView Fault) × IsRunOn input bytes
       × Arrives is_honest is_open image shows may_leave failures (record { site = site; number = number; mode = mode; bytes = bytes }) answer old new
-      × CountsFailure is_honest is_open image shows may_leave failures answer old new × TellsRun answer result output output')
+      × CountsFailure failures answer old new × TellsRun answer result output output')
       ⊎ ((new ≡ old) × IsUnread result × Appends output output' [])
 
   -- a site was settled, and its mark was told
   abbrev pub SettlesSite : List ℕ → ℕ → Result ℕ Fault → S → S → Option (List ℕ) → Option (List ℕ) → Type 0
   SettlesSite site number result old new output output' =
       (answer : Result ℕ Fault) × Settles is_honest is_open image shows may_leave failures site number answer old new
-      × CountsFailure is_honest is_open image shows may_leave failures answer old new × TellsMark site answer result output output'
+      × CountsFailure failures answer old new × TellsMark site answer result output output'
 
   -- a question was answered, and nothing is changed
   pub record IsAnswered (question : Question) (answer : Result (List ℕ) Fault) (old new : S) : Type 0 where
     pub tells : Tells is_honest is_open image shows may_leave failures (answer_text question) answer old new
     pub same : Keeps is_honest is_open image shows may_leave failures old new
-    pub counts : CountsFailure is_honest is_open image shows may_leave failures answer old new
+    pub counts : CountsFailure failures answer old new
 
   -- a question was answered, and the answer was told
   abbrev pub AsksQuestion : Question → Result ℕ Fault → S → S → Option (List ℕ) → Option (List ℕ) → Type 0

@@ -1,14 +1,17 @@
 -- How an answer of the desk is told: by its bytes on the output and an exit status, or by a fault that the caller puts on the fault stream.
-use Rattle.std.specs.Prelude.{◌≡◌, ◌⊎◌, ℕ, true, false, if◌then◌else◌, IsTrue, List, [], ◌∷◌, ◌++◌, Option, Result, Ok, Err, IsErrAnd}
+use Rattle.std.specs.Prelude.{◌≡◌, ◌⊎◌, ℕ, if◌then◌else◌, IsTrue, List, [], ◌∷◌, ◌++◌, Option, Result, Ok, Err, IsErrAnd}
 use Rattle.std.specs.Io.KnownBytes.{Appends}
+use Rattle.std.specs.List.{All}
 use Rattle.upd_text.specs.declared.fault.Fault.{Fault}
+use Rattle.upd_text.specs.declared.fault.FaultKind.{FaultKind}
+use Rattle.upd_text.specs.declared.fault.FaultKind.TheVariants.{Write}
 use Rattle.upd_reply.specs.Texts.{settled_text}
+use Rattle.upd_desk.specs.Answers.{IsUntold, answer_line, is_answered}
 use Rattle.upd_desk.specs.Arrivals.{is_site}
-use Rattle.upd_desk.specs.Holding.{is_lost}
 use Rattle.upd_desk.specs.Outcomes.{ReplyView}
-use Rattle.upd_spool.specs.Spools.{answer_line, is_answered}
+use Rattle.upd_spool.specs.Spools.{answer_lines}
 use Rattle.upd_streams.specs.Fronts.{AppendsFront}
-use Rattle.upd_cli.specs.Status.{no_memory, write_failed}
+use Rattle.upd_cli.specs.Status.{write_failed}
 
 -- These bytes went to the output, and the command ends with this status; or the write failed, and at most a beginning of them is there.
 abbrev pub Writes : ℕ → List ℕ → Result ℕ Fault → Option (List ℕ) → Option (List ℕ) → Type 0
@@ -19,11 +22,6 @@ Writes meant bytes (Err fault) output output' = (fault ≡ write_failed) × Appe
 abbrev pub run_status : Result ReplyView Fault → ℕ
 run_status (Ok reply) = if reply.accepted then 0 else 1
 run_status (Err fault) = 1
-
--- why the answer to a run is not told: the run was lost, or there was no memory for the text of its fault
-abbrev pub IsUntold : Result ReplyView Fault → Fault → Type 0
-IsUntold (Ok reply) fault = ⊥
-IsUntold (Err told) fault = ((is_lost told.kind ≡ true) × (fault ≡ told)) ⊎ ((is_lost told.kind ≡ false) × (fault ≡ no_memory))
 
 -- a run's reply, or the fault that refused it without one, is told by its line; or nothing is told
 abbrev pub TellsRun : Result ReplyView Fault → Result ℕ Fault → Option (List ℕ) → Option (List ℕ) → Type 0
@@ -41,3 +39,17 @@ TellsMark site (Err fault) result output output' = (result ≡ Err fault) × App
 abbrev pub TellsText : Result (List ℕ) Fault → Result ℕ Fault → Option (List ℕ) → Option (List ℕ) → Type 0
 TellsText (Ok text) result output output' = Writes 0 text result output output'
 TellsText (Err fault) result output output' = (result ≡ Err fault) × Appends output output' []
+
+-- what is out behind whole lines: a beginning of the next answer's line where the write failed, and else nothing
+abbrev pub IsBegun : FaultKind → List ℕ → Type 0
+IsBegun Write front = (answer : Result ReplyView Fault) × (rest : List ℕ) × IsTrue (is_answered answer) × (answer_line answer ≡ front ++ rest)
+IsBegun kind front = front ≡ []
+
+-- answers are told by their lines, one after the other; what ended them by a fault may have left a beginning of one more
+abbrev pub TellsLines : Result ℕ Fault → Option (List ℕ) → Option (List ℕ) → Type 0
+TellsLines (Ok status) output output' =
+    (answers : List (Result ReplyView Fault)) × All (λ answer. IsTrue (is_answered answer)) answers
+    × (status ≡ 0) × Appends output output' (answer_lines answers)
+TellsLines (Err fault) output output' =
+    (answers : List (Result ReplyView Fault)) × (front : List ℕ) × All (λ answer. IsTrue (is_answered answer)) answers
+    × IsBegun fault.kind front × Appends output output' (answer_lines answers ++ front)

@@ -1,11 +1,9 @@
 //! Commands that change a library: runs that arrive, and settlements.
-ghost use Rattle.std.specs.Prelude.{◌≡◌, ◌⊎◌, ◌+◌, ◌∷◌, ◌++◌, [], false, Err, IfErr, IfOk, Ok};
+ghost use Rattle.std.specs.Prelude.{◌≡◌, ◌⊎◌, ◌+◌, ◌∷◌, ◌++◌, [], Err, IfErr, IfOk, Ok};
 ghost use Rattle.upd_cli.specs.Errands.{HandsIn, SettlesSite};
 ghost use Rattle.upd_cli.specs.Status.{exit_status};
 ghost use Rattle.upd_cli.specs.Streams.{TakesFront};
-ghost use Rattle.upd_cli.specs.Telling.{IsUntold, TellsMark, TellsRun, Writes};
-ghost use Rattle.upd_desk.specs.Holding.{is_lost};
-ghost use Rattle.upd_reply.specs.Texts.{fault_text};
+ghost use Rattle.upd_cli.specs.Telling.{TellsMark, TellsRun, Writes};
 ghost use Rattle.upd_text.specs.declared.limits.TheConstants.{MAX_RUN_BYTES};
 
 use crate::status::{DONE, REFUSED};
@@ -13,9 +11,9 @@ use crate::streams::{read_input, write_parts_out};
 use itoa::Buffer;
 use std::alloc::Global;
 use std::io::{Read, Write};
-use upd_desk::{Desk, Reply};
+use upd_desk::{Desk, Reply, fault_answer};
 use upd_rows::RowStore;
-use upd_text::{Fault, FaultKind};
+use upd_text::Fault;
 
 /// The run on the input arrives, and its reply goes to the output as a line; so does the text of a fault, but for want
 /// of memory and a failure of the store. Between the reply and its output no memory is taken.
@@ -58,23 +56,9 @@ fn tell_fault<W: Write>(alloc: Global, fault: Fault, output: &mut W) -> Result<u
     ensures tells { TellsRun (Err fault) result (W.contents output.old) (W.contents output.new) }
     ensures status { IfOk result (λ status. (status ≡ 0) ⊎ (status ≡ 1)) }
 {
-    match told_text(alloc, fault) {
+    match fault_answer(alloc, fault) {
         Ok(text) => write_line(output, &text, REFUSED),
         Err(untold) => Err(untold),
-    }
-}
-
-/// The text of a fault that leaves a run answered; or the fault, where the run was lost.
-fn told_text(alloc: Global, fault: Fault) -> Result<Vec<u8>, Fault>
-    ensures ok { IfOk result (λ text. (is_lost fault.kind ≡ false) × (text.items ≡ fault_text fault)) }
-    ensures err { IfErr result (IsUntold (Err fault)) }
-{
-    match fault.kind {
-        FaultKind::NoMemory | FaultKind::Store => Err(fault),
-        _ => match upd_reply::fault(alloc, fault) {
-            Ok(text) => Ok(text),
-            Err(_) => Err(FaultKind::NoMemory.without_line()),
-        },
     }
 }
 

@@ -4,7 +4,7 @@ ghost use Rattle.upd_cli.specs.Commands.{Leaves, TellsNumbered};
 ghost use Rattle.upd_cli.specs.Running.{IsSpoolCommand, MayTell};
 ghost use Rattle.upd_cli.specs.Status.{exit_status};
 ghost use Rattle.upd_cli.specs.Streams.{TakesFront};
-ghost use Rattle.upd_cli.specs.Telling.{TellsMark, TellsRun, TellsText};
+ghost use Rattle.upd_cli.specs.Telling.{TellsLines, TellsMark, TellsRun, TellsText};
 ghost use Rattle.upd_desk.specs.Outcomes.{ReplyView};
 ghost use Rattle.upd_rows.specs.Keeping.{IsLost};
 ghost use Rattle.upd_streams.specs.Numbers.{number_of};
@@ -48,13 +48,7 @@ pub(crate) fn carry_out<R: Read, W: Write>(
         Asked::Init => init_file(rt, file),
         Asked::Run { site, number, mode } => { run_on(rt, file, site, number, mode, input, output) }
         Asked::Settle { site, number } => settle_on(rt, file, site, number, output),
-        Asked::Spool => {
-            let mut desk = open_desk(rt, file)?;
-            let ended = spool(rt.alloc(), input, output, &mut desk);
-            close_desk(desk);
-            ended?;
-            Ok(DONE)
-        }
+        Asked::Spool => spool_on(rt, file, input, output),
         Asked::Compile => answer_on(rt, file, &Question::Compile, output),
         Asked::List { deck } => answer_on(rt, file, &Question::Deck(read_deck(deck)?), output),
         Asked::History { card } => answer_on(rt, file, &Question::Card(read_card(card)?), output),
@@ -118,6 +112,28 @@ fn settle_on<W: Write>(
     ended
 }
 
+/// `spool`: the file is opened before the input is read.
+fn spool_on<R: Read, W: Write>(
+    rt: &HostRuntime,
+    file: &str,
+    input: &mut R,
+    output: &mut W,
+) -> Result<u8, Fault>
+    ensures leaves { TellsLines result (W.contents output.old) (W.contents output.new) }
+    ensures status { IfOk result (λ status. status ≡ 0) }
+{
+    let mut desk = match open_desk(rt, file) {
+        Ok(desk) => desk,
+        Err(fault) => return Err(fault),
+    };
+    let ended = spool(rt.alloc(), input, output, &mut desk);
+    close_desk(desk);
+    match ended {
+        Ok(_) => Ok(DONE),
+        Err(fault) => Err(fault),
+    }
+}
+
 /// Serves so many connections at an address, which is bound once the file is open. Read, at 0, where it can't be bound.
 pub(crate) fn serve(
     rt: &HostRuntime,
@@ -141,7 +157,7 @@ fn init_file(rt: &HostRuntime, file: &str) -> Result<u8, Fault>
     ensures { IfOk result (λ status. status ≡ 0) }
 {
     let library = create(rt, file, Unknown)?;
-    close_desk(Desk::open(library));
+    close_desk(Desk::new(library));
     Ok(DONE)
 }
 
@@ -180,7 +196,7 @@ fn open_desk(rt: &HostRuntime, file: &str) -> Result<FileDesk, Fault>
     ensures { IfErr result IsLost }
 {
     match open(rt, file, Unknown) {
-        Ok(library) => Ok(Desk::open(library)),
+        Ok(library) => Ok(Desk::new(library)),
         Err(fault) => Err(fault),
     }
 }
@@ -188,5 +204,5 @@ fn open_desk(rt: &HostRuntime, file: &str) -> Result<FileDesk, Fault>
 /// Closes the library. Where that fails nothing is lost, since the log then holds what it held: so the command's own
 /// end is told, and not this one.
 fn close_desk(desk: FileDesk) {
-    let _ = close(desk.close());
+    let _ = close(desk.into_store());
 }

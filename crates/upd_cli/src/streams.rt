@@ -1,7 +1,8 @@
 //! Reads a run from any reader, and writes to any writer. A call that was interrupted counts as failed, like any other.
-ghost use Rattle.std.specs.Prelude.{◌≡◌, ◌≤◌, ◌⊎◌, ◌+◌, [], IfErr, IfOk, IfSome, OnOk, length, take};
+ghost use Rattle.std.specs.Prelude.{◌≡◌, ◌≢◌, ◌≤◌, ◌⊎◌, ◌+◌, [], IfErr, IfOk, IfSome, OnOk, length, take};
 ghost use Rattle.std.specs.Io.KnownBytes.{Appends, Consumes, IsAtEnd};
 ghost use Rattle.std.specs.List.{flat_map};
+ghost use Rattle.std.specs.IoError.{error_kind};
 ghost use Rattle.upd_cli.specs.Status.{no_memory, read_failed, write_failed};
 ghost use Rattle.upd_cli.specs.Streams.{TakesFront};
 ghost use Rattle.upd_streams.specs.Fronts.{AppendsFront};
@@ -55,7 +56,9 @@ fn read_front<R: Read>(input: &mut R, most: usize, bytes: &mut Vec<u8>) -> Resul
 
 /// A failed read is Read, unless memory was wanting.
 fn read_fault(error: &io::Error) -> Fault
-    ensures { (result ≡ no_memory) ⊎ (result ≡ read_failed) }
+    ensures failure { (result ≡ no_memory) ⊎ (result ≡ read_failed) }
+    ensures memory { error_kind error.now ≡ ErrorKind.OutOfMemory → result ≡ no_memory }
+    ensures other { error_kind error.now ≢ ErrorKind.OutOfMemory → result ≡ read_failed }
 {
     match error.kind() {
         ErrorKind::OutOfMemory => Fault::from(AllocError),

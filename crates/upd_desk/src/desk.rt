@@ -37,7 +37,7 @@ pub struct Desk<S: RowStore> {
 
 impl<S: RowStore> Desk<S> {
     /// A desk over a store, which isn't called.
-    pub fn open(store: S) -> Desk<S>
+    pub fn new(store: S) -> Desk<S>
         ensures store { result.store ≡ store }
         ensures work { result.work ≡ 0 }
     {
@@ -45,7 +45,7 @@ impl<S: RowStore> Desk<S> {
     }
 
     /// The store of the desk, which isn't called.
-    pub fn close(self) -> S
+    pub fn into_store(self) -> S
         ensures { result ≡ self.store }
     {
         self.store
@@ -133,7 +133,7 @@ impl<S: RowStore> Desk<S> {
     /// The answers to arrivals one after the other: one that wants memory, or whose store fails, is lost, and the
     /// next is taken. The list of answers is reserved before any arrival is looked at: where there is no memory for it
     /// the fault is NoMemory, and nothing was done.
-    pub fn run_all(
+    pub fn arrive_all(
         &mut self,
         alloc: Global,
         list: &[Arrival<'_>],

@@ -16,4 +16,4 @@ pub mod worked;
 
 pub use arrival::Arrival;
 pub use desk::Desk;
-pub use reply::Reply;
+pub use reply::{Reply, fault_answer};

@@ -1,6 +1,13 @@
-//! Replies.
+//! Replies, and the text that answers a run without one.
 
+ghost use Rattle.std.specs.Prelude.{◌≡◌, Err, IfErr, IfOk, false};
+ghost use Rattle.upd_desk.specs.Answers.{IsUntold};
+ghost use Rattle.upd_desk.specs.Holding.{is_lost};
+ghost use Rattle.upd_reply.specs.Texts.{fault_text};
+
+use std::alloc::Global;
 use std::marker::Model;
+use upd_text::{Fault, FaultKind};
 
 /// The reply to a run, as its site gets it.
 #[derive(Debug, Drop)]
@@ -17,4 +24,21 @@ impl Model for Reply {
     ghost Value = { ReplyView };
 
     ghost view = { λ r. record { accepted = r.accepted; text = r.text.items } };
+}
+
+/// The text of a fault that leaves a run answered.
+///
+/// The fault itself comes back where the run was lost: after NoMemory or Store it can be sent again. NoMemory, at 0,
+/// where there is no memory for the text; the run was answered then, and gets the text when it is sent again.
+pub fn fault_answer(alloc: Global, fault: Fault) -> Result<Vec<u8>, Fault>
+    ensures ok { IfOk result (λ text. (is_lost fault.kind ≡ false) × (text.items ≡ fault_text fault)) }
+    ensures err { IfErr result (IsUntold (Err fault)) }
+{
+    match fault.kind {
+        FaultKind::NoMemory | FaultKind::Store => Err(fault),
+        _ => match upd_reply::fault(alloc, fault) {
+            Ok(text) => Ok(text),
+            Err(_) => Err(FaultKind::NoMemory.without_line()),
+        },
+    }
 }

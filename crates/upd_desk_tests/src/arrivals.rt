@@ -63,7 +63,7 @@ pub struct Pair<S: RowStore> {
 impl<S: RowStore> Pair<S> {
     pub fn new(alloc: Global, store: S) -> Pair<S> {
         Pair {
-            desk: Desk::open(store),
+            desk: Desk::new(store),
             plain: Plain::new(alloc),
             alloc,
         }
@@ -114,7 +114,7 @@ impl<S: RowStore> Pair<S> {
     /// The store is handed to another desk.
     fn reopened(self) -> Pair<S> {
         Pair {
-            desk: Desk::open(self.desk.close()),
+            desk: Desk::new(self.desk.into_store()),
             plain: self.plain,
             alloc: self.alloc,
         }

@@ -30,7 +30,7 @@ fn is_accepted(rt: &impl Abort, desk: &Desk<ListStore>, reply: &Reply, work: u64
 }
 
 fn with_500_cards(rt: &impl Abort, alloc: Global) -> Result<Desk<ListStore>, Fail> {
-    let mut desk = Desk::open(ListStore::new(alloc));
+    let mut desk = Desk::new(ListStore::new(alloc));
     let text = ten_decks(alloc)?;
     let reply = desk.arrive(alloc, "BASE", 1, "normal", text.as_bytes())?;
     is_accepted(rt, &desk, &reply, 500);

@@ -16,9 +16,9 @@ impl<S: RowStore + Drop> Pair<S> {
     /// The store is handed to another desk: how many decks it has read.
     fn counted(self) -> (Pair<S>, u64) {
         let Pair { desk, plain, alloc } = self;
-        let store = desk.close();
+        let store = desk.into_store();
         let read = store.decks_read();
-        let desk = Desk::open(store);
+        let desk = Desk::new(store);
         (Pair { desk, plain, alloc }, read)
     }
 
@@ -252,11 +252,11 @@ fn ranges(rt: &impl Abort, alloc: Global) -> Result<Pair<ListStore>, Fail> {
 /// The parts that the store of a desk loads, and how many decks have been read before and after.
 fn loads_from_desk(rt: &impl Abort, pair: Pair<ListStore>) -> Result<Pair<ListStore>, Fail> {
     let Pair { desk, plain, alloc } = pair;
-    let mut store = desk.close();
+    let mut store = desk.into_store();
     same_number(rt, "decks read before", store.decks_read(), 6);
     loads_parts(rt, alloc, &mut store)?;
     same_number(rt, "decks read after", store.decks_read(), 9);
-    let desk = Desk::open(store);
+    let desk = Desk::new(store);
     Ok(Pair { desk, plain, alloc })
 }
 

@@ -107,7 +107,7 @@ const ANSWER_ENDS: [usize; 4] = [0, 389, 482, 773];
 fn worked(alloc: Global) -> Result<(String, Vec<u8>), Fail> {
     let text = format!(in alloc; "{FIRST}{SECOND}{THIRD}")?;
     let mut answers = Vec::new(alloc);
-    let mut desk = Desk::open(ListStore::new(alloc));
+    let mut desk = Desk::new(ListStore::new(alloc));
     let count = spool(alloc, &mut text.as_bytes(), &mut answers, &mut desk)?;
     if count != 3 || answers.len() != ANSWER_ENDS[3] {
         return Err("the spool isn't answered".into());
@@ -152,7 +152,7 @@ fn keeps(
     desk: Desk<ListStore>,
     frames: u32,
 ) -> Result<Desk<ListStore>, Fail> {
-    let mut store = desk.close();
+    let mut store = desk.into_store();
     for number in 1..=3_u32 {
         let kept = store.kept_run(alloc, "LYON", u64::from(number))?;
         same(
@@ -162,7 +162,7 @@ fn keeps(
             &(number, number <= frames),
         );
     }
-    Ok(Desk::open(store))
+    Ok(Desk::new(store))
 }
 
 /// A front of the spool ends as it is to, with these answers.
@@ -178,7 +178,7 @@ fn byte_by_byte(
     front: &[u8],
     wanted: &[u8],
 ) -> Result<Desk<ListStore>, Fail> {
-    let mut desk = Desk::open(ListStore::new(alloc));
+    let mut desk = Desk::new(ListStore::new(alloc));
     let mut output = Vec::new(alloc);
     let ended = spool(alloc, &mut Single::new(front, 0), &mut output, &mut desk);
     ends(rt, front, ended, &output, wanted);
@@ -221,7 +221,7 @@ fn read_fails(
     whole: u32,
     wanted: &[u8],
 ) -> Result<(), Fail> {
-    let mut desk = Desk::open(ListStore::new(alloc));
+    let mut desk = Desk::new(ListStore::new(alloc));
     let mut output = Vec::new(alloc);
     let ended = spool(alloc, &mut input, &mut output, &mut desk);
     let fault = Fault {
@@ -265,7 +265,7 @@ fn is_not_answered(
     mut input: Single<'_>,
     kind: FaultKind,
 ) -> Result<(), Fail> {
-    let mut desk = Desk::open(ListStore::new(alloc));
+    let mut desk = Desk::new(ListStore::new(alloc));
     let mut output = Vec::new(alloc);
     let ended = serve_one(alloc, &mut input, &mut output, &mut desk);
     same(rt, "the end", &ended, &Err(kind.without_line()));
@@ -288,7 +288,7 @@ fn a_request_that_is_cut_or_cannot_be_read_keeps_no_run(rt: HostRuntime) -> Resu
 
 /// A writer takes so many bytes of the answer: the desk, which has kept the run.
 fn write_fails(rt: &impl Abort, alloc: Global, room: usize) -> Result<Desk<ListStore>, Fail> {
-    let mut desk = Desk::open(ListStore::new(alloc));
+    let mut desk = Desk::new(ListStore::new(alloc));
     let mut output = Room::new(Vec::new(alloc), room);
     let ended = serve_one(alloc, &mut QUICK.as_bytes(), &mut output, &mut desk);
     let fault = FaultKind::Write.without_line();
@@ -344,7 +344,7 @@ fn run_is_accepted(
 
 /// A run in full mode is refused by its compile file, and so is its repeat; nothing of it is in the library.
 fn is_refused(rt: &impl Abort, alloc: Global, text: &str, wanted: &str) -> Result<(), Fail> {
-    let mut desk = Desk::open(ListStore::new(alloc));
+    let mut desk = Desk::new(ListStore::new(alloc));
     for _ in 0..2 {
         run_is_refused(rt, alloc, &mut desk, text, wanted)?;
     }

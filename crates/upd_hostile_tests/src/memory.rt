@@ -48,7 +48,7 @@ impl Answer {
 
 /// Asks a desk over a store.
 fn put(alloc: Global, store: ListStore, asked: Ask<'_>) -> (ListStore, Answer) {
-    let mut desk = Desk::open(store);
+    let mut desk = Desk::new(store);
     let text = match asked {
         Ask::Run(number, mode, text) => desk
             .arrive(alloc, "LYON", number, mode, text.as_bytes())
@@ -61,7 +61,7 @@ fn put(alloc: Global, store: ListStore, asked: Ask<'_>) -> (ListStore, Answer) {
         Ask::Yanks => desk.yank_list(alloc),
     };
     let work = desk.work();
-    (desk.close(), Answer { text, work })
+    (desk.into_store(), Answer { text, work })
 }
 
 /// Asks, and once more where memory is refused.
@@ -358,9 +358,9 @@ fn answers_to(
     store: ListStore,
     list: &[Arrival<'_>],
 ) -> (ListStore, Result<Vec<Result<Reply, Fault>>, Fault>) {
-    let mut desk = Desk::open(store);
-    let answers = desk.run_all(alloc, list);
-    (desk.close(), answers)
+    let mut desk = Desk::new(store);
+    let answers = desk.arrive_all(alloc, list);
+    (desk.into_store(), answers)
 }
 
 /// One that was answered arrives at another desk, and is answered alike.

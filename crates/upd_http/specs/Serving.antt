@@ -1,5 +1,5 @@
 -- One request and its answer: what is asked of the desk, what it does, and what is written.
-use Rattle.std.specs.Prelude.{◌≡◌, ◌⊎◌, ℕ, IsTrue, List, [], ◌∷◌, Option, Some, None, Result, Ok, Err, IfErr, IsErr}
+use Rattle.std.specs.Prelude.{◌≡◌, ◌⊎◌, ℕ, IsTrue, List, [], ◌∷◌, Option, Some, None, Result, Ok, Err, IsErr}
 use Rattle.std.specs.Io.KnownBytes.{Appends}
 use Rattle.std.specs.Result.{result_map_both}
 use Rattle.upd_change.specs.Rows.{Rows}
@@ -7,6 +7,7 @@ use Rattle.upd_core.specs.Library.{LibraryView}
 use Rattle.upd_compile.specs.File.{compile_file_of}
 use Rattle.upd_compile.specs.Listings.{card_listing, deck_listing, ident_listing, yank_listing}
 use Rattle.upd_compile.specs.declared.mode.Mode.TheVariants.{Full}
+use Rattle.upd_desk.specs.Answers.{CountsFailure}
 use Rattle.upd_desk.specs.Arrivals.{is_site}
 use Rattle.upd_desk.specs.Holding.{Arrives, Settles, Tells}
 use Rattle.upd_desk.specs.Outcomes.{ReplyView}
@@ -14,11 +15,11 @@ use Rattle.upd_reply.specs.Texts.{settled_text}
 use Rattle.upd_request.specs.Calls.{Asked, run, settle, compile, deck, card, idents, yanks}
 use Rattle.upd_request.specs.Requests.{Says}
 use Rattle.upd_request.specs.declared.call.Refusal.{Refusal}
-use Rattle.upd_rows.specs.Keeping.{Keeps, MoreFailures}
+use Rattle.upd_rows.specs.Keeping.{Keeps}
 use Rattle.upd_streams.specs.Fronts.{AppendsFront}
 use Rattle.upd_text.specs.Faults.{fault_at}
 use Rattle.upd_text.specs.declared.fault.Fault.{Fault}
-use Rattle.upd_text.specs.declared.fault.FaultKind.TheVariants.{NoMemory, Store, Read, Write}
+use Rattle.upd_text.specs.declared.fault.FaultKind.TheVariants.{NoMemory, Read, Write}
 use Rattle.upd_http.specs.Responses.{Response, fault_response, mark_response, page, refusal_answer, reply_response, response_of, response_text}
 
 -- want of memory, and reads and writes that failed
@@ -54,15 +55,11 @@ IsMarkResponse site (Err fault) told = told ≡ Err fault
 
 module _ {S : Type 0} {Image : Type 0} (is_honest is_open : S → Type 0) (image : S → Image) (shows : Image → Rows → Type 0)
     (may_leave : S → Image → Type 0) (failures : S → ℕ) where
-  -- a store is said to have failed only where it counted a failure
-  abbrev pub CountsFailure : {A : Type 0} → Result A Fault → S → S → Type 0
-  CountsFailure result old new = IfErr result (λ fault. fault.kind ≡ Store → MoreFailures (failures old) (failures new))
-
   -- a query told what the desk answered, as a page of these bytes
   abbrev pub Queries : {A : Type 0} → (LibraryView → Result A Fault) → (A → List ℕ) → Result Response Fault → S → S → Type 0
   Queries {A} defined bytes told old new =
       (result : Result A Fault) × Tells is_honest is_open image shows may_leave failures defined result old new
-      × Keeps is_honest is_open image shows may_leave failures old new × CountsFailure result old new
+      × Keeps is_honest is_open image shows may_leave failures old new × CountsFailure failures result old new
       × (told ≡ result_map_both (λ x. page (bytes x)) (λ fault. fault) result)
 
   -- The desk was asked this and told so, and its store went from the one to the other.
@@ -70,10 +67,10 @@ module _ {S : Type 0} {Image : Type 0} (is_honest is_open : S → Type 0) (image
   DoesAsAsked (run site number mode bytes) told old new =
       (result : Result ReplyView Fault)
       × Arrives is_honest is_open image shows may_leave failures (record { site = site; number = number; mode = mode; bytes = bytes }) result old new
-      × CountsFailure result old new × (told ≡ result_map_both reply_response (λ fault. fault) result)
+      × CountsFailure failures result old new × (told ≡ result_map_both reply_response (λ fault. fault) result)
   DoesAsAsked (settle site number) told old new =
       (result : Result ℕ Fault) × Settles is_honest is_open image shows may_leave failures site number result old new
-      × CountsFailure result old new × IsMarkResponse site result told
+      × CountsFailure failures result old new × IsMarkResponse site result told
   DoesAsAsked compile told old new = Queries (λ l. compile_file_of Full [] l l) (λ file. file.bytes) told old new
   DoesAsAsked (deck name) told old new = Queries (deck_listing name) (λ text. text) told old new
   DoesAsAsked (card c) told old new = Queries (card_listing c) (λ text. text) told old new

@@ -120,7 +120,7 @@ pub type Lists = Desk<ListStore>;
 
 /// A desk over an empty library.
 pub fn empty_desk(alloc: Global) -> Lists {
-    Desk::open(ListStore::new(alloc))
+    Desk::new(ListStore::new(alloc))
 }
 
 /// What is written and flushed for a request, read so many bytes at a time.

@@ -154,7 +154,7 @@ fn repeats(rt: &impl Abort, alloc: Global, desk: &mut TableDesk) -> Result<(), F
 /// A desk over a file that was led, behind the repeats.
 fn desk_over(rt: &impl Abort, alloc: Global, file: Older) -> Result<TableDesk, Fail> {
     let conn = is_led(rt, alloc, file)?;
-    let mut desk = Desk::open(adopted(conn)?);
+    let mut desk = Desk::new(adopted(conn)?);
     repeats(rt, alloc, &mut desk)?;
     Ok(desk)
 }

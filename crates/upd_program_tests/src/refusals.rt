@@ -85,10 +85,12 @@ fn a_missing_file_is_told_before_the_run_is_read(rt: HostRuntime) -> Result<(), 
 
 #[test]
 fn another_file_is_no_library_and_stays(rt: HostRuntime) -> Result<(), Fail> {
-    const TEXT: &[u8] = b"this is a text and no library\n";
+    const TEXT: &[u8] = b"SQLite format 2\0 is how this text begins, which is no library\n";
     let file = fresh(&rt, "text")?;
     fs::write(&rt, file.as_str(), TEXT)?;
     all_answer(&rt, &file, (3, "", "upd: Store (29) at 0\n"))?;
+    let log = format!(in rt.alloc(); "{file}-wal")?;
+    assert!(rt; !fs::exists(&rt, log.as_str())?);
     answers(
         &rt,
         &["init", &file],

@@ -10,6 +10,7 @@ use Rattle.upd_text.specs.declared.fault.Fault.{Fault}
 use Rattle.upd_text.specs.declared.fault.FaultKind.{FaultKind}
 use Rattle.upd_text.specs.declared.fault.FaultKind.TheVariants.{NoMemory, Store, BadFrame, Read, Write}
 use Rattle.upd_change.specs.Rows.{Rows}
+use Rattle.upd_desk.specs.Answers.{answer_line, is_answered}
 use Rattle.upd_desk.specs.Arrivals.{ArrivalView}
 use Rattle.upd_desk.specs.Outcomes.{ReplyView}
 use Rattle.upd_desk.specs.Holding.{Arrives, is_lost}
@@ -17,7 +18,7 @@ use Rattle.upd_spool.specs.declared.frames.TheConstants.{MAX_FRAMES}
 use Rattle.upd_spool.specs.Frames.{IsBad, IsFrame, frame_of, frame_text, frames_text}
 use Rattle.upd_spool.specs.Exchange.{StopsNothing, Unanswered}
 use Rattle.upd_spool.specs.Spools.{Answered, EndsBy, GetsNoLine, Handled, LosesOne, Stops, WritesFront}
-use Rattle.upd_spool.specs.Spools.{answer_line, answer_lines, is_answered}
+use Rattle.upd_spool.specs.Spools.{answer_lines}
 use Rattle.upd_spool.proofs.ArrivalLemmas.{further_arrived, none_arrived, one_arrived}
 use Rattle.upd_spool.proofs.FrameLemmas.{no_lf_no_frame}
 

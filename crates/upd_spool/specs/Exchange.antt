@@ -7,11 +7,12 @@ use Rattle.upd_text.specs.declared.fault.FaultKind.{FaultKind}
 use Rattle.upd_text.specs.declared.fault.FaultKind.TheVariants.{NoMemory, Store, BadFrame, CutFrame, Read, Write}
 use Rattle.upd_change.specs.Rows.{Rows}
 use Rattle.upd_rows.specs.Keeping.{MoreFailures}
+use Rattle.upd_desk.specs.Answers.{answer_line, is_answered}
 use Rattle.upd_desk.specs.Arrivals.{ArrivalView}
 use Rattle.upd_desk.specs.Outcomes.{ReplyView}
 use Rattle.upd_desk.specs.Holding.{Arrives}
 use Rattle.upd_spool.specs.Frames.{has_lf}
-use Rattle.upd_spool.specs.Spools.{Answered, EndsBy, GetsNoLine, answer_line, is_answered}
+use Rattle.upd_spool.specs.Spools.{Answered, EndsBy, GetsNoLine}
 
 -- ---- reading
 

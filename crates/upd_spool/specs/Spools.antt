@@ -1,13 +1,13 @@
 -- Spools: their frames, and how the reading of them ends.
-use Rattle.std.specs.Prelude.{◌≡◌, ◌⊎◌, ℕ, ◌+◌, ◌≤◌, ◌≢◌, Bool, true, false, not, IsTrue, List, [], ◌∷◌, ◌++◌, length, Option, None, Result, Ok, Err}
+use Rattle.std.specs.Prelude.{◌≡◌, ◌⊎◌, ℕ, ◌+◌, ◌≤◌, ◌≢◌, true, false, IsTrue, List, [], ◌∷◌, ◌++◌, length, Option, None, Result, Ok, Err}
 use Rattle.std.specs.Io.KnownBytes.{Appends, Consumes, IsAtEnd}
 use Rattle.std.specs.List.{All, flat_map}
 use Rattle.upd_text.specs.declared.fault.Fault.{Fault}
 use Rattle.upd_text.specs.declared.fault.FaultKind.{FaultKind}
 use Rattle.upd_text.specs.declared.fault.FaultKind.TheVariants.{NoMemory, Store, BadFrame, CutFrame, Read, Write}
 use Rattle.upd_change.specs.Rows.{Rows}
-use Rattle.upd_reply.specs.Texts.{fault_text}
 use Rattle.upd_rows.specs.Keeping.{MoreFailures}
+use Rattle.upd_desk.specs.Answers.{answer_line, is_answered}
 use Rattle.upd_desk.specs.Arrivals.{ArrivalView}
 use Rattle.upd_desk.specs.Outcomes.{ReplyView}
 use Rattle.upd_desk.specs.Holding.{ArriveAll, is_lost}
@@ -29,19 +29,9 @@ pub record IsSpool (text : List ℕ) (frames : List ArrivalView) (rest : List �
 
 -- ---- answers
 
--- the line that answers a frame: the reply, or the text of the fault
-abbrev pub answer_line : Result ReplyView Fault → List ℕ
-answer_line (Ok reply) = reply.text ++ 10 ∷ []
-answer_line (Err fault) = fault_text fault ++ 10 ∷ []
-
 -- lines one after the other
 abbrev pub answer_lines : List (Result ReplyView Fault) → List ℕ
 answer_lines results = flat_map answer_line results
-
--- whether an arrival was answered, and not lost
-abbrev pub is_answered : Result ReplyView Fault → Bool
-is_answered (Ok reply) = true
-is_answered (Err fault) = not (is_lost fault.kind)
 
 -- why an arrival got no line: it was lost, or it was refused and there was no memory for the text of its fault
 abbrev pub GetsNoLine : FaultKind → Fault → Type 0

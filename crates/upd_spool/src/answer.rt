@@ -1,13 +1,13 @@
 //! The answer to a frame: one line.
-ghost use Rattle.std.specs.Prelude.{◌≡◌, ◌∷◌, ◌++◌, [], false, IfErr, IfOk, OnOk, IsTrue, Result, Err, List, ℕ};
+ghost use Rattle.std.specs.Prelude.{◌≡◌, ◌∷◌, ◌++◌, [], IfErr, IfOk, OnOk, IsTrue, Result, Err, List, ℕ};
 ghost use Rattle.std.specs.Io.KnownBytes.{Appends};
-ghost use Rattle.upd_desk.specs.Holding.{Arrives, is_lost};
+ghost use Rattle.upd_desk.specs.Answers.{answer_line, is_answered};
+ghost use Rattle.upd_desk.specs.Holding.{Arrives};
 ghost use Rattle.upd_desk.specs.Outcomes.{ReplyView};
-ghost use Rattle.upd_reply.specs.Texts.{fault_text};
 ghost use Rattle.upd_rows.specs.Keeping.{MoreFailures};
 ghost use Rattle.upd_spool.specs.Exchange.{Unanswered};
 ghost use Rattle.upd_spool.specs.Frames.{arrival_of};
-ghost use Rattle.upd_spool.specs.Spools.{GetsNoLine, answer_line, is_answered};
+ghost use Rattle.upd_spool.specs.Spools.{GetsNoLine};
 ghost use Rattle.upd_streams.specs.Fronts.{AppendsFront};
 ghost use Rattle.upd_text.specs.declared.fault.Fault.{Fault};
 ghost use Rattle.upd_text.specs.declared.fault.FaultKind.TheVariants.{Store};
@@ -16,10 +16,10 @@ use crate::header::Header;
 use std::alloc::Global;
 use std::io;
 use std::io::Write;
-use upd_desk::Desk;
+use upd_desk::{Desk, fault_answer};
 use upd_rows::RowStore;
 use upd_streams::write_parts;
-use upd_text::{Fault, FaultKind};
+use upd_text::FaultKind;
 
 /// Lets a run arrive, and writes the line that answers it. All memory is taken before the line is written.
 pub(crate) fn answer<W: Write, S: RowStore>(
@@ -69,21 +69,7 @@ fn answer_text<S: RowStore>(
         Ok(reply) => Ok(reply.text),
         Err(fault) => match fault_answer(alloc, fault) {
             Ok(text) => Ok(text),
-            Err(kind) => Err(kind),
-        },
-    }
-}
-
-/// The text of a fault that leaves an arrival answered.
-fn fault_answer(alloc: Global, fault: Fault) -> Result<Vec<u8>, FaultKind>
-    ensures ok { IfOk result (λ text. (is_lost fault.kind ≡ false) × (text.items ≡ fault_text fault)) }
-    ensures err { IfErr result (λ kind. GetsNoLine kind fault) }
-{
-    match fault.kind {
-        FaultKind::NoMemory | FaultKind::Store => Err(fault.kind),
-        _ => match upd_reply::fault(alloc, fault) {
-            Ok(text) => Ok(text),
-            Err(_) => Err(FaultKind::NoMemory),
+            Err(untold) => Err(untold.kind),
         },
     }
 }

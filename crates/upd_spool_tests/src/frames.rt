@@ -25,7 +25,7 @@ const FULL_EMPTY: &str = "{\"compile\":\"\",\"idents\":[],\"lines\":0,\"mode\":\
 \"site\":\"LYON\",\"state\":\"accepted\"}\n";
 
 fn desk(alloc: Global) -> Desk<ListStore> {
-    Desk::open(ListStore::new(alloc))
+    Desk::new(ListStore::new(alloc))
 }
 
 /// A spool on a desk: what comes out, and how it ends.

@@ -94,7 +94,7 @@ fn comes_out(
 }
 
 fn desk(alloc: Global) -> Desk<ListStore> {
-    Desk::open(ListStore::new(alloc))
+    Desk::new(ListStore::new(alloc))
 }
 
 #[test]

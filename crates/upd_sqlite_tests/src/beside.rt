@@ -25,7 +25,7 @@ fn same_tables(rt: &impl Abort, talk: Stored) -> Result<Stored, Fail> {
         mut plain,
         alloc,
     } = talk;
-    let store = desk.close();
+    let store = desk.into_store();
     same_number(rt, "the decks read", store.decks_read(), plain.needed);
     plain.needed = 0;
     let mut conn = store.into_connection();

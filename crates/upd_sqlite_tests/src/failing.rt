@@ -156,7 +156,7 @@ fn after_loss(
     let answer = talk.ask(ask)?;
     same_answer(rt, ask, answer.as_str(), "Store (29) at 0");
     let Talk { desk, plain, alloc } = talk;
-    let mut store = desk.close();
+    let mut store = desk.into_store();
     keeps_none(rt, alloc, &mut store, sent)?;
     Ok(Talk::over(store, plain))
 }
@@ -191,9 +191,9 @@ fn a_failed_commit_keeps_no_run(rt: HostRuntime) -> Result<(), Fail> {
 
 /// The answers of a desk whose store fails after so many commits, one a line.
 fn run_all(alloc: Global, list: &[Arrival<'_>], passing: u64) -> Result<String, Fail> {
-    let mut desk = Desk::open(Failing::new(alloc, passing));
+    let mut desk = Desk::new(Failing::new(alloc, passing));
     let mut text = String::new(alloc);
-    for answer in desk.run_all(alloc, list)? {
+    for answer in desk.arrive_all(alloc, list)? {
         let answer = told(alloc, answer.map(|reply| reply.text))?;
         write!(text, "{answer}\n")?;
     }

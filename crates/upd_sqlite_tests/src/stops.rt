@@ -99,8 +99,9 @@ fn tables_in(alloc: Global, files: Files<Fused>) -> Result<(String, Files<Fused>
 
 fn tables_of(alloc: Global, store: FileStored) -> Result<(String, Files<Fused>), Fail> {
     let mut conn = store.into_connection();
-    let text = kept_tables(alloc, &mut conn)?;
-    Ok((text, files_of(conn)))
+    let text = kept_tables(alloc, &mut conn);
+    let files = files_of(conn);
+    Ok((text?, files))
 }
 
 /// What came of a list.
@@ -154,7 +155,7 @@ fn send_to(mut talk: Talk<FileStored>, list: &[Ask<'_>]) -> Result<Sending, Fail
     Ok(Sending {
         opened: true,
         answers,
-        files: files_of(talk.desk.close().into_connection()),
+        files: files_of(talk.desk.into_store().into_connection()),
     })
 }
 

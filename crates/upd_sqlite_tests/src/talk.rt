@@ -51,7 +51,7 @@ impl<S: RowStore> Talk<S> {
     pub fn over(store: S, plain: Plain) -> Talk<S> {
         let alloc = plain.library.allocator();
         Talk {
-            desk: Desk::open(store),
+            desk: Desk::new(store),
             plain,
             alloc,
         }

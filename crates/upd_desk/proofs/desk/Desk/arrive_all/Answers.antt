@@ -4,7 +4,7 @@ use Rattle.std.proofs.lemmas.List.{length-take-le, length_push, take_more}
 use Rattle.std.proofs.lemmas.List.Elements.{All-nil}
 use Rattle.std.specs.Vec.{vec_len}
 use Rattle.upd_desk.proofs.ArriveAllLemmas.{counted_more, none_arrived, one_more, work_one_more}
-use Rattle.upd_desk.proofs.desk.Desk.run_all.Goals as goal
+use Rattle.upd_desk.proofs.desk.Desk.arrive_all.Goals as goal
 
 pub loop-arrival-init : goal.loop-arrival-init
 loop-arrival-init g c =

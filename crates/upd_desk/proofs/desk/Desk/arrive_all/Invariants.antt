@@ -4,7 +4,7 @@ use Rattle.std.specs.Vec.{vec_capacity, vec_len}
 use Rattle.upd_desk.specs.Holding.{ArriveAll, HoldsIn, work_after_all}
 use Rattle.upd_desk.specs.Journal.{Journal}
 use Rattle.upd_desk.proofs.ArriveAllLemmas.{IsCounted}
-use Rattle.upd_desk.proofs.desk.Desk.run_all.Given as goal
+use Rattle.upd_desk.proofs.desk.Desk.arrive_all.Given as goal
 
 abbrev pub invariant-loop-arrival : goal.invariant-loop-arrival
 invariant-loop-arrival g l =

@@ -1,0 +1,28 @@
+-- How an answer of the desk is told: by a line, or by nothing where the arrival was lost.
+use Rattle.std.specs.Prelude.{◌≡◌, ◌⊎◌, ℕ, Bool, true, false, not, List, [], ◌∷◌, ◌++◌, Result, Ok, Err, IfErr}
+use Rattle.upd_text.specs.Faults.{fault_at}
+use Rattle.upd_text.specs.declared.fault.Fault.{Fault}
+use Rattle.upd_text.specs.declared.fault.FaultKind.TheVariants.{NoMemory, Store}
+use Rattle.upd_reply.specs.Texts.{fault_text}
+use Rattle.upd_rows.specs.Keeping.{MoreFailures}
+use Rattle.upd_desk.specs.Outcomes.{ReplyView}
+use Rattle.upd_desk.specs.Holding.{is_lost}
+
+-- whether an arrival was answered, and not lost
+abbrev pub is_answered : Result ReplyView Fault → Bool
+is_answered (Ok reply) = true
+is_answered (Err fault) = not (is_lost fault.kind)
+
+-- the line that answers an arrival: the reply, or the text of the fault
+abbrev pub answer_line : Result ReplyView Fault → List ℕ
+answer_line (Ok reply) = reply.text ++ 10 ∷ []
+answer_line (Err fault) = fault_text fault ++ 10 ∷ []
+
+-- why an arrival gets no line: it was lost, or there was no memory for the text of its fault
+abbrev pub IsUntold : Result ReplyView Fault → Fault → Type 0
+IsUntold (Ok reply) fault = ⊥
+IsUntold (Err told) fault = ((is_lost told.kind ≡ true) × (fault ≡ told)) ⊎ ((is_lost told.kind ≡ false) × (fault ≡ fault_at NoMemory 0))
+
+-- a store is said to have failed only where it counted a failure
+abbrev pub CountsFailure : {S A : Type 0} → (S → ℕ) → Result A Fault → S → S → Type 0
+CountsFailure failures result old new = IfErr result (λ fault. fault.kind ≡ Store → MoreFailures (failures old) (failures new))
