@@ -25,7 +25,7 @@ use Rattle.upd_sql.specs.Schema.{library_schema, meta_columns}
 use Rattle.upd_sql.specs.Stands.{Stands}
 use Rattle.upd_sql.proofs.Typed.{changes}
 use Rattle.upd_migrate.specs.declared.version.Version.{Version}
-use Rattle.upd_migrate.specs.Older.{HasTables, version_row_of}
+use Rattle.upd_migrate.specs.Older.{HasTables, number_of}
 
 -- the next table is made, and the others have their rows
 pub next_made : (n : ℕ) (sql : List ℕ) → MakesNext n sql → (all : List (List Row)) (old new : State) (count : ℕ) → Executes sql [] old new (Ok count)
@@ -54,16 +54,16 @@ unfolding understood everything
 set_version_plain = (refl, refl)
 
 -- the row that tells a version passes the test, whatever the version, and becomes that of the present schema
-version_becomes : (version : Version) → (if list_all (holds ([] ∷ (Null ∷ version_row_of version) ∷ [])) set_tests
-    then cast_all meta_columns (eval_all set_news ([] ∷ (Null ∷ version_row_of version) ∷ [])) else version_row_of version) ≡ version_row
+version_becomes : (version : Version) → (if list_all (holds ([] ∷ (Null ∷ version_row (number_of version)) ∷ [])) set_tests
+    then cast_all meta_columns (eval_all set_news ([] ∷ (Null ∷ version_row (number_of version)) ∷ [])) else version_row (number_of version)) ≡ version_row 3
 version_becomes version =
-    let named : list_all (holds ([] ∷ (Null ∷ version_row_of version) ∷ [])) set_tests ≡ true = one_test (eq_text (codes "version") (codes "version")) in
-    ap (λ b. if b then cast_all meta_columns (Text (codes "version") ∷ Int (pos 3) ∷ []) else version_row_of version) named ∙ (rw (cast_int (pos 3)) refl)
+    let named : list_all (holds ([] ∷ (Null ∷ version_row (number_of version)) ∷ [])) set_tests ≡ true = one_test (eq_text (codes "version") (codes "version")) in
+    ap (λ b. if b then cast_all meta_columns (Text (codes "version") ∷ Int (pos 3) ∷ []) else version_row (number_of version)) named ∙ (rw (cast_int (pos 3)) refl)
 
 -- the version is set
 pub version_set : (version : Version) (it : Rows) (old new : State) (count : ℕ) → Executes set_version [] old new (Ok count) → HasTables version it old.now
     → Stands it new.now
 version_set version it old new count ran h =
-    changes 0 0 (codes "meta") meta_columns (1 ∷ []) refl refl (λ _ _. refl) (λ v. v) ((version_row_of version ∷ []) ∷ drop 1 (stored it))
-    (version_row_of version ∷ []) refl set_version [] set_version_plain old new count ran h set_tests set_news set_version_is refl refl
-    (λ _. version_row) (version_becomes version, tt)
+    changes 0 0 (codes "meta") meta_columns (1 ∷ []) refl refl (λ _ _. refl) (λ v. v) ((version_row (number_of version) ∷ []) ∷ drop 1 (stored it))
+    (version_row (number_of version) ∷ []) refl set_version [] set_version_plain old new count ran h set_tests set_news set_version_is refl refl
+    (λ _. version_row 3) (version_becomes version, tt)

@@ -1,12 +1,11 @@
 -- The versions of the schema, and when a file has the tables of one.
-use Rattle.std.specs.Prelude.{ℕ, List, [], ◌∷◌, take, drop, codes}
-use Rattle.sqlite_value.specs.declared.value.Value.TheVariants.{Text}
+use Rattle.std.specs.Prelude.{ℕ, List, [], ◌∷◌, take, drop}
 use Rattle.sqlite_value.specs.Order.{Row}
 use Rattle.sqlite_schema.specs.declared.schema.Schema.{Schema}
 use Rattle.sqlite.specs.Effect.{Database}
 use Rattle.upd_change.specs.Rows.{Rows}
 use Rattle.upd_tables.specs.Stored.{HasAllRows, HoldsAllRows}
-use Rattle.upd_sql.specs.Encoded.{num, stored}
+use Rattle.upd_sql.specs.Encoded.{stored, version_row}
 use Rattle.upd_sql.specs.Making.{schema_up_to}
 use Rattle.upd_sql.specs.Schema.{library_schema}
 use Rattle.upd_migrate.specs.declared.version.Version.{Version}
@@ -27,13 +26,9 @@ tables_of Third = 9
 abbrev pub schema_of : Version → Schema
 schema_of version = schema_up_to (tables_of version)
 
--- the row that tells a version
-abbrev pub version_row_of : Version → Row
-version_row_of version = Text (codes "version") ∷ num (number_of version) ∷ []
-
 -- the lists of rows of a version's tables, in the order of the schema
 abbrev pub stored_in : Version → Rows → List (List Row)
-stored_in version rows = take (tables_of version) ((version_row_of version ∷ []) ∷ drop 1 (stored rows))
+stored_in version rows = take (tables_of version) ((version_row (number_of version) ∷ []) ∷ drop 1 (stored rows))
 
 -- the database has a version's schema, and these rows in its tables; what the rows say of other tables is left aside
 abbrev pub ShowsAs : Version → Rows → Database → Type 0
@@ -41,4 +36,4 @@ ShowsAs version rows = HasAllRows (schema_of version) (stored_in version rows)
 
 -- The database has all tables with these rows, and tells a version: rowids rise, as in every table.
 abbrev pub HasTables : Version → Rows → Database → Type 0
-HasTables version rows = HoldsAllRows library_schema ((version_row_of version ∷ []) ∷ drop 1 (stored rows))
+HasTables version rows = HoldsAllRows library_schema ((version_row (number_of version) ∷ []) ∷ drop 1 (stored rows))

@@ -96,7 +96,7 @@ version_told old new count ran h =
     let w = runs_as text.insert_version [] old new library_schema h.schema_is _ text.insert_version_is text.insert_version_plain count ran in
     subst (λ row. HoldsAllRows library_schema ((row ∷ []) ∷ [] ∷ [] ∷ [] ∷ [] ∷ [] ∷ [] ∷ [] ∷ [] ∷ []) new.now) (rw (cast_int (pos 3)) refl)
     (inserts library_schema 0 0 (codes "meta") meta_columns (1 ∷ []) refl refl (λ _ _. refl) old new (no_rows_in 9) _ [] count h
-    (lit Null ∷ lit (Text (codes "version")) ∷ lit (Int (pos 3)) ∷ []) 3 version_row refl w)
+    (lit Null ∷ lit (Text (codes "version")) ∷ lit (Int (pos 3)) ∷ []) 3 (version_row 3) refl w)
 
 pub leads_from : {X : Type 0} (P Q : Database → Type 0) (sql : List ℕ) (old new : State) (r : Result X Error) → Ran sql [] old new r
     → ((count : ℕ) → Executes sql [] old new (Ok count) → P old.now → Q new.now)

@@ -30,9 +30,9 @@ target_code (target.Set z) = num 0 ∷ num z ∷ num 0 ∷ []
 target_code (target.SetIn z d) = num 1 ∷ num z ∷ num d ∷ []
 target_code (target.Deck d) = num 2 ∷ num d ∷ num 0 ∷ []
 
--- the version of the schema
-abbrev pub version_row : Row
-version_row = Text (codes "version") ∷ num 3 ∷ []
+-- the row of `meta` that tells a version of the schema
+abbrev pub version_row : ℕ → Row
+version_row v = Text (codes "version") ∷ num v ∷ []
 
 abbrev pub ident_row : Ident → Row
 ident_row i = num i.age ∷ Text i.name ∷ num (kind_code i.kind) ∷ flag i.noprop ∷ flag i.held ∷ []
@@ -68,5 +68,5 @@ mark_row r = Text r.site ∷ num r.mark ∷ []
 -- the lists of rows of all nine tables, in the order of the schema
 abbrev pub stored : Rows → List (List Row)
 stored rows =
-    (version_row ∷ []) ∷ map ident_row rows.idents ∷ map card_row rows.cards ∷ map entry_row rows.entries ∷ map target_row rows.targets ∷ map run_row rows.runs
+    (version_row 3 ∷ []) ∷ map ident_row rows.idents ∷ map card_row rows.cards ∷ map entry_row rows.entries ∷ map target_row rows.targets ∷ map run_row rows.runs
     ∷ map state_row rows.states ∷ map count_row rows.counts ∷ map mark_row rows.settled ∷ []

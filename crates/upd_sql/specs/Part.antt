@@ -1,5 +1,5 @@
 -- Rows that are read of some tables or of parts of them.
-use Rattle.std.specs.Prelude.{◌≡◌, ℕ, Bool, List, [], ◌∷◌, length, map}
+use Rattle.std.specs.Prelude.{◌≡◌, ℕ, Bool, List, [], ◌∷◌, map}
 use Rattle.std.specs.List.{filter, list_any}
 use Rattle.std.specs.Str.{bytes_eq}
 use Rattle.sqlite_value.specs.declared.value.Value.TheVariants.{Text}
@@ -9,6 +9,7 @@ use Rattle.upd_text.specs.declared.card_ref.CardRef.{CardRef}
 use Rattle.upd_change.specs.Rows.{IsSame, Rows}
 use Rattle.upd_rows.specs.Assembling.{AreRowsOf}
 use Rattle.upd_rows.specs.PartRows.{AreOfDistinctCards, part_rows}
+use Rattle.upd_sql.specs.Sizes.{AreSizesOf}
 use Rattle.upd_sql.specs.Listed.{AreInOrder, in_any_order}
 use Rattle.upd_sql.specs.Stands.{Stands}
 use Rattle.upd_sql.specs.declared.active.ActiveRows.{ActiveRows}
@@ -17,8 +18,7 @@ use Rattle.upd_sql.specs.declared.part.Part.{Part}
 -- What is read of tables for the decks of these ages: their rows, where no two rows are of one card, and the numbers of all cards and entries.
 pub record IsPart (ages : List ℕ) (tables : Rows) (found : Part) : Type 0 where
   pub rows : AreOfDistinctCards tables.cards → AreRowsOf (part_rows ages tables) found.rows
-  pub cards : found.cards ≡ length tables.cards
-  pub entries : found.entries ≡ length tables.entries
+  pub sizes : AreSizesOf tables found.sizes
 
 -- whether a card is of one of the idents that brought these
 abbrev pub is_of_ident : List CardRef → CardRef → Bool

@@ -11,7 +11,6 @@ use Rattle.upd_change.specs.Rows.{Rows}
 use Rattle.upd_tables.specs.Steps.{Makes}
 use Rattle.upd_tables.specs.Stored.{HoldsAllRows, rows_at}
 use Rattle.upd_sql.specs.Schema.{library_schema}
-use Rattle.upd_sql.specs.declared.part.Part.{Part}
 use Rattle.upd_sql.specs.declared.sizes.Sizes.{Sizes}
 
 -- the trees of the tables of cards and of entries
@@ -37,10 +36,6 @@ AreKnown known IsRight = (n : Sizes) → known ≡ Some n → IsRight n
 -- numbers that are known are those of the last commit
 abbrev pub AreOfCommit : Option Sizes → State → Type 0
 AreOfCommit known s = AreKnown known (λ n. HasCleanDisk s → IsTrue s.is_open → HasSizes n s.committed.trees)
-
--- the numbers that a part tells
-abbrev pub sizes_of : Part → Sizes
-sizes_of part = record { cards = part.cards; entries = part.entries }
 
 -- A database of the library's schema, whose rowids rise, has so many rows of cards and of entries.
 pub record HoldsSizes (n : Sizes) (db : Database) : Type 0 where

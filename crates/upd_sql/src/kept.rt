@@ -12,7 +12,7 @@ ghost use Rattle.upd_sql.specs.Stands.{ShowsTables};
 ghost use Rattle.upd_rows.specs.Asked.{AreDecksOf};
 ghost use Rattle.upd_rows.specs.Assembling.{AreRowsOf};
 ghost use Rattle.upd_sql.specs.Part.{AreActiveRows, IsPart};
-ghost use Rattle.upd_sql.specs.Sizes.{AreOfCommit, HasSizes, sizes_of};
+ghost use Rattle.upd_sql.specs.Sizes.{AreOfCommit, HasSizes};
 
 use crate::active::ActiveRows;
 use crate::part::Part;
@@ -206,7 +206,7 @@ pub fn kept_part<S: Rising>(
         (λ found. (it : Rows) → ShowsTables it (state S.Store conn.old).committed → IsPart ages.now it found) }
     ensures sized { HasCleanDisk (state S.Store conn.new) → IfOk result
         (λ found. (state S.Store conn.old).committed.schema ≡ library_schema
-        → HasSizes (sizes_of found) (state S.Store conn.new).committed.trees) }
+        → HasSizes found.sizes (state S.Store conn.new).committed.trees) }
 {
     note_order_outside(conn);
     let _outside = conn.is_autocommit();

@@ -19,7 +19,7 @@ ghost use Rattle.upd_sql.specs.Encoded.{num};
 ghost use Rattle.upd_sql.specs.Listed.{AreInOrder, by_place, in_any_order};
 ghost use Rattle.upd_sql.specs.Part.{AnswersIdents, IsPart, is_of_ident};
 ghost use Rattle.upd_sql.specs.Schema.{library_schema};
-ghost use Rattle.upd_sql.specs.Sizes.{AreKnown, AreSizesOf, HasSizes, card_tree, entry_tree, sizes_of};
+ghost use Rattle.upd_sql.specs.Sizes.{AreKnown, AreSizesOf, HasSizes, card_tree, entry_tree};
 ghost use Rattle.upd_sql.specs.Stands.{Stands};
 
 use crate::reads::mark_in;
@@ -41,8 +41,7 @@ const LAST: u64 = 0x7fff_ffff_ffff_ffff;
 pub struct Part {
     /// Whole but for the cards of other decks, and their entries.
     pub rows: LibraryRows,
-    pub cards: u64,
-    pub entries: u64,
+    pub sizes: Sizes,
 }
 
 /// Looks at a row that isn't there: a shut connection fails.
@@ -345,20 +344,12 @@ pub(crate) fn part_in<S: Alter>(
     ensures sized { HasCleanDisk (state S.Store tx.new.conn.now)
         → IfOk result (λ found. (state S.Store tx.old.conn.now).now.schema ≡ library_schema
         → AreKnown known (λ n. HasSizes n (state S.Store tx.old.conn.now).now.trees)
-        → HasSizes (sizes_of found) (state S.Store tx.old.conn.now).now.trees) }
+        → HasSizes found.sizes (state S.Store tx.old.conn.now).now.trees) }
 {
     let rows = part_rows_in(tx, alloc, ages)?;
     if let Some(sizes) = known {
-        return Ok(Part {
-            rows,
-            cards: sizes.cards,
-            entries: sizes.entries,
-        });
+        return Ok(Part { rows, sizes });
     }
     let sizes = sizes_in(tx)?;
-    Ok(Part {
-        rows,
-        cards: sizes.cards,
-        entries: sizes.entries,
-    })
+    Ok(Part { rows, sizes })
 }

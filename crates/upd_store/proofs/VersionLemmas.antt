@@ -21,10 +21,10 @@ use Rattle.upd_tables.specs.Keyed.{plain_query}
 use Rattle.upd_tables.specs.Stored.{HasRows}
 use Rattle.upd_tables.proofs.Queries.{any_order}
 use Rattle.upd_tables.proofs.Tests.{eq_text, one_test}
-use Rattle.upd_sql.specs.Encoded.{num}
+use Rattle.upd_sql.specs.Encoded.{num, version_row}
 use Rattle.upd_sql.specs.Schema.{meta}
 use Rattle.upd_sql.specs.Wanted.{first_tables}
-use Rattle.upd_store.specs.Version.{IsLibrarySchema, TellsVersion, version_row}
+use Rattle.upd_store.specs.Version.{IsLibrarySchema, TellsVersion}
 
 abbrev pub version_text : List ℕ
 version_text = codes "SELECT v FROM meta WHERE k = 'version'"

@@ -1,21 +1,15 @@
 -- The version that a library's file tells.
-use Rattle.std.specs.Prelude.{◌≡◌, ◌⊎◌, ℕ, [], ◌∷◌, codes}
+use Rattle.std.specs.Prelude.{◌≡◌, ◌⊎◌, ℕ, [], ◌∷◌}
 use Rattle.sqlite_schema.specs.declared.schema.Schema.{Schema}
-use Rattle.sqlite_value.specs.declared.value.Value.TheVariants.{Text}
-use Rattle.sqlite_value.specs.Order.{Row}
 use Rattle.sqlite.specs.Effect.{Database}
 use Rattle.upd_tables.specs.Stored.{HasRows}
 use Rattle.upd_sql.specs.Schema.{meta}
-use Rattle.upd_sql.specs.Encoded.{num}
+use Rattle.upd_sql.specs.Encoded.{version_row}
 use Rattle.upd_sql.specs.Wanted.{first_tables}
 
 -- A library's file of whatever version: versions 1, 2 and 3 have the first six, eight and nine tables.
 abbrev pub IsLibrarySchema : Schema → Type 0
 IsLibrarySchema s = (s ≡ first_tables 6) ⊎ ((s ≡ first_tables 8) ⊎ (s ≡ first_tables 9))
-
--- the row of `meta` that tells a version
-abbrev pub version_row : ℕ → Row
-version_row v = Text (codes "version") ∷ num v ∷ []
 
 -- Its table `meta` tells a version and nothing else; without a row it tells 0.
 pub record TellsVersion (v : ℕ) (db : Database) : Type 0 where

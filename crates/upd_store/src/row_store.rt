@@ -13,7 +13,7 @@ use upd_core::{Actives, Age, CardRef, Library, States};
 use upd_order::Rising;
 use upd_rows::{RowStore, assembled, assembled_active, assembled_rest, decks_by_age, reads_with};
 use upd_sql::{
-    Sizes, commit_changes, is_library_schema, kept_active, kept_decks_of, kept_library, kept_mark,
+    commit_changes, is_library_schema, kept_active, kept_decks_of, kept_library, kept_mark,
     kept_part, kept_run, kept_states, kept_states_of, settle_site, sizes_after,
 };
 use upd_text::Fault;
@@ -77,13 +77,10 @@ impl<S: Rising> RowStore for SqlStore<S> {
         let known = self.sizes;
         self.sizes = None;
         match kept_part(&mut self.conn, alloc, decks, known) {
-            Ok(part) => match assembled_rest(alloc, part.rows, part.cards, part.entries) {
+            Ok(part) => match assembled_rest(alloc, part.rows, part.sizes.cards, part.sizes.entries) {
                 Ok(library) => {
                     self.decks_read = reads_with(self.decks_read, &library);
-                    self.sizes = Some(Sizes {
-                        cards: part.cards,
-                        entries: part.entries,
-                    });
+                    self.sizes = Some(part.sizes);
                     Ok(library)
                 }
                 Err(_) => Err(no_memory()),

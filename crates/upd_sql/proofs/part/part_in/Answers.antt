@@ -14,7 +14,7 @@ returns-in-Some-clause-looks g c =
     let one = state g.S.Store c.part_rows_in.new.tx.conn.now in
     looks_as (λ it x. AreRowsOf (part_rows ages it) x) (λ it found. AreKnown c.args.known (AreSizesOf it) → IsPart ages it found)
     zero one c.in_ok-rows.rows _
-    (λ it h right. let own = right c.in-Some.sizes c.in-Some.is in record { rows = λ _. h; cards = own.0; entries = own.1 }) c.in_ok-rows.ensures.looks
+    (λ it h right. record { rows = λ _. h; sizes = right c.in-Some.sizes c.in-Some.is }) c.in_ok-rows.ensures.looks
 
 pub returns-clause-looks : goal.returns-clause-looks
 returns-clause-looks g c =
@@ -25,4 +25,4 @@ returns-clause-looks g c =
     let both = looks_then (λ it x. AreRowsOf (part_rows ages it) x) (λ it n. AreSizesOf it n) zero one two c.in_ok-rows.rows
     (Ok c.in_ok-sizes.sizes) c.in_ok-rows.ensures.looks c.in_ok-sizes.ensures.looks in
     looks_as _ (λ it found. AreKnown c.args.known (AreSizesOf it) → IsPart ages it found) zero two c.in_ok-sizes.sizes _
-    (λ it h right. record { rows = λ _. h.0; cards = h.1.0; entries = h.1.1 }) both
+    (λ it h right. record { rows = λ _. h.0; sizes = h.1 }) both
