@@ -77,7 +77,12 @@ impl<S: Rising> RowStore for SqlStore<S> {
         let known = self.sizes;
         self.sizes = None;
         match kept_part(&mut self.conn, alloc, decks, known) {
-            Ok(part) => match assembled_rest(alloc, part.rows, part.sizes.cards, part.sizes.entries) {
+            Ok(part) => match assembled_rest(
+                alloc,
+                part.rows,
+                part.sizes.cards,
+                part.sizes.entries,
+            ) {
                 Ok(library) => {
                     self.decks_read = reads_with(self.decks_read, &library);
                     self.sizes = Some(part.sizes);
