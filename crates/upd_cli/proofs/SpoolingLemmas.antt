@@ -17,7 +17,7 @@ use Rattle.upd_spool.specs.Spools.{Ends, EndsBy, answer_lines}
 use Rattle.upd_cli.specs.Telling.{IsBegun, TellsLines}
 
 -- whole lines are out, and a beginning of one more where a write failed
-LinesBefore : FaultKind → List (Result ReplyView Fault) → Option (List ℕ) → Option (List ℕ) → Type 0
+abbrev LinesBefore : FaultKind → List (Result ReplyView Fault) → Option (List ℕ) → Option (List ℕ) → Type 0
 LinesBefore kind answers output output' =
     (front : List ℕ) × All (λ answer. IsTrue (is_answered answer)) answers × IsBegun kind front
     × Appends output output' (answer_lines answers ++ front)

@@ -24,5 +24,10 @@ returns-in-Run-clause-leaves g c =
     let P : Asked → Type 0 = λ asked. Leaves c.run_on.result (g.W.Write.contents c.args.output.now) (g.W.Write.contents c.run_on.new.output) asked in
     subst P (sym c.in-Run.is) c.run_on.ensures.leaves
 
-pub returns-in_ok-ended-in-Spool-clause-waits : goal.returns-in_ok-ended-in-Spool-clause-waits
-returns-in_ok-ended-in-Spool-clause-waits g c = λ no. absurd (no (subst MayTell (sym c.in-Spool.is) tt))
+pub returns-in-Spool-clause-leaves : goal.returns-in-Spool-clause-leaves
+returns-in-Spool-clause-leaves g c =
+    let P : Asked → Type 0 = λ asked. Leaves c.spool_on.result (g.W.Write.contents c.args.output.now) (g.W.Write.contents c.spool_on.new.output) asked in
+    subst P (sym c.in-Spool.is) c.spool_on.ensures.leaves
+
+pub returns-in-Spool-clause-waits : goal.returns-in-Spool-clause-waits
+returns-in-Spool-clause-waits g c = λ no. absurd (no (subst MayTell (sym c.in-Spool.is) tt))
