@@ -1,5 +1,5 @@
 -- The lines that a spool leaves on the output.
-use Rattle.std.proofs.Common.{◌≡◌, inl, inr, IsTrue, List, [], ◌∷◌, ◌++◌, ℕ, Option, Some, Result, Ok, Err, append-nil, refl, subst, sym}
+use Rattle.std.proofs.Common.{inl, inr, IsTrue, List, [], ◌∷◌, ◌++◌, ℕ, Option, Some, Result, Err, append-nil, refl, subst, sym}
 use Rattle.std.specs.Io.KnownBytes.{Appends}
 use Rattle.std.specs.List.{All}
 use Rattle.std.proofs.KnownBytes.{Appends-nil}
