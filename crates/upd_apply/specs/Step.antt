@@ -25,7 +25,7 @@ use Rattle.upd_apply.specs.Purges.{AgesIn, idents_purged, decks_purged, pairs_pu
 abbrev pub within_limits : LibraryView → Result LibraryView FaultKind
 within_limits l = if is_within_limits l then Ok l else Err fault.Full
 
--- whether a new ident may have a name: else Reserved or NameTaken
+-- Reserved or NameTaken where a new ident may not have the name; else Ok, with the `false` that nobody looks at
 abbrev pub new_name : List ℕ → LibraryView → Result Bool FaultKind
 new_name name l = do
   _ ← refuse_if (is_reserved name) fault.Reserved

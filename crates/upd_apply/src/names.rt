@@ -41,7 +41,7 @@ fn is_reserved(name: &Name) -> bool
     *name == Name::yank()
 }
 
-/// Whether a new ident may have this name; else Reserved or NameTaken.
+/// Refuses a name that a new ident may not have: Reserved or NameTaken.
 pub(crate) fn new_name(library: &Library, name: &Name) -> Result<(), FaultKind>
     ensures { MatchResult result
         (λ _. new_name name.now library.now ≡ Ok false)

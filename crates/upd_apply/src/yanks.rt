@@ -126,7 +126,7 @@ pub(crate) fn decks_yanked(
     Ok(found)
 }
 
-/// Adds the sets of a range that aren't there yet. The marks tell which are: a range may name every ident, and a search
+/// Adds the idents of a range that aren't there yet. The marks tell which are: a range may name them all, and a search
 /// for each would go over all that was found.
 fn add_sets(
     found: &mut Vec<Target>,
@@ -149,7 +149,7 @@ fn add_sets(
     Ok(())
 }
 
-/// Adds a set that isn't there yet.
+/// Adds an ident that isn't there yet.
 fn add_set(found: &mut Vec<Target>, marks: &mut Vec<bool>, age: Age) -> Result<(), AllocError>
     requires marked { AreMarked marks.old.items found.old.items }
     requires apart { once is_same found.old.items ≡ found.old.items }
@@ -163,7 +163,7 @@ fn add_set(found: &mut Vec<Target>, marks: &mut Vec<bool>, age: Age) -> Result<(
     Ok(())
 }
 
-/// Whether the set of an age is marked.
+/// Whether the ident of an age is marked.
 fn has_set(marks: &[bool], age: Age) -> bool
     ensures { result ≡ has_set marks.now age }
 {
@@ -171,7 +171,7 @@ fn has_set(marks: &[bool], age: Age) -> bool
     age < marks.len() && marks[age]
 }
 
-/// Marks the set of an age.
+/// Marks the ident of an age.
 fn mark(marks: &mut Vec<bool>, age: Age) -> Result<(), AllocError>
     ensures { OnOk result ((z : ℕ) → has_set marks.new.items z ≡ (has_set marks.old.items z || (z == age))) }
 {

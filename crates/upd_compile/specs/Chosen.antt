@@ -49,7 +49,7 @@ has_chain_within zero before a d = false
 has_chain_within (suc n) before a d =
     list_any (λ c. is_passed_on a c && (is_changed before c || has_chain_within n before a c)) (called_decks a d)
 
--- a chain that calls no deck twice is no longer than there are decks
+-- whether a deck has a chain to a changed common deck: one that calls no deck twice has at most as many calls as there are decks
 abbrev pub has_chain : ActivesView → ActivesView → ActiveDeckView → Bool
 has_chain before a d = has_chain_within (length a.decks) before a d
 

@@ -104,7 +104,7 @@ ident_listing l = flat_map ident_line l.idents
 
 -- ---- the yanks
 
--- whether no held ident has an age
+-- whether the ident at the place of an age in the directory isn't held, or none is there
 abbrev pub is_purged : List Ident → ℕ → Bool
 is_purged idents age = not (option_map_or (λ i. i.held) (ident_at idents age) false)
 

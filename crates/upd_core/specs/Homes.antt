@@ -7,15 +7,15 @@ use Rattle.upd_core.specs.Library.{CardView, DeckView}
 abbrev pub may_stray : List Bool → Age → Bool
 may_stray marks ident = slice_index_or marks ident true
 
--- whether a card stands in the deck of its own ident, or is known to stray
+-- whether a card stands in the deck of its own ident, or its ident may stray
 abbrev pub is_home : List Bool → Age → CardView → Bool
 is_home marks deck c = (c.ident == deck) || may_stray marks c.ident
 
--- the cards of a deck do
+-- each card of a deck stands in the deck of its own ident, or its ident may stray
 abbrev pub IsHome : List Bool → DeckView → Type 0
 IsHome marks d = All (λ c. is_home marks d.ident c ≡ true) d.cards
 
--- the cards of all decks do
+-- the same of all decks
 abbrev pub AreHome : List Bool → List DeckView → Type 0
 AreHome marks decks = All (IsHome marks) decks
 

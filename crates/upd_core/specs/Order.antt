@@ -7,7 +7,7 @@ use Rattle.upd_core.specs.declared.target.Target.{Target}
 use Rattle.upd_core.specs.declared.target.Target.TheVariants.{Set, SetIn, Deck}
 use Rattle.upd_core.specs.Ages.{Age}
 
--- What tells a target: its kind (0 a set, 1 a set in a deck, 2 a deck) and its ages, 0 for the second where there is one.
+-- What tells a target: its kind (0 an ident, 1 an ident in a deck, 2 a deck), its age, and the deck's age for kind 1, 0 for the others.
 pub record TargetKey : Type 0 where
   pub kind : ℕ
   pub age : Age

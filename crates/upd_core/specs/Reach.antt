@@ -11,7 +11,7 @@ use Rattle.upd_core.specs.Library.{CardView, LibraryView, all_decks, ref_of}
 abbrev pub has_entry_of : ℕ → CardView → Bool
 has_entry_of z c = list_any (λ e. e.ident == z) c.history
 
--- A set covers the cards that have an entry of it, a set in a deck those of them in the deck, and a deck all its cards.
+-- An ident covers the cards that have an entry of it, an ident in a deck those of them in the deck, and a deck all its cards.
 abbrev pub covers : ℕ → CardView → Target → Bool
 covers d c (Set z) = has_entry_of z c
 covers d c (SetIn z a) = has_entry_of z c && (a == d)

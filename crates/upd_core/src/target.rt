@@ -12,9 +12,9 @@ use crate::ident::Age;
 /// What a yank card takes out of use while it is live.
 #[derive(Clone, Copy, Debug, PartialEq, Eq, PartialOrd, Ord, Hash)]
 pub enum Target {
-    /// All that a set did.
+    /// All that an ident brought and did, be it a set or a deck: written `set z` in listings.
     Set(Age),
-    /// All that a set did in one deck: the set, then the deck.
+    /// The same in one deck: the ident, then the deck.
     SetIn(Age, Age),
     /// All cards of a deck.
     Deck(Age),

@@ -12,7 +12,7 @@ is_blank b = b == 32
 abbrev pub is_comma : Byte → Bool
 is_comma b = b == 44
 
--- a word ends at a blank, at a comma or with its line
+-- whether a word ends before this byte: a blank or a comma
 abbrev pub ends_word : Byte → Bool
 ends_word b = is_blank b || is_comma b
 
@@ -53,7 +53,7 @@ is_comment (b ∷ bs) = (b == 42) && begins_slash bs
 abbrev pub word : Bytes → Bytes
 word line = up_to ends_word (drop 1 line)
 
--- behind the word come blanks with at most one comma among them, and then the first field
+-- what stands behind a line's word and its lead: the fields and the remark
 abbrev pub body : Bytes → Bytes
 body line = after_blanks (after_comma (after_blanks (from_first ends_word (drop 1 line))))
 

@@ -16,7 +16,7 @@ abbrev pub need : {A : Type 0} → FaultKind → Option A → Result A FaultKind
 need fault (Some x) = Ok x
 need fault None = Err fault
 
--- the refusal where the fact holds
+-- the refusal where the fact holds; else Ok, with the `false` that nobody looks at
 abbrev pub refuse_if : Bool → FaultKind → Result Bool FaultKind
 refuse_if bad fault = if bad then Err fault else Ok bad
 

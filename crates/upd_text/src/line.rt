@@ -102,7 +102,7 @@ fn behind_star(line: &[u8]) -> &[u8]
     }
 }
 
-/// What stands behind the word, its blanks and a comma.
+/// What stands behind a line's word and its lead: the fields and the remark.
 fn body(line: &[u8]) -> &[u8]
     ensures { result.now ≡ body line.now }
 {

@@ -31,7 +31,7 @@ deck_a = codes "*DECK A\nONE\nTWO\nTHREE\n"
 abbrev pub ran : LibraryView → List ℕ → Result Reached Fault
 ran l run = reading run >>= (λ lines. applied lines l)
 
--- the library after runs that all begin at one
+-- the library after runs, the first applied to this library and each further one to what the one before it left; or the first refusal
 abbrev pub ran_from : LibraryView → List (List ℕ) → Result LibraryView Fault
 ran_from l [] = Ok l
 ran_from l (run ∷ runs) = ran l run >>= (λ reached. ran_from reached.library runs)
