@@ -44,7 +44,7 @@ accepted_made mode bytes l done made h =
       sound = run_sound run.lines l done.reached made.sound run.applied;
       whole = run_whole run.lines l done.reached made.whole run.applied;
       within = run_within run.lines l done.reached made.within run.applied;
-      by_runs = run_made run.lines l done.reached (bytes, run.read) made.by_runs run.applied;
+      texts = run_made run.lines l done.reached (bytes, run.read) made.texts run.applied;
     }
 
 -- ---- all journals
@@ -57,7 +57,7 @@ outcome_made mode a l made = go (compiled mode a.bytes l) refl
     go (Err f) e = made
 
 empty_is_made : IsMade empty
-empty_is_made = record { sound = empty_sound; whole = refl; within = refl; by_runs = empty_made }
+empty_is_made = record { sound = empty_sound; whole = refl; within = refl; texts = empty_made }
 
 runs_made : (runs : List Heard) → IsMade (made_by runs)
 runs_made [] = empty_is_made

@@ -12,7 +12,7 @@ use Rattle.upd_deck.proofs.GrammarNames.{all_of}
 use Rattle.upd_compile.specs.declared.mode.Mode.{Mode}
 use Rattle.upd_compile.specs.File.{FileView, compile_file_of}
 use Rattle.upd_compile.specs.Modes.{mode_named}
-use Rattle.upd_laws.specs.ReadRuns.{IsMadeByRuns}
+use Rattle.upd_laws.specs.ReadRuns.{HasLineTexts}
 use Rattle.upd_laws.proofs.CompileLineLemmas.{file_plain, name_of_plain}
 use Rattle.upd_laws.proofs.SoundListLemmas.{and_right, all_weaker}
 use Rattle.upd_reply.specs.Texts.{AreShown, accepted_text, is_shown}
@@ -52,7 +52,7 @@ word_shown word mode named = full (bytes_eq word (codes "full")) refl
 plain_shown : (b : ℕ) → IsTrue (is_allowed b || (b == 10)) → is_shown b ≡ true
 plain_shown b is = grind (arith, nat_tests)
 
-pub file_shown : (mode : Mode) (named : List ℕ) (before after : LibraryView) (file : FileView) → IsMadeByRuns after
+pub file_shown : (mode : Mode) (named : List ℕ) (before after : LibraryView) (file : FileView) → HasLineTexts after
     → compile_file_of mode named before after ≡ Ok file → AreShown file.bytes
 file_shown mode named before after file made h =
     all_weaker (λ b. IsTrue (is_allowed b || (b == 10))) (λ b. IsTrue (is_shown b)) file.bytes plain_shown (file_plain mode named before after file made h)
@@ -81,8 +81,8 @@ all_shown mode a l done made entered h =
     record {
       site = site_shown a.site through.site;
       word = word_shown a.mode mode through.word;
-      idents = names_shown done.reached.library.idents done.reached.idents left.by_runs.names;
-      file = file_shown mode done.reached.compile l done.reached.library done.file left.by_runs run.file;
+      idents = names_shown done.reached.library.idents done.reached.idents left.texts.names;
+      file = file_shown mode done.reached.compile l done.reached.library done.file left.texts run.file;
     }
 
 -- a text is the reply where it is written from the same parts

@@ -9,7 +9,7 @@ use Rattle.upd_change.specs.Changes.{ChangeView, done_all}
 use Rattle.upd_change.specs.Fits.{AllFit}
 use Rattle.upd_change.specs.Rows.{Rows, RunView, Shows, ShowsStates}
 use Rattle.upd_compile.specs.declared.mode.Mode.{Mode}
-use Rattle.upd_laws.specs.ReadRuns.{IsMadeByRuns}
+use Rattle.upd_laws.specs.ReadRuns.{HasLineTexts}
 use Rattle.upd_yank.specs.Affected.{affected}
 use Rattle.upd_desk.specs.Arrivals.{ArrivalView, door}
 use Rattle.upd_desk.specs.Journal.{Journal, kept, library_after}
@@ -20,7 +20,7 @@ pub record IsMade (l : LibraryView) : Type 0 where
   pub sound : IsSound l
   pub whole : IsWhole l
   pub within : IsTrue (is_within_limits l)
-  pub by_runs : IsMadeByRuns l
+  pub texts : HasLineTexts l
 
 -- Row changes lead tables to a library: the tables can carry them out, and then show the library with its statuses and counts.
 pub record LeadTo (changes : List ChangeView) (rows : Rows) (l : LibraryView) : Type 0 where

@@ -28,7 +28,7 @@ use Rattle.upd_compile.specs.declared.mode.Mode.{Mode}
 use Rattle.upd_compile.specs.Chosen.{chosen}
 use Rattle.upd_compile.specs.File.{FileView, blanks, card_line, compile_file_of, event_line, from_left, from_right, is_line, walk_faults, written}
 use Rattle.upd_compile.specs.Walk.{WalkEvent, Line, Follow, Depth, Unknown, card_events, common_named, deck_aged, call_events, text_cards, walk}
-use Rattle.upd_laws.specs.ReadRuns.{IsMadeByRuns, IsOfRun}
+use Rattle.upd_laws.specs.ReadRuns.{HasLineTexts, IsOfRun}
 use Rattle.upd_laws.proofs.SoundListLemmas.{and_left, and_right, all_append, all_each, all_filter, all_flat, all_map, all_weaker}
 use Rattle.upd_core.proofs.FoundLemmas.{flat}
 use Rattle.upd_laws.proofs.SoundOutcomeLemmas.{holds_of}
@@ -153,7 +153,7 @@ name_short idents z named = go (z == 0) (slice_get idents (z - 1)) refl
     go false None e = omega arith
     go false (Some i) e = short i.name (all_at (λ (i : Ident). IsTrue (is_name i.name)) idents (z - 1) i named e)
 
-pub card_columns : (l : LibraryView) (c : CardView) → IsMadeByRuns l → IsOfRun c → FitsColumns l.idents (without_past c)
+pub card_columns : (l : LibraryView) (c : CardView) → HasLineTexts l → IsOfRun c → FitsColumns l.idents (without_past c)
 card_columns l c made fits =
     let text = fits.0.0 in
     let most = fits.2 in
@@ -163,10 +163,10 @@ card_columns l c made fits =
       number = length-decimal-le 6 c.number (omega arith) (omega arith) (omega arith);
     }
 
-pub made_line : (l : LibraryView) (c : CardView) → IsMadeByRuns l → Contains (all_cards l) c → length (card_line l.idents (without_past c)) ≡ 97
+pub made_line : (l : LibraryView) (c : CardView) → HasLineTexts l → Contains (all_cards l) c → length (card_line l.idents (without_past c)) ≡ 97
 made_line l c made is = line_length l.idents (without_past c) (card_columns l c made (all_of_contained IsOfRun (all_cards l) c made.cards is))
 
-actives_of_cards : (P : ActiveCardView → Type 0) (l : LibraryView) → ((c : CardView) → IsOfRun c → P (without_past c)) → IsMadeByRuns l
+actives_of_cards : (P : ActiveCardView → Type 0) (l : LibraryView) → ((c : CardView) → IsOfRun c → P (without_past c)) → HasLineTexts l
     → AreOfCards P (actives_of l).decks
 actives_of_cards P l k made = all_map _ (active_deck live) l.decks (all_weaker (λ (d : DeckView). AllByRecursion IsOfRun d.cards) _ l.decks (λ d. deck d)
     (all_each IsOfRun (λ (d : DeckView). d.cards) l.decks (all_back IsOfRun l.yanks (flat l.decks) made.cards)))
@@ -180,7 +180,7 @@ actives_of_cards P l k made = all_map _ (active_deck live) l.decks (all_weaker (
 
 -- a compile file is written from lines of cards of its library
 file_from : (P : ActiveCardView → Type 0) (mode : Mode) (named : List ℕ) (before after : LibraryView) (file : FileView)
-    → ((c : CardView) → IsOfRun c → P (without_past c)) → IsMadeByRuns after → compile_file_of mode named before after ≡ Ok file
+    → ((c : CardView) → IsOfRun c → P (without_past c)) → HasLineTexts after → compile_file_of mode named before after ≡ Ok file
     → IsWrittenFrom P after.idents file
 file_from P mode named before after file k made h =
     go (flat_map (walk MAX_DEPTH (actives_of after)) decks)
@@ -202,7 +202,7 @@ file_from P mode named before after file k made h =
             (record { bytes = flat_map (event_line after.idents) events; lines = count_by is_line events }) file (rw e at h)
             (record { events = events; lines = are; written = refl })
 
-pub file_length : (mode : Mode) (named : List ℕ) (before after : LibraryView) (file : FileView) → IsMadeByRuns after
+pub file_length : (mode : Mode) (named : List ℕ) (before after : LibraryView) (file : FileView) → HasLineTexts after
     → compile_file_of mode named before after ≡ Ok file → length file.bytes ≡ 97 * file.lines
 file_length mode named before after file made h =
     let from = file_from (FitsColumns after.idents) mode named before after file (λ c. card_columns after c made) made h in
@@ -258,7 +258,7 @@ name_of_plain idents z named = go (z == 0) (slice_get idents (z - 1)) refl
     go false None e = tt
     go false (Some i) e = name_plain i.name (all_at (λ (i : Ident). IsTrue (is_name i.name)) idents (z - 1) i named e)
 
-card_plain : (l : LibraryView) (c : CardView) → IsMadeByRuns l → IsOfRun c → IsPlain l.idents (without_past c)
+card_plain : (l : LibraryView) (c : CardView) → HasLineTexts l → IsOfRun c → IsPlain l.idents (without_past c)
 card_plain l c made fits = record {
   text = text_plain c.text fits.0.1;
   name = name_of_plain l.idents c.ident made.names;
@@ -289,7 +289,7 @@ events_plain idents (event ∷ events) are =
     one Depth plain = tt
     one Unknown plain = tt
 
-pub file_plain : (mode : Mode) (named : List ℕ) (before after : LibraryView) (file : FileView) → IsMadeByRuns after
+pub file_plain : (mode : Mode) (named : List ℕ) (before after : LibraryView) (file : FileView) → HasLineTexts after
     → compile_file_of mode named before after ≡ Ok file → AllByRecursion IsFileByte file.bytes
 file_plain mode named before after file made h =
     let from = file_from (IsPlain after.idents) mode named before after file (λ c. card_plain after c made) made h in

@@ -32,7 +32,7 @@ use Rattle.upd_apply.specs.Step.{line_done, step, new_name, set_begun, deck_begu
 use Rattle.upd_apply.specs.Step.{purged_in_all}
 use Rattle.upd_apply.specs.Purges.{AgesIn}
 use Rattle.upd_apply.specs.Yanks.{sets_yanked, pairs_yanked, decks_yanked}
-use Rattle.upd_laws.specs.ReadRuns.{IsLineText, IsOfRun, IsMadeByRuns, WereRead}
+use Rattle.upd_laws.specs.ReadRuns.{HasLineTexts, IsLineText, IsOfRun, WereRead}
 use Rattle.upd_laws.specs.Soundness.{after_run, after_runs}
 use Rattle.upd_laws.proofs.ReadLineLemmas.{BringsName, IsReadLine, run_read}
 use Rattle.upd_laws.proofs.SoundListLemmas.{all_append, all_each, all_flat, all_map, all_weaker, more_all, at_first_all}
@@ -56,11 +56,11 @@ all_with P age change l k all =
     (all_each P (λ (d : DeckView). d.cards) (all_decks l) all)))
 
 made_with : (age : ℕ) (change : List CardView → List CardView) (l : LibraryView)
-    → ((cards : List CardView) → AllByRecursion IsOfRun cards → AllByRecursion IsOfRun (change cards)) → IsMadeByRuns l → IsMadeByRuns (with_cards age change l)
+    → ((cards : List CardView) → AllByRecursion IsOfRun cards → AllByRecursion IsOfRun (change cards)) → HasLineTexts l → HasLineTexts (with_cards age change l)
 made_with age change l k made =
     record { names = subst (AllByRecursion Named) (sym (idents_with age change l)) made.names; cards = all_with IsOfRun age change l k made.cards }
 
-made_card : (d behind : ℕ) (c : CardView) (l : LibraryView) → IsOfRun c → IsMadeByRuns l → IsMadeByRuns (with_card d behind c l)
+made_card : (d behind : ℕ) (c : CardView) (l : LibraryView) → IsOfRun c → HasLineTexts l → HasLineTexts (with_card d behind c l)
 made_card d behind c l fits made =
     made_with d (λ cards. insert cards (length cards - behind) c) l
     (λ cards all. more_all IsOfRun c cards _ (insert_more c cards (length cards - behind)) fits all) made
@@ -75,7 +75,7 @@ all_drop P zero xs all = all
 all_drop P (suc n) [] all = tt
 all_drop P (suc n) (x ∷ xs) all = all_drop P n xs all.1
 
-made_entries : (d from to : ℕ) (e : Entry) (l : LibraryView) → IsMadeByRuns l → IsMadeByRuns (with_entries d from to e l)
+made_entries : (d from to : ℕ) (e : Entry) (l : LibraryView) → HasLineTexts l → HasLineTexts (with_entries d from to e l)
 made_entries d from to e l made =
     made_with d (entered_range from to e) l
     (λ cards all.
@@ -86,29 +86,29 @@ made_entries d from to e l made =
     all_append IsOfRun (take from cards ++ map (entered e) range) (drop (to + 1) cards)
     (all_append IsOfRun (take from cards) (map (entered e) range) (all_take IsOfRun from cards all) same) (all_drop IsOfRun (to + 1) cards all)) made
 
-made_introduced : (name : List ℕ) (sort : Kind) (noprop : Bool) (l : LibraryView) → is_name name ≡ true → IsMadeByRuns l
-    → IsMadeByRuns (introduced name sort noprop l)
+made_introduced : (name : List ℕ) (sort : Kind) (noprop : Bool) (l : LibraryView) → is_name name ≡ true → HasLineTexts l
+    → HasLineTexts (introduced name sort noprop l)
 made_introduced name sort noprop l named made = record { names = all_append Named l.idents _ made.names (named, tt); cards = made.cards }
 
-made_deck : (a : ℕ) (c : CardView) (l : LibraryView) → IsOfRun c → IsMadeByRuns l → IsMadeByRuns (with_deck (record { ident = a; cards = c ∷ [] }) l)
+made_deck : (a : ℕ) (c : CardView) (l : LibraryView) → IsOfRun c → HasLineTexts l → HasLineTexts (with_deck (record { ident = a; cards = c ∷ [] }) l)
 made_deck a c l fits made = record { names = made.names; cards = more_all IsOfRun c (all_cards l) _ (more_with_deck a c l) fits made.cards }
 
-made_yank : (c : CardView) (l : LibraryView) → IsOfRun c → IsMadeByRuns l → IsMadeByRuns (with_yank c l)
+made_yank : (c : CardView) (l : LibraryView) → IsOfRun c → HasLineTexts l → HasLineTexts (with_yank c l)
 made_yank c l fits made = record { names = made.names; cards = more_all IsOfRun c (all_cards l) _ (more_with_yank c l) fits made.cards }
 
-pub made_purged : (gone : ℕ → Bool) (l : LibraryView) → IsMadeByRuns l → IsMadeByRuns (purged gone l)
+pub made_purged : (gone : ℕ → Bool) (l : LibraryView) → HasLineTexts l → HasLineTexts (purged gone l)
 made_purged gone l made = record {
   names = all_map Named (unheld gone) l.idents (all_weaker Named (λ i. Named (unheld gone i)) l.idents (λ i h. h) made.names);
   cards = all_purged IsOfRun IsOfRun gone l (λ c e h. h) made.cards;
 }
 
-made_purged_in : (d z : ℕ) (l : LibraryView) → IsMadeByRuns l → IsMadeByRuns (purged_in d z l)
+made_purged_in : (d z : ℕ) (l : LibraryView) → HasLineTexts l → HasLineTexts (purged_in d z l)
 made_purged_in d z l made = record {
   names = subst (AllByRecursion Named) (sym (idents_with d (without_idents (λ x. x == z)) l)) made.names;
   cards = all_purged_in IsOfRun d (λ x. x == z) l (λ c e h. h) made.cards;
 }
 
-made_purged_in_all : (ages : List AgesIn) (l : LibraryView) → IsMadeByRuns l → IsMadeByRuns (purged_in_all ages l)
+made_purged_in_all : (ages : List AgesIn) (l : LibraryView) → HasLineTexts l → HasLineTexts (purged_in_all ages l)
 made_purged_in_all [] l made = made
 made_purged_in_all (a ∷ ages) l made = made_purged_in_all ages (purged_in a.deck a.ident l) (made_purged_in a.deck a.ident l made)
 
@@ -125,7 +125,7 @@ IsSpotUpTo k (Inside d behind) = Unit {0}
 
 -- a state that gives its next card a number of k at most
 record IsMade (k : ℕ) (s : State) : Type 0 where
-  pub library : IsMadeByRuns s.library
+  pub library : HasLineTexts s.library
   pub hand : IfSome s.hand (λ (h : Hand). IsUpTo k h.next)
   pub spot : IsSpotUpTo k s.spot
 
@@ -239,7 +239,7 @@ switched_made k active first last s t made h =
       spot = tt;
     })))))))
 
-ended_made : (k : ℕ) (l : LibraryView) → IsMadeByRuns l → IsMade k (ended l)
+ended_made : (k : ℕ) (l : LibraryView) → HasLineTexts l → IsMade k (ended l)
 ended_made k l made = record { library = made; hand = tt; spot = tt }
 
 done_made : (k : ℕ) (item : ItemView) (text : List ℕ) (s t : State) → 0 < k → k ≤ MAX_RUN_LINES → IsLineText text → BringsName item → IsMade k s
@@ -274,27 +274,27 @@ done_made k (Compile ranges) text s t some few fits named made h = holds_of (IsM
 -- ---- lines and runs
 
 steps_made : (k : ℕ) (lines : List LineView) (s t : State) → 0 < k → k + length lines ≤ MAX_RUN_LINES + 1 → AllByRecursion IsReadLine lines → IsMade k s
-    → stepped lines s ≡ Ok t → IsMadeByRuns t.library
-steps_made k [] s t some few fit made h = holds_of (λ (x : State). IsMadeByRuns x.library) s t h made.library
+    → stepped lines s ≡ Ok t → HasLineTexts t.library
+steps_made k [] s t some few fit made h = holds_of (λ (x : State). HasLineTexts x.library) s t h made.library
 steps_made k (line ∷ lines) s t some few fit made h =
-    through (at_line line.number (step line s)) _ t (IsMadeByRuns t.library) h (λ x e h1.
+    through (at_line line.number (step line s)) _ t (HasLineTexts t.library) h (λ x e h1.
     let after = done_made k line.item line.text s x some (omega arith) fit.0.0 fit.0.1 made (line_is line.number (step line s) x e) in
     steps_made (k + 1) lines x t (omega arith) (omega arith) fit.1 after h1)
 
-pub run_made : (lines : List LineView) (l : LibraryView) (r : Reached) → WereRead lines → IsMadeByRuns l → applied lines l ≡ Ok r → IsMadeByRuns r.library
+pub run_made : (lines : List LineView) (l : LibraryView) (r : Reached) → WereRead lines → HasLineTexts l → applied lines l ≡ Ok r → HasLineTexts r.library
 run_made lines l r were made h =
     let read = run_read lines were in
     let short = read.short in
-    reached_by IsMadeByRuns lines l r
+    reached_by HasLineTexts lines l r
     (λ s e. steps_made 1 lines (started l) s (omega arith) (omega arith) read.lines_fit (record { library = made; hand = tt; spot = tt }) e) h
 
-pub empty_made : IsMadeByRuns empty
+pub empty_made : HasLineTexts empty
 empty_made = record { names = tt; cards = tt }
 
-pub runs_made : (runs : List (List LineView)) (l : LibraryView) → AllByRecursion WereRead runs → IsMadeByRuns l → IsMadeByRuns (after_runs runs l)
+pub runs_made : (runs : List (List LineView)) (l : LibraryView) → AllByRecursion WereRead runs → HasLineTexts l → HasLineTexts (after_runs runs l)
 runs_made [] l read made = made
 runs_made (run ∷ runs) l read made = runs_made runs (after_run l (applied run l)) read.1 (one (applied run l) refl)
   where
-    one : (r : Result Reached Fault) → applied run l ≡ r → IsMadeByRuns (after_run l r)
+    one : (r : Result Reached Fault) → applied run l ≡ r → HasLineTexts (after_run l r)
     one (Ok reached) e = run_made run l reached read.0 made e
     one (Err fault) e = made

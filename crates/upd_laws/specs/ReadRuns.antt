@@ -20,7 +20,8 @@ IsLineText text = (length text ≤ MAX_LINE_BYTES) × IsTrue (list_all is_allowe
 abbrev pub IsOfRun : CardView → Type 0
 IsOfRun c = IsLineText c.text × (0 < c.number) × (c.number ≤ MAX_RUN_LINES)
 
--- What holds of the directory and the cards.
-pub record IsMadeByRuns (l : LibraryView) : Type 0 where
+-- Each ident's name is spelled as one, and each card has a line's text and a number from 1 to 2,000.
+-- So it is in every library that runs have made (`read_runs_bring_cards_of_lines`).
+pub record HasLineTexts (l : LibraryView) : Type 0 where
   pub names : AllByRecursion (λ i. IsTrue (is_name i.name)) l.idents
   pub cards : AllByRecursion IsOfRun (all_cards l)

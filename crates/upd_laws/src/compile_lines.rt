@@ -10,20 +10,20 @@ ghost use Rattle.upd_deck.specs.Reading.{is_allowed};
 ghost use Rattle.upd_compile.specs.declared.mode.Mode.{Mode};
 ghost use Rattle.upd_compile.specs.File.{FileView, card_line, compile_file_of};
 ghost use Rattle.upd_compile.specs.Listings.{deck_heading, deck_listing};
-ghost use Rattle.upd_laws.specs.ReadRuns.{IsMadeByRuns};
+ghost use Rattle.upd_laws.specs.ReadRuns.{HasLineTexts};
 ghost use Rattle.upd_laws.specs.YankLines.{yank_line};
 
-/// Each line of a compile file has 97 bytes, where the library was made by runs that were read.
+/// Each line of a compile file has 97 bytes, where names and cards are as runs bring them.
 pub fn compile_lines_have_97_bytes()
-    ensures line { (l : LibraryView) (c : CardView) → IsMadeByRuns l → Contains (all_cards l) c
+    ensures line { (l : LibraryView) (c : CardView) → HasLineTexts l → Contains (all_cards l) c
         → length (card_line l.idents (without_past c)) ≡ 97 }
-    ensures file { (mode : Mode) (named : List ℕ) (before after : LibraryView) (file : FileView) → IsMadeByRuns after
+    ensures file { (mode : Mode) (named : List ℕ) (before after : LibraryView) (file : FileView) → HasLineTexts after
         → compile_file_of mode named before after ≡ Ok file → length file.bytes ≡ 97 * file.lines }
 {}
 
-/// A compile file has the bytes of lines, and LF at their ends, where the library was made by runs that were read.
+/// A compile file has the bytes of lines, and LF at their ends, where names and cards are as runs bring them.
 pub fn compile_files_have_bytes_of_lines()
-    ensures { (mode : Mode) (named : List ℕ) (before after : LibraryView) (file : FileView) → IsMadeByRuns after
+    ensures { (mode : Mode) (named : List ℕ) (before after : LibraryView) (file : FileView) → HasLineTexts after
         → compile_file_of mode named before after ≡ Ok file
         → AllByRecursion (λ b. IsTrue (is_allowed b || (b == 10))) file.bytes }
 {}
