@@ -34,10 +34,11 @@ card_after (Kept was is) = is ∷ []
 card_after (Gone was) = []
 card_after (New is) = is ∷ []
 
--- the deck as it was, and as it is
+-- the deck as it was
 abbrev pub deck_before : DeckFatesView → DeckView
 deck_before k = record { ident = k.deck; cards = flat_map card_before k.fates }
 
+-- the deck as it is
 abbrev pub deck_after : DeckFatesView → DeckView
 deck_after k = record { ident = k.deck; cards = flat_map card_after k.fates }
 

@@ -10,6 +10,7 @@ use Rattle.upd_core.specs.Library.{held_named, is_common}
 use Rattle.upd_text.specs.Lines.{is_call, called}
 use Rattle.upd_compile.specs.Walk.{text_cards}
 
+-- the kind and the age of an ident
 abbrev pub kind_and_age : Ident → Kind × ℕ
 kind_and_age i = (i.kind, i.age)
 

@@ -14,6 +14,7 @@ pub record ProgressView : Type 0 where
   pub lines : ℕ
   pub calls : ℕ
 
+-- nothing is written, and no call was followed
 abbrev pub at_start : ProgressView
 at_start = record { bytes = []; lines = 0; calls = 0 }
 

@@ -3,9 +3,11 @@ use Rattle.std.specs.Prelude.{◌≡◌, ℕ, ◌+◌, ◌==◌, ◌<◌, nat_lt
 use Rattle.std.specs.List.{list_any}
 use Rattle.std.specs.Option.{option_map_or}
 
+-- whether a position is marked: past the marks none is
 abbrev pub is_marked : List Bool → ℕ → Bool
 is_marked marks k = option_map_or (λ b. b) (slice_get marks k) false
 
+-- whether a position is one of these
 abbrev pub is_in : List ℕ → ℕ → Bool
 is_in positions k = list_any (λ p. p == k) positions
 

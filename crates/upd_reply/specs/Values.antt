@@ -13,18 +13,21 @@ whole n = number (unsigned n)
 abbrev pub items : List (List ℕ) → Items
 items texts = items_of (map string texts)
 
+-- the reply to an accepted run: its compile file, the names of the idents that it introduced, the number of its compile lines
 abbrev pub accepted_value : List ℕ → ℕ → List ℕ → List (List ℕ) → List ℕ → ℕ → Data
 accepted_value site n mode idents file lines =
     object (member (codes "compile") (string file) (member (codes "idents") (array (items idents)) (member (codes "lines") (whole lines)
     (member (codes "mode") (string mode) (member (codes "run") (whole n) (member (codes "site") (string site)
     (member (codes "state") (string (codes "accepted")) no_members)))))))
 
+-- the reply to a refused run
 abbrev pub refused_value : List ℕ → ℕ → List ℕ → Fault → Data
 refused_value site n mode fault =
     object (member (codes "at") (whole fault.at) (member (codes "fault") (whole (fault_number fault.kind)) (member (codes "mode") (string mode)
     (member (codes "name") (string (fault_name fault.kind)) (member (codes "run") (whole n) (member (codes "site") (string site)
     (member (codes "state") (string (codes "refused")) no_members)))))))
 
+-- what tells a fault that is no reply
 abbrev pub fault_value : Fault → Data
 fault_value fault =
     object (member (codes "at") (whole fault.at) (member (codes "fault") (whole (fault_number fault.kind))

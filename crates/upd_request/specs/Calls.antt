@@ -37,16 +37,19 @@ asked Yanks = yanks
 abbrev pub told_refusal : FaultKind → Refusal
 told_refusal kind = Told (fault_at kind 0)
 
--- want of memory, a request that is no request, one that ends too early, and a failed read
+-- want of memory
 abbrev pub no_memory_refusal : Refusal
 no_memory_refusal = told_refusal NoMemory
 
+-- a request that is no request
 abbrev pub bad_frame : Refusal
 bad_frame = told_refusal BadFrame
 
+-- a request that ends too early: nothing is answered
 abbrev pub cut_frame : Refusal
 cut_frame = Silent (fault_at CutFrame 0)
 
+-- a failed read: nothing is answered
 abbrev pub read_failed_refusal : Refusal
 read_failed_refusal = Silent (fault_at Read 0)
 

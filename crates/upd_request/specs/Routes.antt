@@ -23,15 +23,16 @@ abbrev pub with_scan : {E : Type 0} → Result Scan E → Route → RowsOf (Rout
 with_scan (Ok scan) value rows = placed (scan.pattern, route_from scan value) rows
 with_scan (Err e) value rows = rows
 
--- whether it conflicts with none of them
+-- whether a route that has been read conflicts with none of these
 abbrev pub is_clear : {E : Type 0} → Result Scan E → RowsOf (RouteOf Route) → Bool
 is_clear (Ok scan) rows = is_none (nearest scan.pattern rows)
 is_clear (Err e) rows = false
 
--- the same of a route's text
+-- the routes of a router with one more, by its text
 abbrev pub with_route : List ℕ → Route → RowsOf (RouteOf Route) → RowsOf (RouteOf Route)
 with_route text value rows = with_scan (parse_route text) value rows
 
+-- whether a text is a route's, and conflicts with none of these
 abbrev pub is_free : List ℕ → RowsOf (RouteOf Route) → Bool
 is_free text rows = is_clear (parse_route text) rows
 
@@ -45,10 +46,11 @@ text_of_route route.Card = codes "/cards/{ident}/{number}"
 text_of_route route.Idents = codes "/idents"
 text_of_route route.Yanks = codes "/yanks"
 
--- the router's routes
+-- the routes of a router with this one, as it is written
 abbrev pub with_text : Route → RowsOf (RouteOf Route) → RowsOf (RouteOf Route)
 with_text route rows = with_route (text_of_route route) route rows
 
+-- the router's routes
 abbrev pub routes : RowsOf (RouteOf Route)
 routes = with_text route.Yanks (with_text route.Idents (with_text route.Card (with_text route.Deck
     (with_text route.Compile (with_text route.Settled (with_text route.Run []))))))

@@ -28,15 +28,19 @@ module _ {A : Type 0} (key : A → List ℕ) where
 
 -- ---- the keys of the tables
 
+-- an ident's key: its age
 abbrev pub ident_key : Ident → List ℕ
 ident_key i = i.age ∷ []
 
+-- a card's key: its deck and its place there
 abbrev pub card_key : CardRow → List ℕ
 card_key r = r.deck ∷ r.pos ∷ []
 
+-- an entry's key: the name and the number of its card, with 0 between them, and its place in the history
 abbrev pub entry_key : EntryRow → List ℕ
 entry_key r = r.card.name ++ 0 ∷ r.card.number ∷ r.ord ∷ []
 
+-- a target's key: the name and the number of its card, with 0 between them, and its place among the card's targets
 abbrev pub target_key : TargetRow → List ℕ
 target_key r = r.card.name ++ 0 ∷ r.card.number ∷ r.ord ∷ []
 
@@ -63,9 +67,10 @@ changed_after runs changes = asked runs (λ l. in_order (done_all changes (rows_
 abbrev pub brought : List ℕ → ℕ → Kind → Ident
 brought name age kind = record { name = name; age = age; kind = kind; noprop = false; held = true }
 
--- entries of an ident
+-- an entry "on" of an ident
 abbrev pub on : ℕ → Entry
 on z = record { ident = z; active = true }
 
+-- an entry "off" of an ident
 abbrev pub off : ℕ → Entry
 off z = record { ident = z; active = false }
