@@ -20,7 +20,8 @@ pub fn write_parts<W: Write>(writer: &mut W, parts: &[&[u8]]) -> io::Result<()>
     writer.flush()
 }
 
-/// Writes all bytes. An error leaves at most a beginning of them.
+/// Writes all bytes. An error leaves at most a beginning of them. Unlike std's `write_all` it doesn't try again after
+/// Interrupted: that call says nothing of what an error leaves.
 fn write_part<W: Write>(writer: &mut W, bytes: &[u8]) -> io::Result<()>
     ensures ok { OnOk result (Appends (W.contents writer.old) (W.contents writer.new) bytes.now) }
     ensures front { AppendsFront (W.contents writer.old) (W.contents writer.new) bytes.now }
