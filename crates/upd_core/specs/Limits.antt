@@ -3,19 +3,19 @@ use Rattle.std.specs.Prelude.{ℕ, ◌+◌, nat_le, Bool, ◌&&◌, length, sum_
 use Rattle.upd_text.specs.declared.limits.TheConstants.{MAX_HELD, MAX_INTRODUCED, MAX_CARDS, MAX_ENTRIES, MAX_TARGETS}
 use Rattle.upd_core.specs.Library.{LibraryView, all_decks}
 
--- the cards of a library, those of decks that aren't loaded too
+-- how many cards a library has, those of decks that aren't loaded too
 abbrev pub card_count : LibraryView → ℕ
 card_count l = l.rest.cards + sum_by (λ d. length d.cards) (all_decks l)
 
--- the entries of all histories
+-- how many entries its histories have, those of decks that aren't loaded too
 abbrev pub entry_count : LibraryView → ℕ
 entry_count l = l.rest.entries + sum_by (λ d. sum_by (λ c. length c.history) d.cards) (all_decks l)
 
--- the targets of all yank cards
+-- how many targets its yank cards have
 abbrev pub target_count : LibraryView → ℕ
 target_count l = sum_by (λ c. length c.targets) l.yanks
 
--- the idents that are held
+-- how many of its idents are held
 abbrev pub held_count : LibraryView → ℕ
 held_count l = count_by (λ i. i.held) l.idents
 

@@ -75,14 +75,14 @@ impl Counts {
     }
 }
 
-/// The idents that are held.
+/// How many of these idents are held.
 fn held_count(idents: &[Ident]) -> usize
     ensures { result ≡ capped (count_by (λ i. i.held) idents.now) }
 {
     idents.iter().filter(|ident| ident.held).count()
 }
 
-/// The cards of decks.
+/// How many cards decks have.
 fn card_count(decks: &[Deck]) -> usize
     ensures { result ≡ capped (sum_by (λ d. length d.cards) decks.now) }
 {
@@ -93,7 +93,7 @@ fn card_count(decks: &[Deck]) -> usize
     count
 }
 
-/// The entries of the cards of decks.
+/// How many entries the cards of decks have.
 fn deck_entry_count(decks: &[Deck]) -> usize
     ensures { result ≡ capped (sum_by (λ d. sum_by (λ c. length c.history) d.cards) decks.now) }
 {
@@ -104,7 +104,7 @@ fn deck_entry_count(decks: &[Deck]) -> usize
     count
 }
 
-/// The targets of yank cards.
+/// How many targets yank cards have.
 fn target_count(cards: &[Card]) -> usize
     ensures { result ≡ capped (sum_by (λ c. length c.targets) cards.now) }
 {
