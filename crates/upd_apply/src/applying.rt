@@ -90,7 +90,8 @@ fn outcome(
     })
 }
 
-/// Purges the ident of an age and all younger ones. It takes no memory, and an age that no ident has is no fault.
+/// Purges the ident of an age and all younger ones. It takes no memory, and an age that no ident has is no fault. The
+/// program doesn't call it.
 pub fn purge_back(library: &mut Library, age: Age)
     ensures { library.new ≡ purged_back age library.old }
 {

@@ -41,7 +41,7 @@ pub struct State {
     pub(crate) spot: Spot,
 }
 
-/// Each line's part, on a state of its own: after a refusal the state is of no use.
+/// What each line does. A refused line may leave the state half changed: the run is then thrown away with it.
 impl State {
     /// A run begins with no set in hand and no place of text.
     pub(crate) fn new(library: Library) -> State

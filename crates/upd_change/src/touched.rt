@@ -52,8 +52,8 @@ fn are_rising(decks: &[Deck]) -> bool
     true
 }
 
-/// Adds the touched cards of a deck that had these cards. Where `sure`, they are those that the fates say; else each
-/// is looked for.
+/// Adds the touched cards of a deck that had these cards. `sure`: the decks of the library before stand by age, so that
+/// `before` are the very cards that the fates tell of; else each card is searched for.
 fn add_touched(
     found: &mut Vec<CardRef>,
     idents: &[Ident],
@@ -97,7 +97,8 @@ fn add_unless(
     Ok(())
 }
 
-/// Whether a card that is kept has the history that it had.
+/// Whether a card that is kept has the history that it had. `sure`: `was` is one of the cards before; else the card is
+/// searched for among them.
 fn has_stayed(before: &[Card], youngest: Age, sure: bool, was: &Card, is: &Card) -> bool
     requires { EachIndex before.now (λ i. (d : CardView) → (slice_index_or before.now i d).ident ≤ youngest) }
     ensures { AreApart (map key_of before.now) → (sure ≡ true → Contains before.now was.now)

@@ -1,4 +1,4 @@
-//! Lists of calls turned round.
+//! Who calls whom, from lists of whom each calls.
 
 ghost use Rattle.std.specs.Prelude.{◌≡◌, ◌==◌, ◌&&◌, [], map, length, replicate, IfOk, OnOk};
 ghost use Rattle.upd_compile.specs.Reach.{AreCallers, FollowsMore, is_in};

@@ -15,7 +15,7 @@ use upd_text::Fault;
 
 /// The decks that changed from one library to another, by age; memory alone can fail.
 ///
-/// A deck changed where it wasn't there before, or its active cards differ.
+/// A deck changed where it wasn't there before, or its active cards differ. The program doesn't call it.
 pub fn changed(alloc: Global, before: &Library, after: &Library) -> Result<Vec<Age>, Fault>
     ensures ok { IfOk result (λ ages. ages.items ≡ changed (actives_of before.now) (actives_of after.now)) }
     ensures err { IsOkUnless result (fault_at NoMemory 0) }

@@ -43,7 +43,7 @@ impl Progress {
         }
     }
 
-    /// Writes the line of a card.
+    /// Writes the line of a card; CompileLong at the limit.
     pub(crate) fn line(&mut self, idents: &[Ident], card: &ActiveCardRef) -> Result<(), FaultKind>
         ensures { Does result self.new (after_event idents.now (Line card.now) self.old) }
     {
@@ -63,7 +63,7 @@ impl Progress {
         CompileFile { bytes, lines }
     }
 
-    /// Counts a call.
+    /// Counts a call; CompileLong at the limit.
     pub(crate) fn follow(&mut self) -> Result<(), FaultKind>
         ensures { Does result self.new (after_event [] Follow self.old) }
     {

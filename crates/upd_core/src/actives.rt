@@ -86,7 +86,7 @@ impl ActiveDeck {
         Ok(())
     }
 
-    /// The cards where they stand.
+    /// The deck as references into it: no text is copied.
     pub fn shown(&self) -> Result<ActiveDeckRef<'_>, AllocError>
         ensures { IfOk result (λ shown. shown ≡ self.now) }
     {

@@ -110,7 +110,7 @@ impl<'a> Counted<'a> {
         }
     }
 
-    /// How many histories have been read; the count stays at `u64::MAX`.
+    /// How many histories have been read; the count stays at `u64::MAX`. The program doesn't call it.
     pub fn histories_read(&self) -> u64
         ensures { result ≡ self.now.histories_read }
     {
@@ -141,7 +141,8 @@ impl<'a> Counted<'a> {
         self.histories_read = self.histories_read.saturating_add(1);
     }
 
-    /// The cards that a target covers, by deck (`YANK$$$` first) and place; memory alone can fail.
+    /// The cards that a target covers, by deck (`YANK$$$` first) and place; memory alone can fail. The program doesn't
+    /// call it.
     pub fn covered(&self, alloc: Global, target: Target) -> Result<Vec<CardRef>, Fault>
         ensures ok { IfOk result (λ cards. cards.items ≡ covered target self.now.library) }
         ensures err { IsOkUnless result (fault_at NoMemory 0) }

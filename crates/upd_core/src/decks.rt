@@ -174,7 +174,7 @@ fn mark_card(strays: &mut [bool], deck: Age, card: &Card)
     }
 }
 
-/// The same of marks that are kept as decks keep them.
+/// [`mark_card`] on a vector, whose length stays.
 fn mark_kept(strays: &mut Vec<bool>, deck: Age, card: &Card)
     ensures kept { StayMarked strays.old.items strays.new.items }
     ensures home { is_home strays.new.items deck card.now ≡ true }

@@ -273,7 +273,7 @@ fn enter_some(cards: &mut [Card], from: usize, to: usize, entry: Entry) -> Resul
     }
 }
 
-/// The same of cards that are kept as a deck keeps them.
+/// [`enter_some`] on a deck's vector, whose length stays.
 fn enter_range(
     cards: &mut Vec<Card>,
     from: usize,
@@ -288,7 +288,7 @@ fn enter_range(
     enter_some(cards, from, to, entry)
 }
 
-/// The same in the deck of an age; no card has it where there is no such deck.
+/// [`enter_range`] in the deck of an age; on no card where there is no such deck.
 pub(crate) fn enter_in(
     decks: &mut Vec<Deck>,
     age: Age,

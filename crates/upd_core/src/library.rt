@@ -220,7 +220,8 @@ impl Library {
         })
     }
 
-    /// Whether the card that a reference names is active, for a yank card live.
+    /// Whether the card that a reference names is active, for a yank card live; None where there is no such card. The
+    /// program doesn't call it.
     pub fn status(&self, live: &Live, card: CardRef) -> Option<bool>
         requires { live.now ≡ live_of self.now }
         ensures { result ≡ status_of card self.now }

@@ -38,7 +38,8 @@ impl<'a> Model for Live<'a> {
 }
 
 impl<'a> Live<'a> {
-    /// Whether the yank card is live that a reference names.
+    /// Whether the yank card is live that a reference names; None where there is no such card. The program doesn't call
+    /// it.
     pub fn live_yank(&self, card: CardRef) -> Option<bool>
         ensures { result ≡ live_yank card self.now }
     {

@@ -14,7 +14,7 @@ use std::marker::Model;
 /// last stands first.
 #[derive(Drop)]
 pub(crate) struct Targets {
-    /// From the last to the first.
+    /// From the last to the first. It is never read: it is what the Model shows.
     all: Vec<Target>,
     index: HashSet<Target>,
 }

@@ -16,8 +16,9 @@ use upd_text::limits::{MAX_LINE_BYTES, MAX_RUN_BYTES, MAX_RUN_LINES};
 use upd_text::line::is_comment;
 use upd_text::{Fault, FaultKind};
 
-/// Reads a run as a whole. A run that passes a limit is refused at 0; otherwise the first faulty line decides, and the
-/// fault is at its number.
+/// Reads a run as a whole. A run that passes a limit is refused at 0, by RunLong or TooManyLines; otherwise the first
+/// faulty line decides, and the fault is at its number: BadByte, LineLong, BadField, BadName or BadCard. NoMemory is
+/// at 0.
 pub fn read_run(alloc: Global, bytes: &[u8]) -> Result<Run<'_>, Fault>
     ensures reading { GivesAt (λ run. run) result (reading bytes.now) }
 {

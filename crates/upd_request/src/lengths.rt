@@ -64,7 +64,8 @@ fn is_named(word: &[u8], name: &[u8]) -> bool
     name.eq_ignore_ascii_case(word)
 }
 
-/// A number in digits, however many.
+/// The length that digits spell: Long once it passes the limit, however many follow; Bad where the text is empty or not
+/// of digits alone.
 fn read_length(text: &[u8]) -> BodyLength
     ensures { result ≡ length_said text.now }
 {

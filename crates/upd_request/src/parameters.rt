@@ -41,7 +41,7 @@ fn parameter(alloc: Global, path: &str, place: usize) -> Result<Vec<u8>, AllocEr
     Ok(bytes)
 }
 
-/// A parameter as a text.
+/// A parameter as a text; `kind` where it isn't UTF-8.
 pub(crate) fn text_at(
     alloc: Global,
     path: &str,
@@ -60,7 +60,7 @@ pub(crate) fn text_at(
     }
 }
 
-/// A parameter as a number.
+/// A parameter as a number; BadNumber where it is none.
 pub(crate) fn number_at(alloc: Global, path: &str, place: usize) -> Result<u64, Refusal>
     ensures { Gives (λ n. n) result (or_told BadNumber (number_of (parameter (segments_of path.now) place))) }
 {
@@ -71,7 +71,7 @@ pub(crate) fn number_at(alloc: Global, path: &str, place: usize) -> Result<u64, 
     }
 }
 
-/// A parameter as a name.
+/// A parameter as a name; BadName where it is none.
 pub(crate) fn name_at(alloc: Global, path: &str, place: usize) -> Result<Name, Refusal>
     ensures { Gives (λ n. n) result (or_told BadName (name_of (parameter (segments_of path.now) place))) }
 {
@@ -82,7 +82,7 @@ pub(crate) fn name_at(alloc: Global, path: &str, place: usize) -> Result<Name, R
     }
 }
 
-/// Two parameters as one card reference.
+/// Two parameters as one card reference; BadCard where they are none.
 pub(crate) fn card_at(
     alloc: Global,
     path: &str,

@@ -36,6 +36,7 @@ pub fn read_call<R: Read>(alloc: Global, reader: &mut R) -> Result<Call, Refusal
 {
     let mut buf = Vec::new(alloc);
     let mut headers = [EMPTY_HEADER_SPAN; MAX_HEADERS];
+    // A match in place of `?`, here and below: each arm is a path that the proof names.
     let spans = match read_head(reader, &mut buf, &mut headers) {
         Ok(spans) => spans,
         Err(refusal) => return Err(refusal),

@@ -50,7 +50,7 @@ pub fn called(line: &[u8]) -> &[u8]
     field
 }
 
-/// The fields of a starred line, up to its remark.
+/// The fields of a starred line, up to its remark. Memory alone can fail.
 pub fn fields<'a>(alloc: Global, line: &'a [u8]) -> Result<Vec<&'a [u8]>, AllocError>
     ensures { IfOk result (λ found. map (λ x. x.now) found.items ≡ fields line.now) }
 {

@@ -89,11 +89,11 @@ impl Cache {
         })
     }
 
-    /// Leads the cache from the library before a run to the one after it, of which this is a new `Counted`, or of a
-    /// part of it that is enough: the statuses of cards left out stay. What it answers does the same to rows that show
-    /// statuses and counts, once the changes of the run are carried out: each status that is new or another one, that
-    /// of a card which the run took away and brought again, and each count that is another one. Memory alone can fail,
-    /// and leaves the cache as it was.
+    /// Brings the cache from the library before a run to the one after it. `counted` is the library after the run, of
+    /// which no history has been read, or a part of it that is enough (`IsEnough`): then the statuses of cards that it
+    /// lacks stay. Answers the row changes that bring kept rows along, to be carried out behind those of the run:
+    /// statuses that are new or differ, those of cards that the run took away and brought again, and counts that
+    /// differ. Memory alone can fail, and leaves the cache as it was; some histories may have been counted then.
     pub fn settle(
         &mut self,
         counted: &mut Counted<'_>,
@@ -132,8 +132,8 @@ impl Cache {
         Ok(changes)
     }
 
-    /// The active cards of the library that a run has reached, of which this is a part: of the decks that it has those
-    /// that are active now, of each other held deck those of before. Memory alone can fail.
+    /// The active cards of every held deck after a run: of a deck that `part` has by the kept statuses, of any other as
+    /// in `before`. Memory alone can fail.
     pub fn renew(&self, part: &Library, before: &Actives) -> Result<Actives, Fault>
         ensures ok { IfOk result (λ actives. actives ≡ renewed self.now.states part.now before.now) }
         ensures err { IsOkUnless result (fault_at NoMemory 0) }
@@ -143,14 +143,14 @@ impl Cache {
         Ok(Actives { idents, decks })
     }
 
-    /// Whether a card is active, for a yank card live; none where there is no such card.
+    /// Whether a card is active, for a yank card live; none where there is no such card. The program doesn't call it.
     pub fn active(&self, card: CardRef) -> Option<bool>
         ensures { result ≡ kept_status self.now.states card }
     {
         self.statuses.of(card)
     }
 
-    /// How many live yank cards have a target.
+    /// How many live yank cards have a target. The program doesn't call it.
     pub fn count(&self, target: Target) -> u32
         ensures { result ≡ count_in self.now.counts target }
     {
