@@ -40,9 +40,9 @@ pub(crate) const RUN: Text = Text {
 Reads a run of at most 65536 bytes and writes the reply, a line of JSON. The same run under the same
 number gets its first reply again, and changes nothing: send it until it is answered.
 
-Exit status: 0 accepted, 1 the reply is a refusal, or the run is refused without a reply, which is
-told in JSON; 2 no command line, 3 want of memory, the store, a read or a write failed. A NUMBER
-that is none, and what failed, is one line on standard error.
+Exit status: 0 accepted; 1 the reply is a refusal, or the run is refused without a reply, which is
+told in JSON, or NUMBER is none; 2 no command line; 3 want of memory, the store, a read or a write
+failed. What failed, and a NUMBER that is none, is one line on standard error.
 
 Example:
   upd init library.db
