@@ -1,4 +1,7 @@
 //! The commands of the program: what is read, what is written, and the exit status.
+//!
+//! Where clauses speak of both outcomes of a call, it stands in a `match` of two arms, so that each is a path of its
+//! own (docs/DECISIONS.md, Form).
 #![tactic(auto)]
 
 mod arriving;

@@ -2,6 +2,9 @@
 //!
 //! What the desk owes after a journal of arrivals and settlements stands in `specs/`, and here are laws of it
 //! and the desk, over any store of rows.
+//!
+//! Where clauses speak of both outcomes of a call, it stands in a `match` of two arms, so that each is a path of its
+//! own (docs/DECISIONS.md, Form).
 #![tactic(auto)]
 
 pub mod arrival;
