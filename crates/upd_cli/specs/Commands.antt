@@ -48,7 +48,8 @@ abbrev pub IsCarriedOut : Asked → ℕ → Option (List ℕ) → Option (List �
 IsCarriedOut asked status output output' faults faults' =
     (ended : Result ℕ Fault) × Leaves ended output output' asked × IsEndOf ended status faults faults'
 
--- how a request was carried out: a command on a library as is defined, and what serves or can't be read leaves nothing on the output
+-- How a request was carried out: a command on a library as is defined, and what serves or can't be read leaves nothing on the output.
+-- Of a trial the clause `trial` of `run_command` speaks, and of help and the version none does.
 abbrev pub IsDone : Request → ℕ → Option (List ℕ) → Option (List ℕ) → Option (List ℕ) → Option (List ℕ) → Type 0
 IsDone (Library file asked) status output output' faults faults' = IsCarriedOut asked status output output' faults faults'
 IsDone (Serve file address count) status output output' faults faults' = Appends output output' []

@@ -21,7 +21,7 @@ pub record Holds (journal : Journal) (rows : Rows) : Type 0 where
   pub runs : (site : List ℕ) (number : ℕ) → run_at site number rows ≡ kept journal site number
   pub marks : (site : List ℕ) → mark_at site rows ≡ mark journal site
 
--- whether a fault leaves an arrival unanswered: want of memory, or a failure of the store
+-- whether an arrival counts as lost after a fault: want of memory, or a failure of the store
 abbrev pub is_lost : FaultKind → Bool
 is_lost NoMemory = true
 is_lost Store = true
@@ -70,7 +70,7 @@ after_all journal [] results = journal
 after_all journal (a ∷ later) [] = journal
 after_all journal (a ∷ later) (result ∷ results) = after_all (after journal a result) later results
 
--- how many cards the last arrival that was answered has looked at, where it was so many before
+-- how many cards the last arrival that got a reply has looked at, where it was so many before
 abbrev pub work_after : ℕ → Journal → ArrivalView → Result ReplyView Fault → ℕ
 work_after work journal a (Ok reply) = work_of journal a
 work_after work journal a (Err fault) = work

@@ -13,7 +13,7 @@ use Rattle.upd_rows.specs.Tables.{is_run}
 use Rattle.upd_desk.specs.Arrivals.{ArrivalView, door, mode_number}
 use Rattle.upd_desk.specs.Outcomes.{Outcome, ReplyView, outcome}
 
--- What happened at a desk. An arrival that was lost, or answered by want of memory or a failure of the store, didn't happen.
+-- What happened at a desk. An arrival that was lost, to want of memory or a failure of the store, didn't happen.
 pub data Event : Type 0 where
   -- an arrival was answered
   Came : ArrivalView → Event
@@ -47,7 +47,7 @@ pub record Heard : Type 0 where
 abbrev pub has_key : List ℕ → ℕ → Heard → Bool
 has_key site number h = bytes_eq h.arrival.site site && (h.arrival.number == number)
 
--- The first arrival of each key among those heard and one more that passed the door in a mode. It isn't heard where its number is settled.
+-- The distinct runs with one more arrival: it is added where it passed the door, its number isn't settled, and none of them has its key.
 abbrev pub with_arrival : Journal → List Heard → ArrivalView → Option (List ℕ) → Result Mode Fault → List Heard
 with_arrival before runs a carried (Ok mode) =
     if nat_lt (mark before a.site) a.number && not (list_any (has_key a.site a.number) runs)
@@ -124,7 +124,8 @@ kept journal site number = if nat_le number (mark journal site) then None else f
 
 -- ---- answers
 
--- An arrival of a key that is kept gets the first reply where mode and bytes are the same, of one that isn't a reply of its own.
+-- An arrival whose key is kept gets the first reply where mode and bytes are the same, and RunChanged where they differ;
+-- one whose key isn't kept gets a reply of its own.
 abbrev pub reply_to : Mode → ArrivalView → LibraryView → Option RunView → Result ReplyView Fault
 reply_to mode a l None = Ok (outcome mode a l).reply
 reply_to mode a l (Some run) =

@@ -10,12 +10,12 @@ use upd_compile::Mode;
 use upd_text::limits::MAX_RUN_BYTES;
 use upd_text::{Fault, FaultKind};
 
-/// A run that arrives: its key is the site and the number.
+/// A run that arrives, as it was sent: nothing of it is judged yet. Its key is the site and the number.
 #[derive(Debug, Drop)]
 pub struct Arrival<'a> {
     pub site: &'a str,
     pub number: u64,
-    /// `full`, `quick` or `normal`.
+    /// A word; the door takes `full`, `quick` and `normal` alone.
     pub mode: &'a str,
     pub bytes: &'a [u8],
 }

@@ -61,8 +61,8 @@ pub fn purged_commons()
         ∷ refused 4 (codes "full") CallUnknown 0 ∷ refused 4 (codes "full") CallUnknown 0 ∷ [] }
 {}
 
-/// A settled run is answered no more, in whatever mode and with whatever bytes. Other runs of the site are repeated,
-/// and other sites have marks of their own. A mark never falls.
+/// A settled run gets no reply any more, in whatever mode and with whatever bytes, but the fault Settled. Other runs of
+/// the site are repeated, and other sites have marks of their own. A mark never falls.
 pub fn settlements()
     ensures settled { answers (Settled (codes "LYON") 1 ∷ Came (lyon 2 (codes "full") (delete (codes "A.3")))
         ∷ Came (lyon 1 (codes "full") deck_a) ∷ [])

@@ -42,11 +42,12 @@ response_text r = head_text r ++ r.body
 
 -- ---- what is answered
 
--- a reply to a run: a refused run can't be carried out
+-- the status of a reply: 200 where the run is accepted, 422 where it is refused
 abbrev pub reply_status : Bool → Status
 reply_status true = Done
 reply_status false = Unprocessable
 
+-- a reply to a run
 abbrev pub reply_response : ReplyView → Response
 reply_response reply = record { status = reply_status reply.accepted; media = Json; allow = None; body = reply.text }
 

@@ -18,10 +18,10 @@ abbrev pub reads_after : Result LibraryView Fault → ℕ → ℕ
 reads_after (Ok l) reads = reads_with l reads
 reads_after (Err fault) reads = reads
 
--- Of the faults, only want of memory and a failure of the store leave an arrival unanswered.
+-- Want of memory, or a failure of the store: the faults after which an arrival counts as lost. They speak of no line, so they are at 0.
 pub data IsLost : Fault → Type 0 where
   OfMemory : (f : Fault) → f.kind ≡ fault.NoMemory → f.at ≡ 0 → IsLost f
-  OfStore : (f : Fault) → f.kind ≡ fault.Store → IsLost f
+  OfStore : (f : Fault) → f.kind ≡ fault.Store → f.at ≡ 0 → IsLost f
 
 module _ {S : Type 0} {Image : Type 0} (is_honest is_open : S → Type 0) (image : S → Image) (shows : Image → Rows → Type 0)
     (may_leave : S → Image → Type 0) (failures : S → ℕ) where
