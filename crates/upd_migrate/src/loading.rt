@@ -39,6 +39,7 @@ fn rows_of<S: Rising>(
         → ShowsAs version it (state S.Store conn.old).committed → AreRowsOf it found) }
 {
     note_order_outside(conn);
+    // For its clause alone: outside a transaction the tables are those of the last commit.
     let _outside = conn.is_autocommit();
     let mut tx = conn.transaction();
     complete(&mut tx, version)?;

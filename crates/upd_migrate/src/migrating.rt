@@ -33,6 +33,7 @@ fn migrate_from<S: Rising>(
         (MayMigrateFrom version (state S.Store conn.old)) }
 {
     note_order_outside(conn);
+    // For its clause alone: outside a transaction the tables are those of the last commit.
     let _outside = conn.is_autocommit();
     let mut tx = conn.transaction();
     fill(&mut tx, alloc, version)?;

@@ -73,6 +73,7 @@ pub(crate) fn known_version<S: Rising>(conn: &mut Connection<S>) -> Result<Versi
         Ok(number) => number,
         Err(error) => return Err(fault_of(error)),
     };
+    // For its clause alone: outside a transaction the tables are those of the last commit.
     let _outside = conn.is_autocommit();
     match version_with(number, conn.schema()) {
         Some(version) => Ok(version),

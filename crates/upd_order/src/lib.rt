@@ -34,6 +34,7 @@ impl Rising for MemStore {
 pub fn note_order<S: Rising>(conn: &Connection<S>)
     ensures { IsTrue (state S.Store conn.now).is_open → TablesRise (state S.Store conn.now).committed }
 {
+    // For its clause alone: while the store is open, what is committed is a database.
     let _live = conn.schema();
 }
 
@@ -42,6 +43,7 @@ pub fn note_order_outside<S: Rising>(conn: &Connection<S>)
     ensures { (state S.Store conn.now).in_transaction ≡ false → IsTrue (state S.Store conn.now).is_open
         → TablesRise (state S.Store conn.now).now }
 {
+    // For its clause alone: outside a transaction the tables are those of the last commit.
     let _outside = conn.is_autocommit();
     note_order(conn);
 }

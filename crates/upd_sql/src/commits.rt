@@ -39,6 +39,7 @@ pub fn commit_changes<S: Rising>(
         → HasSizes (sized_all (map change_seen changes.now) n) (state S.Store conn.new).committed.trees) }
 {
     note_order_outside(conn);
+    // For its clause alone: outside a transaction the tables are those of the last commit.
     let _outside = conn.is_autocommit();
     let mut tx = conn.transaction();
     carry_out_all(&mut tx, changes)?;

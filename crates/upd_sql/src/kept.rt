@@ -1,6 +1,6 @@
 //! What is kept, read in transactions of their own. An error is want of memory, a failure of the disk, or a file whose
-//! tables or rows are no library's; none of these calls changes a table. `is_autocommit` is called for its clause alone,
-//! which says that no transaction is open.
+//! tables or rows are no library's; none of these calls changes a table. `is_autocommit` is called for its clause
+//! alone: outside a transaction the tables are those of the last commit.
 ghost use Rattle.std.specs.Prelude.{◌≡◌, false, IfOk, IsTrue, OnOk};
 ghost use Rattle.sqlite.specs.Held.{state};
 ghost use Rattle.sqlite.specs.State.{HasCleanDisk, Survives};

@@ -113,6 +113,7 @@ pub fn make_library<S: Alter>(conn: &mut Connection<S>) -> Result<(), Error>
         (IsTrue (state S.Store conn.old).is_open × ((state S.Store conn.new).committed ≡ (state S.Store conn.old).committed)) }
     ensures crash { Survives (state S.Store conn.old) (state S.Store conn.new) (MayMake (state S.Store conn.old)) }
 {
+    // For its clause alone: outside a transaction the tables are those of the last commit.
     let _outside = conn.is_autocommit();
     let mut tx = conn.transaction();
     make_tables(&mut tx)?;

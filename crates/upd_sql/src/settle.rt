@@ -63,6 +63,7 @@ pub fn settle_site<S: Rising>(
         → mark ≡ mark_at site.now (settled_to site.now number it)) }
 {
     note_order_outside(conn);
+    // For its clause alone: outside a transaction the tables are those of the last commit.
     let _outside = conn.is_autocommit();
     let mut tx = conn.transaction();
     let mark = settle_in(&mut tx, site, number)?;

@@ -24,6 +24,7 @@ fn is_ours<S: Rising>(conn: &Connection<S>) -> bool
     ensures { IsTrue result → IsTrue (state S.Store conn.now).is_open
         → (state S.Store conn.now).committed.schema ≡ library_schema }
 {
+    // For its clause alone: outside a transaction the tables are those of the last commit.
     let _outside = conn.is_autocommit();
     is_library_schema(conn.schema())
 }

@@ -44,6 +44,7 @@ pub fn version_of<S: Alter>(conn: &mut Connection<S>) -> Result<u32, Error>
     ensures told { HasCleanDisk (state S.Store conn.new) → IfOk result
         (λ n. (v : ℕ) → TellsVersion v (state S.Store conn.old).committed → n ≡ v) }
 {
+    // For its clause alone: outside a transaction the tables are those of the last commit.
     let _outside = conn.is_autocommit();
     let mut tx = conn.transaction();
     let version = version_in(&mut tx)?;
