@@ -45,7 +45,7 @@ HasMade n = HoldsAllRows (schema_up_to n) (no_rows_in n)
 abbrev pub no_rows : Rows
 no_rows = record { idents = []; cards = []; entries = []; targets = []; runs = []; states = []; counts = []; settled = [] }
 
--- a text that makes the next table
+-- a statement that makes the next table
 pub record MakesNext (n : ℕ) (sql : List ℕ) : Type 0 where
   pub is : command_of (understood (schema_up_to n) sql) ≡ CreateTable
   pub plain : IsPlain (understood (schema_up_to n) sql)

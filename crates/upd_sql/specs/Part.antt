@@ -24,7 +24,7 @@ pub record IsPart (ages : List ℕ) (tables : Rows) (found : Part) : Type 0 wher
 abbrev pub is_of_ident : List CardRef → CardRef → Bool
 is_of_ident cards card = list_any (λ c. bytes_eq c.name card.name) cards
 
--- In all states of a store, a text answers the records of the cards that an ident brought.
+-- In all states of a store, a query answers the records of the cards that an ident brought.
 pub record AnswersIdents {S A : Type 0} (state_of : S → State) (sql : List ℕ) (stored : A → Row) (listed : Rows → List A) (card_of : A → CardRef) : Type 0 where
   pub answers : (old new : S) (it : Rows) → Stands it (state_of old).now → (rows : List Row) (ident : List ℕ)
       → Shown sql (Text ident ∷ []) (state_of old) (state_of new) rows

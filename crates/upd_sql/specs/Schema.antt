@@ -46,7 +46,7 @@ count_columns = number (codes "kind") ∷ number (codes "target") ∷ number (co
 abbrev pub mark_columns : List Column
 mark_columns = text (codes "site") ∷ number (codes "mark") ∷ []
 
--- the tables as their texts define them
+-- the tables as their statements define them
 
 abbrev pub meta : Table
 meta = keyed 0 (codes "meta") meta_columns (1 ∷ [])

@@ -1,4 +1,4 @@
-//! Row changes carried out by texts.
+//! Row changes carried out by statements.
 ghost use Rattle.std.specs.Prelude.{◌≡◌, map};
 ghost use Rattle.sqlite.specs.Held.{state};
 ghost use Rattle.upd_change.specs.Changes.{done, done_all, change_seen, CardGone, CardsMoved, CountNow, StatusNow};

@@ -1,7 +1,8 @@
 //! The library in a file that any SQLite shell opens.
 //!
-//! Nine tables of whole numbers, texts and bytes. Each text that is run on them is fixed. But for those that make
-//! the tables each stands in a function of its own, whose contract is what the text reads or makes of the tables.
+//! Nine tables of whole numbers, texts and bytes. Each SQL statement that is run on them is a fixed string. But for
+//! those that make the tables each stands in a function of its own, whose contract is what the statement reads or makes
+//! of the tables.
 #![tactic(auto)]
 
 mod active;

@@ -44,7 +44,8 @@ pub struct Part {
     pub sizes: Sizes,
 }
 
-/// Looks at a row that isn't there: a shut connection fails.
+/// Looks at a row that isn't there: a shut connection fails, also where no card follows. It is called so that what is
+/// found says that the connection was open, after a loop with no turn too.
 fn look_at_nothing<S: Alter>(tx: &mut Transaction<'_, S>) -> Result<(), Error>
     ensures same_reference { tx.new.conn.ghost_name ≡ tx.old.conn.ghost_name }
     ensures looks { Looks (λ _ _. Unit {0}) (state S.Store tx.old.conn.now) (state S.Store tx.new.conn.now) result }
@@ -155,7 +156,7 @@ fn cards_of_decks<S: Alter>(
     }
 }
 
-/// The records of the idents that brought these cards, by a text that answers those of one ident. Each ident is asked for
+/// The records of all idents that brought these cards, by a query for those of one ident, `?1`. Each ident is asked for
 /// once.
 pub(crate) fn of_idents<S: Alter, T: Record + Drop>(
     tx: &mut Transaction<'_, S>,
@@ -254,7 +255,7 @@ fn below_last(n: u64) -> Result<u64, Error>
     }
 }
 
-/// The number that a text counts.
+/// The number that a SELECT count(*) answers; TooBig from 2^63 - 1 on.
 fn number_of<S: Alter>(tx: &mut Transaction<'_, S>, sql: &str) -> Result<u64, Error>
     ensures same_reference { tx.new.conn.ghost_name ≡ tx.old.conn.ghost_name }
     ensures looks { (size : Rows → ℕ) → IsPlain (understood library_schema sql.now)

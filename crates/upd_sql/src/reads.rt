@@ -1,4 +1,4 @@
-//! The texts that read a site's kept run and its mark, and what they answer.
+//! The queries that read a site's kept run and its mark, and what they answer.
 ghost use Rattle.std.specs.Prelude.{◌≡◌, map, IfOk};
 ghost use Rattle.std.specs.List.{filter};
 ghost use Rattle.sqlite.specs.Held.{state};

@@ -1,4 +1,4 @@
-//! Whole tables: one function for each text that reads one.
+//! Whole tables, each read by one query.
 ghost use Rattle.std.specs.Prelude.{◌≡◌, List, map, IfOk};
 ghost use Rattle.sqlite_value.specs.Order.{Row as SqlRow};
 ghost use Rattle.sqlite.specs.Given.{IsPlain};
@@ -24,7 +24,7 @@ use upd_core::{CardRef, Ident, States, Target};
 use upd_rows::{CardRow, EntryRow, LibraryRows, TargetRow, states_by_key};
 use upd_tables::ask;
 
-/// The answer of a text.
+/// The rows that a query answers.
 pub(crate) fn rows_of<S: Alter>(
     tx: &mut Transaction<'_, S>,
     sql: &str,
@@ -41,7 +41,7 @@ pub(crate) fn rows_of<S: Alter>(
     ask(tx, sql, params)
 }
 
-/// The records that a text answers.
+/// The records that a query answers.
 pub(crate) fn all_of<S: Alter, T: Record + Drop>(
     tx: &mut Transaction<'_, S>,
     alloc: Global,

@@ -1,4 +1,4 @@
-//! One function for each text that changes rows; `make.rt` has those that make the tables.
+//! One function for each statement that changes rows; `make.rt` has those that make the tables.
 ghost use Rattle.std.specs.Prelude.{◌≡◌, ◌<◌, ◌-◌, pos, negsuc, []};
 ghost use Rattle.sqlite.specs.Held.{state};
 ghost use Rattle.upd_change.specs.Changes.{done, CardNew, CardsMoved, EntriesGone, EntryNew, IdentNew, IdentPurged};

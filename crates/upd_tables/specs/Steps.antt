@@ -11,7 +11,7 @@ pub record Steps {X : Type 0} (old new : State) (r : Result X Error) : Type 0 wh
   pub kept : HasCleanDisk new → IsTrue old.in_transaction → KeepsCommit old new
   pub survives : Survives old new (λ _. ⊥)
 
--- a text that was run as one statement
+-- a statement that was run
 pub record Ran {X : Type 0} (sql : List ℕ) (params : Row) (old new : State) (r : Result X Error) : Type 0 where
   pub steps : Steps old new r
   pub was_open : HasCleanDisk new → OnOk r (IsTrue old.in_transaction → IsTrue old.is_open)

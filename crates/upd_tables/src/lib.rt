@@ -14,7 +14,7 @@ ghost use Rattle.upd_tables.specs.Steps.{Ran, Steps};
 use sqlite::types::ValueRef;
 use sqlite::{Alter, Error, ErrorCode, Row, Transaction};
 
-/// Runs a text that is one statement.
+/// Runs one statement. The error is SQLite's; it is TransactionState where no transaction is open.
 pub fn run<S: Alter>(
     tx: &mut Transaction<'_, S>,
     sql: &str,
@@ -33,7 +33,7 @@ pub fn run<S: Alter>(
     Ok(())
 }
 
-/// All rows of a query's answer.
+/// All rows of a query's answer. The error is SQLite's.
 pub fn ask<S: Alter>(
     tx: &mut Transaction<'_, S>,
     sql: &str,
