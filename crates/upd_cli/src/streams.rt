@@ -78,7 +78,8 @@ pub(crate) fn write_out<W: Write>(output: &mut W, bytes: &[u8]) -> Result<(), Fa
     }
 }
 
-/// The same of several parts, one after the other.
+/// Writes all parts, one after the other, and flushes. A failed write is Write, at 0, and leaves at most a beginning of
+/// them.
 pub(crate) fn write_parts_out<W: Write>(output: &mut W, parts: &[&[u8]]) -> Result<(), Fault>
     ensures ok { OnOk result (Appends (W.contents output.old) (W.contents output.new)
         (flat_map (λ part. part.now) parts.now)) }

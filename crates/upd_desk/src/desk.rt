@@ -176,7 +176,7 @@ impl<S: RowStore> Desk<S> {
     }
 
     /// The compile file of all decks that aren't common. CallUnknown, CallDepth or CompileLong, at 0, where the walk
-    /// meets one.
+    /// meets one; after NoMemory or Store, at 0, it can be asked again.
     pub fn full_compile(&mut self, alloc: Global) -> Result<CompileFile, Fault>
         ensures text { Tells S.is_honest S.is_open S.image S.shows S.may_leave S.failures_of
             (λ l. compile_file_of Full [] l l) (result_map_both (λ file. file) (λ fault. fault) result)
@@ -198,7 +198,8 @@ impl<S: RowStore> Desk<S> {
         }
     }
 
-    /// The cards of a deck, or of `YANK$$$`. DeckUnknown where no held deck has the name.
+    /// The cards of a deck, or of `YANK$$$`. DeckUnknown, at 0, where no held deck has the name; after NoMemory or
+    /// Store, at 0, it can be asked again.
     pub fn deck_list(&mut self, alloc: Global, name: &Name) -> Result<Vec<u8>, Fault>
         ensures text { Tells S.is_honest S.is_open S.image S.shows S.may_leave S.failures_of
             (deck_listing name.now) (result_map_both (λ text. text.items) (λ fault. fault) result)
@@ -222,7 +223,8 @@ impl<S: RowStore> Desk<S> {
         }
     }
 
-    /// A card with its history. CardUnknown where there is no such card.
+    /// A card with its history. CardUnknown, at 0, where there is no such card; after NoMemory or Store, at 0, it can
+    /// be asked again.
     pub fn card_list(&mut self, alloc: Global, card: CardRef) -> Result<Vec<u8>, Fault>
         ensures text { Tells S.is_honest S.is_open S.image S.shows S.may_leave S.failures_of
             (card_listing card) (result_map_both (λ text. text.items) (λ fault. fault) result)
@@ -246,7 +248,7 @@ impl<S: RowStore> Desk<S> {
         }
     }
 
-    /// The directory.
+    /// The directory. After NoMemory or Store, at 0, it can be asked again.
     pub fn ident_list(&mut self, alloc: Global) -> Result<Vec<u8>, Fault>
         ensures text { Tells S.is_honest S.is_open S.image S.shows S.may_leave S.failures_of
             (λ l. Ok (ident_listing l)) (result_map_both (λ text. text.items) (λ fault. fault) result)
@@ -270,7 +272,7 @@ impl<S: RowStore> Desk<S> {
         }
     }
 
-    /// The yank cards with their targets.
+    /// The yank cards with their targets. After NoMemory or Store, at 0, they can be asked again.
     pub fn yank_list(&mut self, alloc: Global) -> Result<Vec<u8>, Fault>
         ensures text { Tells S.is_honest S.is_open S.image S.shows S.may_leave S.failures_of
             (λ l. Ok (yank_listing l)) (result_map_both (λ text. text.items) (λ fault. fault) result)

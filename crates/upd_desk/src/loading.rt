@@ -147,8 +147,8 @@ fn stands_in_deck<S: RowStore>(store: &mut S, alloc: Global, card: CardRef) -> R
     }
 }
 
-/// What such a run is applied to where it names a card which stands in no deck. Whether it names a yank card is seen
-/// before any deck is read.
+/// What a run that neither yanks nor purges is applied to where it names a card which stands in no deck. Whether it
+/// names a yank card is seen before any deck is read.
 fn load_head_first<S: RowStore>(
     store: &mut S,
     alloc: Global,

@@ -87,7 +87,7 @@ pub(crate) fn run_outcome<S: RowStore>(
     }
 }
 
-/// The same of a run that was read.
+/// What a run that was read makes of the library that a store keeps.
 fn read_outcome<S: RowStore>(
     store: &mut S,
     alloc: Global,
@@ -128,8 +128,8 @@ fn read_outcome<S: RowStore>(
     }
 }
 
-/// The same of a run that was applied: its compile file may still be refused. The cards are those of the part to which
-/// it was applied.
+/// What a run that was applied makes of the library that a store keeps: its compile file may still be refused. The
+/// cards are those of the part to which it was applied.
 fn applied_outcome<S: RowStore>(
     store: &mut S,
     alloc: Global,

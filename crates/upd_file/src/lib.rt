@@ -2,6 +2,9 @@
 //!
 //! Beside the file stands its log, under the file's name with `-wal` behind it. While a library is open its file is
 //! locked, so that another program of this kind finds it in use, and so does SQLite.
+//!
+//! Where clauses speak of both outcomes of a call, it stands in a `match` of two arms, so that each is a path of its
+//! own (docs/DECISIONS.md, Form).
 #![tactic(auto)]
 
 ghost use Rattle.std.specs.Prelude.{◌≡◌, IfErr, IfOk, IsTrue};
@@ -30,7 +33,8 @@ const FIRST_BYTES: &[u8; 16] = b"SQLite format 3\0";
 
 /// Opens the library in a file. Where the file holds none the fault is Store, at the version that the file tells, 0
 /// where it tells none; no byte of it is changed, and a file that isn't there isn't made. The fault is Store at 0, too,
-/// where the file may not be read and written, where another program has it open, and where it is damaged.
+/// where the file may not be read and written, where another program has it open, and where it is damaged. Want of
+/// memory is NoMemory at 0.
 pub fn open<S: Start>(rt: &HostRuntime, path: &str, start: S) -> Result<FileLibrary<S>, Fault>
     ensures found { IfOk result (λ s. HasCleanDisk (file_state s.conn) → IsTrue (file_state s.conn).is_open
         → FindsIn (image_at S.Start) (file_state s.conn)) }
@@ -48,7 +52,7 @@ pub fn open<S: Start>(rt: &HostRuntime, path: &str, start: S) -> Result<FileLibr
 
 /// Makes an empty library in a file, and the file where there is none. Where the file has any table the fault is Store,
 /// at the version that it tells, 0 where it tells none, and no byte of it is changed. An empty file, or one in which this
-/// call was stopped, is taken for no file.
+/// call was stopped, is taken for no file. Want of memory is NoMemory at 0.
 pub fn create<S: Start>(rt: &HostRuntime, path: &str, start: S) -> Result<FileLibrary<S>, Fault>
     ensures shows { IfOk result (λ s. HasCleanDisk (file_state s.conn)
         → IsTrue (file_state s.conn).is_open × ShowsTables no_rows (file_state s.conn).committed) }

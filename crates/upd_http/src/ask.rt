@@ -18,7 +18,7 @@ use upd_rows::RowStore;
 use upd_text::{Fault, FaultKind};
 
 /// Asks the desk, and answers what it tells. The one error is want of memory: for the text of a fault, or for that of a
-/// mark, and then the desk wasn't asked.
+/// mark; in the second case the desk wasn't asked.
 pub(crate) fn ask<S: RowStore>(
     alloc: Global,
     desk: &mut Desk<S>,

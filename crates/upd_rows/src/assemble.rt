@@ -188,7 +188,7 @@ fn library_with(alloc: Global, idents: Vec<Ident>, decks: Vec<Deck>, rest: Rest)
     Library::of_parts(idents, decks, yanks.cards, rest)
 }
 
-/// The same, of which no deck is left out.
+/// The library of a directory and decks, of which the first is `YANK$$$`, with no rest.
 fn library_of(alloc: Global, idents: Vec<Ident>, decks: Vec<Deck>) -> Library
     ensures { result ≡ library_of idents.items decks.items }
 {
@@ -226,7 +226,8 @@ pub fn assembled(alloc: Global, rows: LibraryRows) -> Result<Library, AllocError
     Ok(library_of(alloc, idents, decks))
 }
 
-/// The same without the decks other than `YANK$$$` that aren't of these ages: what they have is counted.
+/// The library of rows that come in any order, without the decks other than `YANK$$$` that aren't of these ages: what
+/// they have is counted. Memory alone can fail.
 pub fn assembled_part(alloc: Global, rows: LibraryRows, ages: &[Age]) -> Result<Library, AllocError>
     ensures { (tables : Rows) (l : LibraryView) → IsSound l → IsWhole l → Shows tables l → AreRowsOf tables rows
         → IfOk result (λ found. found ≡ part_of ages.now l) }

@@ -45,8 +45,8 @@ impl<S: Rising + Drop> Drop for SqlStore<S> {
 
 impl<S: Rising> SqlStore<S> {
     /// Takes a connection to a library's file. Where it is none the fault is Store, at the version that the file
-    /// tells, 0 where there is none, and the connection comes back; so it does, at 0, in a transaction. Nothing is
-    /// written.
+    /// tells, 0 where there is none. Inside a transaction it is Store at 0, and want of memory is NoMemory at 0. With
+    /// each fault the connection comes back. Nothing is written.
     pub fn adopt(mut conn: Connection<S>) -> Result<SqlStore<S>, (Fault, Connection<S>)>
         ensures ours { IfOk result (λ s. HasCleanDisk (state S.Store s.conn) → IsTrue (state S.Store s.conn).is_open
             → (state S.Store s.conn).committed.schema ≡ library_schema) }
@@ -69,6 +69,7 @@ impl<S: Rising> SqlStore<S> {
             Ok(version) => version,
             Err(error) => return Err((fault_of(error), conn)),
         };
+        // For its clause alone: outside a transaction the tables are those of the last commit.
         let _outside = conn.is_autocommit();
         if version != VERSION || !is_library_schema(conn.schema()) {
             return Err((store_at(version), conn));
@@ -82,7 +83,8 @@ impl<S: Rising> SqlStore<S> {
     }
 
     /// Makes an empty library's tables. Where there is any table the fault is Store, at the version that the file
-    /// tells, 0 where there is none, and the connection comes back; so it does, at 0, in a transaction.
+    /// tells, 0 where there is none. Inside a transaction it is Store at 0, and want of memory is NoMemory at 0. With
+    /// each fault the connection comes back.
     pub fn init(mut conn: Connection<S>) -> Result<SqlStore<S>, (Fault, Connection<S>)>
         ensures shows { IfOk result (λ s. HasCleanDisk (state S.Store s.conn)
             → IsTrue (state S.Store s.conn).is_open × ShowsTables no_rows (state S.Store s.conn).committed) }
