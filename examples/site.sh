@@ -24,15 +24,19 @@ mkdir -p "$folder/outbox" "$folder/sent" "$folder/replies" || exit 3
 
 # The greatest number that was given to a run, 0 where there is none.
 last_number() {
-    ls "$folder/sent" | sed -n 's/^\([1-9][0-9]*\)\.[a-z]*$/\1/p' | sort -n | tail -n 1 | grep . || echo 0
+    for run in "$folder/sent"/*; do
+        echo "${run##*/}"
+    done | sed -n 's/^\([1-9][0-9]*\)\.[a-z]*$/\1/p' | sort -n | tail -n 1 | grep . || echo 0
 }
 
 # Gives each run in the outbox its number. A rename is whole or not done at all.
 number_runs() {
     number=$(last_number)
-    for mode in full quick normal; do
-        ls "$folder/outbox" | grep "\.$mode\$"
-    done | sort | while IFS= read -r name; do
+    for run in "$folder/outbox"/*.full "$folder/outbox"/*.quick "$folder/outbox"/*.normal; do
+        if [ -e "$run" ]; then
+            echo "${run##*/}"
+        fi
+    done | LC_ALL=C sort | while IFS= read -r name; do
         number=$((number + 1))
         mv "$folder/outbox/$name" "$folder/sent/$number.${name##*.}" || exit 3
     done
@@ -44,7 +48,7 @@ send() {
     case $desk in
     http://* | https://*)
         status=$(curl --silent --max-time 60 --output "$part" --write-out '%{http_code}' \
-            --data-binary "@$run" "$desk/sites/$site/runs/$number/$mode")
+            --data-binary "@$run" "$desk/sites/$site/runs/$number/$mode") || return 3 # an answer that is cut is none
         case $status in
         200 | 422) return 0 ;;
         000 | 5??) return 3 ;;
@@ -99,8 +103,8 @@ last=$(last_number)
 number=1
 while [ "$number" -le "$last" ]; do
     if [ ! -e "$folder/replies/$number.json" ]; then
-        run=$(ls "$folder/sent" | grep "^$number\.")
-        send_until_answered "$number" "${run##*.}"
+        set -- "$folder/sent/$number".*
+        send_until_answered "$number" "${1##*.}"
     fi
     number=$((number + 1))
 done
