@@ -11,9 +11,9 @@ import argparse
 import os
 import subprocess
 import sys
-from pathlib import Path
 
-HERE = Path(__file__).resolve().parent.parent
+sys.dont_write_bytecode = True
+from needs import tests_of  # noqa: E402
 
 TESTS = {
     ("upd_tests", "limits::holds_50000_cards"): "50,000 cards in 25 runs",
@@ -62,7 +62,7 @@ BESIDE_COPY = {"settling one card"}
 
 def measured(crate, test):
     """Processor seconds of one run."""
-    program = HERE / f"crates/{crate}/out/{crate}_tests"
+    program = tests_of(crate)
     child = subprocess.Popen([program, test], stdout=subprocess.DEVNULL)
     _, status, usage = os.wait4(child.pid, 0)
     if status != 0:
@@ -72,7 +72,7 @@ def measured(crate, test):
 
 def main():
     parser = argparse.ArgumentParser(description=__doc__.splitlines()[0])
-    parser.add_argument("--times", type=int, default=5)
+    parser.add_argument("--times", metavar="N", type=int, default=5, help="processes of each test (default: 5)")
     given = parser.parse_args()
     least = {}
     for (crate, test), what in TESTS.items():

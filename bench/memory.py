@@ -1,9 +1,9 @@
 #!/usr/bin/env python3
 """Refuses one request for memory after the other: in the tests of crates/upd_hostile_tests, and in the lasting executable on a library in a file.
 
-    python3 bench/memory.py [--upd PATH] [--every N]
+    python3 bench/memory.py [--executable FILE] [--every N]
 
-`rt test` in that crate makes the executable of its tests; README.md says how the lasting executable is made. The Nth request is refused, N from 1 until a
+`rt test` in that crate makes the executable of its tests, `rt run` in crates/upd the lasting one. The Nth request is refused, N from 1 until a
 run meets no refusal; of a command's requests with --every only every so many. A test then holds, or was itself refused what it needs. A command answers as
 with ample memory, or says NoMemory, and its library is as before, or as after the frames that are answered; given again, it ends as it does from the start.
 The exit status is 1 where that isn't so. It wants `cc`, for a library that stands before the C library's allocator.
@@ -19,9 +19,9 @@ import sys
 import tempfile
 from pathlib import Path
 
-HERE = Path(__file__).resolve().parent.parent
-TESTS = HERE / "crates/upd_hostile_tests/out/upd_hostile_tests_tests"
-UPD = HERE / "crates/upd/out/upd"
+sys.dont_write_bytecode = True
+from needs import add_executable, tests_of, there, tools  # noqa: E402
+
 # A disk in memory, since each command waits for the disk.
 QUICK = "/dev/shm" if Path("/dev/shm").is_dir() else None
 
@@ -80,11 +80,11 @@ class Refusing:
         return done, self.told.exists()
 
 
-def try_test(refusing, name):
+def try_test(refusing, tests, name):
     """Whether a test failed after one of its refusals."""
     number, held, right = 1, 0, True
     while True:
-        done, met = refusing.run(number, [TESTS, name])
+        done, met = refusing.run(number, [tests, name])
         if not met:
             break
         held += done.returncode == 0
@@ -201,14 +201,16 @@ def try_commands(refusing, upd, folder, every):
 
 def main():
     words = argparse.ArgumentParser(description=__doc__.splitlines()[0])
-    words.add_argument("--upd", type=Path, default=UPD)
-    words.add_argument("--every", type=int, default=1)
+    add_executable(words)
+    words.add_argument("--every", metavar="N", type=int, default=1, help="refuse only every so many requests of a command (default: 1)")
     words = words.parse_args()
+    tools("cc")
+    tests, upd = tests_of("upd_hostile_tests"), there(words.executable)
     with tempfile.TemporaryDirectory(dir=QUICK) as folder:
         folder = Path(folder)
         refusing = Refusing(folder)
-        bad = sum(try_test(refusing, name) for name in NAMES)
-        bad += try_commands(refusing, words.upd, folder, words.every)
+        bad = sum(try_test(refusing, tests, name) for name in NAMES)
+        bad += try_commands(refusing, upd, folder, words.every)
     print(f"{bad} wrong")
     return 1 if bad else 0
 

@@ -102,7 +102,7 @@ def beside(folder):
 
 def main():
     parser = argparse.ArgumentParser(description=__doc__.splitlines()[0])
-    parser.add_argument("--times", type=int, default=5)
+    parser.add_argument("--times", metavar="N", type=int, default=5, help="processes of each test (default: 5)")
     given = parser.parse_args()
     tests = sorted({f"times::{name}" for _, test, before, _, _ in BUDGETS for name in (test, before)})
     quickest = {test: min(measured(CRATE, test) for _ in range(given.times)) for test in tests}

@@ -1,11 +1,11 @@
 #!/usr/bin/env python3
 """Measures `upd trial full` on the largest runs: wall time, processor time, peak memory, instructions.
 
-    python3 bench/trial.py [UPD] [--times N]
+    python3 bench/trial.py [--executable FILE] [--times N]
 
-UPD is the executable, crates/upd/out/upd where none is given (`rt run` in crates/upd makes it). Each run is given to it N times (50 where none
-is said), in a process of its own from start to end, and the medians are printed. Instructions are counted once, where valgrind is there.
-The exit status is 1 where a median is past its budget.
+Each run is given to the executable (crates/upd/out/upd where none is named; `rt run` in crates/upd makes it) N times (50 where none is said), in a
+process of its own from start to end, and the medians are printed. Instructions are counted once, where valgrind is there. The exit status is 1 where
+a median is past its budget.
 """
 
 import argparse
@@ -18,6 +18,9 @@ import subprocess
 import sys
 import time
 from pathlib import Path
+
+sys.dont_write_bytecode = True
+from needs import add_executable, there  # noqa: E402
 
 MAX_BYTES = 65_536
 MAX_LINES = 2_000
@@ -128,11 +131,12 @@ def measure(upd, times, name, make, lines, most_time, most_memory):
 
 
 def main():
-    words = argparse.ArgumentParser(description=__doc__, formatter_class=argparse.RawDescriptionHelpFormatter)
-    words.add_argument("upd", nargs="?", default=str(Path(__file__).resolve().parent.parent / "crates/upd/out/upd"))
-    words.add_argument("--times", type=int, default=50)
+    words = argparse.ArgumentParser(description=__doc__.splitlines()[0])
+    add_executable(words)
+    words.add_argument("--times", metavar="N", type=int, default=50, help="processes of each run (default: 50)")
     words = words.parse_args()
-    within = [measure(os.path.abspath(words.upd), words.times, *case) for case in CASES]
+    upd = there(words.executable)
+    within = [measure(upd, words.times, *case) for case in CASES]
     return 0 if all(within) else 1
 
 
