@@ -1,7 +1,7 @@
 #!/usr/bin/env python3
 """Tries the lasting executable as sites do: curl and plain sockets against `upd serve`, and the sqlite3 shell on the file.
 
-    python3 bench/wire.py [--upd PATH] [--times]
+    python3 bench/wire.py [--executable FILE] [--times]
 
 Each line tells a request, what it got and whether that is what docs/rules.md says. With --times the processor time of `upd` is told too: of the
 requests to a library of 500 cards, of spools of 10,000 runs, of a run on a full library, and of the start. The exit status is 1 where an answer differs or a budget is passed.
@@ -19,8 +19,17 @@ import tempfile
 import time
 from pathlib import Path
 
-UPD = Path(__file__).resolve().parent.parent / "crates/upd/out/upd"
-PORT = 8491
+sys.dont_write_bytecode = True
+from needs import add_executable, there, tools  # noqa: E402
+
+
+def free_port():
+    """A port of this machine that nobody listens on."""
+    with socket.create_server(("127.0.0.1", 0)) as server:
+        return server.getsockname()[1]
+
+
+PORT = free_port()
 RUN = b"*DECK A/B\nONE\nTWO\nTHREE\n"
 bad = 0
 
@@ -39,10 +48,14 @@ class Server:
         self.process = subprocess.Popen([upd, "serve", file, f"127.0.0.1:{PORT}", str(count)], stderr=subprocess.PIPE)
         self.count = count
         for _ in range(3000):
+            if self.process.poll() is not None:
+                sys.exit(f"upd serve doesn't come up: status {self.process.returncode}, {self.process.stderr.read().decode()!r}")
             sockets = [line.split() for line in Path("/proc/net/tcp").read_text().splitlines()[1:]]
             if any(words[1].endswith(f":{PORT:04X}") and words[3] == "0A" for words in sockets):
                 return
             time.sleep(0.01)
+        self.process.kill()
+        sys.exit(f"upd serve doesn't listen on port {PORT}: {self.process.communicate()[1].decode()!r}")
 
     def __enter__(self):
         return self
@@ -52,11 +65,13 @@ class Server:
 
     def __exit__(self, *_):
         try:
-            status = self.process.wait(timeout=20)
+            said = self.process.communicate(timeout=20)[1]
+            status = self.process.returncode
         except subprocess.TimeoutExpired:
             self.process.kill()
-            status = "still there"
+            said, status = self.process.communicate()[1], "still there"
         told(f"upd serve ends after {self.count} connections with status", status, 0)
+        told("upd serve says", said.decode(), "")
         time.sleep(0.05)
 
 
@@ -80,7 +95,7 @@ def head(length):
 
 
 def curl(*words):
-    found = subprocess.run(["curl", "-s", "-i", *words], capture_output=True, check=False).stdout
+    found = subprocess.run(["curl", "-s", "-i", "--noproxy", "*", *words], capture_output=True, check=False).stdout
     return found.replace(b"\r\n", b"\n")
 
 
@@ -206,9 +221,12 @@ def try_times(upd, folder):
     subprocess.run([upd, "init", file], check=True)
     decks = b"".join(b"*DECK D%d\n" % n + b"".join(b"LINE %d\n" % k for k in range(49)) for n in range(10))
     told("500 cards", json.loads(spent([upd, "run", file, "A", "1", "quick"], decks)[1].stdout)["state"], "accepted")
-    within("upd --help", min(spent([upd, "--help"])[0] for _ in range(20)), 0.002)
-    within("upd run, three lines on 500 cards", min(spent([upd, "run", file, "B", str(n), "quick"], b"*IDENT R%d\n*INSERT D1.2\nX\n" % n)[0]
-                                                 for n in range(1, 11)), 0.03)
+    helped = [spent([upd, "--help"]) for _ in range(20)]
+    told("upd --help, its statuses", {done.returncode for _, done in helped}, {0})
+    within("upd --help", min(seconds for seconds, _ in helped), 0.002)
+    handed = [spent([upd, "run", file, "B", str(n), "quick"], b"*IDENT R%d\n*INSERT D1.2\nX\n" % n) for n in range(1, 11)]
+    told("upd run, its statuses", {done.returncode for _, done in handed}, {0})
+    within("upd run, three lines on 500 cards", min(seconds for seconds, _ in handed), 0.03)
     count = 400
     cases = [
         ("POST of three lines", [b"*IDENT P%d\n*INSERT D2.2\nX\n" % n for n in range(count)], "/sites/C/runs/%d/quick", 0.0025),
@@ -218,15 +236,16 @@ def try_times(upd, folder):
     ]
     with Server(upd, file, count * len(cases)) as server:
         for what, bodies, path, budget in cases:
-            before = server.seconds()
+            before, answers = server.seconds(), set()
             for n in range(count):
                 if bodies is None:
                     request = f"GET {path} HTTP/1.1\r\n\r\n".encode()
                 else:
                     target = path % (n + 1) if "%d" in path else path
                     request = f"POST {target} HTTP/1.1\r\nContent-Length: {len(bodies[n])}\r\n\r\n".encode() + bodies[n]
-                exchange(request)
+                answers.add(status(exchange(request)))
             each = (server.seconds() - before) / count
+            told(f"{what}, its statuses", answers, {"HTTP/1.1 200 OK"})
             if budget is None:
                 print(f"    {what}: {1000 * each:.3f} ms of processor time")
             else:
@@ -239,7 +258,7 @@ def try_times(upd, folder):
         start = time.monotonic()
         taken, done = spent([upd, "spool", file], frames)
         wall = time.monotonic() - start
-        told(f"answers of a spool of 10,000 frames on {what}", done.stdout.count(b"\n"), 10_000)
+        told(f"accepted runs in a spool of 10,000 frames on {what}", done.stdout.count(b'"state":"accepted"}\n'), 10_000)
         print(f"    {10_000 / wall:.0f} frames a second")
         if budget is None:
             print(f"    a frame on {what}: {taken / 10:.3f} ms of processor time")
@@ -317,19 +336,21 @@ def try_large(upd, folder, times=9):
 
 
 def main():
-    words = argparse.ArgumentParser()
-    words.add_argument("--upd", default=UPD)
-    words.add_argument("--times", action="store_true")
+    words = argparse.ArgumentParser(description=__doc__.splitlines()[0])
+    add_executable(words)
+    words.add_argument("--times", action="store_true", help="measure processor times too")
     words = words.parse_args()
+    tools("curl", "sqlite3")
+    upd = there(words.executable)
     with tempfile.TemporaryDirectory() as folder:
         file = Path(folder) / "library.db"
-        subprocess.run([words.upd, "init", file], check=True)
-        try_curl(words.upd, file)
-        try_sockets(words.upd, file)
-        try_file_alone(words.upd, file)
+        subprocess.run([upd, "init", file], check=True)
+        try_curl(upd, file)
+        try_sockets(upd, file)
+        try_file_alone(upd, file)
         try_sqlite3(file)
         if words.times:
-            try_times(words.upd, Path(folder))
+            try_times(upd, Path(folder))
     sys.exit(bad > 0)
 
 
