@@ -1,7 +1,7 @@
 #!/usr/bin/env python3
 """Treats the lasting executable badly: mutated requests, mutated spools, a desk that is killed in the middle of a spool, and very many frames.
 
-    python3 bench/campaign.py [--upd PATH] [--seed N] [--requests N] [--spools N] [--kills N] [--frames N]
+    python3 bench/campaign.py [--executable FILE] [--seed N] [--requests N] [--spools N] [--kills N] [--frames N]
 
 Each answer has to be one of those that docs/rules.md defines, and what was answered has to be there afterwards. The exit status is 1 where it isn't.
 """
@@ -17,7 +17,9 @@ import threading
 from pathlib import Path
 
 sys.dont_write_bytecode = True
-from wire import UPD, Server, exchange  # noqa: E402
+import wire  # noqa: E402
+from needs import add_executable, there, tools  # noqa: E402
+from wire import Server, exchange  # noqa: E402
 
 FAULTS = {
     1: "RunLong", 2: "TooManyLines", 3: "BadByte", 4: "LineLong", 5: "BadName", 6: "BadCard", 7: "BadField", 8: "NoIdent", 9: "TextNowhere",
@@ -61,13 +63,25 @@ def mutated(dice, text):
 
 
 def request(dice):
+    """A request, and whether it is whole, so that it has to be answered."""
     text = dice.choice(REQUESTS)
     if b"%s" in text:
         run = mutated(dice, dice.choice(RUNS))
         text = text % (dice.randrange(1, 4000), len(run), run)
     elif b"%d" in text:
         text = text % dice.randrange(1, 9)
-    return mutated(dice, text)
+    sent = mutated(dice, text)
+    return sent, sent == text
+
+
+def judged(answer):
+    """The status of an answer over HTTP, and whether it is one that is defined."""
+    head, _, body = answer.partition(b"\r\n\r\n")
+    found = re.fullmatch(rb"HTTP/1\.1 ([0-9]+) .*\r\nContent-Length: ([0-9]+)\r\n.*", head, re.DOTALL)
+    if not found:
+        return "no head", False
+    status, length = int(found[1]), int(found[2])
+    return status, status in STATUSES and length == len(body) and (b"text/plain" in head or is_answer(body))
 
 
 def try_requests(upd, folder, dice, count):
@@ -76,20 +90,17 @@ def try_requests(upd, folder, dice, count):
     found, bad = {}, 0
     with Server(upd, file, count):
         for _ in range(count):
-            sent = request(dice)
+            sent, whole = request(dice)
             got = exchange(sent)
-            if not got:
-                found["none"] = found.get("none", 0) + 1
-                continue
-            head, body = got.split(b"\r\n\r\n", 1)
-            status = int(head.split(b" ", 2)[1])
+            status, right = judged(got) if got else ("none", not whole)
             found[status] = found.get(status, 0) + 1
-            length = int(re.search(rb"Content-Length: ([0-9]+)", head)[1])
-            right = status in STATUSES and length == len(body) and (b"text/plain" in head or is_answer(body))
             if not right:
                 bad += 1
                 print("BAD", sent, got)
     print(f"{count} mutated requests: {dict(sorted(found.items(), key=str))}")
+    if count >= 50 and 200 not in found:
+        bad += 1
+        print("BAD no request was answered with 200")
     return bad + sound(upd, file)
 
 
@@ -222,19 +233,24 @@ def try_frames(upd, folder, dice, count, settles):
 
 
 def main():
-    words = argparse.ArgumentParser()
-    words.add_argument("--upd", default=UPD)
-    for name, count in [("seed", 1), ("requests", 10_000), ("spools", 10_000), ("kills", 200), ("frames", 1_000_000)]:
-        words.add_argument(f"--{name}", type=int, default=count)
+    words = argparse.ArgumentParser(description=__doc__.splitlines()[0])
+    add_executable(words)
+    words.add_argument("--seed", metavar="N", type=int, default=1, help="what the dice are thrown from (default: 1)")
+    for name, count, what in [("requests", 10_000, "mutated requests"), ("spools", 10_000, "mutated spools"), ("kills", 200, "desks that are killed"),
+                              ("frames", 1_000_000, "frames, which arrive once without settlements and once with them")]:
+        words.add_argument(f"--{name}", metavar="N", type=int, default=count, help=f"{what} (default: {count:,})")
     words = words.parse_args()
+    tools("sqlite3")
+    upd = there(words.executable)
     dice = random.Random(words.seed)
     with tempfile.TemporaryDirectory() as folder:
         folder = Path(folder)
-        bad = try_requests(words.upd, folder, dice, words.requests) if words.requests else 0
-        bad += try_spools(words.upd, folder, dice, words.spools) if words.spools else 0
-        bad += try_kills(words.upd, folder, dice, words.kills) if words.kills else 0
+        bad = try_requests(upd, folder, dice, words.requests) if words.requests else 0
+        bad += try_spools(upd, folder, dice, words.spools) if words.spools else 0
+        bad += try_kills(upd, folder, dice, words.kills) if words.kills else 0
         for settles in (False, True) if words.frames else ():
-            bad += try_frames(words.upd, folder, dice, words.frames, settles)
+            bad += try_frames(upd, folder, dice, words.frames, settles)
+    bad += wire.bad     # servers that didn't end as they should
     print(f"{bad} wrong")
     sys.exit(bad > 0)
 
