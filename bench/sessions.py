@@ -6,8 +6,8 @@
 A session is a fenced block whose first line begins with `$ `: a command, up to the end of its here-document if it has one; what follows, up to the next
 command, is what it writes to both streams. Blanks are held as one, and so is ` .. `, which stands for blanks that are left out. All sessions of a document are
 one shell in a new folder, with the executable (crates/upd/out/upd where none is named) on the path as `upd`. A block whose first line names files `1.run`,
-`2.run`, .. at the heads of columns gives these files. --write puts what was answered in the place of what stands there; read it before you keep it. The exit
-status is 1 where an answer differs.
+`2.run`, .. at the heads of columns gives these files. The session at the head of README.md, two commands side by side, isn't typed. --write puts what was
+answered in the place of what stands there; read it before you keep it. The exit status is 1 where an answer differs, or a document has no session.
 """
 
 import argparse
@@ -18,7 +18,9 @@ import sys
 import tempfile
 from pathlib import Path
 
-HERE = Path(__file__).resolve().parent.parent
+sys.dont_write_bytecode = True
+from needs import add_executable, there  # noqa: E402
+
 MARK = "@@ end of answer"
 
 
@@ -62,10 +64,10 @@ def files(lines, start, end):
     return found
 
 
-def answers(typed, folder, executable):
+def answers(typed, folder, executables):
     """What each command writes, in one shell."""
     script = "".join(f"{command}\nsleep 0.2\nprintf '\\n%s\\n' '{MARK}'\n" for command in typed)
-    path = f"{Path(executable).resolve().parent}:{os.environ['PATH']}"
+    path = f"{executables}:{os.environ['PATH']}"
     shell = subprocess.run(["bash", "-c", script], cwd=folder, env=dict(os.environ, PATH=path), stdin=subprocess.DEVNULL,
                            stdout=subprocess.PIPE, stderr=subprocess.STDOUT, timeout=120)
     parts = shell.stdout.decode().split(f"\n{MARK}\n")
@@ -82,7 +84,7 @@ def shortened(line):
     return re.sub(r" {9,}(\S+?) +(\d)", r" .. \1 \2", line.replace("\r", ""))
 
 
-def held(document, executable, write):
+def held(document, executables, write):
     """Whether each answer is the one that stands in the document."""
     lines = Path(document).read_text().split("\n")
     sessions, typed = [], []
@@ -94,8 +96,8 @@ def held(document, executable, write):
             elif lines[start].startswith("$ ") and "cat insert.run" not in lines[start]:
                 sessions += list(commands(lines, start, end))
         typed = [command for command, _, _ in sessions]
-        given = answers(typed, folder, executable)
-    same = len(given) == len(typed)
+        given = answers(typed, folder, executables)
+    same = 0 < len(given) == len(typed)
     for (command, start, end), answer in reversed(list(zip(sessions, given))):
         expected = lines[start:end]
         if list(map(plain, expected)) == list(map(plain, answer)):
@@ -107,17 +109,21 @@ def held(document, executable, write):
             print(f"{document}:{start}: $ {command}", *(f"- {e}" for e in expected), *(f"+ {a}" for a in answer), sep="\n")
     if write:
         Path(document).write_text("\n".join(lines))
-    print(f"{document}: {len(given)} of {len(typed)} commands typed, {'all answered as it says' if same else 'not as it says'}")
+    verdict = "all answered as it says" if same else "not as it says" if typed else "no session in it"
+    print(f"{document}: {len(given)} of {len(typed)} commands typed, {verdict}")
     return same
 
 
 def main():
     parser = argparse.ArgumentParser(description=__doc__.splitlines()[0])
-    parser.add_argument("--executable", default=HERE / "crates/upd/out/upd")
-    parser.add_argument("--write", action="store_true")
+    add_executable(parser)
+    parser.add_argument("--write", action="store_true", help="put what was answered in the place of what stands there")
     parser.add_argument("documents", nargs="+", metavar="DOCUMENT")
     given = parser.parse_args()
-    sys.exit(not all([held(document, given.executable, given.write) for document in given.documents]))
+    with tempfile.TemporaryDirectory() as executables:
+        (Path(executables) / "upd").symlink_to(there(given.executable))
+        right = [held(document, executables, given.write) for document in given.documents]
+    sys.exit(not all(right))
 
 
 if __name__ == "__main__":
