@@ -10,7 +10,6 @@ its budget.
 """
 
 import argparse
-import os
 import re
 import resource
 import shutil
@@ -19,6 +18,9 @@ import subprocess
 import sys
 import tempfile
 from pathlib import Path
+
+sys.dont_write_bytecode = True
+from needs import add_executable, there  # noqa: E402
 
 HERE = Path(__file__).resolve().parent
 THREE_LINES = b"*IDENT NEW\n*DELETE D1.2\n      CONTINUE\n"
@@ -36,7 +38,7 @@ def decks(count, cards):
 
 
 def sets(count):
-    """Runs that bring sets, a hundred in each, which each delete and restore the first text."""
+    """Runs that bring sets, a hundred in each, which each restore the first text."""
     for first in range(1, count + 1, 100):
         few = range(first, min(first + 100, count + 1))
         yield text(line for n in few for line in [f"*IDENT S{n}", "*RESTORE D1.2"])
@@ -68,7 +70,7 @@ LIBRARIES = [
 COMMANDS = [
     ("a quick run of three lines", ["run", "LYON", "99999", "quick"], THREE_LINES),
     ("a normal run of three lines", ["run", "LYON", "99999", "normal"], THREE_LINES),
-    ("the same sent again", ["run", "LYON", "1", "quick"], None),
+    ("the first run sent again", ["run", "LYON", "1", "quick"], None),
     ("idents", ["idents"], b""),
     ("list D1", ["list", "D1"], b""),
     ("compile", ["compile"], b""),
@@ -150,15 +152,15 @@ def growth(upd, times):
 
 def main():
     words = argparse.ArgumentParser(description=__doc__.splitlines()[0])
-    words.add_argument("--executable", default=str(HERE.parent / "crates/upd/out/upd"))
-    words.add_argument("--times", type=int, default=9)
-    words.add_argument("--growth", action="store_true")
+    add_executable(words)
+    words.add_argument("--times", metavar="N", type=int, default=9, help="processes of each command in the table (default: 9)")
+    words.add_argument("--growth", action="store_true", help="make the table alone")
     words = words.parse_args()
-    upd = os.path.abspath(words.executable)
+    upd = there(words.executable)
     growth(upd, words.times)
     if words.growth:
         return 0
-    others = [["trial.py", upd], ["apply.py"], ["store.py"], ["wire.py", "--upd", upd, "--times"]]
+    others = [["trial.py", "--executable", upd], ["apply.py"], ["store.py"], ["wire.py", "--executable", upd, "--times"]]
     late = False
     for name, *rest in others:
         print(f"\n{name}", flush=True)
