@@ -80,8 +80,9 @@ Example:
 pub(crate) const SERVE: Text = Text {
     about: "Serves so many HTTP connections, one after the other, one request each",
     more: "\
-Reads and writes connections alone. A client that says or takes nothing for 10 seconds is given up,
-and so is one that isn't done after two minutes.
+Reads and writes connections alone. A client that says or takes nothing for 10 seconds gets no
+whole answer, nor does one that isn't done after two minutes. The next client is served once this
+one has closed its connection, or said nothing for 10 seconds more.
 
 Exit status: 0 done, 2 no command line, ADDRESS or COUNT is none, 3 want of memory, the store
 failed, the address can't be bound, or no connection can be accepted. What failed is one line on
