@@ -29,7 +29,8 @@ fn names_have_one_to_nine_bytes(rt: HostRuntime) -> Result<(), Fail> {
 fn names_have_an_order(rt: HostRuntime) -> Result<(), Fail> {
     let first = Name::read(b"A9").ok_or("a name")?;
     let second = Name::read(b"AB").ok_or("a name")?;
-    assert!(rt; first < second && first == first);
+    let again = Name::read(b"A9").ok_or("a name")?;
+    assert!(rt; first < second && first == again && first != second);
     Ok(())
 }
 
