@@ -77,7 +77,12 @@ fn read_with_zero(alloc: Global, at: usize) -> Result<String, Fail> {
 fn zero_is_refused(rt: &impl Abort, alloc: Global, at: usize, line: u32) -> Result<(), Fail> {
     let found = read_with_zero(alloc, at)?;
     let wanted = format!(in alloc; "BadByte (3) at {line}")?;
-    same(rt, "the fault", &found.as_str(), &wanted.as_str());
+    same(
+        rt,
+        "the fault",
+        &(at, found.as_str()),
+        &(at, wanted.as_str()),
+    );
     Ok(())
 }
 
@@ -103,14 +108,45 @@ const THIRD: &str = "RUN LYON 3 full 21\n*IDENT X\n*DELETE A.3\n\n";
 /// Where the answers to each of the frames end.
 const ANSWER_ENDS: [usize; 4] = [0, 389, 482, 773];
 
+/// A compile line of deck A as a reply has it.
+fn compile_line(alloc: Global, text: &str, number: u32) -> Result<String, Fail> {
+    Ok(format!(in alloc; "{text:<80} A        {number:>6}\\n")?)
+}
+
+/// The line that answers the first frame.
+fn first_answer(alloc: Global) -> Result<String, Fail> {
+    let one = compile_line(alloc, "ONE", 2)?;
+    let two = compile_line(alloc, "TWO", 3)?;
+    let three = compile_line(alloc, "THREE", 4)?;
+    Ok(format!(in alloc;
+        "{{\"compile\":\"{one}{two}{three}\",\"idents\":[\"A\"],\"lines\":3,\"mode\":\"full\",\
+\"run\":1,\"site\":\"LYON\",\"state\":\"accepted\"}}\n"
+    )?)
+}
+
+/// The line that answers the second frame.
+const SECOND_ANSWER: &str =
+    "{\"compile\":\"\",\"idents\":[],\"lines\":0,\"mode\":\"quick\",\"run\":2,\
+\"site\":\"LYON\",\"state\":\"accepted\"}\n";
+
+/// The line that answers the third frame.
+fn third_answer(alloc: Global) -> Result<String, Fail> {
+    let one = compile_line(alloc, "ONE", 2)?;
+    let three = compile_line(alloc, "THREE", 4)?;
+    Ok(format!(in alloc;
+        "{{\"compile\":\"{one}{three}\",\"idents\":[\"X\"],\"lines\":2,\"mode\":\"full\",\
+\"run\":3,\"site\":\"LYON\",\"state\":\"accepted\"}}\n"
+    )?)
+}
+
 /// The whole spool, and the answers to it.
-fn worked(alloc: Global) -> Result<(String, Vec<u8>), Fail> {
+fn worked(alloc: Global) -> Result<(String, String), Fail> {
     let text = format!(in alloc; "{FIRST}{SECOND}{THIRD}")?;
-    let mut answers = Vec::new(alloc);
-    let mut desk = Desk::new(ListStore::new(alloc));
-    let count = spool(alloc, &mut text.as_bytes(), &mut answers, &mut desk)?;
-    if count != 3 || answers.len() != ANSWER_ENDS[3] {
-        return Err("the spool isn't answered".into());
+    let first = first_answer(alloc)?;
+    let third = third_answer(alloc)?;
+    let answers = format!(in alloc; "{first}{SECOND_ANSWER}{third}")?;
+    if answers.len() != ANSWER_ENDS[3] {
+        return Err("the answers end elsewhere".into());
     }
     Ok((text, answers))
 }
@@ -192,23 +228,27 @@ fn all_at_once(
     front: &[u8],
     wanted: &[u8],
     mut desk: Desk<ListStore>,
-) {
+) -> Result<(), Fail> {
     let mut output = Room::new(Vec::new(alloc), ANSWER_ENDS[3]);
     let mut rest = front;
     let ended = spool(alloc, &mut rest, &mut output, &mut desk);
     ends(rt, front, ended, &output.taken, wanted);
+    keeps(rt, alloc, desk, whole_frames(front.len()))?;
+    Ok(())
 }
 
-/// All at once and byte by byte, the same comes out.
+/// All at once and byte by byte, the same comes out; so it does where the runs are repeats.
 #[test]
 fn each_front_of_a_spool_answers_its_whole_frames(rt: HostRuntime) -> Result<(), Fail> {
     let alloc = rt.alloc();
     let (text, answers) = worked(alloc)?;
     for length in 0..=text.len() {
         let front = &text.as_bytes()[..length];
-        let wanted = answers_of(&answers, whole_frames(length))?;
+        let wanted = answers_of(answers.as_bytes(), whole_frames(length))?;
         let desk = byte_by_byte(&rt, alloc, front, wanted)?;
-        all_at_once(&rt, alloc, front, wanted, desk);
+        all_at_once(&rt, alloc, front, wanted, desk)?;
+        let empty = Desk::new(ListStore::new(alloc));
+        all_at_once(&rt, alloc, front, wanted, empty)?;
     }
     Ok(())
 }
@@ -217,10 +257,11 @@ fn each_front_of_a_spool_answers_its_whole_frames(rt: HostRuntime) -> Result<(),
 fn read_fails(
     rt: &impl Abort,
     alloc: Global,
-    mut input: Single<'_>,
+    (text, fails_at): (&[u8], usize),
     whole: u32,
     wanted: &[u8],
 ) -> Result<(), Fail> {
+    let mut input = Single::new(text, fails_at);
     let mut desk = Desk::new(ListStore::new(alloc));
     let mut output = Vec::new(alloc);
     let ended = spool(alloc, &mut input, &mut output, &mut desk);
@@ -228,7 +269,7 @@ fn read_fails(
         kind: FaultKind::Read,
         at: whole.saturating_add(1),
     };
-    same(rt, "the end", &ended, &Err(fault));
+    same(rt, "the end", &(fails_at, ended), &(fails_at, Err(fault)));
     same_bytes(rt, "the answers", &output, wanted);
     keeps(rt, alloc, desk, whole)?;
     Ok(())
@@ -241,8 +282,8 @@ fn a_failed_read_keeps_no_run_of_its_frame(rt: HostRuntime) -> Result<(), Fail> 
     let (text, answers) = worked(alloc)?;
     for fails_at in 1..=text.len().saturating_add(1) {
         let whole = whole_frames(fails_at.saturating_sub(1));
-        let wanted = answers_of(&answers, whole)?;
-        let input = Single::new(text.as_bytes(), fails_at);
+        let wanted = answers_of(answers.as_bytes(), whole)?;
+        let input = (text.as_bytes(), fails_at);
         read_fails(&rt, alloc, input, whole, wanted)?;
     }
     Ok(())
@@ -294,15 +335,22 @@ fn write_fails(rt: &impl Abort, alloc: Global, room: usize) -> Result<Desk<ListS
     let fault = FaultKind::Write.without_line();
     same(rt, "the end", &(room, ended), &(room, Err(fault)));
     let wanted = QUICK_ANSWER.as_bytes().get(..room).ok_or("no front")?;
-    same_bytes(rt, "the front", &output.taken, wanted);
+    let found = (room, output.taken.as_slice());
+    same(rt, "the front", &found, &(room, wanted));
     keeps(rt, alloc, desk, 1)
 }
 
-/// The request has its answer.
-fn is_answered(rt: &impl Abort, alloc: Global, mut desk: Desk<ListStore>) -> Result<(), Fail> {
+/// The request has its answer, behind a write that failed after so many bytes.
+fn is_answered(
+    rt: &impl Abort,
+    alloc: Global,
+    mut desk: Desk<ListStore>,
+    room: usize,
+) -> Result<(), Fail> {
     let mut output = Vec::new(alloc);
     serve_one(alloc, &mut QUICK.as_bytes(), &mut output, &mut desk)?;
-    same_bytes(rt, "the answer", &output, QUICK_ANSWER.as_bytes());
+    let found = (room, std::str::from_utf8(&output)?);
+    same(rt, "the answer", &found, &(room, QUICK_ANSWER));
     Ok(())
 }
 
@@ -310,7 +358,7 @@ fn is_answered(rt: &impl Abort, alloc: Global, mut desk: Desk<ListStore>) -> Res
 fn a_failed_write_keeps_the_run_and_its_answer(rt: HostRuntime) -> Result<(), Fail> {
     for room in 0..QUICK_ANSWER.len() {
         let desk = write_fails(&rt, rt.alloc(), room)?;
-        is_answered(&rt, rt.alloc(), desk)?;
+        is_answered(&rt, rt.alloc(), desk, room)?;
     }
     Ok(())
 }

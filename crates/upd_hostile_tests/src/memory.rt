@@ -24,10 +24,11 @@ enum Ask<'a> {
     Yanks,
 }
 
-/// An answer, and how many cards the desk has looked at.
+/// An answer, the mark that a settlement answers, and how many cards the desk has looked at.
 #[derive(Drop)]
 struct Answer {
     text: Result<Vec<u8>, Fault>,
+    mark: Option<u64>,
     work: u64,
 }
 
@@ -42,26 +43,31 @@ impl Answer {
             (Err(one), Err(two)) => one == two,
             _ => false,
         };
-        same && self.work == other.work
+        same && self.mark == other.mark && self.work == other.work
     }
 }
 
 /// Asks a desk over a store.
 fn put(alloc: Global, store: ListStore, asked: Ask<'_>) -> (ListStore, Answer) {
     let mut desk = Desk::new(store);
+    let mut mark = None;
     let text = match asked {
         Ask::Run(number, mode, text) => desk
             .arrive(alloc, "LYON", number, mode, text.as_bytes())
             .map(|reply| reply.text),
-        Ask::Settle(number) => desk
-            .settle_site(alloc, "LYON", number)
-            .map(|_| Vec::new(alloc)),
+        Ask::Settle(number) => match desk.settle_site(alloc, "LYON", number) {
+            Ok(settled) => {
+                mark = Some(settled);
+                Ok(Vec::new(alloc))
+            }
+            Err(fault) => Err(fault),
+        },
         Ask::Compile => desk.full_compile(alloc).map(|file| file.bytes),
         Ask::Idents => desk.ident_list(alloc),
         Ask::Yanks => desk.yank_list(alloc),
     };
     let work = desk.work();
-    (desk.into_store(), Answer { text, work })
+    (desk.into_store(), Answer { text, mark, work })
 }
 
 /// Asks, and once more where memory is refused.
@@ -164,15 +170,26 @@ impl Twins {
 
 /// Asks both a list: the last answer.
 fn ask_all(rt: &impl Abort, alloc: Global, list: &[Ask<'_>]) -> Result<Answer, Fail> {
-    let mut twins = Twins::new(alloc);
+    let (_, last) = ask_twins(rt, alloc, Twins::new(alloc), list)?;
+    Ok(last)
+}
+
+/// Asks twins a list: the twins and the last answer.
+fn ask_twins(
+    rt: &impl Abort,
+    alloc: Global,
+    mut twins: Twins,
+    list: &[Ask<'_>],
+) -> Result<(Twins, Answer), Fail> {
     let mut last = Answer {
         text: Ok(Vec::new(alloc)),
+        mark: None,
         work: 0,
     };
     for asked in list {
         (twins, last) = twins.ask(rt, alloc, *asked)?;
     }
-    Ok(last)
+    Ok((twins, last))
 }
 
 /// The last answer to a list is this text.
@@ -325,21 +342,51 @@ fn six_yanks_in_a_row(rt: HostRuntime) -> Result<(), Fail> {
     Ok(())
 }
 
+/// A settlement is answered by this mark.
+fn settles_to(
+    rt: &impl Abort,
+    alloc: Global,
+    twins: Twins,
+    number: u64,
+    mark: u64,
+) -> Result<Twins, Fail> {
+    let (twins, answer) = twins.ask(rt, alloc, Ask::Settle(number))?;
+    same(
+        rt,
+        "the mark",
+        &(number, answer.mark),
+        &(number, Some(mark)),
+    );
+    Ok(twins)
+}
+
+/// A run at or below the mark is refused.
+fn is_settled(rt: &impl Abort, answer: Answer) {
+    let is_settled =
+        matches!(answer.text, Err(fault) if fault == FaultKind::Settled.without_line());
+    same(
+        rt,
+        "settled, a mark",
+        &(is_settled, answer.mark),
+        &(true, None),
+    );
+}
+
 /// A run that is settled, then one that isn't there yet, then one of a lower number.
 #[test]
 fn settlements(rt: HostRuntime) -> Result<(), Fail> {
+    let alloc = rt.alloc();
     let list = [
         Ask::Run(1, "full", DECK_A),
         Ask::Run(2, "full", "*IDENT X\n*DELETE A.3\n"),
-        Ask::Settle(1),
-        Ask::Run(1, "full", DECK_A),
-        Ask::Run(2, "full", "*IDENT X\n*DELETE A.3\n"),
-        Ask::Settle(3),
-        Ask::Settle(2),
-        Ask::Run(3, "full", ""),
     ];
-    let answer = ask_all(&rt, rt.alloc(), &list)?;
-    assert!(&rt; matches!(answer.text, Err(fault) if fault == FaultKind::Settled.without_line()));
+    let (twins, _) = ask_twins(&rt, alloc, Twins::new(alloc), &list)?;
+    let twins = settles_to(&rt, alloc, twins, 1, 1)?;
+    let (twins, _) = ask_twins(&rt, alloc, twins, &list)?;
+    let twins = settles_to(&rt, alloc, twins, 3, 3)?;
+    let twins = settles_to(&rt, alloc, twins, 2, 3)?;
+    let (_, answer) = twins.ask(&rt, alloc, Ask::Run(3, "full", ""))?;
+    is_settled(&rt, answer);
     Ok(())
 }
 

@@ -67,6 +67,17 @@ fn answered_frames(rt: &impl Abort, ended: Result<u32, Fault>) -> u32 {
     }
 }
 
+/// The answers to the spool, all three frames of it.
+fn spooled_to_its_end(
+    rt: &impl Abort,
+    alloc: Global,
+    store: ListStore,
+) -> Result<(ListStore, Vec<u8>), Fail> {
+    let (store, ended, answers) = spooled(alloc, store)?;
+    same(rt, "frames", &ended, &Ok(3));
+    Ok((store, answers))
+}
+
 /// The answers to the spool, which is sent again where it is refused memory.
 fn spooled_whole(
     rt: &impl Abort,
@@ -75,11 +86,13 @@ fn spooled_whole(
 ) -> Result<(ListStore, Vec<u8>), Fail> {
     let (store, ended, answers) = spooled(alloc, store)?;
     match ended {
-        Ok(_) => Ok((store, answers)),
+        Ok(count) => {
+            same(rt, "frames", &count, &3);
+            Ok((store, answers))
+        }
         Err(fault) => {
             same(rt, "the fault", &fault.kind, &FaultKind::NoMemory);
-            let (store, _, answers) = spooled(alloc, store)?;
-            Ok((store, answers))
+            spooled_to_its_end(rt, alloc, store)
         }
     }
 }
