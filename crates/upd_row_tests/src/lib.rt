@@ -1,7 +1,7 @@
 //! Tests of stores of rows: a library that runs change is followed by its tables.
 //!
-//! They stand in a crate of their own, since a crate with tests is proved once more with them. What a store answers is
-//! asked of any store; the tables themselves are those that a store over lists prints.
+//! They stand in a crate of their own, since a crate with tests is proved once more with them. The store is the
+//! one over lists: it is asked what any store answers, and its tables are compared.
 #![tactic(auto)]
 
 #[cfg(test)]
