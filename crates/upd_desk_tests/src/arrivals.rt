@@ -34,7 +34,7 @@ fn shown_mark(alloc: Global, mark: Result<u64, Fault>) -> Result<String, Fail> {
 }
 
 /// Compares two listings, or their faults.
-fn same(
+fn same_listing(
     rt: &impl Abort,
     alloc: Global,
     what: &str,
@@ -50,6 +50,11 @@ fn same(
 /// A run is answered as it should be.
 fn same_answer(rt: &impl Abort, sent: Sent<'_>, found: &str, wanted: &str) {
     assert_eq!(rt; found, wanted, "{sent:?}");
+}
+
+/// A settlement of a site up to a number is answered as it should be.
+fn same_mark(rt: &impl Abort, settled: (&str, u64), found: &str, wanted: &str) {
+    assert_eq!(rt; found, wanted, "{settled:?}");
 }
 
 /// A desk with the plain program that it is held to.
@@ -107,7 +112,7 @@ impl<S: RowStore> Pair<S> {
         let wanted = self.plain.settle(site, number)?;
         let mark = self.desk.settle_site(self.alloc, site, number);
         let mark = shown_mark(self.alloc, mark)?;
-        same_text(rt, site, mark.as_str(), wanted.as_str());
+        same_mark(rt, (site, number), mark.as_str(), wanted.as_str());
         Ok(())
     }
 
@@ -125,7 +130,7 @@ impl<S: RowStore> Pair<S> {
         let library = &self.plain.library;
         let wanted = compile_file(self.alloc, library, library, Mode::Full, &[]);
         let found = self.desk.full_compile(self.alloc);
-        same(
+        same_listing(
             rt,
             self.alloc,
             "the compile file",
@@ -150,13 +155,13 @@ impl<S: RowStore> Pair<S> {
     fn same_idents(&mut self, rt: &impl Abort) -> Result<(), Fail> {
         let found = self.desk.ident_list(self.alloc);
         let wanted = list_idents(self.alloc, &self.plain.library);
-        same(rt, self.alloc, "the idents", found, wanted)
+        same_listing(rt, self.alloc, "the idents", found, wanted)
     }
 
     fn same_yanks(&mut self, rt: &impl Abort) -> Result<(), Fail> {
         let found = self.desk.yank_list(self.alloc);
         let wanted = list_yanks(self.alloc, &self.plain.library);
-        same(rt, self.alloc, "the yanks", found, wanted)
+        same_listing(rt, self.alloc, "the yanks", found, wanted)
     }
 
     fn same_decks(&mut self, rt: &impl Abort, decks: &[&str]) -> Result<(), Fail> {
@@ -170,7 +175,7 @@ impl<S: RowStore> Pair<S> {
         let name = Name::read(deck.as_bytes()).ok_or("no name")?;
         let found = self.desk.deck_list(self.alloc, &name);
         let wanted = list_deck(self.alloc, &self.plain.library, &name);
-        same(rt, self.alloc, deck, found, wanted)
+        same_listing(rt, self.alloc, deck, found, wanted)
     }
 
     fn same_cards(&mut self, rt: &impl Abort, cards: &[&str]) -> Result<(), Fail> {
@@ -183,7 +188,7 @@ impl<S: RowStore> Pair<S> {
     fn same_card(&mut self, rt: &impl Abort, card: &str) -> Result<(), Fail> {
         let found = self.desk.card_list(self.alloc, card_ref(card)?);
         let wanted = list_card(self.alloc, &self.plain.library, card_ref(card)?);
-        same(rt, self.alloc, card, found, wanted)
+        same_listing(rt, self.alloc, card, found, wanted)
     }
 }
 

@@ -61,9 +61,12 @@ fn tell_ident(told: &mut String, ident: &Ident) -> Result<(), Fail> {
         age,
         name,
         kind,
-        ..
+        noprop,
+        held,
     } = ident;
-    Ok(write!(told, "ident {age} {name} {kind:?}\n")?)
+    let noprop = if *noprop { " noprop" } else { "" };
+    let held = if *held { "" } else { " purged" };
+    Ok(write!(told, "ident {age} {name} {kind:?}{noprop}{held}\n")?)
 }
 
 /// A line of something that ends.
@@ -229,6 +232,20 @@ fn a_name_that_comes_again_is_gone_and_new(rt: HostRuntime) -> Result<(), Fail> 
         "*PURGE X\n*IDENT X\n*INSERT A.4\nEND\n",
         "ident 2 purged\nident 3 X Set\nentries of X.1 gone\ncard X.1 gone\n\
          cards of 1 from 3 by -1\ncard X.1 in 1 at 4: END\nentry 0 of X.1: 3 true\n",
+    )
+}
+
+#[test]
+fn a_common_deck_is_an_ident_with_its_mark(rt: HostRuntime) -> Result<(), Fail> {
+    last_tells(
+        &rt,
+        rt.alloc(),
+        &[DECK_A],
+        "*COMDECK C,NOPROP\nCEE\n*COMDECK D\n",
+        "ident 2 C Common noprop\nident 3 D Common\n\
+         card C.1 in 2 at 0: *COMDECK C,NOPROP\nentry 0 of C.1: 2 true\n\
+         card C.2 in 2 at 1: CEE\nentry 0 of C.2: 2 true\n\
+         card D.1 in 3 at 0: *COMDECK D\nentry 0 of D.1: 3 true\n",
     )
 }
 

@@ -24,16 +24,17 @@ fn add_lines(text: &mut String) -> Result<(), Fail> {
     Ok(())
 }
 
-/// A run was accepted, and so many cards were looked at for it.
-fn is_accepted(rt: &impl Abort, desk: &Desk<ListStore>, reply: &Reply, work: u64) {
-    same(rt, "work", &(reply.accepted, desk.work()), &(true, work));
+/// The run of a number was accepted, and so many cards were looked at for it.
+fn is_accepted(rt: &impl Abort, desk: &Desk<ListStore>, number: u32, reply: &Reply, work: u64) {
+    let found = (number, reply.accepted, desk.work());
+    same(rt, "a run, its work", &found, &(number, true, work));
 }
 
 fn with_500_cards(rt: &impl Abort, alloc: Global) -> Result<Desk<ListStore>, Fail> {
     let mut desk = Desk::new(ListStore::new(alloc));
     let text = ten_decks(alloc)?;
     let reply = desk.arrive(alloc, "BASE", 1, "normal", text.as_bytes())?;
-    is_accepted(rt, &desk, &reply, 500);
+    is_accepted(rt, &desk, 1, &reply, 500);
     Ok(desk)
 }
 
@@ -54,7 +55,7 @@ fn replace_each(
 ) -> Result<(), Fail> {
     for number in 1..=runs {
         let reply = replace(desk, alloc, number)?;
-        is_accepted(rt, desk, &reply, 2);
+        is_accepted(rt, desk, number, &reply, 2);
     }
     Ok(())
 }
@@ -69,7 +70,7 @@ fn replaced(
     replace_each(rt, &mut desk, alloc, runs)?;
     for _ in 0..repeats {
         let reply = replace(&mut desk, alloc, 1)?;
-        is_accepted(rt, &desk, &reply, 0);
+        is_accepted(rt, &desk, 1, &reply, 0);
     }
     Ok(desk)
 }

@@ -130,9 +130,10 @@ fn statuses_of(alloc: Global, library: &Library) -> Result<Statuses, Fail> {
 fn copied(rt: &impl Abort, alloc: Global, copies: u32) -> Result<(), Fail> {
     let library = with_decks(alloc, 24)?;
     let statuses = statuses_of(alloc, &library)?;
+    same(rt, "the statuses", &statuses.len(), &48_000);
     for _ in 0..copies {
         let copy = statuses.clone()?;
-        same(rt, "the statuses", &copy.len(), &48_000);
+        same(rt, "a copy", &copy.len(), &48_000);
     }
     Ok(())
 }
@@ -178,16 +179,18 @@ fn turn_last(library: &mut Library, turn: u32) -> Result<Applied, Fail> {
     applied(library, text.as_str())
 }
 
-/// 900 sets, each of which yanks the one before it, settled one by one; then the last is taken back and put in force
-/// again so many times.
+/// 900 sets, each of which yanks the one before it, are one run: an even number of yanks, so the first line stays
+/// deleted. Then the last one is taken back and put in force again, in so many turns, each of which is settled.
 fn chain(rt: &impl Abort, alloc: Global, turns: u32) -> Result<(), Fail> {
     let mut library = yanked(alloc)?;
     let mut cache = Cache::build(alloc, &library)?;
+    same(rt, "before the turns", &first_line(&cache)?, &Some(false));
     for turn in 0..turns {
         let done = turn_last(&mut library, turn)?;
         cache.settle(&mut Counted::new(&library), &done)?;
         let found = (cache.work(), first_line(&cache)?);
-        same(rt, "a turn", &found, &(901, Some(turn % 2 == 0)));
+        let wanted = (901, Some(turn % 2 == 0));
+        same(rt, "a turn", &(turn, found), &(turn, wanted));
     }
     Ok(())
 }
