@@ -1,11 +1,12 @@
 //! Runs that are kept in tables.
 use crate::check::{same, same_number, same_text};
 use crate::shelf::{applied, keep, kept, listings};
-use sqlite::{Connection, MemStore};
+use sqlite::types::ValueRef;
+use sqlite::{Connection, MemStore, Row};
 use std::alloc::Global;
 use std::process::Abort;
 use std::test::Fail;
-use upd_core::Library;
+use upd_core::{Ident, Kind, Library};
 use upd_rows::RowStore;
 use upd_store::SqlStore;
 use upd_text::Fault;
@@ -100,6 +101,80 @@ fn what_runs_leave_is_kept(rt: HostRuntime) -> Result<(), Fail> {
     keeps(&rt, alloc, &mut store, 3, REPLACED)?;
     keeps(&rt, alloc, &mut store, 5, "none")?;
     same_number(&rt, "failures", store.failures(), 0);
+    Ok(())
+}
+
+/// A marked common deck with a deck that calls it; a set; it is purged, comes again, and with it another common deck.
+const MARKED: [&str; 3] = [
+    "*COMDECK C,NOPROP\nCEE\n*DECK A\n*CALL C\n",
+    "*IDENT X\n*INSERT C.2\nMORE\n",
+    "*PURGE X\n*IDENT X\n*COMDECK D\n",
+];
+
+/// Their idents: age, name, kind, whether marked NOPROP, whether held.
+const MARKED_IDENTS: &str = "|1|C|2|1|1\n|2|A|1|0|1\n|3|X|0|0|0\n|4|X|0|0|1\n|5|D|2|0|1\n";
+
+fn add_value(text: &mut String, value: ValueRef<'_>) -> Result<(), Fail> {
+    match value {
+        ValueRef::Int(number) => write!(text, "|{number}")?,
+        ValueRef::Text(bytes) => write!(text, "|{}", std::str::from_utf8(bytes)?)?,
+        _ => return Err("a column of another kind".into()),
+    }
+    Ok(())
+}
+
+fn add_row(text: &mut String, row: &Row) -> Result<(), Fail> {
+    for at in 0..row.column_count() {
+        add_value(text, row.get_ref(at)?)?;
+    }
+    Ok(text.push_str("\n")?)
+}
+
+/// The rows of a library's idents.
+fn ident_rows(alloc: Global, conn: &mut Connection<MemStore>) -> Result<String, Fail> {
+    let mut text = String::new(alloc);
+    let query = "SELECT age, name, kind, noprop, held FROM idents ORDER BY age";
+    for row in &conn.query_all(query, &[])? {
+        add_row(&mut text, row)?;
+    }
+    Ok(text)
+}
+
+fn add_ident(text: &mut String, ident: &Ident) -> Result<(), Fail> {
+    let kind = match ident.kind {
+        Kind::Set => 0,
+        Kind::Deck => 1,
+        Kind::Common => 2,
+    };
+    let (noprop, held) = (u8::from(ident.noprop), u8::from(ident.held));
+    Ok(write!(
+        text,
+        "|{}|{}|{kind}|{noprop}|{held}\n",
+        ident.age, ident.name
+    )?)
+}
+
+/// The idents of a library that is loaded, as rows would have them.
+fn loaded_idents(alloc: Global, store: &mut SqlStore<MemStore>) -> Result<String, Fail> {
+    let mut text = String::new(alloc);
+    for ident in store.load(alloc)?.idents() {
+        add_ident(&mut text, ident)?;
+    }
+    Ok(text)
+}
+
+#[test]
+fn idents_keep_their_marks(rt: HostRuntime) -> Result<(), Fail> {
+    let alloc = rt.alloc();
+    let mut store = made_again_of(alloc, &MARKED)?;
+    same_text(
+        &rt,
+        "loaded",
+        &loaded_idents(alloc, &mut store)?,
+        MARKED_IDENTS,
+    );
+    let rows = ident_rows(alloc, &mut store.into_connection())?;
+    same_text(&rt, "the rows", &rows, MARKED_IDENTS);
     Ok(())
 }
 

@@ -143,15 +143,36 @@ fn is_unsettled(rt: &impl Abort, alloc: Global, store: &mut Library) -> Result<(
     Ok(())
 }
 
+/// The run of this number is kept.
+fn keeps(rt: &impl Abort, alloc: Global, store: &mut Library, number: u64) -> Result<(), Fail> {
+    let run = store.kept_run(alloc, "LYON", number)?;
+    assert!(rt; run.is_some(), "{number}");
+    Ok(())
+}
+
+/// Asks little: what making the library takes is the measure for the tests beside it.
 #[test]
 fn keeps_50000_cards(rt: HostRuntime) -> Result<(), Fail> {
     let alloc = rt.alloc();
     let mut store = with_50000_cards(alloc)?;
-    is_unsettled(&rt, alloc, &mut store)
+    is_unsettled(&rt, alloc, &mut store)?;
+    keeps(&rt, alloc, &mut store, 25)
 }
 
-fn count_decks(alloc: Global, store: &mut Library) -> Result<usize, Fail> {
-    Ok(store.load(alloc)?.decks().len())
+/// How many decks a library has, and how many cards they have together.
+fn count_cards(library: &upd_core::Library) -> (usize, usize) {
+    let mut cards: usize = 0;
+    for deck in library.decks() {
+        cards = cards.saturating_add(deck.cards.len());
+    }
+    (library.decks().len(), cards)
+}
+
+/// The library that is kept has 50,000 cards in 25 decks.
+fn loads_all(rt: &impl Abort, alloc: Global, store: &mut Library) -> Result<(), Fail> {
+    let found = count_cards(&store.load(alloc)?);
+    same(rt, "decks, cards", &found, &(25, 50_000));
+    Ok(())
 }
 
 #[test]
@@ -159,7 +180,7 @@ fn loads_50000_cards_10_times(rt: HostRuntime) -> Result<(), Fail> {
     let alloc = rt.alloc();
     let mut store = with_50000_cards(alloc)?;
     for _ in 0..10 {
-        same(&rt, "decks", &count_decks(alloc, &mut store)?, &25);
+        loads_all(&rt, alloc, &mut store)?;
     }
     Ok(())
 }
@@ -190,13 +211,6 @@ fn with_500_cards(alloc: Global) -> Result<Library, Fail> {
     let mut store = made(alloc)?;
     add_deck(alloc, &mut store, 1, 500)?;
     Ok(store)
-}
-
-/// The run of this number is kept.
-fn keeps(rt: &impl Abort, alloc: Global, store: &mut Library, number: u64) -> Result<(), Fail> {
-    let run = store.kept_run(alloc, "LYON", number)?;
-    assert!(rt; run.is_some());
-    Ok(())
 }
 
 #[test]
