@@ -1,10 +1,10 @@
 //! Connections on this machine.
-use crate::check::{same, same_bytes};
+use crate::check::same;
 use crate::streams::empty_desk;
 use std::alloc::Global;
 use std::cell::Cell;
 use std::io;
-use std::io::{Read, Write};
+use std::io::{ErrorKind, Read, Write};
 use std::net::{Shutdown, SocketAddr, TcpListener, TcpStream};
 use std::process::Abort;
 use std::test::Fail;
@@ -32,7 +32,7 @@ fn client_with(rt: &HostRuntime, address: SocketAddr, sent: &[u8]) -> Result<Tcp
 fn reads(rt: &impl Abort, alloc: Global, mut client: TcpStream, wanted: &str) -> Result<(), Fail> {
     let mut answer = Vec::new(alloc);
     client.read_to_end(&mut answer)?;
-    same_bytes(rt, "the answer", &answer, wanted.as_bytes());
+    same(rt, "the answer", &std::str::from_utf8(&answer)?, &wanted);
     Ok(())
 }
 
@@ -134,11 +134,14 @@ impl Clock for Ticking {
     }
 }
 
-/// A client reads nothing, and then the connection's end.
+/// A client reads nothing, and then the connection's end, or that it was reset.
 fn reads_nothing(rt: &impl Abort, alloc: Global, mut client: TcpStream) {
     let mut answer = Vec::new(alloc);
-    let _ = client.read_to_end(&mut answer);
-    assert!(rt; answer.is_empty());
+    let is_over = match client.read_to_end(&mut answer) {
+        Ok(_) => true,
+        Err(error) => error.kind() == ErrorKind::ConnectionReset,
+    };
+    same(rt, "bytes, the end", &(answer.len(), is_over), &(0, true));
 }
 
 /// A client that isn't done after two minutes is given up, and its run isn't kept: the key is free for another one.
@@ -162,7 +165,10 @@ fn a_client_that_takes_its_answer_late_is_given_up(rt: HostRuntime) -> Result<()
     let client = client_with(&rt, listener.local_addr()?, QUICK.as_bytes())?;
     serve_on(rt.alloc(), &Ticking::new(2, 120), &listener, 1, &mut desk)?;
     reads_nothing(&rt, rt.alloc(), client);
-    assert!(rt; desk.arrive(rt.alloc(), "LYON", 1, "full", b"").is_err());
+    let answer = desk.arrive(rt.alloc(), "LYON", 1, "full", b"");
+    let found = answer.map(|reply| reply.accepted);
+    let changed = FaultKind::RunChanged.without_line();
+    same(&rt, "the key", &found, &Err(changed));
     Ok(())
 }
 

@@ -204,7 +204,13 @@ fn is_not_answered(
     kind: FaultKind,
 ) {
     let (ended, output) = cut(alloc, request, fails_at);
-    same(rt, "the end", &ended, &Err(kind.without_line()));
+    let cut_at = (request.len(), fails_at);
+    same(
+        rt,
+        "the end",
+        &(cut_at, ended),
+        &(cut_at, Err(kind.without_line())),
+    );
     same_bytes(rt, "the answer", &output, b"");
 }
 
@@ -227,8 +233,10 @@ fn write_fails(rt: &impl Abort, alloc: Global, room: usize) -> Result<Lists, Fai
     let mut output = Narrow::new(alloc, room);
     let ended = serve_one(alloc, &mut QUICK.as_bytes(), &mut output, &mut desk);
     let wanted = QUICK_ANSWER.as_bytes().get(..room).ok_or("no front")?;
-    same(rt, "the end", &ended, &Err(FaultKind::Write.without_line()));
-    same_bytes(rt, "the front", &output.taken, wanted);
+    let fault = FaultKind::Write.without_line();
+    same(rt, "the end", &(room, ended), &(room, Err(fault)));
+    let found = (room, output.taken.as_slice());
+    same(rt, "the front", &found, &(room, wanted));
     Ok(desk)
 }
 
