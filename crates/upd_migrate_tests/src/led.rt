@@ -82,7 +82,7 @@ fn is_listed(
 ) -> Result<(), Fail> {
     let library = load_library(alloc, conn)?;
     let found = listings(alloc, &library)?;
-    same_text(rt, "the listings", &found, listed(file));
+    same_text(rt, file.name(), &found, listed(file));
     Ok(())
 }
 
@@ -228,17 +228,26 @@ fn reading_fault(alloc: Global, conn: &mut Connection<MemStore>) -> Result<Strin
     }
 }
 
-/// A file is neither led nor read, for this fault, and its tables stay.
+/// The faults of a migration and of a reading.
+fn faults_of(alloc: Global, conn: &mut Connection<MemStore>) -> Result<(String, String), Fail> {
+    let migration = migration_fault(alloc, conn)?;
+    let reading = reading_fault(alloc, conn)?;
+    Ok((migration, reading))
+}
+
+/// A file, told by how it was changed, is neither led nor read, for this fault, and its tables stay.
 fn refused_at(
     rt: &impl Abort,
     alloc: Global,
     conn: &mut Connection<MemStore>,
+    change: &str,
     wanted: &str,
 ) -> Result<(), Fail> {
     let before = tables(alloc, conn)?;
-    same_text(rt, "a migration", &migration_fault(alloc, conn)?, wanted);
-    same_text(rt, "a reading", &reading_fault(alloc, conn)?, wanted);
-    same_text(rt, "the tables", &tables(alloc, conn)?, &before);
+    let (migration, reading) = faults_of(alloc, conn)?;
+    let found = (migration.as_str(), reading.as_str());
+    same(rt, change, &found, &(wanted, wanted));
+    same_text(rt, change, &tables(alloc, conn)?, &before);
     Ok(())
 }
 
@@ -253,7 +262,7 @@ fn fault_of(alloc: Global, file: Older) -> Result<(String, Connection<MemStore>)
 /// A file of an older schema isn't taken up as it is: the fault tells its version, and the tables stay.
 fn is_not_taken_up(rt: &impl Abort, alloc: Global, file: Older, wanted: &str) -> Result<(), Fail> {
     let (fault, mut conn) = fault_of(alloc, file)?;
-    same_text(rt, "the fault", &fault, wanted);
+    same_text(rt, file.name(), &fault, wanted);
     file.is_before(rt, alloc, &mut conn)
 }
 
@@ -268,7 +277,7 @@ fn older_files_are_not_taken_up(rt: HostRuntime) -> Result<(), Fail> {
 fn is_refused(rt: &impl Abort, alloc: Global, change: &str, wanted: &str) -> Result<(), Fail> {
     let mut conn = older(alloc, Older::First)?;
     conn.execute(change, &[])?;
-    refused_at(rt, alloc, &mut conn, wanted)
+    refused_at(rt, alloc, &mut conn, change, wanted)
 }
 
 /// Changes of a file of the first schema, and the fault: another version, none, and one table more.
@@ -286,7 +295,7 @@ const OTHERS: [(&str, &str); 4] = [
 fn other_files_are_refused(rt: HostRuntime) -> Result<(), Fail> {
     let alloc = rt.alloc();
     let mut none = Connection::open_in_memory(alloc)?;
-    refused_at(&rt, alloc, &mut none, "Store (29) at 0")?;
+    refused_at(&rt, alloc, &mut none, "no tables", "Store (29) at 0")?;
     for (change, wanted) in OTHERS {
         is_refused(&rt, alloc, change, wanted)?;
     }

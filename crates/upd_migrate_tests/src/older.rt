@@ -75,7 +75,7 @@ pub enum Older {
 }
 
 impl Older {
-    fn name(self) -> &'static str {
+    pub fn name(self) -> &'static str {
         match self {
             Older::First => "the first schema",
             Older::Second => "the second schema",
@@ -97,10 +97,14 @@ impl Older {
     /// The tables before.
     fn before(self, alloc: Global) -> Result<String, Fail> {
         match self {
-            Older::First => Ok(format!(in alloc; "meta|version|1\n{FIRST_KEPT}")?),
-            Older::Second => {
-                Ok(format!(in alloc; "meta|version|2\n{SECOND_KEPT}{SECOND_STATES}{COUNTS}")?)
+            Older::First => {
+                Ok(format!(in alloc;
+                    "meta|version|1\n{FIRST_KEPT}no states\nno counts\nno settled\n"
+                )?)
             }
+            Older::Second => Ok(format!(in alloc;
+                "meta|version|2\n{SECOND_KEPT}{SECOND_STATES}{COUNTS}no settled\n"
+            )?),
         }
     }
 
@@ -195,13 +199,13 @@ const QUERIES: [(&str, &str); 9] = [
     ("settled", "SELECT site, mark FROM settled ORDER BY site"),
 ];
 
-/// The rows of all tables that a file has, as text, a line for each.
+/// The rows of all tables as text, a line for each, and a line for each table that can't be read.
 pub fn tables<S: Alter>(alloc: Global, conn: &mut Connection<S>) -> Result<String, Fail> {
     let mut text = String::new(alloc);
     for (table, query) in QUERIES {
         match conn.query_all(query, &[]) {
             Ok(rows) => add_rows(&mut text, table, &rows)?,
-            Err(_) => {}
+            Err(_) => write!(text, "no {table}\n")?,
         }
     }
     Ok(text)
