@@ -24,7 +24,7 @@ use Rattle.upd_desk.proofs.RepeatLemmas.{refused_unheard}
 -- a fault that is lost is one by its kind
 pub lost_kind : (f : Fault) → IsLost f → is_lost f.kind ≡ true
 lost_kind f (OfMemory g is at) = rw is refl
-lost_kind f (OfStore g is) = rw is refl
+lost_kind f (OfStore g is at) = rw is refl
 
 -- a fault that isn't lost is no failure of a store
 pub unstored : (old new : ℕ) (f : Fault) → is_lost f.kind ≡ false → f.kind ≡ fault.Store → MoreFailures old new
@@ -122,7 +122,7 @@ module _ {S : Type 0} {Image : Type 0} (is_honest is_open : S → Type 0) (image
     honest = keeps.honest;
     was_open = keeps.was_open;
     counts = keeps.counts;
-    answers = λ honest j held. inl (lost_kind f lost);
+    answers = λ honest j held. inl lost;
     holds = λ honest j held is. rw (lost_kind f lost) (subst (HoldsIn shows j) (sym (keeps.same honest is)) (held (keeps.was_open honest is)));
     leaves = λ honest j hand guards i may. rw (lost_kind f lost) (left_more shows j (Came a) hand i (guards.left i (keeps.crash honest i may)));
   }
@@ -148,7 +148,7 @@ module _ {S : Type 0} {Image : Type 0} (is_honest is_open : S → Type 0) (image
     honest = tries.honest;
     was_open = tries.was_open;
     counts = tries.counts;
-    answers = λ honest j held. inl (lost_kind f lost);
+    answers = λ honest j held. inl lost;
     holds = λ honest j held is. rw (lost_kind f lost) (subst (HoldsIn shows j) (sym (same honest is)) (held (tries.was_open honest is)));
     leaves = λ honest j hand guards i may. rw (lost_kind f lost) (by honest j hand guards i (tries.crash honest i may));
   }

@@ -15,7 +15,7 @@ use Rattle.upd_compile.specs.File.{FileView, event_fault, event_line, file_of, i
 use Rattle.upd_compile.specs.Walk.{WalkEvent, Line, Follow, Depth, Unknown, walk}
 use Rattle.upd_compile.specs.declared.mode.Mode.{Mode}
 use Rattle.upd_change.specs.Rows.{Rows, Shows, ShowsStates}
-use Rattle.upd_rows.specs.Keeping.{Keeps}
+use Rattle.upd_rows.specs.Keeping.{IsLost, Keeps, OfMemory}
 use Rattle.upd_desk.specs.Journal.{Journal, library_after}
 use Rattle.upd_desk.specs.Made.{IsMade}
 use Rattle.upd_desk.specs.Holding.{HoldsIn, IsOwed, Tells, is_lost}
@@ -23,11 +23,11 @@ use Rattle.upd_desk.proofs.MadeLemmas.{library_made}
 use Rattle.upd_desk.proofs.RefusedLemmas.{fails_by}
 
 -- a call that failed as defined, but for want of memory, met what is owed or was lost
-pub fails_owed : {A : Type 0} (f : Fault) (defined : Result A Fault) → FailsAt f defined → IsTrue (is_lost f.kind) ⊎ (defined ≡ Err f)
+pub fails_owed : {A : Type 0} (f : Fault) (defined : Result A Fault) → FailsAt f defined → IsLost f ⊎ (defined ≡ Err f)
 fails_owed f defined fails = by (fails_by f defined fails)
   where
-    by : ((f.kind ≡ NoMemory) × (f.at ≡ 0)) ⊎ (defined ≡ Err f) → IsTrue (is_lost f.kind) ⊎ (defined ≡ Err f)
-    by (inl lost) = inl (ap is_lost lost.0)
+    by : ((f.kind ≡ NoMemory) × (f.at ≡ 0)) ⊎ (defined ≡ Err f) → IsLost f ⊎ (defined ≡ Err f)
+    by (inl lost) = inl (OfMemory f lost.0 lost.1)
     by (inr met) = inr met
 
 -- a call that failed as a store does met what is defined

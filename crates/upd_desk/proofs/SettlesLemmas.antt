@@ -76,7 +76,7 @@ module _ {S : Type 0} {Image : Type 0} (is_honest is_open : S → Type 0) (image
     honest = keeps.honest;
     was_open = keeps.was_open;
     counts = keeps.counts;
-    answers = λ honest j held. inl (lost_kind f lost);
+    answers = λ honest j held. inl lost;
     holds = λ honest j held is. subst (HoldsIn shows j) (sym (keeps.same honest is)) (held (keeps.was_open honest is));
     leaves = λ honest j hand guards i may. rw (lost_kind f lost) (left_more shows j (Settled site n) hand i (guards.left i (keeps.crash honest i may)));
   }
@@ -155,7 +155,7 @@ module _ {S : Type 0} {Image : Type 0} (is_honest is_open : S → Type 0) (image
     honest = λ honest. keeps.honest (tries.honest honest);
     was_open = λ honest is. keeps.was_open (tries.honest honest) (tries.was_open honest is);
     counts = (let less = keeps.counts in let more = tries.counts in grind arith);
-    answers = λ honest j held. inl (lost_kind f lost);
+    answers = λ honest j held. inl lost;
     holds = λ honest j held is. subst (HoldsIn shows j) (sym (same honest is)) (there (tries.honest honest) j held (tries.was_open honest is));
     leaves = λ honest j hand guards i may.
         rw (lost_kind f lost) (by (tries.honest honest) j hand guards i (tries.crash honest i may));

@@ -8,6 +8,7 @@ use Rattle.upd_text.specs.Outcome.{◌>>=◌}
 use Rattle.upd_core.specs.Library.{LibraryView}
 use Rattle.upd_change.specs.Rows.{Rows, Shows, ShowsStates}
 use Rattle.upd_compile.specs.declared.mode.Mode.{Mode}
+use Rattle.upd_rows.specs.Keeping.{IsLost}
 use Rattle.upd_rows.specs.Tables.{mark_at, run_at}
 use Rattle.upd_desk.specs.Arrivals.{ArrivalView, key_door}
 use Rattle.upd_desk.specs.Journal.{Event, Came, Settled, Journal, answer, kept, mark, run_of, library_after}
@@ -35,7 +36,7 @@ after journal a (Err fault) = if is_lost fault.kind then journal else Came a ∷
 -- a call answered what is owed, or it was lost
 abbrev pub IsOwed : {A : Type 0} → Result A Fault → Result A Fault → Type 0
 IsOwed owed (Ok x) = owed ≡ Ok x
-IsOwed owed (Err fault) = IsTrue (is_lost fault.kind) ⊎ (owed ≡ Err fault)
+IsOwed owed (Err fault) = IsLost fault ⊎ (owed ≡ Err fault)
 
 -- the answer is the one that is owed, or the arrival was lost
 abbrev pub IsAnswer : Journal → ArrivalView → Result ReplyView Fault → Type 0

@@ -43,6 +43,6 @@ abbrev pub refused : ℕ → List ℕ → FaultKind → ℕ → Result ReplyView
 refused number mode kind at =
     Ok (record { accepted = false; text = refused_text (codes "LYON") number mode (record { kind = kind; at = at }) })
 
--- an answer that is no reply
-abbrev pub unanswered : FaultKind → Result ReplyView Fault
-unanswered kind = Err (record { kind = kind; at = 0 })
+-- a refusal without a reply
+abbrev pub without_reply : FaultKind → Result ReplyView Fault
+without_reply kind = Err (record { kind = kind; at = 0 })

@@ -1,11 +1,11 @@
 //! The way of an arrival, over any store.
 
-ghost use Rattle.std.specs.Prelude.{◌≡◌, ◌+◌, ◌≤◌, ◌∷◌, length, None, Ok, Some, IfErr, IfOk, OnErr, OnOk};
+ghost use Rattle.std.specs.Prelude.{◌≡◌, ◌+◌, ◌≤◌, false, ◌∷◌, length, None, Ok, Some, IfErr, IfOk, OnErr, OnOk};
 ghost use Rattle.std.specs.Result.{result_map_both};
 ghost use Rattle.upd_change.specs.Rows.{Rows, Shows, ShowsStates};
 ghost use Rattle.upd_core.specs.Library.{LibraryView};
 ghost use Rattle.upd_desk.specs.Arrivals.{door};
-ghost use Rattle.upd_desk.specs.Holding.{Arrives, Becomes, HoldsIn, TriesRun};
+ghost use Rattle.upd_desk.specs.Holding.{Arrives, Becomes, HoldsIn, TriesRun, is_lost};
 ghost use Rattle.upd_desk.specs.Made.{IsMade, looked_at, work_of};
 ghost use Rattle.upd_desk.specs.Needed.{needed, needed_by};
 ghost use Rattle.upd_desk.specs.Journal.{Came, Journal, reply_to, run_of, library_after};
@@ -131,6 +131,8 @@ pub(crate) fn arrive_at<S: RowStore>(
     ensures reads { S.is_honest store.new → (journal : Journal)
         → (S.is_open store.old → HoldsIn S.shows journal (S.image store.old))
         → OnOk result (S.decks_read_of store.new ≤ S.decks_read_of store.old + length (needed_by journal arrival.now)) }
+    ensures unread { IfErr result (λ fault. is_lost fault.kind ≡ false
+        → S.decks_read_of store.new ≡ S.decks_read_of store.old) }
     ensures failed { IfErr result (λ fault. fault.kind ≡ Store
         → MoreFailures (S.failures_of store.old) (S.failures_of store.new)) }
 {

@@ -1,12 +1,12 @@
 //! The desk over a store.
 
-ghost use Rattle.std.specs.Prelude.{◌≡◌, ◌+◌, ◌≤◌, [], ◌∷◌, length, Ok, IfErr, IfOk, OnErr, OnOk};
+ghost use Rattle.std.specs.Prelude.{◌≡◌, ◌+◌, ◌≤◌, false, [], ◌∷◌, length, Ok, IfErr, IfOk, OnErr, OnOk};
 ghost use Rattle.std.specs.List.{All};
 ghost use Rattle.std.specs.Result.{result_map_both};
 ghost use Rattle.upd_compile.specs.File.{compile_file_of};
 ghost use Rattle.upd_compile.specs.Listings.{card_listing, deck_listing, ident_listing, yank_listing};
 ghost use Rattle.upd_compile.specs.declared.mode.Mode.TheVariants.{Full};
-ghost use Rattle.upd_desk.specs.Holding.{ArriveAll, Arrives, HoldsIn, Settles, Tells, work_after_all};
+ghost use Rattle.upd_desk.specs.Holding.{ArriveAll, Arrives, HoldsIn, Settles, Tells, is_lost, work_after_all};
 ghost use Rattle.upd_desk.specs.Journal.{Came, Journal, library_after};
 ghost use Rattle.upd_desk.specs.Made.{work_of};
 ghost use Rattle.upd_desk.specs.Needed.{needed_by};
@@ -90,6 +90,8 @@ impl<S: RowStore> Desk<S> {
             → (S.is_open self.old.store → HoldsIn S.shows journal (S.image self.old.store))
             → OnOk result (S.decks_read_of self.new.store ≤ S.decks_read_of self.old.store + length (needed_by journal
             (record { site = site.now; number = number; mode = mode.now; bytes = bytes.now }))) }
+        ensures unread { IfErr result (λ fault. is_lost fault.kind ≡ false
+            → S.decks_read_of self.new.store ≡ S.decks_read_of self.old.store) }
         ensures idle { OnErr result (self.new.work ≡ self.old.work) }
         ensures failed { IfErr result (λ fault. fault.kind ≡ Store
             → MoreFailures (S.failures_of self.old.store) (S.failures_of self.new.store)) }
@@ -117,6 +119,8 @@ impl<S: RowStore> Desk<S> {
             → (S.is_open self.old.store → HoldsIn S.shows journal (S.image self.old.store))
             → OnOk result (S.decks_read_of self.new.store ≤ S.decks_read_of self.old.store
             + length (needed_by journal arrival.now)) }
+        ensures unread { IfErr result (λ fault. is_lost fault.kind ≡ false
+            → S.decks_read_of self.new.store ≡ S.decks_read_of self.old.store) }
         ensures idle { OnErr result (self.new.work ≡ self.old.work) }
         ensures failed { IfErr result (λ fault. fault.kind ≡ Store
             → MoreFailures (S.failures_of self.old.store) (S.failures_of self.new.store)) }
@@ -165,6 +169,7 @@ impl<S: RowStore> Desk<S> {
     pub fn settle_site(&mut self, alloc: Global, site: &str, number: u64) -> Result<u64, Fault>
         ensures settles { Settles S.is_honest S.is_open S.image S.shows S.may_leave S.failures_of
             site.now number result self.old.store self.new.store }
+        ensures unread { S.decks_read_of self.new.store ≡ S.decks_read_of self.old.store }
         ensures idle { self.new.work ≡ self.old.work }
         ensures failed { IfErr result (λ fault. fault.kind ≡ Store
             → MoreFailures (S.failures_of self.old.store) (S.failures_of self.new.store)) }

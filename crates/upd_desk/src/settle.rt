@@ -19,6 +19,7 @@ pub(crate) fn settle_at<S: RowStore>(
 ) -> Result<u64, Fault>
     ensures settles { Settles S.is_honest S.is_open S.image S.shows S.may_leave S.failures_of
         site.now number result store.old store.new }
+    ensures unread { S.decks_read_of store.new ≡ S.decks_read_of store.old }
     ensures failed { IfErr result (λ fault. fault.kind ≡ Store
         → MoreFailures (S.failures_of store.old) (S.failures_of store.new)) }
 {

@@ -4,7 +4,7 @@ ghost use Rattle.upd_text.specs.declared.fault.FaultKind.TheVariants.{CallUnknow
 ghost use Rattle.upd_text.specs.declared.fault.FaultKind.TheVariants as fault;
 ghost use Rattle.upd_reply.specs.Texts.{fault_text, settled_text};
 ghost use Rattle.upd_desk.specs.Journal.{Came, Settled, answer, mark, library_after};
-ghost use Rattle.upd_desk.specs.Worked.{accepted, answers, deck_a, delete, line, lyon, refused, unanswered};
+ghost use Rattle.upd_desk.specs.Worked.{accepted, answers, deck_a, delete, line, lyon, refused, without_reply};
 ghost use Rattle.upd_desk.specs.Worked.{with_common};
 
 /// A run of no lines in quick mode is accepted, and its reply has no line.
@@ -44,7 +44,7 @@ pub fn kept_refusals()
         ≡ refused 3 (codes "full") CardUnknown 2
         ∷ accepted (codes "LYON") 4 (codes "full") (codes "A" ∷ []) (line (codes "ONE") (codes "A") (codes "2")
         ∷ line (codes "TWO") (codes "A") (codes "3") ∷ line (codes "THREE") (codes "A") (codes "4") ∷ [])
-        ∷ refused 3 (codes "full") CardUnknown 2 ∷ unanswered RunChanged ∷ unanswered RunChanged ∷ [] }
+        ∷ refused 3 (codes "full") CardUnknown 2 ∷ without_reply RunChanged ∷ without_reply RunChanged ∷ [] }
     ensures library { library_after (Came (lyon 3 (codes "quick") (delete (codes "A.2")))
         ∷ Came (lyon 3 (codes "full") (delete (codes "A.3"))) ∷ Came (lyon 3 (codes "full") (delete (codes "A.2")))
         ∷ Came (lyon 4 (codes "full") deck_a) ∷ Came (lyon 3 (codes "full") (delete (codes "A.2"))) ∷ [])
@@ -68,14 +68,14 @@ pub fn settlements()
         ∷ Came (lyon 1 (codes "full") deck_a) ∷ [])
         (lyon 1 (codes "full") deck_a ∷ lyon 1 (codes "quick") [] ∷ lyon 2 (codes "full") (delete (codes "A.3"))
         ∷ record { site = codes "PARIS"; number = 1; mode = codes "full"; bytes = [] } ∷ [])
-        ≡ unanswered fault.Settled ∷ unanswered fault.Settled
+        ≡ without_reply fault.Settled ∷ without_reply fault.Settled
         ∷ accepted (codes "LYON") 2 (codes "full") (codes "X" ∷ []) (line (codes "ONE") (codes "A") (codes "2")
         ∷ line (codes "THREE") (codes "A") (codes "4") ∷ [])
         ∷ accepted (codes "PARIS") 1 (codes "full") [] (line (codes "ONE") (codes "A") (codes "2")
         ∷ line (codes "THREE") (codes "A") (codes "4") ∷ []) ∷ [] }
     ensures marks { mark (Settled (codes "LYON") 3 ∷ Settled (codes "LYON") 1 ∷ []) (codes "LYON") ≡ 3 }
     ensures new { answer (Settled (codes "LYON") 3 ∷ Settled (codes "LYON") 1 ∷ [])
-        (lyon 3 (codes "full") deck_a) ≡ unanswered fault.Settled }
+        (lyon 3 (codes "full") deck_a) ≡ without_reply fault.Settled }
     ensures never_falls { mark (Settled (codes "LYON") 2 ∷ Settled (codes "LYON") 3 ∷ []) (codes "LYON") ≡ 3 }
     ensures text { settled_text (codes "LYON") 1 ≡ codes "{\"settled\":1,\"site\":\"LYON\"}" }
 {}

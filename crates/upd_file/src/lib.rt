@@ -16,7 +16,9 @@ ghost use Rattle.sqlite_wal.specs.Files.{image_at};
 ghost use Rattle.sqlite_wal.specs.Reads.{AreClean};
 ghost use Rattle.upd_rows.specs.Keeping.{IsLost};
 ghost use Rattle.upd_sql.specs.Making.{no_rows};
+ghost use Rattle.upd_sql.specs.Schema.{library_schema};
 ghost use Rattle.upd_sql.specs.Stands.{ShowsTables};
+ghost use Rattle.upd_store.specs.Faults.{IsUnopened};
 
 use sqlite::{Connection, FileFrom, FileStore, Files, Start};
 use sqlite_disk::Disk;
@@ -38,7 +40,9 @@ const FIRST_BYTES: &[u8; 16] = b"SQLite format 3\0";
 pub fn open<S: Start>(rt: &HostRuntime, path: &str, start: S) -> Result<FileLibrary<S>, Fault>
     ensures found { IfOk result (λ s. HasCleanDisk (file_state s.conn) → IsTrue (file_state s.conn).is_open
         → FindsIn (image_at S.Start) (file_state s.conn)) }
-    ensures lost { IfErr result IsLost }
+    ensures ours { IfOk result (λ s. HasCleanDisk (file_state s.conn) → IsTrue (file_state s.conn).is_open
+        → (file_state s.conn).committed.schema ≡ library_schema) }
+    ensures unopened { IfErr result IsUnopened }
 {
     let conn = match connect(rt, path, start) {
         Ok(conn) => conn,
@@ -56,7 +60,7 @@ pub fn open<S: Start>(rt: &HostRuntime, path: &str, start: S) -> Result<FileLibr
 pub fn create<S: Start>(rt: &HostRuntime, path: &str, start: S) -> Result<FileLibrary<S>, Fault>
     ensures shows { IfOk result (λ s. HasCleanDisk (file_state s.conn)
         → IsTrue (file_state s.conn).is_open × ShowsTables no_rows (file_state s.conn).committed) }
-    ensures lost { IfErr result IsLost }
+    ensures unopened { IfErr result IsUnopened }
 {
     let conn = match connect_or_make(rt, path, start) {
         Ok(conn) => conn,
@@ -73,7 +77,6 @@ pub fn create<S: Start>(rt: &HostRuntime, path: &str, start: S) -> Result<FileLi
 pub fn close<D: Disk + Drop>(library: SqlStore<FileStore<D>>) -> Result<Files<D>, Fault>
     ensures copied { IfOk result (λ files. AreClean D.Disk files.log files.db → IsCopied library.conn files) }
     ensures lost { IfErr result IsLost }
-    ensures at { IfErr result (λ e. e.at ≡ 0) }
 {
     match library.into_connection().close_files() {
         Ok(files) => Ok(files),
@@ -93,7 +96,6 @@ pub fn connect<S: Start>(
 ) -> Result<Connection<FileStore<FileFrom<S>>>, Fault>
     ensures found { IfOk result (λ c. HasCleanDisk (file_state c) → FindsIn (image_at S.Start) (file_state c)) }
     ensures lost { IfErr result IsLost }
-    ensures at { IfErr result (λ e. e.at ≡ 0) }
 {
     if begins_as_database(rt, path).unwrap_or(false) {
         connect_or_make(rt, path, start)
@@ -109,7 +111,6 @@ fn connect_or_make<S: Start>(
 ) -> Result<Connection<FileStore<FileFrom<S>>>, Fault>
     ensures found { IfOk result (λ c. HasCleanDisk (file_state c) → FindsIn (image_at S.Start) (file_state c)) }
     ensures lost { IfErr result IsLost }
-    ensures at { IfErr result (λ e. e.at ≡ 0) }
 {
     match Connection::open_from(rt, path, false, start) {
         Ok(conn) => Ok(conn),

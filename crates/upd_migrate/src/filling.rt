@@ -17,7 +17,7 @@ use crate::version::Version;
 use sqlite::{Alter, Error, ErrorCode, Transaction};
 use std::alloc::Global;
 use upd_rows::assembled;
-use upd_sql::{carry_out_all, library_in};
+use upd_sql::{carry_out_all, library_rows_in};
 
 /// The statuses and counts of the library that the tables show, where they have none.
 fn fill_states<S: Alter>(tx: &mut Transaction<'_, S>, alloc: Global) -> Result<(), Error>
@@ -27,7 +27,7 @@ fn fill_states<S: Alter>(tx: &mut Transaction<'_, S>, alloc: Global) -> Result<(
         → Leads (Stands it) (StandsAfter (IsFilled l it))
         (state S.Store tx.old.conn.now) (state S.Store tx.new.conn.now) result }
 {
-    let rows = library_in(tx, alloc)?;
+    let rows = library_rows_in(tx, alloc)?;
     let library = assembled(alloc, rows)?;
     let changes = match statuses(alloc, &library) {
         Ok(changes) => changes,

@@ -5,7 +5,7 @@ ghost use Rattle.sqlite.specs.State.{HasCleanDisk, Survives};
 ghost use Rattle.upd_core.specs.Library.{LibraryView};
 ghost use Rattle.upd_change.specs.Rows.{Rows};
 ghost use Rattle.upd_rows.specs.Assembling.{AreRowsOf};
-ghost use Rattle.upd_rows.specs.Keeping.{IsLost};
+ghost use Rattle.upd_store.specs.Faults.{IsUnopened};
 ghost use Rattle.upd_store.specs.Version.{TellsVersion};
 ghost use Rattle.upd_migrate.specs.Migrated.{AreLibraryRows};
 ghost use Rattle.upd_migrate.specs.Older.{ShowsAs};
@@ -18,7 +18,7 @@ use std::alloc::Global;
 use upd_core::Library;
 use upd_order::{Rising, note_order_outside};
 use upd_rows::{LibraryRows, assembled};
-use upd_sql::library_in;
+use upd_sql::library_rows_in;
 use upd_store::{fault_of, store_at};
 use upd_text::{Fault, FaultKind};
 
@@ -43,7 +43,7 @@ fn rows_of<S: Rising>(
     let _outside = conn.is_autocommit();
     let mut tx = conn.transaction();
     complete(&mut tx, version)?;
-    let found = library_in(&mut tx, alloc)?;
+    let found = library_rows_in(&mut tx, alloc)?;
     tx.rollback();
     Ok(found)
 }
@@ -60,7 +60,7 @@ pub fn load_library<S: Rising>(alloc: Global, conn: &mut Connection<S>) -> Resul
         → TellsVersion v (state S.Store conn.old).committed → (e.at ≡ v) ⊎ (e.at ≡ 0)) }
     ensures mode { conn.new.in_transaction ≡ conn.old.in_transaction }
     ensures survives { Survives (state S.Store conn.old) (state S.Store conn.new) (λ _. ⊥) }
-    ensures lost { IfErr result IsLost }
+    ensures unopened { IfErr result IsUnopened }
 {
     if !conn.is_autocommit() {
         return Err(store_at(0));

@@ -2,8 +2,8 @@
 ghost use Rattle.std.specs.Prelude.{◌≡◌, ◌⊎◌, ℕ, false, IfErr, IsTrue, OnErr, OnOk};
 ghost use Rattle.sqlite.specs.Held.{state};
 ghost use Rattle.sqlite.specs.State.{HasCleanDisk, Survives};
-ghost use Rattle.upd_rows.specs.Keeping.{IsLost};
 ghost use Rattle.upd_sql.specs.Schema.{library_schema};
+ghost use Rattle.upd_store.specs.Faults.{IsUnopened};
 ghost use Rattle.upd_store.specs.Version.{TellsVersion};
 ghost use Rattle.upd_migrate.specs.Migrated.{HasKnown, MayMigrate, MayMigrateFrom, Migrates, MigratesFrom};
 
@@ -60,7 +60,7 @@ pub fn migrate<S: Rising>(alloc: Global, conn: &mut Connection<S>) -> Result<(),
         → TellsVersion v (state S.Store conn.old).committed → (e.at ≡ v) ⊎ (e.at ≡ 0)) }
     ensures mode { conn.new.in_transaction ≡ conn.old.in_transaction }
     ensures crash { Survives (state S.Store conn.old) (state S.Store conn.new) (MayMigrate (state S.Store conn.old)) }
-    ensures lost { IfErr result IsLost }
+    ensures unopened { IfErr result IsUnopened }
 {
     if !conn.is_autocommit() {
         return Err(store_at(0));

@@ -2,7 +2,7 @@
 ghost use Rattle.std.specs.Prelude.{◌≡◌, ◌≤◌, ◌⊎◌, ℕ, false, IfErr, IfOk, IfSome, IsTrue};
 ghost use Rattle.sqlite.specs.Held.{state};
 ghost use Rattle.sqlite.specs.State.{HasCleanDisk, Survives};
-ghost use Rattle.upd_rows.specs.Keeping.{IsLost};
+ghost use Rattle.upd_store.specs.Faults.{IsUnopened};
 ghost use Rattle.upd_store.specs.Version.{TellsVersion};
 ghost use Rattle.upd_migrate.specs.Older.{number_of, schema_of, tables_of};
 
@@ -67,7 +67,7 @@ pub(crate) fn known_version<S: Rising>(conn: &mut Connection<S>) -> Result<Versi
     ensures same { HasCleanDisk (state S.Store conn.new) → IsTrue (state S.Store conn.new).is_open
         → (state S.Store conn.new).committed ≡ (state S.Store conn.old).committed }
     ensures survives { Survives (state S.Store conn.old) (state S.Store conn.new) (λ _. ⊥) }
-    ensures lost { IfErr result IsLost }
+    ensures unopened { IfErr result IsUnopened }
 {
     let number = match version_of(conn) {
         Ok(number) => number,

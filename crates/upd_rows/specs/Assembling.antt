@@ -82,7 +82,3 @@ module _ (idents : List Ident) (entries : List EntryRow) (targets : List TargetR
 abbrev pub library_of : List Ident → List DeckView → LibraryView
 library_of idents [] = record { idents = idents; decks = []; yanks = []; rest = empty.rest }
 library_of idents (yanks ∷ decks) = record { idents = idents; decks = decks; yanks = yanks.cards; rest = empty.rest }
-
--- the library of rows
-abbrev pub library_in : LibraryRows → LibraryView
-library_in rows = library_of rows.idents.items (decks_in rows.idents.items rows.entries.items rows.targets.items rows.cards.items)

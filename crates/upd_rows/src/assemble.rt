@@ -239,7 +239,7 @@ pub fn assembled_part(alloc: Global, rows: LibraryRows, ages: &[Age]) -> Result<
 /// A part of a library from its own rows: all idents and targets, the cards of `YANK$$$` and of the decks that are
 /// loaded, and the entries of these cards. `cards` and `entries` are the numbers in the whole library: what isn't among
 /// the rows is the rest.
-pub fn assembled_rest(
+pub fn assembled_with_rest(
     alloc: Global,
     rows: LibraryRows,
     cards: u64,

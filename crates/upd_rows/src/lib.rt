@@ -13,7 +13,7 @@ pub mod store;
 
 pub use active::assembled_active;
 pub use asked::{card_set, decks_by_age, keep_states, reads_with, states_by_key};
-pub use assemble::{assembled, assembled_part, assembled_rest};
+pub use assemble::{assembled, assembled_part, assembled_with_rest};
 pub use list_store::ListStore;
 pub use list_tables::ListTables;
 pub use rows::{CardRow, CountRow, EntryRow, LibraryRows, MarkRow, StateRow, TargetRow};

@@ -10,8 +10,8 @@ use std::alloc::Global;
 use upd_core::card::entry_count;
 use upd_core::{Age, Deck, Ident, Library, Rest};
 
-/// How many cards a deck has, none where it is one of these ages.
-fn cards_left(deck: &Deck, ages: &[Age]) -> usize
+/// How many cards a deck adds to the rest: none where it is loaded, that is of one of these ages.
+fn cards_left_out(deck: &Deck, ages: &[Age]) -> usize
     ensures { result ≡ (if not (is_among ages.now deck.now.ident) then capped (length deck.now.cards) else 0) }
 {
     if ages.contains(&deck.ident) {
@@ -21,8 +21,8 @@ fn cards_left(deck: &Deck, ages: &[Age]) -> usize
     }
 }
 
-/// How many entries a deck has, none where it is one of these ages.
-fn entries_left(deck: &Deck, ages: &[Age]) -> usize
+/// How many entries a deck adds to the rest: none where it is loaded.
+fn entries_left_out(deck: &Deck, ages: &[Age]) -> usize
     ensures { result ≡ (if not (is_among ages.now deck.now.ident)
         then capped (sum_by (λ c. length c.history) deck.now.cards) else 0) }
 {
@@ -33,24 +33,24 @@ fn entries_left(deck: &Deck, ages: &[Age]) -> usize
     }
 }
 
-/// How many cards the decks of other ages have.
-fn all_cards_left(decks: &[Deck], ages: &[Age]) -> usize
+/// How many cards the decks have that aren't of these ages.
+fn all_cards_left_out(decks: &[Deck], ages: &[Age]) -> usize
     ensures { result ≡ capped (cards_of_decks (filter (λ d. not (is_among ages.now d.ident)) decks.now)) }
 {
     let mut count: usize = 0;
     for deck in decks {
-        count = count.saturating_add(cards_left(deck, ages));
+        count = count.saturating_add(cards_left_out(deck, ages));
     }
     count
 }
 
-/// How many entries the decks of other ages have.
-fn all_entries_left(decks: &[Deck], ages: &[Age]) -> usize
+/// How many entries the decks have that aren't of these ages.
+fn all_entries_left_out(decks: &[Deck], ages: &[Age]) -> usize
     ensures { result ≡ capped (entries_of_decks (filter (λ d. not (is_among ages.now d.ident)) decks.now)) }
 {
     let mut count: usize = 0;
     for deck in decks {
-        count = count.saturating_add(entries_left(deck, ages));
+        count = count.saturating_add(entries_left_out(deck, ages));
     }
     count
 }
@@ -79,8 +79,8 @@ pub(crate) fn part_of(alloc: Global, idents: Vec<Ident>, decks: Vec<Deck>, ages:
     }
     let yanks = decks.remove(0);
     let rest = Rest {
-        cards: all_cards_left(&decks, ages),
-        entries: all_entries_left(&decks, ages),
+        cards: all_cards_left_out(&decks, ages),
+        entries: all_entries_left_out(&decks, ages),
     };
     keep_decks(&mut decks, ages);
     Library::of_parts(idents, decks, yanks.cards, rest)

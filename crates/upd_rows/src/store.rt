@@ -19,7 +19,7 @@ use upd_text::Fault;
 
 /// Tables of rows that are changed by commits, each of which is all or nothing, also where the machine stops.
 ///
-/// Each call but `failures` and `decks_read` can answer NoMemory, at 0, or Store. Nothing is changed then. A failure
+/// Each call but `failures` and `decks_read` can answer NoMemory or Store, at 0. Nothing is changed then. A failure
 /// may shut the store: from then on each call answers Store, and what it keeps is found when it is opened again.
 pub trait RowStore {
     // What is in the file, or in what stands for one.

@@ -16,7 +16,7 @@ use Rattle.upd_desk.specs.Outcomes.{ReplyView}
 use Rattle.upd_desk.specs.Holding.{Arrives, is_lost}
 use Rattle.upd_spool.specs.declared.frames.TheConstants.{MAX_FRAMES}
 use Rattle.upd_spool.specs.Frames.{IsBad, IsFrame, frame_of, frame_text, frames_text}
-use Rattle.upd_spool.specs.Exchange.{StopsNothing, Unanswered}
+use Rattle.upd_spool.specs.Exchange.{StopsNothing, LeavesNoLine}
 use Rattle.upd_spool.specs.Spools.{Answered, EndsBy, GetsNoLine, Handled, LosesOne, Stops, WritesFront}
 use Rattle.upd_spool.specs.Spools.{answer_lines}
 use Rattle.upd_spool.proofs.ArrivalLemmas.{further_arrived, none_arrived, one_arrived}
@@ -110,7 +110,7 @@ module _ {S : Type 0} {Image : Type 0} (is_honest is_open : S → Type 0) (image
 
   -- the frame arrived, and its line isn't out whole
   pub line_missing : (kind : FaultKind) (a : ArrivalView) (old new : S) (input input' output output' : Option (List ℕ))
-      → Unanswered is_honest is_open image shows may_leave failures kind a old new output output' → IsFrame a → Consumes input input' (frame_text a)
+      → LeavesNoLine is_honest is_open image shows may_leave failures kind a old new output output' → IsFrame a → Consumes input input' (frame_text a)
       → EndsBy is_honest is_open image shows may_leave failures old new input input' output output' kind [] []
   line_missing Write a old new input input' output output' missing is consumed =
       let result = missing.0 in

@@ -46,12 +46,13 @@ StopsNothing _ taken = ⊥
 
 module _ {S : Type 0} {Image : Type 0} (is_honest is_open : S → Type 0) (image : S → Image) (shows : Image → Rows → Type 0)
     (may_leave : S → Image → Type 0) (failures : S → ℕ) where
-  -- An arrival got no line: only a beginning of it, or all of it without the answer to the last write; or nothing, where it was lost.
-  abbrev pub Unanswered : FaultKind → ArrivalView → S → S → Option (List ℕ) → Option (List ℕ) → Type 0
-  Unanswered Write a old new output output' =
+  -- The line of an arrival isn't out whole: a beginning of it is, or all of it and the flush failed; or nothing is, where the arrival was lost
+  -- or there was no memory for the line.
+  abbrev pub LeavesNoLine : FaultKind → ArrivalView → S → S → Option (List ℕ) → Option (List ℕ) → Type 0
+  LeavesNoLine Write a old new output output' =
       (result : Result ReplyView Fault) × Arrives is_honest is_open image shows may_leave failures a result old new × IsTrue (is_answered result)
       × AppendsFront output output' (answer_line result)
-  Unanswered kind a old new output output' =
+  LeavesNoLine kind a old new output output' =
       (fault : Fault) × Arrives is_honest is_open image shows may_leave failures a (Err fault) old new × GetsNoLine kind fault
       × (kind ≡ Store → MoreFailures (failures old) (failures new)) × Appends output output' []
 

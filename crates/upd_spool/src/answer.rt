@@ -5,7 +5,7 @@ ghost use Rattle.upd_desk.specs.Answers.{answer_line, is_answered};
 ghost use Rattle.upd_desk.specs.Holding.{Arrives};
 ghost use Rattle.upd_desk.specs.Outcomes.{ReplyView};
 ghost use Rattle.upd_rows.specs.Keeping.{MoreFailures};
-ghost use Rattle.upd_spool.specs.Exchange.{Unanswered};
+ghost use Rattle.upd_spool.specs.Exchange.{LeavesNoLine};
 ghost use Rattle.upd_spool.specs.Frames.{arrival_of};
 ghost use Rattle.upd_spool.specs.Spools.{GetsNoLine};
 ghost use Rattle.upd_streams.specs.Fronts.{AppendsFront};
@@ -33,7 +33,7 @@ pub(crate) fn answer<W: Write, S: RowStore>(
         × Arrives S.is_honest S.is_open S.image S.shows S.may_leave S.failures_of (arrival_of header.now run.now) r
         desk.old.store desk.new.store
         × IsTrue (is_answered r) × Appends (W.contents writer.old) (W.contents writer.new) (answer_line r)) }
-    ensures err { IfErr result (λ kind. Unanswered S.is_honest S.is_open S.image S.shows S.may_leave S.failures_of
+    ensures err { IfErr result (λ kind. LeavesNoLine S.is_honest S.is_open S.image S.shows S.may_leave S.failures_of
         kind (arrival_of header.now run.now) desk.old.store desk.new.store (W.contents writer.old)
         (W.contents writer.new)) }
 {

@@ -23,7 +23,7 @@ use Rattle.upd_rows.specs.Asked.{AreDecksOf, is_asked}
 use Rattle.upd_rows.specs.PartRows.{is_loaded, is_of}
 use Rattle.upd_rows.specs.Tables.{state_pair}
 use Rattle.upd_rows.proofs.AskedLemmas.{cards_next, known_next, or_nothing}
-use Rattle.upd_tables.specs.Keyed.{at_most_64}
+use Rattle.upd_tables.specs.Keyed.{sqlite_count}
 use Rattle.upd_tables.proofs.Frames.{showing}
 use Rattle.upd_tables.proofs.Shapes.{counts}
 use Rattle.upd_sql.specs.Schema.{library_schema}
@@ -77,17 +77,17 @@ module _ (old new : State) (it : Rows) (h : Stands it old.now) (rows : List Row)
       refl refl refl (λ p. bytes_eq ident p.0.name) (status_of ident) (λ x. refl) in
       (found.0, found.1, record { same = found.2.same; sorted = λ k d low high. refl })
 
-  pub cards_counted : Shown text.count_cards [] old new rows → rows ≡ (num (at_most_64 (length it.cards)) ∷ []) ∷ []
+  pub cards_counted : Shown text.count_cards [] old new rows → rows ≡ (num (sqlite_count (length it.cards)) ∷ []) ∷ []
   cards_counted shown =
       counts library_schema 2 4 refl old.now (stored it) [] (showing library_schema (stored it) old.now h) (codes "count(*)" ∷ []) (own old.now.trees 4) rows
       (reads_as text.count_cards [] old new library_schema h.schema_is _ text.count_cards_is text.count_cards_plain text.count_cards_unlisted rows shown)
-      ∙ ap (λ n. (num (at_most_64 n) ∷ []) ∷ []) (length-map it.cards card_row)
+      ∙ ap (λ n. (num (sqlite_count n) ∷ []) ∷ []) (length-map it.cards card_row)
 
-  pub entries_counted : Shown text.count_entries [] old new rows → rows ≡ (num (at_most_64 (length it.entries)) ∷ []) ∷ []
+  pub entries_counted : Shown text.count_entries [] old new rows → rows ≡ (num (sqlite_count (length it.entries)) ∷ []) ∷ []
   entries_counted shown =
       counts library_schema 3 6 refl old.now (stored it) [] (showing library_schema (stored it) old.now h) (codes "count(*)" ∷ []) (own old.now.trees 6) rows
       (reads_as text.count_entries [] old new library_schema h.schema_is _ text.count_entries_is text.count_entries_plain text.count_entries_unlisted rows shown)
-      ∙ ap (λ n. (num (at_most_64 n) ∷ []) ∷ []) (length-map it.entries entry_row)
+      ∙ ap (λ n. (num (sqlite_count n) ∷ []) ∷ []) (length-map it.entries entry_row)
 
 -- ---- decks of more and more cards
 

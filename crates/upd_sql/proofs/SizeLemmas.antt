@@ -23,7 +23,7 @@ use Rattle.sqlite.proofs.Callers.{IsPlain, command_of, runs_as, reads_as}
 use Rattle.upd_change.specs.Changes.{ChangeView}
 use Rattle.upd_change.specs.Rows.{Rows}
 use Rattle.upd_order.specs.Rising.{TablesRise}
-use Rattle.upd_tables.specs.Keyed.{at_most_64, keyed, plain_query}
+use Rattle.upd_tables.specs.Keyed.{sqlite_count, keyed, plain_query}
 use Rattle.upd_tables.specs.Stored.{HasAllRows, HoldsAllRows, HoldsRows, rows_at, with_rows}
 use Rattle.upd_tables.specs.Steps.{Ran, Makes}
 use Rattle.upd_tables.proofs.Chains.{makes_then, makes_as}
@@ -332,17 +332,17 @@ sizes_shown n it db shown h = (
 -- ---- the texts that count
 
 module _ (old new : State) (rows : List Row) (schema : old.now.schema ≡ library_schema) where
-  pub card_rows_counted : Shown text.count_cards [] old new rows → rows ≡ (num (at_most_64 (length (old.now.trees 4))) ∷ []) ∷ []
+  pub card_rows_counted : Shown text.count_cards [] old new rows → rows ≡ (num (sqlite_count (length (old.now.trees 4))) ∷ []) ∷ []
   card_rows_counted shown =
       counts library_schema 2 4 refl old.now (all_rows old.now.trees) [] (shows_all old.now schema) (codes "count(*)" ∷ []) (own old.now.trees 4) rows
       (reads_as text.count_cards [] old new library_schema schema _ text.count_cards_is text.count_cards_plain text.count_cards_unlisted rows shown)
-      ∙ ap (λ n. (num (at_most_64 n) ∷ []) ∷ []) (length-map (old.now.trees 4) (drop 1))
+      ∙ ap (λ n. (num (sqlite_count n) ∷ []) ∷ []) (length-map (old.now.trees 4) (drop 1))
 
-  pub entry_rows_counted : Shown text.count_entries [] old new rows → rows ≡ (num (at_most_64 (length (old.now.trees 6))) ∷ []) ∷ []
+  pub entry_rows_counted : Shown text.count_entries [] old new rows → rows ≡ (num (sqlite_count (length (old.now.trees 6))) ∷ []) ∷ []
   entry_rows_counted shown =
       counts library_schema 3 6 refl old.now (all_rows old.now.trees) [] (shows_all old.now schema) (codes "count(*)" ∷ []) (own old.now.trees 6) rows
       (reads_as text.count_entries [] old new library_schema schema _ text.count_entries_is text.count_entries_plain text.count_entries_unlisted rows shown)
-      ∙ ap (λ n. (num (at_most_64 n) ∷ []) ∷ []) (length-map (old.now.trees 6) (drop 1))
+      ∙ ap (λ n. (num (sqlite_count n) ∷ []) ∷ []) (length-map (old.now.trees 6) (drop 1))
 
 -- ---- a whole transaction
 

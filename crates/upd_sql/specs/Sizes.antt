@@ -29,13 +29,13 @@ HasSizes n trees = (n.cards ≡ length (trees card_tree)) × (n.entries ≡ leng
 abbrev pub AreSizesOf : Rows → Sizes → Type 0
 AreSizesOf it n = (n.cards ≡ length it.cards) × (n.entries ≡ length it.entries)
 
--- numbers that are known are right
-abbrev pub AreKnown : Option Sizes → (Sizes → Type 0) → Type 0
-AreKnown known IsRight = (n : Sizes) → known ≡ Some n → IsRight n
+-- the numbers are right, where any are known
+abbrev pub AreRightIfKnown : Option Sizes → (Sizes → Type 0) → Type 0
+AreRightIfKnown known IsRight = (n : Sizes) → known ≡ Some n → IsRight n
 
--- numbers that are known are those of the last commit
+-- the numbers are those of the last commit, where any are known
 abbrev pub AreOfCommit : Option Sizes → State → Type 0
-AreOfCommit known s = AreKnown known (λ n. HasCleanDisk s → IsTrue s.is_open → HasSizes n s.committed.trees)
+AreOfCommit known s = AreRightIfKnown known (λ n. HasCleanDisk s → IsTrue s.is_open → HasSizes n s.committed.trees)
 
 -- A database of the library's schema, whose rowids rise, has so many rows of cards and of entries.
 pub record HoldsSizes (n : Sizes) (db : Database) : Type 0 where

@@ -76,7 +76,7 @@ pub fn kept_run<S: Rising>(
 }
 
 /// The rows of the four tables that a library is made of.
-pub fn kept_library<S: Rising>(
+pub fn kept_library_rows<S: Rising>(
     conn: &mut Connection<S>,
     alloc: Global,
 ) -> Result<LibraryRows, Error>
@@ -96,7 +96,7 @@ pub fn kept_library<S: Rising>(
     note_order_outside(conn);
     let _outside = conn.is_autocommit();
     let mut tx = conn.transaction();
-    let found = whole::library_in(&mut tx, alloc)?;
+    let found = whole::library_rows_in(&mut tx, alloc)?;
     tx.commit()?;
     Ok(found)
 }

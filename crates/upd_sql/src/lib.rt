@@ -26,7 +26,7 @@ pub use active::ActiveRows;
 pub use changes::carry_out_all;
 pub use commits::commit_changes;
 pub use kept::{
-    kept_active, kept_decks_of, kept_library, kept_mark, kept_part, kept_run, kept_states,
+    kept_active, kept_decks_of, kept_library_rows, kept_mark, kept_part, kept_run, kept_states,
     kept_states_of,
 };
 pub use make::make_library;
@@ -34,4 +34,4 @@ pub use part::Part;
 pub use schema::{has_first_tables, is_library_schema, is_no_schema};
 pub use settle::settle_site;
 pub use sizes::{Sizes, sizes_after};
-pub use whole::library_in;
+pub use whole::library_rows_in;

@@ -13,13 +13,13 @@ ghost use Rattle.upd_change.specs.Rows.{IsSame, Rows, same_ref};
 ghost use Rattle.upd_rows.specs.Asked.{AreDecksOf, is_asked};
 ghost use Rattle.upd_rows.specs.Assembling.{AreRowsOf};
 ghost use Rattle.upd_rows.specs.PartRows.{is_loaded, part_rows};
-ghost use Rattle.upd_tables.specs.Keyed.{at_most_64};
+ghost use Rattle.upd_tables.specs.Keyed.{sqlite_count};
 ghost use Rattle.upd_sql.specs.Commits.{Looks};
 ghost use Rattle.upd_sql.specs.Encoded.{num};
 ghost use Rattle.upd_sql.specs.Listed.{AreInOrder, by_place, in_any_order};
 ghost use Rattle.upd_sql.specs.Part.{AnswersIdents, IsPart, is_of_ident};
 ghost use Rattle.upd_sql.specs.Schema.{library_schema};
-ghost use Rattle.upd_sql.specs.Sizes.{AreKnown, AreSizesOf, HasSizes, card_tree, entry_tree};
+ghost use Rattle.upd_sql.specs.Sizes.{AreRightIfKnown, AreSizesOf, HasSizes, card_tree, entry_tree};
 ghost use Rattle.upd_sql.specs.Stands.{Stands};
 
 use crate::reads::mark_in;
@@ -236,7 +236,7 @@ fn references_of(alloc: Global, cards: &[CardRow]) -> Result<Vec<CardRef>, Alloc
 
 /// The number that the first row begins with, 0 where there is no row. A count that stands at its last value is refused.
 fn first_count(rows: &[Row]) -> Result<u64, Error>
-    ensures { IfOk result (λ n. (count : ℕ) → rows.now ≡ (num (at_most_64 count) ∷ []) ∷ [] → n ≡ count) }
+    ensures { IfOk result (λ n. (count : ℕ) → rows.now ≡ (num (sqlite_count count) ∷ []) ∷ [] → n ≡ count) }
 {
     match rows.first() {
         Some(row) => below_last(row.get(0)?),
@@ -246,7 +246,7 @@ fn first_count(rows: &[Row]) -> Result<u64, Error>
 
 /// A number that is a count; the last one stands for all that are above it, too.
 fn below_last(n: u64) -> Result<u64, Error>
-    ensures { IfOk result (λ m. (count : ℕ) → n ≡ at_most_64 count → m ≡ count) }
+    ensures { IfOk result (λ m. (count : ℕ) → n ≡ sqlite_count count → m ≡ count) }
 {
     if n < LAST {
         Ok(n)
@@ -261,11 +261,11 @@ fn number_of<S: Alter>(tx: &mut Transaction<'_, S>, sql: &str) -> Result<u64, Er
     ensures looks { (size : Rows → ℕ) → IsPlain (understood library_schema sql.now)
         → ((it : Rows) → Stands it (state S.Store tx.old.conn.now).now → (rows : List SqlRow)
         → Shown sql.now [] (state S.Store tx.old.conn.now) (state S.Store tx.new.conn.now) rows
-        → rows ≡ (num (at_most_64 (size it)) ∷ []) ∷ [])
+        → rows ≡ (num (sqlite_count (size it)) ∷ []) ∷ [])
         → Looks (λ it n. n ≡ size it) (state S.Store tx.old.conn.now) (state S.Store tx.new.conn.now) result }
     ensures number { (size : ℕ) → ((rows : List SqlRow) → (state S.Store tx.old.conn.now).now.schema ≡ library_schema
         → Shown sql.now [] (state S.Store tx.old.conn.now) (state S.Store tx.new.conn.now) rows
-        → rows ≡ (num (at_most_64 size) ∷ []) ∷ [])
+        → rows ≡ (num (sqlite_count size) ∷ []) ∷ [])
         → HasCleanDisk (state S.Store tx.new.conn.now)
         → IfOk result (λ n. (state S.Store tx.old.conn.now).now.schema ≡ library_schema → n ≡ size) }
 {
@@ -340,11 +340,11 @@ pub(crate) fn part_in<S: Alter>(
     known: Option<Sizes>,
 ) -> Result<Part, Error>
     ensures same_reference { tx.new.conn.ghost_name ≡ tx.old.conn.ghost_name }
-    ensures looks { Looks (λ it found. AreKnown known (AreSizesOf it) → IsPart ages.now it found)
+    ensures looks { Looks (λ it found. AreRightIfKnown known (AreSizesOf it) → IsPart ages.now it found)
         (state S.Store tx.old.conn.now) (state S.Store tx.new.conn.now) result }
     ensures sized { HasCleanDisk (state S.Store tx.new.conn.now)
         → IfOk result (λ found. (state S.Store tx.old.conn.now).now.schema ≡ library_schema
-        → AreKnown known (λ n. HasSizes n (state S.Store tx.old.conn.now).now.trees)
+        → AreRightIfKnown known (λ n. HasSizes n (state S.Store tx.old.conn.now).now.trees)
         → HasSizes found.sizes (state S.Store tx.old.conn.now).now.trees) }
 {
     let rows = part_rows_in(tx, alloc, ages)?;

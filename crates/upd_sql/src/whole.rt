@@ -144,7 +144,7 @@ pub(crate) fn counts_in<S: Alter>(
 }
 
 /// The rows of the four tables that a library is made of, inside a transaction.
-pub fn library_in<S: Alter>(
+pub fn library_rows_in<S: Alter>(
     tx: &mut Transaction<'_, S>,
     alloc: Global,
 ) -> Result<LibraryRows, Error>

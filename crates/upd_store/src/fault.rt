@@ -2,7 +2,7 @@
 ghost use Rattle.std.specs.Prelude.{◌≡◌, ◌≤◌, MatchResult};
 ghost use Rattle.upd_text.specs.declared.fault.FaultKind.TheVariants.{NoMemory, Store};
 ghost use Rattle.upd_rows.specs.Keeping.{IsLost, MoreFailures};
-ghost use Rattle.upd_store.specs.Faults.{failures_after, kind_for};
+ghost use Rattle.upd_store.specs.Faults.{IsUnopened, failures_after, kind_for};
 
 use sqlite::{Error, ErrorCode};
 use upd_text::{Fault, FaultKind};
@@ -18,7 +18,7 @@ pub(crate) fn no_memory() -> Fault
 
 /// A failure of the store, at the version that was found.
 pub fn store_at(version: u32) -> Fault
-    ensures lost { IsLost result }
+    ensures unopened { IsUnopened result }
     ensures kind { result.kind ≡ Store }
     ensures at { result.at ≡ version }
 {
@@ -39,7 +39,7 @@ pub fn fault_of(error: Error) -> Fault
 
 /// The fault of a file of another schema, by the version that it tells.
 pub(crate) fn version_fault(found: Result<u32, Error>) -> Fault
-    ensures lost { IsLost result }
+    ensures unopened { IsUnopened result }
     ensures kind { MatchResult found (λ _. result.kind ≡ Store) (λ error. result.kind ≡ kind_for error) }
     ensures at { MatchResult found (λ version. result.at ≡ version) (λ _. result.at ≡ 0) }
 {

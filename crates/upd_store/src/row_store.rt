@@ -11,9 +11,11 @@ use std::alloc::Global;
 use upd_change::{Change, RunRow};
 use upd_core::{Actives, Age, CardRef, Library, States};
 use upd_order::Rising;
-use upd_rows::{RowStore, assembled, assembled_active, assembled_rest, decks_by_age, reads_with};
+use upd_rows::{
+    RowStore, assembled, assembled_active, assembled_with_rest, decks_by_age, reads_with,
+};
 use upd_sql::{
-    commit_changes, is_library_schema, kept_active, kept_decks_of, kept_library, kept_mark,
+    commit_changes, is_library_schema, kept_active, kept_decks_of, kept_library_rows, kept_mark,
     kept_part, kept_run, kept_states, kept_states_of, settle_site, sizes_after,
 };
 use upd_text::Fault;
@@ -59,7 +61,7 @@ impl<S: Rising> RowStore for SqlStore<S> {
         if !is_ours(&self.conn) {
             return Err(refused(&mut self.failures));
         }
-        match kept_library(&mut self.conn, alloc) {
+        match kept_library_rows(&mut self.conn, alloc) {
             Ok(rows) => match assembled(alloc, rows) {
                 Ok(library) => {
                     self.decks_read = reads_with(self.decks_read, &library);
@@ -78,7 +80,7 @@ impl<S: Rising> RowStore for SqlStore<S> {
         let known = self.sizes;
         self.sizes = None;
         match kept_part(&mut self.conn, alloc, decks, known) {
-            Ok(part) => match assembled_rest(
+            Ok(part) => match assembled_with_rest(
                 alloc,
                 part.rows,
                 part.sizes.cards,

@@ -2,11 +2,11 @@
 ghost use Rattle.std.specs.Prelude.{◌≡◌, ◌⊎◌, ℕ, false, IfErr, IfOk, IsTrue};
 ghost use Rattle.sqlite.specs.Held.{state};
 ghost use Rattle.sqlite.specs.State.{HasCleanDisk, Survives};
-ghost use Rattle.upd_rows.specs.Keeping.{IsLost};
 ghost use Rattle.upd_sql.specs.Making.{no_rows, MayMake};
 ghost use Rattle.upd_sql.specs.Schema.{library_schema, no_schema};
 ghost use Rattle.upd_sql.specs.Sizes.{AreOfCommit};
 ghost use Rattle.upd_sql.specs.Stands.{ShowsTables};
+ghost use Rattle.upd_store.specs.Faults.{IsUnopened};
 ghost use Rattle.upd_store.specs.Version.{TellsVersion};
 
 use crate::fault::{fault_of, store_at, version_fault};
@@ -56,7 +56,8 @@ impl<S: Rising> SqlStore<S> {
         ensures same_back { IfErr result (λ e. HasCleanDisk (state S.Store e.1) → IsTrue (state S.Store e.1).is_open
             → (state S.Store e.1).committed ≡ (state S.Store conn).committed) }
         ensures survives_back { IfErr result (λ e. Survives (state S.Store conn) (state S.Store e.1) (λ _. ⊥)) }
-        ensures lost { IfErr result (λ e. IsLost e.0) }
+        ensures counts { IfOk result (λ s. (s.failures ≡ 0) × (s.decks_read ≡ 0)) }
+        ensures unopened { IfErr result (λ e. IsUnopened e.0) }
         ensures third { IfOk result (λ s. HasCleanDisk (state S.Store s.conn) → (v : ℕ)
             → TellsVersion v (state S.Store conn).committed → v ≡ 3) }
         ensures version { IfErr result (λ e. HasCleanDisk (state S.Store e.1) → (v : ℕ)
@@ -94,7 +95,8 @@ impl<S: Rising> SqlStore<S> {
             → (state S.Store e.1).committed ≡ (state S.Store conn).committed) }
         ensures survives_back { IfErr result (λ e. Survives (state S.Store conn) (state S.Store e.1)
             (MayMake (state S.Store conn))) }
-        ensures lost { IfErr result (λ e. IsLost e.0) }
+        ensures counts { IfOk result (λ s. (s.failures ≡ 0) × (s.decks_read ≡ 0)) }
+        ensures unopened { IfErr result (λ e. IsUnopened e.0) }
         ensures empty { IfOk result (λ s. HasCleanDisk (state S.Store s.conn)
             → (state S.Store conn).committed.schema ≡ no_schema) }
         ensures version { IfErr result (λ e. HasCleanDisk (state S.Store e.1) → (v : ℕ)

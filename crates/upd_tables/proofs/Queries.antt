@@ -18,7 +18,7 @@ use Rattle.sqlite_keyed.proofs.ListLemmas.{map-map, IsPermutation-same, ascendin
 use Rattle.sqlite_keyed.proofs.SortLemmas.{sorted_unique}
 use Rattle.sqlite_sql.proofs.QueryLemmas.{output_cmp_total}
 use Rattle.std.specs.Ordering.{ordering_then}
-use Rattle.upd_tables.specs.Keyed.{at_most_64, plain_query, row_count, row_order}
+use Rattle.upd_tables.specs.Keyed.{sqlite_count, plain_query, row_count, row_order}
 
 pick_as_filter : {A B : Type 0} (p : A → Bool) (f : A → B) (xs : List A) → flat_map (λ x. if p x then f x ∷ [] else []) xs ≡ map f (filter p xs)
 pick_as_filter p f [] = refl
@@ -96,14 +96,14 @@ module _ (tree : ℕ) (params : Row) (trees : Trees) (own : overlay trees [] tre
 
   value_is : (group : List Env) (row values : Row) → AllZip (λ a v. value_over group a ≡ Some v)
       (record { op = CountRows; distinct = false; collation = Binary; argument = lit Null } ∷ []) values → row ≡ values
-      → row ≡ Int (pos (at_most_64 (length group))) ∷ []
+      → row ≡ Int (pos (sqlite_count (length group))) ∷ []
   value_is group row [] zip is = absurd zip
   value_is group row (v ∷ []) zip is =
-      let same : Int (pos (at_most_64 (length (map (λ (e : Env). Null) group)))) ≡ v = let e = zip.0 in cc in
-      is ∙ ap (λ x. x ∷ []) (sym same) ∙ ap (λ n. Int (pos (at_most_64 n)) ∷ []) (length-map group (λ (e : Env). Null))
+      let same : Int (pos (sqlite_count (length (map (λ (e : Env). Null) group)))) ≡ v = let e = zip.0 in cc in
+      is ∙ ap (λ x. x ∷ []) (sym same) ∙ ap (λ n. Int (pos (sqlite_count n)) ∷ []) (length-map group (λ (e : Env). Null))
   value_is group row (v ∷ w ∷ vs) zip is = absurd zip.1
 
-  summed : (group : List Env) (rows : List Row) → AllZip Summary (group ∷ []) rows → rows ≡ (Int (pos (at_most_64 (length group))) ∷ []) ∷ []
+  summed : (group : List Env) (rows : List Row) → AllZip Summary (group ∷ []) rows → rows ≡ (Int (pos (sqlite_count (length group))) ∷ []) ∷ []
   summed group [] zip = absurd zip
   summed group (r ∷ []) zip = ap (λ x. x ∷ []) (value_is group r zip.0.0 zip.0.1 zip.0.2)
   summed group (r ∷ s ∷ rows) zip = absurd zip.1
@@ -117,7 +117,7 @@ module _ (tree : ℕ) (params : Row) (trees : Trees) (own : overlay trees [] tre
   all_pass (r ∷ rows) = ap (λ l. r ∷ l) (all_pass rows)
 
   pub count_is : (rows : List Row) → IsSureAnswer (row_count tree) (overlay trees []) params rows
-      → rows ≡ (Int (pos (at_most_64 (length (trees tree)))) ∷ []) ∷ []
+      → rows ≡ (Int (pos (sqlite_count (length (trees tree)))) ∷ []) ∷ []
   count_is rows sure =
       let q = row_count tree in
       let a : IsAnswer q (overlay trees []) params rows = sure Null in
@@ -126,12 +126,12 @@ module _ (tree : ℕ) (params : Row) (trees : Trees) (own : overlay trees [] tre
       length_permutation _ group a.grouped.grouping.1
       ∙ ap length (pick_as_filter (λ _. true) (λ r. params ∷ r ∷ []) (overlay trees [] tree) ∙ ap (map (λ r. params ∷ r ∷ [])) (all_pass _))
       ∙ length-map (overlay trees [] tree) _ ∙ ap length own in
-      let summary : a.grouped.rows ≡ (Int (pos (at_most_64 (length (trees tree)))) ∷ []) ∷ [] =
+      let summary : a.grouped.rows ≡ (Int (pos (sqlite_count (length (trees tree)))) ∷ []) ∷ [] =
       summed group a.grouped.rows (subst (λ gs. AllZip Summary gs a.grouped.rows) a.grouped.grouping.2 a.grouped.summaries)
-      ∙ ap (λ n. (Int (pos (at_most_64 n)) ∷ []) ∷ []) size in
-      let staged : a.staged ≡ (params ∷ (Int (pos (at_most_64 (length (trees tree)))) ∷ []) ∷ []) ∷ [] =
+      ∙ ap (λ n. (Int (pos (sqlite_count n)) ∷ []) ∷ []) size in
+      let staged : a.staged ≡ (params ∷ (Int (pos (sqlite_count (length (trees tree)))) ∷ []) ∷ []) ∷ [] =
       a.grouped.having ∙ all_kept _ ∙ ap (map (λ r. params ∷ r ∷ [])) summary in
-      let one : Output = ([], Int (pos (at_most_64 (length (trees tree)))) ∷ []) in
+      let one : Output = ([], Int (pos (sqlite_count (length (trees tree)))) ∷ []) in
       let kept : a.kept ≡ one ∷ [] = a.distinct ∙ ap (map (output q)) staged in
       let ordered : a.ordered ≡ one ∷ [] = sorted_unique (output_cmp q) (output_cmp_total q) (one ∷ []) a.ordered (tt, tt)
       (subst (λ k. IsPermutation k a.ordered) kept a.same) a.sorted in

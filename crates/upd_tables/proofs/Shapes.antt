@@ -42,7 +42,7 @@ use Rattle.sqlite.specs.Rows.{Written}
 use Rattle.sqlite.specs.Does.{Tally, Does, AtPlace, OnRows, lacks_sequence}
 use Rattle.sqlite.specs.State.{State, mode_of, Writes}
 use Rattle.sqlite.proofs.Callers.{one_step}
-use Rattle.upd_tables.specs.Keyed.{at_most_64, keyed, plain_query, row_count, row_order}
+use Rattle.upd_tables.specs.Keyed.{sqlite_count, keyed, plain_query, row_count, row_order}
 use Rattle.upd_tables.specs.Stored.{HasAllRows, HoldsAllRows, rows_at, with_rows}
 use Rattle.upd_tables.proofs.Trees.{has_mapped, mapped_from, has_permuted, put_new, left_is, in_place, replaced_is, replaced_shaped}
 use Rattle.upd_tables.proofs.Queries.{any_order, count_is, outputs, row_order_is}
@@ -270,10 +270,10 @@ selects schema k tree alone db all params h tests project order q f g names own 
 -- a SELECT of the number of rows
 pub counts : (schema : Schema) (k tree : ℕ) → is_lone tree k schema.tables ≡ true → (db : Database) (all : List (List Row)) (params : Row)
     → HasAllRows schema all db → (names : List (List ℕ)) → overlay db.trees [] tree ≡ db.trees tree → (rows : List Row)
-    → Reads (Select (record { lets = []; body = row_count tree }) names) db params rows → rows ≡ (Int (pos (at_most_64 (length (rows_at k all)))) ∷ []) ∷ []
+    → Reads (Select (record { lets = []; body = row_count tree }) names) db params rows → rows ≡ (Int (pos (sqlite_count (length (rows_at k all)))) ∷ []) ∷ []
 counts schema k tree alone db all params h names own rows reads =
     count_is tree params db.trees own rows reads.answer
-    ∙ ap (λ n. (Int (pos (at_most_64 n)) ∷ []) ∷ []) (sym (length-map (db.trees tree) (drop 1)) ∙ ap length (shown_there tree db.trees k schema.tables all alone h.rows_are))
+    ∙ ap (λ n. (Int (pos (sqlite_count n)) ∷ []) ∷ []) (sym (length-map (db.trees tree) (drop 1)) ∙ ap length (shown_there tree db.trees k schema.tables all alone h.rows_are))
 
 -- a SELECT of the rows that pass a test, in the order of the table
 pub reads_in_order : (schema : Schema) (k tree : ℕ) → is_lone tree k schema.tables ≡ true → (db : Database) (all : List (List Row)) (params : Row)

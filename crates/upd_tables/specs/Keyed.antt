@@ -46,9 +46,9 @@ plain_query tree tests project order = record {
   offset = lit (Int (pos 0));
 }
 
--- a number, up to the last of 64 bits with a sign
-abbrev pub at_most_64 : ℕ → ℕ
-at_most_64 n = min n (2 ^ 63 - 1)
+-- a count as SQLite tells it: up to the last number of 64 bits with a sign
+abbrev pub sqlite_count : ℕ → ℕ
+sqlite_count n = min n (2 ^ 63 - 1)
 
 -- how many rows a tree has
 abbrev pub row_count : ℕ → Query

@@ -1,9 +1,10 @@
 -- Each way out of the desk is what is owed to the arrival.
 use Rattle.std.proofs.Common.{◌<◌, ◌≤◌, None, Some, Ok, Err, ap, sym, ◌∙◌, subst}
+use Rattle.std.proofs.lemmas.Bool.{false≢true}
 use Rattle.upd_core.specs.Library.{empty}
 use Rattle.upd_rows.specs.Tables.{mark_at, run_at}
 use Rattle.upd_rows.proofs.StoreLemmas.{keeps_keeps}
-use Rattle.upd_desk.proofs.ArrivesLemmas.{asked, changed_keeps, keeps_arrives, keeps_new, loses, loses_new}
+use Rattle.upd_desk.proofs.ArrivesLemmas.{asked, changed_keeps, keeps_arrives, keeps_new, loses, loses_new, lost_kind}
 use Rattle.upd_desk.proofs.ArrivesLemmas.{refuses_at_door, refuses_changed, refuses_settled, tells_kept, unstored}
 use Rattle.upd_desk.proofs.LoadingLemmas.{none_read_again}
 use Rattle.upd_desk.proofs.MadeLemmas.{library_made}
@@ -156,3 +157,7 @@ returns-in-Ok-keep_new-clause-reads g c =
     (λ honest rows shown. sym c.in-None.is ∙ c.in-Ok-kept_run.ensures.found honest rows shown
     ∙ ap (λ a. run_at a.site a.number rows) c.arrival.view_is) honest)
     c.in-Ok-keep_new.ensures.open (c.in-Ok-kept_run.ensures.unread ∙ c.in-Ok-mark.ensures.unread) c.in-Ok-keep_new.ensures.reads
+
+pub returns-in-Err-keep_new-clause-unread : goal.returns-in-Err-keep_new-clause-unread
+returns-in-Err-keep_new-clause-unread g c stays =
+    absurd (false≢true (sym stays ∙ lost_kind c.in-Err-keep_new.fault c.in-Err-keep_new.ensures.lost))

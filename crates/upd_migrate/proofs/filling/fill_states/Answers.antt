@@ -11,7 +11,7 @@ use Rattle.upd_migrate.proofs.filling.fill_states.Goals as goal
 pub returns-clause-leads : goal.returns-clause-leads
 returns-clause-leads g c l it lib states counts =
     let old = state g.S.Store c.args.tx.now.conn.now in
-    let mid = state g.S.Store c.library_in.new.tx.conn.now in
+    let mid = state g.S.Store c.library_rows_in.new.tx.conn.now in
     let new = state g.S.Store c.carry_out_all.new.tx.conn.now in
     let makes = subst (λ (xs : List Change). Makes Stands (AllFit (map change_seen xs)) (done_all (map change_seen xs)) mid new c.carry_out_all.result)
     c.deref.ensures.value c.carry_out_all.ensures.makes in

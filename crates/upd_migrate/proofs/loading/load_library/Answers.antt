@@ -1,6 +1,7 @@
-use Rattle.std.proofs.Common.{refl, sym, subst}
-use Rattle.upd_rows.specs.Keeping.{IsLost, OfMemory}
+use Rattle.std.proofs.Common.{inl, refl, sym, subst}
+use Rattle.upd_rows.specs.Keeping.{OfMemory}
+use Rattle.upd_store.specs.Faults.{IsUnopened}
 use Rattle.upd_migrate.proofs.loading.load_library.Goals as goal
 
-pub returns-in-Err-assembled-clause-lost : goal.returns-in-Err-assembled-clause-lost
-returns-in-Err-assembled-clause-lost g c = subst IsLost (sym c.without_line.ensures) (OfMemory _ refl refl)
+pub returns-in-Err-assembled-clause-unopened : goal.returns-in-Err-assembled-clause-unopened
+returns-in-Err-assembled-clause-unopened g c = subst IsUnopened (sym c.without_line.ensures) (inl (OfMemory _ refl refl))

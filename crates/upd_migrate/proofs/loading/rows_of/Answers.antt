@@ -9,7 +9,7 @@ pub returns-clause-found : goal.returns-clause-found
 returns-clause-found g c clean it shown =
     let old = state g.S.Store c.args.conn.now in
     let mid = state g.S.Store c.complete.new.tx.conn.now in
-    let last = state g.S.Store c.library_in.new.tx.conn.now in
+    let last = state g.S.Store c.library_rows_in.new.tx.conn.now in
     let end = state g.S.Store c.rollback.new.self.0 in
     let begun = c.transaction-tx.ensures.begun in
     let outside : IsTrue c.is_autocommit-outside.result = c.is_autocommit-outside.ensures.value ∙ ap not c.requires in

@@ -3,7 +3,7 @@ use Rattle.sqlite.specs.Held.{state}
 use Rattle.upd_rows.specs.Assembling.{AreRowsOf}
 use Rattle.upd_rows.specs.PartRows.{part_rows}
 use Rattle.upd_sql.specs.Part.{IsPart}
-use Rattle.upd_sql.specs.Sizes.{AreKnown, AreSizesOf}
+use Rattle.upd_sql.specs.Sizes.{AreRightIfKnown, AreSizesOf}
 use Rattle.upd_sql.proofs.WholeLemmas.{looks_as, looks_then}
 use Rattle.upd_sql.proofs.part.part_in.Goals as goal
 
@@ -12,7 +12,7 @@ returns-in-Some-clause-looks g c =
     let ages = c.args.ages.now in
     let zero = state g.S.Store c.args.tx.now.conn.now in
     let one = state g.S.Store c.part_rows_in.new.tx.conn.now in
-    looks_as (λ it x. AreRowsOf (part_rows ages it) x) (λ it found. AreKnown c.args.known (AreSizesOf it) → IsPart ages it found)
+    looks_as (λ it x. AreRowsOf (part_rows ages it) x) (λ it found. AreRightIfKnown c.args.known (AreSizesOf it) → IsPart ages it found)
     zero one c.in_ok-rows.rows _
     (λ it h right. record { rows = λ _. h; sizes = right c.in-Some.sizes c.in-Some.is }) c.in_ok-rows.ensures.looks
 
@@ -24,5 +24,5 @@ returns-clause-looks g c =
     let two = state g.S.Store c.sizes_in.new.tx.conn.now in
     let both = looks_then (λ it x. AreRowsOf (part_rows ages it) x) (λ it n. AreSizesOf it n) zero one two c.in_ok-rows.rows
     (Ok c.in_ok-sizes.sizes) c.in_ok-rows.ensures.looks c.in_ok-sizes.ensures.looks in
-    looks_as _ (λ it found. AreKnown c.args.known (AreSizesOf it) → IsPart ages it found) zero two c.in_ok-sizes.sizes _
+    looks_as _ (λ it found. AreRightIfKnown c.args.known (AreSizesOf it) → IsPart ages it found) zero two c.in_ok-sizes.sizes _
     (λ it h right. record { rows = λ _. h.0; sizes = h.1 }) both

@@ -4,4 +4,4 @@ use Rattle.upd_rows.specs.Keeping.{OfStore}
 use Rattle.upd_sqlite_tests.proofs.failing.store_failed.Goals as goal
 
 pub returns : goal.returns
-returns c = OfStore _ (ap (λ (f : Fault). f.kind) c.without_line.ensures)
+returns c = OfStore _ (ap (λ (f : Fault). f.kind) c.without_line.ensures) (ap (λ (f : Fault). f.at) c.without_line.ensures)

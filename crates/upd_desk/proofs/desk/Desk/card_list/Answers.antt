@@ -1,7 +1,6 @@
 -- What is owed of the library that was loaded is owed of the library after each journal that the store holds.
 use Rattle.std.proofs.Common.{Ok, Err, inl}
 use Rattle.upd_compile.specs.Listings.{card_listing}
-use Rattle.upd_desk.proofs.ArrivesLemmas.{lost_kind}
 use Rattle.upd_desk.proofs.MadeLemmas.{library_made}
 use Rattle.upd_desk.proofs.QueryLemmas.{fails_owed, tells_same}
 use Rattle.upd_desk.proofs.desk.Desk.card_list.Goals as goal
@@ -20,4 +19,4 @@ returns-clause-text g c =
     (fails_owed c.in-Err-list_card.fault ((card_listing c.args.card) c.in-Ok.library) c.in-Err-list_card.ensures)
 
 pub returns-in-Err-clause-text : goal.returns-in-Err-clause-text
-returns-in-Err-clause-text g c honest journal held = inl (lost_kind c.in-Err.fault c.in-Err.ensures.lost)
+returns-in-Err-clause-text g c honest journal held = inl c.in-Err.ensures.lost

@@ -1,7 +1,6 @@
 -- What is listed of what was loaded is listed of the library after each journal that the store holds.
 use Rattle.std.proofs.Common.{Ok, Err, inl}
 use Rattle.upd_compile.specs.Listings.{deck_listing}
-use Rattle.upd_desk.proofs.ArrivesLemmas.{lost_kind}
 use Rattle.upd_desk.proofs.MadeLemmas.{library_made}
 use Rattle.upd_desk.proofs.QueryLemmas.{fails_owed, tells_same}
 use Rattle.upd_desk.proofs.desk.Desk.deck_list.Goals as goal
@@ -20,4 +19,4 @@ returns-clause-text g c =
     (fails_owed c.in-Err-list_deck.fault (deck_listing c.args.name.now c.in-Ok.library) c.in-Err-list_deck.ensures)
 
 pub returns-in-Err-clause-text : goal.returns-in-Err-clause-text
-returns-in-Err-clause-text g c honest journal held = inl (lost_kind c.in-Err.fault c.in-Err.ensures.lost)
+returns-in-Err-clause-text g c honest journal held = inl c.in-Err.ensures.lost

@@ -2,7 +2,7 @@
 use Rattle.std.proofs.Common.{[], Ok, Err, ap, inl}
 use Rattle.upd_compile.specs.File.{compile_file_of, file_of}
 use Rattle.upd_compile.specs.declared.mode.Mode.TheVariants.{Full}
-use Rattle.upd_desk.proofs.ArrivesLemmas.{lost_kind, unstored}
+use Rattle.upd_desk.proofs.ArrivesLemmas.{unstored}
 use Rattle.upd_desk.proofs.MadeLemmas.{library_made}
 use Rattle.upd_desk.proofs.QueryLemmas.{compile_keeps, fails_owed, store_fails, tells_same}
 use Rattle.upd_desk.proofs.desk.Desk.full_compile.Goals as goal
@@ -23,7 +23,7 @@ returns-clause-text g c =
     (fails_owed c.in-Err-compile_active.fault (file_of Full [] c.in-Ok.actives c.in-Ok.actives) c.in-Err-compile_active.ensures)
 
 pub returns-in-Err-clause-text : goal.returns-in-Err-clause-text
-returns-in-Err-clause-text g c honest journal held = inl (lost_kind c.in-Err.fault c.in-Err.ensures.lost)
+returns-in-Err-clause-text g c honest journal held = inl c.in-Err.ensures.lost
 
 pub returns-clause-failed : goal.returns-clause-failed
 returns-clause-failed g c is =

@@ -1,7 +1,6 @@
 -- The yank cards are listed of the part without decks as of the library after each journal that the store holds.
 use Rattle.std.proofs.Common.{Ok, ap, inl, sym}
 use Rattle.upd_compile.specs.Listings.{yank_listing}
-use Rattle.upd_desk.proofs.ArrivesLemmas.{lost_kind}
 use Rattle.upd_desk.proofs.LoadingLemmas.{none_read}
 use Rattle.upd_desk.proofs.MadeLemmas.{library_made}
 use Rattle.upd_desk.proofs.QueryLemmas.{of_held, tells_same}
@@ -16,8 +15,7 @@ returns-in-Ok-list_yanks-clause-text g c =
     (ap Ok (sym c.in-Ok-list_yanks.ensures.ok))
 
 pub returns-clause-text : goal.returns-clause-text
-returns-clause-text g c honest journal held =
-    inl (lost_kind c.in-Err-list_yanks.fault (lost_memory c.in-Err-list_yanks.fault c.in-Err-list_yanks.ensures.err))
+returns-clause-text g c honest journal held = inl (lost_memory c.in-Err-list_yanks.fault c.in-Err-list_yanks.ensures.err)
 
 pub returns-in-Ok-list_yanks-clause-reads : goal.returns-in-Ok-list_yanks-clause-reads
 returns-in-Ok-list_yanks-clause-reads g c honest =

@@ -2,7 +2,7 @@ use Rattle.std.proofs.Common.{ℕ, length, ap, sym, ◌∙◌, ◌≡◌, ◌-�
 use Rattle.upd_core.specs.Parts.{part_of}
 use Rattle.upd_rows.specs.PartRows.{part_rows}
 use Rattle.upd_rows.proofs.RestLemmas.{part_shown, part_sound, parted, rest_made, rows_apart}
-use Rattle.upd_rows.proofs.assemble.assembled_rest.Goals as goal
+use Rattle.upd_rows.proofs.assemble.assembled_with_rest.Goals as goal
 
 pub returns : goal.returns
 returns c = λ ages tables l sound whole shows read all_cards all_entries.

@@ -4,12 +4,12 @@ use Rattle.sqlite.specs.State.{Survives}
 use Rattle.sqlite.proofs.Callers.{survives_begin}
 use Rattle.upd_sql.specs.Commits.{MayKeep}
 use Rattle.upd_sql.proofs.CommitLemmas.{read_leaves}
-use Rattle.upd_sql.proofs.kept.kept_library.Goals as goal
+use Rattle.upd_sql.proofs.kept.kept_library_rows.Goals as goal
 
 pub returns-in_err-commit-clause-crash : goal.returns-in_err-commit-clause-crash
 returns-in_err-commit-clause-crash g c =
     let old = state g.S.Store c.args.conn.now in
-    let last = state g.S.Store c.library_in.new.tx.conn.now in
+    let last = state g.S.Store c.library_rows_in.new.tx.conn.now in
     let end = state g.S.Store c.commit.new.self.0 in
     let begun = c.transaction-tx.ensures.begun in
     let outside : IsTrue c.is_autocommit-outside.result = c.is_autocommit-outside.ensures.value ∙ ap not c.requires in
