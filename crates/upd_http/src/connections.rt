@@ -1,6 +1,6 @@
 //! Connections, one after the other.
 
-ghost use Rattle.std.specs.Prelude.{◌≡◌, List, IfErr};
+ghost use Rattle.std.specs.Prelude.{◌≡◌, ◌≤◌, List, length, IfErr, OnOk};
 ghost use Rattle.upd_http.specs.Serving.{Leads, LeadsThrough, Made, read_failed};
 
 use crate::exchange::serve_one;
@@ -25,8 +25,9 @@ const SURPLUS_READS: u32 = 64;
 /// Serves so many connections, one request each. A fault of one ends that one alone. Read where no connection can be
 /// accepted.
 ///
-/// A client that says or takes nothing for 10 seconds is given up, and so is one that isn't done after two minutes by
-/// the clock.
+/// A client that says or takes nothing for 10 seconds gets no answer, nor does one that isn't done after two minutes by
+/// the clock. Behind that, and behind an answer, what it still sends is thrown away until it closes the connection or
+/// says nothing for 10 seconds.
 pub fn serve_on<S: RowStore>(
     alloc: Global,
     clock: &impl Clock,
@@ -34,8 +35,8 @@ pub fn serve_on<S: RowStore>(
     count: u32,
     desk: &mut Desk<S>,
 ) -> Result<(), Fault>
-    ensures leads { (made : List Made) × LeadsThrough S.is_honest S.is_open S.image S.shows S.may_leave S.failures_of
-        made desk.old.store desk.new.store }
+    ensures leads { (made : List Made) × (length made ≤ count) × OnOk result (length made ≡ count)
+        × LeadsThrough S.is_honest S.is_open S.image S.shows S.may_leave S.failures_of made desk.old.store desk.new.store }
     ensures err { IfErr result (λ fault. fault ≡ read_failed) }
 {
     'connections: for _ in 0..count {
