@@ -28,10 +28,10 @@ answered (Err fault) status defined output output' faults faults' (inl refused) 
     let IsAnswered : Result FileView Fault → Type 0 = λ d. Answers (answer_to d) status output output' faults faults' in
     subst IsAnswered (sym refused.0) (inl (told.0, refused.1, told.1))
 answered (Err fault) status defined output output' faults faults' (inl refused) (inr unsaid) =
-    inr (unsaid.0, (fault, nothing_left fault.kind output output' (answer_to defined).output refused.1, unsaid.1))
+    inr (unsaid.0, (fault, inr (ap (λ d. (answer_to d).faults) refused.0), nothing_left fault.kind output output' (answer_to defined).output refused.1, unsaid.1))
 answered (Err fault) status defined output output' faults faults' (inr failed) (inl told) =
-    inr (told.0 ∙ failed.0, (fault, failed.1, front_all faults faults' (fault_line fault) told.1))
-answered (Err fault) status defined output output' faults faults' (inr failed) (inr unsaid) = inr (unsaid.0, (fault, failed.1, unsaid.1))
+    inr (told.0 ∙ failed.0, (fault, inl failed.0, failed.1, front_all faults faults' (fault_line fault) told.1))
+answered (Err fault) status defined output output' faults faults' (inr failed) (inr unsaid) = inr (unsaid.0, (fault, inl failed.0, failed.1, unsaid.1))
 
 pub answered_of_known : {U : Type 0} (ended : Result U Fault) (status : ℕ) (known : Option (List ℕ)) (defined : List ℕ → Result FileView Fault)
     (output output' faults faults' : Option (List ℕ)) → IfSome known (λ bytes. EndsTrial ended output output' (defined bytes))

@@ -3,7 +3,7 @@ use Rattle.std.proofs.Common.{◌≡◌, ◌≢◌, ◌⊎◌, refl, inl, inr, L
 use Rattle.clap.specs.Walk.{Row, first_of}
 use Rattle.clap.specs.Words.{Text, subcommand_of}
 use Rattle.upd_cli.specs.Inputs.{HandsRunsIn}
-use Rattle.upd_cli.specs.Running.{IsSpoolCommand, MayTell}
+use Rattle.upd_cli.specs.Inputs.{IsHandIn, IsSpoolCommand}
 use Rattle.upd_cli.specs.Words.{IsAskedBy, IsAskedFor, IsRequest, command_word, operand_word, upd_app, word_faults}
 use Rattle.upd_cli.specs.declared.words.Asked.{Asked}
 use Rattle.upd_cli.specs.declared.words.Asked.TheVariants as asks
@@ -58,7 +58,7 @@ not_trial rows asks.Idents is = begins_otherwise (codes "idents") (λ (e : 116 �
 not_trial rows asks.Yanks is = begins_otherwise (codes "yanks") (λ (e : 116 ≡ 121). omega (arith, e)) is
 not_trial rows asks.Migrate is = begins_otherwise (codes "migrate") (λ (e : 116 ≡ 109). omega (arith, e)) is
 
-tells : (name : Text) (rows : List Row) (asked : Asked) → IsAskedBy name rows asked → MayTell asked → (name ≡ codes "run") ⊎ (name ≡ codes "spool")
+tells : (name : Text) (rows : List Row) (asked : Asked) → IsAskedBy name rows asked → IsHandIn asked → (name ≡ codes "run") ⊎ (name ≡ codes "spool")
 tells name rows (asks.Run site number mode) is may = inl is.0
 tells name rows asks.Spool is may = inr is
 tells name rows asks.Init is may = absurd may
@@ -86,7 +86,7 @@ spools name rows asks.Migrate is may = absurd may
 pub record OfLibrary (words : List Text) (asked : Asked) : Type 0 where
   pub none : word_faults words ≡ []
   pub other : ¬ (command_word words ≡ codes "trial")
-  pub tells : MayTell asked → HandsRunsIn words
+  pub tells : IsHandIn asked → HandsRunsIn words
   pub spools : IsSpoolCommand asked → command_word words ≡ codes "spool"
 
 pub of_library : (words : List Text) (file : Bor (List ℕ)) (asked : Asked) → IsAskedFor words (Library file asked) → OfLibrary words asked
@@ -96,7 +96,7 @@ of_library words file asked is =
   where
     of : (command : Option (Text × List Row)) → IsSomeAnd command (λ found. IsRequest found (Library file asked))
         → (¬ (unwrap_or (option_map (λ c. c.0) command) [] ≡ codes "trial"))
-        × (MayTell asked → (unwrap_or (option_map (λ c. c.0) command) [] ≡ codes "run") ⊎ (unwrap_or (option_map (λ c. c.0) command) [] ≡ codes "spool"))
+        × (IsHandIn asked → (unwrap_or (option_map (λ c. c.0) command) [] ≡ codes "run") ⊎ (unwrap_or (option_map (λ c. c.0) command) [] ≡ codes "spool"))
         × (IsSpoolCommand asked → unwrap_or (option_map (λ c. c.0) command) [] ≡ codes "spool")
     of None is = absurd is
     of (Some (name, rows)) is = (

@@ -33,10 +33,12 @@ abbrev pub LeavesOutput : FaultKind → Option (List ℕ) → Option (List ℕ) 
 LeavesOutput Write output output' bytes = AppendsFront output output' bytes
 LeavesOutput _ output output' bytes = Appends output output' []
 
--- A command failed by some fault, whose line, or a beginning of it, is all that stands on the fault stream.
+-- A command failed: memory, a read or a write did, or the line of the defined refusal couldn't be written. The line of what failed, or a beginning
+-- of it, is all that stands on the fault stream.
 abbrev pub CommandFails : Answer → Option (List ℕ) → Option (List ℕ) → Option (List ℕ) → Option (List ℕ) → Type 0
 CommandFails answer output output' faults faults' =
-    (fault : Fault) × LeavesOutput fault.kind output output' answer.output × AppendsFront faults faults' (fault_line fault)
+    (fault : Fault) × ((exit_status fault.kind ≡ 3) ⊎ (answer.faults ≡ fault_line fault)) × LeavesOutput fault.kind output output' answer.output
+    × AppendsFront faults faults' (fault_line fault)
 
 -- The command ended with this answer, as far as output and fault stream tell what they hold; or memory, a read or a write failed.
 abbrev pub Answers : Answer → ℕ → Option (List ℕ) → Option (List ℕ) → Option (List ℕ) → Option (List ℕ) → Type 0

@@ -1,12 +1,15 @@
 -- How commands on the library in a file end, and what they leave on the output.
-use Rattle.std.specs.Prelude.{◌≡◌, ◌⊎◌, ℕ, List, [], Option, Some, None, Result, Ok, Err, IfOk, IsErrAnd}
+use Rattle.std.specs.Prelude.{◌≡◌, ◌⊎◌, ℕ, List, [], Option, Some, None, Result, Ok, Err, IfErr, IfOk, IsErrAnd}
 use Rattle.std.specs.Io.KnownBytes.{Appends}
+use Rattle.std.specs.Net.Grammar.{IsSocketText}
+use Rattle.std.specs.declared.net.socket_addr.SocketAddr.{SocketAddr}
 use Rattle.upd_text.specs.declared.fault.Fault.{Fault}
 use Rattle.upd_text.specs.declared.fault.FaultKind.TheVariants.{BadNumber}
 use Rattle.upd_desk.specs.Outcomes.{ReplyView}
 use Rattle.upd_streams.specs.Numbers.{number_of}
 use Rattle.clap.specs.Words.{Text}
 use Rattle.upd_cli.specs.Command.{IsTold}
+use Rattle.upd_cli.specs.Operands.{IsCount, IsNoAddress, IsNoCount, card_read, deck_read}
 use Rattle.upd_cli.specs.Status.{exit_status, fault_line, no_memory}
 use Rattle.upd_cli.specs.Telling.{TellsLines, TellsMark, TellsRun, TellsText}
 use Rattle.upd_cli.specs.Words.{IsAskedFor}
@@ -29,13 +32,24 @@ module _ (ended : Result ℕ Fault) (output output' : Option (List ℕ)) where
   TellsNumbered (Some number) told = told ⊎ TellsNothing
   TellsNumbered None told = (ended ≡ Err no_number) × Appends output output' []
 
+  -- a command that asks with a word was told so; a word that is none is refused, and nothing is asked
+  abbrev pub TellsRead : {A : Type 0} → Result A Fault → Type 0
+  TellsRead (Ok read) = (answer : Result (List ℕ) Fault) × TellsText answer ended output output'
+  TellsRead (Err fault) = (ended ≡ Err fault) × Appends output output' []
+
+  -- a command that tells nothing: all was done, or memory, the store, a read or a write failed
+  abbrev pub IsSilent : Type 0
+  IsSilent = IfOk ended (λ status. status ≡ 0) × IfErr ended (λ fault. exit_status fault.kind ≡ 3) × Appends output output' []
+
   -- What a command leaves on the output, as it ends: an answer to what it asks, and `spool` the lines of answers.
   abbrev pub Leaves : Asked → Type 0
   Leaves (asks.Run site number mode) = TellsNumbered (number_of number.now) ((answer : Result ReplyView Fault) × TellsRun answer ended output output')
   Leaves (asks.Settle site number) = TellsNumbered (number_of number.now) ((answer : Result ℕ Fault) × TellsMark site.now answer ended output output')
   Leaves asks.Spool = TellsLines ended output output'
-  Leaves asks.Init = IfOk ended (λ status. status ≡ 0) × Appends output output' []
-  Leaves asks.Migrate = IfOk ended (λ status. status ≡ 0) × Appends output output' []
+  Leaves (asks.List deck) = TellsRead (deck_read deck.now)
+  Leaves (asks.History card) = TellsRead (card_read card.now)
+  Leaves asks.Init = IsSilent
+  Leaves asks.Migrate = IsSilent
   Leaves _ = (answer : Result (List ℕ) Fault) × TellsText answer ended output output'
 
 -- a command that ended so has this exit status, and its fault, if any, is told by its line
@@ -48,11 +62,19 @@ abbrev pub IsCarriedOut : Asked → ℕ → Option (List ℕ) → Option (List �
 IsCarriedOut asked status output output' faults faults' =
     (ended : Result ℕ Fault) × Leaves ended output output' asked × IsEndOf ended status faults faults'
 
--- How a request was carried out: a command on a library as is defined, and what serves or can't be read leaves nothing on the output.
+-- how `serve` ended: an ADDRESS or a COUNT that is none is no command line; else connections were served, or what failed is told by its line
+abbrev pub IsServed : List ℕ → List ℕ → ℕ → Option (List ℕ) → Option (List ℕ) → Type 0
+IsServed address count status faults faults' =
+    ((IsNoAddress address ⊎ IsNoCount count) × ((status ≡ 2) ⊎ (status ≡ 3)))
+    ⊎ ((place : SocketAddr) × (connections : ℕ) × IsSocketText address place × IsCount count connections
+    × (ended : Result ℕ Fault) × IfOk ended (λ meant. meant ≡ 0) × IfErr ended (λ fault. exit_status fault.kind ≡ 3)
+    × IsEndOf ended status faults faults')
+
+-- How a request was carried out: a command on a library and `serve` as is defined, and words that can't be read leave nothing on the output.
 -- Of a trial the clause `trial` of `run_command` speaks, and of help and the version none does.
 abbrev pub IsDone : Request → ℕ → Option (List ℕ) → Option (List ℕ) → Option (List ℕ) → Option (List ℕ) → Type 0
 IsDone (Library file asked) status output output' faults faults' = IsCarriedOut asked status output output' faults faults'
-IsDone (Serve file address count) status output output' faults faults' = Appends output output' []
+IsDone (Serve file address count) status output output' faults faults' = Appends output output' [] × IsServed address.now count.now status faults faults'
 IsDone (Unread text) status output output' faults faults' = Appends output output' []
 IsDone _ status output output' faults faults' = Unit {0}
 

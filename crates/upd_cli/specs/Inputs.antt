@@ -1,8 +1,21 @@
--- Which command lines read their input.
+-- Which commands read their input.
 use Rattle.std.specs.Prelude.{◌≡◌, ◌≢◌, ◌⊎◌, List, [], codes, None}
 use Rattle.clap.specs.Words.{Text}
 use Rattle.upd_compile.specs.Modes.{mode_named}
 use Rattle.upd_cli.specs.Words.{command_word, operand_word, word_faults}
+use Rattle.upd_cli.specs.declared.words.Asked.{Asked}
+use Rattle.upd_cli.specs.declared.words.Asked.TheVariants as asks
+
+-- the command is `spool`
+abbrev pub IsSpoolCommand : Asked → Type 0
+IsSpoolCommand asks.Spool = Unit {0}
+IsSpoolCommand _ = ⊥
+
+-- the command hands runs in: it reads its input, and may tell refusals on the output
+abbrev pub IsHandIn : Asked → Type 0
+IsHandIn asks.Spool = Unit {0}
+IsHandIn (asks.Run site number mode) = Unit {0}
+IsHandIn _ = ⊥
 
 -- the words hand runs in: those of `run`, or of `spool`
 abbrev pub HandsRunsIn : List Text → Type 0

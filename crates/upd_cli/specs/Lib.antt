@@ -5,7 +5,6 @@ pub mod Trial
 pub mod Operands
 pub mod Command
 pub mod Inputs
-pub mod Running
 pub mod Telling
 pub mod Errands
 pub mod Commands

@@ -1,5 +1,5 @@
 -- How an answer of the desk is told: by its bytes on the output and an exit status, or by a fault that the caller puts on the fault stream.
-use Rattle.std.specs.Prelude.{◌≡◌, ◌⊎◌, ℕ, if◌then◌else◌, IsTrue, List, [], ◌∷◌, ◌++◌, Option, Result, Ok, Err, IsErrAnd}
+use Rattle.std.specs.Prelude.{◌≡◌, ◌⊎◌, ℕ, ◌+◌, if◌then◌else◌, IsTrue, List, [], ◌∷◌, ◌++◌, length, Option, Result, Ok, Err, IsErrAnd}
 use Rattle.std.specs.Io.KnownBytes.{Appends}
 use Rattle.std.specs.List.{All}
 use Rattle.upd_text.specs.declared.fault.Fault.{Fault}
@@ -10,6 +10,7 @@ use Rattle.upd_desk.specs.Answers.{IsUntold, answer_line, is_answered}
 use Rattle.upd_desk.specs.Arrivals.{is_site}
 use Rattle.upd_desk.specs.Outcomes.{ReplyView}
 use Rattle.upd_spool.specs.Spools.{answer_lines}
+use Rattle.upd_store.specs.Faults.{IsUnopened}
 use Rattle.upd_streams.specs.Fronts.{AppendsFront}
 use Rattle.upd_cli.specs.Status.{write_failed}
 
@@ -45,6 +46,10 @@ abbrev pub IsBegun : FaultKind → List ℕ → Type 0
 IsBegun Write front = (answer : Result ReplyView Fault) × (rest : List ℕ) × IsTrue (is_answered answer) × (answer_line answer ≡ front ++ rest)
 IsBegun kind front = front ≡ []
 
+-- the fault is at the frame behind those that were answered; or the file wasn't opened, and none was
+abbrev pub IsAtFrame : Fault → List (Result ReplyView Fault) → Type 0
+IsAtFrame fault answers = (fault.at ≡ length answers + 1) ⊎ ((answers ≡ []) × IsUnopened fault)
+
 -- answers are told by their lines, one after the other; what ended them by a fault may have left a beginning of one more
 abbrev pub TellsLines : Result ℕ Fault → Option (List ℕ) → Option (List ℕ) → Type 0
 TellsLines (Ok status) output output' =
@@ -52,4 +57,4 @@ TellsLines (Ok status) output output' =
     × (status ≡ 0) × Appends output output' (answer_lines answers)
 TellsLines (Err fault) output output' =
     (answers : List (Result ReplyView Fault)) × (front : List ℕ) × All (λ answer. IsTrue (is_answered answer)) answers
-    × IsBegun fault.kind front × Appends output output' (answer_lines answers ++ front)
+    × IsAtFrame fault answers × IsBegun fault.kind front × Appends output output' (answer_lines answers ++ front)

@@ -3,14 +3,13 @@ ghost use Rattle.std.specs.Prelude.{◌≡◌, ◌≢◌, ◌⊎◌, ◌+◌, If
 ghost use Rattle.std.specs.IoError.{error_kind};
 ghost use Rattle.upd_compile.specs.Modes.{mode_named};
 ghost use Rattle.upd_cli.specs.Command.{Answers, EndsTrial, GivesUnlessFailed, IsEnd, IsTold, IsToldOf, answer_to};
-ghost use Rattle.upd_cli.specs.Commands.{CarriesOut, IsCarriedOut};
-ghost use Rattle.upd_cli.specs.Running.{IsSpoolCommand, MayTell};
+ghost use Rattle.upd_cli.specs.Commands.{CarriesOut, IsCarriedOut, IsServed};
 ghost use Rattle.upd_cli.specs.Status.{exit_status, fault_line, no_memory, no_words_line};
 ghost use Rattle.upd_cli.specs.Streams.{TakesFront};
 ghost use Rattle.upd_text.specs.declared.limits.TheConstants.{MAX_RUN_BYTES};
 ghost use Rattle.upd_cli.specs.Trial.{trial_named};
 ghost use Rattle.upd_cli.specs.Words.{command_word, operand_word, word_faults};
-ghost use Rattle.upd_cli.specs.Inputs.{HandsRunsIn, ReadsInput};
+ghost use Rattle.upd_cli.specs.Inputs.{HandsRunsIn, IsHandIn, IsSpoolCommand, ReadsInput};
 
 use crate::library::{carry_out, serve};
 use crate::operands::{read_address, read_count};
@@ -116,8 +115,8 @@ fn carry_out_library<R: Read, W: Write, E: Write>(
     ensures told { IsCarriedOut asked.now result
         (W.contents output.old) (W.contents output.new) (E.contents faults.old) (E.contents faults.new) }
     ensures front { ¬ IsSpoolCommand asked.now → TakesFront (MAX_RUN_BYTES + 1) (R.remaining input.old) (R.remaining input.new) }
-    ensures waits { ¬ MayTell asked.now → input.new ≡ input.old }
-    ensures silent { (result ≡ 2) ⊎ ((result ≡ 1) × ¬ MayTell asked.now) → output.new ≡ output.old }
+    ensures waits { ¬ IsHandIn asked.now → input.new ≡ input.old }
+    ensures silent { (result ≡ 2) ⊎ ((result ≡ 1) × ¬ IsHandIn asked.now) → output.new ≡ output.old }
     ensures clean { result ≡ 0 → faults.new ≡ faults.old }
 {
     match carry_out(rt, file, asked, input, output) {
@@ -134,7 +133,8 @@ fn carry_out_serving<E: Write>(
     count: &str,
     faults: &mut E,
 ) -> u8
-    ensures { result ≡ 0 → faults.new ≡ faults.old }
+    ensures served { IsServed address.now count.now result (E.contents faults.old) (E.contents faults.new) }
+    ensures clean { result ≡ 0 → faults.new ≡ faults.old }
 {
     const BEGINNING: &[u8] = b"error: invalid value '";
     const END: &[u8] = b"\n\nFor more information, try '--help'.\n";

@@ -1,12 +1,13 @@
 //! Commands on the library in a file: it is opened, something is done, and it is closed.
 ghost use Rattle.std.specs.Prelude.{◌≡◌, ◌⊎◌, ◌+◌, ℕ, List, Result, IfErr, IfOk};
-ghost use Rattle.upd_cli.specs.Commands.{Leaves, TellsNumbered};
-ghost use Rattle.upd_cli.specs.Running.{IsSpoolCommand, MayTell};
+ghost use Rattle.upd_cli.specs.Commands.{Leaves, TellsNumbered, TellsRead};
+ghost use Rattle.upd_cli.specs.Inputs.{IsHandIn, IsSpoolCommand};
+ghost use Rattle.upd_cli.specs.Operands.{card_read, deck_read};
 ghost use Rattle.upd_cli.specs.Status.{exit_status};
 ghost use Rattle.upd_cli.specs.Streams.{TakesFront};
 ghost use Rattle.upd_cli.specs.Telling.{TellsLines, TellsMark, TellsRun, TellsText};
 ghost use Rattle.upd_desk.specs.Outcomes.{ReplyView};
-ghost use Rattle.upd_rows.specs.Keeping.{IsLost};
+ghost use Rattle.upd_store.specs.Faults.{IsUnopened};
 ghost use Rattle.upd_streams.specs.Numbers.{number_of};
 ghost use Rattle.upd_text.specs.declared.fault.Fault.{Fault};
 ghost use Rattle.upd_text.specs.declared.limits.TheConstants.{MAX_RUN_BYTES};
@@ -39,10 +40,10 @@ pub(crate) fn carry_out<R: Read, W: Write>(
     output: &mut W,
 ) -> Result<u8, Fault>
     ensures front { ¬ IsSpoolCommand asked.now → TakesFront (MAX_RUN_BYTES + 1) (R.remaining input.old) (R.remaining input.new) }
-    ensures waits { ¬ MayTell asked.now → input.new ≡ input.old }
+    ensures waits { ¬ IsHandIn asked.now → input.new ≡ input.old }
     ensures leaves { Leaves result (W.contents output.old) (W.contents output.new) asked.now }
-    ensures status { IfOk result (λ status. (status ≡ 0) ⊎ ((status ≡ 1) × MayTell asked.now)) }
-    ensures silent { IfErr result (λ fault. exit_status fault.kind ≡ 1 → MayTell asked.now ⊎ (output.new ≡ output.old)) }
+    ensures status { IfOk result (λ status. (status ≡ 0) ⊎ ((status ≡ 1) × IsHandIn asked.now)) }
+    ensures silent { IfErr result (λ fault. exit_status fault.kind ≡ 1 → IsHandIn asked.now ⊎ (output.new ≡ output.old)) }
 {
     match asked {
         Asked::Init => init_file(rt, file),
@@ -50,8 +51,8 @@ pub(crate) fn carry_out<R: Read, W: Write>(
         Asked::Settle { site, number } => settle_on(rt, file, site, number, output),
         Asked::Spool => spool_on(rt, file, input, output),
         Asked::Compile => answer_on(rt, file, &Question::Compile, output),
-        Asked::List { deck } => answer_on(rt, file, &Question::Deck(read_deck(deck)?), output),
-        Asked::History { card } => answer_on(rt, file, &Question::Card(read_card(card)?), output),
+        Asked::List { deck } => list_on(rt, file, deck, output),
+        Asked::History { card } => history_on(rt, file, card, output),
         Asked::Idents => answer_on(rt, file, &Question::Idents, output),
         Asked::Yanks => answer_on(rt, file, &Question::Yanks, output),
         Asked::Migrate => migrate_file(rt, file),
@@ -141,35 +142,81 @@ pub(crate) fn serve(
     address: SocketAddr,
     count: u32,
 ) -> Result<u8, Fault>
-    ensures { IfOk result (λ status. status ≡ 0) }
+    ensures status { IfOk result (λ status. status ≡ 0) }
+    ensures failed { IfErr result (λ fault. exit_status fault.kind ≡ 3) }
 {
-    let mut desk = open_desk(rt, file)?;
+    let mut desk = match open_desk(rt, file) {
+        Ok(desk) => desk,
+        Err(fault) => return Err(fault),
+    };
     let ended = match TcpListener::bind(rt, address) {
         Ok(listener) => serve_on(rt.alloc(), rt, &listener, count, &mut desk),
         Err(_) => Err(FaultKind::Read.without_line()),
     };
     close_desk(desk);
-    ended?;
-    Ok(DONE)
+    match ended {
+        Ok(()) => Ok(DONE),
+        Err(fault) => Err(fault),
+    }
 }
 
 fn init_file(rt: &HostRuntime, file: &str) -> Result<u8, Fault>
-    ensures { IfOk result (λ status. status ≡ 0) }
+    ensures status { IfOk result (λ status. status ≡ 0) }
+    ensures failed { IfErr result (λ fault. exit_status fault.kind ≡ 3) }
 {
-    let library = create(rt, file, Unknown)?;
-    close_desk(Desk::new(library));
-    Ok(DONE)
+    match create(rt, file, Unknown) {
+        Ok(library) => {
+            close_desk(Desk::new(library));
+            Ok(DONE)
+        }
+        Err(fault) => Err(fault),
+    }
 }
 
 /// Brings the file to the present schema.
 fn migrate_file(rt: &HostRuntime, file: &str) -> Result<u8, Fault>
-    ensures { IfOk result (λ status. status ≡ 0) }
+    ensures status { IfOk result (λ status. status ≡ 0) }
+    ensures failed { IfErr result (λ fault. exit_status fault.kind ≡ 3) }
 {
-    let mut conn = connect(rt, file, Unknown)?;
+    let mut conn = match connect(rt, file, Unknown) {
+        Ok(conn) => conn,
+        Err(fault) => return Err(fault),
+    };
     let ended = migrate(rt.alloc(), &mut conn);
     let _ = conn.close();
-    ended?;
-    Ok(DONE)
+    match ended {
+        Ok(()) => Ok(DONE),
+        Err(fault) => Err(fault),
+    }
+}
+
+/// `list`: the deck's name is read before the file is opened.
+fn list_on<W: Write>(rt: &HostRuntime, file: &str, deck: &str, output: &mut W) -> Result<u8, Fault>
+    ensures leaves { TellsRead result (W.contents output.old) (W.contents output.new) (deck_read deck.now) }
+    ensures status { IfOk result (λ status. status ≡ 0) }
+    ensures silent { IfErr result (λ fault. exit_status fault.kind ≡ 1 → output.new ≡ output.old) }
+{
+    match read_deck(deck) {
+        Ok(name) => answer_on(rt, file, &Question::Deck(name), output),
+        Err(fault) => Err(fault),
+    }
+}
+
+/// `history`: the card is read before the file is opened.
+fn history_on<W: Write>(
+    rt: &HostRuntime,
+    file: &str,
+    card: &str,
+    output: &mut W,
+) -> Result<u8, Fault>
+    ensures leaves { TellsRead result (W.contents output.old) (W.contents output.new) (card_read card.now) }
+    ensures status { IfOk result (λ status. status ≡ 0) }
+    ensures silent { IfErr result (λ fault. exit_status fault.kind ≡ 1 → output.new ≡ output.old) }
+{
+    match read_card(card) {
+        Ok(card) => answer_on(rt, file, &Question::Card(card), output),
+        Err(fault) => Err(fault),
+    }
 }
 
 fn answer_on<W: Write>(
@@ -193,7 +240,7 @@ fn answer_on<W: Write>(
 }
 
 fn open_desk(rt: &HostRuntime, file: &str) -> Result<FileDesk, Fault>
-    ensures { IfErr result IsLost }
+    ensures { IfErr result IsUnopened }
 {
     match open(rt, file, Unknown) {
         Ok(library) => Ok(Desk::new(library)),

@@ -117,7 +117,11 @@ pub returns-in-Ok-Serve-clause-told : goal.returns-in-Ok-Serve-clause-told
 returns-in-Ok-Serve-clause-told g c =
     let words : List Text = map g.S.AsStr.text c.args.words.now in
     let request = Serve c.in-Ok-Serve.file c.in-Ok-Serve.address c.in-Ok-Serve.count in
-    inl (request, subst (IsAskedFor words) c.in-Ok-Serve.field-0-is c.in-Ok-Serve.ensures.ok, Appends-nil (g.W.Write.contents c.args.output.now))
+    inl (
+      request,
+      subst (IsAskedFor words) c.in-Ok-Serve.field-0-is c.in-Ok-Serve.ensures.ok,
+      (Appends-nil (g.W.Write.contents c.args.output.now), c.carry_out_serving.ensures.served),
+    )
 
 pub returns-in-Err-clause-told : goal.returns-in-Err-clause-told
 returns-in-Err-clause-told g c =
