@@ -192,7 +192,7 @@ def try_file_alone(upd, file):
     copy = file.parent / "alone.db"
     shutil.copyfile(file, copy)
     found = subprocess.run([upd, "idents", copy], capture_output=True, check=False, text=True).stdout
-    told("the file alone, behind serve, has the idents", found.splitlines(), ["1 A/B deck held", "2 D/E deck held"])
+    told("the file alone, behind serve, has the idents", found.splitlines(), ["1 A/B deck held", "2 C deck held", "3 D/E deck held"])
 
 
 def try_sqlite3(file):

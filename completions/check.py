@@ -78,7 +78,7 @@ def main():
     }
     wrong = [where for where, names in found.items() if names != commands]
     for command in commands:
-        operands = " ".join(re.findall(r"<([A-Z]+)>", re.search(r"Usage: upd .*", said(upd, command, "--help"))[0]))
+        operands = " ".join(re.findall(r"<([A-Z]+)>", re.search(r"Usage: \S+ .*", said(upd, command, "--help"))[0]))
         if synopsis.get(command) != operands:
             wrong.append(f"man/upd.1, {command}: {synopsis.get(command)}, and not {operands}")
     shells = [shell for shell in ("bash", "fish") if shutil.which(shell)]
