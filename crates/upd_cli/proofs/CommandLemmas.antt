@@ -1,5 +1,5 @@
 -- A command that ended so, and is told so, has answered what is defined.
-use Rattle.std.proofs.Common.{◌≡◌, inl, inr, ℕ, List, [], Option, Some, None, Result, Ok, Err, IsErrAnd, IfSome, refl, ap, sym, ◌∙◌, subst}
+use Rattle.std.proofs.Common.{◌≡◌, inl, inr, ℕ, List, [], Option, Result, Ok, Err, IsErrAnd, refl, ap, sym, ◌∙◌, subst}
 use Rattle.std.specs.Io.KnownBytes.{Appends}
 use Rattle.std.proofs.KnownBytes.{Appends-nil}
 use Rattle.upd_text.specs.declared.fault.Fault.{Fault}
@@ -20,7 +20,7 @@ pub nothing_left : (kind : FaultKind) (output output' : Option (List ℕ)) (byte
 nothing_left Write output output' bytes nothing = ([], bytes, refl, nothing)
 nothing_left _ output output' bytes nothing = nothing
 
-answered : {U : Type 0} (ended : Result U Fault) (status : ℕ) (defined : Result FileView Fault) (output output' faults faults' : Option (List ℕ))
+pub answered : {U : Type 0} (ended : Result U Fault) (status : ℕ) (defined : Result FileView Fault) (output output' faults faults' : Option (List ℕ))
     → EndsTrial ended output output' defined → IsEnd ended status faults faults' → Answers (answer_to defined) status output output' faults faults'
 answered (Ok u) status (Ok file) output output' faults faults' ends told = inl (told.0, ends, told.1)
 answered (Ok u) status (Err fault) output output' faults faults' ends told = absurd ends
@@ -33,19 +33,9 @@ answered (Err fault) status defined output output' faults faults' (inr failed) (
     inr (told.0 ∙ failed.0, (fault, inl failed.0, failed.1, front_all faults faults' (fault_line fault) told.1))
 answered (Err fault) status defined output output' faults faults' (inr failed) (inr unsaid) = inr (unsaid.0, (fault, inl failed.0, failed.1, unsaid.1))
 
-pub answered_of_known : {U : Type 0} (ended : Result U Fault) (status : ℕ) (known : Option (List ℕ)) (defined : List ℕ → Result FileView Fault)
-    (output output' faults faults' : Option (List ℕ)) → IfSome known (λ bytes. EndsTrial ended output output' (defined bytes))
-    → IsEnd ended status faults faults' → IfSome known (λ bytes. Answers (answer_to (defined bytes)) status output output' faults faults')
-answered_of_known ended status None defined output output' faults faults' ends told = tt
-answered_of_known ended status (Some bytes) defined output output' faults faults' ends told =
-    answered ended status (defined bytes) output output' faults faults' ends told
-
 -- before anything was read or written, memory was wanting
-pub answered_at_once : (known : Option (List ℕ)) (defined : List ℕ → Result FileView Fault) (fault : Fault) (status : ℕ)
-    (output faults faults' : Option (List ℕ))
-    → fault ≡ no_memory → IsEnd {U = Unit {0}} (Err fault) status faults faults'
-    → IfSome known (λ bytes. Answers (answer_to (defined bytes)) status output output faults faults')
-answered_at_once None defined fault status output faults faults' is told = tt
-answered_at_once (Some bytes) defined fault status output faults faults' is told =
-    answered {U = Unit {0}} (Err fault) status (defined bytes) output output faults faults'
-    (inr (ap (λ f. exit_status f.kind) is, nothing_left fault.kind output output (answer_to (defined bytes)).output (Appends-nil output))) told
+pub answered_at_once : (defined : Result FileView Fault) (fault : Fault) (status : ℕ) (output faults faults' : Option (List ℕ)) → fault ≡ no_memory
+    → IsEnd {U = Unit {0}} (Err fault) status faults faults' → Answers (answer_to defined) status output output faults faults'
+answered_at_once defined fault status output faults faults' is told =
+    answered {U = Unit {0}} (Err fault) status defined output output faults faults'
+    (inr (ap (λ f. exit_status f.kind) is, nothing_left fault.kind output output (answer_to defined).output (Appends-nil output))) told

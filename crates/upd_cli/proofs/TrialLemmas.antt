@@ -1,10 +1,11 @@
 -- A trial needs no more of a run than the first byte beyond the limit, and fails by its refusal or for want of memory.
 use Rattle.std.proofs.Common.{◌≡◌, ◌≤◌, ◌<◌, ◌⊎◌, inl, inr, ℕ, ◌+◌, nat_lt, Bool, true, List, length, take, Option, Some, None, Result, Ok, Err, refl, ap, sym}
-use Rattle.std.proofs.Common.{◌∙◌, subst, arith, IfSome}
+use Rattle.std.proofs.Common.{◌∙◌, subst, arith}
 use Rattle.upd_core.specs.Library.{empty}
 use Rattle.upd_apply.specs.Applying.{applied}
 use Rattle.std.proofs.lemmas.Bool.{cases_lt, lt-ltb}
 use Rattle.std.proofs.lemmas.List.{length-take-le, take_all}
+use Rattle.upd_streams.specs.Inputs.{IsInput}
 use Rattle.upd_text.specs.declared.fault.Fault.{Fault}
 use Rattle.upd_text.specs.declared.fault.FaultKind.{FaultKind}
 use Rattle.upd_text.specs.declared.fault.FaultKind.TheVariants.{RunLong, TooManyLines, BadByte, LineLong, BadName, BadCard, BadField, NoIdent, TextNowhere}
@@ -19,6 +20,7 @@ use Rattle.upd_compile.specs.Modes.{mode_named}
 use Rattle.upd_compile.specs.declared.mode.Mode.{Mode}
 use Rattle.upd_cli.specs.Command.{GivesUnlessFailed}
 use Rattle.upd_cli.specs.Status.{exit_status}
+use Rattle.upd_cli.specs.Streams.{IsRunOn}
 use Rattle.upd_cli.specs.Trial.{trial_named, trial_of}
 
 refused : {A : Type 0} (long : Bool) (next : Bool → Result A Fault) → long ≡ true
@@ -83,12 +85,11 @@ given : (result : Result FileView Fault) (defined : Result FileView Fault) → G
 given (Ok file) defined is = is
 given (Err fault) defined is = failed_or_defined fault.kind fault defined is
 
--- what a trial gives of the front of an input, it gives of the input
+-- what a trial gives of the run on an input, it gives of the input
 pub given_of_front : (word : List ℕ) (mode : Mode) (run : List ℕ) (result : Result FileView Fault) (known : Option (List ℕ))
-    → at_line 0 (need BadMode (mode_named word)) ≡ Ok mode → IfSome known (λ all. run ≡ take (MAX_RUN_BYTES + 1) all)
-    → GivesAt (λ file. file) result (trial_of mode run) → IfSome known (λ all. GivesUnlessFailed result (trial_named word all))
-given_of_front word mode run result None read front gives = tt
-given_of_front word mode run result (Some all) read front gives =
+    → at_line 0 (need BadMode (mode_named word)) ≡ Ok mode → IsRunOn known run → GivesAt (λ file. file) result (trial_of mode run)
+    → (all : List ℕ) × IsInput known all × GivesUnlessFailed result (trial_named word all)
+given_of_front word mode run result known read (all, is, front) gives =
     let defined : trial_of mode run ≡ trial_named word all =
     ap (trial_of mode) front ∙ trial_of-front mode all ∙ sym (ap (λ m. m >>= (λ it. trial_of it all)) read) in
-    subst (GivesUnlessFailed result) defined (given result (trial_of mode run) gives)
+    (all, is, subst (GivesUnlessFailed result) defined (given result (trial_of mode run) gives))

@@ -1,9 +1,8 @@
 -- What commands do at a desk: what they ask, what the desk answers, and how that is told.
-use Rattle.std.specs.Prelude.{◌≡◌, ◌⊎◌, ℕ, ◌+◌, List, [], Option, Result, Ok, IfSome, IsErrAnd, take}
+use Rattle.std.specs.Prelude.{◌≡◌, ◌⊎◌, ℕ, List, [], Option, Result, Ok, IsErrAnd}
 use Rattle.std.specs.Io.KnownBytes.{Appends}
 use Rattle.std.specs.Result.{result_map_both}
 use Rattle.upd_text.specs.declared.fault.Fault.{Fault}
-use Rattle.upd_text.specs.declared.limits.TheConstants.{MAX_RUN_BYTES}
 use Rattle.upd_core.specs.Library.{LibraryView}
 use Rattle.upd_change.specs.Rows.{Rows}
 use Rattle.upd_rows.specs.Keeping.{Keeps}
@@ -14,6 +13,7 @@ use Rattle.upd_desk.specs.Answers.{CountsFailure}
 use Rattle.upd_desk.specs.Holding.{Arrives, Settles, Tells}
 use Rattle.upd_desk.specs.Outcomes.{ReplyView}
 use Rattle.upd_cli.specs.Status.{no_memory, read_failed}
+use Rattle.upd_cli.specs.Streams.{IsRunOn}
 use Rattle.upd_cli.specs.Telling.{TellsMark, TellsRun, TellsText}
 use Rattle.upd_cli.specs.declared.asking.Question.{Question}
 use Rattle.upd_cli.specs.declared.asking.Question.TheVariants.{Compile, Deck, Card, Idents, Yanks}
@@ -25,10 +25,6 @@ answer_text (Deck name) l = deck_listing name l
 answer_text (Card card) l = card_listing card l
 answer_text Idents l = Ok (ident_listing l)
 answer_text Yanks l = Ok (yank_listing l)
-
--- The bytes of the run on an input: all, or so many that they tell that the run is too long. Nothing is said of an input that isn't known.
-abbrev pub IsRunOn : Option (List ℕ) → List ℕ → Type 0
-IsRunOn input bytes = IfSome input (λ all. bytes ≡ take (MAX_RUN_BYTES + 1) all)
 
 -- the input can't be read, or there is no memory for it
 abbrev pub IsUnread : Result ℕ Fault → Type 0

@@ -1,6 +1,7 @@
 //! Carries out a command line over any input, output and fault stream.
-ghost use Rattle.std.specs.Prelude.{◌≡◌, ◌≢◌, ◌⊎◌, ◌+◌, IfErr, IfSome, None, codes, map, []};
+ghost use Rattle.std.specs.Prelude.{◌≡◌, ◌≢◌, ◌⊎◌, ◌+◌, ℕ, IfErr, List, None, codes, map, []};
 ghost use Rattle.std.specs.IoError.{error_kind};
+ghost use Rattle.upd_streams.specs.Inputs.{IsInput};
 ghost use Rattle.upd_compile.specs.Modes.{mode_named};
 ghost use Rattle.upd_cli.specs.Command.{Answers, EndsTrial, GivesUnlessFailed, IsEnd, IsTold, IsToldOf, answer_to};
 ghost use Rattle.upd_cli.specs.Commands.{CarriesOut, IsCarriedOut, IsServed};
@@ -36,9 +37,9 @@ pub fn run_command<S: AsStr, R: Read, W: Write, E: Write>(
     faults: &mut E,
 ) -> u8
     ensures trial { word_faults (map S.text words.entry.now) ≡ [] → command_word (map S.text words.entry.now) ≡ codes "trial"
-        → IfSome (R.remaining input.old) (λ bytes.
-        Answers (answer_to (trial_named (operand_word (codes "MODE") (map S.text words.entry.now)) bytes)) result
-        (W.contents output.old) (W.contents output.new) (E.contents faults.old) (E.contents faults.new)) }
+        → (run : List ℕ) × IsInput (R.remaining input.old) run
+        × Answers (answer_to (trial_named (operand_word (codes "MODE") (map S.text words.entry.now)) run)) result
+        (W.contents output.old) (W.contents output.new) (E.contents faults.old) (E.contents faults.new) }
     ensures told { CarriesOut (map S.text words.entry.now) result
         (W.contents output.old) (W.contents output.new) (E.contents faults.old) (E.contents faults.new) }
     ensures unread { word_faults (map S.text words.entry.now) ≢ [] → IsToldOf (map S.text words.entry.now) result }
@@ -173,8 +174,8 @@ fn carry_out_trial<R: Read, W: Write>(
     input: &mut R,
     output: &mut W,
 ) -> Result<(), Fault>
-    ensures ends { IfSome (R.remaining input.old) (λ bytes.
-        EndsTrial result (W.contents output.old) (W.contents output.new) (trial_named mode.now bytes)) }
+    ensures ends { (run : List ℕ) × IsInput (R.remaining input.old) run
+        × EndsTrial result (W.contents output.old) (W.contents output.new) (trial_named mode.now run) }
     ensures front { TakesFront (MAX_RUN_BYTES + 1) (R.remaining input.old) (R.remaining input.new) }
     ensures waits { mode_named mode.now ≡ None → input.new ≡ input.old }
     ensures silent { IfErr result (λ fault. exit_status fault.kind ≡ 1 → output.new ≡ output.old) }
@@ -185,7 +186,7 @@ fn carry_out_trial<R: Read, W: Write>(
 
 /// The compile file of the run on the input. The mode is looked at before the input is read.
 fn trial_of_input<R: Read>(alloc: Global, mode: &str, input: &mut R) -> Result<CompileFile, Fault>
-    ensures gives { IfSome (R.remaining input.old) (λ bytes. GivesUnlessFailed result (trial_named mode.now bytes)) }
+    ensures gives { (run : List ℕ) × IsInput (R.remaining input.old) run × GivesUnlessFailed result (trial_named mode.now run) }
     ensures front { TakesFront (MAX_RUN_BYTES + 1) (R.remaining input.old) (R.remaining input.new) }
     ensures waits { mode_named mode.now ≡ None → input.new ≡ input.old }
 {

@@ -1,10 +1,10 @@
 //! Reads a run from any reader, and writes to any writer. A call that was interrupted counts as failed, like any other.
-ghost use Rattle.std.specs.Prelude.{◌≡◌, ◌≢◌, ◌≤◌, ◌⊎◌, ◌+◌, [], IfErr, IfOk, IfSome, OnOk, length, take};
+ghost use Rattle.std.specs.Prelude.{◌≡◌, ◌≢◌, ◌≤◌, ◌⊎◌, ◌+◌, [], IfErr, IfOk, OnOk, length};
 ghost use Rattle.std.specs.Io.KnownBytes.{Appends, Consumes, IsAtEnd};
 ghost use Rattle.std.specs.List.{flat_map};
 ghost use Rattle.std.specs.IoError.{error_kind};
 ghost use Rattle.upd_cli.specs.Status.{no_memory, read_failed, write_failed};
-ghost use Rattle.upd_cli.specs.Streams.{TakesFront};
+ghost use Rattle.upd_cli.specs.Streams.{IsRunOn, TakesFront};
 ghost use Rattle.upd_streams.specs.Fronts.{AppendsFront};
 
 use std::alloc::{AllocError, Global};
@@ -16,8 +16,7 @@ use upd_text::{Fault, FaultKind};
 
 /// All bytes of an input, or the first `MAX_RUN_BYTES` and one more, which tells that it is too long.
 pub(crate) fn read_input<R: Read>(alloc: Global, input: &mut R) -> Result<Vec<u8>, Fault>
-    ensures ok { IfSome (R.remaining input.old) (λ all. IfOk result (λ bytes.
-        bytes.items ≡ take (MAX_RUN_BYTES + 1) all)) }
+    ensures ok { IfOk result (λ bytes. IsRunOn (R.remaining input.old) bytes.items) }
     ensures front { TakesFront (MAX_RUN_BYTES + 1) (R.remaining input.old) (R.remaining input.new) }
     ensures err { IfErr result (λ fault. (fault ≡ no_memory) ⊎ (fault ≡ read_failed)) }
 {

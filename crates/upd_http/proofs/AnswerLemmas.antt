@@ -1,5 +1,5 @@
 -- A request and its answer.
-use Rattle.std.proofs.Common.{◌≡◌, ◌⊎◌, inl, inr, ℕ, List, Option, Some, None, Result, Ok, Err, IfOk, IfErr, IfSome, refl, sym, ap, ◌∙◌}
+use Rattle.std.proofs.Common.{◌≡◌, ◌⊎◌, inl, inr, ℕ, List, None, Result, Ok, Err, IfOk, IfErr, refl, sym, ap, ◌∙◌}
 use Rattle.upd_request.specs.Calls.{Asked}
 use Rattle.upd_request.specs.Requests.{IsFailure, Says}
 use Rattle.upd_request.specs.declared.call.Refusal.{Refusal}
@@ -10,11 +10,10 @@ use Rattle.upd_http.specs.Views.{answer_seen, response}
 use Rattle.upd_http.specs.declared.answer.Answer.{Answer}
 
 -- the desk was asked what the input says
-pub answers_call : (known : Option (List ℕ)) (call : Asked) (made : Made) (answer : Result Response Fault) → IfSome known (λ input. Says input (Ok call))
-    → IsAsked call made answer → IfSome known (λ input. AnswersRequest input made answer)
-answers_call None call made answer says asked = tt
-answers_call (Some input) call made answer says (inl (told, is, answered)) = inr (inl (call, told, says, is, answered))
-answers_call (Some input) call made answer says (inr (none, is)) = inr (inr (none, inr (inl is)))
+pub answers_call : (input : List ℕ) (call : Asked) (made : Made) (answer : Result Response Fault) → Says input (Ok call) → IsAsked call made answer
+    → AnswersRequest input made answer
+answers_call input call made answer says (inl (told, is, answered)) = inr (inl (call, told, says, is, answered))
+answers_call input call made answer says (inr (none, is)) = inr (inr (none, inr (inl is)))
 
 -- the input is refused, or reading it failed
 refused : (input : List ℕ) (refusal : Refusal) (answer : Result Response Fault) → IsFailure refusal ⊎ Says input (Err refusal) → answer ≡ refusal_answer refusal
@@ -23,16 +22,9 @@ refused input refusal answer (inl (inl is)) same = inr (inr (refl, inl (same ∙
 refused input refusal answer (inl (inr is)) same = inr (inr (refl, inr (inr (same ∙ ap refusal_answer is))))
 refused input refusal answer (inr says) same = inl (refusal, says, refl, same)
 
-pub answers_refusal : (known : Option (List ℕ)) (refusal : Refusal) (result : Result Answer Fault)
-    → IfSome known (λ input. IsFailure refusal ⊎ Says input (Err refusal))
+pub answers_refusal : (input : List ℕ) (refusal : Refusal) (result : Result Answer Fault) → IsFailure refusal ⊎ Says input (Err refusal)
     → IfOk result (λ a. refusal_answer refusal ≡ Ok (response a)) → IfErr result (λ e. (e ≡ no_memory) ⊎ (refusal_answer refusal ≡ Err e))
-    → IfSome known (λ input. AnswersRequest input None (answer_seen result))
-answers_refusal None refusal result says ok err = tt
-answers_refusal (Some input) refusal (Ok a) says ok err = refused input refusal (Ok (response a)) says (sym ok)
-answers_refusal (Some input) refusal (Err e) says ok (inl wanting) = inr (inr (refl, inr (inl (ap Err wanting))))
-answers_refusal (Some input) refusal (Err e) says ok (inr is) = refused input refusal (Err e) says (sym is)
-
--- there was no memory to begin with
-pub answers_wanting : (known : Option (List ℕ)) → IfSome known (λ input. AnswersRequest input None (Err no_memory))
-answers_wanting None = tt
-answers_wanting (Some input) = inr (inr (refl, inr (inl refl)))
+    → AnswersRequest input None (answer_seen result)
+answers_refusal input refusal (Ok a) says ok err = refused input refusal (Ok (response a)) says (sym ok)
+answers_refusal input refusal (Err e) says ok (inl wanting) = inr (inr (refl, inr (inl (ap Err wanting))))
+answers_refusal input refusal (Err e) says ok (inr is) = refused input refusal (Err e) says (sym is)

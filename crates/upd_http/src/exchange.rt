@@ -1,6 +1,7 @@
 //! One request and its answer.
 
-ghost use Rattle.std.specs.Prelude.{IfSome, Result};
+ghost use Rattle.std.specs.Prelude.{ℕ, List, Result};
+ghost use Rattle.upd_streams.specs.Inputs.{IsInput};
 ghost use Rattle.upd_text.specs.declared.fault.Fault.{Fault};
 ghost use Rattle.upd_http.specs.Responses.{Response};
 ghost use Rattle.upd_http.specs.Serving.{AnswersRequest, Leads, Made, Sends};
@@ -28,7 +29,7 @@ pub fn serve_one<R: Read, W: Write, S: RowStore>(
     ensures { (made : Made) × (answer : Result Response Fault)
         × Leads S.is_honest S.is_open S.image S.shows S.may_leave S.failures_of made desk.old.store desk.new.store
         × Sends answer result (W.contents writer.old) (W.contents writer.new)
-        × IfSome (R.remaining reader.old) (λ input. AnswersRequest input made answer) }
+        × ((input : List ℕ) × IsInput (R.remaining reader.old) input × AnswersRequest input made answer) }
 {
     let mut head = match Vec::with_capacity(alloc, HEAD_ROOM) {
         Ok(head) => head,
@@ -51,7 +52,7 @@ fn answer_one<R: Read, S: RowStore>(
 ) -> Result<Answer, Fault>
     ensures { (made : Made)
         × Leads S.is_honest S.is_open S.image S.shows S.may_leave S.failures_of made desk.old.store desk.new.store
-        × IfSome (R.remaining reader.old) (λ input. AnswersRequest input made (answer_seen result)) }
+        × ((input : List ℕ) × IsInput (R.remaining reader.old) input × AnswersRequest input made (answer_seen result)) }
 {
     match read_call(alloc, reader) {
         Ok(call) => ask(alloc, desk, &call),

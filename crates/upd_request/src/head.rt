@@ -1,9 +1,10 @@
 //! The head of a request, read as far as it goes.
 
-ghost use Rattle.std.specs.Prelude.{◌≡◌, ◌≢◌, ◌≤◌, [], IfErr, IfOk, IfSome, OnOk, length};
+ghost use Rattle.std.specs.Prelude.{◌≡◌, ◌≢◌, ◌≤◌, ℕ, List, [], IfErr, IfOk, OnOk, length};
 ghost use Rattle.std.specs.Io.KnownBytes.{Consumes};
 ghost use Rattle.std.specs.IoError.{error_kind};
 ghost use Rattle.httparse.specs.Spans.{IsRequestOf, IsRequestWithin};
+ghost use Rattle.upd_streams.specs.Inputs.{IsInput};
 ghost use Rattle.upd_request.specs.Calls.{no_memory_refusal, read_failed_refusal};
 ghost use Rattle.upd_request.specs.Requests.{IsFailure, RefusesHead};
 
@@ -33,7 +34,7 @@ pub(crate) fn read_head<R: Read>(
     ensures within { IfOk result (IsRequestWithin buf.new.items headers.new) }
     ensures most { OnOk result (length buf.new.items ≤ MAX_HEAD_BYTES) }
     ensures bytes { OnOk result (Consumes (R.remaining reader.old) (R.remaining reader.new) buf.new.items) }
-    ensures err { IfErr result (λ refusal. IfSome (R.remaining reader.old) (λ input. RefusesHead input refusal)) }
+    ensures err { IfErr result (λ refusal. (input : List ℕ) × IsInput (R.remaining reader.old) input × RefusesHead input refusal) }
 {
     let mut chunk = [0u8; 1024];
     'head: while buf.len() < MAX_HEAD_BYTES {

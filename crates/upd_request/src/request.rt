@@ -1,9 +1,10 @@
 //! A whole request.
 
-ghost use Rattle.std.specs.Prelude.{◌≡◌, ◌≤◌, ◌<◌, ◌++◌, List, ℕ, IfErr, IfSome, OnOk, length, vec_len};
+ghost use Rattle.std.specs.Prelude.{◌≡◌, ◌≤◌, ◌<◌, ◌++◌, List, ℕ, IfErr, OnOk, length, vec_len};
 ghost use Rattle.std.specs.Io.KnownBytes.{Consumes, IsAtEnd};
 ghost use Rattle.httparse.specs.Grammar.{RequestHead};
 ghost use Rattle.httparse.specs.Spans.{IsRequestAt, IsRequestOf, IsRequestWithin};
+ghost use Rattle.upd_streams.specs.Inputs.{IsInput};
 ghost use Rattle.upd_request.specs.Calls.{Gives, asked};
 ghost use Rattle.upd_request.specs.Parameters.{path_of};
 ghost use Rattle.upd_request.specs.Requests.{GivesUnlessFailed, IsFailure, IsRead, body_of, wanted};
@@ -32,7 +33,7 @@ pub struct Wanted<'b> {
 /// Reads a request, and answers what it asks of the desk. Nothing behind its body is looked at, though a read may have
 /// taken it.
 pub fn read_call<R: Read>(alloc: Global, reader: &mut R) -> Result<Call, Refusal>
-    ensures { IfSome (R.remaining reader.old) (λ input. IsRead asked input result) }
+    ensures { (input : List ℕ) × IsInput (R.remaining reader.old) input × IsRead asked input result }
 {
     let mut buf = Vec::new(alloc);
     let mut headers = [EMPTY_HEADER_SPAN; MAX_HEADERS];
@@ -109,8 +110,8 @@ fn read_body<R: Read>(
     front: &[u8],
     count: usize,
 ) -> Result<Vec<u8>, Refusal>
-    ensures { IfSome (R.remaining reader.old) (λ rest.
-        GivesUnlessFailed (λ body. body.items) result (body_of count (front.now ++ rest))) }
+    ensures { (rest : List ℕ) × IsInput (R.remaining reader.old) rest
+        × GivesUnlessFailed (λ body. body.items) result (body_of count (front.now ++ rest)) }
 {
     let held = front.len().min(count);
     let mut body = Vec::from_slice(alloc, &front[..held])?;

@@ -1,14 +1,15 @@
-use Rattle.std.proofs.Common.{◌≡◌, inl, inr, arith, ℕ, List, IfSome, codes, map, ap, sym, ◌∙◌, subst}
+use Rattle.std.proofs.Common.{◌≡◌, inl, inr, arith, ℕ, List, codes, map, ap, sym, ◌∙◌, subst}
 use Rattle.clap.specs.Words.{Text}
 use Rattle.upd_compile.specs.Modes.{mode_named}
 use Rattle.std.proofs.KnownBytes.{Appends-nil}
+use Rattle.upd_streams.proofs.InputLemmas.{some_input}
 use Rattle.upd_text.specs.declared.fault.Fault.{Fault}
 use Rattle.upd_cli.specs.Command.{Answers, IsTold, answer_to}
 use Rattle.upd_cli.specs.Status.{exit_status, fault_line}
 use Rattle.upd_cli.specs.Trial.{trial_named}
 use Rattle.upd_cli.specs.Words.{IsAskedFor, operand_word}
 use Rattle.upd_cli.specs.declared.words.Request.TheVariants.{Trial, Library, Serve}
-use Rattle.upd_cli.proofs.CommandLemmas.{answered_at_once, answered_of_known}
+use Rattle.upd_cli.proofs.CommandLemmas.{answered, answered_at_once}
 use Rattle.upd_cli.proofs.RequestLemmas.{begins_otherwise, none_of, of_library, serve_command, trial_command, trial_mode}
 use Rattle.upd_cli.proofs.command.run_command.Goals as goal
 
@@ -16,16 +17,19 @@ pub returns-in-Ok-Trial-clause-trial : goal.returns-in-Ok-Trial-clause-trial
 returns-in-Ok-Trial-clause-trial g c =
     let words : List Text = map g.S.AsStr.text c.args.words.now in
     let asked : IsAskedFor words (Trial c.in-Ok-Trial.mode) = subst (IsAskedFor words) c.in-Ok-Trial.field-0-is c.in-Ok-Trial.ensures.ok in
-    let input = g.R.Read.remaining c.args.input.now in
     let output = g.W.Write.contents c.args.output.now in
     let output' = g.W.Write.contents c.carry_out_trial-ended.new.output in
     let faults = g.E.Write.contents c.args.faults.now in
     let faults' = g.E.Write.contents c.finish.new.faults in
-    let IsAnswered : List ℕ → Type 0 =
-    λ word. IfSome input (λ bytes. Answers (answer_to (trial_named word bytes)) c.finish.result output output' faults faults') in
-    λ none is_trial. subst IsAnswered (trial_mode words c.in-Ok-Trial.mode asked)
-    (answered_of_known c.carry_out_trial-ended.result c.finish.result input (trial_named c.in-Ok-Trial.mode.now) output output' faults faults'
-    c.carry_out_trial-ended.ensures.ends c.finish.ensures.told)
+    let (run, is, ends) = c.carry_out_trial-ended.ensures.ends in
+    let IsAnswered : List ℕ → Type 0 = λ word. Answers (answer_to (trial_named word run)) c.finish.result output output' faults faults' in
+    λ none is_trial. (
+      run,
+      is,
+      subst IsAnswered (trial_mode words c.in-Ok-Trial.mode asked)
+          (answered c.carry_out_trial-ended.result c.finish.result (trial_named c.in-Ok-Trial.mode.now run) output output' faults faults'
+          ends c.finish.ensures.told),
+    )
 
 pub returns-in-Ok-Trial-clause-waits : goal.returns-in-Ok-Trial-clause-waits
 returns-in-Ok-Trial-clause-waits g c = λ no.
@@ -96,10 +100,13 @@ returns-in-Ok-Serve-clause-unread g c =
 
 pub returns-in-Err-clause-trial : goal.returns-in-Err-clause-trial
 returns-in-Err-clause-trial g c = λ none is_trial.
-    answered_at_once (g.R.Read.remaining c.args.input.now)
-    (trial_named (operand_word (codes "MODE") (map g.S.AsStr.text c.args.words.now))) c.in-Err.fault c.finish-in-Err.result
-    (g.W.Write.contents c.args.output.now) (g.E.Write.contents c.args.faults.now)
-    (g.E.Write.contents c.finish-in-Err.new.faults) c.in-Err.ensures.err c.finish-in-Err.ensures.told
+    let (run, is) = some_input (g.R.Read.remaining c.args.input.now) in (
+      run,
+      is,
+      answered_at_once (trial_named (operand_word (codes "MODE") (map g.S.AsStr.text c.args.words.now)) run) c.in-Err.fault
+          c.finish-in-Err.result (g.W.Write.contents c.args.output.now) (g.E.Write.contents c.args.faults.now)
+          (g.E.Write.contents c.finish-in-Err.new.faults) c.in-Err.ensures.err c.finish-in-Err.ensures.told,
+    )
 
 pub returns-in-Ok-Trial-clause-told : goal.returns-in-Ok-Trial-clause-told
 returns-in-Ok-Trial-clause-told g c =

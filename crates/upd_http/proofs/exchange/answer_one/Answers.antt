@@ -7,12 +7,10 @@ use Rattle.upd_http.proofs.exchange.answer_one.Goals as goal
 pub returns-in-Ok : goal.returns-in-Ok
 returns-in-Ok g c =
     let (made, leads, asks) = c.ask.ensures in
-    (made, leads, answers_call (g.R.Read.remaining c.args.reader.now) (asked c.in-Ok.call) made (answer_seen c.ask.result) c.in-Ok.ensures asks)
+    let (input, is, says) = c.in-Ok.ensures in
+    (made, leads, (input, is, answers_call input (asked c.in-Ok.call) made (answer_seen c.ask.result) says asks))
 
 pub returns-in-Err : goal.returns-in-Err
-returns-in-Err g c = (
-  None,
-  refl,
-  answers_refusal (g.R.Read.remaining c.args.reader.now) c.in-Err.refusal c.refusal.result c.in-Err.ensures
-      c.refusal.ensures.ok c.refusal.ensures.err,
-)
+returns-in-Err g c =
+    let (input, is, says) = c.in-Err.ensures in
+    (None, refl, (input, is, answers_refusal input c.in-Err.refusal c.refusal.result says c.refusal.ensures.ok c.refusal.ensures.err))

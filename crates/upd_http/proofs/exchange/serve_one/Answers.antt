@@ -1,19 +1,19 @@
-use Rattle.std.proofs.Common.{◌++◌, ap, ap₂, ◌∙◌, subst, None, Ok, Err, refl, List, ℕ}
+use Rattle.std.proofs.Common.{◌++◌, ap, ap₂, ◌∙◌, subst, None, Ok, Err, inl, inr, refl, List, ℕ}
 use Rattle.std.proofs.KnownBytes.{Appends-nil}
+use Rattle.upd_streams.proofs.InputLemmas.{some_input}
 use Rattle.upd_http.specs.Serving.{Puts, no_memory}
 use Rattle.upd_http.specs.Views.{response}
-use Rattle.upd_http.proofs.AnswerLemmas.{answers_wanting}
 use Rattle.upd_http.proofs.exchange.serve_one.Goals as goal
 
 pub returns-in-Err : goal.returns-in-Err
-returns-in-Err g c = (
-  None,
-  Err no_memory,
-  refl,
-  (ap Err c.without_line.ensures, Appends-nil (g.W.Write.contents c.args.writer.now)),
-  answers_wanting
-      (g.R.Read.remaining c.args.reader.now),
-)
+returns-in-Err g c =
+    let (input, is) = some_input (g.R.Read.remaining c.args.reader.now) in (
+      None,
+      Err no_memory,
+      refl,
+      (ap Err c.without_line.ensures, Appends-nil (g.W.Write.contents c.args.writer.now)),
+      (input, is, inr (inr (refl, inr (inl refl)))),
+    )
 
 pub returns-in-Ok-answer_one : goal.returns-in-Ok-answer_one
 returns-in-Ok-answer_one g c =

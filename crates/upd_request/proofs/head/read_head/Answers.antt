@@ -4,7 +4,7 @@ use Rattle.std.specs.Io.KnownBytes.{Consumes}
 use Rattle.httparse.specs.Spans.{RequestExceeds}
 use Rattle.upd_request.specs.declared.head.TheConstants.{MAX_HEAD_BYTES}
 use Rattle.std.proofs.KnownBytes.{Consumes-nil, Consumes-trans}
-use Rattle.upd_request.proofs.HeadLemmas.{error_says, nothing_has_head, refused_bad}
+use Rattle.upd_request.proofs.HeadLemmas.{error_says, nothing_has_head, refused_bad, refused_by_failure}
 use Rattle.upd_request.proofs.head.read_head.Goals as goal
 
 pub head-init : goal.head-init
@@ -28,3 +28,9 @@ returns-in-Err-parse_request-clause-err g c =
 pub returns-clause-err : goal.returns-clause-err
 returns-clause-err g c =
     refused_bad _ _ c.head.buf.items _ c.head.invariant.consumed c.head.invariant.most (inr (inr (omega arith, c.head.invariant.none))) c.of-2.ensures
+
+pub returns-then-is_err-clause-err : goal.returns-then-is_err-clause-err
+returns-then-is_err-clause-err g c = refused_by_failure (g.R.Read.remaining c.args.reader.now) c.of.result (inl c.of.ensures)
+
+pub returns-in-Err-clause-err : goal.returns-in-Err-clause-err
+returns-in-Err-clause-err g c = refused_by_failure (g.R.Read.remaining c.args.reader.now) c.read_refusal.result c.read_refusal.ensures.failure

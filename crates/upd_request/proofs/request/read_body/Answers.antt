@@ -1,0 +1,27 @@
+use Rattle.std.proofs.Common.{rules, ◌≡◌, ◌++◌, length, ap, ◌∙◌, arith}
+use Rattle.upd_streams.proofs.InputLemmas.{input_behind, some_input}
+use Rattle.upd_request.proofs.RequestLemmas.{whole_body}
+use Rattle.upd_request.proofs.request.read_body.Goals as goal
+
+pub returns-in_err-body : goal.returns-in_err-body
+returns-in_err-body g c =
+    let (rest, left) = some_input (g.R.Read.remaining c.args.reader.now) in
+    (rest, left, search rules)
+
+pub returns-in-Err : goal.returns-in-Err
+returns-in-Err g c =
+    let (rest, left) = some_input (g.R.Read.remaining c.args.reader.now) in
+    (rest, left, search rules)
+
+pub returns : goal.returns
+returns g c =
+    let old = g.R.Read.remaining c.args.reader.now in
+    let new = g.R.Read.remaining c.fill.new.reader in
+    let (taken, grown, consumed) = c.in_default.ensures.ok in
+    let (rest, left) = some_input new in
+    let body = c.fill.new.bytes.items in
+    let full : length body ≡ c.args.count = omega (arith, c.in_default.ensures.most, c.if-len-count.false, c.len.ensures) in (
+      taken ++ rest,
+      input_behind old new taken rest consumed left,
+      whole_body c.args.count c.min-held.result c.args.front.now taken rest body c.min-held.ensures (grown ∙ ap (λ l. l ++ taken) c.in_ok-body.ensures.items) full,
+    )
