@@ -9,14 +9,16 @@
 
 ghost use Rattle.std.specs.Prelude.{◌≡◌, IfErr, IfOk, IsTrue};
 ghost use Rattle.sqlite.specs.Closing.{IsCopied};
-ghost use Rattle.sqlite.specs.Files.{file_state};
+ghost use Rattle.sqlite.specs.Effect.{Database};
+ghost use Rattle.sqlite.specs.Files.{HoldsDatabase, file_state};
 ghost use Rattle.sqlite.specs.Start.{FindsIn};
 ghost use Rattle.sqlite.specs.State.{HasCleanDisk};
+ghost use Rattle.sqlite_trees.specs.Tree.{Trees};
 ghost use Rattle.sqlite_wal.specs.Files.{image_at};
 ghost use Rattle.sqlite_wal.specs.Reads.{AreClean};
 ghost use Rattle.upd_rows.specs.Keeping.{IsLost};
 ghost use Rattle.upd_sql.specs.Making.{no_rows};
-ghost use Rattle.upd_sql.specs.Schema.{library_schema};
+ghost use Rattle.upd_sql.specs.Schema.{library_schema, no_schema};
 ghost use Rattle.upd_sql.specs.Stands.{ShowsTables};
 ghost use Rattle.upd_store.specs.Faults.{IsUnopened};
 
@@ -60,6 +62,9 @@ pub fn open<S: Start>(rt: &HostRuntime, path: &str, start: S) -> Result<FileLibr
 pub fn create<S: Start>(rt: &HostRuntime, path: &str, start: S) -> Result<FileLibrary<S>, Fault>
     ensures shows { IfOk result (λ s. HasCleanDisk (file_state s.conn)
         → IsTrue (file_state s.conn).is_open × ShowsTables no_rows (file_state s.conn).committed) }
+    ensures empty { IfOk result (λ s. HasCleanDisk (file_state s.conn)
+        → (found : Database) × (found.schema ≡ no_schema)
+        × ((held : Trees) → HoldsDatabase (image_at S.Start) held → found.trees ≡ held)) }
     ensures unopened { IfErr result IsUnopened }
 {
     let conn = match connect_or_make(rt, path, start) {
