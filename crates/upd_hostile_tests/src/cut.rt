@@ -9,6 +9,7 @@ use upd_desk::Desk;
 use upd_http::serve_one;
 use upd_rows::{ListStore, RowStore};
 use upd_spool::spool;
+use upd_spool_tests::example::{FIRST, SECOND, THIRD, worked};
 use upd_text::{Fault, FaultKind};
 
 const RUN: &str = "*ID X cleanup\n*D A.2 , A.3 old lines\n*/ note\nNEW\n*FOO\n";
@@ -99,52 +100,12 @@ fn a_zero_byte_is_refused_at_its_line(rt: HostRuntime) -> Result<(), Fail> {
     Ok(())
 }
 
-const FIRST: &str = "RUN LYON 1 full 22\n*DECK A\nONE\nTWO\nTHREE\n\n";
-
-const SECOND: &str = "RUN LYON 2 quick 0\n\n";
-
-const THIRD: &str = "RUN LYON 3 full 21\n*IDENT X\n*DELETE A.3\n\n";
-
 /// Where the answers to each of the frames end.
 const ANSWER_ENDS: [usize; 4] = [0, 389, 482, 773];
 
-/// A compile line of deck A as a reply has it.
-fn compile_line(alloc: Global, text: &str, number: u32) -> Result<String, Fail> {
-    Ok(format!(in alloc; "{text:<80} A        {number:>6}\\n")?)
-}
-
-/// The line that answers the first frame.
-fn first_answer(alloc: Global) -> Result<String, Fail> {
-    let one = compile_line(alloc, "ONE", 2)?;
-    let two = compile_line(alloc, "TWO", 3)?;
-    let three = compile_line(alloc, "THREE", 4)?;
-    Ok(format!(in alloc;
-        "{{\"compile\":\"{one}{two}{three}\",\"idents\":[\"A\"],\"lines\":3,\"mode\":\"full\",\
-\"run\":1,\"site\":\"LYON\",\"state\":\"accepted\"}}\n"
-    )?)
-}
-
-/// The line that answers the second frame.
-const SECOND_ANSWER: &str =
-    "{\"compile\":\"\",\"idents\":[],\"lines\":0,\"mode\":\"quick\",\"run\":2,\
-\"site\":\"LYON\",\"state\":\"accepted\"}\n";
-
-/// The line that answers the third frame.
-fn third_answer(alloc: Global) -> Result<String, Fail> {
-    let one = compile_line(alloc, "ONE", 2)?;
-    let three = compile_line(alloc, "THREE", 4)?;
-    Ok(format!(in alloc;
-        "{{\"compile\":\"{one}{three}\",\"idents\":[\"X\"],\"lines\":2,\"mode\":\"full\",\
-\"run\":3,\"site\":\"LYON\",\"state\":\"accepted\"}}\n"
-    )?)
-}
-
-/// The whole spool, and the answers to it.
-fn worked(alloc: Global) -> Result<(String, String), Fail> {
-    let text = format!(in alloc; "{FIRST}{SECOND}{THIRD}")?;
-    let first = first_answer(alloc)?;
-    let third = third_answer(alloc)?;
-    let answers = format!(in alloc; "{first}{SECOND_ANSWER}{third}")?;
+/// The worked spool, whose answers end where they should, and its answers.
+fn worked_spool(alloc: Global) -> Result<(String, String), Fail> {
+    let (text, answers) = worked(alloc)?;
     if answers.len() != ANSWER_ENDS[3] {
         return Err("the answers end elsewhere".into());
     }
@@ -241,7 +202,7 @@ fn all_at_once(
 #[test]
 fn each_front_of_a_spool_answers_its_whole_frames(rt: HostRuntime) -> Result<(), Fail> {
     let alloc = rt.alloc();
-    let (text, answers) = worked(alloc)?;
+    let (text, answers) = worked_spool(alloc)?;
     for length in 0..=text.len() {
         let front = &text.as_bytes()[..length];
         let wanted = answers_of(answers.as_bytes(), whole_frames(length))?;
@@ -279,7 +240,7 @@ fn read_fails(
 #[test]
 fn a_failed_read_keeps_no_run_of_its_frame(rt: HostRuntime) -> Result<(), Fail> {
     let alloc = rt.alloc();
-    let (text, answers) = worked(alloc)?;
+    let (text, answers) = worked_spool(alloc)?;
     for fails_at in 1..=text.len().saturating_add(1) {
         let whole = whole_frames(fails_at.saturating_sub(1));
         let wanted = answers_of(answers.as_bytes(), whole)?;

@@ -1,6 +1,7 @@
 //! Frames that are none, and answers that are no replies.
+use crate::example::{FIRST, SECOND, SECOND_ANSWER, first_answer};
 use crate::streams::{Cycle, Tally};
-use crate::worked::{FIRST, SECOND, SECOND_ANSWER, ended, first_answer};
+use crate::worked::ended;
 use std::alloc::Global;
 use std::process::Abort;
 use std::test::Fail;
