@@ -1,10 +1,10 @@
 -- How an answer of the desk is told: by its bytes on the output and an exit status, or by a fault that the caller puts on the fault stream.
-use Rattle.std.specs.Prelude.{◌≡◌, ◌⊎◌, ℕ, ◌+◌, if◌then◌else◌, IsTrue, List, [], ◌∷◌, ◌++◌, length, Option, Result, Ok, Err, IsErrAnd}
+use Rattle.std.specs.Prelude.{◌≡◌, ◌⊎◌, ℕ, ◌+◌, if◌then◌else◌, Bool, true, false, IsTrue, List, [], ◌∷◌, ◌++◌, length, Option, Result, Ok, Err, IsErrAnd}
 use Rattle.std.specs.Io.KnownBytes.{Appends}
 use Rattle.std.specs.List.{All}
 use Rattle.upd_text.specs.declared.fault.Fault.{Fault}
 use Rattle.upd_text.specs.declared.fault.FaultKind.{FaultKind}
-use Rattle.upd_text.specs.declared.fault.FaultKind.TheVariants.{Write}
+use Rattle.upd_text.specs.declared.fault.FaultKind.TheVariants.{NoMemory, Store, BadFrame, CutFrame, Read, Write}
 use Rattle.upd_reply.specs.Texts.{settled_text}
 use Rattle.upd_desk.specs.Answers.{IsUntold, answer_line, is_answered}
 use Rattle.upd_desk.specs.Arrivals.{is_site}
@@ -41,6 +41,16 @@ abbrev pub TellsText : Result (List ℕ) Fault → Result ℕ Fault → Option (
 TellsText (Ok text) result output output' = Writes 0 text result output output'
 TellsText (Err fault) result output output' = (result ≡ Err fault) × Appends output output' []
 
+-- whether a fault ends a spool: the others are answers to its frames
+abbrev pub ends_spools : FaultKind → Bool
+ends_spools NoMemory = true
+ends_spools Store = true
+ends_spools BadFrame = true
+ends_spools CutFrame = true
+ends_spools Read = true
+ends_spools Write = true
+ends_spools _ = false
+
 -- what is out behind whole lines: a beginning of the next answer's line where the write failed, and else nothing
 abbrev pub IsBegun : FaultKind → List ℕ → Type 0
 IsBegun Write front = (answer : Result ReplyView Fault) × (rest : List ℕ) × IsTrue (is_answered answer) × (answer_line answer ≡ front ++ rest)
@@ -57,4 +67,4 @@ TellsLines (Ok status) output output' =
     × (status ≡ 0) × Appends output output' (answer_lines answers)
 TellsLines (Err fault) output output' =
     (answers : List (Result ReplyView Fault)) × (front : List ℕ) × All (λ answer. IsTrue (is_answered answer)) answers
-    × IsAtFrame fault answers × IsBegun fault.kind front × Appends output output' (answer_lines answers ++ front)
+    × IsTrue (ends_spools fault.kind) × IsAtFrame fault answers × IsBegun fault.kind front × Appends output output' (answer_lines answers ++ front)
