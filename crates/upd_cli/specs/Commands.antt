@@ -41,16 +41,18 @@ module _ (ended : Result ℕ Fault) (output output' : Option (List ℕ)) where
   abbrev pub IsSilent : Type 0
   IsSilent = IfOk ended (λ status. status ≡ 0) × IfErr ended (λ fault. exit_status fault.kind ≡ 3) × Appends output output' []
 
-  -- What a command leaves on the output, as it ends: an answer to what it asks, and `spool` the lines of answers.
-  abbrev pub Leaves : Asked → Type 0
-  Leaves (asks.Run site number mode) = TellsNumbered (number_of number.now) ((answer : Result ReplyView Fault) × TellsRun answer ended output output')
-  Leaves (asks.Settle site number) = TellsNumbered (number_of number.now) ((answer : Result ℕ Fault) × TellsMark site.now answer ended output output')
-  Leaves asks.Spool = TellsLines ended output output'
-  Leaves (asks.List deck) = TellsRead (deck_read deck.now)
-  Leaves (asks.History card) = TellsRead (card_read card.now)
-  Leaves asks.Init = IsSilent
-  Leaves asks.Migrate = IsSilent
-  Leaves _ = (answer : Result (List ℕ) Fault) × TellsText answer ended output output'
+-- What a command leaves on the output, as it ends: an answer to what it asks, and `spool` the lines of answers to the frames of its input.
+abbrev pub Leaves : Asked → Result ℕ Fault → Option (List ℕ) → Option (List ℕ) → Option (List ℕ) → Option (List ℕ) → Type 0
+Leaves (asks.Run site number mode) ended input input' output output' =
+    TellsNumbered ended output output' (number_of number.now) ((answer : Result ReplyView Fault) × TellsRun answer ended output output')
+Leaves (asks.Settle site number) ended input input' output output' =
+    TellsNumbered ended output output' (number_of number.now) ((answer : Result ℕ Fault) × TellsMark site.now answer ended output output')
+Leaves asks.Spool ended input input' output output' = TellsLines ended input input' output output'
+Leaves (asks.List deck) ended input input' output output' = TellsRead ended output output' (deck_read deck.now)
+Leaves (asks.History card) ended input input' output output' = TellsRead ended output output' (card_read card.now)
+Leaves asks.Init ended input input' output output' = IsSilent ended output output'
+Leaves asks.Migrate ended input input' output output' = IsSilent ended output output'
+Leaves _ ended input input' output output' = (answer : Result (List ℕ) Fault) × TellsText answer ended output output'
 
 -- a command that ended so has this exit status, and its fault, if any, is told by its line
 abbrev pub IsEndOf : Result ℕ Fault → ℕ → Option (List ℕ) → Option (List ℕ) → Type 0
@@ -58,9 +60,9 @@ IsEndOf (Ok meant) status faults faults' = (status ≡ meant) × Appends faults 
 IsEndOf (Err fault) status faults faults' = IsTold (exit_status fault.kind) (fault_line fault) status faults faults'
 
 -- a command on a library ended, and output, fault stream and status tell how
-abbrev pub IsCarriedOut : Asked → ℕ → Option (List ℕ) → Option (List ℕ) → Option (List ℕ) → Option (List ℕ) → Type 0
-IsCarriedOut asked status output output' faults faults' =
-    (ended : Result ℕ Fault) × Leaves ended output output' asked × IsEndOf ended status faults faults'
+abbrev pub IsCarriedOut : Asked → ℕ → Option (List ℕ) → Option (List ℕ) → Option (List ℕ) → Option (List ℕ) → Option (List ℕ) → Option (List ℕ) → Type 0
+IsCarriedOut asked status input input' output output' faults faults' =
+    (ended : Result ℕ Fault) × Leaves asked ended input input' output output' × IsEndOf ended status faults faults'
 
 -- how `serve` ended: an ADDRESS or a COUNT that is none is no command line; else connections were served, or what failed is told by its line
 abbrev pub IsServed : List ℕ → List ℕ → ℕ → Option (List ℕ) → Option (List ℕ) → Type 0
@@ -72,14 +74,14 @@ IsServed address count status faults faults' =
 
 -- How a request was carried out: a command on a library and `serve` as is defined, and words that can't be read leave nothing on the output.
 -- Of a trial the clause `trial` of `run_command` speaks, and of help and the version none does.
-abbrev pub IsDone : Request → ℕ → Option (List ℕ) → Option (List ℕ) → Option (List ℕ) → Option (List ℕ) → Type 0
-IsDone (Library file asked) status output output' faults faults' = IsCarriedOut asked status output output' faults faults'
-IsDone (Serve file address count) status output output' faults faults' = Appends output output' [] × IsServed address.now count.now status faults faults'
-IsDone (Unread text) status output output' faults faults' = Appends output output' []
-IsDone _ status output output' faults faults' = Unit {0}
+abbrev pub IsDone : Request → ℕ → Option (List ℕ) → Option (List ℕ) → Option (List ℕ) → Option (List ℕ) → Option (List ℕ) → Option (List ℕ) → Type 0
+IsDone (Library file asked) status input input' output output' faults faults' = IsCarriedOut asked status input input' output output' faults faults'
+IsDone (Serve file address count) status input input' output output' faults faults' = Appends output output' [] × IsServed address.now count.now status faults faults'
+IsDone (Unread text) status input input' output output' faults faults' = Appends output output' []
+IsDone _ status input input' output output' faults faults' = Unit {0}
 
 -- What the words ask for was carried out; or there was no memory to read them, and that is told.
-abbrev pub CarriesOut : List Text → ℕ → Option (List ℕ) → Option (List ℕ) → Option (List ℕ) → Option (List ℕ) → Type 0
-CarriesOut words status output output' faults faults' =
-    ((request : Request) × IsAskedFor words request × IsDone request status output output' faults faults')
+abbrev pub CarriesOut : List Text → ℕ → Option (List ℕ) → Option (List ℕ) → Option (List ℕ) → Option (List ℕ) → Option (List ℕ) → Option (List ℕ) → Type 0
+CarriesOut words status input input' output output' faults faults' =
+    ((request : Request) × IsAskedFor words request × IsDone request status input input' output output' faults faults')
     ⊎ (IsTold 3 (fault_line no_memory) status faults faults' × Appends output output' [])

@@ -1,14 +1,15 @@
 -- How an answer of the desk is told: by its bytes on the output and an exit status, or by a fault that the caller puts on the fault stream.
 use Rattle.std.specs.Prelude.{◌≡◌, ◌⊎◌, ℕ, ◌+◌, if◌then◌else◌, Bool, true, false, IsTrue, List, [], ◌∷◌, ◌++◌, length, Option, Result, Ok, Err, IsErrAnd}
-use Rattle.std.specs.Io.KnownBytes.{Appends}
+use Rattle.std.specs.Io.KnownBytes.{Appends, Consumes, IsAtEnd}
 use Rattle.std.specs.List.{All}
 use Rattle.upd_text.specs.declared.fault.Fault.{Fault}
 use Rattle.upd_text.specs.declared.fault.FaultKind.{FaultKind}
 use Rattle.upd_text.specs.declared.fault.FaultKind.TheVariants.{NoMemory, Store, BadFrame, CutFrame, Read, Write}
 use Rattle.upd_reply.specs.Texts.{settled_text}
 use Rattle.upd_desk.specs.Answers.{IsUntold, answer_line, is_answered}
-use Rattle.upd_desk.specs.Arrivals.{is_site}
+use Rattle.upd_desk.specs.Arrivals.{ArrivalView, is_site}
 use Rattle.upd_desk.specs.Outcomes.{ReplyView}
+use Rattle.upd_spool.specs.Frames.{IsFrame, frames_text}
 use Rattle.upd_spool.specs.Spools.{answer_lines}
 use Rattle.upd_store.specs.Faults.{IsUnopened}
 use Rattle.upd_streams.specs.Fronts.{AppendsFront}
@@ -60,11 +61,19 @@ IsBegun kind front = front ≡ []
 abbrev pub IsAtFrame : Fault → List (Result ReplyView Fault) → Type 0
 IsAtFrame fault answers = (fault.at ≡ length answers + 1) ⊎ ((answers ≡ []) × IsUnopened fault)
 
--- answers are told by their lines, one after the other; what ended them by a fault may have left a beginning of one more
-abbrev pub TellsLines : Result ℕ Fault → Option (List ℕ) → Option (List ℕ) → Type 0
-TellsLines (Ok status) output output' =
-    (answers : List (Result ReplyView Fault)) × All (λ answer. IsTrue (is_answered answer)) answers
+-- Each frame at the front of an input was answered. Of what stands behind them so much was taken.
+pub record AnswersFrames (frames : List ArrivalView) (answers : List (Result ReplyView Fault)) (taken : List ℕ) (input input' : Option (List ℕ)) : Type 0 where
+  pub are_frames : All IsFrame frames
+  pub read : Consumes input input' (frames_text frames ++ taken)
+  pub each : length answers ≡ length frames
+  pub answered : All (λ answer. IsTrue (is_answered answer)) answers
+
+-- the answers to the frames of an input are told by their lines, one after the other; what ended them by a fault may have left a beginning of one more
+abbrev pub TellsLines : Result ℕ Fault → Option (List ℕ) → Option (List ℕ) → Option (List ℕ) → Option (List ℕ) → Type 0
+TellsLines (Ok status) input input' output output' =
+    (frames : List ArrivalView) × (answers : List (Result ReplyView Fault)) × AnswersFrames frames answers [] input input' × IsAtEnd input'
     × (status ≡ 0) × Appends output output' (answer_lines answers)
-TellsLines (Err fault) output output' =
-    (answers : List (Result ReplyView Fault)) × (front : List ℕ) × All (λ answer. IsTrue (is_answered answer)) answers
-    × IsTrue (ends_spools fault.kind) × IsAtFrame fault answers × IsBegun fault.kind front × Appends output output' (answer_lines answers ++ front)
+TellsLines (Err fault) input input' output output' =
+    (frames : List ArrivalView) × (answers : List (Result ReplyView Fault)) × (taken : List ℕ) × AnswersFrames frames answers taken input input'
+    × (front : List ℕ) × IsTrue (ends_spools fault.kind) × IsAtFrame fault answers × IsBegun fault.kind front
+    × Appends output output' (answer_lines answers ++ front)

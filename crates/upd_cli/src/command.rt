@@ -40,7 +40,7 @@ pub fn run_command<S: AsStr, R: Read, W: Write, E: Write>(
         → (run : List ℕ) × IsInput (R.remaining input.old) run
         × Answers (answer_to (trial_named (operand_word (codes "MODE") (map S.text words.entry.now)) run)) result
         (W.contents output.old) (W.contents output.new) (E.contents faults.old) (E.contents faults.new) }
-    ensures told { CarriesOut (map S.text words.entry.now) result
+    ensures told { CarriesOut (map S.text words.entry.now) result (R.remaining input.old) (R.remaining input.new)
         (W.contents output.old) (W.contents output.new) (E.contents faults.old) (E.contents faults.new) }
     ensures unread { word_faults (map S.text words.entry.now) ≢ [] → IsToldOf (map S.text words.entry.now) result }
     // Of a run that is too long, no more is read than tells so.
@@ -113,7 +113,7 @@ fn carry_out_library<R: Read, W: Write, E: Write>(
     output: &mut W,
     faults: &mut E,
 ) -> u8
-    ensures told { IsCarriedOut asked.now result
+    ensures told { IsCarriedOut asked.now result (R.remaining input.old) (R.remaining input.new)
         (W.contents output.old) (W.contents output.new) (E.contents faults.old) (E.contents faults.new) }
     ensures front { ¬ IsSpoolCommand asked.now → TakesFront (MAX_RUN_BYTES + 1) (R.remaining input.old) (R.remaining input.new) }
     ensures waits { ¬ IsHandIn asked.now → input.new ≡ input.old }

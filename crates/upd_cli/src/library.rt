@@ -41,7 +41,8 @@ pub(crate) fn carry_out<R: Read, W: Write>(
 ) -> Result<u8, Fault>
     ensures front { ¬ IsSpoolCommand asked.now → TakesFront (MAX_RUN_BYTES + 1) (R.remaining input.old) (R.remaining input.new) }
     ensures waits { ¬ IsHandIn asked.now → input.new ≡ input.old }
-    ensures leaves { Leaves result (W.contents output.old) (W.contents output.new) asked.now }
+    ensures leaves { Leaves asked.now result (R.remaining input.old) (R.remaining input.new)
+        (W.contents output.old) (W.contents output.new) }
     ensures status { IfOk result (λ status. (status ≡ 0) ⊎ ((status ≡ 1) × IsHandIn asked.now)) }
     ensures silent { IfErr result (λ fault. exit_status fault.kind ≡ 1 → IsHandIn asked.now ⊎ (output.new ≡ output.old)) }
 {
@@ -120,7 +121,8 @@ fn spool_on<R: Read, W: Write>(
     input: &mut R,
     output: &mut W,
 ) -> Result<u8, Fault>
-    ensures leaves { TellsLines result (W.contents output.old) (W.contents output.new) }
+    ensures leaves { TellsLines result (R.remaining input.old) (R.remaining input.new)
+        (W.contents output.old) (W.contents output.new) }
     ensures status { IfOk result (λ status. status ≡ 0) }
 {
     let mut desk = match open_desk(rt, file) {

@@ -6,12 +6,14 @@ use Rattle.upd_cli.proofs.library.carry_out.Goals as goal
 
 pub returns-in-Run-clause-leaves : goal.returns-in-Run-clause-leaves
 returns-in-Run-clause-leaves g c =
-    let P : Asked → Type 0 = λ asked. Leaves c.run_on.result (g.W.Write.contents c.args.output.now) (g.W.Write.contents c.run_on.new.output) asked in
+    let P : Asked → Type 0 = λ asked. Leaves asked c.run_on.result (g.R.Read.remaining c.args.input.now) (g.R.Read.remaining c.run_on.new.input)
+    (g.W.Write.contents c.args.output.now) (g.W.Write.contents c.run_on.new.output) in
     subst P (sym c.in-Run.is) c.run_on.ensures.leaves
 
 pub returns-in-Spool-clause-leaves : goal.returns-in-Spool-clause-leaves
 returns-in-Spool-clause-leaves g c =
-    let P : Asked → Type 0 = λ asked. Leaves c.spool_on.result (g.W.Write.contents c.args.output.now) (g.W.Write.contents c.spool_on.new.output) asked in
+    let P : Asked → Type 0 = λ asked. Leaves asked c.spool_on.result (g.R.Read.remaining c.args.input.now) (g.R.Read.remaining c.spool_on.new.input)
+    (g.W.Write.contents c.args.output.now) (g.W.Write.contents c.spool_on.new.output) in
     subst P (sym c.in-Spool.is) c.spool_on.ensures.leaves
 
 pub returns-in-Spool-clause-waits : goal.returns-in-Spool-clause-waits
