@@ -9,7 +9,7 @@ use Rattle.upd_apply.specs.declared.state.State.{State}
 use Rattle.upd_apply.specs.Step.{step}
 use Rattle.upd_apply.specs.Compile.{named_decks}
 -- the cards that a run touched
-pub use Rattle.upd_change.specs.Touched.{same_history, stood_in, touched}
+pub use Rattle.upd_diff.specs.Touched.{same_history, stood_in, touched}
 
 -- a run begins with no set in hand and no place of text
 abbrev pub started : LibraryView → State

@@ -1,11 +1,11 @@
 //! Whole runs, and purging back.
 ghost use Rattle.std.specs.Prelude.{◌≡◌, ◌+◌, ◌^◌, ◌<◌, map, drop, length, Ok, IfErr, IfOk, OnErr};
 ghost use Rattle.upd_core.specs.Edits.{purged_back};
-ghost use Rattle.upd_change.specs.Changes.{change_seen, done_all};
-ghost use Rattle.upd_change.specs.Fits.{AllFit};
-ghost use Rattle.upd_change.specs.Rows.{Rows, Shows};
-ghost use Rattle.upd_change.specs.States.{TakeGone};
-ghost use Rattle.upd_change.specs.Told.{Told};
+ghost use Rattle.upd_records.specs.Changes.{change_seen, done_all};
+ghost use Rattle.upd_records.specs.Fits.{AllFit};
+ghost use Rattle.upd_records.specs.Rows.{Rows, Shows};
+ghost use Rattle.upd_diff.specs.States.{TakeGone};
+ghost use Rattle.upd_diff.specs.Told.{Told};
 ghost use Rattle.upd_core.specs.Sound.{AreApart, Continues, IsSound, all_cards, key_of};
 ghost use Rattle.upd_text.specs.Outcome.{DoesAt, FailsAt, GivesAt, at_line};
 ghost use Rattle.upd_apply.specs.Applying.{ages_brought, applied, stepped, touched};
@@ -16,18 +16,18 @@ ghost use Rattle.upd_apply.specs.Step.{step};
 use crate::compile::named_decks;
 use crate::state::State;
 use std::alloc::{AllocError, Global};
-use upd_change::{Change, Compared, compare};
-use upd_core::{Age, Ident, Library};
+use upd_core::{Change, Ident, Library, Serial};
 use upd_deck::{Line, Run};
+use upd_diff::{Compared, compare};
 use upd_text::{CardRef, Fault};
 
 /// What a run left besides the library.
 #[derive(Debug, Drop)]
 pub struct Applied {
     /// The ages of the idents that it introduced.
-    pub idents: Vec<Age>,
+    pub idents: Vec<Serial>,
     /// The ages of the decks that `*COMPILE` named.
-    pub compile: Vec<Age>,
+    pub compile: Vec<Serial>,
     /// The cards that weren't there before, or whose history differs from before, by deck (`YANK$$$` first) and place.
     pub touched: Vec<CardRef>,
     /// The row changes by which a store follows it, in the order in which they are carried out.
@@ -92,7 +92,7 @@ fn outcome(
 
 /// Purges the ident of an age and all younger ones. It takes no memory, and an age that no ident has is no fault. The
 /// program doesn't call it.
-pub fn purge_back(library: &mut Library, age: Age)
+pub fn purge_back(library: &mut Library, age: Serial)
     ensures { library.new ≡ purged_back age library.old }
 {
     library.purge_from(age);
@@ -121,7 +121,7 @@ fn take_step(state: &mut State, line: &Line) -> Result<(), Fault>
 }
 
 /// The ages of idents from an index on.
-fn ages_from(alloc: Global, idents: &[Ident], from: usize) -> Result<Vec<Age>, AllocError>
+fn ages_from(alloc: Global, idents: &[Ident], from: usize) -> Result<Vec<Serial>, AllocError>
     ensures { IfOk result (λ ages. ages.items ≡ map (λ i. i.age) (drop from idents.now)) }
 {
     idents

@@ -8,7 +8,7 @@ ghost use Rattle.upd_apply.specs.Names.{is_in};
 
 use crate::names::{AgeRange, deck_ages};
 use std::alloc::{AllocError, Global};
-use upd_core::{Age, Ident, Library};
+use upd_core::{Ident, Library, Serial};
 use upd_deck::{Item, Line, NameRange};
 use upd_text::{Fault, FaultKind};
 
@@ -17,7 +17,7 @@ pub(crate) fn named_decks(
     alloc: Global,
     library: &Library,
     lines: &[Line],
-) -> Result<Vec<Age>, Fault>
+) -> Result<Vec<Serial>, Fault>
     ensures { GivesAt (λ found. found.items) result (named_decks lines.now library.now) }
 {
     let ranges = ranges_named(alloc, library, lines)?;
@@ -72,7 +72,7 @@ fn decks_in_any(
     alloc: Global,
     idents: &[Ident],
     ranges: &[AgeRange],
-) -> Result<Vec<Age>, AllocError>
+) -> Result<Vec<Serial>, AllocError>
     ensures { IfOk result (λ found. found.items
         ≡ map (λ i. i.age)
         (filter (λ i. i.held && is_deck_kind i.kind && list_any (λ r. is_in r i.age) ranges.now) idents.now)) }
@@ -95,7 +95,7 @@ fn is_deck_in_any(ident: &Ident, ranges: &[AgeRange]) -> bool
 }
 
 /// Whether an age lies in any of these ranges.
-fn is_in_any(ranges: &[AgeRange], age: Age) -> bool
+fn is_in_any(ranges: &[AgeRange], age: Serial) -> bool
     ensures { result ≡ list_any (λ r. is_in r age) ranges.now }
 {
     ranges.iter().any(|range| range.has(age))

@@ -4,15 +4,15 @@ ghost use Rattle.upd_apply.specs.Step.{new_name};
 ghost use Rattle.upd_apply.specs.Names.{ages_by, is_in, is_reserved, known_deck, known_ident};
 
 use std::marker::Model;
-use upd_core::{Age, Library};
+use upd_core::{Library, Serial};
 use upd_deck::NameRange;
 use upd_text::{FaultKind, Name};
 
 /// Ages from one to another.
 #[derive(Clone, Copy)]
 pub struct AgeRange {
-    pub from: Age,
-    pub to: Age,
+    pub from: Serial,
+    pub to: Serial,
 }
 
 impl Model for AgeRange {
@@ -27,7 +27,7 @@ impl Model for AgeRange {
 
 impl AgeRange {
     /// Whether an age lies in the range.
-    pub(crate) fn has(&self, age: Age) -> bool
+    pub(crate) fn has(&self, age: Serial) -> bool
         ensures { result ≡ is_in self.now age }
     {
         self.from <= age && age <= self.to
@@ -57,7 +57,7 @@ pub(crate) fn new_name(library: &Library, name: &Name) -> Result<(), FaultKind>
 }
 
 /// The age of the held ident of a name; else Reserved or IdentUnknown.
-pub(crate) fn known_ident(library: &Library, name: &Name) -> Result<Age, FaultKind>
+pub(crate) fn known_ident(library: &Library, name: &Name) -> Result<Serial, FaultKind>
     ensures { result ≡ known_ident name.now library.now }
 {
     if is_reserved(name) {
@@ -67,7 +67,7 @@ pub(crate) fn known_ident(library: &Library, name: &Name) -> Result<Age, FaultKi
 }
 
 /// The age of the held deck of a name; else Reserved or DeckUnknown.
-pub(crate) fn known_deck(library: &Library, name: &Name) -> Result<Age, FaultKind>
+pub(crate) fn known_deck(library: &Library, name: &Name) -> Result<Serial, FaultKind>
     ensures { result ≡ known_deck name.now library.now }
 {
     if is_reserved(name) {

@@ -12,15 +12,15 @@ use crate::names::{AgeRange, deck_ages, ident_ages, known_deck, known_ident};
 use crate::state::{Spot, State};
 use std::alloc::AllocError;
 use std::marker::Model;
-use upd_core::{Age, Ident, Library};
+use upd_core::{Ident, Library, Serial};
 use upd_deck::{IdentIn, NameRange};
 use upd_text::{FaultKind, Name};
 
 /// An ident in a deck, by age.
 #[derive(Clone, Copy)]
 pub struct AgePair {
-    pub deck: Age,
-    pub ident: Age,
+    pub deck: Serial,
+    pub ident: Serial,
 }
 
 impl Model for AgePair {
@@ -94,7 +94,10 @@ fn purge_in_all(library: &mut Library, pairs: &[AgePair])
 }
 
 /// The ages of the idents that `*PURGE` names.
-pub(crate) fn idents_purged(library: &Library, ranges: &[NameRange]) -> Result<Vec<Age>, FaultKind>
+pub(crate) fn idents_purged(
+    library: &Library,
+    ranges: &[NameRange],
+) -> Result<Vec<Serial>, FaultKind>
     ensures { Gives (λ found. found.items) result (idents_purged ranges.now library.now) }
 {
     let mut found = Vec::new(library.allocator());
@@ -106,7 +109,10 @@ pub(crate) fn idents_purged(library: &Library, ranges: &[NameRange]) -> Result<V
 }
 
 /// The ages of the decks that `*PURDECK` names.
-pub(crate) fn decks_purged(library: &Library, ranges: &[NameRange]) -> Result<Vec<Age>, FaultKind>
+pub(crate) fn decks_purged(
+    library: &Library,
+    ranges: &[NameRange],
+) -> Result<Vec<Serial>, FaultKind>
     ensures { Gives (λ found. found.items) result (decks_purged ranges.now library.now) }
 {
     let mut found = Vec::new(library.allocator());
@@ -134,7 +140,7 @@ pub(crate) fn pairs_purged(library: &Library, pairs: &[IdentIn]) -> Result<Vec<A
 }
 
 /// Adds the ages of the held idents in a range.
-fn add_idents(found: &mut Vec<Age>, idents: &[Ident], ages: AgeRange) -> Result<(), AllocError>
+fn add_idents(found: &mut Vec<Serial>, idents: &[Ident], ages: AgeRange) -> Result<(), AllocError>
     ensures { OnOk result (found.new.items
         ≡ found.old.items ++ map (λ i. i.age) (filter (λ i. i.held && is_in ages i.age) idents.now)) }
 {
@@ -147,7 +153,7 @@ fn add_idents(found: &mut Vec<Age>, idents: &[Ident], ages: AgeRange) -> Result<
 }
 
 /// Adds the ages of the held decks in a range.
-fn add_decks(found: &mut Vec<Age>, idents: &[Ident], ages: AgeRange) -> Result<(), AllocError>
+fn add_decks(found: &mut Vec<Serial>, idents: &[Ident], ages: AgeRange) -> Result<(), AllocError>
     ensures { OnOk result (found.new.items
         ≡ found.old.items
         ++ map (λ i. i.age) (filter (λ i. i.held && is_deck_kind i.kind && is_in ages i.age) idents.now)) }

@@ -11,14 +11,14 @@ ghost use Rattle.upd_apply.specs.Step.{behind, deck_begun, is_deck_card, placed_
 ghost use Rattle.upd_apply.specs.Step.{switched, text_put};
 
 use crate::names::new_name;
-use upd_core::{Age, Card, Deck, Entry, Kind, Library, Place};
+use upd_core::{Card, Deck, Entry, Kind, Library, Place, Serial};
 use upd_text::limits::MAX_INTRODUCED;
 use upd_text::{CardRef, FaultKind, Name};
 
 /// The correction set in hand, and the number that its next card gets.
 #[derive(Clone, Copy)]
 pub struct Hand {
-    pub ident: Age,
+    pub ident: Serial,
     pub next: u32,
 }
 
@@ -27,10 +27,10 @@ pub struct Hand {
 pub enum Spot {
     Nowhere,
     /// The end of a deck that this run brought, and the number that its next card gets.
-    End { deck: Age, next: u32 },
+    End { deck: Serial, next: u32 },
     /// Inside a deck, with so many of its cards behind. Text does not move the spot: the next text goes behind this
     /// one, and as many cards stand behind that.
-    Inside { deck: Age, behind: usize },
+    Inside { deck: Serial, behind: usize },
 }
 
 /// A run under way: the library so far, the set in hand, and the place of text.
@@ -167,7 +167,7 @@ impl State {
     }
 
     /// Text at the end of a deck that this run brought: it takes the deck's next number.
-    fn put_at_end(&mut self, deck: Age, next: u32, text: &[u8]) -> Result<(), FaultKind>
+    fn put_at_end(&mut self, deck: Serial, next: u32, text: &[u8]) -> Result<(), FaultKind>
         requires spot { self.old.spot ≡ End deck next }
         requires number { next_most self.old + 1 < 2 ^ 32 }
         ensures { Does result self.new (text_put text.now self.old.spot self.old) }
@@ -183,7 +183,7 @@ impl State {
     }
 
     /// Text inside a deck: it takes the next number of the set in hand.
-    fn put_inside(&mut self, deck: Age, behind: usize, text: &[u8]) -> Result<(), FaultKind>
+    fn put_inside(&mut self, deck: Serial, behind: usize, text: &[u8]) -> Result<(), FaultKind>
         requires spot { self.old.spot ≡ Inside deck behind }
         requires number { next_most self.old + 1 < 2 ^ 32 }
         ensures { Does result self.new (text_put text.now self.old.spot self.old) }
@@ -215,13 +215,13 @@ pub(crate) fn check_limits(library: &Library) -> Result<(), FaultKind>
 }
 
 /// The age of the next ident; Full where as many were introduced as may be.
-fn next_age(library: &Library) -> Result<Age, FaultKind>
+fn next_age(library: &Library) -> Result<Serial, FaultKind>
     ensures { MatchResult result
         (λ age. (age ≡ next_age library.now) × (length library.now.idents < MAX_INTRODUCED))
         (λ e. (e ≡ fault.Full) × (MAX_INTRODUCED ≤ length library.now.idents)) }
 {
     if library.idents().len() < MAX_INTRODUCED {
-        Ok(library.idents().len() as Age + 1)
+        Ok(library.idents().len() as Serial + 1)
     } else {
         Err(FaultKind::Full)
     }
@@ -231,7 +231,7 @@ fn next_age(library: &Library) -> Result<Age, FaultKind>
 fn known_card(library: &Library, card: &CardRef) -> Result<Place, FaultKind>
     ensures { result ≡ need fault.CardUnknown (place_of card.now library.now) }
 {
-    library.place_of(*card).ok_or(FaultKind::CardUnknown)
+    library.card_at(*card).ok_or(FaultKind::CardUnknown)
 }
 
 /// Where the last card of a range stands, whose first card stands at `from`. One card isn't looked for twice.
@@ -270,7 +270,7 @@ fn is_deck_card(place: Place) -> bool
 }
 
 /// A new card without targets.
-fn new_card(library: &Library, ident: Age, number: u32, text: &[u8]) -> Result<Card, FaultKind>
+fn new_card(library: &Library, ident: Serial, number: u32, text: &[u8]) -> Result<Card, FaultKind>
     ensures { MatchResult result (λ card. card ≡ new_card ident number text.now []) (λ e. e ≡ fault.NoMemory) }
 {
     let alloc = library.allocator();

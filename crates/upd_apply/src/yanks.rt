@@ -13,7 +13,7 @@ ghost use Rattle.upd_apply.specs.Yanks.{decks_yanked, once, pairs_yanked, sets_y
 use crate::names::{AgeRange, ident_ages, known_deck, known_ident};
 use crate::state::{Hand, Spot, State, check_limits};
 use std::alloc::AllocError;
-use upd_core::{Age, Card, Ident, Library, Target};
+use upd_core::{Card, Ident, Library, Serial, Target};
 use upd_deck::{IdentIn, NameRange};
 use upd_text::{FaultKind, Name};
 
@@ -70,7 +70,7 @@ impl State {
 /// The targets of `*YANK` by a set: the idents of each range.
 pub(crate) fn sets_yanked(
     library: &Library,
-    set: Age,
+    set: Serial,
     ranges: &[NameRange],
 ) -> Result<Vec<Target>, FaultKind>
     ensures { Gives (λ found. found.items) result (sets_yanked ranges.now set library.now) }
@@ -90,7 +90,7 @@ pub(crate) fn sets_yanked(
 /// The targets of `*SELYANK` by a set: an ident in a deck for each pair.
 pub(crate) fn pairs_yanked(
     library: &Library,
-    set: Age,
+    set: Serial,
     pairs: &[IdentIn],
 ) -> Result<Vec<Target>, FaultKind>
     ensures { Gives (λ found. found.items) result (pairs_yanked pairs.now set library.now) }
@@ -110,7 +110,7 @@ pub(crate) fn pairs_yanked(
 /// The targets of `*YANKDECK` by a set: a deck for each name.
 pub(crate) fn decks_yanked(
     library: &Library,
-    set: Age,
+    set: Serial,
     names: &[Name],
 ) -> Result<Vec<Target>, FaultKind>
     ensures { Gives (λ found. found.items) result (decks_yanked names.now set library.now) }
@@ -150,7 +150,7 @@ fn add_sets(
 }
 
 /// Adds an ident that isn't there yet.
-fn add_set(found: &mut Vec<Target>, marks: &mut Vec<bool>, age: Age) -> Result<(), AllocError>
+fn add_set(found: &mut Vec<Target>, marks: &mut Vec<bool>, age: Serial) -> Result<(), AllocError>
     requires marked { AreMarked marks.old.items found.old.items }
     requires apart { once is_same found.old.items ≡ found.old.items }
     ensures set { OnOk result (found.new.items ≡ once is_same (found.old.items ++ Set age ∷ [])) }
@@ -164,7 +164,7 @@ fn add_set(found: &mut Vec<Target>, marks: &mut Vec<bool>, age: Age) -> Result<(
 }
 
 /// Whether the ident of an age is marked.
-fn has_set(marks: &[bool], age: Age) -> bool
+fn has_set(marks: &[bool], age: Serial) -> bool
     ensures { result ≡ has_set marks.now age }
 {
     let age = age as usize;
@@ -172,7 +172,7 @@ fn has_set(marks: &[bool], age: Age) -> bool
 }
 
 /// Marks the ident of an age.
-fn mark(marks: &mut Vec<bool>, age: Age) -> Result<(), AllocError>
+fn mark(marks: &mut Vec<bool>, age: Serial) -> Result<(), AllocError>
     ensures { OnOk result ((z : ℕ) → has_set marks.new.items z ≡ (has_set marks.old.items z || (z == age))) }
 {
     let age = age as usize;

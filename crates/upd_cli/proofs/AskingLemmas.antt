@@ -2,8 +2,8 @@
 use Rattle.std.proofs.Common.{◌≡◌, ℕ, List, Result, sym, subst}
 use Rattle.std.specs.Result.{result_map_both}
 use Rattle.upd_text.specs.declared.fault.Fault.{Fault}
-use Rattle.upd_change.specs.Rows.{Rows}
-use Rattle.upd_rows.specs.Keeping.{Keeps}
+use Rattle.upd_records.specs.Rows.{Rows}
+use Rattle.upd_row_store.specs.Keeping.{Keeps}
 use Rattle.upd_desk.specs.Answers.{CountsFailure}
 use Rattle.upd_desk.specs.Holding.{Tells}
 use Rattle.upd_http.proofs.AskLemmas.{fails_alike}

@@ -8,7 +8,7 @@ use Rattle.upd_text.specs.declared.fault.FaultKind.TheVariants.{Write}
 use Rattle.upd_compile.specs.File.{FileView}
 use Rattle.upd_cli.specs.Command.{Answers, EndsTrial, IsEnd, LeavesOutput, answer_to}
 use Rattle.upd_cli.specs.Status.{exit_status, fault_line, no_memory}
-use Rattle.upd_streams.proofs.FrontLemmas.{front_all}
+use Rattle.upd_io.proofs.FrontLemmas.{front_all}
 
 -- a result that is this error
 pub error_is : {T : Type 0} (result : Result T Fault) (fault : Fault) → IsErrAnd result (λ e. e ≡ fault) → result ≡ Err fault

@@ -4,7 +4,7 @@ use Rattle.std.proofs.KnownBytes.{Appends-nil}
 use Rattle.upd_text.specs.Outcome.{at_line, need}
 use Rattle.upd_text.specs.declared.fault.Fault.{Fault}
 use Rattle.upd_text.specs.declared.fault.FaultKind.TheVariants.{BadNumber}
-use Rattle.upd_rows.specs.Keeping.IsLost.{OfMemory, OfStore}
+use Rattle.upd_row_store.specs.Keeping.IsLost.{OfMemory, OfStore}
 use Rattle.upd_store.specs.Faults.{IsUnopened}
 use Rattle.upd_cli.specs.Commands.{TellsNothing, TellsNumbered}
 use Rattle.upd_cli.specs.Errands.{IsUnread}

@@ -9,11 +9,11 @@ use Rattle.std.proofs.lemmas.List.Elements.{All-nil, All-pop}
 use Rattle.upd_text.specs.declared.fault.Fault.{Fault}
 use Rattle.upd_text.specs.declared.fault.FaultKind.{FaultKind}
 use Rattle.upd_text.specs.declared.fault.FaultKind.TheVariants.{NoMemory, Store, BadFrame, CutFrame, Read, Write}
-use Rattle.upd_change.specs.Rows.{Rows}
+use Rattle.upd_records.specs.Rows.{Rows}
 use Rattle.upd_desk.specs.Answers.{is_answered}
 use Rattle.upd_desk.specs.Arrivals.{ArrivalView}
 use Rattle.upd_desk.specs.Outcomes.{ReplyView}
-use Rattle.upd_rows.specs.Keeping.IsLost.{OfMemory, OfStore}
+use Rattle.upd_row_store.specs.Keeping.IsLost.{OfMemory, OfStore}
 use Rattle.upd_store.specs.Faults.{IsUnopened}
 use Rattle.upd_spool.specs.Frames.{IsFrame, frame_text, frames_text}
 use Rattle.upd_spool.specs.Spools.{Answered, Ends, EndsBy, Handled, answer_lines}

@@ -9,7 +9,7 @@ use Rattle.upd_text.specs.declared.fault.FaultKind.{FaultKind}
 use Rattle.upd_text.specs.declared.fault.FaultKind.TheVariants.{Write}
 use Rattle.upd_compile.specs.File.{FileView}
 use Rattle.upd_cli.specs.Status.{exit_status, fault_line}
-use Rattle.upd_streams.specs.Fronts.{AppendsFront}
+use Rattle.upd_io.specs.Fronts.{AppendsFront}
 use Rattle.upd_cli.specs.Words.{word_faults}
 
 -- What a command answers: its exit status, its output, and what it says on the fault stream.

@@ -6,7 +6,7 @@ use Rattle.std.specs.declared.net.socket_addr.SocketAddr.{SocketAddr}
 use Rattle.upd_text.specs.declared.fault.Fault.{Fault}
 use Rattle.upd_text.specs.declared.fault.FaultKind.TheVariants.{BadNumber}
 use Rattle.upd_desk.specs.Outcomes.{ReplyView}
-use Rattle.upd_streams.specs.Numbers.{number_of}
+use Rattle.upd_io.specs.Numbers.{number_of}
 use Rattle.clap.specs.Words.{Text}
 use Rattle.upd_cli.specs.Command.{IsTold}
 use Rattle.upd_cli.specs.Operands.{IsCount, IsNoAddress, IsNoCount, card_read, deck_read}

@@ -1,7 +1,7 @@
 -- What is read of an input.
 use Rattle.std.specs.Prelude.{◌≡◌, ◌≤◌, ℕ, ◌+◌, List, length, take, Option}
 use Rattle.std.specs.Io.KnownBytes.{Consumes}
-use Rattle.upd_streams.specs.Inputs.{IsInput}
+use Rattle.upd_io.specs.Inputs.{IsInput}
 use Rattle.upd_text.specs.declared.limits.TheConstants.{MAX_RUN_BYTES}
 
 -- at most so many bytes were read, and those behind them are left

@@ -12,7 +12,7 @@ use Rattle.upd_desk.specs.Outcomes.{ReplyView}
 use Rattle.upd_spool.specs.Frames.{IsFrame, frames_text}
 use Rattle.upd_spool.specs.Spools.{answer_lines}
 use Rattle.upd_store.specs.Faults.{IsUnopened}
-use Rattle.upd_streams.specs.Fronts.{AppendsFront}
+use Rattle.upd_io.specs.Fronts.{AppendsFront}
 use Rattle.upd_cli.specs.Status.{write_failed}
 
 -- These bytes went to the output, and the command ends with this status; or the write failed, and at most a beginning of them is there.

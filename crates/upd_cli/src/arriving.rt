@@ -12,7 +12,7 @@ use itoa::Buffer;
 use std::alloc::Global;
 use std::io::{Read, Write};
 use upd_desk::{Desk, Reply, fault_answer};
-use upd_rows::RowStore;
+use upd_row_store::RowStore;
 use upd_text::Fault;
 
 /// The run on the input arrives, and its reply goes to the output as a line; so does the text of a fault, but for want

@@ -10,7 +10,7 @@ use std::alloc::Global;
 use std::io::Write;
 use upd_core::{CardRef, Name};
 use upd_desk::Desk;
-use upd_rows::RowStore;
+use upd_row_store::RowStore;
 use upd_text::Fault;
 
 /// What is asked of a library.

@@ -1,7 +1,7 @@
 //! Carries out a command line over any input, output and fault stream.
 ghost use Rattle.std.specs.Prelude.{◌≡◌, ◌≢◌, ◌⊎◌, ◌+◌, ℕ, IfErr, List, None, codes, map, []};
 ghost use Rattle.std.specs.IoError.{error_kind};
-ghost use Rattle.upd_streams.specs.Inputs.{IsInput};
+ghost use Rattle.upd_io.specs.Inputs.{IsInput};
 ghost use Rattle.upd_compile.specs.Modes.{mode_named};
 ghost use Rattle.upd_cli.specs.Command.{Answers, EndsTrial, GivesUnlessFailed, IsEnd, IsTold, IsToldOf, answer_to};
 ghost use Rattle.upd_cli.specs.Commands.{CarriesOut, IsCarriedOut, IsServed};
@@ -23,7 +23,7 @@ use std::convert::AsStr;
 use std::io;
 use std::io::{ErrorKind, Read, Write};
 use upd_compile::CompileFile;
-use upd_streams::write_parts;
+use upd_io::write_parts;
 use upd_text::Fault;
 
 /// Carries out the command line `words`, the program's own name first, and answers the exit status: 0 where all is

@@ -8,7 +8,7 @@ ghost use Rattle.upd_cli.specs.Streams.{TakesFront};
 ghost use Rattle.upd_cli.specs.Telling.{TellsLines, TellsMark, TellsRun, TellsText};
 ghost use Rattle.upd_desk.specs.Outcomes.{ReplyView};
 ghost use Rattle.upd_store.specs.Faults.{IsUnopened};
-ghost use Rattle.upd_streams.specs.Numbers.{number_of};
+ghost use Rattle.upd_io.specs.Numbers.{number_of};
 ghost use Rattle.upd_text.specs.declared.fault.Fault.{Fault};
 ghost use Rattle.upd_text.specs.declared.limits.TheConstants.{MAX_RUN_BYTES};
 
@@ -21,10 +21,10 @@ use sqlite_disk::Unknown;
 use std::io::{Read, Write};
 use std::net::{SocketAddr, TcpListener};
 use upd_desk::Desk;
-use upd_file::{FileLibrary, close, connect, create, open};
 use upd_http::serve_on;
 use upd_migrate::migrate;
 use upd_spool::spool;
+use upd_store::file::{FileLibrary, close, connect, create, open};
 use upd_text::{Fault, FaultKind};
 
 /// A desk over the library in a file.
@@ -168,7 +168,7 @@ fn init_file(rt: &HostRuntime, file: &str) -> Result<u8, Fault>
 {
     match create(rt, file, Unknown) {
         Ok(library) => {
-            close_desk(Desk::new(library));
+            close_desk(Desk::open(library));
             Ok(DONE)
         }
         Err(fault) => Err(fault),
@@ -245,7 +245,7 @@ fn open_desk(rt: &HostRuntime, file: &str) -> Result<FileDesk, Fault>
     ensures { IfErr result IsUnopened }
 {
     match open(rt, file, Unknown) {
-        Ok(library) => Ok(Desk::new(library)),
+        Ok(library) => Ok(Desk::open(library)),
         Err(fault) => Err(fault),
     }
 }
@@ -253,5 +253,5 @@ fn open_desk(rt: &HostRuntime, file: &str) -> Result<FileDesk, Fault>
 /// Closes the library. Where that fails nothing is lost, since the log then holds what it held: so the command's own
 /// end is told, and not this one.
 fn close_desk(desk: FileDesk) {
-    let _ = close(desk.into_store());
+    let _ = close(desk.close());
 }

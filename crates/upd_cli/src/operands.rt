@@ -2,7 +2,7 @@
 ghost use Rattle.std.specs.Prelude.{◌≡◌, MatchOption};
 ghost use Rattle.std.specs.Net.Grammar.{IsSocketText};
 ghost use Rattle.upd_cli.specs.Operands.{IsCount, IsNoAddress, IsNoCount, card_read, deck_read};
-ghost use Rattle.upd_streams.specs.Numbers.{number_of};
+ghost use Rattle.upd_io.specs.Numbers.{number_of};
 ghost use Rattle.upd_text.specs.Outcome.{at_line, need};
 ghost use Rattle.upd_text.specs.declared.fault.FaultKind.TheVariants.{BadNumber};
 
@@ -17,7 +17,7 @@ const MAX_CONNECTIONS: u32 = 1_000_000;
 pub(crate) fn read_number(word: &str) -> Result<u64, Fault>
     ensures { result ≡ at_line 0 (need BadNumber (number_of word.now)) }
 {
-    match upd_streams::read_number(word.as_bytes()) {
+    match upd_io::read_number(word.as_bytes()) {
         Some(number) => Ok(u64::from(number)),
         None => Err(FaultKind::BadNumber.without_line()),
     }

@@ -2,12 +2,12 @@
 ghost use Rattle.std.specs.Prelude.{◌≡◌, OnOk};
 ghost use Rattle.std.specs.Io.KnownBytes.{Appends};
 ghost use Rattle.upd_cli.specs.Status.{exit_status, fault_line};
-ghost use Rattle.upd_streams.specs.Fronts.{AppendsFront};
+ghost use Rattle.upd_io.specs.Fronts.{AppendsFront};
 
 use itoa::Buffer;
 use std::io;
 use std::io::Write;
-use upd_streams::write_parts;
+use upd_io::write_parts;
 use upd_text::{Fault, FaultKind};
 
 /// All is done.

@@ -5,12 +5,12 @@ ghost use Rattle.std.specs.List.{flat_map};
 ghost use Rattle.std.specs.IoError.{error_kind};
 ghost use Rattle.upd_cli.specs.Status.{no_memory, read_failed, write_failed};
 ghost use Rattle.upd_cli.specs.Streams.{IsRunOn, TakesFront};
-ghost use Rattle.upd_streams.specs.Fronts.{AppendsFront};
+ghost use Rattle.upd_io.specs.Fronts.{AppendsFront};
 
 use std::alloc::{AllocError, Global};
 use std::io;
 use std::io::{ErrorKind, Read, Write};
-use upd_streams::write_parts;
+use upd_io::write_parts;
 use upd_text::limits::MAX_RUN_BYTES;
 use upd_text::{Fault, FaultKind};
 

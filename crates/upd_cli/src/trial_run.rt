@@ -20,7 +20,7 @@ pub fn trial(alloc: Global, mode: Mode, run: &[u8]) -> Result<CompileFile, Fault
     let before = Library::new(alloc);
     let mut after = Library::new(alloc);
     let applied = apply(alloc, &mut after, &run)?;
-    compile_file(alloc, &before, &after, mode, &applied.compile)
+    compile_file(alloc, &after, &before, mode, &applied.compile)
 }
 
 /// The mode of a word. Another word is BadMode, at 0.

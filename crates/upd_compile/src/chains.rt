@@ -15,7 +15,7 @@ use crate::marks::{both, calls_marked};
 use crate::reach::reached_positions;
 use crate::walk::is_first;
 use std::alloc::{AllocError, Global};
-use upd_core::{ActiveCardRef, ActiveDeckRef, Age, Ident};
+use upd_core::{ActiveCardRef, ActiveDeckRef, Ident, Serial};
 use upd_text::line::{called, is_call};
 
 /// A deck has a chain to a changed common deck where a path of calls leads there, and only there, however long it is.
@@ -73,7 +73,7 @@ fn passing_marks(alloc: Global, source: &Indexed) -> Result<Vec<bool>, AllocErro
         .collect(alloc)
 }
 
-fn is_passed_on(idents: &[Ident], deck: Age) -> bool
+fn is_passed_on(idents: &[Ident], deck: Serial) -> bool
     ensures { result ≡ not (passes (λ i. i.noprop) idents.now deck) }
 {
     match ident_at(idents, deck) {

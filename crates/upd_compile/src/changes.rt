@@ -10,13 +10,13 @@ ghost use Rattle.upd_compile.specs.Chosen.{changed, is_changed, same_card, same_
 
 use crate::indexed::Indexed;
 use std::alloc::{AllocError, Global};
-use upd_core::{ActiveCardRef, ActiveDeckRef, ActivesRef, Age, Library};
+use upd_core::{ActiveCardRef, ActiveDeckRef, ActivesRef, Library, Serial};
 use upd_text::Fault;
 
 /// The decks that changed from one library to another, by age; memory alone can fail.
 ///
 /// A deck changed where it wasn't there before, or its active cards differ. The program doesn't call it.
-pub fn changed(alloc: Global, before: &Library, after: &Library) -> Result<Vec<Age>, Fault>
+pub fn changed(alloc: Global, before: &Library, after: &Library) -> Result<Vec<Serial>, Fault>
     ensures ok { IfOk result (λ ages. ages.items ≡ changed (actives_of before.now) (actives_of after.now)) }
     ensures err { IsOkUnless result (fault_at NoMemory 0) }
 {
@@ -30,7 +30,7 @@ fn changed_ages(
     alloc: Global,
     before: &ActivesRef,
     decks: &[ActiveDeckRef],
-) -> Result<Vec<Age>, AllocError>
+) -> Result<Vec<Serial>, AllocError>
     ensures { IfOk result (λ ages. ages.items ≡ map (λ d. d.ident) (filter (is_changed before.now) decks.now)) }
 {
     let before = Indexed::new(alloc, before)?;
@@ -41,7 +41,7 @@ fn ages_changed_since(
     alloc: Global,
     before: &Indexed,
     decks: &[ActiveDeckRef],
-) -> Result<Vec<Age>, AllocError>
+) -> Result<Vec<Serial>, AllocError>
     ensures { IfOk result (λ ages. ages.items ≡ map (λ d. d.ident) (filter (is_changed before.now) decks.now)) }
 {
     let mut ages = Vec::new(alloc);

@@ -17,13 +17,13 @@ use crate::marks::any_of;
 use crate::mode::Mode;
 use std::alloc::{AllocError, Global};
 use std::collections::HashSet;
-use upd_core::{ActiveDeckRef, ActivesRef, Age, Ident};
+use upd_core::{ActiveDeckRef, ActivesRef, Ident, Serial};
 
 /// The decks of a compile file, in library order.
 pub(crate) fn chosen_decks<'a, 'b>(
     alloc: Global,
     mode: Mode,
-    named: &[Age],
+    named: &[Serial],
     before: &ActivesRef,
     after: &Indexed<'a, 'b>,
 ) -> Result<Vec<&'a ActiveDeckRef<'b>>, AllocError>
@@ -53,7 +53,7 @@ fn picked_decks<'a, 'b>(
     Ok(found)
 }
 
-fn is_picked(idents: &[Ident], deck: Age, is_marked: bool) -> bool
+fn is_picked(idents: &[Ident], deck: Serial, is_marked: bool) -> bool
     ensures { result ≡ not (passes (λ i. is_common i.kind) idents.now deck) && is_marked }
 {
     match ident_at(idents, deck) {
@@ -66,7 +66,7 @@ fn is_picked(idents: &[Ident], deck: Age, is_marked: bool) -> bool
 fn choices(
     alloc: Global,
     mode: Mode,
-    named: &[Age],
+    named: &[Serial],
     before: &ActivesRef,
     after: &Indexed,
 ) -> Result<Vec<bool>, AllocError>
@@ -83,7 +83,7 @@ fn choices(
 /// Whether each deck is named, or changed, or has a chain to a changed common deck.
 fn normal_marks(
     alloc: Global,
-    named: &[Age],
+    named: &[Serial],
     before: &ActivesRef,
     after: &Indexed,
 ) -> Result<Vec<bool>, AllocError>
@@ -105,7 +105,7 @@ fn all_marks(alloc: Global, decks: &[ActiveDeckRef]) -> Result<Vec<bool>, AllocE
 /// Whether each deck is among the named ones.
 fn named_marks(
     alloc: Global,
-    named: &[Age],
+    named: &[Serial],
     decks: &[ActiveDeckRef],
 ) -> Result<Vec<bool>, AllocError>
     ensures { IfOk result (λ marks. marks.items ≡ map (λ d. is_among named.now d.ident) decks.now) }
@@ -117,7 +117,7 @@ fn named_marks(
         .collect(alloc)
 }
 
-fn set_of(alloc: Global, ages: &[Age]) -> Result<HashSet<Age>, AllocError>
+fn set_of(alloc: Global, ages: &[Serial]) -> Result<HashSet<Serial>, AllocError>
     ensures { IfOk result (λ set. (age : ℕ) → bag.contains nat_eq set age ≡ is_among ages.now age) }
 {
     ages.iter().copied().collect(alloc)

@@ -14,7 +14,7 @@ use crate::progress::Progress;
 use crate::walk::walk_all;
 use std::alloc::Global;
 use std::marker::Model;
-use upd_core::{ActiveDeckRef, Actives, ActivesRef, Age, Library};
+use upd_core::{ActiveDeckRef, Actives, ActivesRef, Library, Serial};
 use upd_text::Fault;
 use upd_text::limits::MAX_DEPTH;
 
@@ -34,14 +34,14 @@ impl Model for CompileFile {
     ghost view = { λ f. record { bytes = f.bytes.items; lines = f.lines } };
 }
 
-/// The compile file of a library after a run. `before` is the library before that run, `named` are the ages of the
-/// decks that the run named for the file. CallUnknown, CallDepth or CompileLong, at 0, where the walk meets one first.
+/// The compile file of the library `after` a run, where `before` is the library before it and `named` are the serials of
+/// the decks that the run named for the file. CallUnknown, CallDepth or CompileLong, at 0, where the walk meets one first.
 pub fn compile_file(
     alloc: Global,
-    before: &Library,
     after: &Library,
+    before: &Library,
     mode: Mode,
-    named: &[Age],
+    named: &[Serial],
 ) -> Result<CompileFile, Fault>
     ensures { GivesAt (λ f. f) result (compile_file_of mode named.now before.now after.now) }
 {
@@ -60,10 +60,10 @@ pub fn quick_file_of_no_decks_is_empty()
 /// The compile file of the active cards after a run and before it, as `compile_file` makes it of libraries.
 pub fn compile_active(
     alloc: Global,
-    before: &Actives,
     after: &Actives,
+    before: &Actives,
     mode: Mode,
-    named: &[Age],
+    named: &[Serial],
 ) -> Result<CompileFile, Fault>
     ensures { GivesAt (λ f. f) result (file_of mode named.now before.now after.now) }
 {
@@ -77,7 +77,7 @@ fn compile_shown(
     before: &ActivesRef,
     after: &ActivesRef,
     mode: Mode,
-    named: &[Age],
+    named: &[Serial],
 ) -> Result<CompileFile, Fault>
     ensures { GivesAt (λ f. f) result (file_of mode named.now before.now after.now) }
 {

@@ -5,10 +5,10 @@ ghost use Rattle.std.specs.Option.{option_copied};
 ghost use Rattle.upd_core.specs.Library.{name_of};
 ghost use Rattle.upd_compile.specs.Idents.{ident_at};
 
-use upd_core::{Age, Ident};
+use upd_core::{Ident, Serial};
 
 /// The ident of an age, held or not.
-pub(crate) fn ident_at(idents: &[Ident], age: Age) -> Option<&Ident>
+pub(crate) fn ident_at(idents: &[Ident], age: Serial) -> Option<&Ident>
     ensures { option_copied result ≡ ident_at idents.now age }
 {
     if age == 0 {
@@ -18,7 +18,7 @@ pub(crate) fn ident_at(idents: &[Ident], age: Age) -> Option<&Ident>
 }
 
 /// The name of the ident of an age, and no bytes where there is no such ident.
-pub(crate) fn name_of(idents: &[Ident], age: Age) -> &[u8]
+pub(crate) fn name_of(idents: &[Ident], age: Serial) -> &[u8]
     ensures { result.now ≡ name_of idents.now age }
 {
     match ident_at(idents, age) {

@@ -10,14 +10,14 @@ ghost use Rattle.upd_compile.specs.Walk.{common_named, deck_aged};
 use std::alloc::{AllocError, Global};
 use std::collections::HashMap;
 use std::marker::Model;
-use upd_core::{ActiveDeckRef, ActivesRef, Age, Ident, Kind};
+use upd_core::{ActiveDeckRef, ActivesRef, Ident, Kind, Serial};
 
 /// Active cards, with an index of held idents by name and of decks by age.
 #[derive(Drop)]
 pub(crate) struct Indexed<'a, 'b> {
     actives: &'a ActivesRef<'b>,
-    names: HashMap<&'a [u8], (Kind, Age)>,
-    positions: HashMap<Age, usize>,
+    names: HashMap<&'a [u8], (Kind, Serial)>,
+    positions: HashMap<Serial, usize>,
 }
 
 impl<'a, 'b> Model for Indexed<'a, 'b> {
@@ -65,7 +65,7 @@ impl<'a, 'b> Indexed<'a, 'b> {
     }
 
     /// The position of the deck of an age.
-    pub(crate) fn position_aged(&self, age: Age) -> Option<usize>
+    pub(crate) fn position_aged(&self, age: Serial) -> Option<usize>
         ensures { result ≡ position_aged age self.now.decks }
     {
         self.positions.get(&age).copied()
@@ -84,7 +84,7 @@ impl<'a, 'b> Indexed<'a, 'b> {
     }
 
     /// The deck of an age.
-    pub(crate) fn deck_aged(&self, age: Age) -> Option<&'a ActiveDeckRef<'b>>
+    pub(crate) fn deck_aged(&self, age: Serial) -> Option<&'a ActiveDeckRef<'b>>
         ensures { option_copied result ≡ deck_aged age self.now }
     {
         let position = self.position_aged(age)?;
@@ -103,7 +103,7 @@ impl<'a, 'b> Indexed<'a, 'b> {
 }
 
 /// The held ident of each name, the first of them in the directory.
-fn held_names(alloc: Global, idents: &[Ident]) -> Result<HashMap<&[u8], (Kind, Age)>, AllocError>
+fn held_names(alloc: Global, idents: &[Ident]) -> Result<HashMap<&[u8], (Kind, Serial)>, AllocError>
     ensures { IfOk result
         (λ names. (name : List ℕ) → hash.get_by (λ k. bytes_eq name k.now) names ≡ held_kind name idents.now) }
 {
@@ -119,7 +119,10 @@ fn held_names(alloc: Global, idents: &[Ident]) -> Result<HashMap<&[u8], (Kind, A
 }
 
 /// The position of the deck of each age, the first of them.
-fn deck_positions(alloc: Global, decks: &[ActiveDeckRef]) -> Result<HashMap<Age, usize>, AllocError>
+fn deck_positions(
+    alloc: Global,
+    decks: &[ActiveDeckRef],
+) -> Result<HashMap<Serial, usize>, AllocError>
     ensures { IfOk result
         (λ positions. (age : ℕ) → hash.get nat_eq positions age ≡ position_aged age decks.now) }
 {

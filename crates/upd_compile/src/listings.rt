@@ -18,7 +18,7 @@ use crate::idents::{ident_at, name_of};
 use crate::parts::push_parts;
 use itoa::Buffer;
 use std::alloc::{AllocError, Global};
-use upd_core::{Age, Card, Entry, Ident, Kind, Library, Live, Target};
+use upd_core::{Card, Entry, Ident, Kind, Library, Live, Serial, Target};
 use upd_text::{CardRef, Fault, FaultKind, Name};
 
 /// A deck's head line and its cards, each active or inactive. `YANK$$$` can be listed too, and active means live there.
@@ -35,7 +35,7 @@ pub fn list_card(alloc: Global, library: &Library, card: CardRef) -> Result<Vec<
     ensures { GivesAt (λ text. text.items) result (card_listing card library.now) }
 {
     let unknown = FaultKind::CardUnknown.without_line();
-    let place = library.place_of(card).ok_or(unknown)?;
+    let place = library.card_at(card).ok_or(unknown)?;
     let card = library.card_in(place).ok_or(unknown)?;
     card_text(alloc, library, place.deck, card)
 }
@@ -68,7 +68,7 @@ pub fn marks_tell_the_purged_idents()
 {}
 
 /// The age of the deck of a name.
-fn listed_deck(library: &Library, name: &Name) -> Option<Age>
+fn listed_deck(library: &Library, name: &Name) -> Option<Serial>
     ensures { result ≡ listed_deck name.now library.now }
 {
     if *name == Name::yank() {
@@ -79,7 +79,12 @@ fn listed_deck(library: &Library, name: &Name) -> Option<Age>
 }
 
 /// The head line of a deck, and a line for each of these cards.
-fn deck_text(alloc: Global, library: &Library, deck: Age, cards: &[Card]) -> Result<Vec<u8>, Fault>
+fn deck_text(
+    alloc: Global,
+    library: &Library,
+    deck: Serial,
+    cards: &[Card],
+) -> Result<Vec<u8>, Fault>
     ensures ok { IfOk result (λ text. text.items
         ≡ deck_heading library.now.idents deck
         ++ flat_map (deck_line library.now.idents (live_targets library.now) deck) cards.now) }
@@ -92,7 +97,7 @@ fn deck_text(alloc: Global, library: &Library, deck: Age, cards: &[Card]) -> Res
     Ok(text)
 }
 
-fn push_heading(text: &mut Vec<u8>, idents: &[Ident], deck: Age) -> Result<(), AllocError>
+fn push_heading(text: &mut Vec<u8>, idents: &[Ident], deck: Serial) -> Result<(), AllocError>
     ensures { OnOk result (text.new.items ≡ text.old.items ++ deck_heading idents.now deck) }
 {
     match ident_at(idents, deck) {
@@ -113,7 +118,7 @@ fn push_deck_lines(
     text: &mut Vec<u8>,
     idents: &[Ident],
     live: &Live,
-    deck: Age,
+    deck: Serial,
     cards: &[Card],
 ) -> Result<(), AllocError>
     ensures { OnOk result (text.new.items
@@ -127,7 +132,7 @@ fn push_deck_lines(
 }
 
 /// A card with its status and its history.
-fn card_text(alloc: Global, library: &Library, deck: Age, card: &Card) -> Result<Vec<u8>, Fault>
+fn card_text(alloc: Global, library: &Library, deck: Serial, card: &Card) -> Result<Vec<u8>, Fault>
     ensures ok { IfOk result (λ text. text.items
         ≡ card_lines library.now.idents (live_targets library.now) deck card.now) }
     ensures err { IsOkUnless result (fault_at NoMemory 0) }
@@ -142,7 +147,7 @@ fn push_card_lines(
     text: &mut Vec<u8>,
     idents: &[Ident],
     live: &Live,
-    deck: Age,
+    deck: Serial,
     card: &Card,
 ) -> Result<(), AllocError>
     ensures { OnOk result (text.new.items ≡ text.old.items ++ card_lines idents.now live.now.targets deck card.now) }
@@ -165,7 +170,7 @@ fn push_fields(
     text: &mut Vec<u8>,
     idents: &[Ident],
     live: &Live,
-    deck: Age,
+    deck: Serial,
     card: &Card,
 ) -> Result<(), AllocError>
     ensures { OnOk result (text.new.items ≡ text.old.items
@@ -182,7 +187,7 @@ fn push_entries(
     text: &mut Vec<u8>,
     idents: &[Ident],
     live: &Live,
-    deck: Age,
+    deck: Serial,
     history: &[Entry],
 ) -> Result<(), AllocError>
     ensures { OnOk result (text.new.items
@@ -198,7 +203,7 @@ fn push_entry(
     text: &mut Vec<u8>,
     idents: &[Ident],
     live: &Live,
-    deck: Age,
+    deck: Serial,
     entry: &Entry,
 ) -> Result<(), AllocError>
     ensures { OnOk result (text.new.items ≡ text.old.items ++ entry_line idents.now live.now.targets deck entry.now) }
@@ -303,19 +308,19 @@ fn push_target(text: &mut Vec<u8>, idents: &[Ident], target: Target) -> Result<(
 }
 
 /// A mark where one of these idents is purged.
-fn purged_mark<'a>(idents: &'a [Ident], ages: &[Age]) -> &'a [u8]
+fn purged_mark<'a>(idents: &'a [Ident], ages: &[Serial]) -> &'a [u8]
     ensures { result.now ≡ flat_map (λ x. 32 ∷ x) (purged_mark idents.now ages.now) }
 {
     mark_if(is_any_purged(idents, ages), b" purged")
 }
 
-fn is_any_purged(idents: &[Ident], ages: &[Age]) -> bool
+fn is_any_purged(idents: &[Ident], ages: &[Serial]) -> bool
     ensures { result ≡ list_any (is_purged idents.now) ages.now }
 {
     ages.iter().any(|&age| is_purged(idents, age))
 }
 
-fn is_purged(idents: &[Ident], age: Age) -> bool
+fn is_purged(idents: &[Ident], age: Serial) -> bool
     ensures { result ≡ is_purged idents.now age }
 {
     match ident_at(idents, age) {
@@ -325,7 +330,7 @@ fn is_purged(idents: &[Ident], age: Age) -> bool
 }
 
 /// The name of the deck of an age.
-fn deck_name(idents: &[Ident], age: Age) -> &[u8]
+fn deck_name(idents: &[Ident], age: Serial) -> &[u8]
     ensures { result.now ≡ deck_name idents.now age }
 {
     if age == 0 {

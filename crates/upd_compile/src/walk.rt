@@ -11,7 +11,7 @@ ghost use Rattle.upd_compile.specs.Walk.{WalkEvent, card_events, walk};
 
 use crate::indexed::Indexed;
 use crate::progress::Progress;
-use upd_core::{ActiveCardRef, ActiveDeckRef, Age};
+use upd_core::{ActiveCardRef, ActiveDeckRef, Serial};
 use upd_text::FaultKind;
 use upd_text::line::{called, is_call};
 
@@ -82,7 +82,7 @@ fn meet(
 }
 
 /// Whether a card is the first of the deck of an ident.
-pub(crate) fn is_first(card: &ActiveCardRef, deck: Age) -> bool
+pub(crate) fn is_first(card: &ActiveCardRef, deck: Serial) -> bool
     ensures { result ≡ (card.now.ident == deck) && (card.now.number == 1) }
 {
     card.ident == deck && card.number == 1

@@ -6,17 +6,17 @@ use Rattle.upd_core.specs.declared.target.Target.{Target}
 use Rattle.upd_core.specs.Library.{CardView, DeckView, LibraryView}
 use Rattle.upd_core.specs.Status.{is_active, live_targets}
 use Rattle.upd_text.specs.Units.{Bytes, Number}
-use Rattle.upd_core.specs.Ages.{Age}
+use Rattle.upd_core.specs.Serials.{Serial}
 
 -- A card without its past.
 pub record ActiveCardView : Type 0 where
-  pub ident : Age
+  pub ident : Serial
   pub number : Number
   pub text : Bytes
 
 -- The active cards of a deck in order.
 pub record ActiveDeckView : Type 0 where
-  pub ident : Age
+  pub ident : Serial
   pub cards : List ActiveCardView
 
 -- The directory, and the active cards of each deck other than `YANK$$$`, by age.

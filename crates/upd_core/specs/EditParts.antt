@@ -4,10 +4,10 @@ use Rattle.upd_core.specs.declared.card.Entry.{Entry}
 use Rattle.upd_core.specs.Edits.{entered_range}
 use Rattle.upd_core.specs.First.{at_first}
 use Rattle.upd_core.specs.Library.{CardView, DeckView, is_deck}
-use Rattle.upd_core.specs.Ages.{Age}
+use Rattle.upd_core.specs.Serials.{Serial}
 
 -- decks with a card in the first one of an age
-abbrev pub inserted_in : Age → ℕ → CardView → List DeckView → List DeckView
+abbrev pub inserted_in : Serial → ℕ → CardView → List DeckView → List DeckView
 inserted_in age behind c decks = at_first (is_deck age) (λ d. record d { cards = insert d.cards (length d.cards - behind) c }) decks
 
 -- how many cards there are from one index to another
@@ -19,5 +19,5 @@ abbrev pub without_last : CardView → CardView
 without_last c = record c { history = take (length c.history - 1) c.history }
 
 -- decks with the entry in the first one of an age
-abbrev pub entered_in : Age → ℕ → ℕ → Entry → List DeckView → List DeckView
+abbrev pub entered_in : Serial → ℕ → ℕ → Entry → List DeckView → List DeckView
 entered_in age from to e decks = at_first (is_deck age) (λ d. record d { cards = entered_range from to e d.cards }) decks

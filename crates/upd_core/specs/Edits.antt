@@ -7,10 +7,10 @@ use Rattle.upd_core.specs.declared.ident.Kind.{Kind}
 use Rattle.upd_core.specs.declared.target.Target.{Target}
 use Rattle.upd_core.specs.Library.{CardView, DeckView, LibraryView, with_cards}
 use Rattle.upd_text.specs.Units.{Bytes, Number}
-use Rattle.upd_core.specs.Ages.{Age}
+use Rattle.upd_core.specs.Serials.{Serial}
 
 -- the age of the next ident
-abbrev pub next_age : LibraryView → Age
+abbrev pub next_age : LibraryView → Serial
 next_age l = length l.idents + 1
 
 -- a new ident at the directory's end
@@ -19,7 +19,7 @@ introduced name kind noprop l =
     record l { idents = l.idents ++ record { name = name; age = next_age l; kind = kind; noprop = noprop; held = true } ∷ [] }
 
 -- a new card: its history is its own ident, on
-abbrev pub new_card : Age → Number → Bytes → List Target → CardView
+abbrev pub new_card : Serial → Number → Bytes → List Target → CardView
 new_card ident number text targets =
     record { ident = ident; number = number; text = text; history = record { ident = ident; active = true } ∷ []; targets = targets }
 
@@ -28,7 +28,7 @@ abbrev pub with_deck : DeckView → LibraryView → LibraryView
 with_deck d l = record l { decks = l.decks ++ d ∷ [] }
 
 -- a card in deck d, with so many of its cards behind it
-abbrev pub with_card : Age → ℕ → CardView → LibraryView → LibraryView
+abbrev pub with_card : Serial → ℕ → CardView → LibraryView → LibraryView
 with_card d behind c l = with_cards d (λ cards. insert cards (length cards - behind) c) l
 
 -- a yank card at the end of `YANK$$$`
@@ -44,32 +44,32 @@ abbrev pub entered_range : ℕ → ℕ → Entry → List CardView → List Card
 entered_range from to e cards = take from cards ++ map (entered e) (drop from (take (to + 1) cards)) ++ drop (to + 1) cards
 
 -- the same in deck d
-abbrev pub with_entries : Age → ℕ → ℕ → Entry → LibraryView → LibraryView
+abbrev pub with_entries : Serial → ℕ → ℕ → Entry → LibraryView → LibraryView
 with_entries d from to e l = with_cards d (entered_range from to e) l
 
 -- a card without the entries of the idents that pass a test
-abbrev pub without_entries : (Age → Bool) → CardView → CardView
+abbrev pub without_entries : (Serial → Bool) → CardView → CardView
 without_entries gone c = record c { history = filter (λ e. not (gone e.ident)) c.history }
 
 -- what is left of cards without the cards and the entries of these idents
-abbrev pub without_idents : (Age → Bool) → List CardView → List CardView
+abbrev pub without_idents : (Serial → Bool) → List CardView → List CardView
 without_idents gone cards = map (without_entries gone) (filter (λ c. not (gone c.ident)) cards)
 
 -- what is left of a deck without these idents
-abbrev pub deck_without : (Age → Bool) → DeckView → DeckView
+abbrev pub deck_without : (Serial → Bool) → DeckView → DeckView
 deck_without gone d = record d { cards = without_idents gone d.cards }
 
 -- what is left of decks once those of these idents are gone
-abbrev pub decks_without : (Age → Bool) → List DeckView → List DeckView
+abbrev pub decks_without : (Serial → Bool) → List DeckView → List DeckView
 decks_without gone decks = map (deck_without gone) (filter (λ d. not (gone d.ident)) decks)
 
 -- an ident once the idents that pass a test are purged
-abbrev pub unheld : (Age → Bool) → Ident → Ident
+abbrev pub unheld : (Serial → Bool) → Ident → Ident
 unheld gone i = record i { held = i.held && not (gone i.age) }
 
 -- A purge of the idents that pass a test: decks of these go with all their cards, their cards and entries go from every deck and from
 -- `YANK$$$`, and they are no longer held.
-abbrev pub purged : (Age → Bool) → LibraryView → LibraryView
+abbrev pub purged : (Serial → Bool) → LibraryView → LibraryView
 purged gone l = record {
   idents = map (unheld gone) l.idents;
   decks = decks_without gone l.decks;
@@ -78,13 +78,13 @@ purged gone l = record {
 }
 
 -- a purge of one ident in deck d; it stays held
-abbrev pub purged_in : Age → Age → LibraryView → LibraryView
+abbrev pub purged_in : Serial → Serial → LibraryView → LibraryView
 purged_in d z l = with_cards d (without_idents (λ x. x == z)) l
 
 -- whether an age is among some
-abbrev pub is_among : List Age → Age → Bool
+abbrev pub is_among : List Serial → Serial → Bool
 is_among ages z = list_any (λ a. a == z) ages
 
 -- back to before the ident of age x: a purge of it and of all younger ones
-abbrev pub purged_back : Age → LibraryView → LibraryView
+abbrev pub purged_back : Serial → LibraryView → LibraryView
 purged_back x l = purged (nat_le x) l

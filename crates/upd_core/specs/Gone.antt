@@ -2,14 +2,14 @@
 use Rattle.std.specs.Prelude.{◌==◌, nat_le, Bool, false, List, slice_index_or}
 use Rattle.upd_core.specs.declared.gone.Gone.{Gone}
 use Rattle.upd_core.specs.declared.gone.Gone.TheVariants.{Only, From, Marked}
-use Rattle.upd_core.specs.Ages.{Age}
+use Rattle.upd_core.specs.Serials.{Serial}
 
 -- whether an age has a mark: beyond the marks none has
-abbrev pub has_mark : List Bool → Age → Bool
+abbrev pub has_mark : List Bool → Serial → Bool
 has_mark marks z = slice_index_or marks z false
 
 -- whether a purge takes the ident of an age
-abbrev pub is_gone : Gone → Age → Bool
+abbrev pub is_gone : Gone → Serial → Bool
 is_gone (Only x) z = z == x
 is_gone (From x) z = nat_le x z
 is_gone (Marked marks) z = has_mark marks.items z

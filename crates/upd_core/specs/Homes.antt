@@ -1,14 +1,14 @@
 -- Cards that stand in a deck of another ident than their own: a look-up of any other card needs one deck alone.
 use Rattle.std.specs.Prelude.{◌≡◌, ◌==◌, Bool, true, ◌||◌, All, List, slice_index_or}
-use Rattle.upd_core.specs.Ages.{Age}
+use Rattle.upd_core.specs.Serials.{Serial}
 use Rattle.upd_core.specs.Library.{CardView, DeckView}
 
 -- whether an ident may have cards in another deck than its own; of an age past the marks nothing is known
-abbrev pub may_stray : List Bool → Age → Bool
+abbrev pub may_stray : List Bool → Serial → Bool
 may_stray marks ident = slice_index_or marks ident true
 
 -- whether a card stands in the deck of its own ident, or its ident may stray
-abbrev pub is_home : List Bool → Age → CardView → Bool
+abbrev pub is_home : List Bool → Serial → CardView → Bool
 is_home marks deck c = (c.ident == deck) || may_stray marks c.ident
 
 -- each card of a deck stands in the deck of its own ident, or its ident may stray
@@ -21,4 +21,4 @@ AreHome marks decks = All (IsHome marks) decks
 
 -- what is marked stays marked
 abbrev pub StayMarked : List Bool → List Bool → Type 0
-StayMarked old new = (ident : Age) → may_stray old ident ≡ true → may_stray new ident ≡ true
+StayMarked old new = (ident : Serial) → may_stray old ident ≡ true → may_stray new ident ≡ true

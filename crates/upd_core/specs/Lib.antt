@@ -1,4 +1,4 @@
-pub mod Ages
+pub mod Serials
 pub mod First
 pub mod Library
 pub mod Status

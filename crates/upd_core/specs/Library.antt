@@ -13,12 +13,12 @@ use Rattle.upd_core.specs.declared.library.Rest.{Rest}
 use Rattle.upd_core.specs.declared.target.Target.{Target}
 use Rattle.upd_core.specs.First.{index_from, at_first}
 use Rattle.upd_text.specs.Units.{Bytes, Number}
-use Rattle.upd_core.specs.Ages.{Age}
+use Rattle.upd_core.specs.Serials.{Serial}
 
 -- A card: the age of the ident that brought it, its number within that ident, its text, what idents switched it on and off (oldest first),
 -- and what it takes out of use, if it is a yank card.
 pub record CardView : Type 0 where
-  pub ident : Age
+  pub ident : Serial
   pub number : Number
   pub text : Bytes
   pub history : List Entry
@@ -26,7 +26,7 @@ pub record CardView : Type 0 where
 
 -- A deck: the age of its own ident, and its cards in order.
 pub record DeckView : Type 0 where
-  pub ident : Age
+  pub ident : Serial
   pub cards : List CardView
 
 -- A library: the idents ever introduced, by age; the decks, by age; the cards of `YANK$$$`; and how much the decks hold that aren't loaded.
@@ -45,11 +45,11 @@ abbrev pub all_decks : LibraryView → List DeckView
 all_decks l = record { ident = 0; cards = l.yanks } ∷ l.decks
 
 -- the name of the ident of an age, if there is one: it stands at its place in the directory
-abbrev pub name_at : List Ident → Age → Option Bytes
+abbrev pub name_at : List Ident → Serial → Option Bytes
 name_at idents age = if age == 0 then None else option_map (λ i. i.name) (slice_get idents (age - 1))
 
 -- the same, and no bytes where there is no such ident
-abbrev pub name_of : List Ident → Age → Bytes
+abbrev pub name_of : List Ident → Serial → Bytes
 name_of idents age = unwrap_or (name_at idents age) []
 
 -- the card as directives name it
@@ -73,23 +73,23 @@ abbrev pub held_named : Bytes → List Ident → Option Ident
 held_named name idents = find (λ i. i.held && bytes_eq i.name name) idents
 
 -- its age
-abbrev pub ident_of : Bytes → LibraryView → Option Age
+abbrev pub ident_of : Bytes → LibraryView → Option Serial
 ident_of name l = option_map (λ i. i.age) (held_named name l.idents)
 
 -- the age of the held deck of a name, common or not
-abbrev pub deck_of : Bytes → LibraryView → Option Age
+abbrev pub deck_of : Bytes → LibraryView → Option Serial
 deck_of name l = option_and_then (λ i. if is_deck_kind i.kind then Some i.age else None) (held_named name l.idents)
 
 -- whether a card is the one of an ident and a number
-abbrev pub is_card : Age → Number → CardView → Bool
+abbrev pub is_card : Serial → Number → CardView → Bool
 is_card ident number c = (c.ident == ident) && (c.number == number)
 
 -- whether a deck is the one of an age
-abbrev pub is_deck : Age → DeckView → Bool
+abbrev pub is_deck : Serial → DeckView → Bool
 is_deck age d = d.ident == age
 
 -- the first place in these decks of the card of an ident and a number
-abbrev pub place_in : List DeckView → Age → Number → Option Place
+abbrev pub place_in : List DeckView → Serial → Number → Option Place
 place_in [] ident number = None
 place_in (d ∷ ds) ident number = here_or (index_from (is_card ident number) 0 d.cards) (place_in ds ident number)
   where
@@ -102,7 +102,7 @@ abbrev pub place_of : CardRef → LibraryView → Option Place
 place_of card l = option_and_then (λ age. place_in (all_decks l) age card.number) (ident_of card.name l)
 
 -- the cards of the deck of an age
-abbrev pub cards_of : Age → LibraryView → List CardView
+abbrev pub cards_of : Serial → LibraryView → List CardView
 cards_of age l = option_map_or (λ d. d.cards) (find (is_deck age) (all_decks l)) []
 
 -- the card at a place
@@ -110,7 +110,7 @@ abbrev pub card_in : Place → LibraryView → Option CardView
 card_in place l = slice_get (cards_of place.deck l) place.index
 
 -- the library with the cards of one deck changed
-abbrev pub with_cards : Age → (List CardView → List CardView) → LibraryView → LibraryView
+abbrev pub with_cards : Serial → (List CardView → List CardView) → LibraryView → LibraryView
 with_cards age change l =
     if age == 0
     then record l { yanks = change l.yanks }

@@ -5,13 +5,13 @@ use Rattle.std.specs.declared.cmp.Ordering.{Ordering}
 use Rattle.upd_core.specs.contracts.target.TargetOrd.TheImpl as derived
 use Rattle.upd_core.specs.declared.target.Target.{Target}
 use Rattle.upd_core.specs.declared.target.Target.TheVariants.{Set, SetIn, Deck}
-use Rattle.upd_core.specs.Ages.{Age}
+use Rattle.upd_core.specs.Serials.{Serial}
 
 -- What tells a target: its kind (0 an ident, 1 an ident in a deck, 2 a deck), its age, and the deck's age for kind 1, 0 for the others.
 pub record TargetKey : Type 0 where
   pub kind : ℕ
-  pub age : Age
-  pub deck : Age
+  pub age : Serial
+  pub deck : Serial
 
 -- the key of a target
 abbrev pub target_key : Target → TargetKey

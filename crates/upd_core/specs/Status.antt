@@ -10,22 +10,22 @@ use Rattle.upd_core.specs.declared.target.Target.{Target}
 use Rattle.upd_core.specs.declared.target.Target.TheVariants.{Set, SetIn, Deck}
 use Rattle.upd_core.specs.First.{index_from}
 use Rattle.upd_core.specs.Library.{CardView, LibraryView, held_named, is_card, place_of, card_in}
-use Rattle.upd_core.specs.Ages.{Age}
+use Rattle.upd_core.specs.Serials.{Serial}
 
 -- whether a target takes in deck d the ident z
-abbrev pub takes : Age → Age → Target → Bool
+abbrev pub takes : Serial → Serial → Target → Bool
 takes d z (Set a) = a == z
 takes d z (SetIn a e) = (a == z) && (e == d)
 takes d z (Deck e) = false
 
 -- whether a target takes all cards of deck d
-abbrev pub takes_deck : Age → Target → Bool
+abbrev pub takes_deck : Serial → Target → Bool
 takes_deck d (Set a) = false
 takes_deck d (SetIn a e) = false
 takes_deck d (Deck e) = e == d
 
 -- an ident is taken in a deck while a live target takes it there
-abbrev pub is_taken : List Target → Age → Age → Bool
+abbrev pub is_taken : List Target → Serial → Serial → Bool
 is_taken live d z = list_any (takes d z) live
 
 -- whether there is a last entry and it switches on
@@ -35,11 +35,11 @@ ends_on (e ∷ []) = e.active
 ends_on (e ∷ f ∷ es) = ends_on (f ∷ es)
 
 -- a history with the entries of taken idents left out ends with one that switches on
-abbrev pub stays_on : (Age → Bool) → List Entry → Bool
+abbrev pub stays_on : (Serial → Bool) → List Entry → Bool
 stays_on taken history = ends_on (filter (λ e. not (taken e.ident)) history)
 
 -- a card of deck d is good where its history stays on
-abbrev pub is_good : List Target → Age → CardView → Bool
+abbrev pub is_good : List Target → Serial → CardView → Bool
 is_good live d c = stays_on (is_taken live d) c.history
 
 -- the targets of cards in order
@@ -67,7 +67,7 @@ abbrev pub live_targets : LibraryView → List Target
 live_targets l = targets_of (live_cards l.yanks)
 
 -- a card of deck d is active where it is good and no live target takes the deck
-abbrev pub is_active : List Target → Age → CardView → Bool
+abbrev pub is_active : List Target → Serial → CardView → Bool
 is_active live d c = is_good live d c && not (list_any (takes_deck d) live)
 
 -- whether the card that a reference names is active, if there is one
@@ -95,17 +95,17 @@ abbrev pub yank_at : LibraryView → Place → Option Bool
 yank_at l place = if place.deck == 0 then slice_get (liveness l.yanks) place.index else None
 
 -- an older age; `YANK$$$` itself, which has age 0, is none
-abbrev pub IsOlder : Age → Age → Type 0
+abbrev pub IsOlder : Serial → Serial → Type 0
 IsOlder age z = (0 < z) × (z < age)
 
 -- a target is older than an age, the set of it as well as the deck
-abbrev pub TakesOlder : Age → Target → Type 0
+abbrev pub TakesOlder : Serial → Target → Type 0
 TakesOlder age (Set z) = IsOlder age z
 TakesOlder age (SetIn z d) = IsOlder age z × IsOlder age d
 TakesOlder age (Deck d) = IsOlder age d
 
 -- the entries of a card are of this age or younger
-abbrev pub HasEntriesFrom : Age → CardView → Type 0
+abbrev pub HasEntriesFrom : Serial → CardView → Type 0
 HasEntriesFrom age c = AllByRecursion (λ e. age ≤ e.ident) c.history
 
 -- The order of age in `YANK$$$`: targets are older than their card, entries at least as young as the card, and the entries of every later

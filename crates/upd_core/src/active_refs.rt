@@ -7,7 +7,7 @@ ghost use Rattle.upd_core.specs.Status.{is_active};
 
 use crate::card::Card;
 use crate::deck::Deck;
-use crate::ident::{Age, Ident};
+use crate::ident::{Ident, Serial};
 use crate::live::is_active;
 use crate::targets::Targets;
 use std::alloc::{AllocError, Global};
@@ -17,7 +17,7 @@ use std::marker::Model;
 #[derive(Debug, Drop)]
 pub struct ActiveCardRef<'a> {
     /// The age of the ident that brought the card.
-    pub ident: Age,
+    pub ident: Serial,
     pub number: u32,
     pub text: &'a [u8],
 }
@@ -34,7 +34,7 @@ impl<'a> Model for ActiveCardRef<'a> {
 #[derive(Debug, Drop)]
 pub struct ActiveDeckRef<'a> {
     /// The age of the deck's own ident.
-    pub ident: Age,
+    pub ident: Serial,
     pub cards: Vec<ActiveCardRef<'a>>,
 }
 
@@ -66,7 +66,7 @@ impl<'a> Model for ActivesRef<'a> {
 pub(crate) fn active_cards<'a>(
     alloc: Global,
     live: &Targets,
-    deck: Age,
+    deck: Serial,
     cards: &'a [Card],
 ) -> Result<Vec<ActiveCardRef<'a>>, AllocError>
     ensures { IfOk result (λ found. found.items ≡ map without_past (filter (is_active live.now deck) cards.now)) }

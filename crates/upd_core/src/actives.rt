@@ -4,14 +4,14 @@ ghost use Rattle.std.specs.Prelude.{◌≡◌, [], ◌∷◌, ◌++◌, All, map
 ghost use Rattle.upd_core.specs.ActiveTexts.{LiesIn, card_in_texts};
 
 use crate::active_refs::{ActiveCardRef, ActiveDeckRef, ActivesRef};
-use crate::ident::{Age, Ident};
+use crate::ident::{Ident, Serial};
 use std::alloc::{AllocError, Global};
 use std::marker::Model;
 
 /// An active card whose text is a range of the texts of its deck.
 #[derive(Clone, Copy, Debug)]
 struct Ranged {
-    ident: Age,
+    ident: Serial,
     number: u32,
     start: usize,
     end: usize,
@@ -21,7 +21,7 @@ struct Ranged {
 #[derive(Debug, Drop)]
 pub struct ActiveDeck {
     /// The age of the deck's own ident.
-    pub ident: Age,
+    pub ident: Serial,
     cards: Vec<Ranged>,
     /// The texts of the cards, one after the other.
     texts: Vec<u8>,
@@ -57,7 +57,7 @@ impl Model for Actives {
 
 impl ActiveDeck {
     /// A deck with no active card. It takes no memory.
-    pub fn new(alloc: Global, ident: Age) -> ActiveDeck
+    pub fn new(alloc: Global, ident: Serial) -> ActiveDeck
         ensures { result ≡ record { ident = ident; cards = [] } }
     {
         ActiveDeck {
@@ -68,7 +68,7 @@ impl ActiveDeck {
     }
 
     /// Adds a card at the end.
-    pub fn push(&mut self, ident: Age, number: u32, text: &[u8]) -> Result<(), AllocError>
+    pub fn push(&mut self, ident: Serial, number: u32, text: &[u8]) -> Result<(), AllocError>
         ensures { OnOk result (self.new ≡ record self.old {
           cards = self.old.cards ++ record { ident = ident; number = number; text = text.now } ∷ [];
         }) }

@@ -5,7 +5,7 @@ ghost use Rattle.upd_core.specs.Counts.{capped};
 ghost use Rattle.upd_core.specs.Edits.{new_card};
 ghost use Rattle.upd_core.specs.Library.{ref_of};
 
-use crate::ident::{Age, Ident, name_at};
+use crate::ident::{Ident, Serial, name_at};
 use crate::target::Target;
 use std::alloc::{AllocError, Global};
 use std::marker::Model;
@@ -14,7 +14,7 @@ use upd_text::{CardRef, Name};
 /// One entry of a card's history: an ident that switched the card on or off.
 #[derive(Clone, Copy, Debug, PartialEq, Eq)]
 pub struct Entry {
-    pub ident: Age,
+    pub ident: Serial,
     pub active: bool,
 }
 
@@ -22,7 +22,7 @@ pub struct Entry {
 #[derive(Debug, Drop)]
 pub struct Card {
     /// The age of the ident that brought the card.
-    pub ident: Age,
+    pub ident: Serial,
     /// Its number within that ident, from 1.
     pub number: u32,
     pub text: Vec<u8>,
@@ -50,7 +50,7 @@ impl Card {
     /// A new card: its history is its own ident, on.
     pub fn new(
         alloc: Global,
-        ident: Age,
+        ident: Serial,
         number: u32,
         text: &[u8],
         targets: Vec<Target>,

@@ -12,7 +12,7 @@ ghost use Rattle.upd_core.specs.TargetCounts.{count_in};
 
 use crate::card::{Card, Entry, card_ref};
 use crate::deck::Deck;
-use crate::ident::{Age, Ident};
+use crate::ident::{Ident, Serial};
 use crate::library::{Library, Rest};
 use crate::target::Target;
 use crate::target_counts::TargetCounts;
@@ -40,7 +40,7 @@ impl<'a> Model for Counted<'a> {
 #[derive(Drop)]
 pub struct CountedCard<'a> {
     reference: CardRef,
-    deck: Age,
+    deck: Serial,
     card: &'a Card,
 }
 
@@ -61,7 +61,7 @@ impl<'a> CountedCard<'a> {
     }
 
     /// The age of its deck, 0 for `YANK$$$`.
-    pub fn deck(&self) -> Age
+    pub fn deck(&self) -> Serial
         ensures { result ≡ self.now.deck }
     {
         self.deck
@@ -86,7 +86,7 @@ impl<'a> CountedCard<'a> {
     }
 }
 
-fn has_retaken(before: &TargetCounts, now: &TargetCounts, deck: Age, history: &[Entry]) -> bool
+fn has_retaken(before: &TargetCounts, now: &TargetCounts, deck: Serial, history: &[Entry]) -> bool
     ensures { result ≡ list_any (is_retaken (count_in before.now) (count_in now.now) deck) history.now }
 {
     for entry in history {
@@ -111,7 +111,7 @@ impl<'a> Counted<'a> {
     }
 
     /// How many histories have been read; the count stays at `u64::MAX`. The program doesn't call it.
-    pub fn histories_read(&self) -> u64
+    pub fn reads(&self) -> u64
         ensures { result ≡ self.now.histories_read }
     {
         self.histories_read
@@ -192,7 +192,7 @@ fn add_cards_of<'a>(
 fn add_cards<'a>(
     found: &mut Vec<CountedCard<'a>>,
     idents: &[Ident],
-    deck: Age,
+    deck: Serial,
     cards: &'a [Card],
 ) -> Result<(), AllocError>
     ensures { OnOk result (found.new.items ≡ found.old.items ++ map (counted_card idents.now deck) cards.now) }
@@ -226,7 +226,7 @@ fn add_covered_of(
 fn add_covered(
     found: &mut Vec<CardRef>,
     idents: &[Ident],
-    deck: Age,
+    deck: Serial,
     cards: &[Card],
     target: Target,
 ) -> Result<(), AllocError>
@@ -241,7 +241,7 @@ fn add_covered(
     Ok(())
 }
 
-fn covers(deck: Age, card: &Card, target: Target) -> bool
+fn covers(deck: Serial, card: &Card, target: Target) -> bool
     ensures { result ≡ covers deck card.now target }
 {
     match target {
@@ -251,7 +251,7 @@ fn covers(deck: Age, card: &Card, target: Target) -> bool
     }
 }
 
-fn has_entry_of(ident: Age, card: &Card) -> bool
+fn has_entry_of(ident: Serial, card: &Card) -> bool
     ensures { result ≡ has_entry_of ident card.now }
 {
     card.history.iter().any(|entry| entry.ident == ident)

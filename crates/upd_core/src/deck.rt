@@ -7,7 +7,7 @@ ghost use Rattle.upd_core.specs.First.{index_from};
 ghost use Rattle.upd_core.specs.Library.{is_card, is_deck, place_in};
 
 use crate::card::{Card, copy_cards};
-use crate::ident::Age;
+use crate::ident::Serial;
 use crate::library::Place;
 use std::alloc::{AllocError, Global};
 use std::marker::Model;
@@ -16,7 +16,7 @@ use std::marker::Model;
 #[derive(Debug, Drop)]
 pub struct Deck {
     /// The age of the deck's own ident.
-    pub ident: Age,
+    pub ident: Serial,
     pub cards: Vec<Card>,
 }
 
@@ -30,7 +30,7 @@ impl Model for Deck {
 
 impl Deck {
     /// A new deck: its first card has this text.
-    pub fn new(alloc: Global, ident: Age, text: &[u8]) -> Result<Deck, AllocError>
+    pub fn new(alloc: Global, ident: Serial, text: &[u8]) -> Result<Deck, AllocError>
         ensures { IfOk result (λ deck. deck ≡ record { ident = ident; cards = new_card ident 1 text.now [] ∷ [] }) }
     {
         let first = Card::new(alloc, ident, 1, text, Vec::new(alloc))?;
@@ -63,7 +63,7 @@ pub(crate) fn copy_decks(alloc: Global, decks: &[Deck]) -> Result<Vec<Deck>, All
 }
 
 /// The deck of an age.
-pub fn deck_aged(decks: &[Deck], age: Age) -> Option<&Deck>
+pub fn deck_aged(decks: &[Deck], age: Serial) -> Option<&Deck>
     ensures { option_copied result ≡ find (is_deck age) decks.now }
 {
     for deck in decks {
@@ -75,7 +75,7 @@ pub fn deck_aged(decks: &[Deck], age: Age) -> Option<&Deck>
 }
 
 /// The index of the card of an ident and a number.
-pub(crate) fn card_index(cards: &[Card], ident: Age, number: u32) -> Option<usize>
+pub(crate) fn card_index(cards: &[Card], ident: Serial, number: u32) -> Option<usize>
     ensures first { result ≡ index_from (is_card ident number) 0 cards.now }
     ensures within { IfSome result (λ i. i < length cards.now) }
 {
@@ -88,7 +88,7 @@ pub(crate) fn card_index(cards: &[Card], ident: Age, number: u32) -> Option<usiz
 }
 
 /// Where the card of an ident and a number stands in these decks.
-pub(crate) fn place_in(decks: &[Deck], ident: Age, number: u32) -> Option<Place>
+pub(crate) fn place_in(decks: &[Deck], ident: Serial, number: u32) -> Option<Place>
     ensures { result ≡ place_in decks.now ident number }
 {
     for deck in decks {

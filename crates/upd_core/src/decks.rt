@@ -13,7 +13,7 @@ use crate::card::{Card, Entry};
 use crate::deck::{Deck, card_index, copy_decks, place_in};
 use crate::edits::{enter_in, insert_in, purge_deck};
 use crate::gone::{Gone, purge_decks};
-use crate::ident::Age;
+use crate::ident::Serial;
 use crate::library::Place;
 use std::alloc::{AllocError, Global};
 use std::marker::Model;
@@ -64,7 +64,7 @@ impl Decks {
     }
 
     /// Where the card of an ident and a number stands.
-    pub(crate) fn place_of(&self, ident: Age, number: u32) -> Option<Place>
+    pub(crate) fn place_of(&self, ident: Serial, number: u32) -> Option<Place>
         ensures { result ≡ place_in self.now ident number }
     {
         if may_stray(&self.strays, ident) {
@@ -85,7 +85,12 @@ impl Decks {
     }
 
     /// A card in the deck of an age, with so many of its cards behind it; whether there is such a deck.
-    pub(crate) fn insert(&mut self, age: Age, behind: usize, card: Card) -> Result<bool, AllocError>
+    pub(crate) fn insert(
+        &mut self,
+        age: Serial,
+        behind: usize,
+        card: Card,
+    ) -> Result<bool, AllocError>
         ensures found { IfOk result (λ found. found ≡ is_some (find (is_deck age) self.old)) }
         ensures ok { OnOk result (self.new ≡ inserted_in age behind card self.old) }
         ensures err { OnErr result (self.new ≡ self.old) }
@@ -98,7 +103,7 @@ impl Decks {
     /// An entry on the cards of the deck of an age from one index to another, both included; how many these are.
     pub(crate) fn enter(
         &mut self,
-        age: Age,
+        age: Serial,
         from: usize,
         to: usize,
         entry: Entry,
@@ -121,7 +126,7 @@ impl Decks {
     }
 
     /// Purges an ident in the deck of an age.
-    pub(crate) fn purge_in(&mut self, age: Age, ident: Age)
+    pub(crate) fn purge_in(&mut self, age: Serial, ident: Serial)
         ensures { self.new
             ≡ at_first (is_deck age) (λ d. record d { cards = without_idents (λ x. x == ident) d.cards }) self.old }
     {
@@ -143,7 +148,7 @@ fn no_strays(decks: &Vec<Deck>) -> Vec<bool> {
 }
 
 /// Whether an ident may have cards in another deck than its own.
-fn may_stray(strays: &[bool], ident: Age) -> bool
+fn may_stray(strays: &[bool], ident: Serial) -> bool
     ensures { result ≡ may_stray strays.now ident }
 {
     match strays.get(ident as usize) {
@@ -153,7 +158,7 @@ fn may_stray(strays: &[bool], ident: Age) -> bool
 }
 
 /// Marks an ident as one that may stray.
-fn mark(strays: &mut [bool], ident: Age)
+fn mark(strays: &mut [bool], ident: Serial)
     ensures kept { StayMarked strays.old strays.new }
     ensures marked { may_stray strays.new ident ≡ true }
 {
@@ -164,7 +169,7 @@ fn mark(strays: &mut [bool], ident: Age)
 }
 
 /// Marks the ident of a card that stands in the deck of an age, unless the deck is its own.
-fn mark_card(strays: &mut [bool], deck: Age, card: &Card)
+fn mark_card(strays: &mut [bool], deck: Serial, card: &Card)
     ensures kept { StayMarked strays.old strays.new }
     ensures home { is_home strays.new deck card.now ≡ true }
     ensures own { card.now.ident ≡ deck → strays.new ≡ strays.old }
@@ -175,7 +180,7 @@ fn mark_card(strays: &mut [bool], deck: Age, card: &Card)
 }
 
 /// [`mark_card`] on a vector, whose length stays.
-fn mark_kept(strays: &mut Vec<bool>, deck: Age, card: &Card)
+fn mark_kept(strays: &mut Vec<bool>, deck: Serial, card: &Card)
     ensures kept { StayMarked strays.old.items strays.new.items }
     ensures home { is_home strays.new.items deck card.now ≡ true }
 {
@@ -202,7 +207,7 @@ fn mark_all(strays: &mut [bool], decks: &[Deck])
 }
 
 /// The index in a deck of the card of an ident that doesn't stray.
-fn index_at_home(deck: &Deck, strays: &[bool], ident: Age, number: u32) -> Option<usize>
+fn index_at_home(deck: &Deck, strays: &[bool], ident: Serial, number: u32) -> Option<usize>
     requires home { IsHome strays.now deck.now }
     requires stays { may_stray strays.now ident ≡ false }
     ensures { result ≡ index_from (is_card ident number) 0 deck.now.cards }
@@ -215,7 +220,7 @@ fn index_at_home(deck: &Deck, strays: &[bool], ident: Age, number: u32) -> Optio
 }
 
 /// Where the card of an ident that doesn't stray stands.
-fn place_at_home(decks: &[Deck], strays: &[bool], ident: Age, number: u32) -> Option<Place>
+fn place_at_home(decks: &[Deck], strays: &[bool], ident: Serial, number: u32) -> Option<Place>
     requires home { AreHome strays.now decks.now }
     requires stays { may_stray strays.now ident ≡ false }
     ensures { result ≡ place_in decks.now ident number }

@@ -14,7 +14,7 @@ use crate::card::{Card, Entry};
 use crate::counts::Counts;
 use crate::deck::Deck;
 use crate::gone::{Gone, purge_cards, unhold};
-use crate::ident::{Age, Ident, Kind};
+use crate::ident::{Ident, Kind, Serial};
 use crate::library::Library;
 use std::alloc::{AllocError, Global};
 use upd_text::Name;
@@ -33,7 +33,7 @@ impl Library {
         ensures ok { OnOk result (self.new ≡ introduced name kind noprop self.old) }
         ensures err { OnErr result (self.new ≡ self.old) }
     {
-        let age = self.idents.len() as Age + 1;
+        let age = self.idents.len() as Serial + 1;
         self.idents.push(Ident {
             name,
             age,
@@ -58,7 +58,7 @@ impl Library {
 
     /// A card in the deck of an age, 0 for `YANK$$$`, with so many of its cards behind it. Where there is no such deck
     /// it is dropped.
-    pub fn insert_card(&mut self, deck: Age, behind: usize, card: Card) -> Result<(), AllocError>
+    pub fn insert_card(&mut self, deck: Serial, behind: usize, card: Card) -> Result<(), AllocError>
         ensures ok { OnOk result (self.new ≡ with_card deck behind card self.old) }
         ensures err { OnErr result (self.new ≡ self.old) }
     {
@@ -90,7 +90,7 @@ impl Library {
     /// there are cards.
     pub fn enter(
         &mut self,
-        deck: Age,
+        deck: Serial,
         from: usize,
         to: usize,
         entry: Entry,
@@ -119,7 +119,7 @@ impl Library {
 
     fn enter_deck(
         &mut self,
-        deck: Age,
+        deck: Serial,
         from: usize,
         to: usize,
         entry: Entry,
@@ -134,7 +134,7 @@ impl Library {
     }
 
     /// Purges the idents of these ages. It takes a mark for each age up to the greatest.
-    pub fn purge(&mut self, ages: &[Age]) -> Result<(), AllocError>
+    pub fn purge(&mut self, ages: &[Serial]) -> Result<(), AllocError>
         ensures ok { OnOk result (self.new ≡ purged (is_among ages.now) self.old) }
         ensures err { OnErr result (self.new ≡ self.old) }
     {
@@ -144,7 +144,7 @@ impl Library {
     }
 
     /// Purges the ident of an age and all younger ones. It takes no memory.
-    pub fn purge_from(&mut self, age: Age)
+    pub fn purge_from(&mut self, age: Serial)
         ensures { self.new ≡ purged_back age self.old }
     {
         self.purge_gone(&Gone::From(age));
@@ -160,7 +160,7 @@ impl Library {
     }
 
     /// Purges an ident in one deck, 0 for `YANK$$$`; it stays held. It takes no memory.
-    pub fn purge_in(&mut self, deck: Age, ident: Age)
+    pub fn purge_in(&mut self, deck: Serial, ident: Serial)
         ensures { self.new ≡ purged_in deck ident self.old }
     {
         if deck == 0 {
@@ -173,7 +173,7 @@ impl Library {
 }
 
 /// The index of the deck of an age.
-fn deck_index(decks: &[Deck], age: Age) -> Option<usize>
+fn deck_index(decks: &[Deck], age: Serial) -> Option<usize>
     ensures first { result ≡ index_from (is_deck age) 0 decks.now }
     ensures within { IfSome result (λ i. i < length decks.now) }
 {
@@ -198,7 +198,7 @@ fn insert_behind(cards: &mut Vec<Card>, behind: usize, card: Card) -> Result<(),
 /// The same in the deck of an age; whether there is such a deck.
 pub(crate) fn insert_in(
     decks: &mut Vec<Deck>,
-    age: Age,
+    age: Serial,
     behind: usize,
     card: Card,
 ) -> Result<bool, AllocError>
@@ -291,7 +291,7 @@ fn enter_range(
 /// [`enter_range`] in the deck of an age; on no card where there is no such deck.
 pub(crate) fn enter_in(
     decks: &mut Vec<Deck>,
-    age: Age,
+    age: Serial,
     from: usize,
     to: usize,
     entry: Entry,
@@ -312,7 +312,7 @@ pub(crate) fn enter_in(
 }
 
 /// Purges an ident in the deck of an age.
-pub(crate) fn purge_deck(decks: &mut Vec<Deck>, age: Age, ident: Age)
+pub(crate) fn purge_deck(decks: &mut Vec<Deck>, age: Serial, ident: Serial)
     ensures { decks.new.items
         ≡ at_first (is_deck age) (λ d. record d { cards = without_idents (λ x. x == ident) d.cards }) decks.old.items }
 {

@@ -7,22 +7,22 @@ ghost use Rattle.upd_core.specs.Gone.{has_mark, is_gone};
 
 use crate::card::{Card, Entry};
 use crate::deck::Deck;
-use crate::ident::{Age, Ident};
+use crate::ident::{Ident, Serial};
 use std::alloc::{AllocError, Global};
 
 /// The idents that a purge takes.
 #[derive(Drop)]
 pub enum Gone {
-    Only(Age),
+    Only(Serial),
     /// An ident and all younger ones.
-    From(Age),
+    From(Serial),
     /// The ages whose mark is set.
     Marked(Vec<bool>),
 }
 
 impl Gone {
     /// The idents of these ages. It takes a mark for each age up to the greatest.
-    pub(crate) fn among(alloc: Global, ages: &[Age]) -> Result<Gone, AllocError>
+    pub(crate) fn among(alloc: Global, ages: &[Serial]) -> Result<Gone, AllocError>
         ensures { IfOk result (λ gone. (z : ℕ) → is_gone gone z ≡ is_among ages.now z) }
     {
         let marks = marks(alloc, ages)?;
@@ -30,7 +30,7 @@ impl Gone {
     }
 
     /// Whether the purge takes the ident of an age.
-    pub(crate) fn covers(&self, age: Age) -> bool
+    pub(crate) fn covers(&self, age: Serial) -> bool
         ensures { result ≡ is_gone self.now age }
     {
         match self {
@@ -42,7 +42,7 @@ impl Gone {
 }
 
 /// Whether an age has a mark: beyond the marks none has.
-fn has_mark(marks: &[bool], age: Age) -> bool
+fn has_mark(marks: &[bool], age: Serial) -> bool
     ensures { result ≡ has_mark marks.now age }
 {
     let age = age as usize;
@@ -50,7 +50,7 @@ fn has_mark(marks: &[bool], age: Age) -> bool
 }
 
 /// A mark for each age up to the greatest of these.
-fn marks(alloc: Global, ages: &[Age]) -> Result<Vec<bool>, AllocError>
+fn marks(alloc: Global, ages: &[Serial]) -> Result<Vec<bool>, AllocError>
     ensures { IfOk result (λ marks. (z : ℕ) → has_mark marks.items z ≡ is_among ages.now z) }
 {
     let mut marks = vec![in alloc; false; after_all(ages)]?;
@@ -61,7 +61,7 @@ fn marks(alloc: Global, ages: &[Age]) -> Result<Vec<bool>, AllocError>
 }
 
 /// One more than the greatest age.
-fn after_all(ages: &[Age]) -> usize
+fn after_all(ages: &[Serial]) -> usize
     ensures { EachIndex ages.now (λ k. slice_index ages.now k < result) }
 {
     match ages.iter().copied().max() {

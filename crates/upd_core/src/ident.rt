@@ -7,7 +7,7 @@ ghost use Rattle.upd_core.specs.Library.{held_named, is_deck_kind, is_common, na
 use upd_text::Name;
 
 /// The age of an ident: 1 for the first that was introduced. `YANK$$$` has age 0.
-pub type Age = u32;
+pub type Serial = u32;
 
 /// What an ident stands for.
 #[derive(Clone, Copy, Debug, PartialEq, Eq)]
@@ -25,7 +25,7 @@ pub enum Kind {
 #[derive(Clone, Copy, Debug)]
 pub struct Ident {
     pub name: Name,
-    pub age: Age,
+    pub age: Serial,
     pub kind: Kind,
     /// Whether a change of this common deck leaves its callers out of a normal compile file, unless they are chosen
     /// for another reason.
@@ -69,7 +69,7 @@ pub(crate) fn held_named<'a>(idents: &'a [Ident], name: &Name) -> Option<&'a Ide
 }
 
 /// The name of the ident of an age, held or not.
-pub fn name_at(idents: &[Ident], age: Age) -> Option<Name>
+pub fn name_at(idents: &[Ident], age: Serial) -> Option<Name>
     ensures { result ≡ name_at idents.now age }
 {
     if age == 0 {

@@ -15,7 +15,7 @@ use crate::card::{Card, copy_cards};
 use crate::counts::Counts;
 use crate::deck::{Deck, card_index, deck_aged};
 use crate::decks::Decks;
-use crate::ident::{Age, Ident, held_named};
+use crate::ident::{Ident, Serial, held_named};
 use crate::live::{Live, is_active, swept};
 use std::alloc::Global;
 use std::marker::Model;
@@ -24,7 +24,7 @@ use upd_text::{CardRef, Fault, Name};
 /// Where a card stands: the age of its deck (0 for `YANK$$$`) and its index there.
 #[derive(Clone, Copy, Debug, PartialEq, Eq)]
 pub struct Place {
-    pub deck: Age,
+    pub deck: Serial,
     pub index: usize,
 }
 
@@ -157,14 +157,14 @@ impl Library {
     }
 
     /// The age of the held ident of a name.
-    pub fn ident_of(&self, name: &Name) -> Option<Age>
+    pub fn ident_of(&self, name: &Name) -> Option<Serial>
         ensures { result ≡ ident_of name.now self.now }
     {
         self.held(name).map(|ident| ident.age)
     }
 
     /// The age of the held deck of a name, common or not.
-    pub fn deck_of(&self, name: &Name) -> Option<Age>
+    pub fn deck_of(&self, name: &Name) -> Option<Serial>
         ensures { result ≡ deck_of name.now self.now }
     {
         let ident = self.held(name)?;
@@ -176,7 +176,7 @@ impl Library {
     }
 
     /// The cards of the deck of an age, 0 for `YANK$$$`; none where there is no such deck.
-    pub fn cards_of(&self, age: Age) -> &[Card]
+    pub fn cards_of(&self, age: Serial) -> &[Card]
         ensures { result.now ≡ cards_of age self.now }
     {
         if age == 0 {
@@ -189,7 +189,7 @@ impl Library {
     }
 
     /// Where the card stands that a reference names.
-    pub fn place_of(&self, card: CardRef) -> Option<Place>
+    pub fn card_at(&self, card: CardRef) -> Option<Place>
         ensures { result ≡ place_of card self.now }
     {
         let ident = self.ident_of(&card.name)?;
@@ -226,7 +226,7 @@ impl Library {
         requires { live.now ≡ live_of self.now }
         ensures { result ≡ status_of card self.now }
     {
-        let place = self.place_of(card)?;
+        let place = self.card_at(card)?;
         let card = self.card_in(place)?;
         Some(is_active(&live.targets, place.deck, card))
     }

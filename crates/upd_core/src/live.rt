@@ -9,7 +9,7 @@ ghost use Rattle.upd_core.specs.Sound.{IsSound};
 
 use crate::card::{Card, Entry};
 use crate::deck::card_index;
-use crate::ident::{Age, Ident, held_named};
+use crate::ident::{Ident, Serial, held_named};
 use crate::targets::Targets;
 use std::alloc::{AllocError, Global};
 use std::marker::Model;
@@ -49,21 +49,21 @@ impl<'a> Live<'a> {
     }
 
     /// Whether an ident is taken in a deck.
-    pub fn is_taken(&self, deck: Age, ident: Age) -> bool
+    pub fn is_taken(&self, deck: Serial, ident: Serial) -> bool
         ensures { result ≡ is_taken self.now.targets deck ident }
     {
         self.targets.is_taken(deck, ident)
     }
 
     /// Whether a card of a deck is good. It doesn't look whether the card stands there.
-    pub fn is_good(&self, deck: Age, card: &Card) -> bool
+    pub fn is_good(&self, deck: Serial, card: &Card) -> bool
         ensures { result ≡ is_good self.now.targets deck card.now }
     {
         is_good(&self.targets, deck, card)
     }
 
     /// Whether a card of a deck is active. It doesn't look whether the card stands there.
-    pub fn is_active(&self, deck: Age, card: &Card) -> bool
+    pub fn is_active(&self, deck: Serial, card: &Card) -> bool
         ensures { result ≡ is_active self.now.targets deck card.now }
     {
         is_active(&self.targets, deck, card)
@@ -77,7 +77,7 @@ pub fn references_find_their_yank_cards()
 {}
 
 /// Whether a history stays on in a deck.
-pub(crate) fn stays_on(targets: &Targets, deck: Age, history: &[Entry]) -> bool
+pub(crate) fn stays_on(targets: &Targets, deck: Serial, history: &[Entry]) -> bool
     ensures { result ≡ stays_on (is_taken targets.now deck) history.now }
 {
     for i in (0..history.len()).rev() {
@@ -89,14 +89,14 @@ pub(crate) fn stays_on(targets: &Targets, deck: Age, history: &[Entry]) -> bool
 }
 
 /// Whether a card of a deck is good.
-pub(crate) fn is_good(targets: &Targets, deck: Age, card: &Card) -> bool
+pub(crate) fn is_good(targets: &Targets, deck: Serial, card: &Card) -> bool
     ensures { result ≡ is_good targets.now deck card.now }
 {
     stays_on(targets, deck, &card.history)
 }
 
 /// Whether a card of a deck is active.
-pub(crate) fn is_active(targets: &Targets, deck: Age, card: &Card) -> bool
+pub(crate) fn is_active(targets: &Targets, deck: Serial, card: &Card) -> bool
     ensures { result ≡ is_active targets.now deck card.now }
 {
     is_good(targets, deck, card) && !targets.takes_deck(deck)

@@ -7,17 +7,17 @@ ghost use Rattle.upd_core.specs.Order.{key_order, target_key, target_order};
 ghost use Rattle.upd_core.specs.Targets.{is_same};
 ghost use Rattle.upd_core.specs.declared.target.Target.{Target};
 
-use crate::ident::Age;
+use crate::ident::Serial;
 
 /// What a yank card takes out of use while it is live.
 #[derive(Clone, Copy, Debug, PartialEq, Eq, PartialOrd, Ord, Hash)]
 pub enum Target {
     /// All that an ident brought and did, be it a set or a deck: written `set z` in listings.
-    Set(Age),
+    Set(Serial),
     /// The same in one deck: the ident, then the deck.
-    SetIn(Age, Age),
+    SetIn(Serial, Serial),
     /// All cards of a deck.
-    Deck(Age),
+    Deck(Serial),
 }
 
 /// Targets are ordered by their keys, and are equal by this order exactly where they are the same.

@@ -4,7 +4,7 @@ ghost use Rattle.std.specs.Prelude.{◌≡◌, [], ◌∷◌, ◌++◌, OnOk};
 ghost use Rattle.std.specs.List.{list_any};
 ghost use Rattle.upd_core.specs.Status.{takes_deck, is_taken};
 
-use crate::ident::Age;
+use crate::ident::Serial;
 use crate::target::Target;
 use std::alloc::{AllocError, Global};
 use std::collections::HashSet;
@@ -64,14 +64,14 @@ impl Targets {
     }
 
     /// Whether one of them takes an ident in a deck.
-    pub(crate) fn is_taken(&self, deck: Age, ident: Age) -> bool
+    pub(crate) fn is_taken(&self, deck: Serial, ident: Serial) -> bool
         ensures { result ≡ is_taken self.now deck ident }
     {
         self.index.contains(&Target::Set(ident)) || self.index.contains(&Target::SetIn(ident, deck))
     }
 
     /// Whether one of them takes all cards of a deck.
-    pub(crate) fn takes_deck(&self, deck: Age) -> bool
+    pub(crate) fn takes_deck(&self, deck: Serial) -> bool
         ensures { result ≡ list_any (takes_deck deck) self.now }
     {
         self.index.contains(&Target::Deck(deck))

@@ -4,9 +4,9 @@ use Rattle.std.proofs.Common.{Result, Ok, Err, refl, ap, sym, ◌∙◌, subst}
 use Rattle.std.specs.List.{list_any, find}
 use Rattle.std.specs.Option.{option_map_or}
 use Rattle.upd_text.specs.declared.fault.Fault.{Fault}
-use Rattle.upd_change.specs.Rows.{Rows, Shows, ShowsStates}
+use Rattle.upd_records.specs.Rows.{Rows, Shows, ShowsStates}
 use Rattle.upd_compile.specs.declared.mode.Mode.{Mode}
-use Rattle.upd_rows.specs.Tables.{is_run, run_at, is_mark_of}
+use Rattle.upd_row_store.specs.Tables.{is_run, run_at, is_mark_of}
 use Rattle.upd_desk.specs.Arrivals.{ArrivalView, door}
 use Rattle.upd_desk.specs.Journal.{Alike, Event, Came, Carried, Settled, Heard, Journal, mark, has_key, with_arrival, distinct, made_by, library_after, answered, kept}
 use Rattle.upd_desk.specs.Outcomes.{outcome}

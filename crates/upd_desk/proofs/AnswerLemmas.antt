@@ -5,10 +5,10 @@ use Rattle.upd_text.specs.declared.fault.Fault.{Fault}
 use Rattle.upd_text.specs.declared.fault.FaultKind.TheVariants as fault
 use Rattle.upd_text.specs.declared.limits.TheConstants.{MAX_RUN_BYTES}
 use Rattle.upd_text.specs.Outcome.{◌>>=◌, at_line, need, refuse_if}
-use Rattle.upd_change.specs.Rows.{RunView, Rows}
+use Rattle.upd_records.specs.Rows.{RunView, Rows}
 use Rattle.upd_compile.specs.declared.mode.Mode.{Mode}
 use Rattle.upd_compile.specs.Modes.{mode_named}
-use Rattle.upd_rows.specs.Tables.{run_at, mark_at}
+use Rattle.upd_row_store.specs.Tables.{run_at, mark_at}
 use Rattle.upd_desk.specs.Arrivals.{ArrivalView, is_site, is_run_number, door}
 use Rattle.upd_desk.specs.Journal.{Came, Journal, mark, distinct, library_after, kept, reply_to, answer}
 use Rattle.upd_desk.specs.Outcomes.{ReplyView, outcome}

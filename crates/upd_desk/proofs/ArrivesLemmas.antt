@@ -7,11 +7,11 @@ use Rattle.std.proofs.lemmas.Bool.Decides.{nat_tests}
 use Rattle.upd_text.specs.declared.fault.Fault.{Fault}
 use Rattle.upd_text.specs.declared.fault.FaultKind.TheVariants as fault
 use Rattle.upd_core.specs.Library.{LibraryView, empty}
-use Rattle.upd_change.specs.Rows.{RunView, Rows, Shows, ShowsStates}
+use Rattle.upd_records.specs.Rows.{RunView, Rows, Shows, ShowsStates}
 use Rattle.upd_compile.specs.declared.mode.Mode.{Mode}
-use Rattle.upd_rows.specs.Keeping.{IsLost, Keeps, MoreFailures, OfMemory, OfStore}
-use Rattle.upd_rows.specs.Tables.{mark_at, run_at}
-use Rattle.upd_rows.proofs.StoreLemmas.{keeps_still}
+use Rattle.upd_row_store.specs.Keeping.{IsLost, Keeps, MoreFailures, OfMemory, OfStore}
+use Rattle.upd_row_store.specs.Tables.{mark_at, run_at}
+use Rattle.upd_row_store.proofs.StoreLemmas.{keeps_still}
 use Rattle.upd_desk.specs.Arrivals.{ArrivalView, door, mode_number}
 use Rattle.upd_desk.specs.Journal.{Alike, Event, Came, Journal, answer, distinct, mark, reply_to, library_after}
 use Rattle.upd_desk.specs.Made.{IsMade}

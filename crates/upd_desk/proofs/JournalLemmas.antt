@@ -3,7 +3,7 @@ use Rattle.std.proofs.Common.{◌≡◌, ℕ, nat_lt, Bool, true, false, not, �
 use Rattle.std.specs.List.{list_any}
 use Rattle.upd_text.specs.declared.fault.Fault.{Fault}
 use Rattle.upd_compile.specs.declared.mode.Mode.{Mode}
-use Rattle.upd_rows.specs.Tables.{is_run}
+use Rattle.upd_row_store.specs.Tables.{is_run}
 use Rattle.upd_desk.specs.Arrivals.{ArrivalView, door}
 use Rattle.upd_desk.specs.Journal.{Came, Heard, Journal, mark, has_key, distinct, answered}
 

@@ -4,10 +4,10 @@ use Rattle.std.proofs.Common.{refl, ap, ◌∙◌, rules, arith}
 use Rattle.std.specs.List.{list_any, find}
 use Rattle.std.specs.Str.{bytes_eq}
 use Rattle.std.proofs.lemmas.Bool.Decides.{nat_tests}
-use Rattle.upd_change.specs.Rows.{RunView, Rows}
-use Rattle.upd_rows.specs.Tables.{is_run, run_at, mark_at, settled_to}
-use Rattle.upd_rows.proofs.TableLemmas.{is_same_bytes, mark_at_settled, max_left, max_right, run_at_committed, run_at_settled, same_bytes, same_key}
-use Rattle.upd_rows.proofs.TableLemmas.{unequal}
+use Rattle.upd_records.specs.Rows.{RunView, Rows}
+use Rattle.upd_row_store.specs.Tables.{is_run, run_at, mark_at, settled_to}
+use Rattle.upd_row_store.proofs.TableLemmas.{is_same_bytes, mark_at_settled, max_left, max_right, run_at_committed, run_at_settled, same_bytes, same_key}
+use Rattle.upd_row_store.proofs.TableLemmas.{unequal}
 use Rattle.upd_desk.specs.Journal.{Heard, Journal, Settled, mark, has_key, distinct, run_of, answered, kept}
 use Rattle.upd_desk.specs.Outcomes.{ReplyView}
 use Rattle.upd_desk.proofs.JournalLemmas.{answered_any}

@@ -8,12 +8,12 @@ use Rattle.std.proofs.lemmas.Bool.Decides.{nat_tests}
 use Rattle.upd_text.specs.declared.fault.Fault.{Fault}
 use Rattle.upd_text.specs.declared.fault.FaultKind.TheVariants as fault
 use Rattle.upd_core.specs.Library.{LibraryView}
-use Rattle.upd_change.specs.Rows.{RunView}
+use Rattle.upd_records.specs.Rows.{RunView}
 use Rattle.upd_compile.specs.declared.mode.Mode.{Mode}
 use Rattle.upd_deck.proofs.GrammarNames.{ok_same}
 use Rattle.upd_laws.proofs.SoundListLemmas.{find_passes}
-use Rattle.upd_rows.specs.Tables.{is_run}
-use Rattle.upd_rows.proofs.TableLemmas.{is_same_bytes, max_left, max_right, same_bytes, same_key}
+use Rattle.upd_row_store.specs.Tables.{is_run}
+use Rattle.upd_row_store.proofs.TableLemmas.{is_same_bytes, max_left, max_right, same_bytes, same_key}
 use Rattle.upd_desk.specs.Arrivals.{ArrivalView, door, mode_number}
 use Rattle.upd_desk.specs.Journal.{Alike, Event, Came, Carried, Settled, Heard, Journal, answer, answered, distinct, first_arrivals, has_key, heard}
 use Rattle.upd_desk.specs.Journal.{heard_one, kept, made_by, mark, reply_to, run_of, with_arrival, library_after}

@@ -9,14 +9,14 @@ use Rattle.upd_text.specs.declared.fault.Fault.{Fault}
 use Rattle.upd_text.specs.declared.limits.TheConstants.{MAX_CARDS, MAX_ENTRIES, MAX_HELD, MAX_INTRODUCED, MAX_TARGETS}
 use Rattle.upd_core.specs.Library.{DeckView, LibraryView}
 use Rattle.upd_core.specs.Limits.{card_count, entry_count, held_count, is_within_limits, target_count}
-use Rattle.upd_change.specs.declared.change.Change.{Change}
-use Rattle.upd_change.specs.Changes.{ChangeView, IdentNew, IdentPurged, CardNew, CardGone, CardsMoved, EntryNew, EntriesGone, TargetNew, TargetsGone}
-use Rattle.upd_change.specs.Changes.{StatusNow, CountNow, change_seen, done, done_all}
-use Rattle.upd_change.specs.Fits.{AllFit}
-use Rattle.upd_change.specs.Rows.{Rows, RunView, Shows, ShowsStates}
-use Rattle.upd_change.specs.States.{tells_state}
-use Rattle.upd_change.proofs.FitLemmas.{FitsAny, any_fit, done_append, fit_append}
-use Rattle.upd_change.proofs.TellLemmas.{tells_fits, tells_shows}
+use Rattle.upd_core.specs.declared.change.Change.{Change}
+use Rattle.upd_records.specs.Changes.{ChangeView, IdentNew, IdentPurged, CardNew, CardGone, CardsMoved, EntryNew, EntriesGone, TargetNew, TargetsGone}
+use Rattle.upd_records.specs.Changes.{StatusNow, CountNow, change_seen, done, done_all}
+use Rattle.upd_records.specs.Fits.{AllFit}
+use Rattle.upd_records.specs.Rows.{Rows, RunView, Shows, ShowsStates}
+use Rattle.upd_diff.specs.States.{tells_state}
+use Rattle.upd_diff.proofs.FitLemmas.{FitsAny, any_fit, done_append, fit_append}
+use Rattle.upd_diff.proofs.TellLemmas.{tells_fits, tells_shows}
 use Rattle.upd_deck.specs.Items.{LineView}
 use Rattle.upd_deck.specs.Reading.{reading}
 use Rattle.upd_apply.specs.Applying.{Reached, applied, touched}
@@ -24,7 +24,7 @@ use Rattle.upd_compile.specs.declared.mode.Mode.{Mode}
 use Rattle.upd_compile.specs.File.{FileView, compile_file_of}
 use Rattle.upd_laws.proofs.SoundListLemmas.{all_weaker, and_left, and_right}
 use Rattle.upd_laws.proofs.SoundRunLemmas.{run_goes}
-use Rattle.upd_rows.specs.Tables.{committed}
+use Rattle.upd_row_store.specs.Tables.{committed}
 use Rattle.upd_yank.specs.Affected.{affected, altered}
 use Rattle.upd_yank.proofs.RightLemmas.{least_affected}
 use Rattle.upd_desk.specs.declared.outcome.AppliedRun.{AppliedRun}

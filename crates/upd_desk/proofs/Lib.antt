@@ -8,7 +8,7 @@ mod AlikeLemmas
 mod AnswerLemmas
 mod StoreLemmas
 mod ArrivesLemmas
-mod ArriveAllLemmas
+mod RunAllLemmas
 mod SettlesLemmas
 mod RefusedLemmas
 mod QueryLemmas

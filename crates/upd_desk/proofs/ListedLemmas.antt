@@ -16,11 +16,11 @@ use Rattle.upd_core.specs.Parts.{part, part_of}
 use Rattle.upd_core.specs.Sound.{IsSound}
 use Rattle.upd_core.specs.Status.{live_targets}
 use Rattle.upd_compile.specs.Listings.{card_lines, card_listing, deck_heading, deck_line, deck_listing}
-use Rattle.upd_rows.specs.Asked.{decks_with}
-use Rattle.upd_parts.specs.Needless.{is_left_out}
-use Rattle.upd_parts.proofs.NeedLemmas.{part_of_others}
-use Rattle.upd_parts.proofs.NeededLemmas.{card_deck_kept, card_placed}
-use Rattle.upd_parts.proofs.PartLemmas.{cards_same}
+use Rattle.upd_row_store.specs.Asked.{decks_with}
+use Rattle.upd_partial.specs.Needless.{is_left_out}
+use Rattle.upd_partial.proofs.NeedLemmas.{part_of_others}
+use Rattle.upd_partial.proofs.NeededLemmas.{card_deck_kept, card_placed}
+use Rattle.upd_partial.proofs.PartLemmas.{cards_same}
 
 among_own : (d : ℕ) → is_among (d ∷ []) d ≡ true
 among_own d = let same : (d == d) ≡ true = grind (arith, nat_tests) in rw same refl

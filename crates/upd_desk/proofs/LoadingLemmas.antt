@@ -15,11 +15,11 @@ use Rattle.upd_core.specs.Sound.{IsSound}
 use Rattle.upd_core.proofs.ApartLemmas.{all_at, all_mapped}
 use Rattle.upd_core.proofs.FoundLemmas.{place_found}
 use Rattle.upd_deck.specs.Items.{LineView}
-use Rattle.upd_rows.specs.Asked.{decks_with}
-use Rattle.upd_rows.specs.Keeping.{reads_with}
-use Rattle.upd_parts.specs.Needed.{cards_named, decks_needed, is_yank_card}
-use Rattle.upd_parts.specs.Needless.{is_plain}
-use Rattle.upd_parts.proofs.CountLemmas.{decks_few, whole_part}
+use Rattle.upd_row_store.specs.Asked.{decks_with}
+use Rattle.upd_row_store.specs.Keeping.{reads_with}
+use Rattle.upd_partial.specs.Needed.{cards_named, decks_needed, is_yank_card}
+use Rattle.upd_partial.specs.Needless.{is_plain}
+use Rattle.upd_partial.proofs.CountLemmas.{decks_few, whole_part}
 use Rattle.upd_deck.specs.Reading.{reading}
 use Rattle.upd_desk.specs.Needed.{needed}
 

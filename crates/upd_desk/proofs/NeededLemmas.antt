@@ -9,14 +9,14 @@ use Rattle.upd_core.specs.Edits.{is_among}
 use Rattle.upd_core.specs.Library.{LibraryView}
 use Rattle.upd_core.specs.Parts.{part, part_of}
 use Rattle.upd_core.specs.Sound.{AreApart, IsSound, IsWhole, all_cards, key_of}
-use Rattle.upd_change.specs.Changes.{ChangeView, change_seen, done_all}
-use Rattle.upd_change.specs.Rows.{Rows, ShowsStates}
-use Rattle.upd_change.specs.States.{TakeGone}
-use Rattle.upd_change.specs.Told.{Told}
-use Rattle.upd_change.proofs.TellLemmas.{tells_take}
+use Rattle.upd_records.specs.Changes.{ChangeView, change_seen, done_all}
+use Rattle.upd_records.specs.Rows.{Rows, ShowsStates}
+use Rattle.upd_diff.specs.States.{TakeGone}
+use Rattle.upd_diff.specs.Told.{Told}
+use Rattle.upd_diff.proofs.TellLemmas.{tells_take}
 use Rattle.upd_deck.specs.Items.{LineView}
 use Rattle.upd_apply.specs.Applying.{Reached, applied, touched}
-use Rattle.upd_rows.specs.Asked.{decks_with}
+use Rattle.upd_row_store.specs.Asked.{decks_with}
 use Rattle.upd_laws.proofs.SoundRunLemmas.{run_goes, run_sound, run_whole, run_within}
 use Rattle.upd_yank.specs.Affected.{affected}
 use Rattle.upd_yank.specs.Enough.{IsEnough}
@@ -24,18 +24,18 @@ use Rattle.upd_yank.specs.Renewed.{IsAsBefore, renewed}
 use Rattle.upd_yank.specs.Right.{CacheView, IsRight, IsRunBetween}
 use Rattle.upd_yank.proofs.EnoughLemmas.{part_of_none}
 use Rattle.upd_yank.proofs.RenewLemmas.{renewed_is}
-use Rattle.upd_parts.specs.Needed.{cards_named, decks_needed, is_yank_card}
-use Rattle.upd_parts.specs.Needless.{DoesWithout, IsOnWhole, NamesNone, is_plain, is_left_out, reached_in_part}
-use Rattle.upd_parts.proofs.AloneLemmas.{affected_in, enough_alone}
-use Rattle.upd_parts.proofs.AppliedLemmas.{applied_same}
-use Rattle.upd_parts.proofs.CountLemmas.{none_left_out, whole_part}
-use Rattle.upd_parts.proofs.LeftLemmas.{no_yank_named}
-use Rattle.upd_parts.proofs.NeedLemmas.{others_listed, part_of_others}
-use Rattle.upd_parts.proofs.NeededLemmas.{others_unnamed}
-use Rattle.upd_parts.proofs.PartLeadLemmas.{part_leads}
-use Rattle.upd_parts.proofs.PartSoundLemmas.{part_sound}
-use Rattle.upd_parts.proofs.RenewLemmas.{renewed_alone}
-use Rattle.upd_parts.proofs.WholeLemmas.{on_whole}
+use Rattle.upd_partial.specs.Needed.{cards_named, decks_needed, is_yank_card}
+use Rattle.upd_partial.specs.Needless.{DoesWithout, IsOnWhole, NamesNone, is_plain, is_left_out, reached_in_part}
+use Rattle.upd_partial.proofs.AloneLemmas.{affected_in, enough_alone}
+use Rattle.upd_partial.proofs.AppliedLemmas.{applied_same}
+use Rattle.upd_partial.proofs.CountLemmas.{none_left_out, whole_part}
+use Rattle.upd_partial.proofs.LeftLemmas.{no_yank_named}
+use Rattle.upd_partial.proofs.NeedLemmas.{others_listed, part_of_others}
+use Rattle.upd_partial.proofs.NeededLemmas.{others_unnamed}
+use Rattle.upd_partial.proofs.PartLeadLemmas.{part_leads}
+use Rattle.upd_partial.proofs.PartSoundLemmas.{part_sound}
+use Rattle.upd_partial.proofs.RenewLemmas.{renewed_alone}
+use Rattle.upd_partial.proofs.WholeLemmas.{on_whole}
 use Rattle.upd_desk.specs.declared.outcome.AppliedRun.{AppliedRun}
 use Rattle.upd_desk.specs.Compiling.{IsRunOf}
 use Rattle.upd_desk.specs.Made.{IsMade}

@@ -14,8 +14,8 @@ use Rattle.upd_compile.specs.Chosen.{chosen}
 use Rattle.upd_compile.specs.File.{FileView, event_fault, event_line, file_of, is_follow, is_line, walk_faults}
 use Rattle.upd_compile.specs.Walk.{WalkEvent, Line, Follow, Depth, Unknown, walk}
 use Rattle.upd_compile.specs.declared.mode.Mode.{Mode}
-use Rattle.upd_change.specs.Rows.{Rows, Shows, ShowsStates}
-use Rattle.upd_rows.specs.Keeping.{IsLost, Keeps, OfMemory}
+use Rattle.upd_records.specs.Rows.{Rows, Shows, ShowsStates}
+use Rattle.upd_row_store.specs.Keeping.{IsLost, Keeps, OfMemory}
 use Rattle.upd_desk.specs.Journal.{Journal, library_after}
 use Rattle.upd_desk.specs.Made.{IsMade}
 use Rattle.upd_desk.specs.Holding.{HoldsIn, IsOwed, Tells, is_lost}

@@ -12,7 +12,7 @@ use Rattle.upd_core.specs.Sound.{IsSound}
 use Rattle.upd_core.specs.Status.{is_active, live_targets, status_of}
 use Rattle.upd_core.proofs.FoundLemmas.{status_at}
 use Rattle.upd_compile.specs.declared.mode.Mode.{Mode}
-use Rattle.upd_rows.specs.Keeping.{IsLost, OfMemory}
+use Rattle.upd_row_store.specs.Keeping.{IsLost, OfMemory}
 use Rattle.upd_yank.specs.Affected.{altered, is_other}
 use Rattle.upd_yank.proofs.StateLemmas.{all_counted}
 use Rattle.upd_desk.specs.Arrivals.{ArrivalView}

@@ -7,10 +7,10 @@ use Rattle.std.proofs.lemmas.Bool.Decides.{nat_tests}
 use Rattle.std.proofs.Math.Nat.{le-max_right}
 use Rattle.upd_text.specs.declared.fault.Fault.{Fault}
 use Rattle.upd_core.specs.Library.{LibraryView}
-use Rattle.upd_change.specs.Rows.{RunView}
+use Rattle.upd_records.specs.Rows.{RunView}
 use Rattle.upd_compile.specs.declared.mode.Mode.{Mode}
-use Rattle.upd_rows.specs.Tables.{is_run}
-use Rattle.upd_rows.proofs.TableLemmas.{is_same_bytes, same_key}
+use Rattle.upd_row_store.specs.Tables.{is_run}
+use Rattle.upd_row_store.proofs.TableLemmas.{is_same_bytes, same_key}
 use Rattle.upd_desk.specs.Arrivals.{ArrivalView, door, mode_number}
 use Rattle.upd_desk.specs.Journal.{Came, Carried, Settled, Heard, Journal, mark, has_key, with_arrival, distinct, outcome_of, made_by, library_after, run_of, answered}
 use Rattle.upd_desk.specs.Journal.{kept, reply_to, answer}

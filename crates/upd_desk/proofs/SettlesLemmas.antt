@@ -6,10 +6,10 @@ use Rattle.std.proofs.lemmas.Bool.Decides.{nat_tests}
 use Rattle.upd_text.specs.declared.fault.Fault.{Fault}
 use Rattle.upd_text.specs.declared.fault.FaultKind.TheVariants as fault
 use Rattle.upd_text.specs.Outcome.{◌>>=◌, at_line, refuse_if}
-use Rattle.upd_change.specs.Rows.{Rows}
-use Rattle.upd_rows.specs.Keeping.{IsLost, Keeps, Tries}
-use Rattle.upd_rows.specs.Tables.{mark_at, settled_to}
-use Rattle.upd_rows.proofs.TableLemmas.{max_right, same_bytes, shows_settled, states_settled}
+use Rattle.upd_records.specs.Rows.{Rows}
+use Rattle.upd_row_store.specs.Keeping.{IsLost, Keeps, Tries}
+use Rattle.upd_row_store.specs.Tables.{mark_at, settled_to}
+use Rattle.upd_row_store.proofs.TableLemmas.{max_right, same_bytes, shows_settled, states_settled}
 use Rattle.upd_desk.specs.Arrivals.{is_run_number, is_site, key_door}
 use Rattle.upd_desk.specs.Journal.{Alike, Event, Settled, Journal, mark, library_after}
 use Rattle.upd_desk.specs.Holding.{Guards, Holds, HoldsIn, IsLeft, Settles, is_lost, mark_after}

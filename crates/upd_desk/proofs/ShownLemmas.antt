@@ -19,7 +19,7 @@ use Rattle.upd_reply.specs.Texts.{AreShown, accepted_text, is_shown}
 use Rattle.upd_desk.specs.Arrivals.{ArrivalView, door, is_site, is_site_byte}
 use Rattle.upd_desk.specs.Made.{IsMade}
 use Rattle.upd_desk.specs.Outcomes.{Compiled, compiled}
-use Rattle.upd_rows.proofs.TableLemmas.{same_bytes}
+use Rattle.upd_row_store.proofs.TableLemmas.{same_bytes}
 use Rattle.upd_desk.proofs.MadeLemmas.{accepted, accepted_made, passed}
 
 pub site_shown : (site : List ℕ) → is_site site ≡ true → AreShown site

@@ -10,11 +10,11 @@ use Rattle.upd_core.specs.Library.{CardView, DeckView, LibraryView, all_decks, p
 use Rattle.upd_core.specs.Sound.{IsSound}
 use Rattle.upd_core.proofs.ApartLemmas.{all_at, all_mapped, at_contained}
 use Rattle.upd_core.proofs.FoundLemmas.{place_at}
-use Rattle.upd_change.specs.Rows.{same_ref}
-use Rattle.upd_change.proofs.GoneLemmas.{same_ref_is}
-use Rattle.upd_rows.specs.Asked.{decks_with, holds_one, is_asked}
-use Rattle.upd_parts.specs.Needed.{is_yank_card}
-use Rattle.upd_parts.proofs.CountLemmas.{decks_few}
+use Rattle.upd_records.specs.Rows.{same_ref}
+use Rattle.upd_diff.proofs.GoneLemmas.{same_ref_is}
+use Rattle.upd_row_store.specs.Asked.{decks_with, holds_one, is_asked}
+use Rattle.upd_partial.specs.Needed.{is_yank_card}
+use Rattle.upd_partial.proofs.CountLemmas.{decks_few}
 use Rattle.upd_desk.specs.Needed.{stands_in_deck}
 use Rattle.upd_yank.proofs.FindLemmas.{any_at}
 

@@ -17,13 +17,13 @@ use Rattle.upd_core.specs.Status.{status_of}
 use Rattle.upd_core.specs.TargetCounts.{live_count}
 use Rattle.upd_core.specs.Targets.{is_same}
 use Rattle.upd_core.proofs.CountedLemmas.{same_target, target_same}
-use Rattle.upd_change.specs.Rows.{IsSame, Rows, ShowsStates, StateRow, count_rows, same_ref, state_rows}
-use Rattle.upd_change.proofs.CountLemmas.{count_filter}
-use Rattle.upd_change.proofs.GoneLemmas.{same_ref_is, same_ref_own}
-use Rattle.upd_rows.specs.Asked.{is_asked}
-use Rattle.upd_rows.proofs.AskedLemmas.{filter_made}
-use Rattle.upd_rows.specs.Tables.{AreReadOf, count_pair, state_pair}
-use Rattle.upd_parts.proofs.PartStatusLemmas.{status_in_part}
+use Rattle.upd_records.specs.Rows.{IsSame, Rows, ShowsStates, StateRow, count_rows, same_ref, state_rows}
+use Rattle.upd_records.proofs.CountLemmas.{count_filter}
+use Rattle.upd_diff.proofs.GoneLemmas.{same_ref_is, same_ref_own}
+use Rattle.upd_row_store.specs.Asked.{is_asked}
+use Rattle.upd_row_store.proofs.AskedLemmas.{filter_made}
+use Rattle.upd_row_store.specs.Tables.{AreReadOf, count_pair, state_pair}
+use Rattle.upd_partial.proofs.PartStatusLemmas.{status_in_part}
 use Rattle.upd_yank.specs.Right as right
 use Rattle.upd_yank.specs.Right.{AreStatesOf}
 use Rattle.upd_desk.specs.Compiling.{IsPartOf, references_of}

@@ -3,14 +3,14 @@ use Rattle.std.proofs.Common.{◌≡◌, ℕ, ◌≤◌, ◌⊎◌, List, None, 
 use Rattle.upd_text.specs.declared.fault.Fault.{Fault}
 use Rattle.upd_text.specs.declared.fault.FaultKind.TheVariants.{NoMemory}
 use Rattle.upd_text.specs.Faults.{fault_at}
-use Rattle.upd_change.specs.Rows.{RunView, Rows, Shows, ShowsStates}
-use Rattle.upd_change.specs.Changes.{ChangeView}
-use Rattle.upd_change.specs.Fits.{AllFit}
+use Rattle.upd_records.specs.Rows.{RunView, Rows, Shows, ShowsStates}
+use Rattle.upd_records.specs.Changes.{ChangeView}
+use Rattle.upd_records.specs.Fits.{AllFit}
 use Rattle.upd_core.specs.Library.{LibraryView}
 use Rattle.upd_compile.specs.declared.mode.Mode.{Mode}
-use Rattle.upd_rows.specs.Keeping.{IsLost, Keeps, MoreFailures, OfMemory, Tries}
-use Rattle.upd_rows.specs.Tables.{committed}
-use Rattle.upd_rows.proofs.TableLemmas.{shows_committed, states_committed, runs_committed, marks_stay}
+use Rattle.upd_row_store.specs.Keeping.{IsLost, Keeps, MoreFailures, OfMemory, Tries}
+use Rattle.upd_row_store.specs.Tables.{committed}
+use Rattle.upd_row_store.proofs.TableLemmas.{shows_committed, states_committed, runs_committed, marks_stay}
 use Rattle.upd_desk.specs.Arrivals.{ArrivalView}
 use Rattle.upd_desk.specs.Journal.{run_of}
 use Rattle.upd_desk.specs.Made.{IsMade, LeadTo}

@@ -3,10 +3,10 @@ use Rattle.std.proofs.Common.{◌≡◌, ℕ, ◌+◌, ◌≤◌, nat_lt, true, 
 use Rattle.std.proofs.Common.{refl, ap, sym, ◌∙◌, subst, arith}
 use Rattle.upd_core.specs.Counted.{CountedCardView}
 use Rattle.upd_core.specs.Library.{LibraryView}
-use Rattle.upd_change.specs.Rows.{RunView, Rows, Shows, ShowsStates}
+use Rattle.upd_records.specs.Rows.{RunView, Rows, Shows, ShowsStates}
 use Rattle.upd_compile.specs.declared.mode.Mode.{Mode}
-use Rattle.upd_rows.specs.Keeping.{Keeps}
-use Rattle.upd_rows.specs.Tables.{run_at}
+use Rattle.upd_row_store.specs.Keeping.{Keeps}
+use Rattle.upd_row_store.specs.Tables.{run_at}
 use Rattle.upd_yank.specs.Affected.{altered}
 use Rattle.upd_desk.specs.Arrivals.{ArrivalView, door}
 use Rattle.upd_desk.specs.Journal.{Came, Journal, distinct, kept, made_by, mark, library_after}

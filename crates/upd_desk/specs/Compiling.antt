@@ -3,14 +3,14 @@ use Rattle.std.specs.Prelude.{◌≡◌, ℕ, ◌≤◌, Bool, true, false, List
 use Rattle.std.specs.List.{AllByRecursion}
 use Rattle.upd_text.specs.declared.card_ref.CardRef.{CardRef}
 use Rattle.upd_core.specs.Actives.{ActivesView, actives_of}
-use Rattle.upd_core.specs.Ages.{Age}
+use Rattle.upd_core.specs.Serials.{Serial}
 use Rattle.upd_core.specs.Counted.{counted_cards}
 use Rattle.upd_core.specs.Library.{LibraryView}
 use Rattle.upd_core.specs.Parts.{part}
-use Rattle.upd_change.specs.Changes.{ChangeView, change_seen, done_all}
-use Rattle.upd_change.specs.Rows.{Rows, ShowsStates}
-use Rattle.upd_change.specs.States.{TakeGone, tells_state}
-use Rattle.upd_change.specs.Told.{Told}
+use Rattle.upd_records.specs.Changes.{ChangeView, change_seen, done_all}
+use Rattle.upd_records.specs.Rows.{Rows, ShowsStates}
+use Rattle.upd_diff.specs.States.{TakeGone, tells_state}
+use Rattle.upd_diff.specs.Told.{Told}
 use Rattle.upd_deck.specs.Items.{LineView}
 use Rattle.upd_apply.specs.Applying.{Reached, applied, touched}
 use Rattle.upd_compile.specs.File.{FileView}
@@ -28,7 +28,7 @@ use Rattle.upd_desk.specs.declared.outcome.RunOutcome.{RunOutcome}
 
 -- a part of a library, with `YANK$$$`
 abbrev pub IsPartOf : LibraryView → LibraryView → Type 0
-IsPartOf l loaded = (out : Age → Bool) × (out 0 ≡ false) × (loaded ≡ part out l)
+IsPartOf l loaded = (out : Serial → Bool) × (out 0 ≡ false) × (loaded ≡ part out l)
 
 -- the references of all cards, by deck (`YANK$$$` first) and place
 abbrev pub references_of : LibraryView → List CardRef

@@ -6,10 +6,10 @@ use Rattle.upd_text.specs.declared.fault.FaultKind.{FaultKind}
 use Rattle.upd_text.specs.declared.fault.FaultKind.TheVariants.{NoMemory, Store}
 use Rattle.upd_text.specs.Outcome.{◌>>=◌}
 use Rattle.upd_core.specs.Library.{LibraryView}
-use Rattle.upd_change.specs.Rows.{Rows, Shows, ShowsStates}
+use Rattle.upd_records.specs.Rows.{Rows, Shows, ShowsStates}
 use Rattle.upd_compile.specs.declared.mode.Mode.{Mode}
-use Rattle.upd_rows.specs.Keeping.{IsLost}
-use Rattle.upd_rows.specs.Tables.{mark_at, run_at}
+use Rattle.upd_row_store.specs.Keeping.{IsLost}
+use Rattle.upd_row_store.specs.Tables.{mark_at, run_at}
 use Rattle.upd_desk.specs.Arrivals.{ArrivalView, key_door}
 use Rattle.upd_desk.specs.Journal.{Event, Came, Settled, Journal, answer, kept, mark, run_of, library_after}
 use Rattle.upd_desk.specs.Made.{IsMade, work_of}
@@ -157,7 +157,7 @@ module _ {S : Type 0} {Image : Type 0} (is_honest is_open : S → Type 0) (image
         → IsLeft shows (after_settling journal site n result) (in_hand_settling site n in_hand result) i
 
   -- what arrivals one after the other do to a desk over a store
-  pub record ArriveAll (list : List ArrivalView) (results : List (Result ReplyView Fault)) (old new : S) : Type 0 where
+  pub record RunAll (list : List ArrivalView) (results : List (Result ReplyView Fault)) (old new : S) : Type 0 where
     pub honest : is_honest new → is_honest old
     pub was_open : is_honest new → is_open new → is_open old
     pub counts : failures old ≤ failures new

@@ -7,9 +7,9 @@ use Rattle.upd_text.specs.declared.fault.Fault.{Fault}
 use Rattle.upd_text.specs.declared.fault.FaultKind.TheVariants as fault
 use Rattle.upd_text.specs.Outcome.{◌>>=◌, at_line, refuse_if}
 use Rattle.upd_core.specs.Library.{LibraryView, empty}
-use Rattle.upd_change.specs.Rows.{RunView}
+use Rattle.upd_records.specs.Rows.{RunView}
 use Rattle.upd_compile.specs.declared.mode.Mode.{Mode}
-use Rattle.upd_rows.specs.Tables.{is_run}
+use Rattle.upd_row_store.specs.Tables.{is_run}
 use Rattle.upd_desk.specs.Arrivals.{ArrivalView, door, mode_number}
 use Rattle.upd_desk.specs.Outcomes.{Outcome, ReplyView, outcome}
 

@@ -5,9 +5,9 @@ use Rattle.upd_core.specs.Library.{LibraryView}
 use Rattle.upd_core.specs.Limits.{is_within_limits}
 use Rattle.upd_core.specs.Sound.{IsSound, IsWhole}
 use Rattle.upd_apply.specs.Applying.{touched}
-use Rattle.upd_change.specs.Changes.{ChangeView, done_all}
-use Rattle.upd_change.specs.Fits.{AllFit}
-use Rattle.upd_change.specs.Rows.{Rows, RunView, Shows, ShowsStates}
+use Rattle.upd_records.specs.Changes.{ChangeView, done_all}
+use Rattle.upd_records.specs.Fits.{AllFit}
+use Rattle.upd_records.specs.Rows.{Rows, RunView, Shows, ShowsStates}
 use Rattle.upd_compile.specs.declared.mode.Mode.{Mode}
 use Rattle.upd_laws.specs.ReadRuns.{HasLineTexts}
 use Rattle.upd_yank.specs.Affected.{affected}

@@ -2,7 +2,7 @@
 
 ghost use Rattle.std.specs.Prelude.{◌≡◌, ◌+◌, ◌≤◌, false, ◌∷◌, length, None, Ok, Some, IfErr, IfOk, OnErr, OnOk};
 ghost use Rattle.std.specs.Result.{result_map_both};
-ghost use Rattle.upd_change.specs.Rows.{Rows, Shows, ShowsStates};
+ghost use Rattle.upd_records.specs.Rows.{Rows, Shows, ShowsStates};
 ghost use Rattle.upd_core.specs.Library.{LibraryView};
 ghost use Rattle.upd_desk.specs.Arrivals.{door};
 ghost use Rattle.upd_desk.specs.Holding.{Arrives, Becomes, HoldsIn, TriesRun, is_lost};
@@ -10,8 +10,8 @@ ghost use Rattle.upd_desk.specs.Made.{IsMade, looked_at, work_of};
 ghost use Rattle.upd_desk.specs.Needed.{needed, needed_by};
 ghost use Rattle.upd_desk.specs.Journal.{Came, Journal, reply_to, run_of, library_after};
 ghost use Rattle.upd_desk.specs.Outcomes.{compiled, outcome};
-ghost use Rattle.upd_rows.specs.Keeping.{IsLost, MoreFailures};
-ghost use Rattle.upd_rows.specs.Tables.{run_at};
+ghost use Rattle.upd_row_store.specs.Keeping.{IsLost, MoreFailures};
+ghost use Rattle.upd_row_store.specs.Tables.{run_at};
 ghost use Rattle.upd_text.specs.Faults.{fault_at};
 ghost use Rattle.upd_text.specs.declared.fault.FaultKind.TheVariants.{NoMemory, Store};
 ghost use Rattle.upd_yank.specs.Affected.{altered};
@@ -20,9 +20,9 @@ use crate::arrival::{Arrival, door, mode_number};
 use crate::outcome::run_outcome;
 use crate::reply::Reply;
 use std::alloc::Global;
-use upd_change::RunRow;
 use upd_compile::Mode;
-use upd_rows::RowStore;
+use upd_records::RunRow;
+use upd_row_store::RowStore;
 use upd_text::{Fault, FaultKind};
 
 /// A reply, and how many cards were looked at for it.

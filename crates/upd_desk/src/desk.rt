@@ -6,11 +6,11 @@ ghost use Rattle.std.specs.Result.{result_map_both};
 ghost use Rattle.upd_compile.specs.File.{compile_file_of};
 ghost use Rattle.upd_compile.specs.Listings.{card_listing, deck_listing, ident_listing, yank_listing};
 ghost use Rattle.upd_compile.specs.declared.mode.Mode.TheVariants.{Full};
-ghost use Rattle.upd_desk.specs.Holding.{ArriveAll, Arrives, HoldsIn, Settles, Tells, is_lost, work_after_all};
+ghost use Rattle.upd_desk.specs.Holding.{RunAll, Arrives, HoldsIn, Settles, Tells, is_lost, work_after_all};
 ghost use Rattle.upd_desk.specs.Journal.{Came, Journal, library_after};
 ghost use Rattle.upd_desk.specs.Made.{work_of};
 ghost use Rattle.upd_desk.specs.Needed.{needed_by};
-ghost use Rattle.upd_rows.specs.Keeping.{Keeps, MoreFailures};
+ghost use Rattle.upd_row_store.specs.Keeping.{Keeps, MoreFailures};
 ghost use Rattle.upd_text.specs.Faults.{fault_at};
 ghost use Rattle.upd_text.specs.declared.fault.FaultKind.TheVariants.{NoMemory, Store};
 ghost use Rattle.upd_yank.specs.Affected.{altered};
@@ -25,7 +25,7 @@ use upd_compile::{
     CompileFile, Mode, compile_active, list_card, list_deck, list_idents, list_yanks,
 };
 use upd_core::{CardRef, Name};
-use upd_rows::RowStore;
+use upd_row_store::RowStore;
 use upd_text::Fault;
 
 /// A desk: runs arrive at it and act once each, in the order of first arrival. All that it keeps stands in its store.
@@ -37,7 +37,7 @@ pub struct Desk<S: RowStore> {
 
 impl<S: RowStore> Desk<S> {
     /// A desk over a store, which isn't called.
-    pub fn new(store: S) -> Desk<S>
+    pub fn open(store: S) -> Desk<S>
         ensures store { result.store ≡ store }
         ensures work { result.work ≡ 0 }
     {
@@ -45,7 +45,7 @@ impl<S: RowStore> Desk<S> {
     }
 
     /// The store of the desk, which isn't called.
-    pub fn into_store(self) -> S
+    pub fn close(self) -> S
         ensures { result ≡ self.store }
     {
         self.store
@@ -137,12 +137,12 @@ impl<S: RowStore> Desk<S> {
     /// The answers to arrivals one after the other: one that wants memory, or whose store fails, is lost, and the
     /// next is taken. The list of answers is reserved before any arrival is looked at: where there is no memory for it
     /// the fault is NoMemory, and nothing was done.
-    pub fn arrive_all(
+    pub fn run_all(
         &mut self,
         alloc: Global,
         list: &[Arrival<'_>],
     ) -> Result<Vec<Result<Reply, Fault>>, Fault>
-        ensures arrives { IfOk result (λ answers. ArriveAll S.is_honest S.is_open S.image S.shows S.may_leave
+        ensures arrives { IfOk result (λ answers. RunAll S.is_honest S.is_open S.image S.shows S.may_leave
             S.failures_of list.now answers.items self.old.store self.new.store) }
         ensures work { S.is_honest self.new.store → (journal : Journal)
             → (S.is_open self.old.store → HoldsIn S.shows journal (S.image self.old.store))

@@ -3,7 +3,7 @@ ghost use Rattle.std.specs.Prelude.{◌≡◌, ◌≤◌, ℕ, nat_lt, false, tr
 ghost use Rattle.std.specs.List.{Contains};
 ghost use Rattle.upd_text.specs.declared.fault.Fault.{Fault};
 ghost use Rattle.upd_core.specs.Library.{LibraryView};
-ghost use Rattle.upd_change.specs.Rows.{Rows};
+ghost use Rattle.upd_records.specs.Rows.{Rows};
 ghost use Rattle.upd_compile.specs.declared.mode.Mode.{Mode};
 ghost use Rattle.upd_desk.specs.Arrivals.{ArrivalView, door};
 ghost use Rattle.upd_desk.specs.Holding.{Holds};

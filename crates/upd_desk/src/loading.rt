@@ -2,7 +2,7 @@
 
 ghost use Rattle.std.specs.Prelude.{◌≡◌, ◌+◌, ◌≤◌, [], ◌∷◌, ◌++◌, length, map, true, IfErr, IfOk, OnOk};
 ghost use Rattle.std.specs.List.{list_all};
-ghost use Rattle.upd_change.specs.Rows.{Rows, Shows};
+ghost use Rattle.upd_records.specs.Rows.{Rows, Shows};
 ghost use Rattle.upd_compile.specs.Listings.{card_listing, deck_listing};
 ghost use Rattle.upd_core.specs.Library.{LibraryView};
 ghost use Rattle.upd_core.specs.Parts.{part_of};
@@ -11,17 +11,17 @@ ghost use Rattle.upd_desk.specs.Holding.{HoldsIn};
 ghost use Rattle.upd_desk.specs.Journal.{Journal};
 ghost use Rattle.upd_desk.specs.Made.{IsMade};
 ghost use Rattle.upd_desk.specs.Needed.{stands_in_deck};
-ghost use Rattle.upd_parts.specs.Needed.{cards_named, decks_needed};
-ghost use Rattle.upd_parts.specs.Needless.{is_plain};
-ghost use Rattle.upd_rows.specs.Asked.{decks_with};
-ghost use Rattle.upd_rows.specs.Keeping.{IsLost, Keeps, MoreFailures, reads_after};
+ghost use Rattle.upd_partial.specs.Needed.{cards_named, decks_needed};
+ghost use Rattle.upd_partial.specs.Needless.{is_plain};
+ghost use Rattle.upd_row_store.specs.Asked.{decks_with};
+ghost use Rattle.upd_row_store.specs.Keeping.{IsLost, Keeps, MoreFailures, reads_after};
 ghost use Rattle.upd_text.specs.declared.fault.FaultKind.TheVariants.{Store};
 
 use std::alloc::{AllocError, Global};
 use upd_core::{CardRef, Counted, CountedCard, Library, Name};
 use upd_deck::Run;
-use upd_parts::needs::{any_names_yank_card, cards_named, is_plain};
-use upd_rows::RowStore;
+use upd_partial::needs::{any_names_yank_card, cards_named, is_plain};
+use upd_row_store::RowStore;
 use upd_text::{Fault, FaultKind};
 
 /// What a run is applied to: the directory, `YANK$$$`, and the decks that it needs.

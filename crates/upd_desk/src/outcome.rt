@@ -8,14 +8,14 @@ ghost use Rattle.upd_text.specs.Outcome.{FailsAt};
 ghost use Rattle.upd_text.specs.declared.fault.FaultKind.TheVariants.{NoMemory, Store};
 ghost use Rattle.upd_core.specs.Library.{LibraryView, name_of};
 ghost use Rattle.upd_core.specs.Parts.{part_of};
-ghost use Rattle.upd_change.specs.Rows.{Rows, Shows, ShowsStates};
+ghost use Rattle.upd_records.specs.Rows.{Rows, Shows, ShowsStates};
 ghost use Rattle.upd_deck.specs.Items.{LineView};
 ghost use Rattle.upd_deck.specs.Reading.{reading};
 ghost use Rattle.upd_apply.specs.Applying.{Reached, applied};
 ghost use Rattle.upd_compile.specs.File.{compile_file_of};
 ghost use Rattle.upd_compile.specs.declared.mode.Mode.{Mode};
-ghost use Rattle.upd_parts.specs.Needed.{decks_needed};
-ghost use Rattle.upd_rows.specs.Keeping.{IsLost, Keeps, MoreFailures};
+ghost use Rattle.upd_partial.specs.Needed.{decks_needed};
+ghost use Rattle.upd_row_store.specs.Keeping.{IsLost, Keeps, MoreFailures};
 ghost use Rattle.upd_yank.specs.Right.{IsRight, AreStatesOf};
 ghost use Rattle.upd_desk.specs.Arrivals.{door};
 ghost use Rattle.upd_desk.specs.Compiling.{AreActivesFor, IsOutcomeOf, IsRunOf, IsSeen, references_of};
@@ -28,12 +28,11 @@ use crate::loading::{load_needed, references};
 use crate::reply::Reply;
 use std::alloc::{AllocError, Global};
 use upd_apply::{Applied, apply};
-use upd_change::Change;
 use upd_compile::{CompileFile, Mode, compile_active};
 use upd_core::ident::name_at;
-use upd_core::{Actives, Age, CardRef, Counted, Ident, Library, States};
+use upd_core::{Actives, CardRef, Change, Counted, Ident, Library, Serial, States};
 use upd_deck::{Run, read_run};
-use upd_rows::RowStore;
+use upd_row_store::RowStore;
 use upd_text::{Fault, FaultKind, Name};
 use upd_yank::Cache;
 
@@ -253,7 +252,7 @@ fn file_of(
     match before {
         Some(before) => {
             let after = cache.renew(&run.library, before)?;
-            match compile_active(alloc, before, &after, mode, &run.applied.compile) {
+            match compile_active(alloc, &after, before, mode, &run.applied.compile) {
                 Ok(file) => Ok(file),
                 Err(fault) => Err(fault),
             }
@@ -321,7 +320,7 @@ fn accepted_reply(
 }
 
 /// The names of the idents of these ages.
-fn names(alloc: Global, idents: &[Ident], ages: &[Age]) -> Result<Vec<Name>, AllocError>
+fn names(alloc: Global, idents: &[Ident], ages: &[Serial]) -> Result<Vec<Name>, AllocError>
     ensures { IfOk result (λ names. names.items ≡ map (name_of idents.now) ages.now) }
 {
     let mut names = Vec::new(alloc);

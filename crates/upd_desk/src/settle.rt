@@ -2,12 +2,12 @@
 
 ghost use Rattle.std.specs.Prelude.{◌≡◌, IfErr};
 ghost use Rattle.upd_desk.specs.Holding.{Settles};
-ghost use Rattle.upd_rows.specs.Keeping.{MoreFailures};
+ghost use Rattle.upd_row_store.specs.Keeping.{MoreFailures};
 ghost use Rattle.upd_text.specs.declared.fault.FaultKind.TheVariants.{Store};
 
 use crate::arrival::key_door;
 use std::alloc::Global;
-use upd_rows::RowStore;
+use upd_row_store::RowStore;
 use upd_text::Fault;
 
 /// Settles a site's runs up to a number, unless they are settled already, and answers the site's mark.

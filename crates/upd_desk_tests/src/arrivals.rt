@@ -8,7 +8,8 @@ use std::test::Fail;
 use upd_compile::{Mode, compile_file, list_card, list_deck, list_idents, list_yanks};
 use upd_core::{CardRef, Name};
 use upd_desk::Desk;
-use upd_rows::{ListStore, RowStore};
+use upd_list_store::ListStore;
+use upd_row_store::RowStore;
 use upd_text::Fault;
 
 pub const DECK_A: &str = "*DECK A\nONE\nTWO\nTHREE\n";
@@ -68,7 +69,7 @@ pub struct Pair<S: RowStore> {
 impl<S: RowStore> Pair<S> {
     pub fn new(alloc: Global, store: S) -> Pair<S> {
         Pair {
-            desk: Desk::new(store),
+            desk: Desk::open(store),
             plain: Plain::new(alloc),
             alloc,
         }
@@ -119,7 +120,7 @@ impl<S: RowStore> Pair<S> {
     /// The store is handed to another desk.
     fn reopened(self) -> Pair<S> {
         Pair {
-            desk: Desk::new(self.desk.into_store()),
+            desk: Desk::open(self.desk.close()),
             plain: self.plain,
             alloc: self.alloc,
         }

@@ -5,8 +5,7 @@ use std::fmt::Display;
 use std::process::Abort;
 use std::test::Fail;
 use upd_apply::apply;
-use upd_change::Change;
-use upd_core::{Age, CardRef, Entry, Ident, Library, Target};
+use upd_core::{CardRef, Change, Entry, Ident, Library, Serial, Target};
 use upd_deck::read_run;
 
 const DECK_A: &str = "*DECK A\nONE\nTWO\nTHREE\n";
@@ -77,14 +76,14 @@ fn tell_end<T: Display>(told: &mut String, what: &str, of: &T, end: &str) -> Res
 fn tell_card(
     told: &mut String,
     card: &CardRef,
-    (deck, pos): (Age, u32),
+    (deck, pos): (Serial, u32),
     text: &[u8],
 ) -> Result<(), Fail> {
     let text = std::str::from_utf8(text)?;
     Ok(write!(told, "card {card} in {deck} at {pos}: {text}\n")?)
 }
 
-fn tell_move(told: &mut String, deck: Age, from: u32, by: i64) -> Result<(), Fail> {
+fn tell_move(told: &mut String, deck: Serial, from: u32, by: i64) -> Result<(), Fail> {
     Ok(write!(told, "cards of {deck} from {from} by {by}\n")?)
 }
 

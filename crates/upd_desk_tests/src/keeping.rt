@@ -4,7 +4,7 @@ use std::alloc::Global;
 use std::process::Abort;
 use std::test::Fail;
 use upd_desk::{Desk, Reply};
-use upd_rows::ListStore;
+use upd_list_store::ListStore;
 
 /// A run that brings ten decks of 50 cards each.
 fn ten_decks(alloc: Global) -> Result<String, Fail> {
@@ -31,7 +31,7 @@ fn is_accepted(rt: &impl Abort, desk: &Desk<ListStore>, number: u32, reply: &Rep
 }
 
 fn with_500_cards(rt: &impl Abort, alloc: Global) -> Result<Desk<ListStore>, Fail> {
-    let mut desk = Desk::new(ListStore::new(alloc));
+    let mut desk = Desk::open(ListStore::new(alloc));
     let text = ten_decks(alloc)?;
     let reply = desk.arrive(alloc, "BASE", 1, "normal", text.as_bytes())?;
     is_accepted(rt, &desk, 1, &reply, 500);

@@ -1,7 +1,7 @@
 //! Which decks a run needs, from the plain program's library.
 use std::test::Fail;
 use upd_core::ident::name_at;
-use upd_core::{Age, Card, CardRef, Library};
+use upd_core::{Card, CardRef, Library, Serial};
 use upd_deck::{Item, Line, read_run};
 
 /// Whether one of these cards goes by the reference.
@@ -29,7 +29,7 @@ fn cards_of(line: &Line) -> Option<[Option<CardRef>; 2]> {
 }
 
 /// The decks that hold a card are found, each once.
-fn add_holders(library: &Library, card: &CardRef, found: &mut Vec<Age>) -> Result<(), Fail> {
+fn add_holders(library: &Library, card: &CardRef, found: &mut Vec<Serial>) -> Result<(), Fail> {
     for deck in library.decks() {
         if has_card(library, &deck.cards, card) && !found.contains(&deck.ident) {
             found.push(deck.ident)?;
@@ -39,7 +39,7 @@ fn add_holders(library: &Library, card: &CardRef, found: &mut Vec<Age>) -> Resul
 }
 
 /// The decks that hold the cards of a line are found: whether all decks are needed instead.
-fn needs_all(library: &Library, line: &Line, found: &mut Vec<Age>) -> Result<bool, Fail> {
+fn needs_all(library: &Library, line: &Line, found: &mut Vec<Serial>) -> Result<bool, Fail> {
     let Some(cards) = cards_of(line) else {
         return Ok(true);
     };

@@ -5,7 +5,7 @@ use std::test::Fail;
 use upd_apply::{Applied, apply};
 use upd_compile::{CompileFile, Mode, compile_file};
 use upd_core::ident::name_at;
-use upd_core::{Age, Counted, Ident, Library};
+use upd_core::{Counted, Ident, Library, Serial};
 use upd_deck::read_run;
 use upd_text::{Fault, FaultKind};
 use upd_yank::Cache;
@@ -147,7 +147,7 @@ impl Plain {
         applied: &Applied,
     ) -> Result<String, Fault> {
         let alloc = self.alloc();
-        let file = compile_file(alloc, &self.library, after, mode, &applied.compile)?;
+        let file = compile_file(alloc, after, &self.library, mode, &applied.compile)?;
         accepted_text(alloc, sent, after.idents(), &applied.idents, &file)
     }
 
@@ -207,7 +207,7 @@ fn accepted_text(
     alloc: Global,
     sent: Sent<'_>,
     directory: &[Ident],
-    idents: &[Age],
+    idents: &[Serial],
     file: &CompileFile,
 ) -> Result<String, Fault> {
     let mut text = String::from_str(alloc, "{\"compile\":\"")?;
@@ -233,7 +233,7 @@ fn end_of_accepted(alloc: Global, sent: Sent<'_>, lines: u32) -> Result<String, 
 }
 
 /// Names in quotes, with commas between them.
-fn add_idents(text: &mut String, directory: &[Ident], idents: &[Age]) -> Result<(), Fault> {
+fn add_idents(text: &mut String, directory: &[Ident], idents: &[Serial]) -> Result<(), Fault> {
     let mut before = "\"";
     for age in idents {
         text.push_str(before)?;
@@ -244,7 +244,7 @@ fn add_idents(text: &mut String, directory: &[Ident], idents: &[Age]) -> Result<
     Ok(())
 }
 
-fn add_name(text: &mut String, directory: &[Ident], age: Age) -> Result<(), Fault> {
+fn add_name(text: &mut String, directory: &[Ident], age: Serial) -> Result<(), Fault> {
     match name_at(directory, age) {
         Some(name) => add_escaped(text, name.as_bytes()),
         None => Ok(()),

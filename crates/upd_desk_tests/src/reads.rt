@@ -6,19 +6,20 @@ use crate::plain::Sent;
 use std::alloc::Global;
 use std::process::Abort;
 use std::test::Fail;
-use upd_core::{Actives, Age, Library};
+use upd_core::{Actives, Library, Serial};
 use upd_desk::Desk;
+use upd_list_store::ListStore;
+use upd_row_store::RowStore;
 use upd_row_tests::named::{compiled, named};
-use upd_rows::{ListStore, RowStore};
 use upd_yank::Cache;
 
 impl<S: RowStore + Drop> Pair<S> {
     /// The store is handed to another desk: how many decks it has read.
     fn counted(self) -> (Pair<S>, u64) {
         let Pair { desk, plain, alloc } = self;
-        let store = desk.into_store();
+        let store = desk.close();
         let read = store.decks_read();
-        let desk = Desk::new(store);
+        let desk = Desk::open(store);
         (Pair { desk, plain, alloc }, read)
     }
 
@@ -205,7 +206,7 @@ fn renews<S: RowStore>(
 }
 
 /// The decks that hold one of two cards, of which one is in no deck.
-fn decks_of_cards<S: RowStore>(alloc: Global, store: &mut S) -> Result<Vec<Age>, Fail> {
+fn decks_of_cards<S: RowStore>(alloc: Global, store: &mut S) -> Result<Vec<Serial>, Fail> {
     Ok(store.decks_of(alloc, &[card_ref("B.2")?, card_ref("Q.1")?])?)
 }
 
@@ -252,11 +253,11 @@ fn ranges(rt: &impl Abort, alloc: Global) -> Result<Pair<ListStore>, Fail> {
 /// The parts that the store of a desk loads, and how many decks have been read before and after.
 fn loads_from_desk(rt: &impl Abort, pair: Pair<ListStore>) -> Result<Pair<ListStore>, Fail> {
     let Pair { desk, plain, alloc } = pair;
-    let mut store = desk.into_store();
+    let mut store = desk.close();
     same_number(rt, "decks read before", store.decks_read(), 6);
     loads_parts(rt, alloc, &mut store)?;
     same_number(rt, "decks read after", store.decks_read(), 9);
-    let desk = Desk::new(store);
+    let desk = Desk::open(store);
     Ok(Pair { desk, plain, alloc })
 }
 

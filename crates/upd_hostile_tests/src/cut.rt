@@ -7,7 +7,8 @@ use std::test::Fail;
 use upd_deck::read_run;
 use upd_desk::Desk;
 use upd_http::serve_one;
-use upd_rows::{ListStore, RowStore};
+use upd_list_store::ListStore;
+use upd_row_store::RowStore;
 use upd_spool::spool;
 use upd_spool_tests::example::{FIRST, SECOND, THIRD, worked};
 use upd_text::{Fault, FaultKind};
@@ -149,7 +150,7 @@ fn keeps(
     desk: Desk<ListStore>,
     frames: u32,
 ) -> Result<Desk<ListStore>, Fail> {
-    let mut store = desk.into_store();
+    let mut store = desk.close();
     for number in 1..=3_u32 {
         let kept = store.kept_run(alloc, "LYON", u64::from(number))?;
         same(
@@ -159,7 +160,7 @@ fn keeps(
             &(number, number <= frames),
         );
     }
-    Ok(Desk::new(store))
+    Ok(Desk::open(store))
 }
 
 /// A front of the spool ends as it is to, with these answers.
@@ -175,7 +176,7 @@ fn byte_by_byte(
     front: &[u8],
     wanted: &[u8],
 ) -> Result<Desk<ListStore>, Fail> {
-    let mut desk = Desk::new(ListStore::new(alloc));
+    let mut desk = Desk::open(ListStore::new(alloc));
     let mut output = Vec::new(alloc);
     let ended = spool(alloc, &mut Single::new(front, 0), &mut output, &mut desk);
     ends(rt, front, ended, &output, wanted);
@@ -208,7 +209,7 @@ fn each_front_of_a_spool_answers_its_whole_frames(rt: HostRuntime) -> Result<(),
         let wanted = answers_of(answers.as_bytes(), whole_frames(length))?;
         let desk = byte_by_byte(&rt, alloc, front, wanted)?;
         all_at_once(&rt, alloc, front, wanted, desk)?;
-        let empty = Desk::new(ListStore::new(alloc));
+        let empty = Desk::open(ListStore::new(alloc));
         all_at_once(&rt, alloc, front, wanted, empty)?;
     }
     Ok(())
@@ -223,7 +224,7 @@ fn read_fails(
     wanted: &[u8],
 ) -> Result<(), Fail> {
     let mut input = Single::new(text, fails_at);
-    let mut desk = Desk::new(ListStore::new(alloc));
+    let mut desk = Desk::open(ListStore::new(alloc));
     let mut output = Vec::new(alloc);
     let ended = spool(alloc, &mut input, &mut output, &mut desk);
     let fault = Fault {
@@ -267,7 +268,7 @@ fn is_not_answered(
     mut input: Single<'_>,
     kind: FaultKind,
 ) -> Result<(), Fail> {
-    let mut desk = Desk::new(ListStore::new(alloc));
+    let mut desk = Desk::open(ListStore::new(alloc));
     let mut output = Vec::new(alloc);
     let ended = serve_one(alloc, &mut input, &mut output, &mut desk);
     same(rt, "the end", &ended, &Err(kind.without_line()));
@@ -290,7 +291,7 @@ fn a_request_that_is_cut_or_cannot_be_read_keeps_no_run(rt: HostRuntime) -> Resu
 
 /// A writer takes so many bytes of the answer: the desk, which has kept the run.
 fn write_fails(rt: &impl Abort, alloc: Global, room: usize) -> Result<Desk<ListStore>, Fail> {
-    let mut desk = Desk::new(ListStore::new(alloc));
+    let mut desk = Desk::open(ListStore::new(alloc));
     let mut output = Room::new(Vec::new(alloc), room);
     let ended = serve_one(alloc, &mut QUICK.as_bytes(), &mut output, &mut desk);
     let fault = FaultKind::Write.without_line();
@@ -353,7 +354,7 @@ fn run_is_accepted(
 
 /// A run in full mode is refused by its compile file, and so is its repeat; nothing of it is in the library.
 fn is_refused(rt: &impl Abort, alloc: Global, text: &str, wanted: &str) -> Result<(), Fail> {
-    let mut desk = Desk::new(ListStore::new(alloc));
+    let mut desk = Desk::open(ListStore::new(alloc));
     for _ in 0..2 {
         run_is_refused(rt, alloc, &mut desk, text, wanted)?;
     }

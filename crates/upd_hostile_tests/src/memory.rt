@@ -8,10 +8,11 @@ use std::process::Abort;
 use std::test::Fail;
 use upd_apply::{Applied, apply};
 use upd_compile::{CompileFile, Mode, compile_file, list_idents};
-use upd_core::{Age, Library};
+use upd_core::{Library, Serial};
 use upd_deck::{Run, read_run};
 use upd_desk::{Arrival, Desk, Reply};
-use upd_rows::{ListStore, RowStore};
+use upd_list_store::ListStore;
+use upd_row_store::RowStore;
 use upd_text::{Fault, FaultKind};
 
 /// What is asked of a desk: a run of the site LYON, with its number and mode; a settlement; a listing.
@@ -49,7 +50,7 @@ impl Answer {
 
 /// Asks a desk over a store.
 fn put(alloc: Global, store: ListStore, asked: Ask<'_>) -> (ListStore, Answer) {
-    let mut desk = Desk::new(store);
+    let mut desk = Desk::open(store);
     let mut mark = None;
     let text = match asked {
         Ask::Run(number, mode, text) => desk
@@ -67,7 +68,7 @@ fn put(alloc: Global, store: ListStore, asked: Ask<'_>) -> (ListStore, Answer) {
         Ask::Yanks => desk.yank_list(alloc),
     };
     let work = desk.work();
-    (desk.into_store(), Answer { text, mark, work })
+    (desk.close(), Answer { text, mark, work })
 }
 
 /// Asks, and once more where memory is refused.
@@ -240,14 +241,14 @@ fn compile_again(
     rt: &impl Abort,
     alloc: Global,
     after: &Library,
-    asked: &[Age],
+    asked: &[Serial],
 ) -> Result<CompileFile, Fail> {
     let before = Library::new(alloc);
-    match compile_file(alloc, &before, after, Mode::Full, asked) {
+    match compile_file(alloc, after, &before, Mode::Full, asked) {
         Ok(file) => Ok(file),
         Err(fault) => {
             is_memory(rt, fault);
-            Ok(compile_file(alloc, &before, after, Mode::Full, asked)?)
+            Ok(compile_file(alloc, after, &before, Mode::Full, asked)?)
         }
     }
 }
@@ -405,9 +406,9 @@ fn answers_to(
     store: ListStore,
     list: &[Arrival<'_>],
 ) -> (ListStore, Result<Vec<Result<Reply, Fault>>, Fault>) {
-    let mut desk = Desk::new(store);
-    let answers = desk.arrive_all(alloc, list);
-    (desk.into_store(), answers)
+    let mut desk = Desk::open(store);
+    let answers = desk.run_all(alloc, list);
+    (desk.close(), answers)
 }
 
 /// One that was answered arrives at another desk, and is answered alike.

@@ -7,7 +7,8 @@ use std::process::Abort;
 use std::test::Fail;
 use upd_desk::Desk;
 use upd_http::serve_one;
-use upd_rows::{ListStore, RowStore};
+use upd_list_store::ListStore;
+use upd_row_store::RowStore;
 use upd_spool::spool;
 use upd_text::{Fault, FaultKind};
 
@@ -22,9 +23,9 @@ fn spooled(
     store: ListStore,
 ) -> Result<(ListStore, Result<u32, Fault>, Vec<u8>), Fail> {
     let mut output = Room::new(Vec::with_capacity(alloc, ROOM)?, ROOM);
-    let mut desk = Desk::new(store);
+    let mut desk = Desk::open(store);
     let ended = spool(alloc, &mut FRAMES.as_bytes(), &mut output, &mut desk);
-    Ok((desk.into_store(), ended, output.taken))
+    Ok((desk.close(), ended, output.taken))
 }
 
 fn count_lines(text: &[u8]) -> u32 {
@@ -132,13 +133,13 @@ fn answered(
     request: &str,
 ) -> Result<(ListStore, Vec<u8>), Fail> {
     let mut output = Room::new(Vec::with_capacity(alloc, ROOM)?, ROOM);
-    let mut desk = Desk::new(store);
+    let mut desk = Desk::open(store);
     let ended = serve_one(alloc, &mut request.as_bytes(), &mut output, &mut desk);
     if let Err(fault) = ended {
         assert_eq!(rt; fault, FaultKind::NoMemory.without_line());
         assert!(rt; output.taken.is_empty());
     }
-    Ok((desk.into_store(), output.taken))
+    Ok((desk.close(), output.taken))
 }
 
 /// What is written for a request. Where it is refused memory, the run of number 1 is known as before, and the request

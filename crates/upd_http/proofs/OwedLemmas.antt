@@ -1,7 +1,7 @@
 -- What the desk told is what it owes.
 use Rattle.std.proofs.Common.{◌≡◌, inl, inr, ℕ, List, ◌∷◌, Bool, true, false, not, Result, Ok, Err, refl, sym, ap, ◌∙◌, subst}
 use Rattle.std.specs.Result.{result_map_both}
-use Rattle.upd_change.specs.Rows.{Rows}
+use Rattle.upd_records.specs.Rows.{Rows}
 use Rattle.upd_desk.specs.Arrivals.{is_run_number, is_site}
 use Rattle.upd_desk.specs.Holding.{HoldsIn, IsOwed, mark_after}
 use Rattle.upd_desk.specs.Journal.{Journal, Settled, mark}

@@ -2,7 +2,7 @@
 use Rattle.std.specs.Prelude.{◌≡◌, ◌⊎◌, ℕ, IsTrue, List, [], ◌∷◌, Option, Some, None, Result, Ok, Err, IsErr}
 use Rattle.std.specs.Io.KnownBytes.{Appends}
 use Rattle.std.specs.Result.{result_map_both}
-use Rattle.upd_change.specs.Rows.{Rows}
+use Rattle.upd_records.specs.Rows.{Rows}
 use Rattle.upd_core.specs.Library.{LibraryView}
 use Rattle.upd_compile.specs.File.{compile_file_of}
 use Rattle.upd_compile.specs.Listings.{card_listing, deck_listing, ident_listing, yank_listing}
@@ -15,8 +15,8 @@ use Rattle.upd_reply.specs.Texts.{settled_text}
 use Rattle.upd_request.specs.Calls.{Asked, run, settle, compile, deck, card, idents, yanks}
 use Rattle.upd_request.specs.Requests.{Says}
 use Rattle.upd_request.specs.declared.call.Refusal.{Refusal}
-use Rattle.upd_rows.specs.Keeping.{Keeps}
-use Rattle.upd_streams.specs.Fronts.{AppendsFront}
+use Rattle.upd_row_store.specs.Keeping.{Keeps}
+use Rattle.upd_io.specs.Fronts.{AppendsFront}
 use Rattle.upd_text.specs.Faults.{fault_at}
 use Rattle.upd_text.specs.declared.fault.Fault.{Fault}
 use Rattle.upd_text.specs.declared.fault.FaultKind.TheVariants.{NoMemory, Read, Write}

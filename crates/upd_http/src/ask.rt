@@ -14,7 +14,7 @@ use std::alloc::Global;
 use upd_core::{CardRef, Name};
 use upd_desk::Desk;
 use upd_request::Call;
-use upd_rows::RowStore;
+use upd_row_store::RowStore;
 use upd_text::{Fault, FaultKind};
 
 /// Asks the desk, and answers what it tells. The one error is want of memory: for the text of a fault, or for that of a

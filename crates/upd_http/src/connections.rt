@@ -10,7 +10,7 @@ use std::io::{ErrorKind, Read, Write};
 use std::net::{Shutdown, TcpListener, TcpStream};
 use std::time::{Clock, Duration, Instant};
 use upd_desk::Desk;
-use upd_rows::RowStore;
+use upd_row_store::RowStore;
 use upd_text::{Fault, FaultKind};
 
 /// How long a read or a write of a connection may take, in seconds.

@@ -1,7 +1,7 @@
 //! One request and its answer.
 
 ghost use Rattle.std.specs.Prelude.{ℕ, List, Result};
-ghost use Rattle.upd_streams.specs.Inputs.{IsInput};
+ghost use Rattle.upd_io.specs.Inputs.{IsInput};
 ghost use Rattle.upd_text.specs.declared.fault.Fault.{Fault};
 ghost use Rattle.upd_http.specs.Responses.{Response};
 ghost use Rattle.upd_http.specs.Serving.{AnswersRequest, Leads, Made, Sends};
@@ -14,7 +14,7 @@ use std::alloc::Global;
 use std::io::{Read, Write};
 use upd_desk::Desk;
 use upd_request::read_call;
-use upd_rows::RowStore;
+use upd_row_store::RowStore;
 use upd_text::{Fault, FaultKind};
 
 /// Reads one request, asks the desk what it asks, and writes the answer. CutFrame, Read and NoMemory leave the output

@@ -9,7 +9,7 @@ ghost use Rattle.upd_http.specs.Owed.{owed};
 ghost use Rattle.upd_http.specs.Responses.{Response};
 ghost use Rattle.upd_http.specs.Serving.{DoesAsAsked};
 
-use upd_rows::RowStore;
+use upd_row_store::RowStore;
 
 /// What the desk told, and an answer says, is what is owed after every journal that its store held: the reply, the
 /// mark, the compile file or the listing, or the refusal; or the question was lost to want of memory or a failure of

@@ -3,11 +3,11 @@
 ghost use Rattle.std.specs.Prelude.{◌≡◌, ◌++◌, OnOk};
 ghost use Rattle.std.specs.Io.KnownBytes.{Appends};
 ghost use Rattle.upd_http.specs.Serving.{Puts};
-ghost use Rattle.upd_streams.specs.Fronts.{AppendsFront};
+ghost use Rattle.upd_io.specs.Fronts.{AppendsFront};
 
 use std::io;
 use std::io::Write;
-use upd_streams::write_parts;
+use upd_io::write_parts;
 use upd_text::{Fault, FaultKind};
 
 /// Writes a head and a body, and flushes. A failed write is Write.

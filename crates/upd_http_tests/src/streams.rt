@@ -7,7 +7,7 @@ use std::process::Abort;
 use std::test::Fail;
 use upd_desk::Desk;
 use upd_http::serve_one;
-use upd_rows::ListStore;
+use upd_list_store::ListStore;
 use upd_text::Fault;
 
 /// Gives bytes a few at a time; read number `fails_at` fails.
@@ -120,7 +120,7 @@ pub type Lists = Desk<ListStore>;
 
 /// A desk over an empty library.
 pub fn empty_desk(alloc: Global) -> Lists {
-    Desk::new(ListStore::new(alloc))
+    Desk::open(ListStore::new(alloc))
 }
 
 /// What is written and flushed for a request, read so many bytes at a time.

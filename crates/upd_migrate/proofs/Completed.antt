@@ -14,11 +14,11 @@ use Rattle.sqlite.specs.Given.{IsPlain}
 use Rattle.sqlite.specs.Listing.{understood}
 use Rattle.sqlite.specs.State.{State, Executes}
 use Rattle.sqlite.proofs.Callers.{command_of, runs_as}
-use Rattle.upd_change.specs.Rows.{Rows}
-use Rattle.upd_tables.specs.Keyed.{plain_query}
-use Rattle.upd_tables.specs.Stored.{HoldsAllRows}
-use Rattle.upd_tables.proofs.Shapes.{creates, cast_int}
-use Rattle.upd_tables.proofs.Tests.{eq_text, one_test}
+use Rattle.upd_records.specs.Rows.{Rows}
+use Rattle.upd_sqlite.specs.Keyed.{plain_query}
+use Rattle.upd_sqlite.specs.Stored.{HoldsAllRows}
+use Rattle.upd_sqlite.proofs.Shapes.{creates, cast_int}
+use Rattle.upd_sqlite.proofs.Tests.{eq_text, one_test}
 use Rattle.upd_sql.specs.Encoded.{stored, version_row}
 use Rattle.upd_sql.specs.Making.{schema_up_to, MakesNext}
 use Rattle.upd_sql.specs.Schema.{library_schema, meta_columns}

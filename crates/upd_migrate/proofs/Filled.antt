@@ -5,16 +5,16 @@ use Rattle.sqlite.specs.declared.error.Error.{Error}
 use Rattle.sqlite.specs.State.{State}
 use Rattle.upd_core.specs.Library.{LibraryView}
 use Rattle.upd_core.specs.Sound.{IsSound, IsWhole}
-use Rattle.upd_change.specs.Changes.{ChangeView, done_all}
-use Rattle.upd_change.specs.Fits.{AllFit}
-use Rattle.upd_change.specs.Rows.{Rows, Shows, ShowsStates}
-use Rattle.upd_change.specs.States.{tells_state}
-use Rattle.upd_change.proofs.FitLemmas.{states_fit}
-use Rattle.upd_rows.specs.Assembling.{AreRowsOf}
-use Rattle.upd_rows.specs.declared.rows.LibraryRows.{LibraryRows}
-use Rattle.upd_tables.specs.Stored.{HoldsAllRows}
-use Rattle.upd_tables.specs.Steps.{Makes}
-use Rattle.upd_tables.proofs.Chains.{clean_before, steps_then}
+use Rattle.upd_records.specs.Changes.{ChangeView, done_all}
+use Rattle.upd_records.specs.Fits.{AllFit}
+use Rattle.upd_records.specs.Rows.{Rows, Shows, ShowsStates}
+use Rattle.upd_diff.specs.States.{tells_state}
+use Rattle.upd_diff.proofs.FitLemmas.{states_fit}
+use Rattle.upd_row_store.specs.Assembling.{AreRowsOf}
+use Rattle.upd_records.specs.declared.rows.LibraryRows.{LibraryRows}
+use Rattle.upd_sqlite.specs.Stored.{HoldsAllRows}
+use Rattle.upd_sqlite.specs.Steps.{Makes}
+use Rattle.upd_sqlite.proofs.Chains.{clean_before, steps_then}
 use Rattle.upd_sql.specs.Commits.{Looks}
 use Rattle.upd_sql.specs.Making.{Leads}
 use Rattle.upd_sql.specs.Stands.{Stands}

@@ -1,13 +1,13 @@
 -- What is read in a transaction that completes a file first.
 use Rattle.std.proofs.Common.{◌≡◌, Ok, refl, sym, subst, IsTrue, true}
 use Rattle.sqlite.specs.State.{State, HasCleanDisk}
-use Rattle.upd_change.specs.Rows.{Rows}
-use Rattle.upd_order.specs.Rising.{TablesRise}
-use Rattle.upd_rows.specs.Assembling.{AreRowsOf}
-use Rattle.upd_rows.specs.declared.rows.LibraryRows.{LibraryRows}
-use Rattle.upd_tables.specs.Stored.{HoldsAllRows}
-use Rattle.upd_tables.proofs.Chains.{clean_before}
-use Rattle.upd_tables.proofs.Frames.{held}
+use Rattle.upd_records.specs.Rows.{Rows}
+use Rattle.upd_sqlite.specs.Rising.{TablesRise}
+use Rattle.upd_row_store.specs.Assembling.{AreRowsOf}
+use Rattle.upd_records.specs.declared.rows.LibraryRows.{LibraryRows}
+use Rattle.upd_sqlite.specs.Stored.{HoldsAllRows}
+use Rattle.upd_sqlite.proofs.Chains.{clean_before}
+use Rattle.upd_sqlite.proofs.Frames.{held}
 use Rattle.upd_sql.specs.Commits.{Looks}
 use Rattle.upd_sql.specs.Making.{Leads}
 use Rattle.upd_sql.specs.Stands.{Stands}

@@ -3,12 +3,12 @@ use Rattle.std.proofs.Common.{◌≡◌, Result, Ok, Err, OnOk, refl, sym, subst
 use Rattle.sqlite.specs.State.{State, HasCleanDisk, Shows, Survives}
 use Rattle.sqlite.proofs.StateLemmas.{survives_then}
 use Rattle.upd_core.specs.Library.{LibraryView}
-use Rattle.upd_change.specs.Rows.{Rows}
-use Rattle.upd_order.specs.Rising.{TablesRise}
-use Rattle.upd_tables.specs.Stored.{HoldsAllRows}
-use Rattle.upd_tables.specs.Steps.{Steps}
-use Rattle.upd_tables.proofs.Chains.{clean_before}
-use Rattle.upd_tables.proofs.Frames.{showing}
+use Rattle.upd_records.specs.Rows.{Rows}
+use Rattle.upd_sqlite.specs.Rising.{TablesRise}
+use Rattle.upd_sqlite.specs.Stored.{HoldsAllRows}
+use Rattle.upd_sqlite.specs.Steps.{Steps}
+use Rattle.upd_sqlite.proofs.Chains.{clean_before}
+use Rattle.upd_sqlite.proofs.Frames.{showing}
 use Rattle.upd_sql.specs.Commits.{ShowsIn, WasOpen}
 use Rattle.upd_sql.specs.Encoded.{stored}
 use Rattle.upd_sql.specs.Making.{Leads}

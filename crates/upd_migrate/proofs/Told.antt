@@ -6,11 +6,11 @@ use Rattle.upd_core.specs.Counted.{CountedCardView}
 use Rattle.upd_core.specs.Library.{LibraryView, empty}
 use Rattle.upd_core.specs.Sound.{IsSound}
 use Rattle.upd_core.specs.Targets.{is_same}
-use Rattle.upd_change.specs.Changes.{ChangeView, IdentNew, IdentPurged, CardNew, CardGone, CardsMoved, EntryNew, EntriesGone, TargetNew, TargetsGone}
-use Rattle.upd_change.specs.Changes.{StatusNow, CountNow, done, done_all}
-use Rattle.upd_change.specs.Rows.{Rows, ShowsStates, same_ref}
-use Rattle.upd_change.specs.States.{TakeGone, tells_state}
-use Rattle.upd_change.specs.Touched.{touched}
+use Rattle.upd_records.specs.Changes.{ChangeView, IdentNew, IdentPurged, CardNew, CardGone, CardsMoved, EntryNew, EntriesGone, TargetNew, TargetsGone}
+use Rattle.upd_records.specs.Changes.{StatusNow, CountNow, done, done_all}
+use Rattle.upd_records.specs.Rows.{Rows, ShowsStates, same_ref}
+use Rattle.upd_diff.specs.States.{TakeGone, tells_state}
+use Rattle.upd_diff.specs.Touched.{touched}
 use Rattle.upd_laws.proofs.SoundRunLemmas.{empty_sound}
 use Rattle.upd_yank.proofs.EnoughLemmas.{part_of_none}
 use Rattle.upd_yank.specs.Affected.{affected}

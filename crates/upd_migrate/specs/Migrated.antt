@@ -5,7 +5,7 @@ use Rattle.sqlite.specs.Effect.{Database}
 use Rattle.sqlite.specs.State.{State}
 use Rattle.upd_core.specs.Library.{LibraryView}
 use Rattle.upd_core.specs.Sound.{IsSound, IsWhole}
-use Rattle.upd_change.specs.Rows.{Rows, Shows, ShowsStates}
+use Rattle.upd_records.specs.Rows.{Rows, Shows, ShowsStates}
 use Rattle.upd_sql.specs.Commits.{ShowsIn}
 use Rattle.upd_sql.specs.Stands.{ShowsTables, Stands}
 use Rattle.upd_store.specs.Version.{TellsVersion}

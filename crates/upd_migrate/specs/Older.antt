@@ -3,8 +3,8 @@ use Rattle.std.specs.Prelude.{ℕ, List, [], ◌∷◌, take, drop}
 use Rattle.sqlite_value.specs.Order.{Row}
 use Rattle.sqlite_schema.specs.declared.schema.Schema.{Schema}
 use Rattle.sqlite.specs.Effect.{Database}
-use Rattle.upd_change.specs.Rows.{Rows}
-use Rattle.upd_tables.specs.Stored.{HasAllRows, HoldsAllRows}
+use Rattle.upd_records.specs.Rows.{Rows}
+use Rattle.upd_sqlite.specs.Stored.{HasAllRows, HoldsAllRows}
 use Rattle.upd_sql.specs.Encoded.{stored, version_row}
 use Rattle.upd_sql.specs.Making.{schema_up_to}
 use Rattle.upd_sql.specs.Schema.{library_schema}

@@ -2,9 +2,9 @@
 ghost use Rattle.std.specs.Prelude.{◌≡◌, ◌+◌, ◌++◌, ℕ, List, [], ◌∷◌};
 ghost use Rattle.sqlite_value.specs.Order.{Row};
 ghost use Rattle.sqlite.specs.Held.{state};
-ghost use Rattle.upd_change.specs.Rows.{Rows};
-ghost use Rattle.upd_tables.specs.Steps.{Steps};
-ghost use Rattle.upd_tables.specs.Stored.{HoldsAllRows};
+ghost use Rattle.upd_records.specs.Rows.{Rows};
+ghost use Rattle.upd_sqlite.specs.Steps.{Steps};
+ghost use Rattle.upd_sqlite.specs.Stored.{HoldsAllRows};
 ghost use Rattle.upd_sql.specs.Commits.{WasOpen};
 ghost use Rattle.upd_sql.specs.Making.{schema_up_to, Leads, MakesNext};
 ghost use Rattle.upd_sql.specs.Stands.{Stands};
@@ -14,7 +14,7 @@ ghost use Rattle.upd_migrate.specs.declared.version.Version.{Version};
 
 use crate::version::Version;
 use sqlite::{Alter, Error, Transaction};
-use upd_tables::run;
+use upd_sqlite::run;
 
 /// Makes the next table, whatever rows the others have.
 fn create<S: Alter>(tx: &mut Transaction<'_, S>, sql: &str) -> Result<(), Error>

@@ -2,9 +2,9 @@
 ghost use Rattle.std.specs.Prelude.{◌≡◌, []};
 ghost use Rattle.sqlite.specs.Held.{state};
 ghost use Rattle.upd_core.specs.Library.{LibraryView};
-ghost use Rattle.upd_change.specs.Rows.{Rows};
-ghost use Rattle.upd_tables.specs.Steps.{Steps};
-ghost use Rattle.upd_tables.specs.Stored.{HoldsAllRows};
+ghost use Rattle.upd_records.specs.Rows.{Rows};
+ghost use Rattle.upd_sqlite.specs.Steps.{Steps};
+ghost use Rattle.upd_sqlite.specs.Stored.{HoldsAllRows};
 ghost use Rattle.upd_sql.specs.Commits.{WasOpen};
 ghost use Rattle.upd_sql.specs.Making.{Leads};
 ghost use Rattle.upd_sql.specs.Stands.{Stands};
@@ -16,7 +16,7 @@ use crate::telling::statuses;
 use crate::version::Version;
 use sqlite::{Alter, Error, ErrorCode, Transaction};
 use std::alloc::Global;
-use upd_rows::assembled;
+use upd_row_store::assembled;
 use upd_sql::{carry_out_all, library_rows_in};
 
 /// The statuses and counts of the library that the tables show, where they have none.

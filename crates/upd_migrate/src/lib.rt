@@ -15,5 +15,5 @@ mod migrating;
 mod telling;
 mod version;
 
-pub use loading::load_library;
+pub use loading::load_rows;
 pub use migrating::migrate;

@@ -3,8 +3,8 @@ ghost use Rattle.std.specs.Prelude.{◌≡◌, ◌⊎◌, ℕ, false, IfErr, IfO
 ghost use Rattle.sqlite.specs.Held.{state};
 ghost use Rattle.sqlite.specs.State.{HasCleanDisk, Survives};
 ghost use Rattle.upd_core.specs.Library.{LibraryView};
-ghost use Rattle.upd_change.specs.Rows.{Rows};
-ghost use Rattle.upd_rows.specs.Assembling.{AreRowsOf};
+ghost use Rattle.upd_records.specs.Rows.{Rows};
+ghost use Rattle.upd_row_store.specs.Assembling.{AreRowsOf};
 ghost use Rattle.upd_store.specs.Faults.{IsUnopened};
 ghost use Rattle.upd_store.specs.Version.{TellsVersion};
 ghost use Rattle.upd_migrate.specs.Migrated.{AreLibraryRows};
@@ -16,9 +16,10 @@ use crate::version::{Version, known_version};
 use sqlite::{Connection, Error};
 use std::alloc::Global;
 use upd_core::Library;
-use upd_order::{Rising, note_order_outside};
-use upd_rows::{LibraryRows, assembled};
+use upd_records::LibraryRows;
+use upd_row_store::assembled;
 use upd_sql::library_rows_in;
+use upd_sqlite::{Rising, note_order_outside};
 use upd_store::{fault_of, store_at};
 use upd_text::{Fault, FaultKind};
 
@@ -50,7 +51,7 @@ fn rows_of<S: Rising>(
 
 /// The library that the tables of a file show, of the present schema or an older one. No row is changed. Where the
 /// file has no schema of the library's the fault is Store, at the version that the file tells, 0 where there is none.
-pub fn load_library<S: Rising>(alloc: Global, conn: &mut Connection<S>) -> Result<Library, Fault>
+pub fn load_rows<S: Rising>(alloc: Global, conn: &mut Connection<S>) -> Result<Library, Fault>
     ensures shown { HasCleanDisk (state S.Store conn.new) → IsTrue (state S.Store conn.new).is_open → IfOk result
         (λ library. (version : Version) (l : LibraryView) (rows : Rows) → AreLibraryRows l rows
         → ShowsAs version rows (state S.Store conn.old).committed → library ≡ l) }

@@ -11,7 +11,7 @@ use crate::filling::fill;
 use crate::version::{Version, known_version};
 use sqlite::{Connection, Error};
 use std::alloc::Global;
-use upd_order::{Rising, note_order_outside};
+use upd_sqlite::{Rising, note_order_outside};
 use upd_store::{fault_of, store_at};
 use upd_text::Fault;
 

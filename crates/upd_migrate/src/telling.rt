@@ -3,16 +3,16 @@ ghost use Rattle.std.specs.Prelude.{◌≡◌, [], map, true, IfOk};
 ghost use Rattle.std.specs.List.{AllByRecursion};
 ghost use Rattle.std.specs.Result.{IsOkUnless};
 ghost use Rattle.upd_core.specs.Sound.{IsSound};
-ghost use Rattle.upd_change.specs.Changes.{change_seen, done_all};
-ghost use Rattle.upd_change.specs.Rows.{Rows, ShowsStates};
-ghost use Rattle.upd_change.specs.States.{tells_state};
+ghost use Rattle.upd_records.specs.Changes.{change_seen, done_all};
+ghost use Rattle.upd_records.specs.Rows.{Rows, ShowsStates};
+ghost use Rattle.upd_diff.specs.States.{tells_state};
 ghost use Rattle.upd_text.specs.Faults.{fault_at};
 ghost use Rattle.upd_text.specs.declared.fault.FaultKind.TheVariants.{NoMemory};
 
 use std::alloc::Global;
 use upd_apply::Applied;
-use upd_change::{Change, compare};
-use upd_core::{Counted, Library};
+use upd_core::{Change, Counted, Library};
+use upd_diff::compare;
 use upd_text::{Fault, FaultKind};
 use upd_yank::Cache;
 

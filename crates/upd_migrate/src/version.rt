@@ -8,8 +8,8 @@ ghost use Rattle.upd_migrate.specs.Older.{number_of, schema_of, tables_of};
 
 use sqlite::Connection;
 use sqlite_schema::schema::Schema;
-use upd_order::Rising;
 use upd_sql::has_first_tables;
+use upd_sqlite::Rising;
 use upd_store::{fault_of, store_at, version_of};
 use upd_text::Fault;
 

@@ -8,7 +8,7 @@ use std::test::Fail;
 use upd_compile::{list_card, list_deck, list_idents, list_yanks};
 use upd_core::{CardRef, Library, Name};
 use upd_desk::Desk;
-use upd_migrate::{load_library, migrate};
+use upd_migrate::{load_rows, migrate};
 use upd_store::SqlStore;
 
 fn older(alloc: Global, file: Older) -> Result<Connection<MemStore>, Fail> {
@@ -80,7 +80,7 @@ fn is_listed(
     conn: &mut Connection<MemStore>,
     file: Older,
 ) -> Result<(), Fail> {
-    let library = load_library(alloc, conn)?;
+    let library = load_rows(alloc, conn)?;
     let found = listings(alloc, &library)?;
     same_text(rt, file.name(), &found, listed(file));
     Ok(())
@@ -154,7 +154,7 @@ fn repeats(rt: &impl Abort, alloc: Global, desk: &mut TableDesk) -> Result<(), F
 /// A desk over a file that was led, behind the repeats.
 fn desk_over(rt: &impl Abort, alloc: Global, file: Older) -> Result<TableDesk, Fail> {
     let conn = is_led(rt, alloc, file)?;
-    let mut desk = Desk::new(adopted(conn)?);
+    let mut desk = Desk::open(adopted(conn)?);
     repeats(rt, alloc, &mut desk)?;
     Ok(desk)
 }
@@ -222,7 +222,7 @@ fn migration_fault(alloc: Global, conn: &mut Connection<MemStore>) -> Result<Str
 
 /// The fault of a reading.
 fn reading_fault(alloc: Global, conn: &mut Connection<MemStore>) -> Result<String, Fail> {
-    match load_library(alloc, conn) {
+    match load_rows(alloc, conn) {
         Ok(_) => Err("a library was read".into()),
         Err(fault) => Ok(format!(in alloc; "{fault}")?),
     }

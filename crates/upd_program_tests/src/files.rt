@@ -7,7 +7,7 @@ use std::fs;
 use std::net::TcpListener;
 use std::process::Abort;
 use std::test::Fail;
-use upd_file::connect;
+use upd_store::file::connect;
 
 const ONE_DECK: &str = "1 A deck held\n";
 

@@ -2,7 +2,7 @@
 use crate::console::{accepts, answers, answers_of, fresh, library, remove};
 use sqlite_disk::Unknown;
 use std::test::Fail;
-use upd_file::connect;
+use upd_store::file::connect;
 
 const DECK: &[u8] = b"*DECK A\nONE\nTWO\nTHREE\n";
 

@@ -5,7 +5,7 @@ use std::io::{ErrorKind, Read};
 use std::process::Abort;
 use std::test::Fail;
 use std::{fs, io};
-use upd_file::connect;
+use upd_store::file::connect;
 
 /// The words of a command line behind its name and file, and the line on the fault stream, with status 1.
 const OPERANDS: &[(&str, &[&str], &str)] = &[

@@ -6,8 +6,8 @@ use Rattle.httparse.specs.declared.Error.{Error}
 use Rattle.httparse.specs.declared.Error.TheVariants.{HeaderName, HeaderValue, NewLine, Status, Token, TooManyHeaders, Version}
 use Rattle.httparse.specs.Grammar.{HasNoRequest, NeverHasRequest, print_request}
 use Rattle.httparse.specs.Spans.{RequestExceeds}
-use Rattle.upd_streams.specs.Inputs.{IsInput}
-use Rattle.upd_streams.proofs.InputLemmas.{input_behind, some_input}
+use Rattle.upd_io.specs.Inputs.{IsInput}
+use Rattle.upd_io.proofs.InputLemmas.{input_behind, some_input}
 use Rattle.upd_request.specs.Calls.{bad_frame}
 use Rattle.upd_request.specs.Requests.{IsFailure, RefusesHead}
 use Rattle.upd_request.specs.declared.call.Refusal.{Refusal}

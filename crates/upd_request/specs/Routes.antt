@@ -6,7 +6,7 @@ use Rattle.matchit.specs.Route.{Scan, parse_route}
 use Rattle.matchit.specs.Router.{RouteOf, nearest, route_from}
 use Rattle.matchit.specs.Rows.{RowsOf}
 use Rattle.matchit.specs.Seek.{first}
-use Rattle.upd_streams.specs.Numbers.{number_of}
+use Rattle.upd_io.specs.Numbers.{number_of}
 use Rattle.upd_text.specs.declared.fault.FaultKind.TheVariants.{BadName, BadCard, BadNumber, BadSite, BadMode}
 use Rattle.upd_text.specs.Names.{card_of}
 use Rattle.upd_text.specs.Outcome.{◌>>=◌}

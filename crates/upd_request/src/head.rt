@@ -4,7 +4,7 @@ ghost use Rattle.std.specs.Prelude.{◌≡◌, ◌≢◌, ◌≤◌, ℕ, List, 
 ghost use Rattle.std.specs.Io.KnownBytes.{Consumes};
 ghost use Rattle.std.specs.IoError.{error_kind};
 ghost use Rattle.httparse.specs.Spans.{IsRequestOf, IsRequestWithin};
-ghost use Rattle.upd_streams.specs.Inputs.{IsInput};
+ghost use Rattle.upd_io.specs.Inputs.{IsInput};
 ghost use Rattle.upd_request.specs.Calls.{no_memory_refusal, read_failed_refusal};
 ghost use Rattle.upd_request.specs.Requests.{IsFailure, RefusesHead};
 

@@ -2,7 +2,7 @@
 
 ghost use Rattle.std.specs.Prelude.{◌≡◌, ◌++◌, ◌∷◌, [], get_or, IfOk};
 ghost use Rattle.std.specs.String.{string_bytes};
-ghost use Rattle.upd_streams.specs.Numbers.{number_of};
+ghost use Rattle.upd_io.specs.Numbers.{number_of};
 ghost use Rattle.upd_text.specs.Names.{card_of};
 ghost use Rattle.upd_text.specs.declared.fault.FaultKind.TheVariants.{BadCard, BadName, BadNumber};
 ghost use Rattle.upd_request.specs.Calls.{Gives};
@@ -12,7 +12,7 @@ ghost use Rattle.upd_request.specs.Parameters.{segments_of, text_of};
 use crate::call::Refusal;
 use percent_encoding::{DecodeError, percent_decode_str};
 use std::alloc::{AllocError, Global};
-use upd_streams::read_number;
+use upd_io::read_number;
 use upd_text::{CardRef, FaultKind, Name};
 
 /// The path of a target: what stands before its query.

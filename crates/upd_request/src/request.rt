@@ -4,7 +4,7 @@ ghost use Rattle.std.specs.Prelude.{◌≡◌, ◌≤◌, ◌<◌, ◌++◌, Lis
 ghost use Rattle.std.specs.Io.KnownBytes.{Consumes, IsAtEnd};
 ghost use Rattle.httparse.specs.Grammar.{RequestHead};
 ghost use Rattle.httparse.specs.Spans.{IsRequestAt, IsRequestOf, IsRequestWithin};
-ghost use Rattle.upd_streams.specs.Inputs.{IsInput};
+ghost use Rattle.upd_io.specs.Inputs.{IsInput};
 ghost use Rattle.upd_request.specs.Calls.{Gives, asked};
 ghost use Rattle.upd_request.specs.Parameters.{path_of};
 ghost use Rattle.upd_request.specs.Requests.{GivesUnlessFailed, IsFailure, IsRead, body_of, wanted};

@@ -6,7 +6,8 @@ use std::alloc::Global;
 use std::process::Abort;
 use std::test::Fail;
 use upd_core::CardRef;
-use upd_rows::{ListStore, RowStore};
+use upd_list_store::ListStore;
+use upd_row_store::RowStore;
 
 const DECK_A: &str = "*DECK A\nONE\nTWO\nTHREE\n";
 

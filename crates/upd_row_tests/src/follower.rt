@@ -5,10 +5,11 @@ use std::alloc::{AllocError, Global};
 use std::process::Abort;
 use std::test::Fail;
 use upd_apply::apply;
-use upd_change::{Change, RunRow};
-use upd_core::{CardRef, Counted, Library, States, Target};
+use upd_core::{CardRef, Change, Counted, Library, States, Target};
 use upd_deck::read_run;
-use upd_rows::{ListStore, RowStore};
+use upd_list_store::ListStore;
+use upd_records::RunRow;
+use upd_row_store::RowStore;
 use upd_text::Fault;
 use upd_yank::Cache;
 

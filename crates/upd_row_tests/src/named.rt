@@ -33,7 +33,7 @@ fn name_cards(
 
 /// The cards that a full compile file has, by the ends of its lines of 97 bytes.
 pub fn compiled(alloc: Global, before: &Actives, after: &Actives) -> Result<String, Fail> {
-    let file = compile_active(alloc, before, after, Mode::Full, &[])?;
+    let file = compile_active(alloc, after, before, Mode::Full, &[])?;
     let mut text = String::new(alloc);
     for line in file.bytes.chunks(97) {
         let end = line.get(81..96).ok_or("a short line")?;

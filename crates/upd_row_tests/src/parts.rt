@@ -6,7 +6,8 @@ use std::alloc::Global;
 use std::process::Abort;
 use std::test::Fail;
 use upd_core::{Actives, Library};
-use upd_rows::{ListStore, RowStore};
+use upd_list_store::ListStore;
+use upd_row_store::RowStore;
 use upd_yank::Cache;
 
 /// Deck A with three lines, deck B with one, and a set X that puts a card behind the first one of A.

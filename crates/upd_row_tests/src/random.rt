@@ -4,7 +4,7 @@ use crate::follower::Follower;
 use std::alloc::Global;
 use std::process::Abort;
 use std::test::Fail;
-use upd_rows::ListStore;
+use upd_list_store::ListStore;
 
 /// A list of runs, followed by a store of its own: how many of them were accepted. Some purge a deck and bring it again.
 fn random_runs(rt: &impl Abort, alloc: Global, dice: &mut Dice) -> Result<u32, Fail> {

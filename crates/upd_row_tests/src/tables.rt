@@ -6,8 +6,9 @@ use std::mem;
 use std::process::Abort;
 use std::test::Fail;
 use upd_core::ident::name_at;
-use upd_core::{Age, Card, CardRef, Ident, Library, Live, Target};
-use upd_rows::{CardRow, CountRow, EntryRow, ListStore, StateRow, TargetRow};
+use upd_core::{Card, CardRef, Ident, Library, Live, Serial, Target};
+use upd_list_store::ListStore;
+use upd_records::{CardRow, CountRow, EntryRow, StateRow, TargetRow};
 
 /// The tables that runs change.
 #[derive(Debug, Drop)]
@@ -59,7 +60,7 @@ impl Tables {
         &mut self,
         library: &Library,
         live: &Live<'_>,
-        deck: Age,
+        deck: Serial,
         cards: &[Card],
     ) -> Result<(), Fail> {
         for (pos, card) in cards.iter().enumerate() {

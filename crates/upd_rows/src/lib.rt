@@ -1,20 +1,8 @@
-//! The library in rows: what a store of rows promises, and a store over lists.
+//! Stores of rows: what a store promises, a store over lists, and the store over SQLite.
 #![tactic(auto)]
 
-pub mod active;
-pub mod asked;
-pub mod assemble;
-mod list_changes;
-pub mod list_store;
-pub mod list_tables;
-mod parts;
-pub mod rows;
-pub mod store;
-
-pub use active::assembled_active;
-pub use asked::{card_set, decks_by_age, keep_states, reads_with, states_by_key};
-pub use assemble::{assembled, assembled_part, assembled_with_rest};
-pub use list_store::ListStore;
-pub use list_tables::ListTables;
-pub use rows::{CardRow, CountRow, EntryRow, LibraryRows, MarkRow, StateRow, TargetRow};
-pub use store::RowStore;
+pub use upd_list_store::ListStore;
+pub use upd_migrate::load_rows;
+pub use upd_records::RunRow;
+pub use upd_row_store::RowStore;
+pub use upd_store::SqlStore;

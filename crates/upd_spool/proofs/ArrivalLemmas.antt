@@ -1,11 +1,11 @@
 -- Arrivals one after the other, and further ones behind them.
 use Rattle.std.proofs.Common.{◌≡◌, ℕ, List, [], ◌∷◌, ◌++◌, length, Result, refl, sym, subst, arith}
 use Rattle.upd_text.specs.declared.fault.Fault.{Fault}
-use Rattle.upd_change.specs.Rows.{Rows}
+use Rattle.upd_records.specs.Rows.{Rows}
 use Rattle.upd_desk.specs.Arrivals.{ArrivalView}
 use Rattle.upd_desk.specs.Journal.{Event, Journal}
 use Rattle.upd_desk.specs.Outcomes.{ReplyView}
-use Rattle.upd_desk.specs.Holding.{AreAnswers, ArriveAll, Arrives, HoldsIn, IsLeft, after, after_all, in_hand_after, in_hand_after_all}
+use Rattle.upd_desk.specs.Holding.{AreAnswers, RunAll, Arrives, HoldsIn, IsLeft, after, after_all, in_hand_after, in_hand_after_all}
 
 after_further : (j : Journal) (list more : List ArrivalView) (results further : List (Result ReplyView Fault)) → length results ≡ length list
     → after_all j (list ++ more) (results ++ further) ≡ after_all (after_all j list results) more further
@@ -31,7 +31,7 @@ answers_further j (a ∷ list) more (r ∷ results) further are then = (are.0, a
 module _ {S : Type 0} {Image : Type 0} (is_honest is_open : S → Type 0) (image : S → Image) (shows : Image → Rows → Type 0)
     (may_leave : S → Image → Type 0) (failures : S → ℕ) where
   -- no arrival does nothing
-  pub none_arrived : (s : S) → ArriveAll is_honest is_open image shows may_leave failures [] [] s s
+  pub none_arrived : (s : S) → RunAll is_honest is_open image shows may_leave failures [] [] s s
   none_arrived s = record {
     honest = λ honest. honest;
     was_open = λ honest is. is;
@@ -44,7 +44,7 @@ module _ {S : Type 0} {Image : Type 0} (is_honest is_open : S → Type 0) (image
   -- one arrival alone
   pub one_arrived : (a : ArrivalView) (result : Result ReplyView Fault) (old new : S)
       → Arrives is_honest is_open image shows may_leave failures a result old new
-      → ArriveAll is_honest is_open image shows may_leave failures (a ∷ []) (result ∷ []) old new
+      → RunAll is_honest is_open image shows may_leave failures (a ∷ []) (result ∷ []) old new
   one_arrived a result old new went = record {
     honest = went.honest;
     was_open = went.was_open;
@@ -56,9 +56,9 @@ module _ {S : Type 0} {Image : Type 0} (is_honest is_open : S → Type 0) (image
 
   -- further arrivals
   pub further_arrived : (list more : List ArrivalView) (results further : List (Result ReplyView Fault)) (old mid new : S) → length results ≡ length list
-      → ArriveAll is_honest is_open image shows may_leave failures list results old mid
-      → ArriveAll is_honest is_open image shows may_leave failures more further mid new
-      → ArriveAll is_honest is_open image shows may_leave failures (list ++ more) (results ++ further) old new
+      → RunAll is_honest is_open image shows may_leave failures list results old mid
+      → RunAll is_honest is_open image shows may_leave failures more further mid new
+      → RunAll is_honest is_open image shows may_leave failures (list ++ more) (results ++ further) old new
   further_arrived list more results further old mid new same all went = record {
     honest = λ honest. all.honest (went.honest honest);
     was_open = λ honest is. all.was_open (went.honest honest) (went.was_open honest is);

@@ -17,7 +17,7 @@ use Rattle.upd_text.specs.declared.limits.TheConstants.{MAX_RUN_BYTES}
 use Rattle.upd_text.specs.Names.{is_digit, number_behind}
 use Rattle.upd_text.proofs.CardRefLemmas.{numeral_model}
 use Rattle.upd_spool.specs.declared.header.TheConstants.{MAX_HEADER_BYTES}
-use Rattle.upd_streams.specs.Numbers.{is_number, number_of}
+use Rattle.upd_io.specs.Numbers.{is_number, number_of}
 use Rattle.upd_spool.specs.Header.{HeaderView, IsHeader, ◌>>=◌, cut, header_of, header_text, is_visible, is_word, size_of, where_true}
 
 -- ---- words

@@ -1,12 +1,12 @@
 -- One frame: how its parts are read, and how it is answered.
 use Rattle.std.specs.Prelude.{◌≡◌, ℕ, ◌≤◌, ◌≢◌, Bool, true, false, IsTrue, List, [], ◌∷◌, ◌++◌, length, Option, Result, Ok, Err}
 use Rattle.std.specs.Io.KnownBytes.{Appends, Consumes, IsAtEnd}
-use Rattle.upd_streams.specs.Fronts.{AppendsFront}
+use Rattle.upd_io.specs.Fronts.{AppendsFront}
 use Rattle.upd_text.specs.declared.fault.Fault.{Fault}
 use Rattle.upd_text.specs.declared.fault.FaultKind.{FaultKind}
 use Rattle.upd_text.specs.declared.fault.FaultKind.TheVariants.{NoMemory, Store, BadFrame, CutFrame, Read, Write}
-use Rattle.upd_change.specs.Rows.{Rows}
-use Rattle.upd_rows.specs.Keeping.{MoreFailures}
+use Rattle.upd_records.specs.Rows.{Rows}
+use Rattle.upd_row_store.specs.Keeping.{MoreFailures}
 use Rattle.upd_desk.specs.Answers.{answer_line, is_answered}
 use Rattle.upd_desk.specs.Arrivals.{ArrivalView}
 use Rattle.upd_desk.specs.Outcomes.{ReplyView}

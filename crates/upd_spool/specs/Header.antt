@@ -3,8 +3,8 @@ use Rattle.std.specs.Prelude.{ℕ, ◌<◌, ◌≤◌, ◌^◌, ◌==◌, nat_le
 use Rattle.std.specs.Prelude.{Option, Some, None}
 use Rattle.std.specs.List.{list_all, list_any, before_first, after_first}
 use Rattle.std.specs.Str.{bytes_eq}
-use Rattle.upd_streams.specs.Numbers.{number_of}
-use Rattle.upd_streams.specs.declared.numbers.TheConstants.{MAX_DIGITS}
+use Rattle.upd_io.specs.Numbers.{number_of}
+use Rattle.upd_io.specs.declared.numbers.TheConstants.{MAX_DIGITS}
 use Rattle.upd_text.specs.Names.{is_between}
 use Rattle.upd_text.specs.declared.limits.TheConstants.{MAX_RUN_BYTES}
 use Rattle.upd_spool.specs.declared.header.TheConstants.{MAX_HEADER_BYTES}

@@ -5,12 +5,12 @@ use Rattle.std.specs.List.{All, flat_map}
 use Rattle.upd_text.specs.declared.fault.Fault.{Fault}
 use Rattle.upd_text.specs.declared.fault.FaultKind.{FaultKind}
 use Rattle.upd_text.specs.declared.fault.FaultKind.TheVariants.{NoMemory, Store, BadFrame, CutFrame, Read, Write}
-use Rattle.upd_change.specs.Rows.{Rows}
-use Rattle.upd_rows.specs.Keeping.{MoreFailures}
+use Rattle.upd_records.specs.Rows.{Rows}
+use Rattle.upd_row_store.specs.Keeping.{MoreFailures}
 use Rattle.upd_desk.specs.Answers.{answer_line, is_answered}
 use Rattle.upd_desk.specs.Arrivals.{ArrivalView}
 use Rattle.upd_desk.specs.Outcomes.{ReplyView}
-use Rattle.upd_desk.specs.Holding.{ArriveAll, is_lost}
+use Rattle.upd_desk.specs.Holding.{RunAll, is_lost}
 use Rattle.upd_spool.specs.declared.frames.TheConstants.{MAX_FRAMES}
 use Rattle.upd_spool.specs.Frames.{IsBad, IsCut, IsFrame, frame_of, frames_text}
 
@@ -57,7 +57,7 @@ module _ {S : Type 0} {Image : Type 0} (is_honest is_open : S → Type 0) (image
     pub are_frames : All IsFrame frames
     pub few : length frames ≤ MAX_FRAMES
     pub each : length results ≡ length frames
-    pub arrived : ArriveAll is_honest is_open image shows may_leave failures frames results old new
+    pub arrived : RunAll is_honest is_open image shows may_leave failures frames results old new
     pub read : Consumes input input' (frames_text frames ++ taken)
     pub written : Appends output output' out
 

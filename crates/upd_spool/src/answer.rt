@@ -4,11 +4,11 @@ ghost use Rattle.std.specs.Io.KnownBytes.{Appends};
 ghost use Rattle.upd_desk.specs.Answers.{answer_line, is_answered};
 ghost use Rattle.upd_desk.specs.Holding.{Arrives};
 ghost use Rattle.upd_desk.specs.Outcomes.{ReplyView};
-ghost use Rattle.upd_rows.specs.Keeping.{MoreFailures};
+ghost use Rattle.upd_row_store.specs.Keeping.{MoreFailures};
 ghost use Rattle.upd_spool.specs.Exchange.{LeavesNoLine};
 ghost use Rattle.upd_spool.specs.Frames.{arrival_of};
 ghost use Rattle.upd_spool.specs.Spools.{GetsNoLine};
-ghost use Rattle.upd_streams.specs.Fronts.{AppendsFront};
+ghost use Rattle.upd_io.specs.Fronts.{AppendsFront};
 ghost use Rattle.upd_text.specs.declared.fault.Fault.{Fault};
 ghost use Rattle.upd_text.specs.declared.fault.FaultKind.TheVariants.{Store};
 
@@ -17,8 +17,8 @@ use std::alloc::Global;
 use std::io;
 use std::io::Write;
 use upd_desk::{Desk, fault_answer};
-use upd_rows::RowStore;
-use upd_streams::write_parts;
+use upd_io::write_parts;
+use upd_row_store::RowStore;
 use upd_text::FaultKind;
 
 /// Lets a run arrive, and writes the line that answers it. All memory is taken before the line is written.

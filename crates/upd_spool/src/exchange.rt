@@ -7,7 +7,7 @@ use crate::read::{read_line, read_run};
 use std::alloc::Global;
 use std::io::{Read, Write};
 use upd_desk::Desk;
-use upd_rows::RowStore;
+use upd_row_store::RowStore;
 use upd_text::FaultKind;
 
 /// Reads a frame, lets its run arrive, and writes the answer. `false`: the input ends before the frame.

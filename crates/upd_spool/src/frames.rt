@@ -6,7 +6,7 @@ use crate::read::read_nothing;
 use std::alloc::Global;
 use std::io::{Read, Write};
 use upd_desk::Desk;
-use upd_rows::RowStore;
+use upd_row_store::RowStore;
 use upd_text::Fault;
 
 /// The most frames of a spool.

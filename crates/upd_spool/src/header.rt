@@ -9,7 +9,7 @@ ghost use Rattle.upd_spool.specs.Header.{size_of, where_true};
 
 use std::marker::Model;
 use std::str;
-use upd_streams::read_number;
+use upd_io::read_number;
 use upd_text::limits::MAX_RUN_BYTES;
 use upd_text::line::split_once;
 

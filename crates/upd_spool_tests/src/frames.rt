@@ -6,7 +6,7 @@ use std::alloc::Global;
 use std::process::Abort;
 use std::test::Fail;
 use upd_desk::Desk;
-use upd_rows::ListStore;
+use upd_list_store::ListStore;
 use upd_spool::spool;
 
 const BAD_SITE: &str = "{\"at\":0,\"fault\":23,\"name\":\"BadSite\"}\n";
@@ -26,7 +26,7 @@ const FULL_EMPTY: &str = "{\"compile\":\"\",\"idents\":[],\"lines\":0,\"mode\":\
 \"site\":\"LYON\",\"state\":\"accepted\"}\n";
 
 fn desk(alloc: Global) -> Desk<ListStore> {
-    Desk::new(ListStore::new(alloc))
+    Desk::open(ListStore::new(alloc))
 }
 
 /// A spool on a desk: what comes out, and how it ends.

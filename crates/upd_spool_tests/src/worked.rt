@@ -5,7 +5,7 @@ use std::alloc::Global;
 use std::process::Abort;
 use std::test::Fail;
 use upd_desk::Desk;
-use upd_rows::ListStore;
+use upd_list_store::ListStore;
 use upd_spool::spool;
 use upd_text::Fault;
 
@@ -46,7 +46,7 @@ fn comes_out(
 }
 
 fn desk(alloc: Global) -> Desk<ListStore> {
-    Desk::new(ListStore::new(alloc))
+    Desk::open(ListStore::new(alloc))
 }
 
 #[test]

@@ -4,8 +4,8 @@ use Rattle.sqlite_rules.specs.Cast.{cast_all}
 use Rattle.upd_core.specs.declared.ident.Ident.{Ident}
 use Rattle.upd_core.specs.declared.target.Target.{Target}
 use Rattle.upd_core.specs.declared.target.Target.TheVariants.{Set, SetIn, Deck}
-use Rattle.upd_change.specs.Rows.{CardRow, EntryRow, TargetRow, RunView, StateRow, CountRow, MarkRow}
-use Rattle.upd_tables.proofs.Shapes.{cast_int}
+use Rattle.upd_records.specs.Rows.{CardRow, EntryRow, TargetRow, RunView, StateRow, CountRow, MarkRow}
+use Rattle.upd_sqlite.proofs.Shapes.{cast_int}
 use Rattle.upd_sql.specs.Schema.{ident_columns, card_columns, entry_columns, target_columns, run_columns, state_columns, count_columns, mark_columns}
 use Rattle.upd_sql.specs.Encoded.{kind_code, ident_row, card_row, entry_row, target_row, run_row, state_row, count_row, mark_row}
 

@@ -2,12 +2,12 @@
 use Rattle.std.proofs.Common.{◌≡◌, Ok, refl, sym, ap, subst, ◌∙◌, IsTrue, true, false}
 use Rattle.sqlite.specs.State.{State, HasCleanDisk, Shows, Survives}
 use Rattle.sqlite.proofs.StateLemmas.{survives_then}
-use Rattle.upd_change.specs.Rows.{Rows}
-use Rattle.upd_order.specs.Rising.{TablesRise}
+use Rattle.upd_records.specs.Rows.{Rows}
+use Rattle.upd_sqlite.specs.Rising.{TablesRise}
 use Rattle.sqlite.specs.Effect.{Database}
-use Rattle.upd_tables.specs.Steps.{Makes, Steps}
-use Rattle.upd_tables.proofs.Chains.{clean_before}
-use Rattle.upd_tables.proofs.Frames.{held, showing}
+use Rattle.upd_sqlite.specs.Steps.{Makes, Steps}
+use Rattle.upd_sqlite.proofs.Chains.{clean_before}
+use Rattle.upd_sqlite.proofs.Frames.{held, showing}
 use Rattle.upd_sql.specs.Schema.{library_schema, no_schema}
 use Rattle.upd_sql.specs.Making.{no_rows, HasMade, Leads, MayMake}
 use Rattle.upd_sql.specs.Encoded.{stored}

@@ -12,8 +12,8 @@ use Rattle.upd_core.specs.declared.ident.Ident.{Ident}
 use Rattle.upd_core.specs.declared.target.Target.{Target}
 use Rattle.upd_core.specs.declared.target.Target.TheVariants.{Set, SetIn, Deck}
 use Rattle.upd_core.specs.Targets.{is_same}
-use Rattle.upd_change.specs.Rows.{CardRow, EntryRow, TargetRow, RunView, StateRow, CountRow, MarkRow, Rows, same_ref}
-use Rattle.upd_rows.specs.Tables.{is_settled, is_mark_of}
+use Rattle.upd_records.specs.Rows.{CardRow, EntryRow, TargetRow, RunView, StateRow, CountRow, MarkRow, Rows, same_ref}
+use Rattle.upd_row_store.specs.Tables.{is_settled, is_mark_of}
 use Rattle.upd_sql.specs.Schema.{ident_columns, card_columns, entry_columns, target_columns, run_columns, state_columns, count_columns, mark_columns}
 use Rattle.upd_sql.specs.Encoded.{num, target_code, ident_row, card_row, entry_row, target_row, run_row, state_row, count_row, mark_row, stored}
 use Rattle.upd_sql.specs.Stands.{Stands}
@@ -21,8 +21,8 @@ use Rattle.upd_sql.proofs.Typed.{adds, removes, changes}
 use Rattle.upd_sql.proofs.Casts.{cast_ident, cast_card, cast_entry, cast_target, cast_run, cast_state, cast_count, cast_mark}
 use Rattle.sqlite_keyed.proofs.ListLemmas.{all_of, all_weaker}
 use Rattle.sqlite_rules.specs.Cast.{cast_all}
-use Rattle.upd_change.specs.Changes.{purged_row, moved_row}
-use Rattle.upd_tables.proofs.Tests.{eq_nat, ge_nat, add_nat, sub_nat, one_test, two_tests}
+use Rattle.upd_records.specs.Changes.{purged_row, moved_row}
+use Rattle.upd_sqlite.proofs.Tests.{eq_nat, ge_nat, add_nat, sub_nat, one_test, two_tests}
 use Rattle.upd_sql.proofs.Conditions.{passes, card_params, card_named, entry_named, target_named, state_named, count_named, mark_named, run_settled}
 use Rattle.upd_sql.proofs.Texts as text
 

@@ -5,13 +5,13 @@ use Rattle.sqlite_value.specs.Order.{Row}
 use Rattle.sqlite.specs.Listing.{understood}
 use Rattle.sqlite.specs.State.{State, Shown}
 use Rattle.sqlite.proofs.Callers.{IsPlain}
-use Rattle.upd_change.specs.Rows.{Rows, MarkRow, RunView}
+use Rattle.upd_records.specs.Rows.{Rows, MarkRow, RunView}
 use Rattle.std.specs.Option.{option_map_or}
 use Rattle.sqlite_keyed.proofs.ListLemmas.{slice_get-filter}
 use Rattle.sqlite.specs.declared.error.Error.{Error}
 use Rattle.upd_sql.specs.First.{first_mark, first_run}
-use Rattle.upd_rows.specs.Tables.{is_run, is_mark_of, mark_at, run_at}
-use Rattle.upd_tables.proofs.Answers.{shown_same}
+use Rattle.upd_row_store.specs.Tables.{is_run, is_mark_of, mark_at, run_at}
+use Rattle.upd_sqlite.proofs.Answers.{shown_same}
 use Rattle.upd_sql.specs.Schema.{library_schema}
 use Rattle.upd_sql.specs.Encoded.{num, run_row, mark_row, stored}
 use Rattle.upd_sql.specs.Stands.{Stands}

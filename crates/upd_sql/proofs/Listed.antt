@@ -15,12 +15,12 @@ use Rattle.sqlite_keyed.proofs.ListLemmas.{along_permutation, map-map, filter-ma
 use Rattle.sqlite.specs.Listing.{understood, reads_listing}
 use Rattle.sqlite.specs.State.{State, Shown}
 use Rattle.sqlite.proofs.Callers.{IsPlain, command_of, reads_as}
-use Rattle.upd_change.specs.Rows.{IsSame}
-use Rattle.upd_change.proofs.CountLemmas.{count_cons, same_of, same_trans, same_append}
-use Rattle.upd_tables.specs.Keyed.{plain_query}
-use Rattle.upd_tables.specs.Stored.{HoldsAllRows, rows_at}
-use Rattle.upd_tables.proofs.Frames.{is_lone, showing}
-use Rattle.upd_tables.proofs.Shapes.{selects}
+use Rattle.upd_records.specs.Rows.{IsSame}
+use Rattle.upd_records.proofs.CountLemmas.{count_cons, same_of, same_trans, same_append}
+use Rattle.upd_sqlite.specs.Keyed.{plain_query}
+use Rattle.upd_sqlite.specs.Stored.{HoldsAllRows, rows_at}
+use Rattle.upd_sqlite.proofs.Frames.{is_lone, showing}
+use Rattle.upd_sqlite.proofs.Shapes.{selects}
 use Rattle.upd_sql.specs.Schema.{library_schema}
 use Rattle.upd_sql.specs.Listed.{AreInOrder}
 use Rattle.upd_sql.proofs.Bare.{is_bare, bare_tests, bare_values}

@@ -9,11 +9,11 @@ use Rattle.sqlite.specs.Effect.{Database}
 use Rattle.sqlite.specs.Listing.{understood}
 use Rattle.sqlite.specs.State.{State, Executes}
 use Rattle.sqlite.proofs.Callers.{runs_as}
-use Rattle.upd_tables.specs.Stored.{HoldsAllRows}
-use Rattle.upd_tables.specs.Steps.{Ran, Steps}
+use Rattle.upd_sqlite.specs.Stored.{HoldsAllRows}
+use Rattle.upd_sqlite.specs.Steps.{Ran, Steps}
 use Rattle.upd_sql.specs.Commits.{WasOpen}
-use Rattle.upd_tables.proofs.Chains.{steps_then, clean_before}
-use Rattle.upd_tables.proofs.Shapes.{creates, inserts, cast_int}
+use Rattle.upd_sqlite.proofs.Chains.{steps_then, clean_before}
+use Rattle.upd_sqlite.proofs.Shapes.{creates, inserts, cast_int}
 use Rattle.upd_sql.specs.Schema.{meta, idents, cards, entries, targets, runs, states, counts, settled, meta_columns, library_schema}
 use Rattle.upd_sql.specs.Encoded.{version_row}
 use Rattle.upd_sql.specs.Making.{schema_up_to, no_rows_in, no_rows, HasMade, MakesNext, Leads}

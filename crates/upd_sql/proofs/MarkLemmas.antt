@@ -5,10 +5,10 @@ use Rattle.std.specs.Option.{option_map_or}
 use Rattle.std.proofs.lemmas.Bool.Decides.{nat_tests}
 use Rattle.sqlite.specs.declared.error.Error.{Error}
 use Rattle.sqlite.specs.State.{State, HasCleanDisk}
-use Rattle.upd_change.specs.Rows.{Rows, MarkRow}
-use Rattle.upd_rows.specs.Tables.{is_mark_of, mark_at, settled_to}
-use Rattle.upd_tables.specs.Steps.{Steps, Makes}
-use Rattle.upd_tables.proofs.Chains.{clean_before, steps_then}
+use Rattle.upd_records.specs.Rows.{Rows, MarkRow}
+use Rattle.upd_row_store.specs.Tables.{is_mark_of, mark_at, settled_to}
+use Rattle.upd_sqlite.specs.Steps.{Steps, Makes}
+use Rattle.upd_sqlite.proofs.Chains.{clean_before, steps_then}
 use Rattle.upd_sql.specs.Commits.{LeavesTables}
 use Rattle.upd_sql.specs.RowEdits.{with_runs_settled}
 use Rattle.upd_sql.specs.Stands.{Stands, AnyTables}

@@ -16,16 +16,16 @@ use Rattle.sqlite_value.specs.Order.{Row}
 use Rattle.sqlite.specs.State.{State, Shown}
 use Rattle.sqlite.proofs.Callers.{reads_as}
 use Rattle.upd_text.specs.declared.card_ref.CardRef.{CardRef}
-use Rattle.upd_change.specs.Rows.{CardRow, EntryRow, IsSame, Rows, same_ref}
-use Rattle.upd_change.proofs.CountLemmas.{count_append, count_cons, count_filter, same_append, same_map, same_trans}
-use Rattle.upd_change.proofs.EffectLemmas.{any_append}
-use Rattle.upd_rows.specs.Asked.{AreDecksOf, is_asked}
-use Rattle.upd_rows.specs.PartRows.{is_loaded, is_of}
-use Rattle.upd_rows.specs.Tables.{state_pair}
-use Rattle.upd_rows.proofs.AskedLemmas.{cards_next, known_next, or_nothing}
-use Rattle.upd_tables.specs.Keyed.{sqlite_count}
-use Rattle.upd_tables.proofs.Frames.{showing}
-use Rattle.upd_tables.proofs.Shapes.{counts}
+use Rattle.upd_records.specs.Rows.{CardRow, EntryRow, IsSame, Rows, same_ref}
+use Rattle.upd_records.proofs.CountLemmas.{count_append, count_cons, count_filter, same_append, same_map, same_trans}
+use Rattle.upd_records.proofs.EffectLemmas.{any_append}
+use Rattle.upd_row_store.specs.Asked.{AreDecksOf, is_asked}
+use Rattle.upd_row_store.specs.PartRows.{is_loaded, is_of}
+use Rattle.upd_row_store.specs.Tables.{state_pair}
+use Rattle.upd_row_store.proofs.AskedLemmas.{cards_next, known_next, or_nothing}
+use Rattle.upd_sqlite.specs.Keyed.{sqlite_count}
+use Rattle.upd_sqlite.proofs.Frames.{showing}
+use Rattle.upd_sqlite.proofs.Shapes.{counts}
 use Rattle.upd_sql.specs.Schema.{library_schema}
 use Rattle.upd_sql.specs.Encoded.{card_row, entry_row, kept_state, num, stored}
 use Rattle.upd_sql.specs.Part.{is_of_ident}

@@ -20,15 +20,15 @@ use Rattle.sqlite.specs.Listing.{understood}
 use Rattle.sqlite.specs.State.{State, HasCleanDisk, Executes, Shown}
 use Rattle.sqlite.specs.State.{Shows as Committed}
 use Rattle.sqlite.proofs.Callers.{IsPlain, command_of, runs_as, reads_as}
-use Rattle.upd_change.specs.Changes.{ChangeView}
-use Rattle.upd_change.specs.Rows.{Rows}
-use Rattle.upd_order.specs.Rising.{TablesRise}
-use Rattle.upd_tables.specs.Keyed.{sqlite_count, keyed, plain_query}
-use Rattle.upd_tables.specs.Stored.{HasAllRows, HoldsAllRows, HoldsRows, rows_at, with_rows}
-use Rattle.upd_tables.specs.Steps.{Ran, Makes}
-use Rattle.upd_tables.proofs.Chains.{makes_then, makes_as}
-use Rattle.upd_tables.proofs.Frames.{is_lone, held, rows_there}
-use Rattle.upd_tables.proofs.Shapes.{inserts, deletes, updates, counts}
+use Rattle.upd_records.specs.Changes.{ChangeView}
+use Rattle.upd_records.specs.Rows.{Rows}
+use Rattle.upd_sqlite.specs.Rising.{TablesRise}
+use Rattle.upd_sqlite.specs.Keyed.{sqlite_count, keyed, plain_query}
+use Rattle.upd_sqlite.specs.Stored.{HasAllRows, HoldsAllRows, HoldsRows, rows_at, with_rows}
+use Rattle.upd_sqlite.specs.Steps.{Ran, Makes}
+use Rattle.upd_sqlite.proofs.Chains.{makes_then, makes_as}
+use Rattle.upd_sqlite.proofs.Frames.{is_lone, held, rows_there}
+use Rattle.upd_sqlite.proofs.Shapes.{inserts, deletes, updates, counts}
 use Rattle.upd_sql.specs.Schema.{library_schema, ident_columns, card_columns, entry_columns, target_columns, run_columns, state_columns, count_columns}
 use Rattle.upd_sql.specs.Encoded.{num, card_row, entry_row}
 use Rattle.upd_sql.specs.Sizes.{AnySizes, AreSizesOf, HasSizes, HoldsSizes, KeepsSizes, LeadToSizes, Sized, SizedAll, TakeNone, TakesNone, sized, sized_all}

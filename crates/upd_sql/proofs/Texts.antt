@@ -13,7 +13,7 @@ use Rattle.sqlite_schema.specs.declared.command.Source.TheVariants.{Values}
 use Rattle.sqlite_tied.specs.Compute.{everything}
 use Rattle.sqlite.specs.Listing.{understood, reads_listing}
 use Rattle.sqlite.proofs.Callers.{IsPlain, command_of}
-use Rattle.upd_tables.specs.Keyed.{plain_query, row_count}
+use Rattle.upd_sqlite.specs.Keyed.{plain_query, row_count}
 use Rattle.upd_sql.specs.Schema.{library_schema}
 
 -- ---- one row more

@@ -2,12 +2,12 @@
 use Rattle.std.proofs.Common.{◌≡◌, ℕ, ◌+◌, ◌<◌, List, [], ◌∷◌, ◌++◌, map, take, length, get_or, Ok, refl, sym, ap, ◌∙◌}
 use Rattle.std.proofs.lemmas.List.{take_more, map-append}
 use Rattle.sqlite.specs.State.{State}
-use Rattle.upd_change.specs.declared.change.Change.{Change}
-use Rattle.upd_change.specs.Changes.{ChangeView, done, done_all, change_seen}
-use Rattle.upd_change.specs.Rows.{Rows}
-use Rattle.upd_change.specs.Fits.{Fits, AllFit}
-use Rattle.upd_tables.specs.Steps.{Makes}
-use Rattle.upd_tables.proofs.Chains.{makes_then, makes_as}
+use Rattle.upd_core.specs.declared.change.Change.{Change}
+use Rattle.upd_records.specs.Changes.{ChangeView, done, done_all, change_seen}
+use Rattle.upd_records.specs.Rows.{Rows}
+use Rattle.upd_records.specs.Fits.{Fits, AllFit}
+use Rattle.upd_sqlite.specs.Steps.{Makes}
+use Rattle.upd_sqlite.proofs.Chains.{makes_then, makes_as}
 use Rattle.upd_sql.specs.Stands.{Stands}
 use Rattle.upd_sql.proofs.Typed.{survives_itself}
 

@@ -20,16 +20,16 @@ use Rattle.sqlite.specs.Effect.{value_rows}
 use Rattle.sqlite.specs.Listing.{understood, reads_listing}
 use Rattle.sqlite.specs.State.{State, HasCleanDisk, Executes, Shown, Survives}
 use Rattle.sqlite.proofs.Callers.{IsPlain, command_of, runs_as, reads_as}
-use Rattle.upd_change.specs.Rows.{Rows}
-use Rattle.upd_tables.specs.Keyed.{keyed, plain_query, row_order}
-use Rattle.upd_tables.specs.Stored.{HoldsAllRows, rows_at, with_rows}
-use Rattle.upd_tables.specs.Steps.{Steps, Ran, Makes}
-use Rattle.upd_tables.proofs.Frames.{is_lone}
-use Rattle.upd_tables.proofs.Shapes.{inserts, deletes, updates, reads_in_order}
-use Rattle.upd_tables.proofs.Answers.{shown_same, shown_was_open}
+use Rattle.upd_records.specs.Rows.{Rows}
+use Rattle.upd_sqlite.specs.Keyed.{keyed, plain_query, row_order}
+use Rattle.upd_sqlite.specs.Stored.{HoldsAllRows, rows_at, with_rows}
+use Rattle.upd_sqlite.specs.Steps.{Steps, Ran, Makes}
+use Rattle.upd_sqlite.proofs.Frames.{is_lone}
+use Rattle.upd_sqlite.proofs.Shapes.{inserts, deletes, updates, reads_in_order}
+use Rattle.upd_sqlite.proofs.Answers.{shown_same, shown_was_open}
 use Rattle.upd_sql.specs.Schema.{library_schema}
 use Rattle.upd_sql.specs.Stands.{Stands, AnyTables}
-use Rattle.upd_tables.proofs.Chains.{makes_then, makes_not, makes_as}
+use Rattle.upd_sqlite.proofs.Chains.{makes_then, makes_not, makes_as}
 use Rattle.upd_sql.proofs.Bare.{is_bare, bare_tests, bare_values}
 
 pub own : (db : Trees) (t : ℕ) → overlay db [] t ≡ db t

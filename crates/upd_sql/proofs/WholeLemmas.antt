@@ -20,10 +20,10 @@ use Rattle.upd_text.specs.Order.{by_name}
 use Rattle.upd_core.specs.declared.ident.Ident.{Ident}
 use Rattle.upd_core.specs.declared.target.Target.{Target}
 use Rattle.upd_core.specs.declared.target.Target.TheVariants.{Set, SetIn, Deck}
-use Rattle.upd_change.specs.Rows.{CardRow, EntryRow, IsSame, Rows, StateRow, TargetRow}
-use Rattle.upd_rows.specs.Tables.{state_pair, count_pair}
-use Rattle.upd_tables.proofs.Chains.{clean_before, steps_then}
-use Rattle.upd_tables.specs.Steps.{Steps}
+use Rattle.upd_records.specs.Rows.{CardRow, EntryRow, IsSame, Rows, StateRow, TargetRow}
+use Rattle.upd_row_store.specs.Tables.{state_pair, count_pair}
+use Rattle.upd_sqlite.proofs.Chains.{clean_before, steps_then}
+use Rattle.upd_sqlite.specs.Steps.{Steps}
 use Rattle.upd_sql.specs.Schema.{library_schema}
 use Rattle.upd_sql.specs.Listed.{AreInOrder, by_age, by_entry, by_place, by_state_row, by_target, in_any_order}
 use Rattle.upd_sql.specs.Commits.{Looks, WasOpen, LeavesTables}

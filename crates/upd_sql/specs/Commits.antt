@@ -4,9 +4,9 @@ use Rattle.std.specs.List.{AllZip}
 use Rattle.sqlite_trees.specs.Tree.{Trees}
 use Rattle.sqlite.specs.declared.error.Error.{Error}
 use Rattle.sqlite.specs.State.{State, HasCleanDisk}
-use Rattle.upd_change.specs.Rows.{Rows}
-use Rattle.upd_tables.specs.Steps.{Steps}
-use Rattle.upd_tables.specs.Stored.{HasRows}
+use Rattle.upd_records.specs.Rows.{Rows}
+use Rattle.upd_sqlite.specs.Steps.{Steps}
+use Rattle.upd_sqlite.specs.Stored.{HasRows}
 use Rattle.upd_sql.specs.Schema.{library_schema}
 use Rattle.upd_sql.specs.Encoded.{stored}
 use Rattle.upd_sql.specs.Stands.{ShowsTables, Stands}

@@ -9,7 +9,7 @@ use Rattle.upd_core.specs.declared.ident.Kind.{Kind}
 use Rattle.upd_core.specs.declared.ident.Kind.TheVariants as kind
 use Rattle.upd_core.specs.declared.target.Target.{Target}
 use Rattle.upd_core.specs.declared.target.Target.TheVariants as target
-use Rattle.upd_change.specs.Rows.{CardRow, EntryRow, TargetRow, RunView, StateRow, CountRow, MarkRow, Rows}
+use Rattle.upd_records.specs.Rows.{CardRow, EntryRow, TargetRow, RunView, StateRow, CountRow, MarkRow, Rows}
 
 abbrev pub num : ℕ → Value
 num n = Int (pos n)

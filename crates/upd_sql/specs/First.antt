@@ -1,6 +1,6 @@
 -- The first of some rows.
 use Rattle.std.specs.Prelude.{ℕ, List, [], ◌∷◌, Option, Some, None}
-use Rattle.upd_change.specs.Rows.{RunView, MarkRow}
+use Rattle.upd_records.specs.Rows.{RunView, MarkRow}
 
 -- the number of the first mark, 0 where there is none
 abbrev pub first_mark : List MarkRow → ℕ

@@ -5,7 +5,7 @@ use Rattle.std.specs.declared.cmp.Ordering.{Ordering}
 use Rattle.std.specs.declared.cmp.Ordering.TheVariants.{Equal}
 use Rattle.upd_text.specs.Order.{by_name}
 use Rattle.upd_core.specs.declared.ident.Ident.{Ident}
-use Rattle.upd_change.specs.Rows.{CardRow, EntryRow, IsSame, StateRow, TargetRow}
+use Rattle.upd_records.specs.Rows.{CardRow, EntryRow, IsSame, StateRow, TargetRow}
 
 -- The records that were wanted, as often, in an order.
 pub record AreInOrder {X : Type 0} (cmp : X → X → Ordering) (wanted found : List X) : Type 0 where

@@ -13,11 +13,11 @@ use Rattle.sqlite.specs.Given.{IsPlain}
 use Rattle.sqlite.specs.Listing.{understood}
 use Rattle.sqlite.specs.State.{State, HasCleanDisk}
 use Rattle.sqlite.proofs.Callers.{command_of, statement_of}
-use Rattle.upd_change.specs.Rows.{Rows}
+use Rattle.upd_records.specs.Rows.{Rows}
 use Rattle.sqlite_trees.specs.Tree.{Trees}
 use Rattle.upd_sql.specs.Commits.{ShowsIn}
-use Rattle.upd_tables.specs.Steps.{Steps}
-use Rattle.upd_tables.specs.Stored.{HoldsAllRows}
+use Rattle.upd_sqlite.specs.Steps.{Steps}
+use Rattle.upd_sqlite.specs.Stored.{HoldsAllRows}
 use Rattle.upd_sql.specs.Schema.{meta, idents, cards, entries, targets, runs, states, counts, settled, no_schema}
 
 -- the tables in the order in which they are made

@@ -6,9 +6,9 @@ use Rattle.sqlite_value.specs.declared.value.Value.TheVariants.{Text}
 use Rattle.sqlite_value.specs.Order.{Row}
 use Rattle.sqlite.specs.State.{State, Shown}
 use Rattle.upd_text.specs.declared.card_ref.CardRef.{CardRef}
-use Rattle.upd_change.specs.Rows.{IsSame, Rows}
-use Rattle.upd_rows.specs.Assembling.{AreRowsOf}
-use Rattle.upd_rows.specs.PartRows.{AreOfDistinctCards, part_rows}
+use Rattle.upd_records.specs.Rows.{IsSame, Rows}
+use Rattle.upd_row_store.specs.Assembling.{AreRowsOf}
+use Rattle.upd_row_store.specs.PartRows.{AreOfDistinctCards, part_rows}
 use Rattle.upd_sql.specs.Sizes.{AreSizesOf}
 use Rattle.upd_sql.specs.Listed.{AreInOrder, in_any_order}
 use Rattle.upd_sql.specs.Stands.{Stands}

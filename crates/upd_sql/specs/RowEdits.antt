@@ -4,8 +4,8 @@ use Rattle.std.specs.List.{filter}
 use Rattle.upd_text.specs.declared.card_ref.CardRef.{CardRef}
 use Rattle.upd_core.specs.declared.target.Target.{Target}
 use Rattle.upd_core.specs.Targets.{is_same}
-use Rattle.upd_change.specs.Rows.{Rows, same_ref}
-use Rattle.upd_rows.specs.Tables.{is_settled, is_mark_of}
+use Rattle.upd_records.specs.Rows.{Rows, same_ref}
+use Rattle.upd_row_store.specs.Tables.{is_settled, is_mark_of}
 
 -- without a card's row of cards
 abbrev pub without_card : CardRef → Rows → Rows

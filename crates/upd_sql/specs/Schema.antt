@@ -5,7 +5,7 @@ use Rattle.sqlite_schema.specs.declared.schema.Column.{Column}
 use Rattle.sqlite_schema.specs.declared.schema.Table.{Table}
 use Rattle.sqlite_schema.specs.declared.schema.Schema.{Schema}
 use Rattle.sqlite_catalog.specs.Change.{created}
-use Rattle.upd_tables.specs.Keyed.{keyed, needed}
+use Rattle.upd_sqlite.specs.Keyed.{keyed, needed}
 
 abbrev pub number : List ℕ → Column
 number name = needed name Integer

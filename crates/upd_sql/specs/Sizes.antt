@@ -5,11 +5,11 @@ use Rattle.sqlite_trees.specs.Tree.{Trees}
 use Rattle.sqlite.specs.declared.error.Error.{Error}
 use Rattle.sqlite.specs.Effect.{Database}
 use Rattle.sqlite.specs.State.{State, HasCleanDisk}
-use Rattle.upd_change.specs.Changes.{ChangeView, IdentNew, IdentPurged, CardNew, CardGone, CardsMoved, EntryNew, EntriesGone, TargetNew, TargetsGone, StatusNow}
-use Rattle.upd_change.specs.Changes.{CountNow}
-use Rattle.upd_change.specs.Rows.{Rows}
-use Rattle.upd_tables.specs.Steps.{Makes}
-use Rattle.upd_tables.specs.Stored.{HoldsAllRows, rows_at}
+use Rattle.upd_records.specs.Changes.{ChangeView, IdentNew, IdentPurged, CardNew, CardGone, CardsMoved, EntryNew, EntriesGone, TargetNew, TargetsGone, StatusNow}
+use Rattle.upd_records.specs.Changes.{CountNow}
+use Rattle.upd_records.specs.Rows.{Rows}
+use Rattle.upd_sqlite.specs.Steps.{Makes}
+use Rattle.upd_sqlite.specs.Stored.{HoldsAllRows, rows_at}
 use Rattle.upd_sql.specs.Schema.{library_schema}
 use Rattle.upd_sql.specs.declared.sizes.Sizes.{Sizes}
 

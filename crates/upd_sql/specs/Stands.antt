@@ -1,7 +1,7 @@
 -- When the tables stand in a database.
 use Rattle.sqlite.specs.Effect.{Database}
-use Rattle.upd_change.specs.Rows.{Rows}
-use Rattle.upd_tables.specs.Stored.{HasAllRows, HoldsAllRows}
+use Rattle.upd_records.specs.Rows.{Rows}
+use Rattle.upd_sqlite.specs.Stored.{HasAllRows, HoldsAllRows}
 use Rattle.upd_sql.specs.Schema.{library_schema}
 use Rattle.upd_sql.specs.Encoded.{stored}
 

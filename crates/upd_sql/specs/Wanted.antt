@@ -4,7 +4,7 @@ use Rattle.sqlite_schema.specs.declared.schema.Column.{Column}
 use Rattle.sqlite_schema.specs.declared.schema.Index.{Index}
 use Rattle.sqlite_schema.specs.declared.schema.Schema.{Schema}
 use Rattle.sqlite_value.specs.Keys.{plain}
-use Rattle.upd_tables.specs.Keyed.{needed}
+use Rattle.upd_sqlite.specs.Keyed.{needed}
 use Rattle.upd_sql.specs.Schema.{library_schema}
 use Rattle.upd_sql.specs.declared.schema.Wanted.{Wanted}
 

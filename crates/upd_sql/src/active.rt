@@ -9,7 +9,7 @@ use crate::whole::{all_of, cards_in, idents_in};
 use sqlite::{Alter, Error, Transaction};
 use std::alloc::Global;
 use upd_core::Ident;
-use upd_rows::{CardRow, StateRow};
+use upd_records::{CardRow, StateRow};
 
 /// All idents, cards and statuses.
 #[derive(Debug, Drop)]

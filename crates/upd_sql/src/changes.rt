@@ -1,16 +1,15 @@
 //! Row changes carried out by statements.
 ghost use Rattle.std.specs.Prelude.{◌≡◌, map};
 ghost use Rattle.sqlite.specs.Held.{state};
-ghost use Rattle.upd_change.specs.Changes.{done, done_all, change_seen, CardGone, CardsMoved, CountNow, StatusNow};
-ghost use Rattle.upd_change.specs.Fits.{AllFit, Fits};
-ghost use Rattle.upd_tables.specs.Steps.{Makes};
+ghost use Rattle.upd_records.specs.Changes.{done, done_all, change_seen, CardGone, CardsMoved, CountNow, StatusNow};
+ghost use Rattle.upd_records.specs.Fits.{AllFit, Fits};
+ghost use Rattle.upd_sqlite.specs.Steps.{Makes};
 ghost use Rattle.upd_sql.specs.Sizes.{KeepsSizes, Sized, SizedAll};
 ghost use Rattle.upd_sql.specs.Stands.{AnyTables, Stands};
 
 use crate::writes;
 use sqlite::{Alter, Error, Transaction};
-use upd_change::Change;
-use upd_core::{Age, CardRef, Target};
+use upd_core::{CardRef, Change, Serial, Target};
 
 /// The card goes, and its status with it.
 fn remove_card<S: Alter>(tx: &mut Transaction<'_, S>, card: &CardRef) -> Result<(), Error>
@@ -56,7 +55,7 @@ fn set_count<S: Alter>(tx: &mut Transaction<'_, S>, target: Target, n: u32) -> R
 /// The cards of a deck that stand at a place or behind it move.
 fn move_cards<S: Alter>(
     tx: &mut Transaction<'_, S>,
-    deck: Age,
+    deck: Serial,
     from: u32,
     by: i64,
 ) -> Result<(), Error>

@@ -2,9 +2,9 @@
 ghost use Rattle.std.specs.Prelude.{◌≡◌, false, map, IsTrue, OnErr, OnOk};
 ghost use Rattle.sqlite.specs.Held.{state};
 ghost use Rattle.sqlite.specs.State.{HasCleanDisk, Survives};
-ghost use Rattle.upd_change.specs.Changes.{change_seen};
-ghost use Rattle.upd_change.specs.Fits.{AllFit};
-ghost use Rattle.upd_rows.specs.Tables.{committed};
+ghost use Rattle.upd_records.specs.Changes.{change_seen};
+ghost use Rattle.upd_records.specs.Fits.{AllFit};
+ghost use Rattle.upd_row_store.specs.Tables.{committed};
 ghost use Rattle.upd_sql.specs.Commits.{Commits, MayCommit};
 ghost use Rattle.upd_sql.specs.Schema.{library_schema};
 ghost use Rattle.upd_sql.specs.Sizes.{HasSizes, TakeNone, sized_all};
@@ -13,8 +13,9 @@ ghost use Rattle.upd_sql.specs.declared.sizes.Sizes.{Sizes};
 use crate::changes::carry_out_all;
 use crate::writes::insert_run;
 use sqlite::{Connection, Error};
-use upd_change::{Change, RunRow};
-use upd_order::{Rising, note_order_outside};
+use upd_core::Change;
+use upd_records::RunRow;
+use upd_sqlite::{Rising, note_order_outside};
 
 /// Carries out row changes and keeps the run that brought them, all or nothing.
 pub fn commit_changes<S: Rising>(

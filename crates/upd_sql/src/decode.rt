@@ -1,11 +1,11 @@
 //! Rows of an answer as records.
 ghost use Rattle.std.specs.Prelude.{◌≡◌, List, map, IfOk};
-ghost use Rattle.upd_change.specs.Rows.{MarkRow, RunView};
+ghost use Rattle.upd_records.specs.Rows.{MarkRow, RunView};
 ghost use Rattle.upd_sql.specs.Encoded.{mark_row, run_row};
 ghost use Rattle.upd_sql.specs.First.{first_mark, first_run};
 
 use sqlite::{Error, Row};
-use upd_change::RunRow;
+use upd_records::RunRow;
 
 pub(crate) fn run_of(row: &Row) -> Result<RunRow, Error>
     ensures { IfOk result (λ run. (r : RunView) → row.now ≡ run_row r → run ≡ r) }

@@ -4,13 +4,13 @@
 ghost use Rattle.std.specs.Prelude.{◌≡◌, false, IfOk, IsTrue, OnOk};
 ghost use Rattle.sqlite.specs.Held.{state};
 ghost use Rattle.sqlite.specs.State.{HasCleanDisk, Survives};
-ghost use Rattle.upd_change.specs.Rows.{Rows};
-ghost use Rattle.upd_rows.specs.Tables.{AreByKey, AreRead, AreReadOf, mark_at, run_at};
+ghost use Rattle.upd_records.specs.Rows.{Rows};
+ghost use Rattle.upd_row_store.specs.Tables.{AreByKey, AreRead, AreReadOf, mark_at, run_at};
 ghost use Rattle.upd_sql.specs.Commits.{MayKeep};
 ghost use Rattle.upd_sql.specs.Schema.{library_schema};
 ghost use Rattle.upd_sql.specs.Stands.{ShowsTables};
-ghost use Rattle.upd_rows.specs.Asked.{AreDecksOf};
-ghost use Rattle.upd_rows.specs.Assembling.{AreRowsOf};
+ghost use Rattle.upd_row_store.specs.Asked.{AreDecksOf};
+ghost use Rattle.upd_row_store.specs.Assembling.{AreRowsOf};
 ghost use Rattle.upd_sql.specs.Part.{AreActiveRows, IsPart};
 ghost use Rattle.upd_sql.specs.Sizes.{AreOfCommit, HasSizes};
 
@@ -20,10 +20,9 @@ use crate::sizes::Sizes;
 use crate::{active, part, reads, statuses, whole};
 use sqlite::{Connection, Error};
 use std::alloc::Global;
-use upd_change::RunRow;
-use upd_core::{Age, CardRef, States};
-use upd_order::{Rising, note_order_outside};
-use upd_rows::LibraryRows;
+use upd_core::{CardRef, Serial, States};
+use upd_records::{LibraryRows, RunRow};
+use upd_sqlite::{Rising, note_order_outside};
 
 /// The number up to which a site has settled, 0 where it never did.
 pub fn kept_mark<S: Rising>(conn: &mut Connection<S>, site: &str) -> Result<u64, Error>
@@ -161,7 +160,7 @@ pub fn kept_decks_of<S: Rising>(
     conn: &mut Connection<S>,
     alloc: Global,
     cards: &[CardRef],
-) -> Result<Vec<Age>, Error>
+) -> Result<Vec<Serial>, Error>
     requires { conn.old.in_transaction ≡ false }
     ensures outside { conn.new.in_transaction ≡ false }
     ensures was_open { HasCleanDisk (state S.Store conn.new) → IsTrue (state S.Store conn.new).is_open
@@ -188,7 +187,7 @@ pub fn kept_decks_of<S: Rising>(
 pub fn kept_part<S: Rising>(
     conn: &mut Connection<S>,
     alloc: Global,
-    ages: &[Age],
+    ages: &[Serial],
     known: Option<Sizes>,
 ) -> Result<Part, Error>
     requires outside { conn.old.in_transaction ≡ false }

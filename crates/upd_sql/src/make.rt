@@ -8,7 +8,7 @@ ghost use Rattle.upd_sql.specs.Schema.{no_schema};
 ghost use Rattle.upd_sql.specs.Stands.{ShowsTables, Stands};
 
 use sqlite::{Alter, Connection, Error, Transaction};
-use upd_tables::run;
+use upd_sqlite::run;
 
 /// Makes the next table.
 fn create<S: Alter>(tx: &mut Transaction<'_, S>, sql: &str) -> Result<(), Error>

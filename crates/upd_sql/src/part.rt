@@ -9,11 +9,11 @@ ghost use Rattle.sqlite.specs.Listing.{understood};
 ghost use Rattle.sqlite.specs.State.{HasCleanDisk, Shown};
 ghost use Rattle.upd_text.specs.Order.{by_name};
 ghost use Rattle.upd_text.specs.declared.card_ref.CardRef.{CardRef};
-ghost use Rattle.upd_change.specs.Rows.{IsSame, Rows, same_ref};
-ghost use Rattle.upd_rows.specs.Asked.{AreDecksOf, is_asked};
-ghost use Rattle.upd_rows.specs.Assembling.{AreRowsOf};
-ghost use Rattle.upd_rows.specs.PartRows.{is_loaded, part_rows};
-ghost use Rattle.upd_tables.specs.Keyed.{sqlite_count};
+ghost use Rattle.upd_records.specs.Rows.{IsSame, Rows, same_ref};
+ghost use Rattle.upd_row_store.specs.Asked.{AreDecksOf, is_asked};
+ghost use Rattle.upd_row_store.specs.Assembling.{AreRowsOf};
+ghost use Rattle.upd_row_store.specs.PartRows.{is_loaded, part_rows};
+ghost use Rattle.upd_sqlite.specs.Keyed.{sqlite_count};
 ghost use Rattle.upd_sql.specs.Commits.{Looks};
 ghost use Rattle.upd_sql.specs.Encoded.{num};
 ghost use Rattle.upd_sql.specs.Listed.{AreInOrder, by_place, in_any_order};
@@ -30,8 +30,9 @@ use crate::whole::{all_of, cards_in, idents_in, rows_of, targets_in};
 use sqlite::{Alter, Error, ErrorCode, Row, Transaction};
 use std::alloc::{AllocError, Global};
 use std::collections::BTreeSet;
-use upd_core::{Age, CardRef};
-use upd_rows::{CardRow, EntryRow, LibraryRows, card_set};
+use upd_core::{CardRef, Serial};
+use upd_records::{CardRow, EntryRow, LibraryRows};
+use upd_row_store::card_set;
 
 /// The last number to which SQLite counts.
 const LAST: u64 = 0x7fff_ffff_ffff_ffff;
@@ -59,7 +60,7 @@ fn decks_of_card<S: Alter>(
     tx: &mut Transaction<'_, S>,
     alloc: Global,
     card: &CardRef,
-) -> Result<Vec<Age>, Error>
+) -> Result<Vec<Serial>, Error>
     ensures same_reference { tx.new.conn.ghost_name ≡ tx.old.conn.ghost_name }
     ensures looks { Looks (λ it found. AreInOrder in_any_order
         (map (λ r. r.deck) (filter (λ r. same_ref card.now r.card) it.cards)) found.items)
@@ -78,7 +79,7 @@ pub(crate) fn decks_in<S: Alter>(
     tx: &mut Transaction<'_, S>,
     alloc: Global,
     cards: &[CardRef],
-) -> Result<Vec<Age>, Error>
+) -> Result<Vec<Serial>, Error>
     ensures same_reference { tx.new.conn.ghost_name ≡ tx.old.conn.ghost_name }
     ensures looks { Looks (λ it found. AreDecksOf cards.now it.cards found.items) (state S.Store tx.old.conn.now)
         (state S.Store tx.new.conn.now) result }
@@ -96,7 +97,7 @@ pub(crate) fn decks_in<S: Alter>(
 fn cards_of_deck<S: Alter>(
     tx: &mut Transaction<'_, S>,
     alloc: Global,
-    deck: Age,
+    deck: Serial,
 ) -> Result<Vec<CardRow>, Error>
     ensures same_reference { tx.new.conn.ghost_name ≡ tx.old.conn.ghost_name }
     ensures looks { Looks (λ it found. AreInOrder by_place
@@ -112,14 +113,14 @@ fn cards_of_deck<S: Alter>(
 }
 
 /// Whether a deck is `YANK$$$` or of these ages.
-fn is_loaded(ages: &[Age], deck: Age) -> bool
+fn is_loaded(ages: &[Serial], deck: Serial) -> bool
     ensures { result ≡ is_loaded ages.now deck }
 {
     deck == 0 || ages.contains(&deck)
 }
 
 /// The deck that is asked for where it is one alone, `YANK$$$` where there is none.
-fn lone_deck(ages: &[Age]) -> Option<Age>
+fn lone_deck(ages: &[Serial]) -> Option<Serial>
     ensures { IfSome result (λ deck. (d : ℕ) → is_loaded ages.now d ≡ ((d == 0) || (d == deck))) }
 {
     match ages {
@@ -130,7 +131,7 @@ fn lone_deck(ages: &[Age]) -> Option<Age>
 }
 
 /// Takes the cards of other decks away.
-fn keep_cards(cards: &mut Vec<CardRow>, ages: &[Age])
+fn keep_cards(cards: &mut Vec<CardRow>, ages: &[Serial])
     ensures { cards.new.items ≡ filter (λ r. is_loaded ages.now r.deck) cards.old.items }
 {
     cards.retain(|card| is_loaded(ages, card.deck));
@@ -140,7 +141,7 @@ fn keep_cards(cards: &mut Vec<CardRow>, ages: &[Age])
 fn cards_of_decks<S: Alter>(
     tx: &mut Transaction<'_, S>,
     alloc: Global,
-    ages: &[Age],
+    ages: &[Serial],
 ) -> Result<Vec<CardRow>, Error>
     ensures same_reference { tx.new.conn.ghost_name ≡ tx.old.conn.ghost_name }
     ensures looks { Looks (λ it found. IsSame found.items (filter (λ r. is_loaded ages.now r.deck) it.cards))
@@ -299,7 +300,7 @@ fn entry_count<S: Alter>(tx: &mut Transaction<'_, S>) -> Result<u64, Error>
 fn part_rows_in<S: Alter>(
     tx: &mut Transaction<'_, S>,
     alloc: Global,
-    ages: &[Age],
+    ages: &[Serial],
 ) -> Result<LibraryRows, Error>
     ensures same_reference { tx.new.conn.ghost_name ≡ tx.old.conn.ghost_name }
     ensures looks { Looks (λ it found. AreRowsOf (part_rows ages.now it) found)
@@ -336,7 +337,7 @@ fn sizes_in<S: Alter>(tx: &mut Transaction<'_, S>) -> Result<Sizes, Error>
 pub(crate) fn part_in<S: Alter>(
     tx: &mut Transaction<'_, S>,
     alloc: Global,
-    ages: &[Age],
+    ages: &[Serial],
     known: Option<Sizes>,
 ) -> Result<Part, Error>
     ensures same_reference { tx.new.conn.ghost_name ≡ tx.old.conn.ghost_name }

@@ -3,9 +3,9 @@ ghost use Rattle.std.specs.Prelude.{◌≡◌, map, IfOk};
 ghost use Rattle.std.specs.List.{filter};
 ghost use Rattle.sqlite.specs.Held.{state};
 ghost use Rattle.sqlite.specs.State.{HasCleanDisk};
-ghost use Rattle.upd_change.specs.Rows.{Rows};
-ghost use Rattle.upd_rows.specs.Tables.{is_mark_of, is_run, mark_at, run_at};
-ghost use Rattle.upd_tables.specs.Steps.{Steps};
+ghost use Rattle.upd_records.specs.Rows.{Rows};
+ghost use Rattle.upd_row_store.specs.Tables.{is_mark_of, is_run, mark_at, run_at};
+ghost use Rattle.upd_sqlite.specs.Steps.{Steps};
 ghost use Rattle.upd_sql.specs.Commits.{LeavesTables, WasOpen};
 ghost use Rattle.upd_sql.specs.Encoded.{mark_row, run_row};
 ghost use Rattle.upd_sql.specs.Stands.{Stands};
@@ -13,8 +13,8 @@ ghost use Rattle.upd_sql.specs.Stands.{Stands};
 use crate::decode::{first_mark, first_run};
 use crate::values::{self, wide};
 use sqlite::{Alter, Error, Row, Transaction};
-use upd_change::RunRow;
-use upd_tables::ask;
+use upd_records::RunRow;
+use upd_sqlite::ask;
 
 /// The rows of a site's run of a number.
 pub(crate) fn runs_of_key<S: Alter>(

@@ -7,8 +7,8 @@ ghost use Rattle.upd_sql.specs.Encoded.{kind_code, num, target_code};
 use sqlite::types::ValueRef;
 use sqlite::{Error, ErrorCode, Row};
 use std::alloc::Global;
-use upd_core::{Age, CardRef, Entry, Ident, Kind, Name, Target};
-use upd_rows::{CardRow, EntryRow, StateRow, TargetRow};
+use upd_core::{CardRef, Entry, Ident, Kind, Name, Serial, Target};
+use upd_records::{CardRow, EntryRow, StateRow, TargetRow};
 
 /// What is kept as a row.
 pub(crate) trait Record: Sized {
@@ -64,7 +64,7 @@ fn kind_of(code: u32) -> Result<Kind, Error>
     }
 }
 
-fn target_of(kind: u32, target: Age, deck: Age) -> Result<Target, Error>
+fn target_of(kind: u32, target: Serial, deck: Serial) -> Result<Target, Error>
     ensures { IfOk result (λ found. target_code found ≡ num kind ∷ num target ∷ num deck ∷ []) }
 {
     match (kind, deck) {

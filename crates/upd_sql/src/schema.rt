@@ -1,7 +1,7 @@
 //! Whether a schema is the library's: each table by its columns and its key, each index by its table.
 
 ghost use Rattle.std.specs.Prelude.{◌≡◌, ◌≤◌, [], ◌∷◌, map, slice_get, take, IsTrue, Some};
-ghost use Rattle.upd_tables.specs.Keyed.{keyed, needed};
+ghost use Rattle.upd_sqlite.specs.Keyed.{keyed, needed};
 ghost use Rattle.upd_sql.specs.Schema.{cards, counts, entries, idents, library_schema, meta, no_schema, runs};
 ghost use Rattle.upd_sql.specs.Schema.{settled, states, targets};
 ghost use Rattle.upd_sql.specs.Wanted.{column_of, first_tables, key_index, key_indexes};

@@ -2,9 +2,9 @@
 ghost use Rattle.std.specs.Prelude.{◌≡◌, false, IfOk, IsTrue, OnErr, OnOk};
 ghost use Rattle.sqlite.specs.Held.{state};
 ghost use Rattle.sqlite.specs.State.{HasCleanDisk, Survives};
-ghost use Rattle.upd_change.specs.Rows.{Rows};
-ghost use Rattle.upd_rows.specs.Tables.{mark_at, settled_to};
-ghost use Rattle.upd_tables.specs.Steps.{Makes};
+ghost use Rattle.upd_records.specs.Rows.{Rows};
+ghost use Rattle.upd_row_store.specs.Tables.{mark_at, settled_to};
+ghost use Rattle.upd_sqlite.specs.Steps.{Makes};
 ghost use Rattle.upd_sql.specs.Commits.{Commits, MayCommit, WasOpen};
 ghost use Rattle.upd_sql.specs.RowEdits.{with_runs_settled};
 ghost use Rattle.upd_sql.specs.Stands.{AnyTables, ShowsTables, Stands};
@@ -12,7 +12,7 @@ ghost use Rattle.upd_sql.specs.Stands.{AnyTables, ShowsTables, Stands};
 use crate::reads::mark_in;
 use crate::writes;
 use sqlite::{Alter, Connection, Error, Transaction};
-use upd_order::{Rising, note_order_outside};
+use upd_sqlite::{Rising, note_order_outside};
 
 /// The site's runs up to a number go, and the number is its mark.
 fn set_mark<S: Alter>(tx: &mut Transaction<'_, S>, site: &str, number: u64) -> Result<(), Error>

@@ -1,9 +1,9 @@
 //! How many cards and entries there are, kept up over row changes.
 ghost use Rattle.std.specs.Prelude.{◌≡◌, map, IfSome};
-ghost use Rattle.upd_change.specs.Changes.{change_seen};
+ghost use Rattle.upd_records.specs.Changes.{change_seen};
 ghost use Rattle.upd_sql.specs.Sizes.{LeadToSizes, TakesNone, sized};
 
-use upd_change::Change;
+use upd_core::Change;
 
 /// The numbers of all cards and entries.
 #[derive(Clone, Copy, Debug)]

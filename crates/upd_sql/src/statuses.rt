@@ -2,9 +2,9 @@
 ghost use Rattle.std.specs.Prelude.{◌≡◌, map};
 ghost use Rattle.std.specs.List.{filter};
 ghost use Rattle.sqlite.specs.Held.{state};
-ghost use Rattle.upd_change.specs.Rows.{IsSame};
-ghost use Rattle.upd_rows.specs.Asked.{is_asked};
-ghost use Rattle.upd_rows.specs.Tables.{AreByKey, AreReadOf, state_pair};
+ghost use Rattle.upd_records.specs.Rows.{IsSame};
+ghost use Rattle.upd_row_store.specs.Asked.{is_asked};
+ghost use Rattle.upd_row_store.specs.Tables.{AreByKey, AreReadOf, state_pair};
 ghost use Rattle.upd_sql.specs.Commits.{Looks};
 ghost use Rattle.upd_sql.specs.Part.{is_of_ident};
 
@@ -13,7 +13,7 @@ use crate::whole::{counts_in, states_in};
 use sqlite::{Alter, Error, Transaction};
 use std::alloc::Global;
 use upd_core::{CardRef, States};
-use upd_rows::{card_set, keep_states, states_by_key};
+use upd_row_store::{card_set, keep_states, states_by_key};
 
 /// For how many cards the statuses are asked ident by ident, at most. The whole table is read for more: one statement
 /// takes less than one for each ident.

@@ -6,7 +6,7 @@ ghost use Rattle.upd_sql.specs.Encoded.{flag, kind_code, num, target_code};
 
 use sqlite::types::ValueRef;
 use sqlite::{Error, ErrorCode};
-use upd_core::{Age, Kind, Name, Target};
+use upd_core::{Kind, Name, Serial, Target};
 
 pub(crate) fn number(n: u32) -> ValueRef<'static>
     ensures { owned result ≡ num n }
@@ -70,8 +70,8 @@ pub(crate) fn wide(n: u64) -> Result<ValueRef<'static>, Error>
 #[derive(Clone, Copy, Debug)]
 pub(crate) struct Codes {
     pub(crate) kind: u32,
-    pub(crate) target: Age,
-    pub(crate) deck: Age,
+    pub(crate) target: Serial,
+    pub(crate) deck: Serial,
 }
 
 pub(crate) fn codes_of(target: Target) -> Codes

@@ -7,22 +7,23 @@ ghost use Rattle.sqlite.specs.Listing.{understood};
 ghost use Rattle.sqlite.specs.State.{HasCleanDisk, Shown};
 ghost use Rattle.sqlite.specs.Values.{bound};
 ghost use Rattle.std.specs.declared.cmp.Ordering.{Ordering};
-ghost use Rattle.upd_change.specs.Rows.{Rows};
-ghost use Rattle.upd_rows.specs.Tables.{AreByKey, AreRead, count_pair, state_pair};
-ghost use Rattle.upd_tables.specs.Steps.{Steps};
+ghost use Rattle.upd_records.specs.Rows.{Rows};
+ghost use Rattle.upd_row_store.specs.Tables.{AreByKey, AreRead, count_pair, state_pair};
+ghost use Rattle.upd_sqlite.specs.Steps.{Steps};
 ghost use Rattle.upd_sql.specs.Commits.{LeavesTables, Looks, WasOpen};
 ghost use Rattle.upd_sql.specs.Listed.{AreInOrder, by_age, by_entry, by_place, by_target, in_any_order};
 ghost use Rattle.upd_sql.specs.Schema.{library_schema};
 ghost use Rattle.upd_sql.specs.Stands.{Stands};
-ghost use Rattle.upd_rows.specs.Assembling.{AreRowsOf};
+ghost use Rattle.upd_row_store.specs.Assembling.{AreRowsOf};
 
 use crate::record::{Record, each};
 use sqlite::types::ValueRef;
 use sqlite::{Alter, Error, Row, Transaction};
 use std::alloc::Global;
 use upd_core::{CardRef, Ident, States, Target};
-use upd_rows::{CardRow, EntryRow, LibraryRows, TargetRow, states_by_key};
-use upd_tables::ask;
+use upd_records::{CardRow, EntryRow, LibraryRows, TargetRow};
+use upd_row_store::states_by_key;
+use upd_sqlite::ask;
 
 /// The rows that a query answers.
 pub(crate) fn rows_of<S: Alter>(

@@ -1,11 +1,11 @@
 //! One function for each statement that changes rows; `make.rt` has those that make the tables.
 ghost use Rattle.std.specs.Prelude.{◌≡◌, ◌<◌, ◌-◌, pos, negsuc, []};
 ghost use Rattle.sqlite.specs.Held.{state};
-ghost use Rattle.upd_change.specs.Changes.{done, CardNew, CardsMoved, EntriesGone, EntryNew, IdentNew, IdentPurged};
-ghost use Rattle.upd_change.specs.Changes.{TargetNew, TargetsGone};
-ghost use Rattle.upd_change.specs.Fits.{Fits};
-ghost use Rattle.upd_rows.specs.Tables.{with_run};
-ghost use Rattle.upd_tables.specs.Steps.{Makes};
+ghost use Rattle.upd_records.specs.Changes.{done, CardNew, CardsMoved, EntriesGone, EntryNew, IdentNew, IdentPurged};
+ghost use Rattle.upd_records.specs.Changes.{TargetNew, TargetsGone};
+ghost use Rattle.upd_records.specs.Fits.{Fits};
+ghost use Rattle.upd_row_store.specs.Tables.{with_run};
+ghost use Rattle.upd_sqlite.specs.Steps.{Makes};
 ghost use Rattle.upd_sql.specs.RowEdits.{with_count, with_mark, with_state, without_card, without_count, without_mark};
 ghost use Rattle.upd_sql.specs.RowEdits.{without_runs, without_state};
 ghost use Rattle.upd_sql.specs.Commits.{WasOpen};
@@ -14,9 +14,9 @@ ghost use Rattle.upd_sql.specs.Stands.{AnyTables, Stands};
 
 use crate::values::{self, blob, codes_of, flag, kind, name, number, text, wide};
 use sqlite::{Alter, Error, Transaction};
-use upd_change::RunRow;
-use upd_core::{Age, CardRef, Entry, Ident, Target};
-use upd_tables::run;
+use upd_core::{CardRef, Entry, Ident, Serial, Target};
+use upd_records::RunRow;
+use upd_sqlite::run;
 
 pub(crate) fn insert_ident<S: Alter>(
     tx: &mut Transaction<'_, S>,
@@ -40,7 +40,7 @@ pub(crate) fn insert_ident<S: Alter>(
     )
 }
 
-pub(crate) fn purge_ident<S: Alter>(tx: &mut Transaction<'_, S>, age: Age) -> Result<(), Error>
+pub(crate) fn purge_ident<S: Alter>(tx: &mut Transaction<'_, S>, age: Serial) -> Result<(), Error>
     ensures same_reference { tx.new.conn.ghost_name ≡ tx.old.conn.ghost_name }
     ensures makes { Makes Stands AnyTables (done (IdentPurged age)) (state S.Store tx.old.conn.now)
         (state S.Store tx.new.conn.now) result }
@@ -56,7 +56,7 @@ pub(crate) fn purge_ident<S: Alter>(tx: &mut Transaction<'_, S>, age: Age) -> Re
 pub(crate) fn insert_card<S: Alter>(
     tx: &mut Transaction<'_, S>,
     card: &CardRef,
-    deck: Age,
+    deck: Serial,
     pos: u32,
     body: &[u8],
 ) -> Result<(), Error>
@@ -324,7 +324,7 @@ pub(crate) fn delete_runs<S: Alter>(
 /// The cards of a deck that stand at a place or behind it move away from the front.
 pub(crate) fn move_back<S: Alter>(
     tx: &mut Transaction<'_, S>,
-    deck: Age,
+    deck: Serial,
     from: u32,
     by: u64,
 ) -> Result<(), Error>
@@ -344,7 +344,7 @@ pub(crate) fn move_back<S: Alter>(
 /// They move towards the front.
 pub(crate) fn move_up<S: Alter>(
     tx: &mut Transaction<'_, S>,
-    deck: Age,
+    deck: Serial,
     from: u32,
     by: u64,
 ) -> Result<(), Error>

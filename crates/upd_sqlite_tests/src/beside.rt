@@ -11,7 +11,7 @@ use upd_compile::{Mode, compile_file, list_card, list_deck, list_idents, list_ya
 use upd_core::{CardRef, Name};
 use upd_desk_tests::dice::{DECKS, Dice, random_run};
 use upd_desk_tests::plain::{Plain, Sent};
-use upd_rows::RowStore;
+use upd_row_store::RowStore;
 use upd_store::SqlStore;
 use upd_text::Fault;
 
@@ -25,7 +25,7 @@ fn same_tables(rt: &impl Abort, talk: Stored) -> Result<Stored, Fail> {
         mut plain,
         alloc,
     } = talk;
-    let store = desk.into_store();
+    let store = desk.close();
     same_number(rt, "the decks read", store.decks_read(), plain.needed);
     plain.needed = 0;
     let mut conn = store.into_connection();

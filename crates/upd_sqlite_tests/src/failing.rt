@@ -1,19 +1,20 @@
 //! A store over lists of which one commit fails: what was in hand is lost, and may arrive again.
 ghost use Rattle.std.specs.Prelude.{◌≡◌, refl};
 ghost use Rattle.std.proofs.Common.{sym, ◌∙◌};
-ghost use Rattle.upd_change.specs.Rows.{Rows};
-ghost use Rattle.upd_rows.specs.Keeping.{IsLost};
+ghost use Rattle.upd_records.specs.Rows.{Rows};
+ghost use Rattle.upd_row_store.specs.Keeping.{IsLost};
 
 use crate::check::{same_number, same_text};
 use crate::talk::{Ask, Talk, accepted, lyon, refused, same_answer, told};
 use std::alloc::Global;
 use std::process::Abort;
 use std::test::Fail;
-use upd_change::{Change, RunRow};
-use upd_core::{Actives, Age, CardRef, Library, States};
+use upd_core::{Actives, CardRef, Change, Library, Serial, States};
 use upd_desk::{Arrival, Desk};
 use upd_desk_tests::plain::Sent;
-use upd_rows::{ListStore, RowStore};
+use upd_list_store::ListStore;
+use upd_records::RunRow;
+use upd_row_store::RowStore;
 use upd_text::{Fault, FaultKind};
 
 /// Lists of which one commit fails.
@@ -64,11 +65,11 @@ impl RowStore for Failing {
         self.lists.load(alloc)
     }
 
-    fn load_decks(&mut self, alloc: Global, decks: &[Age]) -> Result<Library, Fault> {
+    fn load_decks(&mut self, alloc: Global, decks: &[Serial]) -> Result<Library, Fault> {
         self.lists.load_decks(alloc, decks)
     }
 
-    fn decks_of(&mut self, alloc: Global, cards: &[CardRef]) -> Result<Vec<Age>, Fault> {
+    fn decks_of(&mut self, alloc: Global, cards: &[CardRef]) -> Result<Vec<Serial>, Fault> {
         self.lists.decks_of(alloc, cards)
     }
 
@@ -156,7 +157,7 @@ fn after_loss(
     let answer = talk.ask(ask)?;
     same_answer(rt, ask, answer.as_str(), "Store (29) at 0");
     let Talk { desk, plain, alloc } = talk;
-    let mut store = desk.into_store();
+    let mut store = desk.close();
     keeps_none(rt, alloc, &mut store, sent)?;
     Ok(Talk::over(store, plain))
 }
@@ -191,9 +192,9 @@ fn a_failed_commit_keeps_no_run(rt: HostRuntime) -> Result<(), Fail> {
 
 /// The answers of a desk whose store fails after so many commits, one a line.
 fn run_all(alloc: Global, list: &[Arrival<'_>], passing: u64) -> Result<String, Fail> {
-    let mut desk = Desk::new(Failing::new(alloc, passing));
+    let mut desk = Desk::open(Failing::new(alloc, passing));
     let mut text = String::new(alloc);
-    for answer in desk.arrive_all(alloc, list)? {
+    for answer in desk.run_all(alloc, list)? {
         let answer = told(alloc, answer.map(|reply| reply.text))?;
         write!(text, "{answer}\n")?;
     }

@@ -8,8 +8,9 @@ use std::alloc::Global;
 use std::process::Abort;
 use std::test::Fail;
 use upd_core::{CardRef, Library, States};
+use upd_list_store::ListStore;
+use upd_row_store::RowStore;
 use upd_row_tests::named::named;
-use upd_rows::{ListStore, RowStore};
 use upd_store::SqlStore;
 
 /// A library after runs, as it was made in a store.
@@ -84,14 +85,14 @@ fn quick_run_reads_one<S: Fresh>(rt: &impl Abort, mut talk: Talk<S>) -> Result<(
     let quick = lyon(4, "quick", "*IDENT Y\n*DELETE B.2\n");
     talk.accepts(rt, quick, &["Y"], &[])?;
     talk.accepts(rt, quick, &["Y"], &[])?;
-    same_number(rt, "the decks read", talk.desk.into_store().decks_read(), 5);
+    same_number(rt, "the decks read", talk.desk.close().decks_read(), 5);
     Ok(())
 }
 
 /// Decks A and B have ages 1 and 2.
 fn reads<S: Fresh>(rt: &impl Abort, alloc: Global) -> Result<(), Fail> {
     let Talk { desk, plain, .. } = after::<S>(rt, alloc, &TWO_DECKS)?;
-    let mut store = desk.into_store();
+    let mut store = desk.close();
     same_number(rt, "the decks read", store.decks_read(), 1);
     decks_are_read(rt, alloc, &mut store)?;
     quick_run_reads_one(rt, Talk::over(store, plain))
@@ -156,7 +157,7 @@ fn runs_are_kept<S: RowStore>(rt: &impl Abort, alloc: Global, store: &mut S) -> 
 
 fn loads<S: Fresh>(rt: &impl Abort, alloc: Global) -> Result<(), Fail> {
     let Talk { desk, plain, .. } = after::<S>(rt, alloc, &TWO_DECKS)?;
-    let mut store = desk.into_store();
+    let mut store = desk.close();
     rows_are_loaded(rt, alloc, &mut store, &plain.library)?;
     runs_are_kept(rt, alloc, &mut store)?;
     same_number(rt, "the failures", store.failures(), 0);
@@ -210,7 +211,7 @@ fn few_and_many<S: RowStore>(alloc: Global, store: &mut S) -> Result<(String, St
 }
 
 fn counts<S: Fresh>(rt: &impl Abort, alloc: Global) -> Result<(), Fail> {
-    let mut store = after::<S>(rt, alloc, &CHAIN)?.desk.into_store();
+    let mut store = after::<S>(rt, alloc, &CHAIN)?.desk.close();
     let all = all_lines(alloc, &mut store)?;
     let wanted =
         "A.1 true\nA.2 true\nA.3 true\nA.4 true\nSet(2): 1\nX.1 false\nY.1 true\nZ.1 false\n";

@@ -2,8 +2,9 @@
 use sqlite::{Connection, MemStore};
 use std::alloc::Global;
 use std::test::Fail;
-use upd_order::Rising;
-use upd_rows::{ListStore, RowStore};
+use upd_list_store::ListStore;
+use upd_row_store::RowStore;
+use upd_sqlite::Rising;
 use upd_store::SqlStore;
 use upd_text::Fault;
 

@@ -155,7 +155,7 @@ fn send_to(mut talk: Talk<FileStored>, list: &[Ask<'_>]) -> Result<Sending, Fail
     Ok(Sending {
         opened: true,
         answers,
-        files: files_of(talk.desk.into_store().into_connection()),
+        files: files_of(talk.desk.close().into_connection()),
     })
 }
 

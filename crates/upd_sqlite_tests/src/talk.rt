@@ -5,7 +5,7 @@ use std::test::Fail;
 use upd_core::{CardRef, Name};
 use upd_desk::Desk;
 use upd_desk_tests::plain::{Plain, Sent};
-use upd_rows::RowStore;
+use upd_row_store::RowStore;
 use upd_text::Fault;
 
 /// What is asked of a desk.
@@ -51,7 +51,7 @@ impl<S: RowStore> Talk<S> {
     pub fn over(store: S, plain: Plain) -> Talk<S> {
         let alloc = plain.library.allocator();
         Talk {
-            desk: Desk::new(store),
+            desk: Desk::open(store),
             plain,
             alloc,
         }

@@ -1,1 +1,2 @@
 mod VersionLemmas
+pub mod Opening

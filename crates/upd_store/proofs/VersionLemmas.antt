@@ -17,10 +17,10 @@ use Rattle.sqlite.specs.Listing.{understood, reads_listing}
 use Rattle.sqlite.specs.State.{State, Shown}
 use Rattle.sqlite.proofs.Callers.{IsPlain, command_of, one_permutation, reads_as}
 use Rattle.sqlite_keyed.proofs.ListLemmas.{filter-map, filter_same, map-map, map_same}
-use Rattle.upd_tables.specs.Keyed.{plain_query}
-use Rattle.upd_tables.specs.Stored.{HasRows}
-use Rattle.upd_tables.proofs.Queries.{any_order}
-use Rattle.upd_tables.proofs.Tests.{eq_text, one_test}
+use Rattle.upd_sqlite.specs.Keyed.{plain_query}
+use Rattle.upd_sqlite.specs.Stored.{HasRows}
+use Rattle.upd_sqlite.proofs.Queries.{any_order}
+use Rattle.upd_sqlite.proofs.Tests.{eq_text, one_test}
 use Rattle.upd_sql.specs.Encoded.{num, version_row}
 use Rattle.upd_sql.specs.Schema.{meta}
 use Rattle.upd_sql.specs.Wanted.{first_tables}

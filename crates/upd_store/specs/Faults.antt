@@ -6,7 +6,7 @@ use Rattle.sqlite.specs.declared.error.Error.TheVariants.{SqliteFailure}
 use Rattle.upd_text.specs.declared.fault.Fault.{Fault}
 use Rattle.upd_text.specs.declared.fault.FaultKind.{FaultKind}
 use Rattle.upd_text.specs.declared.fault.FaultKind.TheVariants.{NoMemory, Store}
-use Rattle.upd_rows.specs.Keeping.{IsLost}
+use Rattle.upd_row_store.specs.Keeping.{IsLost}
 
 -- want of memory is told as such, any other error as a failure of the store
 abbrev pub kind_for : Error → FaultKind

@@ -10,7 +10,7 @@ use Rattle.upd_core.specs.declared.ident.Kind.{Kind}
 use Rattle.upd_core.specs.declared.ident.Kind.TheVariants as kind
 use Rattle.upd_core.specs.declared.target.Target.{Target}
 use Rattle.upd_core.specs.declared.target.Target.TheVariants as target
-use Rattle.upd_change.specs.Rows.{CardRow, EntryRow, TargetRow, RunView, StateRow, CountRow, MarkRow, Rows}
+use Rattle.upd_records.specs.Rows.{CardRow, EntryRow, TargetRow, RunView, StateRow, CountRow, MarkRow, Rows}
 use Rattle.upd_sql.specs.Encoded.{flag, kind_code, target_code, ident_row, card_row, entry_row, target_row, run_row, state_row, count_row, mark_row}
 use Rattle.upd_sql.specs.Commits.{ShowsIn}
 

@@ -2,7 +2,7 @@
 use Rattle.std.specs.Prelude.{◌≡◌, ◌⊎◌, ℕ, [], ◌∷◌}
 use Rattle.sqlite_schema.specs.declared.schema.Schema.{Schema}
 use Rattle.sqlite.specs.Effect.{Database}
-use Rattle.upd_tables.specs.Stored.{HasRows}
+use Rattle.upd_sqlite.specs.Stored.{HasRows}
 use Rattle.upd_sql.specs.Schema.{meta}
 use Rattle.upd_sql.specs.Encoded.{version_row}
 use Rattle.upd_sql.specs.Wanted.{first_tables}

@@ -1,7 +1,7 @@
 //! Errors of SQLite as faults.
 ghost use Rattle.std.specs.Prelude.{◌≡◌, ◌≤◌, MatchResult};
 ghost use Rattle.upd_text.specs.declared.fault.FaultKind.TheVariants.{NoMemory, Store};
-ghost use Rattle.upd_rows.specs.Keeping.{IsLost, MoreFailures};
+ghost use Rattle.upd_row_store.specs.Keeping.{IsLost, MoreFailures};
 ghost use Rattle.upd_store.specs.Faults.{IsUnopened, failures_after, kind_for};
 
 use sqlite::{Error, ErrorCode};

@@ -2,6 +2,7 @@
 #![tactic(auto)]
 
 mod fault;
+pub mod file;
 mod row_store;
 mod sql_store;
 mod version;

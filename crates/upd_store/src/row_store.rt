@@ -8,16 +8,16 @@ use crate::fault::{counted, no_memory, refused};
 use crate::sql_store::SqlStore;
 use sqlite::Connection;
 use std::alloc::Global;
-use upd_change::{Change, RunRow};
-use upd_core::{Actives, Age, CardRef, Library, States};
-use upd_order::Rising;
-use upd_rows::{
+use upd_core::{Actives, CardRef, Change, Library, Serial, States};
+use upd_records::RunRow;
+use upd_row_store::{
     RowStore, assembled, assembled_active, assembled_with_rest, decks_by_age, reads_with,
 };
 use upd_sql::{
     commit_changes, is_library_schema, kept_active, kept_decks_of, kept_library_rows, kept_mark,
     kept_part, kept_run, kept_states, kept_states_of, settle_site, sizes_after,
 };
+use upd_sqlite::Rising;
 use upd_text::Fault;
 
 /// Whether the schema is the library's, outside a transaction.
@@ -73,7 +73,7 @@ impl<S: Rising> RowStore for SqlStore<S> {
         }
     }
 
-    fn load_decks(&mut self, alloc: Global, decks: &[Age]) -> Result<Library, Fault> {
+    fn load_decks(&mut self, alloc: Global, decks: &[Serial]) -> Result<Library, Fault> {
         if !is_ours(&self.conn) {
             return Err(refused(&mut self.failures));
         }
@@ -97,7 +97,7 @@ impl<S: Rising> RowStore for SqlStore<S> {
         }
     }
 
-    fn decks_of(&mut self, alloc: Global, cards: &[CardRef]) -> Result<Vec<Age>, Fault> {
+    fn decks_of(&mut self, alloc: Global, cards: &[CardRef]) -> Result<Vec<Serial>, Fault> {
         if !is_ours(&self.conn) {
             return Err(refused(&mut self.failures));
         }

@@ -12,8 +12,8 @@ ghost use Rattle.upd_store.specs.Version.{TellsVersion};
 use crate::fault::{fault_of, store_at, version_fault};
 use crate::version::version_of;
 use sqlite::Connection;
-use upd_order::Rising;
 use upd_sql::{Sizes, is_library_schema, is_no_schema, make_library};
+use upd_sqlite::Rising;
 use upd_text::Fault;
 
 /// The version of the schema.

@@ -2,13 +2,13 @@
 ghost use Rattle.std.specs.Prelude.{◌≡◌, ◌∷◌, [], ℕ, false, IfOk, IsTrue};
 ghost use Rattle.sqlite.specs.Held.{state};
 ghost use Rattle.sqlite.specs.State.{HasCleanDisk, Survives};
-ghost use Rattle.upd_tables.specs.Steps.{Steps};
+ghost use Rattle.upd_sqlite.specs.Steps.{Steps};
 ghost use Rattle.upd_sql.specs.Commits.{WasOpen};
 ghost use Rattle.upd_sql.specs.Encoded.{num};
 ghost use Rattle.upd_store.specs.Version.{TellsVersion};
 
 use sqlite::{Alter, Connection, Error, Row, Transaction};
-use upd_tables::ask;
+use upd_sqlite::ask;
 
 /// The number that the first row begins with, 0 where there is no row.
 fn first_number(rows: &[Row]) -> Result<u32, Error>

@@ -4,11 +4,11 @@ ghost use Rattle.std.specs.Prelude.{◌≡◌, IfOk};
 use std::alloc::Global;
 use std::test::Fail;
 use upd_apply::apply;
-use upd_change::{Change, RunRow};
 use upd_compile::{list_deck, list_idents, list_yanks};
-use upd_core::Library;
+use upd_core::{Change, Library};
 use upd_deck::read_run;
-use upd_rows::RowStore;
+use upd_records::RunRow;
+use upd_row_store::RowStore;
 use upd_text::Name;
 
 /// The row of a run that was accepted, with an empty reply.

@@ -7,7 +7,7 @@ use std::alloc::Global;
 use std::process::Abort;
 use std::test::Fail;
 use upd_core::{Ident, Kind, Library};
-use upd_rows::RowStore;
+use upd_row_store::RowStore;
 use upd_store::SqlStore;
 use upd_text::Fault;
 

@@ -7,11 +7,10 @@ use sqlite_disk::{Disk, Files, Memory};
 use std::alloc::Global;
 use std::process::Abort;
 use std::test::Fail;
-use upd_change::Change;
-use upd_core::{CardRef, Entry, Ident, Kind, Name};
-use upd_file::close;
-use upd_rows::RowStore;
+use upd_core::{CardRef, Change, Entry, Ident, Kind, Name};
+use upd_row_store::RowStore;
 use upd_store::SqlStore;
+use upd_store::file::close;
 use upd_text::Fault;
 
 type Library = SqlStore<FileStore<Memory>>;

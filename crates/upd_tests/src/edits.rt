@@ -6,7 +6,7 @@ use std::process::Abort;
 use std::test::Fail;
 use upd_compile::{Mode, compile_active};
 use upd_core::ident::name_at;
-use upd_core::{Age, Card, Deck, Entry, Kind, Library, Live, Place, Target};
+use upd_core::{Card, Deck, Entry, Kind, Library, Live, Place, Serial, Target};
 use upd_text::limits::MAX_INTRODUCED;
 use upd_text::{CardRef, Fault, Name};
 
@@ -25,19 +25,19 @@ fn introduce(library: &mut Library, text: &str, kind: Kind) -> Result<(), Fail> 
     Ok(())
 }
 
-fn push_deck(library: &mut Library, ident: Age, text: &[u8]) -> Result<(), Fail> {
+fn push_deck(library: &mut Library, ident: Serial, text: &[u8]) -> Result<(), Fail> {
     let deck = Deck::new(library.allocator(), ident, text)?;
     Ok(library.push_deck(deck)?)
 }
 
-fn insert(library: &mut Library, ident: Age, number: u32, text: &[u8]) -> Result<(), Fail> {
+fn insert(library: &mut Library, ident: Serial, number: u32, text: &[u8]) -> Result<(), Fail> {
     let alloc = library.allocator();
     let card = Card::new(alloc, ident, number, text, Vec::new(alloc))?;
     Ok(library.insert_card(1, 0, card)?)
 }
 
 /// An entry of an ident, off, on the second card of deck A.
-fn switch_off(library: &mut Library, ident: Age) -> Result<(), Fail> {
+fn switch_off(library: &mut Library, ident: Serial) -> Result<(), Fail> {
     let off = Entry {
         ident,
         active: false,
@@ -45,7 +45,7 @@ fn switch_off(library: &mut Library, ident: Age) -> Result<(), Fail> {
     Ok(library.enter(1, 1, 1, off)?)
 }
 
-fn push_yank(library: &mut Library, ident: Age, text: &[u8], set: Age) -> Result<(), Fail> {
+fn push_yank(library: &mut Library, ident: Serial, text: &[u8], set: Serial) -> Result<(), Fail> {
     let alloc = library.allocator();
     let targets = Vec::from_slice(alloc, &[Target::Set(set)])?;
     Ok(library.push_yank(Card::new(alloc, ident, 1, text, targets)?)?)
@@ -150,8 +150,8 @@ fn check_name(
     rt: &impl Abort,
     library: &Library,
     text: &str,
-    ident: Age,
-    deck: Option<Age>,
+    ident: Serial,
+    deck: Option<Serial>,
 ) -> Result<(), Fail> {
     let name = name(text)?;
     let found = (library.ident_of(&name), library.deck_of(&name));
@@ -184,7 +184,7 @@ fn counts_decks_and_cards(rt: HostRuntime) -> Result<(), Fail> {
 const PLACE: Place = Place { deck: 1, index: 2 };
 
 fn place(library: &Library, card: &str) -> Result<Option<Place>, Fail> {
-    Ok(library.place_of(card_ref(card)?))
+    Ok(library.card_at(card_ref(card)?))
 }
 
 #[test]
@@ -242,7 +242,7 @@ fn knows_what_yanks_take(rt: HostRuntime) -> Result<(), Fail> {
 }
 
 /// How many lines the compile file of a deck has.
-fn line_count(library: &Library, deck: Age) -> Result<u32, Fault> {
+fn line_count(library: &Library, deck: Serial) -> Result<u32, Fault> {
     let alloc = library.allocator();
     let actives = library.actives()?;
     let file = compile_active(alloc, &actives, &actives, Mode::Quick, &[deck])?;

@@ -6,7 +6,7 @@ use std::process::Abort;
 use std::test::Fail;
 use upd_apply::{Applied, apply};
 use upd_core::ident::name_at;
-use upd_core::{Age, Card, CardRef, Counted, Library, Target};
+use upd_core::{Card, CardRef, Counted, Library, Serial, Target};
 use upd_deck::read_run;
 use upd_row_tests::dice::{DECKS, Dice, random_run};
 use upd_yank::Cache;
@@ -108,7 +108,7 @@ impl Kept {
     fn settle(&mut self, rt: &impl Abort, applied: &Applied) -> Result<(), Fail> {
         let mut counted = Counted::new(&self.library);
         self.cache.settle(&mut counted, applied)?;
-        let read = counted.histories_read();
+        let read = counted.reads();
         same_number(rt, "histories read", read, self.cache.work());
         Ok(())
     }

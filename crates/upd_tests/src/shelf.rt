@@ -9,7 +9,7 @@ use upd_apply::{Applied, apply, purge_back};
 use upd_compile::{
     CompileFile, Mode, changed, compile_file, list_card, list_deck, list_idents, list_yanks,
 };
-use upd_core::{Age, Library};
+use upd_core::{Library, Serial};
 use upd_deck::read_run;
 use upd_text::{CardRef, Fault, Name};
 
@@ -38,7 +38,7 @@ pub enum Ask<'a> {
     Idents,
     Yanks,
     /// Everything of this age and younger is purged by the call: nothing is said.
-    PurgeBack(Age),
+    PurgeBack(Serial),
 }
 
 /// What is asked one after the other, each with the answer that is wanted.
@@ -149,7 +149,7 @@ impl Shelf {
         listing(self.alloc(), list_yanks(self.alloc(), &self.library))
     }
 
-    fn purge_back(&mut self, age: Age) -> Result<String, Fail> {
+    fn purge_back(&mut self, age: Serial) -> Result<String, Fail> {
         purge_back(&mut self.library, age);
         Ok(String::new(self.alloc()))
     }
@@ -163,7 +163,7 @@ fn told(alloc: Global, fault: Fault) -> Result<String, Fail> {
     Ok(format!(in alloc; "{fault}")?)
 }
 
-fn ages(alloc: Global, ages: &[Age]) -> Result<String, Fail> {
+fn ages(alloc: Global, ages: &[Serial]) -> Result<String, Fail> {
     Ok(format!(in alloc; "{ages:?}")?)
 }
 
@@ -182,9 +182,14 @@ fn changes(before: &Library, after: &Library) -> Result<String, Fail> {
     ages(alloc, &changed)
 }
 
-fn compiled(before: &Library, after: &Library, mode: Mode, named: &[Age]) -> Result<String, Fail> {
+fn compiled(
+    before: &Library,
+    after: &Library,
+    mode: Mode,
+    named: &[Serial],
+) -> Result<String, Fail> {
     let alloc = after.allocator();
-    match compile_file(alloc, before, after, mode, named) {
+    match compile_file(alloc, after, before, mode, named) {
         Ok(file) => cards(alloc, &file),
         Err(fault) => told(alloc, fault),
     }

@@ -4,8 +4,8 @@ use Rattle.upd_core.specs.declared.ident.Ident.{Ident}
 use Rattle.upd_core.specs.declared.ident.Kind.{Kind}
 use Rattle.upd_core.specs.declared.card.Entry.{Entry}
 use Rattle.upd_text.specs.declared.fault.Fault.{Fault}
-use Rattle.upd_change.specs.Rows.{CardRow, EntryRow, Rows, TargetRow, rows_of}
-use Rattle.upd_change.specs.Changes.{ChangeView, done_all}
+use Rattle.upd_records.specs.Rows.{CardRow, EntryRow, Rows, TargetRow, rows_of}
+use Rattle.upd_records.specs.Changes.{ChangeView, done_all}
 use Rattle.upd_worked.specs.Worked.{asked}
 
 -- whether a key comes before another: by their first numbers that differ, or as its beginning

@@ -2,8 +2,8 @@
 ghost use Rattle.std.specs.Prelude.{◌≡◌, ◌++◌, [], ◌∷◌, codes, pos, negsuc};
 ghost use Rattle.upd_core.specs.declared.ident.Kind.TheVariants.{Set};
 ghost use Rattle.upd_core.specs.declared.target.Target.TheVariants as target;
-ghost use Rattle.upd_change.specs.Changes.{CardGone, CardNew, CardsMoved, EntriesGone, EntryNew, IdentNew};
-ghost use Rattle.upd_change.specs.Changes.{IdentPurged, TargetNew, TargetsGone};
+ghost use Rattle.upd_records.specs.Changes.{CardGone, CardNew, CardsMoved, EntriesGone, EntryNew, IdentNew};
+ghost use Rattle.upd_records.specs.Changes.{IdentPurged, TargetNew, TargetsGone};
 ghost use Rattle.upd_worked.specs.Changed.{brought, changed_after, off, on, tables_after};
 ghost use Rattle.upd_worked.specs.Worked.{card, deck_a};
 ghost use Rattle.upd_worked.specs.Yanked.{grown_by_three, inserted, replaced, yank_yanked, yanked};

@@ -5,7 +5,7 @@ use Rattle.std.specs.List.{filter, flat_map, AllByRecursion}
 use Rattle.std.proofs.lemmas.List.Elements.{filter-append}
 use Rattle.std.proofs.lemmas.List.Sums.{sum_by-cons}
 use Rattle.upd_core.proofs.ApartLemmas.{all_back, all_front}
-use Rattle.upd_core.specs.Ages.{Age}
+use Rattle.upd_core.specs.Serials.{Serial}
 use Rattle.upd_core.specs.Counted.{CountedCardView, counted_card, others_of, yanks_of}
 use Rattle.upd_core.specs.declared.ident.Ident.{Ident}
 use Rattle.upd_core.specs.declared.library.Rest.{Rest}
@@ -24,7 +24,7 @@ cards_with idents ds = flat_map (λ d. map (counted_card idents d.ident) d.cards
 
 -- ---- without decks in which no card passes a test, the same cards pass it
 
-none_of_deck : (test : CountedCardView → Bool) (out : Age → Bool) (idents : List Ident) (age : Age) (cs : List CardView) → out age ≡ true →
+none_of_deck : (test : CountedCardView → Bool) (out : Serial → Bool) (idents : List Ident) (age : Serial) (cs : List CardView) → out age ≡ true →
     AllByRecursion (λ k. out k.deck ≡ false) (filter test (map (counted_card idents age) cs)) → filter test (map (counted_card idents age) cs) ≡ []
 none_of_deck test out idents age [] is all = refl
 none_of_deck test out idents age (c ∷ cs) is all = go (test (counted_card idents age c)) refl (none_of_deck test out idents age cs is)
@@ -37,7 +37,7 @@ none_of_deck test out idents age (c ∷ cs) is all = go (test (counted_card iden
     go true e later = let here = rw e at all in absurd (let q = sym is ∙ here.0 in cc)
     go false e later = rw e (later (rw e at all))
 
-same_pass : (test : CountedCardView → Bool) (out : Age → Bool) (idents : List Ident) (ds : List DeckView) →
+same_pass : (test : CountedCardView → Bool) (out : Serial → Bool) (idents : List Ident) (ds : List DeckView) →
     AllByRecursion (λ k. out k.deck ≡ false) (filter test (cards_with idents ds)) →
     filter test (cards_with idents (filter (λ (d : DeckView). not (out d.ident)) ds)) ≡ filter test (cards_with idents ds)
 same_pass test out idents [] all = refl
@@ -74,7 +74,7 @@ no_cards : (cs : List CardView) → length cs ≡ 0 → cs ≡ []
 no_cards [] e = refl
 no_cards (c ∷ cs) e = absurd (omega (arith, e))
 
-same_cards : (out : Age → Bool) (idents : List Ident) (ds : List DeckView) → cards_of_decks (filter (λ (d : DeckView). out d.ident) ds) ≡ 0 →
+same_cards : (out : Serial → Bool) (idents : List Ident) (ds : List DeckView) → cards_of_decks (filter (λ (d : DeckView). out d.ident) ds) ≡ 0 →
     cards_with idents (filter (λ (d : DeckView). not (out d.ident)) ds) ≡ cards_with idents ds
 same_cards out idents [] none = refl
 same_cards out idents (d ∷ ds) none = go (out d.ident) refl (same_cards out idents ds)

@@ -18,7 +18,7 @@ use Rattle.upd_core.specs.Status.{is_active, live_cards, live_targets, status_of
 use Rattle.upd_core.specs.TargetCounts.{live_count}
 use Rattle.upd_core.specs.Entries.{same_entry}
 use Rattle.upd_apply.specs.Applying.{same_history, stood_in, touched}
-use Rattle.upd_change.specs.Rows.{same_ref}
+use Rattle.upd_records.specs.Rows.{same_ref}
 use Rattle.upd_yank.proofs.FindLemmas.{any_at, cards_found}
 use Rattle.upd_yank.proofs.FlipLemmas.{status_is}
 use Rattle.upd_yank.proofs.RefLemmas.{ref_same}

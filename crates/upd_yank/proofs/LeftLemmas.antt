@@ -7,7 +7,7 @@ use Rattle.upd_core.specs.Counted.{CountedCardView, others_of, yanks_of}
 use Rattle.upd_core.specs.declared.target.Target.{Target}
 use Rattle.upd_core.specs.Library.{LibraryView}
 use Rattle.upd_core.specs.TargetCounts.{count_on}
-use Rattle.upd_change.specs.Rows.{same_ref}
+use Rattle.upd_records.specs.Rows.{same_ref}
 use Rattle.upd_text.specs.declared.card_ref.CardRef.{CardRef}
 use Rattle.upd_yank.specs.Cascade.{found_of_all, found_others, found_yanks, live_now, stay}
 use Rattle.upd_yank.specs.Right.{kept_status}

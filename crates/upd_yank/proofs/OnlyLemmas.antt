@@ -4,10 +4,10 @@ use Rattle.std.specs.List.{AllByRecursion}
 use Rattle.upd_text.specs.declared.card_ref.CardRef.{CardRef}
 use Rattle.upd_core.specs.declared.target.Target.{Target}
 use Rattle.upd_core.specs.TargetCounts.{count_in}
-use Rattle.upd_change.specs.Changes.{ChangeView, IdentNew, IdentPurged, CardNew, CardGone, CardsMoved, EntryNew, EntriesGone, TargetNew, TargetsGone}
-use Rattle.upd_change.specs.Changes.{StatusNow, CountNow}
-use Rattle.upd_change.specs.States.{tells_state}
-use Rattle.upd_change.proofs.AllLemmas.{all_joined, each_flat}
+use Rattle.upd_records.specs.Changes.{ChangeView, IdentNew, IdentPurged, CardNew, CardGone, CardsMoved, EntryNew, EntriesGone, TargetNew, TargetsGone}
+use Rattle.upd_records.specs.Changes.{StatusNow, CountNow}
+use Rattle.upd_diff.specs.States.{tells_state}
+use Rattle.upd_diff.proofs.AllLemmas.{all_joined, each_flat}
 use Rattle.upd_yank.specs.Affected.{is_other}
 use Rattle.upd_yank.specs.Right.{kept_status}
 use Rattle.upd_yank.specs.Told.{again_told, all_again_told, count_told, counts_told, settling_told, status_of_card, status_told, statuses_told, zero_told}

@@ -14,7 +14,7 @@ use Rattle.std.specs.Str.{bytes_eq}
 use Rattle.upd_text.proofs.OrderLemmas.{is_same-is_eq}
 use Rattle.upd_text.specs.contracts.card_ref.CardRefOrd.TheImpl as order
 use Rattle.upd_text.specs.declared.card_ref.CardRef.{CardRef}
-use Rattle.upd_change.specs.Rows.{same_ref}
+use Rattle.upd_records.specs.Rows.{same_ref}
 use Rattle.upd_yank.specs.Right.{kept_status}
 
 -- two references that are the same are one

@@ -10,7 +10,7 @@ use Rattle.std.proofs.lemmas.Option.{same_Some}
 use Rattle.upd_core.proofs.ApartLemmas.{all_at, all_by_index, all_mapped, at_contained, contained_at, find_only, rising_apart}
 use Rattle.upd_core.proofs.FoundLemmas.{status_at}
 use Rattle.upd_core.specs.Actives.{ActiveDeckView, active_deck, actives_of, without_past}
-use Rattle.upd_core.specs.Ages.{Age}
+use Rattle.upd_core.specs.Serials.{Serial}
 use Rattle.upd_core.specs.Counted.{counted_card}
 use Rattle.upd_core.specs.declared.ident.Ident.{Ident}
 use Rattle.upd_core.specs.Library.{CardView, DeckView, LibraryView, all_decks, is_deck, is_deck_kind, ref_of}
@@ -39,7 +39,7 @@ all_passed P test (y ∷ xs) (suc k) x at pass all = all_passed P test xs k x at
     later true e = let both : AllByRecursion P (y ∷ filter test xs) = rw e at all in both.1
     later false e = rw e at all
 
-found_kept : (out : Age → Bool) (a : Age) (ds : List DeckView) → out a ≡ false →
+found_kept : (out : Serial → Bool) (a : Serial) (ds : List DeckView) → out a ≡ false →
     find (is_deck a) (filter (λ (d : DeckView). not (out d.ident)) ds) ≡ find (is_deck a) ds
 found_kept out a [] stays = refl
 found_kept out a (d ∷ ds) stays = go (out d.ident) refl (d.ident == a) refl (found_kept out a ds stays)
@@ -52,7 +52,7 @@ found_kept out a (d ∷ ds) stays = go (out d.ident) refl (d.ident == a) refl (f
     go false e true f later = rw (e, f) refl
     go false e false f later = rw (e, f) later
 
-none_kept : (out : Age → Bool) (a : Age) (ds : List DeckView) → out a ≡ true → find (is_deck a) (filter (λ (d : DeckView). not (out d.ident)) ds) ≡ None
+none_kept : (out : Serial → Bool) (a : Serial) (ds : List DeckView) → out a ≡ true → find (is_deck a) (filter (λ (d : DeckView). not (out d.ident)) ds) ≡ None
 none_kept out a [] goes = refl
 none_kept out a (d ∷ ds) goes = go (out d.ident) refl (d.ident == a) refl (none_kept out a ds goes)
   where
@@ -151,7 +151,7 @@ passed_on n i idents d ds s same = record {
         )
 
 -- the decks are met one by one on a walk through the directory
-walk : (t : Age → List ActiveDeckView) (f : DeckView → ActiveDeckView) (n : ℕ) (idents : List Ident) (ds : List DeckView) → Stand n idents ds →
+walk : (t : Serial → List ActiveDeckView) (f : DeckView → ActiveDeckView) (n : ℕ) (idents : List Ident) (ds : List DeckView) → Stand n idents ds →
     AllByRecursion (λ d. t d.ident ≡ f d ∷ []) ds → flat_map (λ (i : Ident). if i.held && is_deck_kind i.kind then t i.age else []) idents ≡ map f ds
 walk t f n [] [] s each = refl
 walk t f n [] (d ∷ ds) s each = absurd (let q = s.held.0 in cc)
@@ -201,11 +201,11 @@ anew_is l cache d sound right in_decks =
 -- ---- all decks
 
 -- by kept statuses, the active cards of each deck that isn't left out are its own
-abbrev pub AreAnew : (Age → Bool) → LibraryView → List (CardRef × Bool) → Type 0
+abbrev pub AreAnew : (Serial → Bool) → LibraryView → List (CardRef × Bool) → Type 0
 AreAnew out new states =
     (k : ℕ) (d : DeckView) → slice_get new.decks k ≡ Some d → out d.ident ≡ false → deck_anew states new.idents d ≡ active_deck (live_targets new) d
 
-module _ (out : Age → Bool) (old new : LibraryView) (states : List (CardRef × Bool)) (before : IsSound old) (after : IsSound new) (whole : IsWhole new)
+module _ (out : Serial → Bool) (old new : LibraryView) (states : List (CardRef × Bool)) (before : IsSound old) (after : IsSound new) (whole : IsWhole new)
     (anew : AreAnew out new states) (left : AllByRecursion (IsAsBefore old new) (filter (λ d. out d.ident) new.decks)) where
   of_age : (k : ℕ) (d : DeckView) → slice_get new.decks k ≡ Some d → find (is_deck d.ident) new.decks ≡ Some d
   of_age k d at =
@@ -263,7 +263,7 @@ module _ (out : Age → Bool) (old new : LibraryView) (states : List (CardRef ×
       (all_by_index new.decks one_deck))
 
 -- by a cache that is right for all
-pub renewed_is : (out : Age → Bool) (old new : LibraryView) (cache : CacheView) → IsSound old → IsSound new → IsWhole new → IsRight new cache →
+pub renewed_is : (out : Serial → Bool) (old new : LibraryView) (cache : CacheView) → IsSound old → IsSound new → IsWhole new → IsRight new cache →
     AllByRecursion (IsAsBefore old new) (filter (λ d. out d.ident) new.decks) → renewed cache.states (part out new) (actives_of old) ≡ actives_of new
 renewed_is out old new cache before after whole right =
     renewed_by out old new cache.states before after whole

@@ -16,10 +16,10 @@ use Rattle.upd_core.specs.Sound.{Continues, IsSound}
 use Rattle.upd_core.specs.Status.{IsAged, is_active, live_cards, live_targets, status_of}
 use Rattle.upd_core.specs.TargetCounts.{count_in, count_on, live_count}
 use Rattle.upd_apply.specs.Applying.{touched}
-use Rattle.upd_change.specs.Changes.{ChangeView}
-use Rattle.upd_change.specs.Rows.{same_ref}
-use Rattle.upd_change.specs.States.{TakeGone}
-use Rattle.upd_change.proofs.StateLemmas.{any_of}
+use Rattle.upd_records.specs.Changes.{ChangeView}
+use Rattle.upd_records.specs.Rows.{same_ref}
+use Rattle.upd_diff.specs.States.{TakeGone}
+use Rattle.upd_diff.proofs.StateLemmas.{any_of}
 use Rattle.upd_text.specs.declared.card_ref.CardRef.{CardRef}
 use Rattle.upd_yank.proofs.EnoughLemmas.{Sees}
 use Rattle.upd_yank.proofs.FlipLemmas.{same_active, status_is}

@@ -7,7 +7,7 @@ use Rattle.std.proofs.lemmas.Bool.Decides.{Decides-eqb}
 use Rattle.upd_core.proofs.CountedLemmas.{same_target_sym, target_same}
 use Rattle.upd_core.specs.declared.target.Target.{Target}
 use Rattle.upd_core.specs.Targets.{is_same}
-use Rattle.upd_change.specs.Rows.{same_ref}
+use Rattle.upd_records.specs.Rows.{same_ref}
 use Rattle.upd_text.specs.declared.card_ref.CardRef.{CardRef}
 use Rattle.upd_yank.proofs.RefLemmas.{ref_same, same_ref_sym}
 use Rattle.upd_yank.specs.Right.{count_pairs, put_counts, status_pairs}

@@ -16,7 +16,7 @@ use Rattle.upd_core.specs.Sound.{IsSound}
 use Rattle.upd_core.specs.Status.{live_cards, status_of}
 use Rattle.upd_core.specs.TargetCounts.{live_count}
 use Rattle.upd_core.specs.declared.target.Target.{Target}
-use Rattle.upd_change.specs.Rows.{same_ref}
+use Rattle.upd_records.specs.Rows.{same_ref}
 use Rattle.upd_text.specs.declared.card_ref.CardRef.{CardRef}
 use Rattle.upd_yank.proofs.FlipLemmas.{status_is}
 use Rattle.upd_yank.proofs.FindLemmas.{any_at, cards_found}

@@ -14,11 +14,11 @@ use Rattle.upd_core.specs.Library.{LibraryView}
 use Rattle.upd_core.specs.Status.{status_of}
 use Rattle.upd_core.specs.TargetCounts.{count_in, live_count}
 use Rattle.upd_core.specs.Targets.{is_same}
-use Rattle.upd_change.specs.Changes.{ChangeView, IdentNew, IdentPurged, CardNew, CardGone, CardsMoved, EntryNew, EntriesGone, TargetNew, TargetsGone}
-use Rattle.upd_change.specs.Changes.{StatusNow, CountNow, done, done_all}
-use Rattle.upd_change.specs.Rows.{CountRow, Rows, ShowsStates, StateRow, count_rows, same_ref, state_rows}
-use Rattle.upd_change.specs.States.{TakeGone, takes_card}
-use Rattle.upd_change.proofs.StateLemmas.{counts_after, filter_gone, filter_kept, state_after, states_gone, states_kept}
+use Rattle.upd_records.specs.Changes.{ChangeView, IdentNew, IdentPurged, CardNew, CardGone, CardsMoved, EntryNew, EntriesGone, TargetNew, TargetsGone}
+use Rattle.upd_records.specs.Changes.{StatusNow, CountNow, done, done_all}
+use Rattle.upd_records.specs.Rows.{CountRow, Rows, ShowsStates, StateRow, count_rows, same_ref, state_rows}
+use Rattle.upd_diff.specs.States.{TakeGone, takes_card}
+use Rattle.upd_diff.proofs.StateLemmas.{counts_after, filter_gone, filter_kept, state_after, states_gone, states_kept}
 use Rattle.upd_yank.proofs.RefLemmas.{one_ref, ref_same}
 use Rattle.upd_yank.proofs.UnflippedLemmas.{is_listed, unlisted}
 use Rattle.upd_yank.proofs.WorkLemmas.{all_both, is_found}

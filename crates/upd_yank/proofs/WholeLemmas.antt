@@ -12,7 +12,7 @@ use Rattle.upd_core.specs.Library.{CardView, DeckView, LibraryView, ref_of}
 use Rattle.upd_core.specs.Sound.{AreApart, IsSound, all_cards}
 use Rattle.upd_core.specs.Status.{status_of}
 use Rattle.upd_core.specs.TargetCounts.{live_count}
-use Rattle.upd_change.specs.Rows.{same_ref}
+use Rattle.upd_records.specs.Rows.{same_ref}
 use Rattle.upd_yank.proofs.RefLemmas.{one_ref}
 use Rattle.upd_yank.proofs.StateLemmas.{HadStatus, put_all, statuses_are, unfound_stayed}
 use Rattle.upd_yank.proofs.WorkLemmas.{HasStatus, IsListed, all_map}

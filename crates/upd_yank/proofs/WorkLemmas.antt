@@ -14,7 +14,7 @@ use Rattle.upd_core.specs.Reach.{is_flipped, is_retaken, is_reached}
 use Rattle.upd_core.specs.Status.{HasEntriesFrom, IsAged, TakesOlder, live_cards, status_of}
 use Rattle.upd_core.specs.TargetCounts.{count_on}
 use Rattle.upd_core.specs.Targets.{is_same}
-use Rattle.upd_change.specs.Rows.{same_ref}
+use Rattle.upd_records.specs.Rows.{same_ref}
 use Rattle.upd_text.specs.declared.card_ref.CardRef.{CardRef}
 use Rattle.upd_yank.proofs.FlipLemmas.{same_stays}
 use Rattle.upd_yank.proofs.RefLemmas.{ref_same}

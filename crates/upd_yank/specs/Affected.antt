@@ -6,7 +6,7 @@ use Rattle.upd_core.specs.Counted.{CountedCardView, counted_cards}
 use Rattle.upd_core.specs.Library.{LibraryView}
 use Rattle.upd_core.specs.Status.{is_active, live_targets, status_of}
 use Rattle.upd_core.specs.TargetCounts.{live_count}
-use Rattle.upd_change.specs.Rows.{same_ref}
+use Rattle.upd_records.specs.Rows.{same_ref}
 use Rattle.upd_yank.specs.Cascade.{is_due}
 
 -- whether a card is among the touched ones

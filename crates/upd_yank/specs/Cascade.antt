@@ -6,7 +6,7 @@ use Rattle.std.specs.Option.{option_or}
 use Rattle.upd_text.specs.declared.card_ref.CardRef.{CardRef}
 use Rattle.upd_core.specs.declared.target.Target.{Target}
 use Rattle.upd_core.specs.declared.target.Target.TheVariants.{Set, SetIn, Deck}
-use Rattle.upd_change.specs.Rows.{same_ref}
+use Rattle.upd_records.specs.Rows.{same_ref}
 use Rattle.upd_core.specs.Counted.{CountedCardView, others_of, yanks_of}
 use Rattle.upd_core.specs.Library.{CardView, LibraryView}
 use Rattle.upd_core.specs.Reach.{is_reached}

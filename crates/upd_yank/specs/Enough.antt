@@ -2,7 +2,7 @@
 use Rattle.std.specs.Prelude.{◌≡◌, ◌⊎◌, Bool, false, List, None}
 use Rattle.std.specs.List.{AllByRecursion}
 use Rattle.upd_text.specs.declared.card_ref.CardRef.{CardRef}
-use Rattle.upd_core.specs.Ages.{Age}
+use Rattle.upd_core.specs.Serials.{Serial}
 use Rattle.upd_core.specs.Library.{LibraryView}
 use Rattle.upd_core.specs.Parts.{part}
 use Rattle.upd_core.specs.Sound.{IsWhole}
@@ -10,11 +10,11 @@ use Rattle.upd_core.specs.Status.{status_of}
 use Rattle.upd_yank.specs.Affected.{affected}
 
 -- Decks that a settling can do without: no affected card stands in one, and the run took no card away.
-pub record AreIdle (touched : List CardRef) (old new : LibraryView) (out : Age → Bool) : Type 0 where
+pub record AreIdle (touched : List CardRef) (old new : LibraryView) (out : Serial → Bool) : Type 0 where
   pub unaffected : AllByRecursion (λ k. out k.deck ≡ false) (affected touched old new)
   pub staying : (card : CardRef) → status_of card new ≡ None → status_of card old ≡ None
 
 -- a library that is enough to settle a run: the whole one that it reached, or the part of it without idle decks
 abbrev pub IsEnough : List CardRef → LibraryView → LibraryView → LibraryView → Type 0
 IsEnough touched old new l =
-    ((l ≡ new) × IsWhole new) ⊎ ((out : Age → Bool) × (l ≡ part out new) × AreIdle touched old new out)
+    ((l ≡ new) × IsWhole new) ⊎ ((out : Serial → Bool) × (l ≡ part out new) × AreIdle touched old new out)

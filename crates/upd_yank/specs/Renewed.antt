@@ -4,7 +4,7 @@ use Rattle.std.specs.List.{filter, find, flat_map, Contains}
 use Rattle.std.specs.Option.{option_map}
 use Rattle.upd_text.specs.declared.card_ref.CardRef.{CardRef}
 use Rattle.upd_core.specs.Actives.{ActiveDeckView, ActivesView, active_deck, without_past}
-use Rattle.upd_core.specs.Ages.{Age}
+use Rattle.upd_core.specs.Serials.{Serial}
 use Rattle.upd_core.specs.Counted.{counted_card}
 use Rattle.upd_core.specs.declared.ident.Ident.{Ident}
 use Rattle.upd_core.specs.Library.{DeckView, LibraryView, is_deck, is_deck_kind}
@@ -19,7 +19,7 @@ deck_anew states idents d = record {
 }
 
 -- whether a deck of active cards is the one of an age
-abbrev pub is_active_deck : Age → ActiveDeckView → Bool
+abbrev pub is_active_deck : Serial → ActiveDeckView → Bool
 is_active_deck age d = d.ident == age
 
 -- a deck: as it is anew, else as it was
@@ -29,7 +29,7 @@ anew_or_before None (Some before) = before ∷ []
 anew_or_before None None = []
 
 -- the deck of an age: anew where it is loaded, else as it was before
-abbrev pub deck_of_age : List (CardRef × Bool) → LibraryView → ActivesView → Age → List ActiveDeckView
+abbrev pub deck_of_age : List (CardRef × Bool) → LibraryView → ActivesView → Serial → List ActiveDeckView
 deck_of_age states part before age =
     anew_or_before (option_map (deck_anew states part.idents) (find (is_deck age) part.decks)) (find (is_active_deck age) before.decks)
 

@@ -12,7 +12,7 @@ use Rattle.upd_core.specs.Sound.{AreApart, Continues, IsSound}
 use Rattle.upd_core.specs.Status.{status_of}
 use Rattle.upd_core.specs.TargetCounts.{count_in, live_count}
 use Rattle.upd_apply.specs.Applying.{touched}
-use Rattle.upd_change.specs.Rows.{same_ref}
+use Rattle.upd_records.specs.Rows.{same_ref}
 
 -- Kept statuses by card and counts by target, and how many cards the last settling looked at.
 pub record CacheView : Type 0 where

@@ -3,8 +3,8 @@ use Rattle.std.specs.Prelude.{ℕ, ◌==◌, Bool, not, ◌&&◌, if◌then◌el
 use Rattle.std.specs.List.{flat_map}
 use Rattle.upd_text.specs.declared.card_ref.CardRef.{CardRef}
 use Rattle.upd_core.specs.declared.target.Target.{Target}
-use Rattle.upd_change.specs.Changes.{ChangeView, IdentNew, IdentPurged, CardNew, CardGone, CardsMoved, EntryNew, EntriesGone, TargetNew, TargetsGone}
-use Rattle.upd_change.specs.Changes.{StatusNow, CountNow}
+use Rattle.upd_records.specs.Changes.{ChangeView, IdentNew, IdentPurged, CardNew, CardGone, CardsMoved, EntryNew, EntriesGone, TargetNew, TargetsGone}
+use Rattle.upd_records.specs.Changes.{StatusNow, CountNow}
 use Rattle.upd_core.specs.TargetCounts.{count_in}
 use Rattle.upd_yank.specs.Affected.{is_other}
 use Rattle.upd_yank.specs.Right.{kept_status}

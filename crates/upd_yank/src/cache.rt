@@ -9,9 +9,9 @@ ghost use Rattle.upd_core.specs.Sound.{IsSound};
 ghost use Rattle.upd_core.specs.TargetCounts.{count_in};
 ghost use Rattle.upd_text.specs.Faults.{fault_at};
 ghost use Rattle.upd_text.specs.declared.fault.FaultKind.TheVariants.{NoMemory};
-ghost use Rattle.upd_change.specs.Changes.{change_seen, done_all};
-ghost use Rattle.upd_change.specs.Rows.{Rows, ShowsStates};
-ghost use Rattle.upd_change.specs.States.{TakeGone, tells_state};
+ghost use Rattle.upd_records.specs.Changes.{change_seen, done_all};
+ghost use Rattle.upd_records.specs.Rows.{Rows, ShowsStates};
+ghost use Rattle.upd_diff.specs.States.{TakeGone, tells_state};
 ghost use Rattle.upd_yank.specs.Affected.{affected, altered};
 ghost use Rattle.upd_yank.specs.Enough.{IsEnough};
 ghost use Rattle.upd_yank.specs.Renewed.{renewed};
@@ -25,8 +25,7 @@ use crate::touched::Touched;
 use std::alloc::{AllocError, Global};
 use std::marker::Model;
 use upd_apply::Applied;
-use upd_change::Change;
-use upd_core::{Actives, CardRef, Counted, Fault, Library, States, Target, TargetCounts};
+use upd_core::{Actives, CardRef, Change, Counted, Fault, Library, States, Target, TargetCounts};
 
 /// Statuses of cards and the counts of all targets: those of a whole library, or of the cards that were loaded for a
 /// run.

@@ -19,7 +19,7 @@ ghost use Rattle.upd_yank.specs.Right.{AreCountable, kept_status, was_active};
 use crate::statuses::Statuses;
 use crate::touched::Touched;
 use std::alloc::{AllocError, Global};
-use upd_core::{Age, CardRef, Counted, CountedCard, Entry, Target, TargetCounts};
+use upd_core::{CardRef, Counted, CountedCard, Entry, Serial, Target, TargetCounts};
 
 /// What is known before the cascade.
 #[derive(Drop)]
@@ -37,14 +37,14 @@ pub(crate) struct Found {
 }
 
 /// Whether an ident is taken in a deck.
-fn is_taken(counts: &TargetCounts, deck: Age, ident: Age) -> bool
+fn is_taken(counts: &TargetCounts, deck: Serial, ident: Serial) -> bool
     ensures { result ≡ is_taken_by (count_in counts.now) deck ident }
 {
     counts.of(Target::Set(ident)) != 0 || counts.of(Target::SetIn(ident, deck)) != 0
 }
 
 /// Whether a history stays on in a deck.
-fn stays_on(counts: &TargetCounts, deck: Age, history: &[Entry]) -> bool
+fn stays_on(counts: &TargetCounts, deck: Serial, history: &[Entry]) -> bool
     ensures { result ≡ stays_on (is_taken_by (count_in counts.now) deck) history.now }
 {
     for i in (0..history.len()).rev() {

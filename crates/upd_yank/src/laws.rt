@@ -5,7 +5,7 @@ ghost use Rattle.std.specs.List.{AllByRecursion, Contains, filter};
 ghost use Rattle.upd_apply.specs.Applying.{touched};
 ghost use Rattle.upd_core.specs.declared.target.Target.{Target};
 ghost use Rattle.upd_core.specs.Actives.{actives_of};
-ghost use Rattle.upd_core.specs.Ages.{Age};
+ghost use Rattle.upd_core.specs.Serials.{Serial};
 ghost use Rattle.upd_core.specs.Counted.{counted_card};
 ghost use Rattle.upd_core.specs.Library.{CardView, DeckView, LibraryView, all_decks, ref_of};
 ghost use Rattle.upd_core.specs.Reach.{covers, is_flipped, is_reached};
@@ -49,7 +49,7 @@ pub fn what_flipped_covers_is_reached()
 /// By a cache that is right for the library that a run has reached, the active cards renewed from a part of it and
 /// from those of the library before are those of the library reached, where the decks left out are as before.
 pub fn renewed_active_cards_are_those_reached()
-    ensures { (out : Age → Bool) (old new : LibraryView) (cache : CacheView) → IsSound old → IsSound new → IsWhole new
+    ensures { (out : Serial → Bool) (old new : LibraryView) (cache : CacheView) → IsSound old → IsSound new → IsWhole new
         → IsRight new cache → AllByRecursion (IsAsBefore old new) (filter (λ d. out d.ident) new.decks)
         → renewed cache.states (part out new) (actives_of old) ≡ actives_of new }
 {}

@@ -12,7 +12,7 @@ use crate::statuses::Statuses;
 use std::alloc::{AllocError, Global};
 use upd_core::card::card_ref;
 use upd_core::deck::deck_aged;
-use upd_core::{ActiveDeck, Actives, Age, Card, Deck, Ident, Library};
+use upd_core::{ActiveDeck, Actives, Card, Deck, Ident, Library, Serial};
 
 /// Each held deck of a directory: anew where a part has it, else as it was.
 pub(crate) fn renewed_decks(
@@ -68,7 +68,7 @@ fn push_aged(
     statuses: &Statuses,
     part: &Library,
     before: &Actives,
-    age: Age,
+    age: Serial,
 ) -> Result<(), AllocError>
     ensures { OnOk result (decks.new.items ≡ decks.old.items ++ deck_of_age statuses.now part.now before.now age) }
 {
@@ -82,7 +82,7 @@ fn push_aged(
     Ok(())
 }
 
-fn active_deck_aged(decks: &[ActiveDeck], age: Age) -> Option<&ActiveDeck>
+fn active_deck_aged(decks: &[ActiveDeck], age: Serial) -> Option<&ActiveDeck>
     ensures { option_copied result ≡ find (is_active_deck age) decks.now }
 {
     for deck in decks {

@@ -4,7 +4,7 @@ ghost use Rattle.std.specs.Prelude.{◌≡◌, [], None, Some, if◌then◌else�
 ghost use Rattle.std.specs.Map.{update_all};
 ghost use Rattle.std.specs.List.{list_any};
 ghost use Rattle.std.specs.Option.{option_or};
-ghost use Rattle.upd_change.specs.Rows.{same_ref};
+ghost use Rattle.upd_records.specs.Rows.{same_ref};
 ghost use Rattle.upd_text.specs.declared.card_ref.CardRef.{CardRef};
 ghost use Rattle.upd_yank.specs.Right.{kept_status};
 

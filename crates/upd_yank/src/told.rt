@@ -3,7 +3,7 @@
 
 ghost use Rattle.std.specs.Prelude.{◌≡◌, ◌++◌, Some, map, IfOk, OnOk};
 ghost use Rattle.std.specs.List.{flat_map};
-ghost use Rattle.upd_change.specs.Changes.{change_seen};
+ghost use Rattle.upd_records.specs.Changes.{change_seen};
 ghost use Rattle.upd_core.specs.TargetCounts.{count_in};
 ghost use Rattle.upd_yank.specs.Affected.{is_other};
 ghost use Rattle.upd_yank.specs.Right.{kept_status};
@@ -13,8 +13,7 @@ ghost use Rattle.upd_yank.specs.Told.{statuses_told, zero_told};
 use crate::cascade::{AfterSettling, Before};
 use crate::statuses::Statuses;
 use std::alloc::{AllocError, Global};
-use upd_change::Change;
-use upd_core::{CardRef, Target, TargetCounts};
+use upd_core::{CardRef, Change, Target, TargetCounts};
 
 /// What a settling tells, once the changes of its run are carried out.
 pub(crate) fn tell(

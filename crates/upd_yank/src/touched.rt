@@ -2,7 +2,7 @@
 
 ghost use Rattle.std.specs.Prelude.{◌≡◌, ◌||◌, [], OnOk, IfOk};
 ghost use Rattle.std.specs.List.{list_any};
-ghost use Rattle.upd_change.specs.Rows.{same_ref};
+ghost use Rattle.upd_records.specs.Rows.{same_ref};
 ghost use Rattle.upd_text.specs.declared.card_ref.CardRef.{CardRef};
 
 use std::alloc::{AllocError, Global};

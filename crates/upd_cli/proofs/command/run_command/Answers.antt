@@ -2,7 +2,7 @@ use Rattle.std.proofs.Common.{◌≡◌, inl, inr, arith, ℕ, List, codes, map,
 use Rattle.clap.specs.Words.{Text}
 use Rattle.upd_compile.specs.Modes.{mode_named}
 use Rattle.std.proofs.KnownBytes.{Appends-nil}
-use Rattle.upd_streams.proofs.InputLemmas.{some_input}
+use Rattle.upd_io.proofs.InputLemmas.{some_input}
 use Rattle.upd_text.specs.declared.fault.Fault.{Fault}
 use Rattle.upd_cli.specs.Command.{Answers, IsTold, answer_to}
 use Rattle.upd_cli.specs.Status.{exit_status, fault_line}

@@ -1,5 +1,5 @@
 use Rattle.std.proofs.Common.{inl, inr, Err, sym, ◌∙◌}
-use Rattle.upd_streams.specs.Numbers.{number_of}
+use Rattle.upd_io.specs.Numbers.{number_of}
 use Rattle.upd_cli.proofs.LeavingLemmas.{unopened_tells_nothing, number_read}
 use Rattle.upd_cli.proofs.library.settle_on.Goals as goal
 

@@ -2,8 +2,8 @@
 use Rattle.std.proofs.Common.{◌<◌, ◌≤◌, None, Some, Ok, Err, ap, sym, ◌∙◌, subst}
 use Rattle.std.proofs.lemmas.Bool.{false≢true}
 use Rattle.upd_core.specs.Library.{empty}
-use Rattle.upd_rows.specs.Tables.{mark_at, run_at}
-use Rattle.upd_rows.proofs.StoreLemmas.{keeps_keeps}
+use Rattle.upd_row_store.specs.Tables.{mark_at, run_at}
+use Rattle.upd_row_store.proofs.StoreLemmas.{keeps_keeps}
 use Rattle.upd_desk.proofs.ArrivesLemmas.{asked, changed_keeps, keeps_arrives, keeps_new, loses, loses_new, lost_kind}
 use Rattle.upd_desk.proofs.ArrivesLemmas.{refuses_at_door, refuses_changed, refuses_settled, tells_kept, unstored}
 use Rattle.upd_desk.proofs.LoadingLemmas.{none_read_again}

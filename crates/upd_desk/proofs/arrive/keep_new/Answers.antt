@@ -1,6 +1,6 @@
 -- A new run is kept by the commit alone: its changes lead the tables to what the run makes of them.
 use Rattle.std.proofs.Common.{ap, map, sym}
-use Rattle.upd_change.specs.Changes.{change_seen}
+use Rattle.upd_records.specs.Changes.{change_seen}
 use Rattle.upd_desk.proofs.LeadLemmas.{outcome_adds}
 use Rattle.upd_desk.proofs.LoadingLemmas.{read_no_more}
 use Rattle.upd_desk.proofs.StoreLemmas.{commit_as_run, commit_becomes, lost_memory}

@@ -1,6 +1,6 @@
 -- The decks that hold a card are those where it is found, and there is one at most.
 use Rattle.std.proofs.Common.{[], ◌∷◌, refl, arith}
-use Rattle.upd_rows.specs.Asked.{decks_with}
+use Rattle.upd_row_store.specs.Asked.{decks_with}
 use Rattle.upd_desk.proofs.ListedLemmas.{card_listed}
 use Rattle.upd_desk.proofs.LoadingLemmas.{asked_read}
 use Rattle.upd_desk.proofs.QueryLemmas.{of_held}

@@ -1,7 +1,7 @@
 -- Where all cards that are named stand in decks, none is a yank card, and these decks are loaded.
 use Rattle.std.proofs.Common.{ap, sym, ◌∙◌}
 use Rattle.std.specs.List.{list_any}
-use Rattle.upd_parts.specs.Needed.{is_yank_card}
+use Rattle.upd_partial.specs.Needed.{is_yank_card}
 use Rattle.upd_desk.proofs.LoadingLemmas.{named_loaded, needed_read, needs_standing, still_read}
 use Rattle.upd_desk.proofs.StandingLemmas.{standing_no_yanks}
 use Rattle.upd_desk.proofs.StoreLemmas.{lost_memory}

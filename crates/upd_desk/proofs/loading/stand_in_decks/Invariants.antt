@@ -1,10 +1,10 @@
 use Rattle.std.proofs.Common.{◌≡◌, true, take}
 use Rattle.std.specs.List.{list_all}
-use Rattle.upd_change.specs.Rows.{Rows, Shows}
+use Rattle.upd_records.specs.Rows.{Rows, Shows}
 use Rattle.upd_core.specs.Library.{LibraryView}
 use Rattle.upd_desk.specs.Made.{IsMade}
 use Rattle.upd_desk.specs.Needed.{stands_in_deck}
-use Rattle.upd_rows.specs.Keeping.{Keeps}
+use Rattle.upd_row_store.specs.Keeping.{Keeps}
 use Rattle.upd_desk.proofs.loading.stand_in_decks.Given as goal
 
 abbrev pub invariant-loop-card : goal.invariant-loop-card

@@ -2,7 +2,7 @@
 use Rattle.std.proofs.Common.{◌≤◌, length, map, refl, ap, sym, ◌∙◌, subst}
 use Rattle.upd_core.specs.Counted.{CountedView}
 use Rattle.upd_core.specs.Library.{LibraryView}
-use Rattle.upd_change.specs.Changes.{change_seen}
+use Rattle.upd_records.specs.Changes.{change_seen}
 use Rattle.upd_yank.specs.Affected.{altered}
 use Rattle.upd_yank.specs.Enough.{IsEnough}
 use Rattle.upd_desk.specs.Outcomes.{Compiled}

@@ -1,6 +1,6 @@
 -- Each way out of a settlement is what is owed to it.
 use Rattle.std.proofs.Common.{sym}
-use Rattle.upd_rows.proofs.StoreLemmas.{keeps_still}
+use Rattle.upd_row_store.proofs.StoreLemmas.{keeps_still}
 use Rattle.upd_desk.proofs.SettlesLemmas.{loses_key, loses_settling, refuses_key, settles_after, tells_mark}
 use Rattle.upd_desk.proofs.settle.settle_at.Goals as goal
 

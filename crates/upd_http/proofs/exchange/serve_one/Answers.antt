@@ -1,6 +1,6 @@
 use Rattle.std.proofs.Common.{◌++◌, ap, ap₂, ◌∙◌, subst, None, Ok, Err, inl, inr, refl, List, ℕ}
 use Rattle.std.proofs.KnownBytes.{Appends-nil}
-use Rattle.upd_streams.proofs.InputLemmas.{some_input}
+use Rattle.upd_io.proofs.InputLemmas.{some_input}
 use Rattle.upd_http.specs.Serving.{Puts, no_memory}
 use Rattle.upd_http.specs.Views.{response}
 use Rattle.upd_http.proofs.exchange.serve_one.Goals as goal

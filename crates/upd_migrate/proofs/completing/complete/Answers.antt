@@ -1,5 +1,5 @@
 use Rattle.sqlite.specs.Held.{state}
-use Rattle.upd_tables.specs.Stored.{HoldsAllRows}
+use Rattle.upd_sqlite.specs.Stored.{HoldsAllRows}
 use Rattle.upd_sql.specs.Making.{no_rows}
 use Rattle.upd_sql.specs.Stands.{Stands}
 use Rattle.upd_sql.proofs.MakingLemmas.{leads_stop, leads_then, opened_before}

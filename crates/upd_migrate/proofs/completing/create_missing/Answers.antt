@@ -1,6 +1,6 @@
 use Rattle.std.proofs.Common.{[], ◌∷◌, ◌++◌, sym, subst}
 use Rattle.sqlite.specs.Held.{state}
-use Rattle.upd_tables.specs.Stored.{HoldsAllRows}
+use Rattle.upd_sqlite.specs.Stored.{HoldsAllRows}
 use Rattle.upd_sql.specs.Making.{schema_up_to, Leads}
 use Rattle.upd_sql.proofs.MakingLemmas.{leads_stop, leads_then}
 use Rattle.upd_migrate.specs.declared.version.Version.TheVariants.{First, Second}

@@ -1,6 +1,6 @@
 use Rattle.std.proofs.Common.{[], ◌∷◌, ◌++◌}
 use Rattle.sqlite.specs.Held.{state}
-use Rattle.upd_tables.specs.Stored.{HoldsAllRows}
+use Rattle.upd_sqlite.specs.Stored.{HoldsAllRows}
 use Rattle.upd_sql.specs.Making.{schema_up_to}
 use Rattle.upd_sql.proofs.MakingLemmas.{leads_stop, leads_then, makes_states, makes_counts}
 use Rattle.upd_migrate.proofs.completing.create_states.Goals as goal

@@ -1,6 +1,6 @@
 use Rattle.std.proofs.Common.{Ok, refl, sym, subst}
 use Rattle.sqlite.specs.Held.{state}
-use Rattle.upd_tables.specs.Stored.{HoldsAllRows}
+use Rattle.upd_sqlite.specs.Stored.{HoldsAllRows}
 use Rattle.upd_sql.specs.Making.{Leads}
 use Rattle.upd_sql.specs.Stands.{Stands}
 use Rattle.upd_migrate.specs.declared.version.Version.TheVariants.{First}

@@ -1,9 +1,9 @@
 use Rattle.std.proofs.Common.{List, map, subst}
 use Rattle.sqlite.specs.Held.{state}
-use Rattle.upd_change.specs.declared.change.Change.{Change}
-use Rattle.upd_change.specs.Changes.{change_seen, done_all}
-use Rattle.upd_change.specs.Fits.{AllFit}
-use Rattle.upd_tables.specs.Steps.{Makes}
+use Rattle.upd_core.specs.declared.change.Change.{Change}
+use Rattle.upd_records.specs.Changes.{change_seen, done_all}
+use Rattle.upd_records.specs.Fits.{AllFit}
+use Rattle.upd_sqlite.specs.Steps.{Makes}
 use Rattle.upd_sql.specs.Stands.{Stands}
 use Rattle.upd_migrate.proofs.Filled.{states_filled}
 use Rattle.upd_migrate.proofs.filling.fill_states.Goals as goal

@@ -1,7 +1,7 @@
 use Rattle.std.proofs.Common.{sym, ap, ◌∙◌}
 use Rattle.sqlite.specs.Held.{state}
 use Rattle.sqlite.specs.Effect.{Database}
-use Rattle.upd_tables.proofs.Chains.{clean_before}
+use Rattle.upd_sqlite.proofs.Chains.{clean_before}
 use Rattle.upd_migrate.proofs.Migrates.{any_leaves, migrates_any}
 use Rattle.upd_migrate.proofs.migrating.migrate.Goals as goal
 

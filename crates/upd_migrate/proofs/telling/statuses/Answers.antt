@@ -2,10 +2,10 @@ use Rattle.std.proofs.Common.{◌≡◌, ◌<◌, ◌^◌, map, length, ap, sym,
 use Rattle.upd_core.specs.Counted.{CountedView}
 use Rattle.upd_core.specs.Library.{LibraryView, empty}
 use Rattle.upd_core.specs.Sound.{AreApart, IsSound, all_cards, key_of}
-use Rattle.upd_change.specs.Changes.{change_seen, done_all}
-use Rattle.upd_change.specs.Rows.{ShowsStates}
-use Rattle.upd_change.specs.States.{TakeGone}
-use Rattle.upd_change.specs.Touched.{touched}
+use Rattle.upd_records.specs.Changes.{change_seen, done_all}
+use Rattle.upd_records.specs.Rows.{ShowsStates}
+use Rattle.upd_diff.specs.States.{TakeGone}
+use Rattle.upd_diff.specs.Touched.{touched}
 use Rattle.upd_laws.proofs.SoundRunLemmas.{empty_sound}
 use Rattle.upd_yank.specs.Right.{IsRight}
 use Rattle.upd_migrate.proofs.Told.{between, enough, none_gone, shows_nothing}

@@ -1,5 +1,5 @@
 use Rattle.std.proofs.Common.{rules, ◌≡◌, ◌++◌, length, ap, ◌∙◌, arith}
-use Rattle.upd_streams.proofs.InputLemmas.{input_behind, some_input}
+use Rattle.upd_io.proofs.InputLemmas.{input_behind, some_input}
 use Rattle.upd_request.proofs.RequestLemmas.{whole_body}
 use Rattle.upd_request.proofs.request.read_body.Goals as goal
 

@@ -1,7 +1,7 @@
 use Rattle.std.proofs.Common.{ap, sym, ◌∙◌, subst, drop, List, ℕ, ◌++◌, Ok, Err, Vec, Global}
 use Rattle.std.proofs.lemmas.List.{take_rest}
 use Rattle.httparse.specs.Spans.{IsRequestAt}
-use Rattle.upd_streams.proofs.InputLemmas.{input_behind, some_input}
+use Rattle.upd_io.proofs.InputLemmas.{input_behind, some_input}
 use Rattle.upd_request.specs.Calls.{asked}
 use Rattle.upd_request.specs.Views.{wanted_seen}
 use Rattle.upd_request.proofs.RequestLemmas.{HasRead, body_refused, call_read, head_refused, wanted_refused}

@@ -1,8 +1,8 @@
 use Rattle.std.proofs.Common.{List, map, take, Ok, sym, subst, ◌∙◌}
 use Rattle.sqlite.specs.Held.{state}
-use Rattle.upd_change.specs.Changes.{ChangeView, done_all, change_seen}
-use Rattle.upd_change.specs.Fits.{AllFit}
-use Rattle.upd_tables.specs.Steps.{Makes}
+use Rattle.upd_records.specs.Changes.{ChangeView, done_all, change_seen}
+use Rattle.upd_records.specs.Fits.{AllFit}
+use Rattle.upd_sqlite.specs.Steps.{Makes}
 use Rattle.upd_sql.specs.Sizes.{SizedAll}
 use Rattle.upd_sql.specs.Stands.{Stands}
 use Rattle.upd_sql.proofs.SizeLemmas.{one_sized}

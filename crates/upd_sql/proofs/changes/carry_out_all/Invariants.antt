@@ -1,8 +1,8 @@
 use Rattle.std.proofs.Common.{◌≡◌, map, take, Ok}
 use Rattle.sqlite.specs.Held.{state}
-use Rattle.upd_change.specs.Changes.{done_all, change_seen}
-use Rattle.upd_change.specs.Fits.{AllFit}
-use Rattle.upd_tables.specs.Steps.{Makes}
+use Rattle.upd_records.specs.Changes.{done_all, change_seen}
+use Rattle.upd_records.specs.Fits.{AllFit}
+use Rattle.upd_sqlite.specs.Steps.{Makes}
 use Rattle.upd_sql.specs.Sizes.{SizedAll}
 use Rattle.upd_sql.specs.Stands.{Stands}
 use Rattle.upd_sql.proofs.changes.carry_out_all.Given as goal

@@ -1,5 +1,5 @@
 use Rattle.sqlite.specs.Held.{state}
-use Rattle.upd_change.specs.Changes.{done, CardGone}
+use Rattle.upd_records.specs.Changes.{done, CardGone}
 use Rattle.upd_sql.specs.RowEdits.{without_card, without_state}
 use Rattle.upd_sql.specs.Stands.{AnyTables, Stands}
 use Rattle.upd_sql.proofs.Typed.{makes_both}

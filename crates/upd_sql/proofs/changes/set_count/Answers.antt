@@ -1,8 +1,8 @@
 use Rattle.std.proofs.Common.{◌≡◌, ne_eqb, refl}
 use Rattle.sqlite.specs.Held.{state}
-use Rattle.upd_change.specs.Changes.{done, CountNow}
-use Rattle.upd_change.specs.Rows.{Rows}
-use Rattle.upd_tables.proofs.Chains.{makes_as}
+use Rattle.upd_records.specs.Changes.{done, CountNow}
+use Rattle.upd_records.specs.Rows.{Rows}
+use Rattle.upd_sqlite.proofs.Chains.{makes_as}
 use Rattle.upd_sql.specs.RowEdits.{with_count, without_count}
 use Rattle.upd_sql.specs.Stands.{Stands, AnyTables}
 use Rattle.upd_sql.proofs.Typed.{makes_both}

@@ -2,11 +2,11 @@ use Rattle.std.proofs.Common.{◌≡◌, IsTrue, Ok, not, true, map, refl, sym, 
 use Rattle.sqlite.specs.Held.{state}
 use Rattle.sqlite.specs.State.{HasCleanDisk, Survives}
 use Rattle.sqlite.proofs.Callers.{survives_begin}
-use Rattle.upd_change.specs.Changes.{change_seen, done_all}
-use Rattle.upd_change.specs.Fits.{AllFit}
-use Rattle.upd_rows.specs.Tables.{committed, with_run}
-use Rattle.upd_tables.specs.Steps.{Makes}
-use Rattle.upd_tables.proofs.Chains.{clean_before, makes_then, makes_as}
+use Rattle.upd_records.specs.Changes.{change_seen, done_all}
+use Rattle.upd_records.specs.Fits.{AllFit}
+use Rattle.upd_row_store.specs.Tables.{committed, with_run}
+use Rattle.upd_sqlite.specs.Steps.{Makes}
+use Rattle.upd_sqlite.proofs.Chains.{clean_before, makes_then, makes_as}
 use Rattle.upd_sql.specs.Commits.{MayCommit}
 use Rattle.upd_sql.specs.Sizes.{AnySizes, HasSizes, HoldsSizes, SizedAll, TakeNone, sized_all}
 use Rattle.upd_sql.specs.Stands.{Stands, AnyTables}

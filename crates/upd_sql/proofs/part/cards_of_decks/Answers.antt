@@ -1,8 +1,8 @@
 use Rattle.std.proofs.Common.{filter, sym, subst}
 use Rattle.sqlite.specs.Held.{state}
-use Rattle.upd_change.specs.Rows.{IsSame}
-use Rattle.upd_change.proofs.CountLemmas.{same_filter}
-use Rattle.upd_rows.specs.PartRows.{is_loaded}
+use Rattle.upd_records.specs.Rows.{IsSame}
+use Rattle.upd_records.proofs.CountLemmas.{same_filter}
+use Rattle.upd_row_store.specs.PartRows.{is_loaded}
 use Rattle.upd_sql.specs.Listed.{AreInOrder, by_place}
 use Rattle.upd_sql.proofs.WholeLemmas.{looks_as}
 use Rattle.upd_sql.proofs.part.cards_of_decks.Goals as goal

@@ -1,8 +1,8 @@
 use Rattle.std.proofs.Common.{◌≡◌, [], ◌++◌, arith, map, filter, take, Ok, ◌∙◌, sym, ap, subst}
 use Rattle.std.proofs.lemmas.List.{take_all}
 use Rattle.sqlite.specs.Held.{state}
-use Rattle.upd_change.specs.Rows.{CardRow, same_ref}
-use Rattle.upd_rows.specs.Asked.{AreDecksOf}
+use Rattle.upd_records.specs.Rows.{CardRow, same_ref}
+use Rattle.upd_row_store.specs.Asked.{AreDecksOf}
 use Rattle.upd_sql.specs.Commits.{Looks}
 use Rattle.upd_sql.specs.Listed.{AreInOrder, in_any_order}
 use Rattle.upd_sql.proofs.PartLemmas.{decks_next, no_decks}

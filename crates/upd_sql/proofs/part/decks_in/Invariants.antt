@@ -1,6 +1,6 @@
 use Rattle.std.proofs.Common.{◌≡◌, take, Ok}
 use Rattle.sqlite.specs.Held.{state}
-use Rattle.upd_rows.specs.Asked.{AreDecksOf}
+use Rattle.upd_row_store.specs.Asked.{AreDecksOf}
 use Rattle.upd_sql.specs.Commits.{Looks}
 use Rattle.upd_sql.proofs.part.decks_in.Given as goal
 

@@ -1,6 +1,6 @@
 use Rattle.std.proofs.Common.{map, filter}
 use Rattle.sqlite.specs.Held.{state}
-use Rattle.upd_change.specs.Rows.{CardRow, same_ref}
+use Rattle.upd_records.specs.Rows.{CardRow, same_ref}
 use Rattle.upd_sql.specs.Listed.{in_any_order}
 use Rattle.upd_sql.proofs.Texts as text
 use Rattle.upd_sql.proofs.PartLemmas.{decks_listed}

@@ -2,8 +2,8 @@ use Rattle.std.proofs.Common.{filter, sym, subst}
 use Rattle.std.specs.BTreeSet as sorted
 use Rattle.sqlite.specs.Held.{state}
 use Rattle.upd_text.specs.Order.{by_name}
-use Rattle.upd_change.specs.Rows.{EntryRow, IsSame}
-use Rattle.upd_rows.specs.Asked.{is_asked}
+use Rattle.upd_records.specs.Rows.{EntryRow, IsSame}
+use Rattle.upd_row_store.specs.Asked.{is_asked}
 use Rattle.upd_sql.specs.Part.{is_of_ident}
 use Rattle.upd_sql.proofs.PartLemmas.{rows_kept}
 use Rattle.upd_sql.proofs.WholeLemmas.{looks_as}

@@ -1,7 +1,7 @@
 use Rattle.std.proofs.Common.{Bool, rules}
 use Rattle.std.proofs.lemmas.Fn.{filter_same}
-use Rattle.upd_change.specs.Rows.{CardRow}
-use Rattle.upd_rows.specs.PartRows.{is_loaded}
+use Rattle.upd_records.specs.Rows.{CardRow}
+use Rattle.upd_row_store.specs.PartRows.{is_loaded}
 use Rattle.upd_sql.proofs.part.keep_cards.Goals as goal
 
 pub returns : goal.returns

@@ -2,7 +2,7 @@ use Rattle.std.proofs.Common.{Bool, rules}
 use Rattle.std.proofs.lemmas.Fn.{filter_same}
 use Rattle.std.specs.BTreeSet as sorted
 use Rattle.upd_text.specs.Order.{by_name}
-use Rattle.upd_change.specs.Rows.{EntryRow}
+use Rattle.upd_records.specs.Rows.{EntryRow}
 use Rattle.upd_sql.proofs.part.keep_entries.Goals as goal
 
 pub returns : goal.returns

@@ -5,7 +5,7 @@ use Rattle.std.specs.Cmp.Lexicographic.{slice_cmp}
 use Rattle.std.specs.Ordering.{nat_cmp}
 use Rattle.std.specs.Str.{bytes_eq}
 use Rattle.sqlite.specs.Held.{state}
-use Rattle.upd_change.specs.Rows.{IsSame}
+use Rattle.upd_records.specs.Rows.{IsSame}
 use Rattle.upd_sql.specs.Commits.{Looks}
 use Rattle.upd_sql.specs.Listed.{AreInOrder, in_any_order}
 use Rattle.upd_sql.specs.Part.{is_of_ident}

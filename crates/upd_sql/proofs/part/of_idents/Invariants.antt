@@ -3,7 +3,7 @@ use Rattle.sqlite.specs.Given.{IsPlain}
 use Rattle.sqlite.specs.Held.{state}
 use Rattle.sqlite.specs.Listing.{understood}
 use Rattle.upd_text.specs.declared.card_ref.CardRef.{CardRef}
-use Rattle.upd_change.specs.Rows.{IsSame, Rows}
+use Rattle.upd_records.specs.Rows.{IsSame, Rows}
 use Rattle.upd_sql.specs.Commits.{Looks}
 use Rattle.upd_sql.specs.Part.{AnswersIdents, is_of_ident}
 use Rattle.upd_sql.specs.Schema.{library_schema}

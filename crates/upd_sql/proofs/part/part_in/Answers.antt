@@ -1,7 +1,7 @@
 use Rattle.std.proofs.Common.{Ok}
 use Rattle.sqlite.specs.Held.{state}
-use Rattle.upd_rows.specs.Assembling.{AreRowsOf}
-use Rattle.upd_rows.specs.PartRows.{part_rows}
+use Rattle.upd_row_store.specs.Assembling.{AreRowsOf}
+use Rattle.upd_row_store.specs.PartRows.{part_rows}
 use Rattle.upd_sql.specs.Part.{IsPart}
 use Rattle.upd_sql.specs.Sizes.{AreRightIfKnown, AreSizesOf}
 use Rattle.upd_sql.proofs.WholeLemmas.{looks_as, looks_then}

@@ -1,9 +1,9 @@
 use Rattle.std.proofs.Common.{filter, map, Ok, ap, ◌∙◌}
 use Rattle.sqlite.specs.Held.{state}
-use Rattle.upd_change.specs.Rows.{CardRow, EntryRow, IsSame}
-use Rattle.upd_rows.specs.Asked.{is_asked}
-use Rattle.upd_rows.specs.Assembling.{AreRowsOf}
-use Rattle.upd_rows.specs.PartRows.{is_loaded, part_rows}
+use Rattle.upd_records.specs.Rows.{CardRow, EntryRow, IsSame}
+use Rattle.upd_row_store.specs.Asked.{is_asked}
+use Rattle.upd_row_store.specs.Assembling.{AreRowsOf}
+use Rattle.upd_row_store.specs.PartRows.{is_loaded, part_rows}
 use Rattle.upd_sql.specs.Listed.{AreInOrder, by_age, by_target}
 use Rattle.upd_sql.proofs.PartLemmas.{entries_of_same}
 use Rattle.upd_sql.proofs.WholeLemmas.{looks_as, looks_then}

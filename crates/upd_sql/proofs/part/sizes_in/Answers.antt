@@ -1,7 +1,7 @@
 use Rattle.std.proofs.Common.{◌≡◌, length, ap, Ok, ◌∙◌}
 use Rattle.sqlite.specs.Held.{state}
 use Rattle.sqlite.specs.Effect.{Database}
-use Rattle.upd_tables.proofs.Chains.{clean_before}
+use Rattle.upd_sqlite.proofs.Chains.{clean_before}
 use Rattle.upd_sql.specs.Sizes.{AreSizesOf, entry_tree}
 use Rattle.upd_sql.proofs.WholeLemmas.{looks_as, looks_then}
 use Rattle.upd_sql.proofs.part.sizes_in.Goals as goal

@@ -1,5 +1,5 @@
 use Rattle.std.proofs.Common.{filter, ◌∙◌}
-use Rattle.upd_rows.specs.Tables.{is_mark_of}
+use Rattle.upd_row_store.specs.Tables.{is_mark_of}
 use Rattle.upd_sql.proofs.Finds.{first_is_mark, on_value}
 use Rattle.upd_sql.proofs.reads.mark_in.Goals as goal
 

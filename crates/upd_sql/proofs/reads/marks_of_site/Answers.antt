@@ -4,8 +4,8 @@ use Rattle.sqlite_value.specs.Order.{Row}
 use Rattle.sqlite.specs.declared.error.Error.{Error}
 use Rattle.sqlite.specs.Held.{state}
 use Rattle.sqlite.specs.State.{State, Shown}
-use Rattle.upd_change.specs.Rows.{Rows}
-use Rattle.upd_rows.specs.Tables.{is_mark_of}
+use Rattle.upd_records.specs.Rows.{Rows}
+use Rattle.upd_row_store.specs.Tables.{is_mark_of}
 use Rattle.upd_sql.specs.Encoded.{mark_row}
 use Rattle.upd_sql.specs.Stands.{Stands}
 use Rattle.upd_sql.proofs.Finds.{marks_found, untouched}

@@ -1,5 +1,5 @@
 use Rattle.std.proofs.Common.{filter, ◌∙◌}
-use Rattle.upd_rows.specs.Tables.{is_run}
+use Rattle.upd_row_store.specs.Tables.{is_run}
 use Rattle.upd_sql.proofs.Finds.{first_is_run, on_value}
 use Rattle.upd_sql.proofs.reads.run_in.Goals as goal
 

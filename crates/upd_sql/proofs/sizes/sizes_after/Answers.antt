@@ -1,5 +1,5 @@
 use Rattle.std.proofs.Common.{List, map, take, sym, subst}
-use Rattle.upd_change.specs.Changes.{ChangeView, change_seen}
+use Rattle.upd_records.specs.Changes.{ChangeView, change_seen}
 use Rattle.upd_sql.specs.Sizes.{LeadToSizes}
 use Rattle.upd_sql.proofs.SizeLemmas.{led_to}
 use Rattle.upd_sql.proofs.Turns.{seen_more}

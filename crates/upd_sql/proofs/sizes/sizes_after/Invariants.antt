@@ -1,5 +1,5 @@
 use Rattle.std.proofs.Common.{map, take}
-use Rattle.upd_change.specs.Changes.{change_seen}
+use Rattle.upd_records.specs.Changes.{change_seen}
 use Rattle.upd_sql.specs.Sizes.{LeadToSizes}
 use Rattle.upd_sql.proofs.sizes.sizes_after.Given as goal
 

@@ -1,9 +1,9 @@
 use Rattle.std.proofs.Common.{filter, map}
 use Rattle.sqlite.specs.Held.{state}
-use Rattle.upd_change.specs.Rows.{IsSame}
-use Rattle.upd_rows.specs.Asked.{is_asked}
-use Rattle.upd_rows.specs.Tables.{AreByKey, AreReadOf, count_pair, state_pair}
-use Rattle.upd_rows.proofs.AskedLemmas.{states_kept}
+use Rattle.upd_records.specs.Rows.{IsSame}
+use Rattle.upd_row_store.specs.Asked.{is_asked}
+use Rattle.upd_row_store.specs.Tables.{AreByKey, AreReadOf, count_pair, state_pair}
+use Rattle.upd_row_store.proofs.AskedLemmas.{states_kept}
 use Rattle.upd_sql.specs.Listed.{AreInOrder, in_any_order}
 use Rattle.upd_sql.proofs.WholeLemmas.{looks_more}
 use Rattle.upd_sql.proofs.statuses.card_states_in.Goals as goal

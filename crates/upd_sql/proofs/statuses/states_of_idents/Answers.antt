@@ -1,6 +1,6 @@
 use Rattle.std.proofs.Common.{map}
 use Rattle.sqlite.specs.Held.{state}
-use Rattle.upd_rows.specs.Tables.{state_pair}
+use Rattle.upd_row_store.specs.Tables.{state_pair}
 use Rattle.upd_sql.proofs.Texts as text
 use Rattle.upd_sql.proofs.PartLemmas.{ident_states_listed}
 use Rattle.upd_sql.proofs.statuses.states_of_idents.Goals as goal

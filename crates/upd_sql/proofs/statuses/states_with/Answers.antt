@@ -1,9 +1,9 @@
 use Rattle.std.proofs.Common.{Bool, filter, map, refl}
 use Rattle.sqlite.specs.Held.{state}
-use Rattle.upd_change.specs.Rows.{IsSame}
-use Rattle.upd_change.proofs.CountLemmas.{same_filter}
-use Rattle.upd_rows.specs.Asked.{is_asked}
-use Rattle.upd_rows.specs.Tables.{state_pair}
+use Rattle.upd_records.specs.Rows.{IsSame}
+use Rattle.upd_records.proofs.CountLemmas.{same_filter}
+use Rattle.upd_row_store.specs.Asked.{is_asked}
+use Rattle.upd_row_store.specs.Tables.{state_pair}
 use Rattle.upd_text.specs.declared.card_ref.CardRef.{CardRef}
 use Rattle.upd_sql.specs.Listed.{AreInOrder, in_any_order}
 use Rattle.upd_sql.specs.Part.{is_of_ident}

@@ -1,5 +1,5 @@
 use Rattle.std.proofs.Common.{map}
-use Rattle.upd_rows.specs.Tables.{count_pair}
+use Rattle.upd_row_store.specs.Tables.{count_pair}
 use Rattle.sqlite.specs.Held.{state}
 use Rattle.upd_sql.specs.Listed.{in_any_order}
 use Rattle.upd_sql.proofs.Texts as text

@@ -1,7 +1,7 @@
 use Rattle.std.proofs.Common.{subst}
 use Rattle.sqlite_value.specs.Order.{Row}
 use Rattle.sqlite.specs.Held.{state}
-use Rattle.upd_tables.specs.Steps.{Ran}
+use Rattle.upd_sqlite.specs.Steps.{Ran}
 use Rattle.upd_sql.specs.Encoded.{target_code}
 use Rattle.upd_sql.specs.RowEdits.{without_count}
 use Rattle.upd_sql.specs.Stands.{AnyTables}

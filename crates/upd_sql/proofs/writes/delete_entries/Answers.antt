@@ -1,5 +1,5 @@
 use Rattle.sqlite.specs.Held.{state}
-use Rattle.upd_change.specs.Changes.{done, EntriesGone}
+use Rattle.upd_records.specs.Changes.{done, EntriesGone}
 use Rattle.upd_sql.specs.Stands.{AnyTables, Stands}
 use Rattle.upd_sql.proofs.Conditions.{card_params}
 use Rattle.upd_sql.proofs.Typed.{makes_from}

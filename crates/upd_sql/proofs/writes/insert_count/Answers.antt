@@ -1,8 +1,8 @@
 use Rattle.std.proofs.Common.{[], ◌∷◌, ◌++◌, subst}
 use Rattle.sqlite_value.specs.Order.{Row}
 use Rattle.sqlite.specs.Held.{state}
-use Rattle.upd_tables.specs.Steps.{Ran}
-use Rattle.upd_change.specs.Rows.{CountRow}
+use Rattle.upd_sqlite.specs.Steps.{Ran}
+use Rattle.upd_records.specs.Rows.{CountRow}
 use Rattle.upd_sql.specs.Encoded.{num, count_row}
 use Rattle.upd_sql.specs.RowEdits.{with_count}
 use Rattle.upd_sql.specs.Stands.{AnyTables}

@@ -1,6 +1,6 @@
 use Rattle.sqlite.specs.Held.{state}
-use Rattle.upd_change.specs.Changes.{done, EntryNew}
-use Rattle.upd_change.specs.Rows.{EntryRow}
+use Rattle.upd_records.specs.Changes.{done, EntryNew}
+use Rattle.upd_records.specs.Rows.{EntryRow}
 use Rattle.upd_sql.specs.Encoded.{entry_row}
 use Rattle.upd_sql.specs.Stands.{AnyTables}
 use Rattle.upd_sql.proofs.Typed.{makes_from}

@@ -1,5 +1,5 @@
 use Rattle.sqlite.specs.Held.{state}
-use Rattle.upd_change.specs.Changes.{done, IdentNew}
+use Rattle.upd_records.specs.Changes.{done, IdentNew}
 use Rattle.upd_sql.specs.Encoded.{ident_row}
 use Rattle.upd_sql.specs.Stands.{AnyTables}
 use Rattle.upd_sql.proofs.Typed.{makes_from}

@@ -1,5 +1,5 @@
 use Rattle.sqlite.specs.Held.{state}
-use Rattle.upd_change.specs.Rows.{MarkRow}
+use Rattle.upd_records.specs.Rows.{MarkRow}
 use Rattle.upd_sql.specs.Encoded.{mark_row}
 use Rattle.upd_sql.specs.RowEdits.{with_mark}
 use Rattle.upd_sql.specs.Stands.{AnyTables}

@@ -1,8 +1,8 @@
 use Rattle.std.proofs.Common.{subst}
 use Rattle.sqlite.specs.Held.{state}
-use Rattle.upd_tables.specs.Steps.{Ran}
-use Rattle.upd_change.specs.Rows.{RunView}
-use Rattle.upd_rows.specs.Tables.{with_run}
+use Rattle.upd_sqlite.specs.Steps.{Ran}
+use Rattle.upd_records.specs.Rows.{RunView}
+use Rattle.upd_row_store.specs.Tables.{with_run}
 use Rattle.upd_sql.specs.Encoded.{run_row}
 use Rattle.upd_sql.specs.Stands.{AnyTables}
 use Rattle.upd_sql.proofs.Typed.{makes_from, makes_nothing}

@@ -1,5 +1,5 @@
 use Rattle.sqlite.specs.Held.{state}
-use Rattle.upd_change.specs.Rows.{StateRow}
+use Rattle.upd_records.specs.Rows.{StateRow}
 use Rattle.upd_sql.specs.Encoded.{state_row}
 use Rattle.upd_sql.specs.RowEdits.{with_state}
 use Rattle.upd_sql.specs.Stands.{AnyTables}

@@ -2,9 +2,9 @@ use Rattle.std.proofs.Common.{◌∷◌, subst}
 use Rattle.sqlite_value.specs.declared.value.Value.TheVariants.{Text}
 use Rattle.sqlite_value.specs.Order.{Row}
 use Rattle.sqlite.specs.Held.{state}
-use Rattle.upd_tables.specs.Steps.{Ran}
-use Rattle.upd_change.specs.Changes.{done, TargetNew}
-use Rattle.upd_change.specs.Rows.{TargetRow}
+use Rattle.upd_sqlite.specs.Steps.{Ran}
+use Rattle.upd_records.specs.Changes.{done, TargetNew}
+use Rattle.upd_records.specs.Rows.{TargetRow}
 use Rattle.upd_sql.specs.Encoded.{num, target_row}
 use Rattle.upd_sql.specs.Stands.{AnyTables}
 use Rattle.upd_sql.proofs.Typed.{makes_from}

@@ -1,7 +1,7 @@
 use Rattle.std.proofs.Common.{pos, [], ◌∷◌}
 use Rattle.sqlite.specs.Held.{state}
-use Rattle.upd_change.specs.Changes.{done, CardsMoved}
-use Rattle.upd_change.specs.Fits.{Fits}
+use Rattle.upd_records.specs.Changes.{done, CardsMoved}
+use Rattle.upd_records.specs.Fits.{Fits}
 use Rattle.upd_sql.specs.Encoded.{num}
 use Rattle.upd_sql.proofs.Typed.{makes_from, makes_nothing}
 use Rattle.upd_sql.proofs.Texts as text

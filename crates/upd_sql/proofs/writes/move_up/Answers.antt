@@ -1,8 +1,8 @@
 use Rattle.std.proofs.Common.{◌≡◌, ℕ, ◌+◌, ◌-◌, negsuc, [], ◌∷◌, subst, arith}
 use Rattle.sqlite.specs.Held.{state}
-use Rattle.upd_change.specs.Changes.{done, CardsMoved}
-use Rattle.upd_change.specs.Fits.{Fits}
-use Rattle.upd_tables.specs.Steps.{Ran}
+use Rattle.upd_records.specs.Changes.{done, CardsMoved}
+use Rattle.upd_records.specs.Fits.{Fits}
+use Rattle.upd_sqlite.specs.Steps.{Ran}
 use Rattle.upd_sql.specs.Encoded.{num}
 use Rattle.upd_sql.proofs.Typed.{makes_from, makes_nothing}
 use Rattle.upd_sql.proofs.Texts as text

@@ -1,6 +1,6 @@
 use Rattle.std.proofs.Common.{ap}
 use Rattle.upd_text.specs.declared.fault.Fault.{Fault}
-use Rattle.upd_rows.specs.Keeping.{OfStore}
+use Rattle.upd_row_store.specs.Keeping.{OfStore}
 use Rattle.upd_sqlite_tests.proofs.failing.store_failed.Goals as goal
 
 pub returns : goal.returns

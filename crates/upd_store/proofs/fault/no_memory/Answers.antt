@@ -1,6 +1,6 @@
 use Rattle.std.proofs.Common.{ap}
 use Rattle.upd_text.specs.declared.fault.Fault.{Fault}
-use Rattle.upd_rows.specs.Keeping.{OfMemory}
+use Rattle.upd_row_store.specs.Keeping.{OfMemory}
 use Rattle.upd_store.proofs.fault.no_memory.Goals as goal
 
 pub returns-clause-lost : goal.returns-clause-lost

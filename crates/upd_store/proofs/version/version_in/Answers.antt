@@ -3,7 +3,7 @@ use Rattle.sqlite_value.specs.Order.{Row}
 use Rattle.sqlite.specs.declared.error.Error.{Error}
 use Rattle.sqlite.specs.Held.{state}
 use Rattle.sqlite.specs.State.{State, Shown}
-use Rattle.upd_tables.proofs.Answers.{shown_was_open}
+use Rattle.upd_sqlite.proofs.Answers.{shown_was_open}
 use Rattle.upd_sql.specs.Encoded.{num}
 use Rattle.upd_store.specs.Version.{TellsVersion}
 use Rattle.upd_store.proofs.VersionLemmas.{version_shown, version_text}

@@ -1,5 +1,5 @@
 use Rattle.std.proofs.Common.{◌≡◌, ◌++◌, map, drop}
-use Rattle.upd_change.specs.Changes.{change_seen}
+use Rattle.upd_records.specs.Changes.{change_seen}
 use Rattle.upd_yank.specs.Right.{kept_status}
 use Rattle.upd_yank.specs.Told.{all_again_told}
 use Rattle.upd_yank.proofs.told.tell_again.Given as goal

@@ -1,6 +1,6 @@
 use Rattle.std.proofs.Common.{◌≡◌, ◌++◌, map, drop}
 use Rattle.std.specs.List.{flat_map}
-use Rattle.upd_change.specs.Changes.{change_seen}
+use Rattle.upd_records.specs.Changes.{change_seen}
 use Rattle.upd_core.specs.TargetCounts.{count_in}
 use Rattle.upd_yank.specs.Told.{count_told}
 use Rattle.upd_yank.proofs.told.tell_listed.Given as goal

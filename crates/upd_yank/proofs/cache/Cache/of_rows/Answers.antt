@@ -1,6 +1,6 @@
 use Rattle.std.proofs.Common.{None, refl, ap, ◌∙◌}
 use Rattle.std.specs.Map.{update_all}
-use Rattle.upd_change.specs.Rows.{same_ref}
+use Rattle.upd_records.specs.Rows.{same_ref}
 use Rattle.upd_core.specs.Status.{status_of}
 use Rattle.upd_core.specs.TargetCounts.{count_in, live_count}
 use Rattle.upd_yank.proofs.RowLemmas.{count_put, status_put}

@@ -1,8 +1,8 @@
 use Rattle.std.proofs.Common.{◌≡◌, true, map, ap, sym, ◌∙◌, subst, arith}
 use Rattle.std.specs.List.{list_any, AllByRecursion}
-use Rattle.upd_change.specs.Changes.{change_seen, done_all}
-use Rattle.upd_change.specs.Rows.{ShowsStates, same_ref}
-use Rattle.upd_change.specs.States.{tells_state}
+use Rattle.upd_records.specs.Changes.{change_seen, done_all}
+use Rattle.upd_records.specs.Rows.{ShowsStates, same_ref}
+use Rattle.upd_diff.specs.States.{tells_state}
 use Rattle.upd_yank.proofs.EnoughLemmas.{sees}
 use Rattle.upd_yank.proofs.OnlyLemmas.{settling_only}
 use Rattle.upd_yank.proofs.RightLemmas.{least_work, settled_right, settled_told}

@@ -1,6 +1,0 @@
-use Rattle.std.proofs.Common.{◌≡◌, drop}
-use Rattle.upd_change.specs.Touched.{stood_in}
-use Rattle.upd_change.proofs.touched.stood_in.Given as goal
-
-abbrev pub invariant-loop-old : goal.invariant-loop-old
-invariant-loop-old l = stood_in (drop l.old-index l.before) l.card ≡ stood_in l.before l.card

@@ -1,0 +1,19 @@
+use Rattle.std.proofs.Common.{◌≡◌, ◌≤◌, take, length}
+use Rattle.std.specs.List.{All}
+use Rattle.std.specs.Vec.{vec_capacity, vec_len}
+use Rattle.upd_desk.specs.Holding.{RunAll, HoldsIn, work_after_all}
+use Rattle.upd_desk.specs.Journal.{Journal}
+use Rattle.upd_desk.proofs.RunAllLemmas.{IsCounted}
+use Rattle.upd_desk.proofs.desk.Desk.run_all.Given as goal
+
+abbrev pub invariant-loop-arrival : goal.invariant-loop-arrival
+invariant-loop-arrival g l =
+    (length l.answers.items ≡ l.arrival-index)
+    × (vec_len l.answers ≡ l.arrival-index)
+    × (length l.list ≤ vec_capacity l.answers)
+    × RunAll g.S.RowStore.is_honest g.S.RowStore.is_open g.S.RowStore.image g.S.RowStore.shows g.S.RowStore.may_leave
+    g.S.RowStore.failures_of (take l.arrival-index l.list) l.answers.items l.initial.self.store l.self.store
+    × All (IsCounted (g.S.RowStore.failures_of l.initial.self.store) (g.S.RowStore.failures_of l.self.store)) l.answers.items
+    × (g.S.RowStore.is_honest l.self.store → (journal : Journal)
+    → (g.S.RowStore.is_open l.initial.self.store → HoldsIn g.S.RowStore.shows journal (g.S.RowStore.image l.initial.self.store))
+    → l.self.work ≡ work_after_all l.initial.self.work journal (take l.arrival-index l.list) l.answers.items)

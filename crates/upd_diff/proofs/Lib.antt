@@ -1,0 +1,14 @@
+pub mod GoneLemmas
+pub mod MoveLemmas
+pub mod ComeLemmas
+pub mod IdentLemmas
+pub mod ToldLemmas
+pub mod FateLemmas
+pub mod LoopLemmas
+pub mod LeadLemmas
+pub mod StateLemmas
+pub mod TellLemmas
+pub mod AllLemmas
+pub mod KindLemmas
+pub mod FitLemmas
+pub mod TouchedLemmas

@@ -1,0 +1,6 @@
+use Rattle.std.proofs.Common.{ℕ, ◌<◌, ◌≤◌, slice_index_or}
+use Rattle.upd_core.specs.Library.{CardView}
+use Rattle.upd_diff.proofs.touched.youngest.Given as goal
+
+abbrev pub invariant-loop-card : goal.invariant-loop-card
+invariant-loop-card l = (i : ℕ) → i < l.card-index → (d : CardView) → (slice_index_or l.cards i d).ident ≤ l.youngest

@@ -1,0 +1,4 @@
+pub mod Fates
+pub mod Told
+pub mod States
+pub mod Touched

@@ -1,0 +1,42 @@
+-- What the row changes of a run do to statuses and counts.
+use Rattle.std.specs.Prelude.{◌≡◌, Bool, true, false, List, None, is_some}
+use Rattle.std.specs.List.{list_any, AllByRecursion}
+use Rattle.upd_text.specs.declared.card_ref.CardRef.{CardRef}
+use Rattle.upd_core.specs.Library.{LibraryView}
+use Rattle.upd_core.specs.Status.{status_of}
+use Rattle.upd_records.specs.Rows.{same_ref}
+use Rattle.upd_records.specs.Changes.{ChangeView, IdentNew, IdentPurged, CardNew, CardGone, CardsMoved, EntryNew, EntriesGone, TargetNew, TargetsGone}
+use Rattle.upd_records.specs.Changes.{StatusNow, CountNow}
+
+-- whether a change takes a card away, and its status with it
+abbrev pub takes_card : CardRef → ChangeView → Bool
+takes_card card (CardGone gone) = same_ref card gone
+takes_card card (IdentNew ident) = false
+takes_card card (IdentPurged age) = false
+takes_card card (CardNew new deck place body) = false
+takes_card card (CardsMoved deck from by) = false
+takes_card card (EntryNew on ord entry) = false
+takes_card card (EntriesGone of) = false
+takes_card card (TargetNew on ord target) = false
+takes_card card (TargetsGone of targets) = false
+takes_card card (StatusNow of active) = false
+takes_card card (CountNow target n) = false
+
+-- whether a change tells a status or a count
+abbrev pub tells_state : ChangeView → Bool
+tells_state (StatusNow card active) = true
+tells_state (CountNow target n) = true
+tells_state (CardGone card) = false
+tells_state (IdentNew ident) = false
+tells_state (IdentPurged age) = false
+tells_state (CardNew card deck place body) = false
+tells_state (CardsMoved deck from by) = false
+tells_state (EntryNew card ord entry) = false
+tells_state (EntriesGone card) = false
+tells_state (TargetNew card ord target) = false
+tells_state (TargetsGone card targets) = false
+
+-- Of one library and a later one, changes take each card away that stood and stands no more, and tell no status and no count.
+pub record TakeGone (old new : LibraryView) (changes : List ChangeView) : Type 0 where
+  pub gone : (card : CardRef) → is_some (status_of card old) ≡ true → status_of card new ≡ None → list_any (takes_card card) changes ≡ true
+  pub silent : AllByRecursion (λ c. tells_state c ≡ false) changes

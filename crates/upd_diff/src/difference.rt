@@ -1,0 +1,59 @@
+//! The row changes of a run, from the library before and the library after it.
+ghost use Rattle.std.specs.Prelude.{◌≡◌, ◌-◌, length, map, slice_get, IfOk};
+ghost use Rattle.std.specs.Option.{option_map_or};
+ghost use Rattle.upd_core.specs.Sound.{AreApart, Continues, IsSound, all_cards, key_of};
+ghost use Rattle.upd_records.specs.Changes.{change_seen, done_all};
+ghost use Rattle.upd_records.specs.Fits.{AllFit};
+ghost use Rattle.upd_records.specs.Rows.{Rows, Shows};
+ghost use Rattle.upd_diff.specs.States.{TakeGone};
+ghost use Rattle.upd_diff.specs.Told.{Told};
+ghost use Rattle.upd_diff.specs.Touched.{touched};
+
+use crate::decks::library_fates;
+use crate::told::told;
+use crate::touched::touched;
+use std::alloc::{AllocError, Global};
+use upd_core::{Change, Ident, Library, Serial};
+use upd_text::CardRef;
+
+/// What leads from one library to another.
+#[derive(Debug, Drop)]
+pub struct Compared {
+    pub changes: Vec<Change>,
+    /// The cards that weren't there before, or whose history differs, by deck (`YANK$$$` first) and place.
+    pub touched: Vec<CardRef>,
+}
+
+/// The row changes that lead from one library to another whose directory goes on from its own, and the cards that were
+/// touched, from one comparison of the two. Changes stand in the order in which they are carried out: idents, then all
+/// that goes, then moves, then all that comes. What comes or goes at one place of a deck is one move. Memory alone can
+/// fail; a deck with 2^32 fates, or a card with as many entries, is answered as want of memory too.
+pub fn compare(alloc: Global, before: &Library, after: &Library) -> Result<Compared, AllocError>
+    ensures told { IfOk result (λ d. Told before.now after.now (map change_seen d.changes.items)) }
+    ensures shows { (rows : Rows) → IsSound before.now → Continues before.now.idents after.now.idents
+        → Shows rows before.now
+        → IfOk result (λ d. Shows (done_all (map change_seen d.changes.items) rows) after.now) }
+    ensures fits { (rows : Rows) → IsSound before.now → Continues before.now.idents after.now.idents
+        → Shows rows before.now
+        → IfOk result (λ d. AllFit (map change_seen d.changes.items) rows) }
+    ensures states { IsSound before.now → IsSound after.now → Continues before.now.idents after.now.idents
+        → IfOk result (λ d. TakeGone before.now after.now (map change_seen d.changes.items)) }
+    ensures touched { AreApart (map key_of (all_cards before.now))
+        → IfOk result (λ d. d.touched.items ≡ touched before.now after.now) }
+{
+    let idents = before.idents();
+    let decks = library_fates(alloc, last_age(idents), before, after)?;
+    let touched = touched(alloc, before, after.idents(), &decks)?;
+    let changes = told(alloc, idents, after.idents(), &decks)?;
+    Ok(Compared { changes, touched })
+}
+
+/// The age of the last ident, 0 where there is none.
+fn last_age(idents: &[Ident]) -> Serial
+    ensures { result ≡ option_map_or (λ i. i.age) (slice_get idents.now (length idents.now - 1)) 0 }
+{
+    match idents.last() {
+        Some(ident) => ident.age,
+        None => 0,
+    }
+}

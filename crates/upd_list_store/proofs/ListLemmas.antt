@@ -1,0 +1,60 @@
+-- Row changes that fit are carried out on lists as they are defined.
+use Rattle.std.proofs.Common.{◌≡◌, ℕ, ◌+◌, ◌-◌, ◌<◌, ◌≤◌, ◌==◌, nat_le, Bool, true, false, ◌&&◌, if◌then◌else◌, IsTrue, List, [], ◌∷◌, length, get_or, drop}
+use Rattle.std.proofs.Common.{map, refl, ap, sym, ◌∙◌, arith}
+use Rattle.std.specs.Prelude.{ℤ, pos, negsuc, ◌^◌}
+use Rattle.std.specs.List.{AllByRecursion}
+use Rattle.std.proofs.Math.Nat.{min-eq_left}
+use Rattle.std.proofs.lemmas.List.{drop_more}
+use Rattle.upd_core.specs.declared.change.Change.{Change}
+use Rattle.upd_records.specs.Rows.{CardRow, Rows}
+use Rattle.upd_records.specs.Changes.{ChangeView, IdentNew, IdentPurged, CardNew, CardGone, CardsMoved, EntryNew, EntriesGone, TargetNew, TargetsGone}
+use Rattle.upd_records.specs.Changes.{StatusNow, CountNow, change_seen, done, done_all, moved_row, shifted}
+use Rattle.upd_records.specs.Fits.{AllFit, CanMove, Fits}
+use Rattle.upd_list_store.specs.Lists.{carried, kept_place, kept_row}
+
+-- ---- moves
+
+place_fits : (by : ℤ) (p : ℕ) → CanMove by p → kept_place by p ≡ shifted by p
+place_fits (pos n) p can = let le : p + n ≤ 2 ^ 32 - 1 = omega arith in min-eq_left le
+place_fits (negsuc n) p can = let below = can.1 in let le : p - (n + 1) ≤ 2 ^ 32 - 1 = omega arith in min-eq_left le
+
+row_fits : (deck from : ℕ) (by : ℤ) (r : CardRow) → (IsTrue ((r.deck == deck) && nat_le from r.pos) → CanMove by r.pos)
+    → kept_row deck from by r ≡ moved_row deck from by r
+row_fits deck from by r can = go ((r.deck == deck) && nat_le from r.pos) can
+  where
+    go : (b : Bool) → (IsTrue b → CanMove by r.pos)
+        → (if b then record r { pos = kept_place by r.pos } else r) ≡ (if b then record r { pos = shifted by r.pos } else r)
+    go true can = ap (λ p. record r { pos = p }) (place_fits by r.pos (can refl))
+    go false can = refl
+
+rows_fit : (deck from : ℕ) (by : ℤ) (rows : List CardRow)
+    → AllByRecursion (λ r. IsTrue ((r.deck == deck) && nat_le from r.pos) → CanMove by r.pos) rows
+    → map (kept_row deck from by) rows ≡ map (moved_row deck from by) rows
+rows_fit deck from by [] all = refl
+rows_fit deck from by (r ∷ rows) all = rw (row_fits deck from by r all.0, rows_fit deck from by rows all.1) refl
+
+-- ---- one change after the other
+
+carried_fits : (c : ChangeView) (rows : Rows) → Fits c rows → carried c rows ≡ done c rows
+carried_fits (IdentNew i) rows fit = refl
+carried_fits (IdentPurged age) rows fit = refl
+carried_fits (CardNew card deck place body) rows fit = refl
+carried_fits (CardGone card) rows fit = refl
+carried_fits (CardsMoved deck from by) rows fit = ap (λ cards. record rows { cards = cards }) (rows_fit deck from by rows.cards fit)
+carried_fits (EntryNew card ord entry) rows fit = refl
+carried_fits (EntriesGone card) rows fit = refl
+carried_fits (TargetNew card ord target) rows fit = refl
+carried_fits (TargetsGone card targets) rows fit = refl
+carried_fits (StatusNow card active) rows fit = refl
+carried_fits (CountNow target n) rows fit = refl
+
+-- the changes from the next one on, where the tables are fit for all of them
+pub next_change : (cs : List Change) (i : ℕ) (d x : Change) (rows next : Rows) → i < length cs → x ≡ get_or cs i d
+    → next ≡ carried (change_seen x) rows → AllFit (map change_seen (drop i cs)) rows
+    → AllFit (map change_seen (drop (i + 1) cs)) next
+    × (done_all (map change_seen (drop (i + 1) cs)) next ≡ done_all (map change_seen (drop i cs)) rows)
+next_change cs i d x rows next within read is_carried fit =
+    let split : drop i cs ≡ x ∷ drop (i + 1) cs = drop_more cs i d within ∙ ap (λ y. y ∷ drop (i + 1) cs) (sym read) in
+    let fits : AllFit (map change_seen (x ∷ drop (i + 1) cs)) rows = rw split at fit in
+    let is : next ≡ done (change_seen x) rows = is_carried ∙ carried_fits (change_seen x) rows fits.0 in
+    (rw is fits.1, rw (is, split) refl)

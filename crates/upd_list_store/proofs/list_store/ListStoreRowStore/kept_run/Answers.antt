@@ -1,0 +1,5 @@
+use Rattle.upd_row_store.proofs.KeepingLemmas.{lost_for_memory}
+use Rattle.upd_list_store.proofs.list_store.ListStoreRowStore.kept_run.Goals as goal
+
+pub returns-in_err-run-in-Some-clause-lost : goal.returns-in_err-run-in-Some-clause-lost
+returns-in_err-run-in-Some-clause-lost c = lost_for_memory c.from_residual.result c.from_residual.ensures.1

@@ -1,0 +1,212 @@
+//! Row changes on tables that are lists.
+
+ghost use Rattle.std.specs.Prelude.{◌≡◌, not, map, OnOk};
+ghost use Rattle.std.specs.List.{filter};
+ghost use Rattle.upd_core.specs.Targets.{is_same};
+ghost use Rattle.upd_records.specs.Changes.{change_seen, done, done_all, purged_row};
+ghost use Rattle.upd_records.specs.Changes.{CardNew, CardGone, CardsMoved, EntryNew, TargetNew, StatusNow, CountNow};
+ghost use Rattle.upd_records.specs.Fits.{AllFit};
+ghost use Rattle.upd_records.specs.Rows.{same_ref};
+ghost use Rattle.upd_list_store.specs.Lists.{carried, kept_place, kept_row};
+
+use crate::list_tables::ListTables;
+use std::alloc::AllocError;
+use upd_core::{CardRef, Change, Entry, Ident, Serial, Target};
+use upd_records::{CardRow, CountRow, EntryRow, StateRow, TargetRow, same_ref};
+
+// ---- one table
+
+/// An ident, no longer held where it is of an age.
+fn purged(ident: Ident, age: Serial) -> Ident
+    ensures { result ≡ purged_row age ident }
+{
+    if ident.age == age {
+        Ident {
+            held: false,
+            ..ident
+        }
+    } else {
+        ident
+    }
+}
+
+/// The ident of an age is no longer held.
+fn purge_ident(idents: &mut [Ident], age: Serial)
+    ensures { idents.new ≡ map (purged_row age) idents.old }
+{
+    for ident in idents.iter_mut() {
+        *ident = purged(*ident, age);
+    }
+}
+
+/// A place moved by a signed distance.
+fn moved(place: u32, by: i64) -> u32
+    ensures { result ≡ kept_place by place }
+{
+    let place = u64::from(place).saturating_add_signed(by);
+    match u32::try_from(place) {
+        Ok(place) => place,
+        Err(_) => u32::MAX,
+    }
+}
+
+/// Moves a card where it stands in a deck at a place or behind it.
+fn move_card(row: &mut CardRow, deck: Serial, from: u32, by: &i64)
+    ensures { row.new ≡ kept_row deck from by.now row.old }
+{
+    if row.deck == deck && from <= row.pos {
+        row.pos = moved(row.pos, *by);
+    }
+}
+
+/// Moves the cards of a deck that stand at a place or behind it.
+fn move_cards(cards: &mut [CardRow], deck: Serial, from: u32, by: &i64)
+    ensures { cards.new ≡ map (kept_row deck from by.now) cards.old }
+{
+    for row in cards.iter_mut() {
+        move_card(row, deck, from, by);
+    }
+}
+
+/// Takes a card's row away.
+fn drop_card(cards: &mut Vec<CardRow>, card: &CardRef)
+    ensures { cards.new.items ≡ filter (λ r. not (same_ref card.now r.card)) cards.old.items }
+{
+    cards.retain(|row| !same_ref(card, &row.card));
+}
+
+/// Takes a card's entries away.
+fn drop_entries(entries: &mut Vec<EntryRow>, card: &CardRef)
+    ensures { entries.new.items ≡ filter (λ r. not (same_ref card.now r.card)) entries.old.items }
+{
+    entries.retain(|row| !same_ref(card, &row.card));
+}
+
+/// Takes a card's targets away.
+fn drop_targets(targets: &mut Vec<TargetRow>, card: &CardRef)
+    ensures { targets.new.items ≡ filter (λ r. not (same_ref card.now r.card)) targets.old.items }
+{
+    targets.retain(|row| !same_ref(card, &row.card));
+}
+
+/// Takes a card's status away.
+fn drop_state(states: &mut Vec<StateRow>, card: &CardRef)
+    ensures { states.new.items ≡ filter (λ r. not (same_ref card.now r.card)) states.old.items }
+{
+    states.retain(|row| !same_ref(card, &row.card));
+}
+
+/// Takes a target's count away.
+fn drop_count(counts: &mut Vec<CountRow>, target: Target)
+    ensures { counts.new.items ≡ filter (λ r. not (is_same target r.target)) counts.old.items }
+{
+    counts.retain(|row| target != row.target);
+}
+
+// ---- all tables
+
+impl ListTables {
+    fn add_card(
+        &mut self,
+        card: CardRef,
+        deck: Serial,
+        pos: u32,
+        text: &[u8],
+    ) -> Result<(), AllocError>
+        ensures { OnOk result (self.new ≡ done (CardNew card deck pos text.now) self.old) }
+    {
+        let body = Vec::from_slice(*self.cards.allocator(), text)?;
+        self.cards.push(CardRow {
+            card,
+            deck,
+            pos,
+            body,
+        })?;
+        Ok(())
+    }
+
+    fn take_card(&mut self, card: &CardRef)
+        ensures { self.new ≡ done (CardGone card.now) self.old }
+    {
+        drop_card(&mut self.cards, card);
+        drop_state(&mut self.states, card);
+    }
+
+    fn shift_cards(&mut self, deck: Serial, from: u32, by: &i64)
+        ensures { self.new ≡ carried (CardsMoved deck from by.now) self.old }
+    {
+        move_cards(&mut self.cards, deck, from, by);
+    }
+
+    fn add_entry(&mut self, card: CardRef, ord: u32, entry: Entry) -> Result<(), AllocError>
+        ensures { OnOk result (self.new ≡ done (EntryNew card ord entry) self.old) }
+    {
+        self.entries.push(EntryRow { card, ord, entry })?;
+        Ok(())
+    }
+
+    fn add_target(&mut self, card: CardRef, ord: u32, target: Target) -> Result<(), AllocError>
+        ensures { OnOk result (self.new ≡ done (TargetNew card ord target) self.old) }
+    {
+        self.targets.push(TargetRow { card, ord, target })?;
+        Ok(())
+    }
+
+    fn put_status(&mut self, card: &CardRef, active: bool) -> Result<(), AllocError>
+        ensures { OnOk result (self.new ≡ done (StatusNow card.now active) self.old) }
+    {
+        drop_state(&mut self.states, card);
+        self.states.push(StateRow {
+            card: *card,
+            active,
+        })?;
+        Ok(())
+    }
+
+    fn put_count(&mut self, target: Target, n: u32) -> Result<(), AllocError>
+        ensures { OnOk result (self.new ≡ done (CountNow target n) self.old) }
+    {
+        drop_count(&mut self.counts, target);
+        if n == 0 {
+            return Ok(());
+        }
+        self.counts.push(CountRow { target, n })?;
+        Ok(())
+    }
+
+    /// Carries out one change; where memory runs out, it may be done in part.
+    fn carry_out(&mut self, change: &Change) -> Result<(), AllocError>
+        ensures { OnOk result (self.new ≡ carried (change_seen change.now) self.old) }
+    {
+        match change {
+            Change::IdentNew(ident) => self.idents.push(*ident)?,
+            Change::IdentPurged(age) => purge_ident(&mut self.idents, *age),
+            Change::CardNew {
+                card,
+                deck,
+                pos,
+                text,
+            } => self.add_card(*card, *deck, *pos, text)?,
+            Change::CardGone(card) => self.take_card(card),
+            Change::CardsMoved { deck, from, by } => self.shift_cards(*deck, *from, by),
+            Change::EntryNew { card, ord, entry } => self.add_entry(*card, *ord, *entry)?,
+            Change::EntriesGone(card) => drop_entries(&mut self.entries, card),
+            Change::TargetNew { card, ord, target } => self.add_target(*card, *ord, *target)?,
+            Change::TargetsGone { card, .. } => drop_targets(&mut self.targets, card),
+            Change::StatusNow { card, active } => self.put_status(card, *active)?,
+            Change::CountNow { target, n } => self.put_count(*target, *n)?,
+        }
+        Ok(())
+    }
+
+    /// Carries out changes in order; where memory runs out, they may be done in part.
+    pub(crate) fn carry_out_all(&mut self, changes: &[Change]) -> Result<(), AllocError>
+        ensures { OnOk result (AllFit (map change_seen changes.now) self.old
+            → self.new ≡ done_all (map change_seen changes.now) self.old) }
+    {
+        for change in changes {
+            self.carry_out(change)?;
+        }
+        Ok(())
+    }
+}

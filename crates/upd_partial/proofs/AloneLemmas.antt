@@ -1,0 +1,90 @@
+-- A part is settled alone, as the library that it is.
+use Rattle.std.proofs.Common.{◌≡◌, ℕ, Bool, false, List, ◌++◌, Some, Ok, inr, refl, sym, ap, ◌∙◌}
+use Rattle.std.proofs.lemmas.List.Elements.{filter-append}
+use Rattle.std.specs.Prelude.{◌==◌}
+use Rattle.std.specs.List.{filter, AllByRecursion}
+use Rattle.upd_text.specs.declared.card_ref.CardRef.{CardRef}
+use Rattle.upd_core.specs.Counted.{CountedCardView, others_of, yanks_of}
+use Rattle.upd_core.specs.declared.library.Place.{Place}
+use Rattle.upd_core.specs.Library.{LibraryView, place_of}
+use Rattle.upd_core.specs.Parts.{part}
+use Rattle.upd_core.specs.Sound.{IsSound}
+use Rattle.upd_core.specs.TargetCounts.{live_count}
+use Rattle.upd_diff.specs.Touched.{touched}
+use Rattle.upd_deck.specs.Items.{LineView}
+use Rattle.upd_apply.specs.Applying.{Reached, applied}
+use Rattle.upd_laws.proofs.SoundListLemmas.{all_both, all_weaker}
+use Rattle.upd_yank.specs.Affected.{affected, is_touched}
+use Rattle.upd_yank.specs.Cascade.{is_due}
+use Rattle.upd_yank.specs.Enough.{AreIdle, IsEnough}
+use Rattle.upd_yank.proofs.EnoughLemmas.{part_of_none, sees}
+use Rattle.upd_partial.specs.Needless.{DoesWithout, NamesNone, cards_of_item, left_out, reached_in_part}
+use Rattle.upd_partial.proofs.AppliedLemmas.{applied_same}
+use Rattle.upd_partial.proofs.IdleLemmas.{idle_in}
+use Rattle.upd_partial.proofs.NeedLemmas.{none_in}
+use Rattle.upd_partial.proofs.PartLemmas.{IsNotIn, place_same}
+use Rattle.upd_partial.proofs.PartSoundLemmas.{part_sound}
+
+-- ---- a run names no yank card of a part, where it names none of the whole
+
+-- a card that a run names doesn't stand in a deck that passes a test
+abbrev StandsOut : (ℕ → Bool) → LibraryView → CardRef → Type 0
+StandsOut out l card = (p : Place) → place_of card l ≡ Some p → out p.deck ≡ false
+
+named_in_part : (out test : ℕ → Bool) (lines : List LineView) (l : LibraryView) → out 0 ≡ false → IsSound l → NamesNone out lines l → NamesNone test lines l
+    → NamesNone test lines (part out l)
+named_in_part out test lines l yanks sound names none =
+    all_weaker (λ line. AllByRecursion (StandsOut test l) (cards_of_item line.item) × AllByRecursion (IsNotIn (left_out out l) l) (cards_of_item line.item))
+    (λ line. AllByRecursion (StandsOut test (part out l)) (cards_of_item line.item)) lines
+    (λ line both. all_weaker (λ card. StandsOut test l card × IsNotIn (left_out out l) l card) (StandsOut test (part out l)) (cards_of_item line.item)
+    (λ card here p at. here.0 p (sym (place_same out l card yanks here.1) ∙ at))
+    (all_both (StandsOut test l) (IsNotIn (left_out out l) l) (cards_of_item line.item) both.0 both.1))
+    (all_both (λ line. AllByRecursion (StandsOut test l) (cards_of_item line.item)) (λ line. AllByRecursion (IsNotIn (left_out out l) l) (cards_of_item line.item))
+    lines none (none_in out lines l sound names))
+
+-- ---- a part alone
+
+module _ (out : ℕ → Bool) (lines : List LineView) (l : LibraryView) (reached : Reached) (yanks : out 0 ≡ false) (sound : IsSound l)
+    (does : DoesWithout out lines l) (no_yank : NamesNone (λ d. d == 0) lines l) (is : applied lines l ≡ Ok reached) where
+  abbrev old : LibraryView
+  old = part out l
+
+  abbrev new : LibraryView
+  new = part out reached.library
+
+  -- it does without no deck
+  pub idle_alone : AreIdle (touched old new) old new (λ _. false)
+  idle_alone =
+      idle_in (λ _. false) lines old (record reached { library = new }) (part_sound out l sound)
+      (record {
+        plain = does.plain;
+        listed = λ z later. refl;
+        cards = all_weaker (λ line. AllByRecursion (StandsOut (λ d. d == 0) old) (cards_of_item line.item))
+            (λ line. AllByRecursion (StandsOut (λ _. false) old) (cards_of_item line.item)) lines
+            (λ line all. all_weaker (StandsOut (λ d. d == 0) old) (StandsOut (λ _. false) old) (cards_of_item line.item) (λ card h p at. refl) all) none;
+      })
+      none (applied_same out lines l yanks sound does ∙ ap (reached_in_part out) is)
+    where
+      none : NamesNone (λ d. d == 0) lines old
+      none = named_in_part out (λ d. d == 0) lines l yanks sound does.cards no_yank
+
+  -- what a run reaches from it is enough to settle the run on it
+  pub enough_alone : IsEnough (touched old new) old new new
+  enough_alone = inr ((λ _. false), part_of_none new, idle_alone)
+
+-- ---- what is affected
+
+-- the cards that a run affects in a part are those that it affects in the whole
+pub affected_in : (out : ℕ → Bool) (lines : List LineView) (l : LibraryView) (reached : Reached) → IsSound l → DoesWithout out lines l
+    → NamesNone (λ d. d == 0) lines l → applied lines l ≡ Ok reached
+    → affected (touched l reached.library) (part out l) (part out reached.library) ≡ affected (touched l reached.library) l reached.library
+affected_in out lines l reached sound does no_yank is =
+    filter-append due (yanks_of m) (others_of (part out m))
+    ∙ ap (λ ks. filter due (yanks_of m) ++ ks) (sees (touched l m) l m (part out m) (inr (out, refl, idle_in out lines l reached sound does no_yank is))).due
+    ∙ sym (filter-append due (yanks_of m) (others_of m))
+  where
+    m : LibraryView
+    m = reached.library
+
+    due : CountedCardView → Bool
+    due = is_due (is_touched (touched l m)) (live_count l) (live_count m)

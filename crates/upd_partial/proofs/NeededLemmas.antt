@@ -1,0 +1,116 @@
+-- The decks that hold the cards which a run names are all that it needs.
+use Rattle.std.proofs.Common.{◌≡◌, ℕ, zero, suc, Bool, true, false, not, ◌&&◌, ◌||◌, List, [], ◌∷◌, map, Some, refl, sym, ◌∙◌, subst}
+use Rattle.std.proofs.Common.{arith}
+use Rattle.std.proofs.lemmas.Bool.Decides.{nat_tests}
+use Rattle.std.specs.Prelude.{◌==◌, length, nat_le, slice_get}
+use Rattle.std.specs.List.{filter, find, list_any, AllByRecursion}
+use Rattle.std.specs.Option.{option_map_or}
+use Rattle.upd_text.specs.declared.card_ref.CardRef.{CardRef}
+use Rattle.upd_core.specs.declared.ident.Ident.{Ident}
+use Rattle.upd_core.specs.declared.library.Place.{Place}
+use Rattle.upd_core.specs.Edits.{is_among}
+use Rattle.upd_core.specs.Library.{CardView, DeckView, LibraryView, card_in, cards_of, is_deck, place_of, ref_of}
+use Rattle.upd_core.specs.Sound.{IsSound}
+use Rattle.upd_core.specs.Parts.{part}
+use Rattle.upd_core.proofs.ApartLemmas.{all_by_index}
+use Rattle.upd_core.proofs.FoundLemmas.{card_of_place}
+use Rattle.upd_records.specs.Rows.{same_ref}
+use Rattle.upd_diff.proofs.GoneLemmas.{same_ref_own}
+use Rattle.upd_deck.specs.Items.{LineView}
+use Rattle.upd_row_store.specs.Asked.{decks_with, holds_one, is_asked}
+use Rattle.upd_laws.proofs.SoundListLemmas.{all_each, all_weaker, same_number}
+use Rattle.upd_partial.proofs.NeedLemmas.{not_in}
+use Rattle.upd_partial.proofs.PartLemmas.{cards_same, place_same}
+use Rattle.upd_partial.specs.Needed.{cards_named}
+use Rattle.upd_partial.specs.Needless.{NamesNone, cards_of_item, is_left_out}
+
+-- ---- a card that is asked for is held by a deck
+
+any_at : {A : Type 0} (test : A → Bool) (xs : List A) (k : ℕ) (x : A) → slice_get xs k ≡ Some x → test x ≡ true → list_any test xs ≡ true
+any_at test [] k x e pass = absurd (cc)
+any_at test (y ∷ xs) zero x e pass = let same : y ≡ x = cc in let here : test y ≡ true = rw same pass in rw here refl
+any_at test (y ∷ xs) (suc k) x e pass = or_later (test y) (any_at test xs k x e pass)
+  where
+    or_later : (b : Bool) → list_any test xs ≡ true → (b || list_any test xs) ≡ true
+    or_later true later = refl
+    or_later false later = later
+
+-- these decks have one of an age
+abbrev Tells : ℕ → List DeckView → Type 0
+Tells z ds = is_among (map (λ d. d.ident) ds) z ≡ true
+
+-- the deck of an age that holds a card which is asked for is told
+deck_told : (cards : List CardRef) (idents : List Ident) (ds : List DeckView) (z k : ℕ) (c : CardView)
+    → slice_get (option_map_or (λ (d : DeckView). d.cards) (find (is_deck z) ds) []) k ≡ Some c → is_asked cards (ref_of idents c) ≡ true
+    → Tells z (filter (holds_one cards idents) ds)
+deck_told cards idents [] z k c e asked = absurd (cc)
+deck_told cards idents (d ∷ ds) z k c e asked = go (d.ident == z) refl (holds_one cards idents d) refl (λ e. deck_told cards idents ds z k c e asked)
+  where
+    here : (d.ident == z) ≡ true → holds_one cards idents d ≡ true
+    here own = any_at (λ c. is_asked cards (ref_of idents c)) d.cards k c (rw own at e) asked
+
+    go : (own : Bool) → (d.ident == z) ≡ own → (holds : Bool) → holds_one cards idents d ≡ holds
+        → (slice_get (option_map_or (λ (d : DeckView). d.cards) (find (is_deck z) ds) []) k ≡ Some c → Tells z (filter (holds_one cards idents) ds))
+        → Tells z (filter (holds_one cards idents) (d ∷ ds))
+    go true own true holds later = rw (holds, own) refl
+    go true own false holds later = absurd (let clash = sym (here own) ∙ holds in cc)
+    go false other true holds later = let rest = later (rw other at e) in rw (holds, other) rest
+    go false other false holds later = let rest = later (rw other at e) in rw holds rest
+
+-- a card that is asked for is asked for by its own reference
+asked_own : (cards : List CardRef) (k : ℕ) (card : CardRef) → slice_get cards k ≡ Some card → is_asked cards card ≡ true
+asked_own cards k card e = any_at (λ c. same_ref c card) cards k card e (same_ref_own card)
+
+-- the deck where a card stands that is asked for is `YANK$$$`, or one of those that are told
+pub told_or_yank : (cards : List CardRef) (l : LibraryView) (card : CardRef) (p : Place) → IsSound l → is_asked cards card ≡ true
+    → place_of card l ≡ Some p → is_left_out (decks_with cards l) l p.deck ≡ false
+told_or_yank cards l card p sound asked at = go (0 == p.deck) refl (p.deck == 0) refl
+  where
+    found : (c : CardView) × (card_in p l ≡ Some c) × (ref_of l.idents c ≡ card)
+    found = card_of_place l card p sound at
+
+    among : (0 == p.deck) ≡ false → is_among (decks_with cards l) p.deck ≡ true
+    among other = by found
+      where
+        by : (c : CardView) × (card_in p l ≡ Some c) × (ref_of l.idents c ≡ card) → is_among (decks_with cards l) p.deck ≡ true
+        by (c, stands, is) = deck_told cards l.idents l.decks p.deck p.index c (rw other at stands) (subst (λ r. is_asked cards r ≡ true) (sym is) asked)
+
+    end : (a b : Bool) → (a && b && not true) ≡ false
+    end true true = refl
+    end true false = refl
+    end false b = refl
+
+    go : (x : Bool) → (0 == p.deck) ≡ x → (y : Bool) → (p.deck == 0) ≡ y → is_left_out (decks_with cards l) l p.deck ≡ false
+    go x e true f = rw f refl
+    go true e false f = absurd (let same : p.deck ≡ 0 = sym (same_number 0 p.deck e) in let bad : (p.deck == 0) ≡ true = grind (arith, nat_tests) in cc)
+    go false e false f = let told = among e in rw told (end (not (p.deck == 0)) (nat_le p.deck (length l.idents)))
+
+-- a run that names cards can do without the decks that hold none of them
+pub others_unnamed : (lines : List LineView) (l : LibraryView) → IsSound l → NamesNone (is_left_out (decks_with (cards_named lines) l) l) lines l
+others_unnamed lines l sound = all_weaker _ _ lines (λ line all. all_weaker _ _ (cards_of_item line.item) unnamed all) asked
+  where
+    cards : List CardRef
+    cards = cards_named lines
+
+    asked : AllByRecursion (λ line. AllByRecursion (λ card. is_asked cards card ≡ true) (cards_of_item line.item)) lines
+    asked = all_each (λ card. is_asked cards card ≡ true) (λ (line : LineView). cards_of_item line.item) lines
+        (all_by_index cards (λ k card. asked_own cards k card))
+
+    unnamed : (card : CardRef) → is_asked cards card ≡ true → (p : Place) → place_of card l ≡ Some p → is_left_out (decks_with cards l) l p.deck ≡ false
+    unnamed card is p at = told_or_yank cards l card p sound is at
+
+-- ---- a card alone
+
+-- the part with the decks that hold a card finds it where the whole does
+pub card_placed : (card : CardRef) (l : LibraryView) → IsSound l
+    → place_of card (part (is_left_out (decks_with (card ∷ []) l) l) l) ≡ place_of card l
+card_placed card l sound =
+    place_same (is_left_out (decks_with (card ∷ []) l) l) l card refl (not_in (is_left_out (decks_with (card ∷ []) l) l) l card sound
+    (λ p at. told_or_yank (card ∷ []) l card p sound (asked_own (card ∷ []) 0 card refl) at))
+
+-- and its deck has the same cards there
+pub card_deck_kept : (card : CardRef) (l : LibraryView) (p : Place) → IsSound l → place_of card l ≡ Some p
+    → cards_of p.deck (part (is_left_out (decks_with (card ∷ []) l) l) l) ≡ cards_of p.deck l
+card_deck_kept card l p sound at =
+    cards_same (is_left_out (decks_with (card ∷ []) l) l) p.deck l
+    (told_or_yank (card ∷ []) l card p sound (asked_own (card ∷ []) 0 card refl) at)

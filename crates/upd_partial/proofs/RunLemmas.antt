@@ -1,0 +1,224 @@
+-- Plain runs on a part of a library: what they leave in the part is what they leave in the whole, and what is left out stays.
+use Rattle.std.proofs.Common.{◌≡◌, ℕ, ◌-◌, ◌<◌, ◌≤◌, Bool, true, false, not, cond, ◌&&◌, ◌||◌, ltb, List, [], ◌∷◌, ◌++◌, length, Option, Some, None}
+use Rattle.std.proofs.Common.{Result, Ok, Err, refl, sym, ap, ◌∙◌, subst, arith}
+use Rattle.std.proofs.lemmas.Bool.{and_parts}
+use Rattle.std.proofs.lemmas.List.Folds.{find-append}
+use Rattle.std.specs.Prelude.{◌==◌, IsTrue, insert}
+use Rattle.std.specs.List.{AllByRecursion}
+use Rattle.std.specs.Option.{option_map, option_or}
+use Rattle.std.specs.Result.{IfOk}
+use Rattle.std.specs.Str.{bytes_eq}
+use Rattle.upd_text.specs.declared.card_ref.CardRef.{CardRef}
+use Rattle.upd_text.specs.declared.fault.Fault.{Fault}
+use Rattle.upd_text.specs.declared.fault.FaultKind.{FaultKind}
+use Rattle.upd_text.specs.declared.fault.FaultKind.TheVariants as fault
+use Rattle.upd_text.specs.Outcome.{◌>>=◌, at_line, need, refuse_if}
+use Rattle.upd_text.proofs.OutcomeLemmas.{after_any, after_need}
+use Rattle.upd_core.specs.declared.card.Entry.{Entry}
+use Rattle.upd_core.specs.declared.ident.Ident.{Ident as OneIdent}
+use Rattle.upd_core.specs.declared.ident.Kind.{Kind}
+use Rattle.upd_core.specs.declared.ident.Kind.TheVariants as kind
+use Rattle.upd_core.specs.Edits.{entered_range, introduced, next_age, new_card, with_deck, with_card, with_entries}
+use Rattle.upd_core.specs.Library.{DeckView, LibraryView, held_named, place_in, place_of}
+use Rattle.upd_deck.specs.Items.{ItemView, LineView, Text, Call, Ident, Deck, CommonDeck, Insert, Before, Delete, Restore, Yank, SelYank, YankDeck, Purge}
+use Rattle.upd_deck.specs.Items.{PurgeFrom, SelPurge, PurDeck, Compile}
+use Rattle.upd_apply.specs.declared.state.Spot.{Spot}
+use Rattle.upd_apply.specs.declared.state.Spot.TheVariants.{Nowhere, End, Inside}
+use Rattle.upd_apply.specs.declared.state.State.{State}
+use Rattle.upd_apply.specs.Applying.{stepped}
+use Rattle.upd_apply.specs.Step.{new_name, set_begun, deck_begun, placed_after, placed_before, switched, text_put, is_deck_card, line_done, step}
+use Rattle.upd_apply.proofs.StepLemmas.{after_grown}
+use Rattle.upd_laws.proofs.BackLibraryLemmas.{idents-with_card, idents-with_entries, length-introduced}
+use Rattle.upd_laws.proofs.SoundListLemmas.{all_weaker}
+use Rattle.upd_partial.specs.Needless.{is_plain, cards_of_item, is_plain_item, left_out}
+use Rattle.upd_partial.proofs.PartLemmas.{AreNotIn, IsNotIn, deck_kept, with_cards_left, with_deck_left}
+use Rattle.upd_partial.proofs.StepLemmas.{Leaves, SpotStays, done_same, in_part, parted}
+
+-- ---- names that come
+
+-- no card of these decks is of an ident that a library doesn't list
+abbrev pub AreOfListed : List DeckView → LibraryView → Type 0
+AreOfListed gone l = (z n : ℕ) → length l.idents < z → place_in gone z n ≡ None
+
+named_more : (gone : List DeckView) (l : LibraryView) (name : List ℕ) (sort : Kind) (noprop : Bool) (card : CardRef) → AreOfListed gone l
+    → IsNotIn gone l card → IsNotIn gone (introduced name sort noprop l) card
+named_more gone l name sort noprop card old lacks z is = go (held_named card.name l.idents) refl
+  where
+    new : OneIdent
+    new = record { name = name; age = next_age l; kind = sort; noprop = noprop; held = true }
+
+    split : held_named card.name (l.idents ++ new ∷ []) ≡ option_or (held_named card.name l.idents) (held_named card.name (new ∷ []))
+    split = find-append (λ (i : OneIdent). i.held && bytes_eq i.name card.name) l.idents (new ∷ [])
+
+    last : (b : Bool) → option_map (λ (i : OneIdent). i.age) (cond b (Some new) None) ≡ Some z → place_in gone z card.number ≡ None
+    last true e = let same : next_age l ≡ z = cc in old z card.number (omega (arith, same))
+    last false e = absurd (cc)
+
+    found : (o : Option OneIdent) → held_named card.name l.idents ≡ o
+        → option_map (λ (j : OneIdent). j.age) (option_or o (held_named card.name (new ∷ []))) ≡ Some z
+    found o e = ap (option_map (λ (j : OneIdent). j.age)) (sym (split ∙ ap (λ o. option_or o (held_named card.name (new ∷ []))) e)) ∙ is
+
+    go : (o : Option OneIdent) → held_named card.name l.idents ≡ o → place_in gone z card.number ≡ None
+    go (Some i) e = lacks z (ap (option_map (λ (j : OneIdent). j.age)) e ∙ found (Some i) e)
+    go None e = last (bytes_eq name card.name) (found None e)
+
+-- ---- what a line leaves of what is left out
+
+pub record Keeps (out : ℕ → Bool) (s t : State) : Type 0 where
+  pub left : left_out out t.library ≡ left_out out s.library
+  pub more : length s.library.idents ≤ length t.library.idents
+  pub spot : SpotStays out t.spot
+  pub named : (card : CardRef) → IsNotIn (left_out out s.library) s.library card → IsNotIn (left_out out s.library) t.library card
+
+-- a line that leaves the directory as it is
+same_names : (out : ℕ → Bool) (s t : State) → left_out out t.library ≡ left_out out s.library → t.library.idents ≡ s.library.idents → SpotStays out t.spot
+    → Keeps out s t
+same_names out s t left same spot = record {
+  left = left;
+  more = rw same (omega arith);
+  spot = spot;
+  named = λ card lacks z is. lacks z (ap (λ is. option_map (λ (i : OneIdent). i.age) (held_named card.name is)) (sym same) ∙ is);
+}
+
+set_keeps : (out : ℕ → Bool) (name : List ℕ) (s : State) → AreOfListed (left_out out s.library) s.library → IfOk (set_begun name s) (Keeps out s)
+set_keeps out name s old =
+    let l = introduced name kind.Set false s.library in
+    let more : length l.idents ≡ next_age s.library = length-introduced s.library name kind.Set false in
+    after_any _ (new_name name s.library) _ (λ _. after_grown _ l _ (record {
+      left = refl;
+      more = omega (arith, more);
+      spot = tt;
+      named = λ card. named_more (left_out out s.library) s.library name kind.Set false card old;
+    }))
+
+deck_keeps : (out : ℕ → Bool) (name : List ℕ) (sort : Kind) (noprop : Bool) (text : List ℕ) (s : State) → AreOfListed (left_out out s.library) s.library
+    → out (next_age s.library) ≡ false → IfOk (deck_begun name sort noprop text s) (Keeps out s)
+deck_keeps out name sort noprop text s old stays =
+    let z = next_age s.library in
+    let d : DeckView = record { ident = z; cards = new_card z 1 text [] ∷ [] } in
+    let l = introduced name sort noprop s.library in
+    let more : length l.idents ≡ z = length-introduced s.library name sort noprop in
+    after_any _ (new_name name s.library) _ (λ _. after_grown _ (with_deck d l) _ (record {
+      left = with_deck_left out d l stays;
+      more = omega (arith, more);
+      spot = stays;
+      named = λ card. named_more (left_out out s.library) s.library name sort noprop card old;
+    }))
+
+after_keeps : (out : ℕ → Bool) (card : CardRef) (s : State) → IsNotIn (left_out out s.library) s.library card
+    → IfOk (placed_after card s) (Keeps out s)
+after_keeps out card s lacks =
+    after_any _ (need fault.NoIdent s.hand) _ (λ _. after_need _ fault.CardUnknown (place_of card s.library) _ (λ p at.
+    after_any _ (refuse_if (p.deck == 0) fault.YankText) _ (λ _. same_names out s _ refl refl (deck_kept out s.library card p lacks at))))
+
+before_keeps : (out : ℕ → Bool) (card : CardRef) (s : State) → IsNotIn (left_out out s.library) s.library card
+    → IfOk (placed_before card s) (Keeps out s)
+before_keeps out card s lacks =
+    after_any _ (need fault.NoIdent s.hand) _ (λ _. after_need _ fault.CardUnknown (place_of card s.library) _ (λ p at.
+    after_any _ (refuse_if (p.deck == 0) fault.YankText) _ (λ _. after_any _ (refuse_if (is_deck_card p) fault.DeckCard) _ (λ _.
+    same_names out s _ refl refl (deck_kept out s.library card p lacks at)))))
+
+switched_keeps : (out : ℕ → Bool) (active : Bool) (first last : CardRef) (s : State) → IsNotIn (left_out out s.library) s.library first
+    → IsNotIn (left_out out s.library) s.library last → IfOk (switched active first last s) (Keeps out s)
+switched_keeps out active first last s lacks lacked =
+    after_any _ (need fault.NoIdent s.hand) _ (λ hand. after_need _ fault.CardUnknown (place_of first s.library) _ (λ p from.
+    after_need _ fault.CardUnknown (place_of last s.library) _ (λ q to.
+    after_any _ (refuse_if (not (p.deck == q.deck) || ltb q.index p.index) fault.RangeOrder) _ (λ _.
+    after_any _ (refuse_if (is_deck_card p) fault.DeckCard) _ (λ _.
+    let e : Entry = record { ident = hand.ident; active = active } in
+    after_grown _ (with_entries p.deck p.index q.index e s.library) _ (same_names out s _
+    (with_cards_left out p.deck (entered_range p.index q.index e) s.library (deck_kept out s.library first p lacks from))
+    (idents-with_entries p.deck p.index q.index e s.library) (deck_kept out s.library last q lacked to)))))))
+
+text_keeps : (out : ℕ → Bool) (text : List ℕ) (s : State) (spot : Spot) → SpotStays out spot → SpotStays out s.spot → IfOk (text_put text spot s) (Keeps out s)
+text_keeps out text s Nowhere stays here = tt
+text_keeps out text s (End d next) stays here =
+    after_grown _ (with_card d 0 (new_card d next text []) s.library) _ (same_names out s _
+    (with_cards_left out d (λ cards. insert cards (length cards - 0) (new_card d next text [])) s.library stays)
+    (idents-with_card d 0 _ s.library) stays)
+text_keeps out text s (Inside d after) stays here =
+    after_any _ (need fault.TextNowhere s.hand) _ (λ hand. after_any _ (refuse_if (d == 0) fault.YankText) _ (λ _.
+    after_grown _ (with_card d after (new_card hand.ident hand.next text []) s.library) _ (same_names out s _
+    (with_cards_left out d (λ cards. insert cards (length cards - after) (new_card hand.ident hand.next text [])) s.library stays)
+    (idents-with_card d after _ s.library) here)))
+
+done_keeps : (out : ℕ → Bool) (item : ItemView) (text : List ℕ) (s : State) → Leaves out s → AreOfListed (left_out out s.library) s.library
+    → is_plain_item item ≡ true
+    → AllByRecursion (IsNotIn (left_out out s.library) s.library) (cards_of_item item) → IfOk (line_done item text s) (Keeps out s)
+done_keeps out Text text s leaves old plain lacks = text_keeps out text s s.spot leaves.spot leaves.spot
+done_keeps out (Call name) text s leaves old plain lacks = text_keeps out text s s.spot leaves.spot leaves.spot
+done_keeps out (Ident name) text s leaves old plain lacks = set_keeps out name s old
+done_keeps out (Deck name) text s leaves old plain lacks = deck_keeps out name kind.Deck false text s old (leaves.fresh (next_age s.library) (omega arith))
+done_keeps out (CommonDeck name noprop) text s leaves old plain lacks =
+    deck_keeps out name kind.Common noprop text s old (leaves.fresh (next_age s.library) (omega arith))
+done_keeps out (Insert card) text s leaves old plain lacks = after_keeps out card s lacks.0
+done_keeps out (Before card) text s leaves old plain lacks = before_keeps out card s lacks.0
+done_keeps out (Delete first last) text s leaves old plain lacks = switched_keeps out false first last s lacks.0 lacks.1.0
+done_keeps out (Restore first last) text s leaves old plain lacks = switched_keeps out true first last s lacks.0 lacks.1.0
+done_keeps out (Yank ranges) text s leaves old plain lacks = absurd (cc)
+done_keeps out (SelYank pairs) text s leaves old plain lacks = absurd (cc)
+done_keeps out (YankDeck names) text s leaves old plain lacks = absurd (cc)
+done_keeps out (Purge ranges) text s leaves old plain lacks = absurd (cc)
+done_keeps out (PurgeFrom name) text s leaves old plain lacks = absurd (cc)
+done_keeps out (SelPurge pairs) text s leaves old plain lacks = absurd (cc)
+done_keeps out (PurDeck ranges) text s leaves old plain lacks = absurd (cc)
+done_keeps out (Compile ranges) text s leaves old plain lacks = same_names out s s refl refl leaves.spot
+
+-- ---- lines one after the other
+
+leaves_more : (out : ℕ → Bool) (s t : State) → Leaves out s → Keeps out s t → Leaves out t
+leaves_more out s t leaves k = record {
+  fresh = λ z later. leaves.fresh z (omega (arith, later, k.more));
+  spot = k.spot;
+}
+
+listed_more : (out : ℕ → Bool) (s t : State) → AreOfListed (left_out out s.library) s.library → Keeps out s t → AreOfListed (left_out out t.library) t.library
+listed_more out s t old k z n later = ap (λ ds. place_in ds z n) k.left ∙ old z n (omega (arith, later, k.more))
+
+lines_more : (out : ℕ → Bool) (s t : State) (lines : List LineView) → Keeps out s t → AreNotIn (left_out out s.library) s.library lines
+    → AreNotIn (left_out out t.library) t.library lines
+lines_more out s t lines k lacks =
+    subst (λ gone. AreNotIn gone t.library lines) (sym k.left)
+    (all_weaker _ _ lines (λ line all. all_weaker _ _ (cards_of_item line.item) k.named all) lacks)
+
+-- what a run does to a part, and what it leaves of what is left out
+pub record Runs (out : ℕ → Bool) (lines : List LineView) (s : State) : Type 0 where
+  pub same : out 0 ≡ false → stepped lines (parted out s) ≡ in_part out (stepped lines s)
+  pub left : IfOk (stepped lines s) (λ t. left_out out t.library ≡ left_out out s.library)
+
+pub runs : (out : ℕ → Bool) (lines : List LineView) (s : State) → Leaves out s → AreOfListed (left_out out s.library) s.library → IsTrue (is_plain lines)
+    → AreNotIn (left_out out s.library) s.library lines → Runs out lines s
+runs out [] s leaves old plain lacks = record { same = λ yanks. refl; left = refl }
+runs out (line ∷ lines) s leaves old plain lacks =
+    let both = and_parts (is_plain_item line.item) (is_plain lines) plain in
+    go (step line s) refl (λ yanks. done_same out line.item line.text s yanks leaves both.0 lacks.0)
+    (done_keeps out line.item line.text s leaves old both.0 lacks.0)
+    (λ t k. runs out lines t (leaves_more out s t leaves k) (listed_more out s t old k) both.1 (lines_more out s t lines k lacks.1))
+  where
+    on : Result State FaultKind → Result State Fault
+    on r = at_line line.number r >>= stepped lines
+
+    left_on : (t : State) → left_out out t.library ≡ left_out out s.library → (r : Result State Fault)
+        → IfOk r (λ u. left_out out u.library ≡ left_out out t.library)
+        → IfOk r (λ u. left_out out u.library ≡ left_out out s.library)
+    left_on t e (Ok u) h = h ∙ e
+    left_on t e (Err f) h = tt
+
+    start : (r : Result State FaultKind) → step line s ≡ r → (out 0 ≡ false → step line (parted out s) ≡ in_part out (step line s)) → out 0 ≡ false
+        → step line (parted out s) ≡ in_part out r
+    start r e same yanks = same yanks ∙ ap (in_part out) e
+
+    go : (r : Result State FaultKind) → step line s ≡ r → (out 0 ≡ false → step line (parted out s) ≡ in_part out (step line s))
+        → IfOk (step line s) (Keeps out s)
+        → ((t : State) → Keeps out s t → Runs out lines t) → Runs out (line ∷ lines) s
+    go (Ok t) e same keeps later =
+        let k : Keeps out s t = rw e at keeps in
+        let next = later t k in
+        record {
+          same = λ yanks. ap on (start (Ok t) e same yanks) ∙ next.same yanks ∙ ap (λ r. in_part out (on r)) (sym e);
+          left = subst (λ r. IfOk (on r) (λ u. left_out out u.library ≡ left_out out s.library)) (sym e) (left_on t k.left (stepped lines t) next.left);
+        }
+    go (Err f) e same keeps later = record {
+      same = λ yanks. ap on (start (Err f) e same yanks) ∙ ap (λ r. in_part out (on r)) (sym e);
+      left = subst (λ r. IfOk (on r) (λ u. left_out out u.library ≡ left_out out s.library)) (sym e) tt;
+    }

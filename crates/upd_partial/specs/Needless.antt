@@ -1,0 +1,70 @@
+-- Runs on a part of a library: which decks a run can do without.
+use Rattle.std.specs.Prelude.{◌≡◌, ◌==◌, ◌<◌, nat_le, Bool, true, false, not, ◌&&◌, IsTrue, List, [], ◌∷◌, length, Some, Result, Ok, Err}
+use Rattle.std.specs.List.{filter, list_all, AllByRecursion}
+use Rattle.upd_text.specs.declared.card_ref.CardRef.{CardRef}
+use Rattle.upd_text.specs.declared.fault.Fault.{Fault}
+use Rattle.upd_core.specs.Serials.{Serial}
+use Rattle.upd_core.specs.declared.library.Place.{Place}
+use Rattle.upd_core.specs.Edits.{is_among}
+use Rattle.upd_core.specs.Library.{DeckView, LibraryView, all_decks, place_of}
+use Rattle.upd_deck.specs.Items.{ItemView, LineView, Insert, Before, Delete, Restore, Yank, SelYank, YankDeck, Purge, PurgeFrom, SelPurge, PurDeck}
+use Rattle.upd_records.specs.Changes.{ChangeView}
+use Rattle.upd_diff.specs.Told.{Told}
+use Rattle.upd_apply.specs.Applying.{Reached, applied, touched}
+use Rattle.upd_core.specs.Parts.{part}
+
+-- whether a line neither yanks nor purges
+abbrev pub is_plain_item : ItemView → Bool
+is_plain_item (Yank ranges) = false
+is_plain_item (SelYank pairs) = false
+is_plain_item (YankDeck names) = false
+is_plain_item (Purge ranges) = false
+is_plain_item (PurgeFrom name) = false
+is_plain_item (SelPurge pairs) = false
+is_plain_item (PurDeck ranges) = false
+is_plain_item _ = true
+
+-- no line of a run yanks or purges
+abbrev pub is_plain : List LineView → Bool
+is_plain lines = list_all (λ line. is_plain_item line.item) lines
+
+-- the cards that a line names
+abbrev pub cards_of_item : ItemView → List CardRef
+cards_of_item (Insert card) = card ∷ []
+cards_of_item (Before card) = card ∷ []
+cards_of_item (Delete first last) = first ∷ last ∷ []
+cards_of_item (Restore first last) = first ∷ last ∷ []
+cards_of_item _ = []
+
+-- the ages of a library's directory that aren't among these: those of the decks that a part with these decks alone leaves out
+abbrev pub is_left_out : List Serial → LibraryView → Serial → Bool
+is_left_out ages l d = not (d == 0) && nat_le d (length l.idents) && not (is_among ages d)
+
+-- the decks of the ages that pass a test, `YANK$$$` as a deck of age 0 among them
+abbrev pub left_out : (Serial → Bool) → LibraryView → List DeckView
+left_out out l = filter (λ d. out d.ident) (all_decks l)
+
+-- each card that a run names, where there is such a card, stands in a deck of an age that doesn't pass the test
+abbrev pub NamesNone : (Serial → Bool) → List LineView → LibraryView → Type 0
+NamesNone out lines l =
+    AllByRecursion (λ line. AllByRecursion (λ card. (p : Place) → place_of card l ≡ Some p → out p.deck ≡ false) (cards_of_item line.item)) lines
+
+-- A run without yanks and purges does without decks of which it names no card. The test passes no age that is yet to come.
+pub record DoesWithout (out : Serial → Bool) (lines : List LineView) (l : LibraryView) : Type 0 where
+  pub plain : IsTrue (is_plain lines)
+  pub listed : (z : Serial) → length l.idents < z → out z ≡ false
+  pub cards : NamesNone out lines l
+
+-- what a run reaches, with the same part left out
+abbrev pub reached_in_part : (Serial → Bool) → Result Reached Fault → Result Reached Fault
+reached_in_part out (Ok reached) = Ok (record reached { library = part out reached.library })
+reached_in_part out (Err fault) = Err fault
+
+-- What a run reaches from a part is the part of what it reaches from the whole; and the same row changes lead there, and the same cards are
+-- touched.
+pub record IsOnWhole (out : Serial → Bool) (lines : List LineView) (l : LibraryView) (here : Reached) (changes : List ChangeView) : Type 0 where
+  pub there : Reached
+  pub reached : applied lines l ≡ Ok there
+  pub parted : here ≡ record there { library = part out there.library }
+  pub told : Told l there.library changes
+  pub touched : touched l there.library ≡ touched (part out l) here.library

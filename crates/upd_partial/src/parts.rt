@@ -1,0 +1,103 @@
+//! What a run without yanks and purges makes of decks of which it names no card: nothing.
+ghost use Rattle.std.specs.Prelude.{◌≡◌, ◌==◌, Bool, true, false, List, IsTrue, Ok};
+ghost use Rattle.std.specs.List.{Contains, list_any};
+ghost use Rattle.upd_core.specs.Serials.{Serial};
+ghost use Rattle.upd_core.specs.Library.{CardView, DeckView, LibraryView, all_decks, ref_of};
+ghost use Rattle.upd_core.specs.Limits.{is_within_limits};
+ghost use Rattle.upd_core.specs.Sound.{IsSound};
+ghost use Rattle.upd_core.specs.Status.{status_of};
+ghost use Rattle.upd_records.specs.Changes.{ChangeView, done_all};
+ghost use Rattle.upd_records.specs.Fits.{AllFit};
+ghost use Rattle.upd_records.specs.Rows.{Rows, Shows, same_ref};
+ghost use Rattle.upd_diff.specs.States.{TakeGone};
+ghost use Rattle.upd_diff.specs.Told.{Told};
+ghost use Rattle.upd_diff.specs.Touched.{touched};
+ghost use Rattle.upd_deck.specs.Items.{LineView};
+ghost use Rattle.upd_apply.specs.Applying.{Reached, applied};
+ghost use Rattle.upd_core.specs.Parts.{part, part_of};
+ghost use Rattle.upd_partial.specs.Needed.{cards_named, is_yank_card};
+ghost use Rattle.upd_partial.specs.Needless.{DoesWithout, IsOnWhole, NamesNone, is_plain, is_left_out, left_out};
+ghost use Rattle.upd_partial.specs.Needless.{reached_in_part};
+
+/// Loaded with the decks that hold the cards which a run names, a library gives the same refusal as the whole one, or
+/// the same idents and named decks; and what the run reaches then is the part of what it reaches from the whole: the
+/// decks that were loaded, and the new ones.
+pub fn runs_need_the_decks_that_they_name()
+    ensures { (ages : List Serial) (lines : List LineView) (l : LibraryView) → IsSound l → IsTrue (is_plain lines)
+        → NamesNone (is_left_out ages l) lines l
+        → applied lines (part_of ages l) ≡ reached_in_part (is_left_out ages l) (applied lines l) }
+{}
+
+/// The other decks stay as they are, `YANK$$$` too where the run names no card of it.
+pub fn other_decks_stay()
+    ensures decks { (out : Serial → Bool) (lines : List LineView) (l : LibraryView) (reached : Reached) → IsSound l
+        → DoesWithout out lines l
+        → applied lines l ≡ Ok reached → left_out out reached.library ≡ left_out out l }
+    ensures yanks { (out : Serial → Bool) (lines : List LineView) (l : LibraryView) (reached : Reached) → IsSound l
+        → DoesWithout out lines l
+        → applied lines l ≡ Ok reached → out 0 ≡ true → reached.library.yanks ≡ l.yanks }
+{}
+
+/// A run without yanks and purges that names no yank card changes the status of no card but those that it touches.
+pub fn untouched_cards_keep_their_status()
+    ensures { (out : Serial → Bool) (lines : List LineView) (l : LibraryView) (reached : Reached) → IsSound l
+        → DoesWithout out lines l
+        → applied lines l ≡ Ok reached → out 0 ≡ true
+        → (d : DeckView) (c : CardView) → Contains (all_decks reached.library) d → Contains d.cards c
+        → list_any (same_ref (ref_of reached.library.idents c)) (touched l reached.library) ≡ false
+        → status_of (ref_of reached.library.idents c) reached.library ≡ status_of (ref_of reached.library.idents c) l }
+{}
+
+/// A part of a sound library is sound.
+pub fn parts_of_sound_libraries_are_sound()
+    ensures { (out : Serial → Bool) (l : LibraryView) → IsSound l → IsSound (part out l) }
+{}
+
+/// The row changes that lead from a part to what a run reaches from it lead from the whole to what the run reaches
+/// from the whole: decks that are left out stay, and tell nothing. The run touches the same cards in both.
+pub fn changes_of_a_part_are_changes_of_the_whole()
+    ensures told { (out : Serial → Bool) (lines : List LineView) (l : LibraryView) (reached : Reached)
+        → (changes : List ChangeView) → out 0 ≡ false → IsSound l → IsTrue (is_within_limits l)
+        → DoesWithout out lines l → applied lines l ≡ Ok reached
+        → Told (part out l) (part out reached.library) changes → Told l reached.library changes }
+    ensures touched { (out : Serial → Bool) (lines : List LineView) (l : LibraryView) (reached : Reached)
+        → out 0 ≡ false → IsSound l → DoesWithout out lines l → applied lines l ≡ Ok reached
+        → touched (part out l) (part out reached.library) ≡ touched l reached.library }
+{}
+
+/// A run that was applied to the decks which hold the cards that it names has been applied to the whole library.
+pub fn runs_on_a_part_are_runs_on_the_whole()
+    ensures { (ages : List Serial) (lines : List LineView) (l : LibraryView) (here : Reached)
+        → (changes : List ChangeView) → IsSound l → IsTrue (is_within_limits l) → IsTrue (is_plain lines)
+        → NamesNone (is_left_out ages l) lines l → applied lines (part_of ages l) ≡ Ok here
+        → Told (part_of ages l) here.library changes → IsOnWhole (is_left_out ages l) lines l here changes }
+{}
+
+/// Row changes that lead from a sound library to what a run reaches from it can be carried out on tables that show the
+/// library, and then these show what was reached. They take the cards that are gone.
+pub fn changes_lead_to_what_is_reached()
+    ensures shows { (lines : List LineView) (l : LibraryView) (reached : Reached) (changes : List ChangeView)
+        → (rows : Rows) → IsSound l → applied lines l ≡ Ok reached → Told l reached.library changes → Shows rows l
+        → Shows (done_all changes rows) reached.library }
+    ensures fits { (lines : List LineView) (l : LibraryView) (reached : Reached) (changes : List ChangeView)
+        → (rows : Rows) → IsSound l → applied lines l ≡ Ok reached → Told l reached.library changes → Shows rows l
+        → AllFit changes rows }
+    ensures states { (lines : List LineView) (l : LibraryView) (reached : Reached) (changes : List ChangeView)
+        → IsSound l → applied lines l ≡ Ok reached → Told l reached.library changes
+        → TakeGone l reached.library changes }
+{}
+
+/// A run without yanks and purges that names no yank card leaves `YANK$$$` as it is, and the cards in decks that it does
+/// without keep their statuses.
+pub fn cards_left_out_keep_their_statuses()
+    ensures named { (lines : List LineView) (l : LibraryView) → list_any (is_yank_card l) (cards_named lines) ≡ false
+        → NamesNone (λ d. d == 0) lines l }
+    ensures yanks { (lines : List LineView) (l : LibraryView) (reached : Reached) → IsSound l
+        → IsTrue (is_plain lines) → list_any (is_yank_card l) (cards_named lines) ≡ false
+        → applied lines l ≡ Ok reached → reached.library.yanks ≡ l.yanks }
+    ensures statuses { (out : Serial → Bool) (lines : List LineView) (l : LibraryView) (reached : Reached) → IsSound l
+        → DoesWithout out lines l → list_any (is_yank_card l) (cards_named lines) ≡ false
+        → applied lines l ≡ Ok reached
+        → (d : DeckView) (c : CardView) → Contains (left_out out l) d → Contains d.cards c
+        → status_of (ref_of l.idents c) reached.library ≡ status_of (ref_of l.idents c) l }
+{}

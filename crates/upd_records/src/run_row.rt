@@ -1,0 +1,33 @@
+//! The row of a run that was answered.
+
+use std::marker::Model;
+
+/// A run with its answer, as it is kept for repeats. Site and number are its key.
+#[derive(Debug, Drop)]
+pub struct RunRow {
+    pub site: String,
+    pub number: u64,
+    /// 0 full, 1 quick, 2 normal.
+    pub mode: u32,
+    /// The run as it was sent.
+    pub bytes: Vec<u8>,
+    pub accepted: bool,
+    /// The answer as it was sent.
+    pub reply: Vec<u8>,
+}
+
+impl Model for RunRow {
+    ghost use Rattle.std.specs.Prelude.{string_bytes};
+    ghost use Rattle.upd_records.specs.Rows.{RunView};
+
+    ghost Value = { RunView };
+
+    ghost view = { λ r. record {
+      site = string_bytes r.site;
+      number = r.number;
+      mode = r.mode;
+      bytes = r.bytes.items;
+      accepted = r.accepted;
+      reply = r.reply.items;
+    } };
+}

@@ -1,0 +1,13 @@
+pub mod TableLemmas
+pub mod StoreLemmas
+mod PartLemmas
+pub mod KeepingLemmas
+mod SortLemmas
+mod RowLemmas
+mod PlaceLemmas
+mod AssembleLemmas
+pub mod HolderLemmas
+pub mod KeyLemmas
+mod ActiveLemmas
+mod RestLemmas
+pub mod AskedLemmas

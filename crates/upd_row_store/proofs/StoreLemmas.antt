@@ -1,0 +1,77 @@
+-- What a store keeps, and what a crash leaves of it, over several calls.
+use Rattle.std.proofs.Common.{◌≡◌, ℕ, ◌⊎◌, inl, inr, refl, ◌∙◌, subst, arith}
+use Rattle.upd_records.specs.Rows.{Rows}
+use Rattle.upd_row_store.specs.Keeping.{Keeps, Tries}
+
+module _ {S : Type 0} {Image : Type 0} (is_honest is_open : S → Type 0) (image : S → Image) (shows : Image → Rows → Type 0)
+    (may_leave : S → Image → Type 0) (failures : S → ℕ) where
+  abbrev KeepsIt : S → S → Type 0
+  KeepsIt = Keeps is_honest is_open image shows may_leave failures
+
+  abbrev TriesIt : (Rows → Type 0) → (Rows → Rows) → S → S → Type 0
+  TriesIt = Tries is_honest is_open image shows may_leave failures
+
+  -- nothing was called
+  pub keeps_still : (s : S) → KeepsIt s s
+  keeps_still s = record { honest = λ h. h; was_open = λ h o. o; same = λ h o. refl; crash = λ h i may. may; counts = omega arith }
+
+  -- two calls that read
+  pub keeps_keeps : {old mid new : S} → KeepsIt old mid → KeepsIt mid new → KeepsIt old new
+  keeps_keeps a b = record {
+    honest = λ h. a.honest (b.honest h);
+    was_open = λ h o. a.was_open (b.honest h) (b.was_open h o);
+    same = λ h o. b.same h o ∙ a.same (b.honest h) (b.was_open h o);
+    crash = λ h i may. a.crash (b.honest h) i (b.crash h i may);
+    counts = omega (arith, a.counts, b.counts);
+  }
+
+  -- a call that reads, then one that tries to write
+  pub keeps_tries : {fits : Rows → Type 0} {write : Rows → Rows} {old mid new : S} → KeepsIt old mid → TriesIt fits write mid new
+      → TriesIt fits write old new
+  keeps_tries {fits} {write} {old} {mid} {new} a b = record {
+    honest = λ h. a.honest (b.honest h);
+    was_open = λ h o. a.was_open (b.honest h) (b.was_open h o);
+    crash = λ h i may. from (b.honest h) i (b.crash h i may);
+    counts = omega (arith, a.counts, b.counts);
+  }
+    where
+      Written : S → Image → Type 0
+      Written s i = is_open s × ((rows : Rows) → shows (image s) rows → fits rows → shows i (write rows))
+
+      from : is_honest mid → (i : Image) → may_leave mid i ⊎ Written mid i → may_leave old i ⊎ Written old i
+      from h i (inl may) = inl (a.crash h i may)
+      from h i (inr written) = inr (
+        a.was_open h written.0,
+        subst (λ j. (rows : Rows) → shows j rows → fits rows → shows i (write rows)) (a.same h written.0) written.1,
+      )
+
+  -- a call that tries to write, then one that reads
+  pub tries_keeps : {fits : Rows → Type 0} {write : Rows → Rows} {old mid new : S} → TriesIt fits write old mid → KeepsIt mid new
+      → TriesIt fits write old new
+  tries_keeps a b = record {
+    honest = λ h. a.honest (b.honest h);
+    was_open = λ h o. a.was_open (b.honest h) (b.was_open h o);
+    crash = λ h i may. a.crash (b.honest h) i (b.crash h i may);
+    counts = omega (arith, a.counts, b.counts);
+  }
+
+  -- a call that reads tries no more than any write
+  pub keeps_as_tries : {fits : Rows → Type 0} {write : Rows → Rows} {old new : S} → KeepsIt old new → TriesIt fits write old new
+  keeps_as_tries a = record { honest = a.honest; was_open = a.was_open; crash = λ h i may. inl (a.crash h i may); counts = a.counts }
+
+  -- a write of fewer tables, which does the same to them
+  pub tries_weaker : {fits fewer : Rows → Type 0} {write other : Rows → Rows} {old new : S} → ((rows : Rows) → fewer rows → fits rows)
+      → ((rows : Rows) → fewer rows → write rows ≡ other rows) → TriesIt fits write old new → TriesIt fewer other old new
+  tries_weaker {fits} {fewer} {write} {other} {old} {new} fit same a = record {
+    honest = a.honest;
+    was_open = a.was_open;
+    crash = λ h i may. from i (a.crash h i may);
+    counts = a.counts;
+  }
+    where
+      Written : (Rows → Type 0) → (Rows → Rows) → Image → Type 0
+      Written test change i = is_open old × ((rows : Rows) → shows (image old) rows → test rows → shows i (change rows))
+
+      from : (i : Image) → may_leave old i ⊎ Written fits write i → may_leave old i ⊎ Written fewer other i
+      from i (inl may) = inl may
+      from i (inr written) = inr (written.0, λ rows shown few. subst (λ r. shows i r) (same rows few) (written.1 rows shown (fit rows few)))

@@ -1,0 +1,11 @@
+use Rattle.std.proofs.Common.{Bool, rules}
+use Rattle.std.proofs.lemmas.Fn.{filter_same}
+use Rattle.std.specs.BTreeSet as sorted
+use Rattle.upd_text.specs.Order.{by_name}
+use Rattle.upd_text.specs.declared.card_ref.CardRef.{CardRef}
+use Rattle.upd_row_store.proofs.asked.keep_states.Goals as goal
+
+pub returns : goal.returns
+returns c =
+    let stays : CardRef × Bool → Bool = λ p. sorted.contains by_name c.args.cards.now p.0 in
+    filter_same _ stays _ (λ x b f k. search rules) _ _ c.retain.ensures.filtered

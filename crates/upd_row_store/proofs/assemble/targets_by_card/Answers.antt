@@ -1,0 +1,6 @@
+use Rattle.std.proofs.Common.{rules}
+use Rattle.std.proofs.lemmas.Fn.{always_returns_same}
+use Rattle.upd_row_store.proofs.assemble.targets_by_card.Goals as goal
+
+pub returns-clause-sorted : goal.returns-clause-sorted
+returns-clause-sorted c = c.sort_unstable_by_key.ensures.sorted (λ r. (r.card, r.ord)) (always_returns_same _ _ _ (λ a r f k. search rules))

@@ -1,0 +1,24 @@
+-- Which decks hold cards that a store is asked for.
+use Rattle.std.specs.Prelude.{◌≡◌, ℕ, ◌==◌, Bool, ◌&&◌, List, map}
+use Rattle.std.specs.List.{filter, list_any}
+use Rattle.upd_text.specs.declared.card_ref.CardRef.{CardRef}
+use Rattle.upd_core.specs.Edits.{is_among}
+use Rattle.upd_core.specs.declared.ident.Ident.{Ident}
+use Rattle.upd_core.specs.Library.{DeckView, LibraryView, ref_of}
+use Rattle.upd_records.specs.Rows.{CardRow, same_ref}
+
+-- whether a card is one of those that are asked for
+abbrev pub is_asked : List CardRef → CardRef → Bool
+is_asked cards card = list_any (λ c. same_ref c card) cards
+
+-- whether a deck holds one of them
+abbrev pub holds_one : List CardRef → List Ident → DeckView → Bool
+holds_one cards idents d = list_any (λ c. is_asked cards (ref_of idents c)) d.cards
+
+-- the ages of the decks other than `YANK$$$` that hold one of them, by age, each once
+abbrev pub decks_with : List CardRef → LibraryView → List ℕ
+decks_with cards l = map (λ d. d.ident) (filter (holds_one cards l.idents) l.decks)
+
+-- These ages, in whatever order, are those of the decks in the rows of the cards that are asked for, 0 for `YANK$$$` among them.
+abbrev pub AreDecksOf : List CardRef → List CardRow → List ℕ → Type 0
+AreDecksOf cards rows ages = (d : ℕ) → is_among ages d ≡ list_any (λ r. (r.deck == d) && is_asked cards r.card) rows

@@ -1,0 +1,6 @@
+pub mod Tables
+pub mod Keeping
+pub mod Assembling
+pub mod Asked
+pub mod Activating
+pub mod PartRows

@@ -1,0 +1,89 @@
+//! What stores answer, whatever they keep their rows in.
+ghost use Rattle.std.specs.Prelude.{◌≡◌, IfOk, List, map};
+ghost use Rattle.std.specs.BTreeSet as sorted;
+ghost use Rattle.std.specs.List.{filter};
+ghost use Rattle.upd_text.specs.Order.{by_name};
+ghost use Rattle.upd_text.specs.declared.card_ref.CardRef.{CardRef};
+ghost use Rattle.upd_core.specs.Library.{LibraryView};
+ghost use Rattle.upd_core.specs.Sound.{IsSound};
+ghost use Rattle.upd_records.specs.Rows.{Rows, Shows};
+ghost use Rattle.upd_row_store.specs.Asked.{AreDecksOf, decks_with, is_asked};
+ghost use Rattle.upd_row_store.specs.Keeping.{reads_with};
+ghost use Rattle.upd_row_store.specs.Tables.{AreByKey, AreRead};
+
+use std::alloc::{AllocError, Global};
+use std::collections::BTreeSet;
+use upd_core::{CardRef, Library, Serial, States};
+use upd_records::{CardRow, same_ref};
+
+/// How many decks are read with one more library; it stops at the last value.
+pub fn reads_with(reads: u64, library: &Library) -> u64
+    ensures { result ≡ reads_with library.now reads }
+{
+    reads.saturating_add(library.decks().len() as u64)
+}
+
+/// Whether a card is one of those that are asked for.
+fn is_asked(cards: &[CardRef], card: &CardRef) -> bool
+    ensures { result ≡ is_asked cards.now card.now }
+{
+    cards.iter().any(|asked| same_ref(asked, card))
+}
+
+/// The ages of the decks in the rows of cards that are asked for, as often; memory alone can fail.
+pub fn ages_of_decks(
+    alloc: Global,
+    rows: &[CardRow],
+    cards: &[CardRef],
+) -> Result<Vec<Serial>, AllocError>
+    ensures { IfOk result (λ ages. ages.items ≡ map (λ r. r.deck) (filter (λ r. is_asked cards.now r.card) rows.now)) }
+{
+    let mut ages = Vec::new(alloc);
+    for row in rows {
+        if is_asked(cards, &row.card) {
+            ages.push(row.deck)?;
+        }
+    }
+    Ok(ages)
+}
+
+/// The decks of rows of cards by age, each once, without `YANK$$$`.
+pub fn decks_by_age(ages: Vec<Serial>) -> Vec<Serial>
+    ensures { (cards : List CardRef) (rows : Rows) (l : LibraryView) → IsSound l → Shows rows l
+        → AreDecksOf cards rows.cards ages.items → result.items ≡ decks_with cards l }
+{
+    let mut ages = ages;
+    ages.retain(|age| *age != 0);
+    ages.sort_unstable();
+    ages.dedup();
+    ages
+}
+
+/// These cards as a set; memory alone can fail.
+pub fn card_set(alloc: Global, cards: &[CardRef]) -> Result<BTreeSet<CardRef>, AllocError>
+    ensures { IfOk result (λ set. (card : CardRef) → sorted.contains by_name set card ≡ is_asked cards.now card) }
+{
+    let mut set = BTreeSet::new(alloc);
+    for card in cards {
+        set.insert(*card)?;
+    }
+    Ok(set)
+}
+
+/// Takes the statuses of other cards away.
+pub fn keep_states(states: &mut Vec<(CardRef, bool)>, cards: &BTreeSet<CardRef>)
+    ensures { states.new.items ≡ filter (λ p. sorted.contains by_name cards.now p.0) states.old.items }
+{
+    states.retain(|pair| cards.contains(&pair.0));
+}
+
+/// Statuses and counts in the order of their tables' keys.
+pub fn states_by_key(states: States) -> States
+    ensures read { (rows : Rows) → AreRead rows states → AreRead rows result }
+    ensures order { AreByKey result }
+{
+    let mut states = states;
+    states.states.sort_unstable_by_key(|pair| pair.0);
+    states.counts.sort_unstable_by_key(|pair| pair.0);
+    states
+}

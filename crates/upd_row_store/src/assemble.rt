@@ -1,0 +1,265 @@
+//! A library out of its rows, which come in any order.
+ghost use Rattle.std.specs.Prelude.{◌≡◌, ℕ, List, IfOk, IsPermutation, length};
+ghost use Rattle.std.specs.List.{filter};
+ghost use Rattle.upd_core.specs.Library.{LibraryView, empty};
+ghost use Rattle.upd_core.specs.Sound.{IsSound, IsWhole};
+ghost use Rattle.upd_core.specs.declared.ident.Ident.{Ident};
+ghost use Rattle.upd_records.specs.Rows.{Rows, Shows, same_ref};
+ghost use Rattle.upd_row_store.specs.Assembling.{AreAgesOf, AreByAge, AreEntriesByCard, AreByPlace, AreRowsOf};
+ghost use Rattle.upd_row_store.specs.Assembling.{AreTargetsByCard, age_named, card_of_row, decks_in, entries_of, library_of};
+ghost use Rattle.upd_row_store.specs.Assembling.{targets_of};
+ghost use Rattle.upd_core.specs.Parts.{part_of};
+ghost use Rattle.upd_row_store.specs.PartRows.{AreOfDistinctCards, part_rows};
+
+use crate::parts::part_of;
+use std::alloc::{AllocError, Global};
+use std::collections::BTreeMap;
+use std::mem;
+use upd_core::{Card, CardRef, Deck, Entry, Ident, Library, Rest, Serial, Target};
+use upd_records::{CardRow, EntryRow, LibraryRows, TargetRow};
+use upd_text::Name;
+
+pub(crate) fn by_age(idents: Vec<Ident>) -> Vec<Ident>
+    ensures permutation { IsPermutation idents.items result.items }
+    ensures sorted { AreByAge result.items }
+{
+    let mut idents = idents;
+    idents.sort_unstable_by_key(|ident| ident.age);
+    idents
+}
+
+pub(crate) fn by_place(rows: Vec<CardRow>) -> Vec<CardRow>
+    ensures permutation { IsPermutation rows.items result.items }
+    ensures sorted { AreByPlace result.items }
+{
+    let mut rows = rows;
+    rows.sort_unstable_by_key(|row| (row.deck, row.pos));
+    rows
+}
+
+fn entries_by_card(rows: Vec<EntryRow>) -> Vec<EntryRow>
+    ensures permutation { IsPermutation rows.items result.items }
+    ensures sorted { AreEntriesByCard result.items }
+{
+    let mut rows = rows;
+    rows.sort_unstable_by_key(|row| (row.card, row.ord));
+    rows
+}
+
+fn targets_by_card(rows: Vec<TargetRow>) -> Vec<TargetRow>
+    ensures permutation { IsPermutation rows.items result.items }
+    ensures sorted { AreTargetsByCard result.items }
+{
+    let mut rows = rows;
+    rows.sort_unstable_by_key(|row| (row.card, row.ord));
+    rows
+}
+
+/// The rows of a card's entries: they stand side by side.
+fn entry_rows<'a>(rows: &'a [EntryRow], card: &CardRef) -> &'a [EntryRow]
+    requires { AreEntriesByCard rows.now }
+    ensures { result.now ≡ filter (λ r. same_ref card.now r.card) rows.now }
+{
+    let behind = &rows[rows.partition_point(|row| row.card.cmp(card).is_lt())..];
+    &behind[..behind.partition_point(|row| row.card.cmp(card).is_le())]
+}
+
+/// The rows of a card's targets.
+fn target_rows<'a>(rows: &'a [TargetRow], card: &CardRef) -> &'a [TargetRow]
+    requires { AreTargetsByCard rows.now }
+    ensures { result.now ≡ filter (λ r. same_ref card.now r.card) rows.now }
+{
+    let behind = &rows[rows.partition_point(|row| row.card.cmp(card).is_lt())..];
+    &behind[..behind.partition_point(|row| row.card.cmp(card).is_le())]
+}
+
+/// The history of a card.
+fn history_of(alloc: Global, rows: &[EntryRow], card: &CardRef) -> Result<Vec<Entry>, AllocError>
+    requires { AreEntriesByCard rows.now }
+    ensures { IfOk result (λ history. history.items ≡ entries_of card.now rows.now) }
+{
+    let own = entry_rows(rows, card);
+    let mut history = Vec::with_capacity(alloc, own.len())?;
+    for row in own {
+        history.push(row.entry)?;
+    }
+    Ok(history)
+}
+
+/// What a yank card takes.
+fn targets_of(alloc: Global, rows: &[TargetRow], card: &CardRef) -> Result<Vec<Target>, AllocError>
+    requires { AreTargetsByCard rows.now }
+    ensures { IfOk result (λ targets. targets.items ≡ targets_of card.now rows.now) }
+{
+    let own = target_rows(rows, card);
+    let mut targets = Vec::with_capacity(alloc, own.len())?;
+    for row in own {
+        targets.push(row.target)?;
+    }
+    Ok(targets)
+}
+
+/// The ages of held idents, by name.
+pub(crate) fn held_ages(
+    alloc: Global,
+    idents: &[Ident],
+) -> Result<BTreeMap<Name, Serial>, AllocError>
+    ensures { IfOk result (λ ages. AreAgesOf idents.now ages) }
+{
+    let mut ages = BTreeMap::new(alloc);
+    for i in (0..idents.len()).rev() {
+        let ident = idents[i];
+        if ident.held {
+            ages.insert(ident.name, ident.age)?;
+        }
+    }
+    Ok(ages)
+}
+
+/// The age of the held ident of a name, 0 where there is none.
+pub(crate) fn age_of(ages: &BTreeMap<Name, Serial>, name: &Name) -> Serial
+    ensures { (idents : List Ident) → AreAgesOf idents ages.now → result ≡ age_named idents name.now }
+{
+    match ages.get(name) {
+        Some(age) => *age,
+        None => 0,
+    }
+}
+
+/// The card of a row.
+fn card_of(
+    alloc: Global,
+    row: &CardRow,
+    ages: &BTreeMap<Name, Serial>,
+    rows: &LibraryRows,
+) -> Result<Card, AllocError>
+    requires ages { AreAgesOf rows.now.idents.items ages.now }
+    requires entries { AreEntriesByCard rows.now.entries.items }
+    requires targets { AreTargetsByCard rows.now.targets.items }
+    ensures { IfOk result (λ card. card
+        ≡ card_of_row rows.now.idents.items rows.now.entries.items rows.now.targets.items row.now) }
+{
+    let text = Vec::from_slice(alloc, &row.body)?;
+    let history = history_of(alloc, &rows.entries, &row.card)?;
+    let targets = targets_of(alloc, &rows.targets, &row.card)?;
+    Ok(Card {
+        ident: age_of(ages, &row.card.name),
+        number: row.card.number,
+        text,
+        history,
+        targets,
+    })
+}
+
+/// All decks, `YANK$$$` in front.
+fn decks_in(alloc: Global, rows: &LibraryRows) -> Result<Vec<Deck>, AllocError>
+    requires entries { AreEntriesByCard rows.now.entries.items }
+    requires targets { AreTargetsByCard rows.now.targets.items }
+    ensures { IfOk result (λ decks. decks.items
+        ≡ decks_in rows.now.idents.items rows.now.entries.items rows.now.targets.items rows.now.cards.items) }
+{
+    let ages = held_ages(alloc, &rows.idents)?;
+    let mut decks = Vec::new(alloc);
+    let mut deck = Deck {
+        ident: 0,
+        cards: Vec::new(alloc),
+    };
+    for row in &rows.cards {
+        let card = card_of(alloc, row, &ages, rows)?;
+        if row.deck != deck.ident {
+            let next = Deck {
+                ident: row.deck,
+                cards: Vec::new(alloc),
+            };
+            decks.push(mem::replace(&mut deck, next))?;
+        }
+        deck.cards.push(card)?;
+    }
+    decks.push(deck)?;
+    Ok(decks)
+}
+
+/// The library of a directory and decks, of which the first is `YANK$$$`, with a rest.
+fn library_with(alloc: Global, idents: Vec<Ident>, decks: Vec<Deck>, rest: Rest) -> Library
+    ensures { result ≡ record (library_of idents.items decks.items) { rest = rest } }
+{
+    let mut decks = decks;
+    if decks.is_empty() {
+        return Library::of_parts(idents, decks, Vec::new(alloc), rest);
+    }
+    let yanks = decks.remove(0);
+    Library::of_parts(idents, decks, yanks.cards, rest)
+}
+
+/// The library of a directory and decks, of which the first is `YANK$$$`, with no rest.
+fn library_of(alloc: Global, idents: Vec<Ident>, decks: Vec<Deck>) -> Library
+    ensures { result ≡ library_of idents.items decks.items }
+{
+    let rest = Rest {
+        cards: 0,
+        entries: 0,
+    };
+    library_with(alloc, idents, decks, rest)
+}
+
+/// The directory and the decks of rows that come in any order.
+fn idents_and_decks(alloc: Global, rows: LibraryRows) -> Result<(Vec<Ident>, Vec<Deck>), AllocError>
+    ensures { (tables : Rows) (l : LibraryView) → IsSound l → Shows tables l → AreRowsOf tables rows
+        → IfOk result (λ found. library_of found.0.items found.1.items ≡ record l { rest = empty.rest }) }
+{
+    let rows = LibraryRows {
+        idents: by_age(rows.idents),
+        cards: by_place(rows.cards),
+        entries: entries_by_card(rows.entries),
+        targets: targets_by_card(rows.targets),
+    };
+    let decks = decks_in(alloc, &rows)?;
+    Ok((rows.idents, decks))
+}
+
+/// The library of rows that come in any order; memory alone can fail. Where they are no library's rows it is some
+/// library, of which nothing is promised.
+pub fn assembled(alloc: Global, rows: LibraryRows) -> Result<Library, AllocError>
+    ensures part { (tables : Rows) (l : LibraryView) → IsSound l → Shows tables l → AreRowsOf tables rows
+        → IfOk result (λ found. found ≡ record l { rest = empty.rest }) }
+    ensures whole { (tables : Rows) (l : LibraryView) → IsSound l → IsWhole l → Shows tables l → AreRowsOf tables rows
+        → IfOk result (λ found. found ≡ l) }
+{
+    let (idents, decks) = idents_and_decks(alloc, rows)?;
+    Ok(library_of(alloc, idents, decks))
+}
+
+/// The library of rows that come in any order, without the decks other than `YANK$$$` that aren't of these ages: what
+/// they have is counted. Memory alone can fail.
+pub fn assembled_part(
+    alloc: Global,
+    rows: LibraryRows,
+    ages: &[Serial],
+) -> Result<Library, AllocError>
+    ensures { (tables : Rows) (l : LibraryView) → IsSound l → IsWhole l → Shows tables l → AreRowsOf tables rows
+        → IfOk result (λ found. found ≡ part_of ages.now l) }
+{
+    let (idents, decks) = idents_and_decks(alloc, rows)?;
+    Ok(part_of(alloc, idents, decks, ages))
+}
+
+/// A part of a library from its own rows: all idents and targets, the cards of `YANK$$$` and of the decks that are
+/// loaded, and the entries of these cards. `cards` and `entries` are the numbers in the whole library: what isn't among
+/// the rows is the rest.
+pub fn assembled_with_rest(
+    alloc: Global,
+    rows: LibraryRows,
+    cards: u64,
+    entries: u64,
+) -> Result<Library, AllocError>
+    ensures { (ages : List ℕ) (tables : Rows) (l : LibraryView) → IsSound l → IsWhole l → Shows tables l
+        → (AreOfDistinctCards tables.cards → AreRowsOf (part_rows ages tables) rows) → cards ≡ length tables.cards
+        → entries ≡ length tables.entries → IfOk result (λ found. found ≡ part_of ages l) }
+{
+    let rest = Rest {
+        cards: (cards as usize).saturating_sub(rows.cards.len()),
+        entries: (entries as usize).saturating_sub(rows.entries.len()),
+    };
+    let (idents, decks) = idents_and_decks(alloc, rows)?;
+    Ok(library_with(alloc, idents, decks, rest))
+}

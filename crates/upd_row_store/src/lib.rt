@@ -1,0 +1,13 @@
+//! What a store of rows promises, and a library made of its rows.
+#![tactic(auto)]
+
+pub mod active;
+pub mod asked;
+pub mod assemble;
+mod parts;
+pub mod store;
+
+pub use active::assembled_active;
+pub use asked::{ages_of_decks, card_set, decks_by_age, keep_states, reads_with, states_by_key};
+pub use assemble::{assembled, assembled_part, assembled_with_rest};
+pub use store::RowStore;

@@ -1,7 +1,0 @@
-use Rattle.std.proofs.Common.{◌≡◌, ◌++◌, drop}
-use Rattle.upd_rows.specs.Activating.{actives_from, actives_in}
-use Rattle.upd_rows.proofs.active.active_decks.Given as goal
-
-abbrev pub invariant-loop-row : goal.invariant-loop-row
-invariant-loop-row l =
-    l.decks.items ++ actives_from l.idents l.states l.deck (drop l.row-index l.cards) ≡ actives_in l.idents l.states l.cards

@@ -1,7 +1,0 @@
-use Rattle.std.proofs.Common.{◌≡◌, map, take}
-use Rattle.std.specs.List.{filter}
-use Rattle.upd_rows.specs.Asked.{is_asked}
-use Rattle.upd_rows.proofs.asked.ages_of_decks.Given as goal
-
-abbrev pub invariant-loop-row : goal.invariant-loop-row
-invariant-loop-row l = l.ages.items ≡ map (λ r. r.deck) (filter (λ r. is_asked l.cards r.card) (take l.row-index l.rows))

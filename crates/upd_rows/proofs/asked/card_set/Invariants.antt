@@ -1,6 +1,0 @@
-use Rattle.std.proofs.Common.{take}
-use Rattle.upd_rows.proofs.AskedLemmas.{IsSetOf}
-use Rattle.upd_rows.proofs.asked.card_set.Given as goal
-
-abbrev pub invariant-loop-card : goal.invariant-loop-card
-invariant-loop-card l = IsSetOf (take l.card-index l.cards) l.set

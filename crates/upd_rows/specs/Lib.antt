@@ -1,7 +1,0 @@
-pub mod Tables
-pub mod Keeping
-pub mod Lists
-pub mod Assembling
-pub mod Asked
-pub mod Activating
-pub mod PartRows

@@ -1,0 +1,5 @@
+pub mod Rising
+pub mod RisingStores
+pub mod Stored
+pub mod Keyed
+pub mod Steps
