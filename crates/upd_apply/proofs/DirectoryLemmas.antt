@@ -19,8 +19,8 @@ use Rattle.upd_core.specs.Sound.{Continues}
 use Rattle.upd_deck.specs.Items.{ItemView, LineView, Text, Call, Ident, Deck, CommonDeck, Insert, Before, Delete, Restore, Yank, SelYank, YankDeck, Purge}
 use Rattle.upd_deck.specs.Items.{PurgeFrom}
 use Rattle.upd_deck.specs.Items.{SelPurge, PurDeck, Compile}
-use Rattle.upd_apply.specs.declared.state.Spot.{Spot}
-use Rattle.upd_apply.specs.declared.state.Spot.TheVariants.{Nowhere, End, Inside}
+use Rattle.upd_apply.specs.declared.state.InsertPoint.{InsertPoint}
+use Rattle.upd_apply.specs.declared.state.InsertPoint.TheVariants.{Nowhere, End, Inside}
 use Rattle.upd_apply.specs.declared.state.State.{State}
 use Rattle.upd_apply.specs.Applying.{stepped}
 use Rattle.upd_apply.specs.Names.{known_ident}
@@ -86,16 +86,16 @@ after_grown P l f h = go (is_within_limits l)
 cards_go : (age : ℕ) (change : List CardView → List CardView) (l : LibraryView) → Continues l.idents (with_cards age change l).idents
 cards_go age change l = subst (Continues l.idents) (sym (same_idents age change l)) (continues_same l.idents)
 
-text_goes : (text : List ℕ) (spot : Spot) (s : State) → IfOk (text_put text spot s) (GoesOn s)
+text_goes : (text : List ℕ) (insert_point : InsertPoint) (s : State) → IfOk (text_put text insert_point s) (GoesOn s)
 text_goes text Nowhere s = tt
 text_goes text (End d n) s =
     after_grown (GoesOn s) (with_card d 0 (new_card d n text []) s.library) _ (cards_go d (λ cards. insert cards (length cards - 0)
     (new_card d n text [])) s.library)
 text_goes text (Inside d n) s =
-    after_need (GoesOn s) fault.TextNowhere s.hand _ (λ hand e.
+    after_need (GoesOn s) fault.TextNowhere s.current_set _ (λ current_set e.
     after_refusal (GoesOn s) (d == 0) fault.YankText _ (λ f.
-    after_grown (GoesOn s) (with_card d n (new_card hand.ident hand.next text []) s.library) _
-    (cards_go d (λ cards. insert cards (length cards - n) (new_card hand.ident hand.next text [])) s.library)))
+    after_grown (GoesOn s) (with_card d n (new_card current_set.ident current_set.next text []) s.library) _
+    (cards_go d (λ cards. insert cards (length cards - n) (new_card current_set.ident current_set.next text [])) s.library)))
 
 set_goes : (name : List ℕ) (s : State) → IfOk (set_begun name s) (GoesOn s)
 set_goes name s =
@@ -113,32 +113,32 @@ deck_goes name sort noprop text s =
 
 yank_goes : (text : List ℕ) (targets : ℕ → LibraryView → Result (List Target) FaultKind) (s : State) → IfOk (yank_put text targets s) (GoesOn s)
 yank_goes text targets s =
-    after_need (GoesOn s) fault.NoIdent s.hand _ (λ hand e.
-    after_any (GoesOn s) (targets hand.ident s.library) _ (λ found.
-    after_grown (GoesOn s) (with_yank (new_card hand.ident hand.next text found) s.library) _ (continues_same s.library.idents)))
+    after_need (GoesOn s) fault.NoIdent s.current_set _ (λ current_set e.
+    after_any (GoesOn s) (targets current_set.ident s.library) _ (λ found.
+    after_grown (GoesOn s) (with_yank (new_card current_set.ident current_set.next text found) s.library) _ (continues_same s.library.idents)))
 
 after_goes : (card : CardRef) (s : State) → IfOk (placed_after card s) (GoesOn s)
 after_goes card s =
-    after_need (GoesOn s) fault.NoIdent s.hand _ (λ hand e.
+    after_need (GoesOn s) fault.NoIdent s.current_set _ (λ current_set e.
     after_need (GoesOn s) fault.CardUnknown (place_of card s.library) _ (λ p f.
     after_refusal (GoesOn s) (p.deck == 0) fault.YankText _ (λ g. continues_same s.library.idents)))
 
 before_goes : (card : CardRef) (s : State) → IfOk (placed_before card s) (GoesOn s)
 before_goes card s =
-    after_need (GoesOn s) fault.NoIdent s.hand _ (λ hand e.
+    after_need (GoesOn s) fault.NoIdent s.current_set _ (λ current_set e.
     after_need (GoesOn s) fault.CardUnknown (place_of card s.library) _ (λ p f.
     after_refusal (GoesOn s) (p.deck == 0) fault.YankText _ (λ g.
     after_refusal (GoesOn s) (is_deck_card p) fault.DeckCard _ (λ k. continues_same s.library.idents))))
 
 switched_goes : (active : Bool) (first last : CardRef) (s : State) → IfOk (switched active first last s) (GoesOn s)
 switched_goes active first last s =
-    after_need (GoesOn s) fault.NoIdent s.hand _ (λ hand e.
+    after_need (GoesOn s) fault.NoIdent s.current_set _ (λ current_set e.
     after_need (GoesOn s) fault.CardUnknown (place_of first s.library) _ (λ p f.
     after_need (GoesOn s) fault.CardUnknown (place_of last s.library) _ (λ q g.
     after_refusal (GoesOn s) (not (p.deck == q.deck) || nat_lt q.index p.index) fault.RangeOrder _ (λ k.
     after_refusal (GoesOn s) (is_deck_card p) fault.DeckCard _ (λ n.
-    after_grown (GoesOn s) (with_entries p.deck p.index q.index (record { ident = hand.ident; active = active }) s.library) _
-    (cards_go p.deck (λ cards. take p.index cards ++ map (entered (record { ident = hand.ident; active = active })) (drop p.index (take (q.index + 1) cards))
+    after_grown (GoesOn s) (with_entries p.deck p.index q.index (record { ident = current_set.ident; active = active }) s.library) _
+    (cards_go p.deck (λ cards. take p.index cards ++ map (entered (record { ident = current_set.ident; active = active })) (drop p.index (take (q.index + 1) cards))
     ++ drop (q.index + 1) cards) s.library))))))
 
 parts_go : (ages : List AgesIn) (l : LibraryView) → Continues l.idents (purged_in_all ages l).idents
@@ -148,8 +148,8 @@ parts_go (a ∷ ages) l =
     (purged_in a.deck a.ident l))
 
 line_goes : (item : ItemView) (text : List ℕ) (s : State) → IfOk (line_done item text s) (GoesOn s)
-line_goes Text text s = text_goes text s.spot s
-line_goes (Call name) text s = text_goes text s.spot s
+line_goes Text text s = text_goes text s.insert_point s
+line_goes (Call name) text s = text_goes text s.insert_point s
 line_goes (Ident name) text s = set_goes name s
 line_goes (Deck name) text s = deck_goes name kind.Deck false text s
 line_goes (CommonDeck name noprop) text s = deck_goes name kind.Common noprop text s

@@ -15,8 +15,8 @@ use Rattle.upd_core.specs.Library.{LibraryView, place_of}
 use Rattle.upd_core.specs.Limits.{is_within_limits}
 use Rattle.upd_deck.specs.Items.{ItemView, LineView, Text, Call, Ident, Deck, CommonDeck, Insert, Before, Delete, Restore, Yank, SelYank, YankDeck}
 use Rattle.upd_deck.specs.Items.{Purge, PurgeFrom, SelPurge, PurDeck, Compile}
-use Rattle.upd_apply.specs.declared.state.Spot.{Spot}
-use Rattle.upd_apply.specs.declared.state.Spot.TheVariants.{Nowhere, End, Inside}
+use Rattle.upd_apply.specs.declared.state.InsertPoint.{InsertPoint}
+use Rattle.upd_apply.specs.declared.state.InsertPoint.TheVariants.{Nowhere, End, Inside}
 use Rattle.upd_apply.specs.declared.state.State.{State}
 use Rattle.upd_apply.specs.Names.{known_ident}
 use Rattle.upd_apply.specs.Numbers.{next_most}
@@ -45,37 +45,37 @@ deck_rises name sort noprop text s =
 
 after_rises : (card : CardRef) (s : State) → IfOk (placed_after card s) (Rises s)
 after_rises card s =
-    after_any _ (need fault.NoIdent s.hand) _ (λ _. after_any _ (need fault.CardUnknown (place_of card s.library)) _ (λ p.
+    after_any _ (need fault.NoIdent s.current_set) _ (λ _. after_any _ (need fault.CardUnknown (place_of card s.library)) _ (λ p.
     after_any _ (refuse_if (p.deck == 0) fault.YankText) _ (λ _. omega arith)))
 
 before_rises : (card : CardRef) (s : State) → IfOk (placed_before card s) (Rises s)
 before_rises card s =
-    after_any _ (need fault.NoIdent s.hand) _ (λ _. after_any _ (need fault.CardUnknown (place_of card s.library)) _ (λ p.
+    after_any _ (need fault.NoIdent s.current_set) _ (λ _. after_any _ (need fault.CardUnknown (place_of card s.library)) _ (λ p.
     after_any _ (refuse_if (p.deck == 0) fault.YankText) _ (λ _. after_any _ (refuse_if (is_deck_card p) fault.DeckCard) _ (λ _. omega arith))))
 
 switched_rises : (active : Bool) (first last : CardRef) (s : State) → IfOk (switched active first last s) (Rises s)
 switched_rises active first last s =
-    after_any _ (need fault.NoIdent s.hand) _ (λ hand. after_any _ (need fault.CardUnknown (place_of first s.library)) _ (λ p.
+    after_any _ (need fault.NoIdent s.current_set) _ (λ current_set. after_any _ (need fault.CardUnknown (place_of first s.library)) _ (λ p.
     after_any _ (need fault.CardUnknown (place_of last s.library)) _ (λ q.
     after_any _ (refuse_if (not (p.deck == q.deck) || nat_lt q.index p.index) fault.RangeOrder) _ (λ _.
     after_any _ (refuse_if (is_deck_card p) fault.DeckCard) _ (λ _.
-    after_grown _ (with_entries p.deck p.index q.index (record { ident = hand.ident; active = active }) s.library) _ (omega arith))))))
+    after_grown _ (with_entries p.deck p.index q.index (record { ident = current_set.ident; active = active }) s.library) _ (omega arith))))))
 
-text_rises : (text : List ℕ) (spot : Spot) (s : State) → s.spot ≡ spot → IfOk (text_put text spot s) (Rises s)
+text_rises : (text : List ℕ) (insert_point : InsertPoint) (s : State) → s.insert_point ≡ insert_point → IfOk (text_put text insert_point s) (Rises s)
 text_rises text Nowhere s is = tt
 text_rises text (End d next) s is = after_grown _ (with_card d 0 (new_card d next text []) s.library) _ (rw is (omega arith))
 text_rises text (Inside d after) s is =
-    after_need _ fault.TextNowhere s.hand _ (λ hand held. after_any _ (refuse_if (d == 0) fault.YankText) _ (λ _.
-    after_grown _ (with_card d after (new_card hand.ident hand.next text []) s.library) _ (rw (is, held) (omega arith))))
+    after_need _ fault.TextNowhere s.current_set _ (λ current_set held. after_any _ (refuse_if (d == 0) fault.YankText) _ (λ _.
+    after_grown _ (with_card d after (new_card current_set.ident current_set.next text []) s.library) _ (rw (is, held) (omega arith))))
 
 yank_rises : (text : List ℕ) (targets : ℕ → LibraryView → Result (List Target) FaultKind) (s : State) → IfOk (yank_put text targets s) (Rises s)
 yank_rises text targets s =
-    after_need _ fault.NoIdent s.hand _ (λ hand held. after_any _ (targets hand.ident s.library) _ (λ found.
-    after_grown _ (with_yank (new_card hand.ident hand.next text found) s.library) _ (rw held (omega arith))))
+    after_need _ fault.NoIdent s.current_set _ (λ current_set held. after_any _ (targets current_set.ident s.library) _ (λ found.
+    after_grown _ (with_yank (new_card current_set.ident current_set.next text found) s.library) _ (rw held (omega arith))))
 
 done_rises : (item : ItemView) (text : List ℕ) (s : State) → IfOk (line_done item text s) (Rises s)
-done_rises Text text s = text_rises text s.spot s refl
-done_rises (Call name) text s = text_rises text s.spot s refl
+done_rises Text text s = text_rises text s.insert_point s refl
+done_rises (Call name) text s = text_rises text s.insert_point s refl
 done_rises (Ident name) text s = set_rises name s
 done_rises (Deck name) text s = deck_rises name kind.Deck false text s
 done_rises (CommonDeck name noprop) text s = deck_rises name kind.Common noprop text s

@@ -4,7 +4,7 @@ use Rattle.upd_text.specs.declared.fault.Fault.{Fault}
 use Rattle.upd_core.specs.Library.{LibraryView}
 use Rattle.upd_text.specs.Outcome.{◌>>=◌, at_line}
 use Rattle.upd_deck.specs.Items.{LineView}
-use Rattle.upd_apply.specs.declared.state.Spot.TheVariants.{Nowhere}
+use Rattle.upd_apply.specs.declared.state.InsertPoint.TheVariants.{Nowhere}
 use Rattle.upd_apply.specs.declared.state.State.{State}
 use Rattle.upd_apply.specs.Step.{step}
 use Rattle.upd_apply.specs.Compile.{named_decks}
@@ -13,7 +13,7 @@ pub use Rattle.upd_diff.specs.Touched.{same_history, stood_in, touched}
 
 -- a run begins with no set in hand and no place of text
 abbrev pub started : LibraryView → State
-started l = record { library = l; hand = None; spot = Nowhere }
+started l = record { library = l; current_set = None; insert_point = Nowhere }
 
 -- lines one after the other; the first refusal ends the run
 abbrev pub stepped : List LineView → State → Result State Fault

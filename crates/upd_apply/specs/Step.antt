@@ -14,8 +14,8 @@ use Rattle.upd_core.specs.Limits.{is_within_limits}
 use Rattle.upd_text.specs.Outcome.{◌>>=◌, need, refuse_if}
 use Rattle.upd_deck.specs.Items.{ItemView, LineView, Text, Call, Ident, Deck, CommonDeck, Insert, Before, Delete, Restore, Yank, SelYank, YankDeck}
 use Rattle.upd_deck.specs.Items.{Purge, PurgeFrom, SelPurge, PurDeck, Compile}
-use Rattle.upd_apply.specs.declared.state.Spot.{Spot}
-use Rattle.upd_apply.specs.declared.state.Spot.TheVariants.{Nowhere, End, Inside}
+use Rattle.upd_apply.specs.declared.state.InsertPoint.{InsertPoint}
+use Rattle.upd_apply.specs.declared.state.InsertPoint.TheVariants.{Nowhere, End, Inside}
 use Rattle.upd_apply.specs.declared.state.State.{State}
 use Rattle.upd_apply.specs.Names.{is_reserved, known_ident}
 use Rattle.upd_apply.specs.Yanks.{sets_yanked, pairs_yanked, decks_yanked}
@@ -36,14 +36,14 @@ abbrev pub set_begun : List ℕ → State → Result State FaultKind
 set_begun name s = do
   _ ← new_name name s.library
   l ← within_limits (introduced name kind.Set false s.library)
-  Ok (record { library = l; hand = Some (record { ident = next_age s.library; next = 1 }); spot = Nowhere })
+  Ok (record { library = l; current_set = Some (record { ident = next_age s.library; next = 1 }); insert_point = Nowhere })
 
 -- `*DECK` and `*COMDECK`: a new deck with the line as its first card; the set in hand stays
 abbrev pub deck_begun : List ℕ → Kind → Bool → List ℕ → State → Result State FaultKind
 deck_begun name sort noprop text s = do
   _ ← new_name name s.library
   l ← within_limits (with_deck (record { ident = next_age s.library; cards = new_card (next_age s.library) 1 text [] ∷ [] }) (introduced name sort noprop s.library))
-  Ok (record s { library = l; spot = End (next_age s.library) 2 })
+  Ok (record s { library = l; insert_point = End (next_age s.library) 2 })
 
 -- how many cards of the deck of a place stand behind it
 abbrev pub behind : Place → LibraryView → ℕ
@@ -56,54 +56,54 @@ is_deck_card p = not (p.deck == 0) && (p.index == 0)
 -- `*INSERT`: text goes behind the card
 abbrev pub placed_after : CardRef → State → Result State FaultKind
 placed_after card s = do
-  _ ← need fault.NoIdent s.hand
+  _ ← need fault.NoIdent s.current_set
   p ← need fault.CardUnknown (place_of card s.library)
   _ ← refuse_if (p.deck == 0) fault.YankText
-  Ok (record s { spot = Inside p.deck (behind p s.library) })
+  Ok (record s { insert_point = Inside p.deck (behind p s.library) })
 
 -- `*BEFORE`: text goes before the card
 abbrev pub placed_before : CardRef → State → Result State FaultKind
 placed_before card s = do
-  _ ← need fault.NoIdent s.hand
+  _ ← need fault.NoIdent s.current_set
   p ← need fault.CardUnknown (place_of card s.library)
   _ ← refuse_if (p.deck == 0) fault.YankText
   _ ← refuse_if (is_deck_card p) fault.DeckCard
-  Ok (record s { spot = Inside p.deck (behind p s.library + 1) })
+  Ok (record s { insert_point = Inside p.deck (behind p s.library + 1) })
 
 -- `*DELETE` and `*RESTORE`: an entry of the set in hand on each card of the range; text goes behind the last card
 abbrev pub switched : Bool → CardRef → CardRef → State → Result State FaultKind
 switched active first last s = do
-  hand ← need fault.NoIdent s.hand
+  current_set ← need fault.NoIdent s.current_set
   p ← need fault.CardUnknown (place_of first s.library)
   q ← need fault.CardUnknown (place_of last s.library)
   _ ← refuse_if (not (p.deck == q.deck) || nat_lt q.index p.index) fault.RangeOrder
   _ ← refuse_if (is_deck_card p) fault.DeckCard
-  l ← within_limits (with_entries p.deck p.index q.index (record { ident = hand.ident; active = active }) s.library)
-  Ok (record s { library = l; spot = Inside q.deck (behind q s.library) })
+  l ← within_limits (with_entries p.deck p.index q.index (record { ident = current_set.ident; active = active }) s.library)
+  Ok (record s { library = l; insert_point = Inside q.deck (behind q s.library) })
 
 -- Text and calls: a new card at the place of text, where the next text then goes behind it.
-abbrev pub text_put : List ℕ → Spot → State → Result State FaultKind
+abbrev pub text_put : List ℕ → InsertPoint → State → Result State FaultKind
 text_put text Nowhere s = Err fault.TextNowhere
 text_put text (End d next) s = do
   l ← within_limits (with_card d 0 (new_card d next text []) s.library)
-  Ok (record s { library = l; spot = End d (next + 1) })
+  Ok (record s { library = l; insert_point = End d (next + 1) })
 text_put text (Inside d after) s = do
-  hand ← need fault.TextNowhere s.hand
+  current_set ← need fault.TextNowhere s.current_set
   _ ← refuse_if (d == 0) fault.YankText
-  l ← within_limits (with_card d after (new_card hand.ident hand.next text []) s.library)
-  Ok (record s { library = l; hand = Some (record { ident = hand.ident; next = hand.next + 1 }) })
+  l ← within_limits (with_card d after (new_card current_set.ident current_set.next text []) s.library)
+  Ok (record s { library = l; current_set = Some (record { ident = current_set.ident; next = current_set.next + 1 }) })
 
 -- A yank: a card at the end of `YANK$$$` with these targets, which are fixed now.
 abbrev pub yank_put : List ℕ → (ℕ → LibraryView → Result (List Target) FaultKind) → State → Result State FaultKind
 yank_put text targets s = do
-  hand ← need fault.NoIdent s.hand
-  found ← targets hand.ident s.library
-  l ← within_limits (with_yank (new_card hand.ident hand.next text found) s.library)
-  Ok (record { library = l; hand = Some (record { ident = hand.ident; next = hand.next + 1 }); spot = Nowhere })
+  current_set ← need fault.NoIdent s.current_set
+  found ← targets current_set.ident s.library
+  l ← within_limits (with_yank (new_card current_set.ident current_set.next text found) s.library)
+  Ok (record { library = l; current_set = Some (record { ident = current_set.ident; next = current_set.next + 1 }); insert_point = Nowhere })
 
 -- a purge leaves no set in hand and no place of text
 abbrev pub ended : LibraryView → State
-ended l = record { library = l; hand = None; spot = Nowhere }
+ended l = record { library = l; current_set = None; insert_point = Nowhere }
 
 -- `*SELPURGE`: one ident in one deck after the other
 abbrev pub purged_in_all : List AgesIn → LibraryView → LibraryView
@@ -112,8 +112,8 @@ purged_in_all (a ∷ more) l = purged_in_all more (purged_in a.deck a.ident l)
 
 -- what a line does that says this
 abbrev pub line_done : ItemView → List ℕ → State → Result State FaultKind
-line_done Text text s = text_put text s.spot s
-line_done (Call name) text s = text_put text s.spot s
+line_done Text text s = text_put text s.insert_point s
+line_done (Call name) text s = text_put text s.insert_point s
 line_done (Ident name) text s = set_begun name s
 line_done (Deck name) text s = deck_begun name kind.Deck false text s
 line_done (CommonDeck name noprop) text s = deck_begun name kind.Common noprop text s

@@ -1,11 +1,11 @@
 //! Whole runs, and purging back.
 ghost use Rattle.std.specs.Prelude.{◌≡◌, ◌+◌, ◌^◌, ◌<◌, map, drop, length, Ok, IfErr, IfOk, OnErr};
 ghost use Rattle.upd_core.specs.Edits.{purged_back};
-ghost use Rattle.upd_records.specs.Changes.{change_seen, done_all};
+ghost use Rattle.upd_records.specs.Changes.{change_view, done_all};
 ghost use Rattle.upd_records.specs.Fits.{AllFit};
 ghost use Rattle.upd_records.specs.Rows.{Rows, Shows};
 ghost use Rattle.upd_diff.specs.States.{TakeGone};
-ghost use Rattle.upd_diff.specs.Told.{Told};
+ghost use Rattle.upd_diff.specs.RowChanges.{RowChanges};
 ghost use Rattle.upd_core.specs.Sound.{AreApart, Continues, IsSound, all_cards, key_of};
 ghost use Rattle.upd_text.specs.Outcome.{DoesAt, FailsAt, GivesAt, at_line};
 ghost use Rattle.upd_apply.specs.Applying.{ages_brought, applied, stepped, touched};
@@ -41,13 +41,13 @@ pub fn apply(alloc: Global, library: &mut Library, run: &Run) -> Result<Applied,
         ≡ Ok (record { library = library.new; idents = a.idents.items; compile = a.compile.items })) }
     ensures touched { AreApart (map key_of (all_cards library.old))
         → IfOk result (λ a. a.touched.items ≡ touched library.old library.new) }
-    ensures told { IfOk result (λ a. Told library.old library.new (map change_seen a.changes.items)) }
+    ensures row_changes { IfOk result (λ a. RowChanges library.old library.new (map change_view a.changes.items)) }
     ensures changes { (rows : Rows) → IsSound library.old → Shows rows library.old
-        → IfOk result (λ a. Shows (done_all (map change_seen a.changes.items) rows) library.new) }
+        → IfOk result (λ a. Shows (done_all (map change_view a.changes.items) rows) library.new) }
     ensures states { IsSound library.old → IsSound library.new
-        → IfOk result (λ a. TakeGone library.old library.new (map change_seen a.changes.items)) }
+        → IfOk result (λ a. TakeGone library.old library.new (map change_view a.changes.items)) }
     ensures fits { (rows : Rows) → IsSound library.old → Shows rows library.old
-        → IfOk result (λ a. AllFit (map change_seen a.changes.items) rows) }
+        → IfOk result (λ a. AllFit (map change_view a.changes.items) rows) }
     ensures refused { IfErr result (λ fault. FailsAt fault (applied run.now library.old)) }
     ensures err { OnErr result (library.new ≡ library.old) }
 {
@@ -69,15 +69,15 @@ fn outcome(
     ensures compile { GivesAt (λ a. a.compile.items) result (named_decks lines.now after.now) }
     ensures touched { AreApart (map key_of (all_cards before.now))
         → IfOk result (λ a. a.touched.items ≡ touched before.now after.now) }
-    ensures told { IfOk result (λ a. Told before.now after.now (map change_seen a.changes.items)) }
+    ensures row_changes { IfOk result (λ a. RowChanges before.now after.now (map change_view a.changes.items)) }
     ensures changes { (rows : Rows) → IsSound before.now → Continues before.now.idents after.now.idents
         → Shows rows before.now
-        → IfOk result (λ a. Shows (done_all (map change_seen a.changes.items) rows) after.now) }
+        → IfOk result (λ a. Shows (done_all (map change_view a.changes.items) rows) after.now) }
     ensures states { IsSound before.now → IsSound after.now → Continues before.now.idents after.now.idents
-        → IfOk result (λ a. TakeGone before.now after.now (map change_seen a.changes.items)) }
+        → IfOk result (λ a. TakeGone before.now after.now (map change_view a.changes.items)) }
     ensures fits { (rows : Rows) → IsSound before.now → Continues before.now.idents after.now.idents
         → Shows rows before.now
-        → IfOk result (λ a. AllFit (map change_seen a.changes.items) rows) }
+        → IfOk result (λ a. AllFit (map change_view a.changes.items) rows) }
 {
     let compile = named_decks(alloc, after, lines)?;
     let idents = ages_from(alloc, after.idents(), before.idents().len())?;

@@ -10,4 +10,4 @@ mod step;
 mod yanks;
 
 pub use applying::{Applied, apply, purge_back};
-pub use state::{Hand, Spot, State};
+pub use state::{CurrentSet, InsertPoint, State};

@@ -9,7 +9,7 @@ ghost use Rattle.upd_apply.specs.Names.{is_in};
 ghost use Rattle.upd_apply.specs.Purges.{decks_purged, idents_purged, pairs_purged};
 
 use crate::names::{AgeRange, deck_ages, ident_ages, known_deck, known_ident};
-use crate::state::{Spot, State};
+use crate::state::{InsertPoint, State};
 use std::alloc::AllocError;
 use std::marker::Model;
 use upd_core::{Ident, Library, Serial};
@@ -79,8 +79,8 @@ impl State {
     fn end(&mut self)
         ensures { self.new ≡ ended self.old.library }
     {
-        self.hand = None;
-        self.spot = Spot::Nowhere;
+        self.current_set = None;
+        self.insert_point = InsertPoint::Nowhere;
     }
 }
 

@@ -5,7 +5,7 @@ ghost use Rattle.upd_core.specs.Library.{place_of};
 ghost use Rattle.upd_text.specs.Outcome.{Does, need};
 ghost use Rattle.upd_text.specs.declared.fault.FaultKind.TheVariants as fault;
 ghost use Rattle.upd_apply.specs.Applying.{started};
-ghost use Rattle.upd_apply.specs.declared.state.Spot.TheVariants.{End, Inside};
+ghost use Rattle.upd_apply.specs.declared.state.InsertPoint.TheVariants.{End, Inside};
 ghost use Rattle.upd_apply.specs.Numbers.{next_most};
 ghost use Rattle.upd_apply.specs.Step.{behind, deck_begun, is_deck_card, placed_after, placed_before, set_begun, within_limits};
 ghost use Rattle.upd_apply.specs.Step.{switched, text_put};
@@ -17,14 +17,14 @@ use upd_text::{CardRef, FaultKind, Name};
 
 /// The correction set in hand, and the number that its next card gets.
 #[derive(Clone, Copy)]
-pub struct Hand {
+pub struct CurrentSet {
     pub ident: Serial,
     pub next: u32,
 }
 
 /// The place of text: where the next text goes. (A `Place` is where a card stands.)
 #[derive(Clone, Copy)]
-pub enum Spot {
+pub enum InsertPoint {
     Nowhere,
     /// The end of a deck that this run brought, and the number that its next card gets.
     End { deck: Serial, next: u32 },
@@ -37,8 +37,8 @@ pub enum Spot {
 #[derive(Drop)]
 pub struct State {
     pub(crate) library: Library,
-    pub(crate) hand: Option<Hand>,
-    pub(crate) spot: Spot,
+    pub(crate) current_set: Option<CurrentSet>,
+    pub(crate) insert_point: InsertPoint,
 }
 
 /// What each line does. A refused line may leave the state half changed: the run is then thrown away with it.
@@ -49,8 +49,8 @@ impl State {
     {
         State {
             library,
-            hand: None,
-            spot: Spot::Nowhere,
+            current_set: None,
+            insert_point: InsertPoint::Nowhere,
         }
     }
 
@@ -62,8 +62,8 @@ impl State {
         let ident = next_age(&self.library)?;
         self.library.introduce(*name, Kind::Set, false)?;
         check_limits(&self.library)?;
-        self.hand = Some(Hand { ident, next: 1 });
-        self.spot = Spot::Nowhere;
+        self.current_set = Some(CurrentSet { ident, next: 1 });
+        self.insert_point = InsertPoint::Nowhere;
         Ok(())
     }
 
@@ -83,7 +83,7 @@ impl State {
         self.library.introduce(*name, kind, noprop)?;
         self.library.push_deck(deck)?;
         check_limits(&self.library)?;
-        self.spot = Spot::End { deck: age, next: 2 };
+        self.insert_point = InsertPoint::End { deck: age, next: 2 };
         Ok(())
     }
 
@@ -91,12 +91,12 @@ impl State {
     pub(crate) fn place_after(&mut self, card: &CardRef) -> Result<(), FaultKind>
         ensures { Does result self.new (placed_after card.now self.old) }
     {
-        self.hand.ok_or(FaultKind::NoIdent)?;
+        self.current_set.ok_or(FaultKind::NoIdent)?;
         let place = known_card(&self.library, card)?;
         if place.deck == 0 {
             return Err(FaultKind::YankText);
         }
-        self.spot = Spot::Inside {
+        self.insert_point = InsertPoint::Inside {
             deck: place.deck,
             behind: behind(&self.library, place),
         };
@@ -107,7 +107,7 @@ impl State {
     pub(crate) fn place_before(&mut self, card: &CardRef) -> Result<(), FaultKind>
         ensures { Does result self.new (placed_before card.now self.old) }
     {
-        self.hand.ok_or(FaultKind::NoIdent)?;
+        self.current_set.ok_or(FaultKind::NoIdent)?;
         let place = known_card(&self.library, card)?;
         if place.deck == 0 {
             return Err(FaultKind::YankText);
@@ -115,7 +115,7 @@ impl State {
         if is_deck_card(place) {
             return Err(FaultKind::DeckCard);
         }
-        self.spot = Spot::Inside {
+        self.insert_point = InsertPoint::Inside {
             deck: place.deck,
             behind: behind(&self.library, place) + 1,
         };
@@ -131,7 +131,7 @@ impl State {
     ) -> Result<(), FaultKind>
         ensures { Does result self.new (switched active first.now last.now self.old) }
     {
-        let hand = self.hand.ok_or(FaultKind::NoIdent)?;
+        let current_set = self.current_set.ok_or(FaultKind::NoIdent)?;
         let from = known_card(&self.library, first)?;
         let to = known_last(&self.library, first, from, last)?;
         if from.deck != to.deck || to.index < from.index {
@@ -142,12 +142,12 @@ impl State {
         }
         let behind = behind(&self.library, to);
         let entry = Entry {
-            ident: hand.ident,
+            ident: current_set.ident,
             active,
         };
         self.library.enter(from.deck, from.index, to.index, entry)?;
         check_limits(&self.library)?;
-        self.spot = Spot::Inside {
+        self.insert_point = InsertPoint::Inside {
             deck: to.deck,
             behind,
         };
@@ -157,25 +157,25 @@ impl State {
     /// Text and calls: a card at the place of text.
     pub(crate) fn put_text(&mut self, text: &[u8]) -> Result<(), FaultKind>
         requires { next_most self.old + 1 < 2 ^ 32 }
-        ensures { Does result self.new (text_put text.now self.old.spot self.old) }
+        ensures { Does result self.new (text_put text.now self.old.insert_point self.old) }
     {
-        match self.spot {
-            Spot::Nowhere => Err(FaultKind::TextNowhere),
-            Spot::End { deck, next } => self.put_at_end(deck, next, text),
-            Spot::Inside { deck, behind } => self.put_inside(deck, behind, text),
+        match self.insert_point {
+            InsertPoint::Nowhere => Err(FaultKind::TextNowhere),
+            InsertPoint::End { deck, next } => self.put_at_end(deck, next, text),
+            InsertPoint::Inside { deck, behind } => self.put_inside(deck, behind, text),
         }
     }
 
     /// Text at the end of a deck that this run brought: it takes the deck's next number.
     fn put_at_end(&mut self, deck: Serial, next: u32, text: &[u8]) -> Result<(), FaultKind>
-        requires spot { self.old.spot ≡ End deck next }
+        requires insert_point { self.old.insert_point ≡ End deck next }
         requires number { next_most self.old + 1 < 2 ^ 32 }
-        ensures { Does result self.new (text_put text.now self.old.spot self.old) }
+        ensures { Does result self.new (text_put text.now self.old.insert_point self.old) }
     {
         let card = new_card(&self.library, deck, next, text)?;
         self.library.insert_card(deck, 0, card)?;
         check_limits(&self.library)?;
-        self.spot = Spot::End {
+        self.insert_point = InsertPoint::End {
             deck,
             next: next + 1,
         };
@@ -184,18 +184,18 @@ impl State {
 
     /// Text inside a deck: it takes the next number of the set in hand.
     fn put_inside(&mut self, deck: Serial, behind: usize, text: &[u8]) -> Result<(), FaultKind>
-        requires spot { self.old.spot ≡ Inside deck behind }
+        requires insert_point { self.old.insert_point ≡ Inside deck behind }
         requires number { next_most self.old + 1 < 2 ^ 32 }
-        ensures { Does result self.new (text_put text.now self.old.spot self.old) }
+        ensures { Does result self.new (text_put text.now self.old.insert_point self.old) }
     {
-        let Hand { ident, next } = self.hand.ok_or(FaultKind::TextNowhere)?;
+        let CurrentSet { ident, next } = self.current_set.ok_or(FaultKind::TextNowhere)?;
         if deck == 0 {
             return Err(FaultKind::YankText);
         }
         let card = new_card(&self.library, ident, next, text)?;
         self.library.insert_card(deck, behind, card)?;
         check_limits(&self.library)?;
-        self.hand = Some(Hand {
+        self.current_set = Some(CurrentSet {
             ident,
             next: next + 1,
         });

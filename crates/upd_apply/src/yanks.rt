@@ -11,7 +11,7 @@ ghost use Rattle.upd_core.specs.Targets.{is_same};
 ghost use Rattle.upd_apply.specs.Yanks.{decks_yanked, once, pairs_yanked, sets_yanked};
 
 use crate::names::{AgeRange, ident_ages, known_deck, known_ident};
-use crate::state::{Hand, Spot, State, check_limits};
+use crate::state::{CurrentSet, InsertPoint, State, check_limits};
 use std::alloc::AllocError;
 use upd_core::{Card, Ident, Library, Serial, Target};
 use upd_deck::{IdentIn, NameRange};
@@ -23,9 +23,9 @@ impl State {
         requires { next_most self.old + 1 < 2 ^ 32 }
         ensures { Does result self.new (yank_put text.now (sets_yanked ranges.now) self.old) }
     {
-        let hand = self.hand.ok_or(FaultKind::NoIdent)?;
-        let targets = sets_yanked(&self.library, hand.ident, ranges)?;
-        self.put_yank(hand, text, targets)
+        let current_set = self.current_set.ok_or(FaultKind::NoIdent)?;
+        let targets = sets_yanked(&self.library, current_set.ident, ranges)?;
+        self.put_yank(current_set, text, targets)
     }
 
     /// `*SELYANK`: idents in decks.
@@ -33,9 +33,9 @@ impl State {
         requires { next_most self.old + 1 < 2 ^ 32 }
         ensures { Does result self.new (yank_put text.now (pairs_yanked pairs.now) self.old) }
     {
-        let hand = self.hand.ok_or(FaultKind::NoIdent)?;
-        let targets = pairs_yanked(&self.library, hand.ident, pairs)?;
-        self.put_yank(hand, text, targets)
+        let current_set = self.current_set.ok_or(FaultKind::NoIdent)?;
+        let targets = pairs_yanked(&self.library, current_set.ident, pairs)?;
+        self.put_yank(current_set, text, targets)
     }
 
     /// `*YANKDECK`: whole decks.
@@ -43,26 +43,26 @@ impl State {
         requires { next_most self.old + 1 < 2 ^ 32 }
         ensures { Does result self.new (yank_put text.now (decks_yanked names.now) self.old) }
     {
-        let hand = self.hand.ok_or(FaultKind::NoIdent)?;
-        let targets = decks_yanked(&self.library, hand.ident, names)?;
-        self.put_yank(hand, text, targets)
+        let current_set = self.current_set.ok_or(FaultKind::NoIdent)?;
+        let targets = decks_yanked(&self.library, current_set.ident, names)?;
+        self.put_yank(current_set, text, targets)
     }
 
     /// A yank card of the set in hand, with these targets.
-    fn put_yank(&mut self, hand: Hand, text: &[u8], targets: Vec<Target>) -> Result<(), FaultKind>
-        requires hand { self.old.hand ≡ Some hand }
-        requires number { hand.next + 1 < 2 ^ 32 }
+    fn put_yank(&mut self, current_set: CurrentSet, text: &[u8], targets: Vec<Target>) -> Result<(), FaultKind>
+        requires current_set { self.old.current_set ≡ Some current_set }
+        requires number { current_set.next + 1 < 2 ^ 32 }
         ensures { Does result self.new (yank_put text.now (λ _ _. Ok targets.items) self.old) }
     {
-        let Hand { ident, next } = hand;
+        let CurrentSet { ident, next } = current_set;
         let card = Card::new(self.library.allocator(), ident, next, text, targets)?;
         self.library.push_yank(card)?;
         check_limits(&self.library)?;
-        self.hand = Some(Hand {
+        self.current_set = Some(CurrentSet {
             ident,
             next: next + 1,
         });
-        self.spot = Spot::Nowhere;
+        self.insert_point = InsertPoint::Nowhere;
         Ok(())
     }
 }

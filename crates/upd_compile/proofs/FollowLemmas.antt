@@ -4,8 +4,8 @@ use Rattle.std.proofs.Common.{replicate, Some, slice_get, refl, sym, ap, ◌∙�
 use Rattle.std.proofs.lemmas.Bool.{and_left, and_right, and_parts, eqb-true, lt-ltb, ne_eqb}
 use Rattle.std.proofs.lemmas.List.{length-replicate, take_all}
 use Rattle.std.proofs.Math.ListN.{set, length-set}
-use Rattle.upd_compile.specs.Reach.{AreCallers, FollowsMore, follows, is_in, is_marked}
-use Rattle.upd_compile.proofs.ReachLemmas.{and-true, or-false, is_in-push, is_marked-more, marks-then, same-where, same_suc}
+use Rattle.upd_compile.specs.Reach.{AreCallers, FollowsMore, follows, is_in, is_flagged}
+use Rattle.upd_compile.proofs.ReachLemmas.{and-true, or-false, is_in-push, is_flagged-more, flags-then, same-where, same_suc}
 
 -- one follower more
 pub follows-set : (lists : List (List ℕ)) (i e c d : ℕ) (list : List ℕ) → slice_get lists i ≡ Some list
@@ -38,7 +38,7 @@ pub FollowsMore-then : (p q r : ℕ → ℕ → Bool) (x y z : List (List ℕ)) 
 FollowsMore-then p q r x y z both first then = record {
   follows_more = λ c d.
       then.follows_more c d
-      ∙ rw (first.follows_more c d, first.same_length, both c d) (marks-then (follows x c d) (p c d) (q c d) (nat_lt c (length x)));
+      ∙ rw (first.follows_more c d, first.same_length, both c d) (flags-then (follows x c d) (p c d) (q c d) (nat_lt c (length x)));
   same_length = then.same_length ∙ first.same_length;
 }
 
@@ -48,37 +48,37 @@ and-or true b false = sym (and_right b false refl)
 and-or false b e = refl
 
 -- a position that follows a marked one, or the one that is marked now
-pub follows-marked : (m e f g : Bool) → (e ≡ true → f ≡ g) → ((m || e) && f) ≡ ((m && f) || (g && e))
-follows-marked true e true g same = refl
-follows-marked true true false g same = rw (← same refl) refl
-follows-marked true false false g same = sym (and_right g false refl)
-follows-marked false true f g same = same refl ∙ sym (and-true g)
-follows-marked false false f g same = sym (and_right g false refl)
+pub follows-visited : (m e f g : Bool) → (e ≡ true → f ≡ g) → ((m || e) && f) ≡ ((m && f) || (g && e))
+follows-visited true e true g same = refl
+follows-visited true true false g same = rw (← same refl) refl
+follows-visited true false false g same = sym (and_right g false refl)
+follows-visited false true f g same = same refl ∙ sym (and-true g)
+follows-visited false false f g same = sym (and_right g false refl)
 
 -- one marked position more
-pub callers-more : (calls : List (List ℕ)) (marks : List Bool) (i : ℕ) (list : List ℕ) (x y z : List (List ℕ)) → i < length marks
-    → slice_get calls i ≡ Some list → true ≡ get_or marks i true
-    → FollowsMore (λ c d. is_marked (take i marks) d && follows calls d c) x y → FollowsMore (λ c d. is_in list c && (i == d)) y z
-    → FollowsMore (λ c d. is_marked (take (i + 1) marks) d && follows calls d c) x z
-callers-more calls marks i list x y z within found marked first then =
+pub callers-more : (calls : List (List ℕ)) (flags : List Bool) (i : ℕ) (list : List ℕ) (x y z : List (List ℕ)) → i < length flags
+    → slice_get calls i ≡ Some list → true ≡ get_or flags i true
+    → FollowsMore (λ c d. is_flagged (take i flags) d && follows calls d c) x y → FollowsMore (λ c d. is_in list c && (i == d)) y z
+    → FollowsMore (λ c d. is_flagged (take (i + 1) flags) d && follows calls d c) x z
+callers-more calls flags i list x y z within found visited first then =
     FollowsMore-then _ (λ c d. is_in list c && (i == d)) _ x y z
     (λ c d.
-    rw (add-one, is_marked-more marks i d true within marked)
-    (follows-marked (is_marked (take i marks) d) (i == d) (follows calls d c) (is_in list c) (λ e. rw (← eqb-true i d e, found) refl)))
+    rw (add-one, is_flagged-more flags i d true within visited)
+    (follows-visited (is_flagged (take i flags) d) (i == d) (follows calls d c) (is_in list c) (λ e. rw (← eqb-true i d e, found) refl)))
     first then
 
 -- a position more that isn't marked
-pub callers-same : (calls : List (List ℕ)) (marks : List Bool) (i : ℕ) (x y : List (List ℕ)) → i < length marks → false ≡ get_or marks i false
-    → FollowsMore (λ c d. is_marked (take i marks) d && follows calls d c) x y → FollowsMore (λ c d. is_marked (take (i + 1) marks) d && follows calls d c) x y
-callers-same calls marks i x y within unmarked first = record {
-  follows_more = λ c d. rw (add-one, is_marked-more marks i d false within unmarked, or-false (is_marked (take i marks) d)) (first.follows_more c d);
+pub callers-same : (calls : List (List ℕ)) (flags : List Bool) (i : ℕ) (x y : List (List ℕ)) → i < length flags → false ≡ get_or flags i false
+    → FollowsMore (λ c d. is_flagged (take i flags) d && follows calls d c) x y → FollowsMore (λ c d. is_flagged (take (i + 1) flags) d && follows calls d c) x y
+callers-same calls flags i x y within unvisited first = record {
+  follows_more = λ c d. rw (add-one, is_flagged-more flags i d false within unvisited, or-false (is_flagged (take i flags) d)) (first.follows_more c d);
   same_length = first.same_length;
 }
 
 -- the callers once all positions were gone through
-pub callers-all : (calls : List (List ℕ)) (marks : List Bool) (i n : ℕ) (first callers : List (List ℕ)) → n ≡ length calls → n ≤ i → length marks ≡ n
+pub callers-all : (calls : List (List ℕ)) (flags : List Bool) (i n : ℕ) (first callers : List (List ℕ)) → n ≡ length calls → n ≤ i → length flags ≡ n
     → first ≡ replicate n []
-    → FollowsMore (λ c d. is_marked (take i marks) d && follows calls d c) first callers → AreCallers calls marks callers
-callers-all calls marks i n first callers count end same empty more = λ c d.
-    let all : take i marks ≡ marks = take_all i marks (omega arith) in
+    → FollowsMore (λ c d. is_flagged (take i flags) d && follows calls d c) first callers → AreCallers calls flags callers
+callers-all calls flags i n first callers count end same empty more = λ c d.
+    let all : take i flags ≡ flags = take_all i flags (omega arith) in
     more.follows_more c d ∙ rw (empty, follows-empty n c d, all, length-replicate {A = List ℕ} n [], count) refl

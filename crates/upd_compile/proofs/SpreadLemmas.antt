@@ -11,7 +11,7 @@ use Rattle.upd_core.specs.Actives.{ActiveDeckView, ActivesView}
 use Rattle.upd_text.specs.Lines.{is_call, called}
 use Rattle.upd_compile.specs.Chosen.{called_decks, has_chain, is_changed, is_passed_on}
 use Rattle.upd_compile.specs.Positions.{called_position, called_positions, position_named}
-use Rattle.upd_compile.specs.Reach.{AreCallers, AreReached, follows, is_in, is_marked}
+use Rattle.upd_compile.specs.Reach.{AreCallers, AreReached, follows, is_in, is_flagged}
 use Rattle.upd_compile.specs.Walk.{common_named, text_cards}
 use Rattle.upd_compile.proofs.ChainLemmas.{settled-at_length, spreads, has_chain_within-spreads}
 use Rattle.upd_compile.proofs.ListLemmas.{list_any-same}
@@ -59,8 +59,8 @@ list_any-called p a d = list_any-placed a.decks _ (called_position a) (λ c. by_
     by_position name true = common_named-position name a
     by_position name false = refl
 
-pub is_marked-map : (p : ActiveDeckView → Bool) (decks : List ActiveDeckView) (k : ℕ) → is_marked (map p decks) k ≡ at_position p decks k
-is_marked-map p decks k = rw (slice_get-map p decks k) (at (slice_get decks k))
+pub is_flagged-map : (p : ActiveDeckView → Bool) (decks : List ActiveDeckView) (k : ℕ) → is_flagged (map p decks) k ≡ at_position p decks k
+is_flagged-map p decks k = rw (slice_get-map p decks k) (at (slice_get decks k))
   where
     at : (o : Option ActiveDeckView) → option_map_or (λ b. b) (option_map p o) false ≡ option_map_or p o false
     at None = refl
@@ -80,21 +80,21 @@ all-at Q (d ∷ ds) zero x all e = subst Q (let same : d ≡ x = cc in same) all
 all-at Q (d ∷ ds) (suc k) x all e = all-at Q ds k x all.1 e
 
 -- The marks that are reached: what they are reached from and along.
-pub record AreSpread (before a : ActivesView) (calls callers : List (List ℕ)) (passed seeds marks : List Bool) : Type 0 where
+pub record AreSpread (before a : ActivesView) (calls callers : List (List ℕ)) (passed seeds flags : List Bool) : Type 0 where
   pub calls_are : calls ≡ map (called_positions a) a.decks
   pub passed_are : passed ≡ map (is_passed_on a) a.decks
-  pub seeds_are : (k : ℕ) → is_marked seeds k ≡ (is_marked passed k && at_position (is_changed before) a.decks k)
+  pub seeds_are : (k : ℕ) → is_flagged seeds k ≡ (is_flagged passed k && at_position (is_changed before) a.decks k)
   pub seeds_length : length seeds ≡ length a.decks
   pub callers_are : AreCallers calls passed callers
-  pub reached : AreReached callers seeds marks
+  pub reached : AreReached callers seeds flags
 
 at_position-Some : (p : ActiveDeckView → Bool) (decks : List ActiveDeckView) (k : ℕ) (x : ActiveDeckView) → slice_get decks k ≡ Some x
     → at_position p decks k ≡ p x
 at_position-Some p decks k x is = rw is refl
 
 passed-at : (a : ActivesView) (passed : List Bool) (k : ℕ) (x : ActiveDeckView) → passed ≡ map (is_passed_on a) a.decks → slice_get a.decks k ≡ Some x
-    → is_marked passed k ≡ is_passed_on a x
-passed-at a passed k x are is = ap (λ m. is_marked m k) are ∙ is_marked-map (is_passed_on a) a.decks k ∙ at_position-Some (is_passed_on a) a.decks k x is
+    → is_flagged passed k ≡ is_passed_on a x
+passed-at a passed k x are is = ap (λ m. is_flagged m k) are ∙ is_flagged-map (is_passed_on a) a.decks k ∙ at_position-Some (is_passed_on a) a.decks k x is
 
 calls-at : (a : ActivesView) (calls : List (List ℕ)) (d c : ℕ) (x : ActiveDeckView) → calls ≡ map (called_positions a) a.decks
     → slice_get a.decks d ≡ Some x → follows calls d c ≡ is_in (called_positions a x) c
@@ -112,14 +112,14 @@ spreads-here before a k x is passes e =
     ∙ and_from (is_passed_on a x) _ passes e
 
 -- what is marked spreads
-pub marked-spreads : (before a : ActivesView) (calls callers : List (List ℕ)) (passed seeds marks : List Bool)
-    → AreSpread before a calls callers passed seeds marks
-    → (k : ℕ) → is_marked marks k ≡ true → at_position (spreads before a (length a.decks)) a.decks k ≡ true
-marked-spreads before a calls callers passed seeds marks s k e = s.reached.is_least (at_position (spreads before a (length a.decks)) a.decks) closed seeded k e
+pub visited-spreads : (before a : ActivesView) (calls callers : List (List ℕ)) (passed seeds flags : List Bool)
+    → AreSpread before a calls callers passed seeds flags
+    → (k : ℕ) → is_flagged flags k ≡ true → at_position (spreads before a (length a.decks)) a.decks k ≡ true
+visited-spreads before a calls callers passed seeds flags s k e = s.reached.is_least (at_position (spreads before a (length a.decks)) a.decks) closed seeded k e
   where
-    seeded : (k : ℕ) → is_marked seeds k ≡ true → at_position (spreads before a (length a.decks)) a.decks k ≡ true
+    seeded : (k : ℕ) → is_flagged seeds k ≡ true → at_position (spreads before a (length a.decks)) a.decks k ≡ true
     seeded k e =
-        let parts = and_parts (is_marked passed k) (at_position (is_changed before) a.decks k) (sym (s.seeds_are k) ∙ e) in
+        let parts = and_parts (is_flagged passed k) (at_position (is_changed before) a.decks k) (sym (s.seeds_are k) ∙ e) in
         let deck = placed (is_changed before) a.decks k parts.1 in
         spreads-here before a k deck.0 deck.1 (sym (passed-at a passed k deck.0 s.passed_are deck.1) ∙ parts.0) (or_left (is_changed before deck.0) _ deck.2)
 
@@ -135,36 +135,36 @@ marked-spreads before a calls callers passed seeds marks s k e = s.reached.is_le
     closed : (c d : ℕ) → at_position (spreads before a (length a.decks)) a.decks c ≡ true → follows callers c d ≡ true
         → at_position (spreads before a (length a.decks)) a.decks d ≡ true
     closed c d spread f =
-        let parts = and_parts (is_marked passed d && follows calls d c) (nat_lt c (length calls)) (sym (s.callers_are c d) ∙ f) in
-        let here = and_parts (is_marked passed d) (follows calls d c) parts.0 in
-        let deck = placed (is_passed_on a) a.decks d (sym (ap (λ m. is_marked m d) s.passed_are ∙ is_marked-map (is_passed_on a) a.decks d) ∙ here.0) in
+        let parts = and_parts (is_flagged passed d && follows calls d c) (nat_lt c (length calls)) (sym (s.callers_are c d) ∙ f) in
+        let here = and_parts (is_flagged passed d) (follows calls d c) parts.0 in
+        let deck = placed (is_passed_on a) a.decks d (sym (ap (λ m. is_flagged m d) s.passed_are ∙ is_flagged-map (is_passed_on a) a.decks d) ∙ here.0) in
         let called : is_in (called_positions a deck.0) c ≡ true = sym (calls-at a calls d c deck.0 s.calls_are deck.1) ∙ here.1 in
         spreads-here before a d deck.0 deck.1 deck.2 (or_right (is_changed before deck.0) _ (at_call c deck.0 spread called))
 
 -- what spreads is marked
-pub spreads-marked : (before a : ActivesView) (calls callers : List (List ℕ)) (passed seeds marks : List Bool)
-    → AreSpread before a calls callers passed seeds marks
-    → (j k : ℕ) → at_position (spreads before a j) a.decks k ≡ true → is_marked marks k ≡ true
-spreads-marked before a calls callers passed seeds marks s zero k e = absurd (false≢true ((placed (spreads before a zero) a.decks k e).2))
-spreads-marked before a calls callers passed seeds marks s (suc j) k e =
+pub spreads-visited : (before a : ActivesView) (calls callers : List (List ℕ)) (passed seeds flags : List Bool)
+    → AreSpread before a calls callers passed seeds flags
+    → (j k : ℕ) → at_position (spreads before a j) a.decks k ≡ true → is_flagged flags k ≡ true
+spreads-visited before a calls callers passed seeds flags s zero k e = absurd (false≢true ((placed (spreads before a zero) a.decks k e).2))
+spreads-visited before a calls callers passed seeds flags s (suc j) k e =
     let deck = placed (spreads before a (suc j)) a.decks k e in
     let x : ActiveDeckView = deck.0 in
     let parts = and_parts (is_passed_on a x) (is_changed before x || list_any (spreads before a j) (called_decks a x)) deck.2 in
-    let passes : is_marked passed k ≡ true = passed-at a passed k x s.passed_are deck.1 ∙ parts.0 in
+    let passes : is_flagged passed k ≡ true = passed-at a passed k x s.passed_are deck.1 ∙ parts.0 in
     ⊎_elim (λ changed. s.reached.has_seeds k
-    (s.seeds_are k ∙ and_from (is_marked passed k) _ passes (at_position-Some (is_changed before) a.decks k x deck.1 ∙ changed)))
+    (s.seeds_are k ∙ and_from (is_flagged passed k) _ passes (at_position-Some (is_changed before) a.decks k x deck.1 ∙ changed)))
     (λ later.
     let found = Any-from_list_any (at_position (spreads before a j) a.decks) (called_positions a x) (sym (list_any-called (spreads before a j) a x) ∙ later) in
     let p : ℕ = found.1 in
-    let marked = spreads-marked before a calls callers passed seeds marks s j p found.4 in
+    let visited = spreads-visited before a calls callers passed seeds flags s j p found.4 in
     let called : is_in (called_positions a x) p ≡ true =
     list_any-from_Any (λ q. q == p) (called_positions a x) (found.0, p, found.2, found.3, eq-eqb p p refl) in
     let other = placed (spreads before a j) a.decks p found.4 in
     let as_many : length calls ≡ length a.decks = ap length s.calls_are ∙ length-map a.decks (called_positions a) in
     let within : p < length calls = omega (arith, slice_get_within a.decks p other.0 other.1) in
     let follow : follows callers p k ≡ true = s.callers_are p k
-    ∙ and_from _ _ (and_from (is_marked passed k) _ passes (calls-at a calls k p x s.calls_are deck.1 ∙ called)) (lt-ltb p (length calls) within) in
-    s.reached.is_closed p k marked follow (omega (arith, slice_get_within a.decks k x deck.1, s.reached.same_length, s.seeds_length)))
+    ∙ and_from _ _ (and_from (is_flagged passed k) _ passes (calls-at a calls k p x s.calls_are deck.1 ∙ called)) (lt-ltb p (length calls) within) in
+    s.reached.is_closed p k visited follow (omega (arith, slice_get_within a.decks k x deck.1, s.reached.same_length, s.seeds_length)))
     (or_cases (is_changed before x) _ parts.1)
 
 same-answers : (b c : Bool) → (b ≡ true → c ≡ true) → (c ≡ true → b ≡ true) → b ≡ c
@@ -177,26 +177,26 @@ map-map f g h same [] = refl
 map-map f g h same (x ∷ xs) = rw (same x, map-map f g h same xs) refl
 
 -- a deck has a chain where it calls a marked one
-pub chains-marked : (before a : ActivesView) (calls callers : List (List ℕ)) (passed seeds marks : List Bool)
-    → AreSpread before a calls callers passed seeds marks
-    → map (λ positions. list_any (is_marked marks) positions) calls ≡ map (has_chain before a) a.decks
-chains-marked before a calls callers passed seeds marks s =
-    ap (map (λ positions. list_any (is_marked marks) positions)) s.calls_are
-    ∙ map-map (λ positions. list_any (is_marked marks) positions) (called_positions a) (has_chain before a) has_chain-marked a.decks
+pub chains-visited : (before a : ActivesView) (calls callers : List (List ℕ)) (passed seeds flags : List Bool)
+    → AreSpread before a calls callers passed seeds flags
+    → map (λ positions. list_any (is_flagged flags) positions) calls ≡ map (has_chain before a) a.decks
+chains-visited before a calls callers passed seeds flags s =
+    ap (map (λ positions. list_any (is_flagged flags) positions)) s.calls_are
+    ∙ map-map (λ positions. list_any (is_flagged flags) positions) (called_positions a) (has_chain before a) has_chain-visited a.decks
   where
-    has_chain-marked : (d : ActiveDeckView) → list_any (is_marked marks) (called_positions a d) ≡ has_chain before a d
-    has_chain-marked d =
-        list_any-same (is_marked marks) (at_position (spreads before a (length a.decks)) a.decks)
-        (λ k. same-answers _ _ (marked-spreads before a calls callers passed seeds marks s k)
-        (spreads-marked before a calls callers passed seeds marks s (length a.decks) k)) (called_positions a d)
+    has_chain-visited : (d : ActiveDeckView) → list_any (is_flagged flags) (called_positions a d) ≡ has_chain before a d
+    has_chain-visited d =
+        list_any-same (is_flagged flags) (at_position (spreads before a (length a.decks)) a.decks)
+        (λ k. same-answers _ _ (visited-spreads before a calls callers passed seeds flags s k)
+        (spreads-visited before a calls callers passed seeds flags s (length a.decks) k)) (called_positions a d)
         ∙ sym (list_any-called (spreads before a (length a.decks)) a d) ∙ sym (has_chain_within-spreads before a (length a.decks) d)
 
 -- marks that two lists share
-pub is_marked-both : (xs ys : List Bool) (k : ℕ) → is_marked (map (λ p. p.0 && p.1) (zip xs ys)) k ≡ (is_marked xs k && is_marked ys k)
-is_marked-both [] ys k = refl
-is_marked-both (x ∷ xs) [] k = sym (and_right (is_marked (x ∷ xs) k) false refl)
-is_marked-both (x ∷ xs) (y ∷ ys) zero = refl
-is_marked-both (x ∷ xs) (y ∷ ys) (suc k) = is_marked-both xs ys k
+pub is_flagged-both : (xs ys : List Bool) (k : ℕ) → is_flagged (map (λ p. p.0 && p.1) (zip xs ys)) k ≡ (is_flagged xs k && is_flagged ys k)
+is_flagged-both [] ys k = refl
+is_flagged-both (x ∷ xs) [] k = sym (and_right (is_flagged (x ∷ xs) k) false refl)
+is_flagged-both (x ∷ xs) (y ∷ ys) zero = refl
+is_flagged-both (x ∷ xs) (y ∷ ys) (suc k) = is_flagged-both xs ys k
 
 pub length-both : (xs ys : List Bool) → length xs ≡ length ys → length (map (λ p. p.0 && p.1) (zip xs ys)) ≡ length xs
 length-both [] ys e = refl

@@ -109,14 +109,14 @@ abbrev pub is_purged : List Ident → ℕ → Bool
 is_purged idents age = not (option_map_or (λ i. i.held) (ident_at idents age) false)
 
 -- a mark where one of these idents is purged
-abbrev pub purged_mark : List Ident → List ℕ → List (List ℕ)
-purged_mark idents ages = word_if (list_any (is_purged idents) ages) (codes "purged")
+abbrev pub purged_suffix : List Ident → List ℕ → List (List ℕ)
+purged_suffix idents ages = word_if (list_any (is_purged idents) ages) (codes "purged")
 
 -- the line of a target, with a mark where an ident of it is purged
 abbrev pub target_line : List Ident → Target → List ℕ
-target_line idents (Set z) = 32 ∷ line_of (codes "set" ∷ name_of idents z ∷ purged_mark idents (z ∷ []))
-target_line idents (SetIn z d) = 32 ∷ line_of (codes "setin" ∷ name_of idents z ∷ name_of idents d ∷ purged_mark idents (z ∷ d ∷ []))
-target_line idents (Deck d) = 32 ∷ line_of (codes "deck" ∷ name_of idents d ∷ purged_mark idents (d ∷ []))
+target_line idents (Set z) = 32 ∷ line_of (codes "set" ∷ name_of idents z ∷ purged_suffix idents (z ∷ []))
+target_line idents (SetIn z d) = 32 ∷ line_of (codes "setin" ∷ name_of idents z ∷ name_of idents d ∷ purged_suffix idents (z ∷ d ∷ []))
+target_line idents (Deck d) = 32 ∷ line_of (codes "deck" ∷ name_of idents d ∷ purged_suffix idents (d ∷ []))
 
 -- the line of a yank card, and one for each of its targets
 abbrev pub yank_lines : List Ident → List Target → CardView → List ℕ

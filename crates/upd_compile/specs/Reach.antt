@@ -4,8 +4,8 @@ use Rattle.std.specs.List.{list_any}
 use Rattle.std.specs.Option.{option_map_or}
 
 -- whether a position is marked: past the marks none is
-abbrev pub is_marked : List Bool → ℕ → Bool
-is_marked marks k = option_map_or (λ b. b) (slice_get marks k) false
+abbrev pub is_flagged : List Bool → ℕ → Bool
+is_flagged flags k = option_map_or (λ b. b) (slice_get flags k) false
 
 -- whether a position is one of these
 abbrev pub is_in : List ℕ → ℕ → Bool
@@ -16,11 +16,11 @@ abbrev pub follows : List (List ℕ) → ℕ → ℕ → Bool
 follows lists c d = option_map_or (λ list. is_in list d) (slice_get lists c) false
 
 -- More positions are marked, and those that weren't before are open.
-pub record MarksMore (more : ℕ → Bool) (marks marked : List Bool) (work still : List ℕ) : Type 0 where
-  pub marks_more : (k : ℕ) → is_marked marked k ≡ (is_marked marks k || (more k && nat_lt k (length marks)))
-  pub opened : (k : ℕ) → is_in still k ≡ (is_in work k || (is_marked marked k && not (is_marked marks k)))
-  pub same_length : length marked ≡ length marks
-  pub same_work : count_by not marked + length still ≡ count_by not marks + length work
+pub record VisitsMore (more : ℕ → Bool) (flags visited : List Bool) (work still : List ℕ) : Type 0 where
+  pub visits_more : (k : ℕ) → is_flagged visited k ≡ (is_flagged flags k || (more k && nat_lt k (length flags)))
+  pub opened : (k : ℕ) → is_in still k ≡ (is_in work k || (is_flagged visited k && not (is_flagged flags k)))
+  pub same_length : length visited ≡ length flags
+  pub same_work : count_by not visited + length still ≡ count_by not flags + length work
 
 -- More positions follow.
 pub record FollowsMore (more : ℕ → ℕ → Bool) (lists longer : List (List ℕ)) : Type 0 where
@@ -29,13 +29,13 @@ pub record FollowsMore (more : ℕ → ℕ → Bool) (lists longer : List (List 
 
 -- A position follows those that it calls, if it is marked.
 abbrev pub AreCallers : List (List ℕ) → List Bool → List (List ℕ) → Type 0
-AreCallers calls marks callers =
-    (c d : ℕ) → follows callers c d ≡ ((is_marked marks d && follows calls d c) && nat_lt c (length calls))
+AreCallers calls flags callers =
+    (c d : ℕ) → follows callers c d ≡ ((is_flagged flags d && follows calls d c) && nat_lt c (length calls))
 
 -- The least marks that hold the seeds and, with a position, those that follow it.
-pub record AreReached (followers : List (List ℕ)) (seeds marks : List Bool) : Type 0 where
-  pub same_length : length marks ≡ length seeds
-  pub has_seeds : (k : ℕ) → is_marked seeds k ≡ true → is_marked marks k ≡ true
-  pub is_closed : (c d : ℕ) → is_marked marks c ≡ true → follows followers c d ≡ true → d < length marks → is_marked marks d ≡ true
+pub record AreReached (followers : List (List ℕ)) (seeds flags : List Bool) : Type 0 where
+  pub same_length : length flags ≡ length seeds
+  pub has_seeds : (k : ℕ) → is_flagged seeds k ≡ true → is_flagged flags k ≡ true
+  pub is_closed : (c d : ℕ) → is_flagged flags c ≡ true → follows followers c d ≡ true → d < length flags → is_flagged flags d ≡ true
   pub is_least : (test : ℕ → Bool) → ((c d : ℕ) → test c ≡ true → follows followers c d ≡ true → test d ≡ true)
-      → ((k : ℕ) → is_marked seeds k ≡ true → test k ≡ true) → (k : ℕ) → is_marked marks k ≡ true → test k ≡ true
+      → ((k : ℕ) → is_flagged seeds k ≡ true → test k ≡ true) → (k : ℕ) → is_flagged flags k ≡ true → test k ≡ true

@@ -9,16 +9,16 @@ use std::alloc::{AllocError, Global};
 pub(crate) fn callers(
     alloc: Global,
     calls: &[Vec<usize>],
-    marks: &[bool],
+    flags: &[bool],
 ) -> Result<Vec<Vec<usize>>, AllocError>
-    requires { length marks.now ≡ length calls.now }
+    requires { length flags.now ≡ length calls.now }
     ensures { IfOk result
-        (λ callers. AreCallers (map (λ list. list.items) calls.now) marks.now
+        (λ callers. AreCallers (map (λ list. list.items) calls.now) flags.now
         (map (λ list. list.items) callers.items)) }
 {
     let mut callers = empty_lists(alloc, calls.len())?;
     for position in 0..calls.len() {
-        if marks[position] {
+        if flags[position] {
             add_to_all(&mut callers, &calls[position], position)?;
         }
     }

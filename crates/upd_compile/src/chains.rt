@@ -6,12 +6,12 @@ ghost use Rattle.upd_core.specs.Actives.{ActiveDeckView, ActivesView};
 ghost use Rattle.upd_compile.specs.Chosen.{Chain, has_chain, is_changed, is_passed_on};
 ghost use Rattle.upd_compile.specs.Idents.{passes};
 ghost use Rattle.upd_compile.specs.Positions.{called_position, called_positions};
-ghost use Rattle.upd_compile.specs.Reach.{is_marked};
+ghost use Rattle.upd_compile.specs.Reach.{is_flagged};
 
 use crate::callers::callers;
 use crate::idents::ident_at;
 use crate::indexed::Indexed;
-use crate::marks::{both, calls_marked};
+use crate::flags::{both, calls_flagged};
 use crate::reach::reached_positions;
 use crate::walk::is_first;
 use std::alloc::{AllocError, Global};
@@ -63,8 +63,8 @@ fn calls(alloc: Global, source: &Indexed) -> Result<Vec<Vec<usize>>, AllocError>
 }
 
 /// Whether a change of each deck is passed on to its callers.
-fn passing_marks(alloc: Global, source: &Indexed) -> Result<Vec<bool>, AllocError>
-    ensures { IfOk result (λ marks. marks.items ≡ map (is_passed_on source.now) source.now.decks) }
+fn passing_flags(alloc: Global, source: &Indexed) -> Result<Vec<bool>, AllocError>
+    ensures { IfOk result (λ flags. flags.items ≡ map (is_passed_on source.now) source.now.decks) }
 {
     source
         .decks()
@@ -83,19 +83,19 @@ fn is_passed_on(idents: &[Ident], deck: Serial) -> bool
 }
 
 /// Whether each deck has a chain, by which decks changed.
-pub(crate) fn chain_marks(
+pub(crate) fn chain_flags(
     alloc: Global,
     source: &Indexed,
     changed: &[bool],
 ) -> Result<Vec<bool>, AllocError>
     ensures { IfOk result
-        (λ marks. (before : ActivesView) → changed.now ≡ map (is_changed before) source.now.decks
-        → marks.items ≡ map (has_chain before source.now) source.now.decks) }
+        (λ flags. (before : ActivesView) → changed.now ≡ map (is_changed before) source.now.decks
+        → flags.items ≡ map (has_chain before source.now) source.now.decks) }
 {
     let calls = calls(alloc, source)?;
-    let passed = passing_marks(alloc, source)?;
+    let passed = passing_flags(alloc, source)?;
     let callers = callers(alloc, &calls, &passed)?;
     let seeds = both(alloc, &passed, changed)?;
-    let marks = reached_positions(alloc, &callers, seeds)?;
-    calls_marked(alloc, &calls, &marks)
+    let flags = reached_positions(alloc, &callers, seeds)?;
+    calls_flagged(alloc, &calls, &flags)
 }

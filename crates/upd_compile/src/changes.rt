@@ -54,19 +54,19 @@ fn ages_changed_since(
 }
 
 /// Whether each of these decks changed.
-pub(crate) fn change_marks(
+pub(crate) fn change_flags(
     alloc: Global,
     before: &ActivesRef,
     decks: &[ActiveDeckRef],
 ) -> Result<Vec<bool>, AllocError>
-    ensures { IfOk result (λ marks. marks.items ≡ map (is_changed before.now) decks.now) }
+    ensures { IfOk result (λ flags. flags.items ≡ map (is_changed before.now) decks.now) }
 {
     let before = Indexed::new(alloc, before)?;
-    let mut marks = Vec::with_capacity(alloc, decks.len())?;
+    let mut flags = Vec::with_capacity(alloc, decks.len())?;
     for deck in decks {
-        marks.push(is_changed(&before, deck))?;
+        flags.push(is_changed(&before, deck))?;
     }
-    Ok(marks)
+    Ok(flags)
 }
 
 fn is_changed(before: &Indexed, deck: &ActiveDeckRef) -> bool

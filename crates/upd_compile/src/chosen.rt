@@ -9,11 +9,11 @@ ghost use Rattle.upd_core.specs.Library.{is_common};
 ghost use Rattle.upd_compile.specs.Chosen.{chosen, chooses, is_common_deck};
 ghost use Rattle.upd_compile.specs.Idents.{passes};
 
-use crate::chains::chain_marks;
-use crate::changes::change_marks;
+use crate::chains::chain_flags;
+use crate::changes::change_flags;
 use crate::idents::ident_at;
 use crate::indexed::Indexed;
-use crate::marks::any_of;
+use crate::flags::any_of;
 use crate::mode::Mode;
 use std::alloc::{AllocError, Global};
 use std::collections::HashSet;
@@ -37,28 +37,28 @@ pub(crate) fn chosen_decks<'a, 'b>(
 fn picked_decks<'a, 'b>(
     alloc: Global,
     source: &Indexed<'a, 'b>,
-    marks: &[bool],
+    flags: &[bool],
 ) -> Result<Vec<&'a ActiveDeckRef<'b>>, AllocError>
-    requires { length marks.now ≡ length source.now.decks }
-    ensures { IfOk result (λ found. (test : ActiveDeckView → Bool) → marks.now ≡ map test source.now.decks
+    requires { length flags.now ≡ length source.now.decks }
+    ensures { IfOk result (λ found. (test : ActiveDeckView → Bool) → flags.now ≡ map test source.now.decks
         → map (λ d. d.now) found.items ≡ filter (λ d. not (is_common_deck source.now d) && test d) source.now.decks) }
 {
     let decks = source.decks();
     let mut found = Vec::new(alloc);
     for (i, deck) in decks.iter().enumerate() {
-        if is_picked(source.idents(), deck.ident, marks[i]) {
+        if is_picked(source.idents(), deck.ident, flags[i]) {
             found.push(deck)?;
         }
     }
     Ok(found)
 }
 
-fn is_picked(idents: &[Ident], deck: Serial, is_marked: bool) -> bool
-    ensures { result ≡ not (passes (λ i. is_common i.kind) idents.now deck) && is_marked }
+fn is_picked(idents: &[Ident], deck: Serial, is_flagged: bool) -> bool
+    ensures { result ≡ not (passes (λ i. is_common i.kind) idents.now deck) && is_flagged }
 {
     match ident_at(idents, deck) {
-        Some(ident) => !ident.kind.is_common() && is_marked,
-        None => is_marked,
+        Some(ident) => !ident.kind.is_common() && is_flagged,
+        None => is_flagged,
     }
 }
 
@@ -71,44 +71,44 @@ fn choices(
     after: &Indexed,
 ) -> Result<Vec<bool>, AllocError>
     ensures { IfOk result
-        (λ marks. marks.items ≡ map (chooses mode named.now before.now after.now) after.now.decks) }
+        (λ flags. flags.items ≡ map (chooses mode named.now before.now after.now) after.now.decks) }
 {
     match mode {
-        Mode::Full => all_marks(alloc, after.decks()),
-        Mode::Quick => named_marks(alloc, named, after.decks()),
-        Mode::Normal => normal_marks(alloc, named, before, after),
+        Mode::Full => all_flags(alloc, after.decks()),
+        Mode::Quick => named_flags(alloc, named, after.decks()),
+        Mode::Normal => normal_flags(alloc, named, before, after),
     }
 }
 
 /// Whether each deck is named, or changed, or has a chain to a changed common deck.
-fn normal_marks(
+fn normal_flags(
     alloc: Global,
     named: &[Serial],
     before: &ActivesRef,
     after: &Indexed,
 ) -> Result<Vec<bool>, AllocError>
     ensures { IfOk result
-        (λ marks. marks.items ≡ map (chooses Mode.Normal named.now before.now after.now) after.now.decks) }
+        (λ flags. flags.items ≡ map (chooses Mode.Normal named.now before.now after.now) after.now.decks) }
 {
-    let named = named_marks(alloc, named, after.decks())?;
-    let changed = change_marks(alloc, before, after.decks())?;
-    let chained = chain_marks(alloc, after, &changed)?;
+    let named = named_flags(alloc, named, after.decks())?;
+    let changed = change_flags(alloc, before, after.decks())?;
+    let chained = chain_flags(alloc, after, &changed)?;
     any_of(alloc, &named, &changed, &chained)
 }
 
-fn all_marks(alloc: Global, decks: &[ActiveDeckRef]) -> Result<Vec<bool>, AllocError>
-    ensures { IfOk result (λ marks. marks.items ≡ map (λ d. true) decks.now) }
+fn all_flags(alloc: Global, decks: &[ActiveDeckRef]) -> Result<Vec<bool>, AllocError>
+    ensures { IfOk result (λ flags. flags.items ≡ map (λ d. true) decks.now) }
 {
     decks.iter().map(|_| true).collect(alloc)
 }
 
 /// Whether each deck is among the named ones.
-fn named_marks(
+fn named_flags(
     alloc: Global,
     named: &[Serial],
     decks: &[ActiveDeckRef],
 ) -> Result<Vec<bool>, AllocError>
-    ensures { IfOk result (λ marks. marks.items ≡ map (λ d. is_among named.now d.ident) decks.now) }
+    ensures { IfOk result (λ flags. flags.items ≡ map (λ d. is_among named.now d.ident) decks.now) }
 {
     let named = set_of(alloc, named)?;
     decks

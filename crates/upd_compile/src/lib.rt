@@ -9,7 +9,7 @@ pub mod file;
 mod idents;
 mod indexed;
 pub mod listings;
-mod marks;
+mod flags;
 pub mod mode;
 mod parts;
 mod progress;

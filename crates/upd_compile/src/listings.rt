@@ -11,7 +11,7 @@ ghost use Rattle.upd_core.specs.Sound.{AreAgedFrom, is_held};
 ghost use Rattle.upd_core.specs.Status.{is_active, live_targets};
 ghost use Rattle.upd_compile.specs.Listings.{deck_heading, deck_line, deck_listing, deck_name, listed_deck};
 ghost use Rattle.upd_compile.specs.Listings.{card_lines, card_listing, card_name, entry_line, line_of, word_if};
-ghost use Rattle.upd_compile.specs.Listings.{ident_line, ident_listing, is_purged, purged_mark};
+ghost use Rattle.upd_compile.specs.Listings.{ident_line, ident_listing, is_purged, purged_suffix};
 ghost use Rattle.upd_compile.specs.Listings.{target_line, yank_lines, yank_listing};
 
 use crate::idents::{ident_at, name_of};
@@ -61,9 +61,9 @@ pub fn list_yanks(alloc: Global, library: &Library) -> Result<Vec<u8>, Fault>
     Ok(text)
 }
 
-/// In a directory whose ages count 1, 2, .. the ident of an age stands at its place, so that the mark of purged idents
+/// In a directory whose ages count 1, 2, .. the ident of an age stands at its place, so that the suffix of purged idents
 /// is found there.
-pub fn marks_tell_the_purged_idents()
+pub fn suffixes_show_the_purged_idents()
     ensures { (idents : List Ident) (z : ℕ) → AreAgedFrom 1 idents → is_purged idents z ≡ not (is_held idents z) }
 {}
 
@@ -106,7 +106,7 @@ fn push_heading(text: &mut Vec<u8>, idents: &[Ident], deck: Serial) -> Result<()
             &[
                 b"COMDECK ",
                 deck_name(idents, deck),
-                mark_if(ident.noprop, b" NOPROP"),
+                suffix_if(ident.noprop, b" NOPROP"),
                 b"\n",
             ],
         ),
@@ -214,7 +214,7 @@ fn push_entry(
             b"ENTRY ",
             name_of(idents, entry.ident),
             word_of(entry.active, b" on", b" off"),
-            mark_if(live.is_taken(deck, entry.ident), b" taken"),
+            suffix_if(live.is_taken(deck, entry.ident), b" taken"),
             b"\n",
         ],
     )
@@ -280,7 +280,7 @@ fn push_target(text: &mut Vec<u8>, idents: &[Ident], target: Target) -> Result<(
             &[
                 b" set ",
                 name_of(idents, set),
-                purged_mark(idents, &[set]),
+                purged_suffix(idents, &[set]),
                 b"\n",
             ],
         ),
@@ -291,7 +291,7 @@ fn push_target(text: &mut Vec<u8>, idents: &[Ident], target: Target) -> Result<(
                 name_of(idents, set),
                 b" ",
                 name_of(idents, deck),
-                purged_mark(idents, &[set, deck]),
+                purged_suffix(idents, &[set, deck]),
                 b"\n",
             ],
         ),
@@ -300,18 +300,18 @@ fn push_target(text: &mut Vec<u8>, idents: &[Ident], target: Target) -> Result<(
             &[
                 b" deck ",
                 name_of(idents, deck),
-                purged_mark(idents, &[deck]),
+                purged_suffix(idents, &[deck]),
                 b"\n",
             ],
         ),
     }
 }
 
-/// A mark where one of these idents is purged.
-fn purged_mark<'a>(idents: &'a [Ident], ages: &[Serial]) -> &'a [u8]
-    ensures { result.now ≡ flat_map (λ x. 32 ∷ x) (purged_mark idents.now ages.now) }
+/// A suffix where one of these idents is purged.
+fn purged_suffix<'a>(idents: &'a [Ident], ages: &[Serial]) -> &'a [u8]
+    ensures { result.now ≡ flat_map (λ x. 32 ∷ x) (purged_suffix idents.now ages.now) }
 {
-    mark_if(is_any_purged(idents, ages), b" purged")
+    suffix_if(is_any_purged(idents, ages), b" purged")
 }
 
 fn is_any_purged(idents: &[Ident], ages: &[Serial]) -> bool
@@ -371,9 +371,9 @@ fn word_of<'a>(test: bool, word: &'a [u8], other: &'a [u8]) -> &'a [u8]
 }
 
 /// A blank and a word where a test holds.
-fn mark_if<'a>(test: bool, mark: &'a [u8]) -> &'a [u8]
-    requires { mark.now ≡ 32 ∷ drop 1 mark.now }
-    ensures { result.now ≡ flat_map (λ x. 32 ∷ x) (word_if test (drop 1 mark.now)) }
+fn suffix_if<'a>(test: bool, suffix: &'a [u8]) -> &'a [u8]
+    requires { suffix.now ≡ 32 ∷ drop 1 suffix.now }
+    ensures { result.now ≡ flat_map (λ x. 32 ∷ x) (word_if test (drop 1 suffix.now)) }
 {
-    if test { mark } else { b"" }
+    if test { suffix } else { b"" }
 }

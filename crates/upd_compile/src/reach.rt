@@ -1,7 +1,7 @@
 //! Which positions are reached from marked ones.
 
 ghost use Rattle.std.specs.Prelude.{◌≡◌, ◌==◌, ℕ, map, IfOk, OnOk};
-ghost use Rattle.upd_compile.specs.Reach.{AreReached, MarksMore, is_in, is_marked};
+ghost use Rattle.upd_compile.specs.Reach.{AreReached, VisitsMore, is_in, is_flagged};
 
 use std::alloc::{AllocError, Global};
 
@@ -11,25 +11,25 @@ pub(crate) fn reached_positions(
     followers: &[Vec<usize>],
     seeds: Vec<bool>,
 ) -> Result<Vec<bool>, AllocError>
-    ensures { IfOk result (λ marks. AreReached (map (λ list. list.items) followers.now) seeds.items marks.items) }
+    ensures { IfOk result (λ flags. AreReached (map (λ list. list.items) followers.now) seeds.items flags.items) }
 {
-    let mut work = marked_positions(alloc, &seeds)?;
-    let mut marks = seeds;
+    let mut work = flagged_positions(alloc, &seeds)?;
+    let mut flags = seeds;
     while let Some(position) = work.pop() {
         if let Some(next) = followers.get(position) {
-            mark_all(&mut marks, &mut work, next)?;
+            visit_all(&mut flags, &mut work, next)?;
         }
     }
-    Ok(marks)
+    Ok(flags)
 }
 
 /// The marked positions.
-fn marked_positions(alloc: Global, marks: &[bool]) -> Result<Vec<usize>, AllocError>
-    ensures { IfOk result (λ positions. (k : ℕ) → is_in positions.items k ≡ is_marked marks.now k) }
+fn flagged_positions(alloc: Global, flags: &[bool]) -> Result<Vec<usize>, AllocError>
+    ensures { IfOk result (λ positions. (k : ℕ) → is_in positions.items k ≡ is_flagged flags.now k) }
 {
     let mut positions = Vec::new(alloc);
-    for (position, is_marked) in marks.iter().enumerate() {
-        if *is_marked {
+    for (position, is_flagged) in flags.iter().enumerate() {
+        if *is_flagged {
             positions.push(position)?;
         }
     }
@@ -37,26 +37,26 @@ fn marked_positions(alloc: Global, marks: &[bool]) -> Result<Vec<usize>, AllocEr
 }
 
 /// Marks these positions, and adds to the work those that weren't marked before.
-fn mark_all(
-    marks: &mut Vec<bool>,
+fn visit_all(
+    flags: &mut Vec<bool>,
     work: &mut Vec<usize>,
     positions: &[usize],
 ) -> Result<(), AllocError>
     ensures { OnOk result
-        (MarksMore (is_in positions.now) marks.old.items marks.new.items work.old.items work.new.items) }
+        (VisitsMore (is_in positions.now) flags.old.items flags.new.items work.old.items work.new.items) }
 {
     for position in positions {
-        mark(marks, work, *position)?;
+        visit(flags, work, *position)?;
     }
     Ok(())
 }
 
-fn mark(marks: &mut Vec<bool>, work: &mut Vec<usize>, position: usize) -> Result<(), AllocError>
+fn visit(flags: &mut Vec<bool>, work: &mut Vec<usize>, position: usize) -> Result<(), AllocError>
     ensures { OnOk result
-        (MarksMore (λ k. position == k) marks.old.items marks.new.items work.old.items work.new.items) }
+        (VisitsMore (λ k. position == k) flags.old.items flags.new.items work.old.items work.new.items) }
 {
-    if position < marks.len() && !marks[position] {
-        marks[position] = true;
+    if position < flags.len() && !flags[position] {
+        flags[position] = true;
         work.push(position)?;
     }
     Ok(())

@@ -118,8 +118,8 @@ index_found test n (y ∷ xs) i e = go (test y) refl (index_found test (n + 1) x
     go false other later =
         let found = later (rw other at e) in
         let from = found.3 in
-        let way : i - n ≡ suc (i - (n + 1)) = omega arith in
-        (found.0, rw way found.1, found.2, omega arith)
+        let distance : i - n ≡ suc (i - (n + 1)) = omega arith in
+        (found.0, rw distance found.1, found.2, omega arith)
 
 -- what a search finds passes, and is an element
 pub find_at : {A : Type 0} (test : A → Bool) (xs : List A) (x : A) → find test xs ≡ Some x → (k : ℕ) × (slice_get xs k ≡ Some x) × (test x ≡ true)

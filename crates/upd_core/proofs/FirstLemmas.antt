@@ -17,8 +17,8 @@ found_by_test change n x xs later next i d true step e =
     (omega arith, rw start refl)
 found_by_test change n x xs later next i d false step e =
     let after : n + 1 ≤ i = (step e).0 in
-    let way : i - n ≡ suc (i - (n + 1)) = omega arith in
-    (omega arith, rw way (ap (λ t. x ∷ t) (step e).1))
+    let distance : i - n ≡ suc (i - (n + 1)) = omega arith in
+    (omega arith, rw distance (ap (λ t. x ∷ t) (step e).1))
 
 found_from : {A : Type 0} (test : A → Bool) (change : A → A) (n : ℕ) (xs : List A) (i : ℕ) (d : A) → index_from test n xs ≡ Some i →
     (n ≤ i) × (at_first test change xs ≡ changed_at change xs (i - n) d)
@@ -61,8 +61,8 @@ found_at test n (x ∷ xs) i d e = by_test (test x) (found_at test (n + 1) xs i 
         (omega arith, rw start refl)
     by_test false step later =
         let after : n + 1 ≤ i = (step later).0 in
-        let way : i - n ≡ suc (i - (n + 1)) = omega arith in
-        (omega arith, rw way (step later).1)
+        let distance : i - n ≡ suc (i - (n + 1)) = omega arith in
+        (omega arith, rw distance (step later).1)
 
 pub find_found : {A : Type 0} (test : A → Bool) (xs : List A) (i : ℕ) (d x : A) → Some i ≡ index_from test 0 xs → x ≡ get_or xs i d → find test xs ≡ Some x
 find_found test xs i d x e read =

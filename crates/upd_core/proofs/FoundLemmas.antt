@@ -35,8 +35,8 @@ at_head n z idents i e held age = let start : z - n ≡ 0 = omega arith in recor
 at_tail : (n z : ℕ) (idents : List Ident) (j i : Ident) → IsAt (n + 1) z idents i → IsAt n z (j ∷ idents) i
 at_tail n z idents j i at =
     let from = at.from in
-    let way : z - n ≡ suc (z - (n + 1)) = omega arith in
-    record { place = rw way at.place; from = omega arith; held = at.held; age = at.age }
+    let distance : z - n ≡ suc (z - (n + 1)) = omega arith in
+    record { place = rw distance at.place; from = omega arith; held = at.held; age = at.age }
 
 pub held_at : (n z : ℕ) (idents : List Ident) → AreAgedFrom n idents → is_held idents z ≡ true → (i : Ident) × IsAt n z idents i
 held_at n z [] ages e = absurd (cc)

@@ -8,7 +8,7 @@ use Rattle.upd_core.specs.declared.card.Entry.{Entry}
 use Rattle.upd_core.specs.EditParts.{entered_in, inserted_in}
 use Rattle.upd_core.specs.Edits.{deck_without, decks_without, entered, entered_range, without_entries, without_idents}
 use Rattle.upd_core.specs.First.{at_first, index_from}
-use Rattle.upd_core.specs.Homes.{AreHome, IsHome, StayMarked, is_home, may_stray}
+use Rattle.upd_core.specs.Homes.{AreHome, IsHome, StayNoted, is_home, may_stray}
 use Rattle.upd_core.specs.Library.{CardView, DeckView, is_card, is_deck}
 
 -- ---- marks
@@ -17,16 +17,16 @@ or_kept : (a b c : Bool) → (b ≡ true → c ≡ true) → (a || b) ≡ true �
 or_kept true b c more e = refl
 or_kept false b c more e = more e
 
-pub home_kept : (old new : List Bool) (deck : ℕ) (c : CardView) → StayMarked old new → is_home old deck c ≡ true → is_home new deck c ≡ true
+pub home_kept : (old new : List Bool) (deck : ℕ) (c : CardView) → StayNoted old new → is_home old deck c ≡ true → is_home new deck c ≡ true
 home_kept old new deck c more home = or_kept (c.ident == deck) (may_stray old c.ident) (may_stray new c.ident) (more c.ident) home
 
 -- more marks leave the cards of a deck where they are
-pub deck_kept : (old new : List Bool) (deck : ℕ) (cards : List CardView) → StayMarked old new → All (λ c. is_home old deck c ≡ true) cards →
+pub deck_kept : (old new : List Bool) (deck : ℕ) (cards : List CardView) → StayNoted old new → All (λ c. is_home old deck c ≡ true) cards →
     All (λ c. is_home new deck c ≡ true) cards
 deck_kept old new deck cards more home = λ k c within. home_kept old new deck (get_or cards k c) more (home k c within)
 
 -- and those of all decks
-pub decks_kept : (old new : List Bool) (decks : List DeckView) → StayMarked old new → AreHome old decks → AreHome new decks
+pub decks_kept : (old new : List Bool) (decks : List DeckView) → StayNoted old new → AreHome old decks → AreHome new decks
 decks_kept old new decks more home = λ k d within.
     deck_kept old new (get_or decks k d).ident (get_or decks k d).cards more (home k d within)
 
@@ -47,25 +47,25 @@ at_first_all P test change (x ∷ xs) keeps all =
     changed_first P x (change x) xs (at_first test change xs) (test x) here rest (at_first_all P test change xs keeps rest) (λ e. keeps x e here)
 
 -- a card that is home in the deck of an age
-pub home_inserted : (marks : List Bool) (age behind : ℕ) (card : CardView) (decks : List DeckView) → is_home marks age card ≡ true → AreHome marks decks →
-    AreHome marks (inserted_in age behind card decks)
-home_inserted marks age behind card decks here home = at_first_all (IsHome marks) (is_deck age) _ decks added home
+pub home_inserted : (flags : List Bool) (age behind : ℕ) (card : CardView) (decks : List DeckView) → is_home flags age card ≡ true → AreHome flags decks →
+    AreHome flags (inserted_in age behind card decks)
+home_inserted flags age behind card decks here home = at_first_all (IsHome flags) (is_deck age) _ decks added home
   where
-    added : (d : DeckView) → is_deck age d ≡ true → IsHome marks d → IsHome marks (record d { cards = insert d.cards (length d.cards - behind) card })
+    added : (d : DeckView) → is_deck age d ≡ true → IsHome flags d → IsHome flags (record d { cards = insert d.cards (length d.cards - behind) card })
     added d is all =
-        let P : CardView → Type 0 = λ c. is_home marks d.ident c ≡ true in
+        let P : CardView → Type 0 = λ c. is_home flags d.ident c ≡ true in
         let same : d.ident ≡ age = grind (arith, nat_tests) in
         let one : P card = rw same here in
         let at = length d.cards - behind in
         All-append P (take at d.cards) (card ∷ drop at d.cards) (All-take P at d.cards all) (All-cons P card (drop at d.cards) one (All-drop P at d.cards all))
 
 -- entries on a range of cards
-pub home_entered : (marks : List Bool) (age from to : ℕ) (e : Entry) (decks : List DeckView) → AreHome marks decks → AreHome marks (entered_in age from to e decks)
-home_entered marks age from to e decks home = at_first_all (IsHome marks) (is_deck age) _ decks entered_there home
+pub home_entered : (flags : List Bool) (age from to : ℕ) (e : Entry) (decks : List DeckView) → AreHome flags decks → AreHome flags (entered_in age from to e decks)
+home_entered flags age from to e decks home = at_first_all (IsHome flags) (is_deck age) _ decks entered_there home
   where
-    entered_there : (d : DeckView) → is_deck age d ≡ true → IsHome marks d → IsHome marks (record d { cards = entered_range from to e d.cards })
+    entered_there : (d : DeckView) → is_deck age d ≡ true → IsHome flags d → IsHome flags (record d { cards = entered_range from to e d.cards })
     entered_there d is all =
-        let P : CardView → Type 0 = λ c. is_home marks d.ident c ≡ true in
+        let P : CardView → Type 0 = λ c. is_home flags d.ident c ≡ true in
         let middle = drop from (take (to + 1) d.cards) in
         All-append P (take from d.cards ++ map (entered e) middle) (drop (to + 1) d.cards)
         (All-append P (take from d.cards) (map (entered e) middle) (All-take P from d.cards all)
@@ -73,38 +73,38 @@ home_entered marks age from to e decks home = at_first_all (IsHome marks) (is_de
         (All-drop P (to + 1) d.cards all)
 
 -- what is left of the cards of a deck
-cards_left : (marks : List Bool) (deck : ℕ) (gone : ℕ → Bool) (cards : List CardView) → All (λ c. is_home marks deck c ≡ true) cards →
-    All (λ c. is_home marks deck c ≡ true) (without_idents gone cards)
-cards_left marks deck gone cards all =
-    let P : CardView → Type 0 = λ c. is_home marks deck c ≡ true in
+cards_left : (flags : List Bool) (deck : ℕ) (gone : ℕ → Bool) (cards : List CardView) → All (λ c. is_home flags deck c ≡ true) cards →
+    All (λ c. is_home flags deck c ≡ true) (without_idents gone cards)
+cards_left flags deck gone cards all =
+    let P : CardView → Type 0 = λ c. is_home flags deck c ≡ true in
     All-map P (without_entries gone) (filter (λ c. not (gone c.ident)) cards) (All-filter (λ c. not (gone c.ident)) P cards all)
 
 -- what is left of decks
-pub home_left : (marks : List Bool) (gone : ℕ → Bool) (decks : List DeckView) → AreHome marks decks → AreHome marks (decks_without gone decks)
-home_left marks gone decks home =
+pub home_left : (flags : List Bool) (gone : ℕ → Bool) (decks : List DeckView) → AreHome flags decks → AreHome flags (decks_without gone decks)
+home_left flags gone decks home =
     let kept = filter (λ d. not (gone d.ident)) decks in
-    let all : AreHome marks kept = All-filter (λ d. not (gone d.ident)) (IsHome marks) decks home in
-    All-map (IsHome marks) (deck_without gone) kept
-    (λ k d within. cards_left marks (get_or kept k d).ident gone (get_or kept k d).cards (all k d within))
+    let all : AreHome flags kept = All-filter (λ d. not (gone d.ident)) (IsHome flags) decks home in
+    All-map (IsHome flags) (deck_without gone) kept
+    (λ k d within. cards_left flags (get_or kept k d).ident gone (get_or kept k d).cards (all k d within))
 
 -- what is left of one deck
-pub home_left_in : (marks : List Bool) (age : ℕ) (gone : ℕ → Bool) (decks : List DeckView) → AreHome marks decks →
-    AreHome marks (at_first (is_deck age) (λ d. record d { cards = without_idents gone d.cards }) decks)
-home_left_in marks age gone decks home =
-    at_first_all (IsHome marks) (is_deck age) _ decks (λ d is all. cards_left marks d.ident gone d.cards all) home
+pub home_left_in : (flags : List Bool) (age : ℕ) (gone : ℕ → Bool) (decks : List DeckView) → AreHome flags decks →
+    AreHome flags (at_first (is_deck age) (λ d. record d { cards = without_idents gone d.cards }) decks)
+home_left_in flags age gone decks home =
+    at_first_all (IsHome flags) (is_deck age) _ decks (λ d is all. cards_left flags d.ident gone d.cards all) home
 
 -- ---- look-ups
 
 -- a card that stands in another deck than that of an ident that doesn't stray isn't of that ident
-is_other : (marks : List Bool) (deck ident own : ℕ) → ((own == deck) || may_stray marks own) ≡ true → may_stray marks ident ≡ false →
+is_other : (flags : List Bool) (deck ident own : ℕ) → ((own == deck) || may_stray flags own) ≡ true → may_stray flags ident ≡ false →
     (deck == ident) ≡ false → (own == ident) ≡ false
-is_other marks deck ident own home stays other = by_test (own == ident) refl
+is_other flags deck ident own home stays other = by_test (own == ident) refl
   where
     by_test : (b : Bool) → (own == ident) ≡ b → b ≡ false
     by_test false e = refl
     by_test true e =
         let same : own ≡ ident = grind (arith, nat_tests) in
-        let stays_too : may_stray marks own ≡ false = rw same stays in
+        let stays_too : may_stray flags own ≡ false = rw same stays in
         let away : (own == deck) ≡ false = rw same (grind (arith, nat_tests)) in
         absurd (cc)
 
@@ -117,11 +117,11 @@ test_fails true b e = absurd (cc)
 test_fails false b e = refl
 
 -- a deck of another ident has no card of one that doesn't stray
-pub no_card_away : (marks : List Bool) (deck ident number n : ℕ) (cards : List CardView) → may_stray marks ident ≡ false → (deck == ident) ≡ false →
-    All (λ c. is_home marks deck c ≡ true) cards → index_from (is_card ident number) n cards ≡ None
-no_card_away marks deck ident number n [] stays other all = refl
-no_card_away marks deck ident number n (c ∷ cs) stays other all =
+pub no_card_away : (flags : List Bool) (deck ident number n : ℕ) (cards : List CardView) → may_stray flags ident ≡ false → (deck == ident) ≡ false →
+    All (λ c. is_home flags deck c ≡ true) cards → index_from (is_card ident number) n cards ≡ None
+no_card_away flags deck ident number n [] stays other all = refl
+no_card_away flags deck ident number n (c ∷ cs) stays other all =
     let here : is_card ident number c ≡ false =
-    test_fails (c.ident == ident) (c.number == number) (is_other marks deck ident c.ident (all 0 c (omega arith)) stays other) in
+    test_fails (c.ident == ident) (c.number == number) (is_other flags deck ident c.ident (all 0 c (omega arith)) stays other) in
     none_first n (is_card ident number c) (index_from (is_card ident number) (n + 1) cs) here
-    (no_card_away marks deck ident number (n + 1) cs stays other (λ k d within. all (suc k) d (omega arith)))
+    (no_card_away flags deck ident number (n + 1) cs stays other (λ k d within. all (suc k) d (omega arith)))

@@ -20,14 +20,14 @@ pub swept-more : (yanks : List CardView) (live : List Bool) (targets : List Targ
     i < length yanks → length live ≡ length yanks → y ≡ get_or yanks i y → drop (i + 1) live ≡ liveness (drop (i + 1) yanks) →
     targets ≡ targets_of (live_cards (drop (i + 1) yanks)) → b ≡ is_good targets 0 y →
     (drop i (set live i b) ≡ liveness (drop i yanks)) × (targets_of (live_cards (drop i yanks)) ≡ (if b then y.targets ++ targets else targets))
-swept-more yanks live targets i b y within lengths read marks taken good =
+swept-more yanks live targets i b y within lengths read flags taken good =
     let split : drop i yanks ≡ y ∷ drop (i + 1) yanks = drop_more yanks i y within ∙ ap (λ x. x ∷ drop (i + 1) yanks) (sym read) in
-    (drop-set live i b (omega (arith, lengths)) ∙ rw (split, marks, good, taken) refl, rw (split, taken) (by_mark b (good ∙ ap (λ t. is_good t 0 y) taken)))
+    (drop-set live i b (omega (arith, lengths)) ∙ rw (split, flags, good, taken) refl, rw (split, taken) (by_liveness b (good ∙ ap (λ t. is_good t 0 y) taken)))
   where
     later : List CardView
     later = live_cards (drop (i + 1) yanks)
 
-    by_mark : (b : Bool) → b ≡ is_good (targets_of later) 0 y → targets_of (live_before y later) ≡
+    by_liveness : (b : Bool) → b ≡ is_good (targets_of later) 0 y → targets_of (live_before y later) ≡
         (if b then y.targets ++ targets_of later else targets_of later)
-    by_mark true e = ap targets_of (good_before y later (sym e))
-    by_mark false e = ap targets_of (bad_before y later (sym e))
+    by_liveness true e = ap targets_of (good_before y later (sym e))
+    by_liveness false e = ap targets_of (bad_before y later (sym e))

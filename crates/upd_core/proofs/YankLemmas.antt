@@ -13,7 +13,7 @@ use Rattle.upd_core.specs.declared.target.Target.{Target}
 use Rattle.upd_core.specs.declared.target.Target.TheVariants.{Set, SetIn, Deck}
 use Rattle.upd_core.specs.Library.{CardView, LibraryView, card_in, place_of}
 use Rattle.upd_core.specs.Sound.{IsSound}
-use Rattle.upd_core.specs.Status.{takes_deck, is_good, targets_of, marked, liveness, live_cards, live_targets, is_active, status_of, live_of, live_yank}
+use Rattle.upd_core.specs.Status.{takes_deck, is_good, targets_of, liveness, live_cards, live_targets, is_active, status_of, live_of, live_yank}
 use Rattle.upd_core.specs.Status.{yank_at, TakesOlder, IsAged}
 use Rattle.upd_core.proofs.WellFoundedLemmas.{all_good_same}
 use Rattle.upd_core.proofs.LiveLemmas.{good_before, bad_before}
@@ -36,16 +36,18 @@ none_of_both test (x ∷ xs) ys e f = go (test x) refl (none_of_both test xs ys)
     go true g rest = let bad = rw g at e in absurd (cc)
     go false g rest = rw g (rest (rw g at e) f)
 
-none_take_yanks : (marks : List Bool) (yanks : List CardView) → IsAged yanks → list_any (takes_deck 0) (targets_of (marked marks yanks)) ≡ false
-none_take_yanks [] yanks aged = refl
-none_take_yanks (mark ∷ marks) [] aged = refl
-none_take_yanks (true ∷ marks) (y ∷ ys) aged =
-    none_of_both (takes_deck 0) y.targets (targets_of (marked marks ys)) (older_take_none y.ident y.targets aged.0) (none_take_yanks marks ys aged.2)
-none_take_yanks (false ∷ marks) (y ∷ ys) aged = none_take_yanks marks ys aged.2
+none_take_yanks : (yanks : List CardView) → IsAged yanks → list_any (takes_deck 0) (targets_of (live_cards yanks)) ≡ false
+none_take_yanks [] aged = refl
+none_take_yanks (y ∷ ys) aged = go (is_good (targets_of (live_cards ys)) 0 y) refl (none_take_yanks ys aged.2)
+  where
+    go : (good : Bool) → is_good (targets_of (live_cards ys)) 0 y ≡ good → list_any (takes_deck 0) (targets_of (live_cards ys)) ≡ false
+        → list_any (takes_deck 0) (targets_of (live_cards (y ∷ ys))) ≡ false
+    go true e rest = rw e (none_of_both (takes_deck 0) y.targets (targets_of (live_cards ys)) (older_take_none y.ident y.targets aged.0) rest)
+    go false e rest = rw e rest
 
 -- so a yank card is active where it is good
 pub active_where_good : (l : LibraryView) (c : CardView) → IsSound l → is_active (live_targets l) 0 c ≡ is_good (live_targets l) 0 c
-active_where_good l c sound = rw (none_take_yanks (liveness l.yanks) l.yanks sound.yanks) (always (is_good (live_targets l) 0 c))
+active_where_good l c sound = rw (none_take_yanks l.yanks sound.yanks) (always (is_good (live_targets l) 0 c))
   where
     always : (b : Bool) → (b && true) ≡ b
     always true = refl
@@ -66,20 +68,20 @@ live_where_good (y ∷ ys) aged = go (is_good later 0 y) refl (live_where_good y
     later = targets_of (live_cards ys)
 
     -- the marks, where these are all live cards
-    AreMarks : List CardView → Type 0
-    AreMarks live = is_good later 0 y ∷ liveness ys ≡ map (is_good (targets_of live) 0) (y ∷ ys)
+    IsTheirLiveness : List CardView → Type 0
+    IsTheirLiveness live = is_good later 0 y ∷ liveness ys ≡ map (is_good (targets_of live) 0) (y ∷ ys)
 
-    go : (good : Bool) → is_good later 0 y ≡ good → liveness ys ≡ map (is_good later 0) ys → AreMarks (live_cards (y ∷ ys))
+    go : (good : Bool) → is_good later 0 y ≡ good → liveness ys ≡ map (is_good later 0) ys → IsTheirLiveness (live_cards (y ∷ ys))
     go true e rest =
         let same = all_good_same later y.targets y.ident (y ∷ ys) aged.0 aged.1 in
         let behind : liveness ys ≡ map (is_good (y.targets ++ later) 0) ys = rest
         ∙ sym (map_same (is_good (y.targets ++ later) 0) (is_good later 0) ys same.1) in
-        subst AreMarks (sym (good_before y (live_cards ys) e)) (ap (λ b. b ∷ liveness ys) (sym same.0)
+        subst IsTheirLiveness (sym (good_before y (live_cards ys) e)) (ap (λ b. b ∷ liveness ys) (sym same.0)
         ∙ ap (λ bs. is_good (y.targets ++ later) 0 y ∷ bs) behind)
-    go false e rest = subst AreMarks (sym (bad_before y (live_cards ys) e)) (ap (λ bs. is_good later 0 y ∷ bs) rest)
+    go false e rest = subst IsTheirLiveness (sym (bad_before y (live_cards ys) e)) (ap (λ bs. is_good later 0 y ∷ bs) rest)
 
-pub marks_are_active : (l : LibraryView) → IsSound l → liveness l.yanks ≡ map (is_active (live_targets l) 0) l.yanks
-marks_are_active l sound = live_where_good l.yanks sound.yanks ∙ sym (go l.yanks)
+pub live_where_active : (l : LibraryView) → IsSound l → liveness l.yanks ≡ map (is_active (live_targets l) 0) l.yanks
+live_where_active l sound = live_where_good l.yanks sound.yanks ∙ sym (go l.yanks)
   where
     go : (yanks : List CardView) → map (is_active (live_targets l) 0) yanks ≡ map (is_good (live_targets l) 0) yanks
     go [] = refl
@@ -92,9 +94,9 @@ live_status l card live sound e = go (place_of card l) refl (sym (live_yank-plac
     at : (p : Place) → (b : Bool) → (p.deck == 0) ≡ b → yank_at l p ≡ Some live → option_map (is_active (live_targets l) p.deck) (card_in p l) ≡ Some live
     at p true f found =
         let zero : p.deck ≡ 0 = (Decides-eqb p.deck 0).0 f in
-        let mark : slice_get (liveness l.yanks) p.index ≡ Some live = rw f at found in
-        rw zero (sym (slice_get-map (is_active (live_targets l) 0) l.yanks p.index) ∙ ap (λ marks. slice_get marks p.index) (sym (marks_are_active l sound))
-        ∙ mark)
+        let note_stray : slice_get (liveness l.yanks) p.index ≡ Some live = rw f at found in
+        rw zero (sym (slice_get-map (is_active (live_targets l) 0) l.yanks p.index) ∙ ap (λ flags. slice_get flags p.index) (sym (live_where_active l sound))
+        ∙ note_stray)
     at p false f found = let none = rw f at found in absurd (cc)
 
     go : (o : Option Place) → place_of card l ≡ o → option_and_then (yank_at l) o ≡ Some live → status_of card l ≡ Some live

@@ -109,6 +109,10 @@ cards_of age l = option_map_or (λ d. d.cards) (find (is_deck age) (all_decks l)
 abbrev pub card_in : Place → LibraryView → Option CardView
 card_in place l = slice_get (cards_of place.deck l) place.index
 
+-- the card that a reference names
+abbrev pub card_named : CardRef → LibraryView → Option CardView
+card_named card l = option_and_then (λ place. card_in place l) (place_of card l)
+
 -- the library with the cards of one deck changed
 abbrev pub with_cards : Serial → (List CardView → List CardView) → LibraryView → LibraryView
 with_cards age change l =

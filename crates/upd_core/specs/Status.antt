@@ -46,21 +46,16 @@ is_good live d c = stays_on (is_taken live d) c.history
 abbrev pub targets_of : List CardView → List Target
 targets_of cards = flat_map (λ c. c.targets) cards
 
--- the cards of a list that are marked
-abbrev pub marked : List Bool → List CardView → List CardView
-marked [] cs = []
-marked (mark ∷ marks) [] = []
-marked (mark ∷ marks) (c ∷ cs) = if mark then c ∷ marked marks cs else marked marks cs
+-- The live cards of `YANK$$$`, in order: a yank card is live where it is good, given the targets of the live cards after it. These are younger,
+-- and only younger cards can take what switched a card.
+abbrev pub live_cards : List CardView → List CardView
+live_cards [] = []
+live_cards (y ∷ ys) = if is_good (targets_of (live_cards ys)) 0 y then y ∷ live_cards ys else live_cards ys
 
--- Whether each card of `YANK$$$` is live, in order: whether it is good, given the targets of the live ones behind it. These are younger, and
--- only younger cards can take what switched a card.
+-- whether each card of `YANK$$$` is live, in order
 abbrev pub liveness : List CardView → List Bool
 liveness [] = []
-liveness (y ∷ ys) = is_good (targets_of (marked (liveness ys) ys)) 0 y ∷ liveness ys
-
--- the live cards of `YANK$$$` in order
-abbrev pub live_cards : List CardView → List CardView
-live_cards yanks = marked (liveness yanks) yanks
+liveness (y ∷ ys) = is_good (targets_of (live_cards ys)) 0 y ∷ liveness ys
 
 -- the targets of the live cards of a library
 abbrev pub live_targets : LibraryView → List Target

@@ -1,6 +1,6 @@
 //! The active cards of a library, without their past, with texts of their own.
 
-ghost use Rattle.std.specs.Prelude.{◌≡◌, [], ◌∷◌, ◌++◌, All, map, IfOk, OnOk};
+ghost use Rattle.std.specs.Prelude.{◌≡◌, [], ◌∷◌, ◌++◌, All, length, map, slice_get, IfOk, OnOk};
 ghost use Rattle.upd_core.specs.ActiveTexts.{LiesIn, card_in_texts};
 
 use crate::active_refs::{ActiveCardRef, ActiveDeckRef, ActivesRef};
@@ -65,6 +65,25 @@ impl ActiveDeck {
             cards: Vec::new(alloc),
             texts: Vec::new(alloc),
         }
+    }
+
+    /// The number of active cards.
+    pub fn len(&self) -> usize
+        ensures { result ≡ length self.now.cards }
+    {
+        self.cards.len()
+    }
+
+    /// The active card at an index, from 0. It does not allocate.
+    pub fn card(&self, index: usize) -> Option<ActiveCardRef<'_>>
+        ensures { result ≡ slice_get self.now.cards index }
+    {
+        let card = self.cards.get(index)?;
+        Some(ActiveCardRef {
+            ident: card.ident,
+            number: card.number,
+            text: &self.texts[card.start..card.end],
+        })
     }
 
     /// Adds a card at the end.

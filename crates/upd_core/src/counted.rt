@@ -1,24 +1,25 @@
 //! A library that counts the histories that it hands out: what tells how many cards have been looked at.
 
-ghost use Rattle.std.specs.Prelude.{◌≡◌, ◌++◌, map, IfOk, OnOk};
+ghost use Rattle.std.specs.Prelude.{◌≡◌, ◌++◌, if◌then◌else◌, is_some, map, IfOk, OnOk};
+ghost use Rattle.std.specs.Option.{option_copied, option_map};
 ghost use Rattle.std.specs.List.{list_any, filter, flat_map};
 ghost use Rattle.std.specs.Result.{IsOkUnless};
 ghost use Rattle.upd_text.specs.Faults.{fault_at};
 ghost use Rattle.upd_text.specs.declared.fault.FaultKind.TheVariants.{NoMemory};
 ghost use Rattle.upd_core.specs.Counted.{one_more, counted_card, yanks_of, others_of};
-ghost use Rattle.upd_core.specs.Library.{ref_of};
+ghost use Rattle.upd_core.specs.Library.{card_named, ident_of, place_of, ref_of};
 ghost use Rattle.upd_core.specs.Reach.{has_entry_of, covers, covered, is_retaken, is_reached};
 ghost use Rattle.upd_core.specs.TargetCounts.{count_in};
 
 use crate::card::{Card, Entry, card_ref};
 use crate::deck::Deck;
 use crate::ident::{Ident, Serial};
-use crate::library::{Library, Rest};
+use crate::library::{Library, Place, Rest};
 use crate::target::Target;
 use crate::target_counts::TargetCounts;
 use std::alloc::{AllocError, Global};
 use std::marker::Model;
-use upd_text::{CardRef, Fault};
+use upd_text::{CardRef, Fault, Name};
 
 /// A library that hands out histories one by one and counts them.
 #[derive(Drop)]
@@ -110,7 +111,7 @@ impl<'a> Counted<'a> {
         }
     }
 
-    /// How many histories have been read; the count stays at `u64::MAX`. The program doesn't call it.
+    /// The number of histories that were read; it stays at `u64::MAX`.
     pub fn reads(&self) -> u64
         ensures { result ≡ self.now.histories_read }
     {
@@ -123,6 +124,44 @@ impl<'a> Counted<'a> {
     {
         let library = self.library;
         library.rest()
+    }
+
+    /// The serial of the held ident of a name. It does not allocate.
+    pub fn ident_of(&self, name: &Name) -> Option<Serial>
+        ensures { result ≡ ident_of name.now self.now.library }
+    {
+        let library = self.library;
+        library.ident_of(name)
+    }
+
+    /// The place of the card that a reference names. It does not allocate.
+    pub fn place(&self, card: CardRef) -> Option<Place>
+        ensures { result ≡ place_of card self.now.library }
+    {
+        let library = self.library;
+        library.card_at(card)
+    }
+
+    /// The targets of the card that a reference names: none of its own unless it is a yank card. It does not allocate.
+    pub fn targets(&self, card: CardRef) -> Option<&'a [Target]>
+        ensures { option_copied result ≡ option_map (λ c. c.targets) (card_named card self.now.library) }
+    {
+        let library = self.library;
+        let place = library.card_at(card)?;
+        let card = library.card_in(place)?;
+        Some(&card.targets)
+    }
+
+    /// The history of the card that a reference names: one read more where the card is there. It does not allocate.
+    pub fn history(&mut self, card: CardRef) -> Option<&'a [Entry]>
+        ensures history { option_copied result ≡ option_map (λ c. c.history) (card_named card self.old.library) }
+        ensures reads { self.new ≡ (if is_some (card_named card self.old.library) then one_more self.old else self.old) }
+    {
+        let library = self.library;
+        let place = library.card_at(card)?;
+        let card = library.card_in(place)?;
+        self.count_read();
+        Some(&card.history)
     }
 
     /// The history of a card that this library showed: one read more.
@@ -141,8 +180,7 @@ impl<'a> Counted<'a> {
         self.histories_read = self.histories_read.saturating_add(1);
     }
 
-    /// The cards that a target covers, by deck (`YANK$$$` first) and place; memory alone can fail. The program doesn't
-    /// call it.
+    /// The cards that a target covers, by deck (`YANK$$$` first) and place; memory alone can fail.
     pub fn covered(&self, alloc: Global, target: Target) -> Result<Vec<CardRef>, Fault>
         ensures ok { IfOk result (λ cards. cards.items ≡ covered target self.now.library) }
         ensures err { IsOkUnless result (fault_at NoMemory 0) }

@@ -6,7 +6,7 @@ ghost use Rattle.upd_core.specs.EditParts.{entered_count, entered_in, inserted_i
 ghost use Rattle.upd_core.specs.Edits.{decks_without, without_idents};
 ghost use Rattle.upd_core.specs.First.{at_first, index_from};
 ghost use Rattle.upd_core.specs.Gone.{is_gone};
-ghost use Rattle.upd_core.specs.Homes.{AreHome, IsHome, StayMarked, is_home, may_stray};
+ghost use Rattle.upd_core.specs.Homes.{AreHome, IsHome, StayNoted, is_home, may_stray};
 ghost use Rattle.upd_core.specs.Library.{is_card, is_deck, place_in};
 
 use crate::card::{Card, Entry};
@@ -45,7 +45,7 @@ impl Decks {
         ensures { result ≡ all.items }
     {
         let mut strays = no_strays(&all);
-        mark_all(&mut strays, &all);
+        note_decks(&mut strays, &all);
         Decks { all, strays }
     }
 
@@ -79,7 +79,7 @@ impl Decks {
         ensures ok { OnOk result (self.new ≡ self.old ++ deck ∷ []) }
         ensures err { OnErr result (self.new ≡ self.old) }
     {
-        mark_deck(&mut self.strays, &deck);
+        note_deck(&mut self.strays, &deck);
         self.all.push(deck)?;
         Ok(())
     }
@@ -95,7 +95,7 @@ impl Decks {
         ensures ok { OnOk result (self.new ≡ inserted_in age behind card self.old) }
         ensures err { OnErr result (self.new ≡ self.old) }
     {
-        mark_kept(&mut self.strays, age, &card);
+        note_kept(&mut self.strays, age, &card);
         let found = insert_in(&mut self.all, age, behind, card)?;
         Ok(found)
     }
@@ -142,7 +142,7 @@ fn no_strays(decks: &Vec<Deck>) -> Vec<bool> {
         None => 0,
     };
     match vec![in alloc; false; count] {
-        Ok(marks) => marks,
+        Ok(flags) => flags,
         Err(_) => Vec::new(alloc),
     }
 }
@@ -158,9 +158,9 @@ fn may_stray(strays: &[bool], ident: Serial) -> bool
 }
 
 /// Marks an ident as one that may stray.
-fn mark(strays: &mut [bool], ident: Serial)
-    ensures kept { StayMarked strays.old strays.new }
-    ensures marked { may_stray strays.new ident ≡ true }
+fn note_stray(strays: &mut [bool], ident: Serial)
+    ensures kept { StayNoted strays.old strays.new }
+    ensures noted { may_stray strays.new ident ≡ true }
 {
     let index = ident as usize;
     if index < strays.len() {
@@ -169,40 +169,40 @@ fn mark(strays: &mut [bool], ident: Serial)
 }
 
 /// Marks the ident of a card that stands in the deck of an age, unless the deck is its own.
-fn mark_card(strays: &mut [bool], deck: Serial, card: &Card)
-    ensures kept { StayMarked strays.old strays.new }
+fn note_card(strays: &mut [bool], deck: Serial, card: &Card)
+    ensures kept { StayNoted strays.old strays.new }
     ensures home { is_home strays.new deck card.now ≡ true }
     ensures own { card.now.ident ≡ deck → strays.new ≡ strays.old }
 {
     if card.ident != deck {
-        mark(strays, card.ident);
+        note_stray(strays, card.ident);
     }
 }
 
-/// [`mark_card`] on a vector, whose length stays.
-fn mark_kept(strays: &mut Vec<bool>, deck: Serial, card: &Card)
-    ensures kept { StayMarked strays.old.items strays.new.items }
+/// [`note_card`] on a vector, whose length stays.
+fn note_kept(strays: &mut Vec<bool>, deck: Serial, card: &Card)
+    ensures kept { StayNoted strays.old.items strays.new.items }
     ensures home { is_home strays.new.items deck card.now ≡ true }
 {
-    mark_card(strays, deck, card);
+    note_card(strays, deck, card);
 }
 
 /// Marks the idents of the cards of a deck.
-fn mark_deck(strays: &mut [bool], deck: &Deck)
-    ensures kept { StayMarked strays.old strays.new }
+fn note_deck(strays: &mut [bool], deck: &Deck)
+    ensures kept { StayNoted strays.old strays.new }
     ensures home { IsHome strays.new deck.now }
 {
     for card in &deck.cards {
-        mark_card(strays, deck.ident, card);
+        note_card(strays, deck.ident, card);
     }
 }
 
 /// Marks the idents of the cards of all decks.
-fn mark_all(strays: &mut [bool], decks: &[Deck])
+fn note_decks(strays: &mut [bool], decks: &[Deck])
     ensures { AreHome strays.new decks.now }
 {
     for deck in decks {
-        mark_deck(strays, deck);
+        note_deck(strays, deck);
     }
 }
 

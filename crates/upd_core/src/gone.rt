@@ -3,7 +3,7 @@
 ghost use Rattle.std.specs.Prelude.{◌≡◌, ℕ, ◌<◌, not, map, slice_index, EachIndex, IfOk};
 ghost use Rattle.std.specs.List.{filter};
 ghost use Rattle.upd_core.specs.Edits.{unheld, without_entries, without_idents, deck_without, decks_without, is_among};
-ghost use Rattle.upd_core.specs.Gone.{has_mark, is_gone};
+ghost use Rattle.upd_core.specs.Gone.{is_listed, is_gone};
 
 use crate::card::{Card, Entry};
 use crate::deck::Deck;
@@ -17,7 +17,7 @@ pub enum Gone {
     /// An ident and all younger ones.
     From(Serial),
     /// The ages whose mark is set.
-    Marked(Vec<bool>),
+    Listed(Vec<bool>),
 }
 
 impl Gone {
@@ -25,8 +25,8 @@ impl Gone {
     pub(crate) fn among(alloc: Global, ages: &[Serial]) -> Result<Gone, AllocError>
         ensures { IfOk result (λ gone. (z : ℕ) → is_gone gone z ≡ is_among ages.now z) }
     {
-        let marks = marks(alloc, ages)?;
-        Ok(Gone::Marked(marks))
+        let flags = flags(alloc, ages)?;
+        Ok(Gone::Listed(flags))
     }
 
     /// Whether the purge takes the ident of an age.
@@ -36,28 +36,28 @@ impl Gone {
         match self {
             Gone::Only(gone) => age == *gone,
             Gone::From(oldest) => *oldest <= age,
-            Gone::Marked(marks) => has_mark(marks, age),
+            Gone::Listed(flags) => is_listed(flags, age),
         }
     }
 }
 
 /// Whether an age has a mark: beyond the marks none has.
-fn has_mark(marks: &[bool], age: Serial) -> bool
-    ensures { result ≡ has_mark marks.now age }
+fn is_listed(flags: &[bool], age: Serial) -> bool
+    ensures { result ≡ is_listed flags.now age }
 {
     let age = age as usize;
-    age < marks.len() && marks[age]
+    age < flags.len() && flags[age]
 }
 
 /// A mark for each age up to the greatest of these.
-fn marks(alloc: Global, ages: &[Serial]) -> Result<Vec<bool>, AllocError>
-    ensures { IfOk result (λ marks. (z : ℕ) → has_mark marks.items z ≡ is_among ages.now z) }
+fn flags(alloc: Global, ages: &[Serial]) -> Result<Vec<bool>, AllocError>
+    ensures { IfOk result (λ flags. (z : ℕ) → is_listed flags.items z ≡ is_among ages.now z) }
 {
-    let mut marks = vec![in alloc; false; after_all(ages)]?;
+    let mut flags = vec![in alloc; false; after_all(ages)]?;
     for age in ages {
-        marks[*age as usize] = true;
+        flags[*age as usize] = true;
     }
-    Ok(marks)
+    Ok(flags)
 }
 
 /// One more than the greatest age.

@@ -39,7 +39,7 @@ pub fn references_find_no_other_card()
 pub fn yank_cards_are_active_where_live()
     ensures good { (l : LibraryView) (c : CardView) → IsSound l
         → is_active (live_targets l) 0 c ≡ is_good (live_targets l) 0 c }
-    ensures marks { (l : LibraryView) → IsSound l → liveness l.yanks ≡ map (is_active (live_targets l) 0) l.yanks }
+    ensures flags { (l : LibraryView) → IsSound l → liveness l.yanks ≡ map (is_active (live_targets l) 0) l.yanks }
     ensures status { (l : LibraryView) (card : CardRef) (live : Bool) → IsSound l → live_yank card (live_of l)
         ≡ Some live
         → status_of card l ≡ Some live }

@@ -35,13 +35,13 @@ pub changed_keeps : (mode : Mode) (a : ArrivalView) (l : LibraryView) (run : Run
     → is_lost f.kind ≡ false
 changed_keeps mode a l run f is = go ((run.mode == mode_number mode) && bytes_eq run.bytes a.bytes) is
   where
-    told : Result ReplyView Fault
-    told = Ok (record { accepted = run.accepted; text = run.reply })
+    row_changes : Result ReplyView Fault
+    row_changes = Ok (record { accepted = run.accepted; text = run.reply })
 
     changed : Result ReplyView Fault
     changed = Err (record { kind = fault.RunChanged; at = 0 })
 
-    go : (same : Bool) → Err f ≡ (if same then told else changed) → is_lost f.kind ≡ false
+    go : (same : Bool) → Err f ≡ (if same then row_changes else changed) → is_lost f.kind ≡ false
     go true is = grind rules
     go false is = grind rules
 
@@ -258,15 +258,15 @@ module _ {S : Type 0} {Image : Type 0} (is_honest is_open : S → Type 0) (image
   pub tells_kept : (settles : (s : S) (i : Image) → is_honest s → is_open s → may_leave s i → i ≡ image s) (mode : Mode) (a : ArrivalView)
       (run : RunView) (reply : ReplyView) (s : S) → (is_honest s → is_open s) → (is_honest s → IsAsked mode a (Some run) s)
       → ((l : LibraryView) → Ok reply ≡ reply_to mode a l (Some run)) → Went a (Ok reply) s s
-  tells_kept settles mode a run reply s opens asks told = tells settles a reply s s (keeps_still is_honest is_open image shows may_leave failures s) opens owed
+  tells_kept settles mode a run reply s opens asks row_changes = tells settles a reply s s (keeps_still is_honest is_open image shows may_leave failures s) opens owed
     where
       owed : is_honest s → (j : Journal) → HeldAt s j → (answer j a ≡ Ok reply) × (distinct (Came a ∷ j) ≡ distinct j)
       owed honest j held =
           let both = known mode a run s j (opens honest) (asks honest) (held (opens honest)) in
-          (both.0 ∙ sym (told (library_after j)), both.1)
+          (both.0 ∙ sym (row_changes (library_after j)), both.1)
 
   pub refuses_changed : (mode : Mode) (a : ArrivalView) (run : RunView) (f : Fault) (s : S) → (is_honest s → is_open s)
       → (is_honest s → IsAsked mode a (Some run) s) → ((l : LibraryView) → Err f ≡ reply_to mode a l (Some run)) → Went a (Err f) s s
-  refuses_changed mode a run f s opens asks told = refuses a f s s (keeps_still is_honest is_open image shows may_leave failures s)
-      (changed_keeps mode a empty run f (told empty))
-      (λ honest j held. (known mode a run s j (opens honest) (asks honest) (held (opens honest))).0 ∙ sym (told (library_after j)))
+  refuses_changed mode a run f s opens asks row_changes = refuses a f s s (keeps_still is_honest is_open image shows may_leave failures s)
+      (changed_keeps mode a empty run f (row_changes empty))
+      (λ honest j held. (known mode a run s j (opens honest) (asks honest) (held (opens honest))).0 ∙ sym (row_changes (library_after j)))

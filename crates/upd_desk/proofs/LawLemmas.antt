@@ -132,7 +132,7 @@ pub record IsReplied (j : Journal) (a : ArrivalView) (reply : ReplyView) : Type 
   pub mode : Mode
   pub passed : door a ≡ Ok mode
   pub above : nat_lt (mark j a.site) a.number ≡ true
-  pub told : reply_to mode a (library_after j) (kept j a.site a.number) ≡ Ok reply
+  pub row_changes : reply_to mode a (library_after j) (kept j a.site a.number) ≡ Ok reply
 
 -- a refusal is no reply
 no_reply : {P : Type 0} (f : Fault) (reply : ReplyView) → ◌≡◌ {A = Result ReplyView Fault} (Err f) (Ok reply) → P
@@ -149,8 +149,8 @@ replied j a reply is = by_door (door a) refl
         let refused : answer j a ≡ Err (record { kind = fault.Settled; at = 0 }) = rw (passed, settled) refl in
         no_reply (record { kind = fault.Settled; at = 0 }) reply (sym refused ∙ is)
     by_mark mode passed false above =
-        let told : answer j a ≡ reply_to mode a (library_after j) (kept j a.site a.number) = rw (passed, above) refl in
-        record { mode = mode; passed = passed; above = higher above; told = sym told ∙ is }
+        let row_changes : answer j a ≡ reply_to mode a (library_after j) (kept j a.site a.number) = rw (passed, above) refl in
+        record { mode = mode; passed = passed; above = higher above; row_changes = sym row_changes ∙ is }
 
     by_door : (d : Result Mode Fault) → door a ≡ d → IsReplied j a reply
     by_door (Err f) refused = no_reply f reply (sym (answer_at_door j a f refused) ∙ is)
@@ -170,19 +170,19 @@ refused_leaves j a reply is refused = by (replied j a reply is)
   where
     by_kept : (mode : Mode) → door a ≡ Ok mode → nat_lt (mark j a.site) a.number ≡ true → (k : Option RunView) → kept j a.site a.number ≡ k
         → reply_to mode a (library_after j) k ≡ Ok reply → library_after (Came a ∷ j) ≡ library_after j
-    by_kept mode passed above (Some run) there told = ap made_by (unheard_known j a mode passed (known_where_kept j a.site a.number run there))
-    by_kept mode passed above None none told =
-        let own = ok_same (outcome mode a (library_after j)).reply reply told in
+    by_kept mode passed above (Some run) there row_changes = ap made_by (unheard_known j a mode passed (known_where_kept j a.site a.number run there))
+    by_kept mode passed above None none row_changes =
+        let own = ok_same (outcome mode a (library_after j)).reply reply row_changes in
         ap made_by (heard_new j a mode passed above (unkept_key j a.site a.number above none))
         ∙ refused_outcome mode a (library_after j) (ap (λ r. r.accepted) own ∙ refused)
 
     by : IsReplied j a reply → library_after (Came a ∷ j) ≡ library_after j
-    by its = by_kept its.mode its.passed its.above (kept j a.site a.number) refl its.told
+    by its = by_kept its.mode its.passed its.above (kept j a.site a.number) refl its.row_changes
 
 -- a run that is told again is the one of this arrival and its reply
 told_run : (mode : Mode) (a : ArrivalView) (l : LibraryView) (run : RunView) (reply : ReplyView) → is_run a.site a.number run ≡ true
     → reply_to mode a l (Some run) ≡ Ok reply → run ≡ run_of (record { arrival = a; mode = mode; carried = None }) reply
-told_run mode a l run reply own told = go (run.mode == mode_number mode) (bytes_eq run.bytes a.bytes) refl refl told
+told_run mode a l run reply own row_changes = go (run.mode == mode_number mode) (bytes_eq run.bytes a.bytes) refl refl row_changes
   where
     equal : (n m : ℕ) → (n == m) ≡ true → n ≡ m
     equal n m same = grind (arith, nat_tests)
@@ -216,20 +216,20 @@ reply_kept j a mode reply passed is = by (replied j a reply is)
 
     by_kept : nat_lt (mark j a.site) a.number ≡ true → (k : Option RunView) → kept j a.site a.number ≡ k → reply_to mode a (library_after j) k ≡ Ok reply
         → kept (Came a ∷ j) a.site a.number ≡ Some (run_of (record { arrival = a; mode = mode; carried = None }) reply)
-    by_kept above (Some run) there told =
+    by_kept above (Some run) there row_changes =
         let same = unheard_known j a mode passed (known_where_kept j a.site a.number run there) in
         let found : find (is_run a.site a.number) (answered (distinct j)) ≡ Some run = sym (unsettled above (distinct j)) ∙ there in
         let own = find_passes (is_run a.site a.number) (answered (distinct j)) run found in
         ap (λ hs. if nat_le a.number (mark j a.site) then None else find (is_run a.site a.number) (answered hs)) same ∙ there
-        ∙ ap Some (told_run mode a (library_after j) run reply own told)
-    by_kept above None none told =
+        ∙ ap Some (told_run mode a (library_after j) run reply own row_changes)
+    by_kept above None none row_changes =
         unsettled above (distinct (Came a ∷ j)) ∙ found_own j a mode passed above (unkept_key j a.site a.number above none)
-        ∙ ap (λ r. Some (run_of (record { arrival = a; mode = mode; carried = None }) r)) (ok_same (outcome mode a (library_after j)).reply reply told)
+        ∙ ap (λ r. Some (run_of (record { arrival = a; mode = mode; carried = None }) r)) (ok_same (outcome mode a (library_after j)).reply reply row_changes)
 
     by : IsReplied j a reply → kept (Came a ∷ j) a.site a.number ≡ Some (run_of (record { arrival = a; mode = mode; carried = None }) reply)
     by its =
         let same : its.mode ≡ mode = ok_same its.mode mode (sym its.passed ∙ passed) in
-        by_kept its.above (kept j a.site a.number) refl (subst (λ m. reply_to m a (library_after j) (kept j a.site a.number) ≡ Ok reply) same its.told)
+        by_kept its.above (kept j a.site a.number) refl (subst (λ m. reply_to m a (library_after j) (kept j a.site a.number) ≡ Ok reply) same its.row_changes)
 
 pub others_kept : (j : Journal) (a : ArrivalView) (site : List ℕ) (n : ℕ) → ((a.site ≡ site) × (a.number ≡ n) → ⊥)
     → kept (Came a ∷ j) site n ≡ kept j site n

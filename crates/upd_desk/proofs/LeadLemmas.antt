@@ -11,12 +11,12 @@ use Rattle.upd_core.specs.Library.{DeckView, LibraryView}
 use Rattle.upd_core.specs.Limits.{card_count, entry_count, held_count, is_within_limits, target_count}
 use Rattle.upd_core.specs.declared.change.Change.{Change}
 use Rattle.upd_records.specs.Changes.{ChangeView, IdentNew, IdentPurged, CardNew, CardGone, CardsMoved, EntryNew, EntriesGone, TargetNew, TargetsGone}
-use Rattle.upd_records.specs.Changes.{StatusNow, CountNow, change_seen, done, done_all}
+use Rattle.upd_records.specs.Changes.{StatusNow, CountNow, change_view, done, done_all}
 use Rattle.upd_records.specs.Fits.{AllFit}
 use Rattle.upd_records.specs.Rows.{Rows, RunView, Shows, ShowsStates}
-use Rattle.upd_diff.specs.States.{tells_state}
+use Rattle.upd_diff.specs.States.{row_changes_state}
 use Rattle.upd_diff.proofs.FitLemmas.{FitsAny, any_fit, done_append, fit_append}
-use Rattle.upd_diff.proofs.TellLemmas.{tells_fits, tells_shows}
+use Rattle.upd_diff.proofs.ShownRowsLemmas.{fit_row_changes, shown_by_row_changes}
 use Rattle.upd_deck.specs.Items.{LineView}
 use Rattle.upd_deck.specs.Reading.{reading}
 use Rattle.upd_apply.specs.Applying.{Reached, applied, touched}
@@ -40,7 +40,7 @@ use Rattle.upd_desk.proofs.StoreLemmas.{commits_run}
 
 -- ---- changes that tell statuses and counts alone
 
-fits_any : (c : ChangeView) → tells_state c ≡ true → FitsAny c
+fits_any : (c : ChangeView) → row_changes_state c ≡ true → FitsAny c
 fits_any (StatusNow card active) is = λ rows. tt
 fits_any (CountNow target n) is = λ rows. tt
 fits_any (IdentNew ident) is = absurd (cc)
@@ -53,7 +53,7 @@ fits_any (EntriesGone card) is = absurd (cc)
 fits_any (TargetNew card ord target) is = absurd (cc)
 fits_any (TargetsGone card targets) is = absurd (cc)
 
-shows_still : (c : ChangeView) (rows : Rows) (l : LibraryView) → tells_state c ≡ true → Shows rows l → Shows (done c rows) l
+shows_still : (c : ChangeView) (rows : Rows) (l : LibraryView) → row_changes_state c ≡ true → Shows rows l → Shows (done c rows) l
 shows_still (StatusNow card active) rows l is shows = record { idents = shows.idents; cards = shows.cards; entries = shows.entries; targets = shows.targets }
 shows_still (CountNow target n) rows l is shows = record { idents = shows.idents; cards = shows.cards; entries = shows.entries; targets = shows.targets }
 shows_still (IdentNew ident) rows l is shows = absurd (cc)
@@ -66,7 +66,7 @@ shows_still (EntriesGone card) rows l is shows = absurd (cc)
 shows_still (TargetNew card ord target) rows l is shows = absurd (cc)
 shows_still (TargetsGone card targets) rows l is shows = absurd (cc)
 
-all_show_still : (cs : List ChangeView) (rows : Rows) (l : LibraryView) → AllByRecursion (λ c. tells_state c ≡ true) cs → Shows rows l
+all_show_still : (cs : List ChangeView) (rows : Rows) (l : LibraryView) → AllByRecursion (λ c. row_changes_state c ≡ true) cs → Shows rows l
     → Shows (done_all cs rows) l
 all_show_still [] rows l only shows = shows
 all_show_still (c ∷ cs) rows l only shows = all_show_still cs (done c rows) l only.1 (shows_still c rows l only.0 shows)
@@ -113,21 +113,21 @@ module _ (lines : List LineView) (l loaded : LibraryView) (reached : Reached) (r
   least =
       least_affected l reached.library made.sound (run_goes lines l reached of_run.applied)
 
-  pub lead : (settled : List Change) (rows : Rows) → Shows rows l → AllByRecursion (λ c. tells_state c ≡ true) (map change_seen settled)
-      → ShowsStates (done_all (map change_seen settled) (done_all (map change_seen run.applied.changes.items) rows)) reached.library
-      → LeadTo (map change_seen (run.applied.changes.items ++ settled)) rows reached.library
+  pub lead : (settled : List Change) (rows : Rows) → Shows rows l → AllByRecursion (λ c. row_changes_state c ≡ true) (map change_view settled)
+      → ShowsStates (done_all (map change_view settled) (done_all (map change_view run.applied.changes.items) rows)) reached.library
+      → LeadTo (map change_view (run.applied.changes.items ++ settled)) rows reached.library
   lead settled rows shows only states =
-      let first = map change_seen run.applied.changes.items in
-      let second = map change_seen settled in
-      let both : map change_seen (run.applied.changes.items ++ settled) ≡ first ++ second = map-append change_seen run.applied.changes.items settled in
+      let first = map change_view run.applied.changes.items in
+      let second = map change_view settled in
+      let both : map change_view (run.applied.changes.items ++ settled) ≡ first ++ second = map-append change_view run.applied.changes.items settled in
       let carried = done_append first second rows in
       let goes = run_goes lines l reached of_run.applied in
       subst (λ cs. LeadTo cs rows reached.library) (sym both) (record {
-        fit = fit_append first second rows (tells_fits l reached.library first made.sound goes of_run.told rows shows)
-            (any_fit second (done_all first rows) (all_weaker (λ c. tells_state c ≡ true) FitsAny second fits_any only));
+        fit = fit_append first second rows (fit_row_changes l reached.library first made.sound goes of_run.row_changes rows shows)
+            (any_fit second (done_all first rows) (all_weaker (λ c. row_changes_state c ≡ true) FitsAny second fits_any only));
         library = subst (λ (x : Rows). Shows x reached.library) (sym carried)
             (all_show_still second (done_all first rows) reached.library only
-            (tells_shows l reached.library first made.sound goes of_run.told rows shows));
+            (shown_by_row_changes l reached.library first made.sound goes of_run.row_changes rows shows));
         states = subst (λ (x : Rows). ShowsStates x reached.library) (sym carried) states;
       })
 
@@ -136,12 +136,12 @@ module _ (lines : List LineView) (l loaded : LibraryView) (reached : Reached) (r
 -- what is known of the outcome of a run that is accepted
 pub accepted_outcome : (mode : Mode) (a : ArrivalView) (l : LibraryView) (rows : Rows) (done : Compiled) (changes : List Change) (o : RunOutcome)
     → compiled mode a.bytes l ≡ Ok done → o.reply ≡ (outcome_by a l (Ok done)).reply → o.changes.items ≡ changes
-    → LeadTo (map change_seen changes) rows done.reached.library → o.work ≡ length (affected (touched l done.reached.library) l done.reached.library)
+    → LeadTo (map change_view changes) rows done.reached.library → o.work ≡ length (affected (touched l done.reached.library) l done.reached.library)
     → length (altered l done.reached.library) ≤ o.work → IsOutcomeOf mode a l rows o
 accepted_outcome mode a l rows done changes o is reply are leads work least = record {
   reply = reply ∙ ap (λ r. (outcome_by a l r).reply) (sym is);
-  leads = subst (λ r. LeadTo (map change_seen o.changes.items) rows (outcome_by a l r).library) (sym is)
-      (subst (λ cs. LeadTo (map change_seen cs) rows done.reached.library) (sym are) leads);
+  leads = subst (λ r. LeadTo (map change_view o.changes.items) rows (outcome_by a l r).library) (sym is)
+      (subst (λ cs. LeadTo (map change_view cs) rows done.reached.library) (sym are) leads);
   work = work ∙ ap (looked_at l) (sym is);
   least = subst (λ r. length (altered l (outcome_by a l r).library) ≤ o.work) (sym is) least;
 }
@@ -152,15 +152,15 @@ pub refused_outcome : (mode : Mode) (a : ArrivalView) (l : LibraryView) (rows : 
     → IsOutcomeOf mode a l rows o
 refused_outcome mode a l rows f o made shows states is reply none idle = record {
   reply = reply ∙ ap (λ r. (outcome_by a l r).reply) (sym is);
-  leads = subst (λ r. LeadTo (map change_seen o.changes.items) rows (outcome_by a l r).library) (sym is)
-      (subst (λ cs. LeadTo (map change_seen cs) rows l) (sym none) (record { fit = tt; library = shows; states = states }));
+  leads = subst (λ r. LeadTo (map change_view o.changes.items) rows (outcome_by a l r).library) (sym is)
+      (subst (λ cs. LeadTo (map change_view cs) rows l) (sym none) (record { fit = tt; library = shows; states = states }));
   work = idle ∙ ap (looked_at l) (sym is);
   least = least_refused mode a l f o.work made.sound is;
 }
 
 -- the changes of a new run fit the tables of its library, and a commit of them adds the run
 pub outcome_adds : (mode : Mode) (a : ArrivalView) (l : LibraryView) (rows : Rows) (o : RunOutcome) (cs : List ChangeView) (run : RunView)
-    → IsOutcomeOf mode a l rows o → map change_seen o.changes.items ≡ cs
+    → IsOutcomeOf mode a l rows o → map change_view o.changes.items ≡ cs
     → run ≡ run_of (record { arrival = a; mode = mode; carried = None }) o.reply
     → AllFit cs rows × AddsRun mode a l rows (committed cs run rows)
 outcome_adds mode a l rows o cs run of_run are is =

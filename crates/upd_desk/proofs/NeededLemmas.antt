@@ -9,11 +9,11 @@ use Rattle.upd_core.specs.Edits.{is_among}
 use Rattle.upd_core.specs.Library.{LibraryView}
 use Rattle.upd_core.specs.Parts.{part, part_of}
 use Rattle.upd_core.specs.Sound.{AreApart, IsSound, IsWhole, all_cards, key_of}
-use Rattle.upd_records.specs.Changes.{ChangeView, change_seen, done_all}
+use Rattle.upd_records.specs.Changes.{ChangeView, change_view, done_all}
 use Rattle.upd_records.specs.Rows.{Rows, ShowsStates}
 use Rattle.upd_diff.specs.States.{TakeGone}
-use Rattle.upd_diff.specs.Told.{Told}
-use Rattle.upd_diff.proofs.TellLemmas.{tells_take}
+use Rattle.upd_diff.specs.RowChanges.{RowChanges}
+use Rattle.upd_diff.proofs.ShownRowsLemmas.{taken_by_row_changes}
 use Rattle.upd_deck.specs.Items.{LineView}
 use Rattle.upd_apply.specs.Applying.{Reached, applied, touched}
 use Rattle.upd_row_store.specs.Asked.{decks_with}
@@ -48,7 +48,7 @@ here_of run = record { library = run.library; idents = run.applied.idents.items;
 record IsAppliedTo (lines : List LineView) (found : LibraryView) (run : AppliedRun) : Type 0 where
   is : applied lines found ≡ Ok (here_of run)
   touches : AreApart (map key_of (all_cards found)) → run.applied.touched.items ≡ touched found run.library
-  tells : Told found run.library (map change_seen run.applied.changes.items)
+  tells : RowChanges found run.library (map change_view run.applied.changes.items)
 
 -- from the whole library the active cards are renewed as they are
 renewed_all : (l new : LibraryView) (cache : CacheView) → IsSound l → IsSound new → IsWhole new → IsRight new cache
@@ -71,9 +71,9 @@ between lines m run sound few at cache right = record {
 }
 
 takes : (lines : List LineView) (m : LibraryView) (run : AppliedRun) → IsSound m → IsAppliedTo lines m run
-    → TakeGone m run.library (map change_seen run.applied.changes.items)
+    → TakeGone m run.library (map change_view run.applied.changes.items)
 takes lines m run sound at =
-    tells_take m run.library (map change_seen run.applied.changes.items) sound (run_sound lines m (here_of run) sound at.is)
+    taken_by_row_changes m run.library (map change_view run.applied.changes.items) sound (run_sound lines m (here_of run) sound at.is)
     (run_goes lines m (here_of run) at.is) at.tells
 
 -- of the whole library
@@ -85,7 +85,7 @@ on_all lines l run made at = (
     idents = refl;
     compile = refl;
     directory = refl;
-    told = at.tells;
+    row_changes = at.tells;
     part = (λ _. false, refl, part_of_none l);
     settling = record {
       between = between lines l run made.sound (few_yanks run.library (run_within lines l (here_of run) made.within at.is)) at;
@@ -115,7 +115,7 @@ on_named lines l run made plain none at = by (on_whole ages lines l (here_of run
     out = is_left_out ages l
 
     changes : List ChangeView
-    changes = map change_seen run.applied.changes.items
+    changes = map change_view run.applied.changes.items
 
     same : part_of ages l ≡ part out l
     same = part_of_others ages l made.sound
@@ -140,7 +140,7 @@ on_named lines l run made plain none at = by (on_whole ages lines l (here_of run
         idents = ap (λ (r : Reached). r.idents) on.parted;
         compile = ap (λ (r : Reached). r.compile) on.parted;
         directory = ap (λ (r : Reached). r.library.idents) on.parted;
-        told = on.told;
+        row_changes = on.row_changes;
         part = (out, refl, refl);
         settling = record {
           between = between lines (part out l) run sound few here;
@@ -153,7 +153,7 @@ on_named lines l run made plain none at = by (on_whole ages lines l (here_of run
               ∙ ap length (affected_in out lines l on.there made.sound does named on.reached);
           leads = λ settled only leads rows shows.
               part_leads out lines l on.there refl made.sound does named on.reached changes settled
-              (subst (λ m. Told (part out l) m changes) library here.tells) only
+              (subst (λ m. RowChanges (part out l) m changes) library here.tells) only
               (subst (λ m. (rows : Rows) → ShowsStates rows (part out l) → ShowsStates (done_all settled (done_all changes rows)) m) library leads) rows shows;
           renews = λ cache right.
               ap (λ m. renewed cache.states m (actives_of l)) library
@@ -172,7 +172,7 @@ on_named lines l run made plain none at = by (on_whole ages lines l (here_of run
 pub run_needed : (lines : List LineView) (l found : LibraryView) (run : AppliedRun) → IsMade l → found ≡ part_of (decks_needed lines l) l
     → applied lines found ≡ Ok (record { library = run.library; idents = run.applied.idents.items; compile = run.applied.compile.items })
     → (AreApart (map key_of (all_cards found)) → run.applied.touched.items ≡ touched found run.library)
-    → Told found run.library (map change_seen run.applied.changes.items) → (reached : Reached) × IsRunOf lines l found reached run
+    → RowChanges found run.library (map change_view run.applied.changes.items) → (reached : Reached) × IsRunOf lines l found reached run
 run_needed lines l found run made loaded is touches tells = subst (Ran l) (sym loaded)
     (go (is_plain lines) refl (list_any (is_yank_card l) (cards_named lines)) refl
     (subst (λ m. IsAppliedTo lines m run) loaded (record { is = is; touches = touches; tells = tells })))

@@ -21,7 +21,7 @@ answer_line (Err fault) = fault_text fault ++ 10 ∷ []
 -- why an arrival gets no line: it was lost, or there was no memory for the text of its fault
 abbrev pub IsUntold : Result ReplyView Fault → Fault → Type 0
 IsUntold (Ok reply) fault = ⊥
-IsUntold (Err told) fault = ((is_lost told.kind ≡ true) × (fault ≡ told)) ⊎ ((is_lost told.kind ≡ false) × (fault ≡ fault_at NoMemory 0))
+IsUntold (Err row_changes) fault = ((is_lost row_changes.kind ≡ true) × (fault ≡ row_changes)) ⊎ ((is_lost row_changes.kind ≡ false) × (fault ≡ fault_at NoMemory 0))
 
 -- a store is said to have failed only where it counted a failure
 abbrev pub CountsFailure : {S A : Type 0} → (S → ℕ) → Result A Fault → S → S → Type 0

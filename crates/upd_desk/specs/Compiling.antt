@@ -7,10 +7,10 @@ use Rattle.upd_core.specs.Serials.{Serial}
 use Rattle.upd_core.specs.Counted.{counted_cards}
 use Rattle.upd_core.specs.Library.{LibraryView}
 use Rattle.upd_core.specs.Parts.{part}
-use Rattle.upd_records.specs.Changes.{ChangeView, change_seen, done_all}
+use Rattle.upd_records.specs.Changes.{ChangeView, change_view, done_all}
 use Rattle.upd_records.specs.Rows.{Rows, ShowsStates}
-use Rattle.upd_diff.specs.States.{TakeGone, tells_state}
-use Rattle.upd_diff.specs.Told.{Told}
+use Rattle.upd_diff.specs.States.{TakeGone, row_changes_state}
+use Rattle.upd_diff.specs.RowChanges.{RowChanges}
 use Rattle.upd_deck.specs.Items.{LineView}
 use Rattle.upd_apply.specs.Applying.{Reached, applied, touched}
 use Rattle.upd_compile.specs.File.{FileView}
@@ -40,11 +40,11 @@ references_of l = map (λ k. k.card) (counted_cards l)
 pub record IsSettledAlone (l loaded : LibraryView) (reached : Reached) (run : AppliedRun) : Type 0 where
   pub between : (cache : CacheView) → IsRight loaded cache → IsRunBetween loaded run.library cache run.applied.touched.items
   pub enough : IsEnough run.applied.touched.items loaded run.library run.library
-  pub takes : TakeGone loaded run.library (map change_seen run.applied.changes.items)
+  pub takes : TakeGone loaded run.library (map change_view run.applied.changes.items)
   pub looks : length (affected run.applied.touched.items loaded run.library) ≡ length (affected (touched l reached.library) l reached.library)
-  pub leads : (settled : List ChangeView) → AllByRecursion (λ c. tells_state c ≡ true) settled
-      → ((rows : Rows) → ShowsStates rows loaded → ShowsStates (done_all settled (done_all (map change_seen run.applied.changes.items) rows)) run.library)
-      → (rows : Rows) → ShowsStates rows l → ShowsStates (done_all settled (done_all (map change_seen run.applied.changes.items) rows)) reached.library
+  pub leads : (settled : List ChangeView) → AllByRecursion (λ c. row_changes_state c ≡ true) settled
+      → ((rows : Rows) → ShowsStates rows loaded → ShowsStates (done_all settled (done_all (map change_view run.applied.changes.items) rows)) run.library)
+      → (rows : Rows) → ShowsStates rows l → ShowsStates (done_all settled (done_all (map change_view run.applied.changes.items) rows)) reached.library
   pub renews : (cache : CacheView) → IsRight run.library cache → renewed cache.states run.library (actives_of l) ≡ actives_of reached.library
 
 -- What is known of a run that was applied to a part of a library: what it reaches from the whole, that its row changes lead there, and that it is
@@ -54,7 +54,7 @@ pub record IsRunOf (lines : List LineView) (l loaded : LibraryView) (reached : R
   pub idents : run.applied.idents.items ≡ reached.idents
   pub compile : run.applied.compile.items ≡ reached.compile
   pub directory : run.library.idents ≡ reached.library.idents
-  pub told : Told l reached.library (map change_seen run.applied.changes.items)
+  pub row_changes : RowChanges l reached.library (map change_view run.applied.changes.items)
   pub part : IsPartOf l loaded
   pub settling : IsSettledAlone l loaded reached run
 
@@ -72,6 +72,6 @@ AreActivesFor mode named l None = (mode ≡ Quick) × (named ≡ [])
 -- What is known of the answer to a new run that came to a library which tables show.
 pub record IsOutcomeOf (mode : Mode) (a : ArrivalView) (l : LibraryView) (rows : Rows) (o : RunOutcome) : Type 0 where
   pub reply : o.reply ≡ (outcome mode a l).reply
-  pub leads : LeadTo (map change_seen o.changes.items) rows (outcome mode a l).library
+  pub leads : LeadTo (map change_view o.changes.items) rows (outcome mode a l).library
   pub work : o.work ≡ looked_at l (compiled mode a.bytes l)
   pub least : length (altered l (outcome mode a l).library) ≤ o.work

@@ -18,11 +18,11 @@ pub const DECK_A: &str = "*DECK A\nONE\nTWO\nTHREE\n";
 fn shown(alloc: Global, answer: Result<Vec<u8>, Fault>) -> Result<String, Fail> {
     match answer {
         Ok(text) => Ok(String::from_utf8(text)?),
-        Err(fault) => told(alloc, fault),
+        Err(fault) => row_changes(alloc, fault),
     }
 }
 
-fn told(alloc: Global, fault: Fault) -> Result<String, Fail> {
+fn row_changes(alloc: Global, fault: Fault) -> Result<String, Fail> {
     Ok(format!(in alloc; "{fault}")?)
 }
 
@@ -30,7 +30,7 @@ fn told(alloc: Global, fault: Fault) -> Result<String, Fail> {
 fn shown_mark(alloc: Global, mark: Result<u64, Fault>) -> Result<String, Fail> {
     match mark {
         Ok(mark) => Ok(format!(in alloc; "{mark}")?),
-        Err(fault) => told(alloc, fault),
+        Err(fault) => row_changes(alloc, fault),
     }
 }
 

@@ -27,35 +27,35 @@ fn run(library: &mut Library, text: &str) -> Result<String, Fail> {
 }
 
 fn lines_of(alloc: Global, changes: &[Change]) -> Result<String, Fail> {
-    let mut told = String::new(alloc);
+    let mut row_changes = String::new(alloc);
     for change in changes {
-        tell(&mut told, change)?;
+        tell(&mut row_changes, change)?;
     }
-    Ok(told)
+    Ok(row_changes)
 }
 
-fn tell(told: &mut String, change: &Change) -> Result<(), Fail> {
+fn tell(row_changes: &mut String, change: &Change) -> Result<(), Fail> {
     match change {
-        Change::IdentNew(ident) => tell_ident(told, ident),
-        Change::IdentPurged(age) => tell_end(told, "ident", age, "purged"),
+        Change::IdentNew(ident) => tell_ident(row_changes, ident),
+        Change::IdentPurged(age) => tell_end(row_changes, "ident", age, "purged"),
         Change::CardNew {
             card,
             deck,
             pos,
             text,
-        } => tell_card(told, card, (*deck, *pos), text),
-        Change::CardGone(card) => tell_end(told, "card", card, "gone"),
-        Change::CardsMoved { deck, from, by } => tell_move(told, *deck, *from, *by),
-        Change::EntryNew { card, ord, entry } => tell_entry(told, card, *ord, entry),
-        Change::EntriesGone(card) => tell_end(told, "entries of", card, "gone"),
-        Change::TargetNew { card, ord, target } => tell_target(told, card, *ord, target),
-        Change::TargetsGone { card, targets } => tell_targets_gone(told, card, targets),
-        Change::StatusNow { card, active } => tell_status(told, card, *active),
-        Change::CountNow { target, n } => tell_count(told, target, *n),
+        } => tell_card(row_changes, card, (*deck, *pos), text),
+        Change::CardGone(card) => tell_end(row_changes, "card", card, "gone"),
+        Change::CardsMoved { deck, from, by } => tell_move(row_changes, *deck, *from, *by),
+        Change::EntryNew { card, ord, entry } => tell_entry(row_changes, card, *ord, entry),
+        Change::EntriesGone(card) => tell_end(row_changes, "entries of", card, "gone"),
+        Change::TargetNew { card, ord, target } => tell_target(row_changes, card, *ord, target),
+        Change::TargetsGone { card, targets } => tell_targets_gone(row_changes, card, targets),
+        Change::StatusNow { card, active } => tell_status(row_changes, card, *active),
+        Change::CountNow { target, n } => tell_count(row_changes, target, *n),
     }
 }
 
-fn tell_ident(told: &mut String, ident: &Ident) -> Result<(), Fail> {
+fn tell_ident(row_changes: &mut String, ident: &Ident) -> Result<(), Fail> {
     let Ident {
         age,
         name,
@@ -65,47 +65,47 @@ fn tell_ident(told: &mut String, ident: &Ident) -> Result<(), Fail> {
     } = ident;
     let noprop = if *noprop { " noprop" } else { "" };
     let held = if *held { "" } else { " purged" };
-    Ok(write!(told, "ident {age} {name} {kind:?}{noprop}{held}\n")?)
+    Ok(write!(row_changes, "ident {age} {name} {kind:?}{noprop}{held}\n")?)
 }
 
 /// A line of something that ends.
-fn tell_end<T: Display>(told: &mut String, what: &str, of: &T, end: &str) -> Result<(), Fail> {
-    Ok(write!(told, "{what} {of} {end}\n")?)
+fn tell_end<T: Display>(row_changes: &mut String, what: &str, of: &T, end: &str) -> Result<(), Fail> {
+    Ok(write!(row_changes, "{what} {of} {end}\n")?)
 }
 
 fn tell_card(
-    told: &mut String,
+    row_changes: &mut String,
     card: &CardRef,
     (deck, pos): (Serial, u32),
     text: &[u8],
 ) -> Result<(), Fail> {
     let text = std::str::from_utf8(text)?;
-    Ok(write!(told, "card {card} in {deck} at {pos}: {text}\n")?)
+    Ok(write!(row_changes, "card {card} in {deck} at {pos}: {text}\n")?)
 }
 
-fn tell_move(told: &mut String, deck: Serial, from: u32, by: i64) -> Result<(), Fail> {
-    Ok(write!(told, "cards of {deck} from {from} by {by}\n")?)
+fn tell_move(row_changes: &mut String, deck: Serial, from: u32, by: i64) -> Result<(), Fail> {
+    Ok(write!(row_changes, "cards of {deck} from {from} by {by}\n")?)
 }
 
-fn tell_entry(told: &mut String, card: &CardRef, ord: u32, entry: &Entry) -> Result<(), Fail> {
+fn tell_entry(row_changes: &mut String, card: &CardRef, ord: u32, entry: &Entry) -> Result<(), Fail> {
     let Entry { ident, active } = entry;
-    Ok(write!(told, "entry {ord} of {card}: {ident} {active}\n")?)
+    Ok(write!(row_changes, "entry {ord} of {card}: {ident} {active}\n")?)
 }
 
-fn tell_target(told: &mut String, card: &CardRef, ord: u32, target: &Target) -> Result<(), Fail> {
-    Ok(write!(told, "target {ord} of {card}: {target:?}\n")?)
+fn tell_target(row_changes: &mut String, card: &CardRef, ord: u32, target: &Target) -> Result<(), Fail> {
+    Ok(write!(row_changes, "target {ord} of {card}: {target:?}\n")?)
 }
 
-fn tell_targets_gone(told: &mut String, card: &CardRef, targets: &[Target]) -> Result<(), Fail> {
-    Ok(write!(told, "targets of {card} gone: {targets:?}\n")?)
+fn tell_targets_gone(row_changes: &mut String, card: &CardRef, targets: &[Target]) -> Result<(), Fail> {
+    Ok(write!(row_changes, "targets of {card} gone: {targets:?}\n")?)
 }
 
-fn tell_status(told: &mut String, card: &CardRef, active: bool) -> Result<(), Fail> {
-    Ok(write!(told, "status of {card}: {active}\n")?)
+fn tell_status(row_changes: &mut String, card: &CardRef, active: bool) -> Result<(), Fail> {
+    Ok(write!(row_changes, "status of {card}: {active}\n")?)
 }
 
-fn tell_count(told: &mut String, target: &Target, n: u32) -> Result<(), Fail> {
-    Ok(write!(told, "count of {target:?}: {n}\n")?)
+fn tell_count(row_changes: &mut String, target: &Target, n: u32) -> Result<(), Fail> {
+    Ok(write!(row_changes, "count of {target:?}: {n}\n")?)
 }
 
 /// The library that runs leave which come one after the other.
@@ -126,8 +126,8 @@ fn last_tells(
     wanted: &str,
 ) -> Result<(), Fail> {
     let mut library = changed(alloc, runs)?;
-    let told = run(&mut library, last)?;
-    same_text(rt, last, told.as_str(), wanted);
+    let row_changes = run(&mut library, last)?;
+    same_text(rt, last, row_changes.as_str(), wanted);
     Ok(())
 }
 
@@ -267,8 +267,8 @@ pub fn with_decks(alloc: Global, decks: u32) -> Result<Library, Fail> {
 }
 
 /// How many lines begin with this.
-fn lines_with(told: &str, front: &str) -> usize {
-    told.lines().filter(|line| line.starts_with(front)).count()
+fn lines_with(row_changes: &str, front: &str) -> usize {
+    row_changes.lines().filter(|line| line.starts_with(front)).count()
 }
 
 #[test]
@@ -291,10 +291,10 @@ fn texts_at_one_place(alloc: Global) -> Result<String, Fail> {
 fn takes_1998_texts_at_one_place_of_48000_cards(rt: HostRuntime) -> Result<(), Fail> {
     let mut library = with_decks(rt.alloc(), 24)?;
     let text = texts_at_one_place(rt.alloc())?;
-    let told = run(&mut library, text.as_str())?;
-    let moves = lines_with(told.as_str(), "cards of");
+    let row_changes = run(&mut library, text.as_str())?;
+    let moves = lines_with(row_changes.as_str(), "cards of");
     let front = "ident 25 X Set\ncards of 8 from 1000 by 1998\n";
-    let is_first = told.as_str().starts_with(front);
+    let is_first = row_changes.as_str().starts_with(front);
     same(&rt, "the moves", &(moves, is_first), &(1, true));
     Ok(())
 }
@@ -302,8 +302,8 @@ fn takes_1998_texts_at_one_place_of_48000_cards(rt: HostRuntime) -> Result<(), F
 #[test]
 fn purges_40000_of_48000_cards(rt: HostRuntime) -> Result<(), Fail> {
     let mut library = with_decks(rt.alloc(), 24)?;
-    let told = run(&mut library, "*PURGE DECK4,*\n")?;
-    let gone = lines_with(told.as_str(), "card ");
+    let row_changes = run(&mut library, "*PURGE DECK4,*\n")?;
+    let gone = lines_with(row_changes.as_str(), "card ");
     let left = library.decks().len();
     same(&rt, "cards gone, decks left", &(gone, left), &(40_000, 4));
     Ok(())

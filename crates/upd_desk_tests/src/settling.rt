@@ -47,9 +47,9 @@ fn settle(
     done: &Applied,
     lines: u32,
 ) -> Result<(), Fail> {
-    let told = cache.settle(&mut Counted::new(library), done)?;
+    let row_changes = cache.settle(&mut Counted::new(library), done)?;
     let wanted = (lines as usize, u64::from(lines));
-    same(rt, "told, work", &(told.len(), cache.work()), &wanted);
+    same(rt, "row_changes, work", &(row_changes.len(), cache.work()), &wanted);
     Ok(())
 }
 

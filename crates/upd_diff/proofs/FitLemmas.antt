@@ -6,7 +6,7 @@ use Rattle.std.proofs.lemmas.Bool.Decides.{nat_tests}
 use Rattle.std.proofs.lemmas.List.{map-append}
 use Rattle.upd_core.specs.Library.{LibraryView}
 use Rattle.upd_records.specs.Rows.{CardRow, Rows, IsSame, Shows}
-use Rattle.upd_diff.specs.States.{tells_state}
+use Rattle.upd_diff.specs.States.{row_changes_state}
 use Rattle.upd_records.specs.Changes.{ChangeView, IdentNew, IdentPurged, CardNew, CardGone, CardsMoved, EntryNew, EntriesGone, TargetNew, TargetsGone}
 use Rattle.upd_records.specs.Changes.{StatusNow, CountNow, done, done_all, moved_row}
 use Rattle.upd_records.specs.Fits.{CanMove, Fits, AllFit}
@@ -35,12 +35,12 @@ any_fit (c ∷ cs) rows any = (any.0 rows, any_fit cs (done c rows) any.1)
 -- ---- changes of statuses and counts
 
 -- they leave what the tables show of a library
-pub shows_stay : (cs : List ChangeView) (rows : Rows) (l : LibraryView) → AllByRecursion (λ c. tells_state c ≡ true) cs → Shows rows l
+pub shows_stay : (cs : List ChangeView) (rows : Rows) (l : LibraryView) → AllByRecursion (λ c. row_changes_state c ≡ true) cs → Shows rows l
     → Shows (done_all cs rows) l
 shows_stay [] rows l all shows = shows
 shows_stay (c ∷ cs) rows l all shows = shows_stay cs (done c rows) l all.1 (one c all.0)
   where
-    one : (c : ChangeView) → tells_state c ≡ true → Shows (done c rows) l
+    one : (c : ChangeView) → row_changes_state c ≡ true → Shows (done c rows) l
     one (StatusNow card active) is = record { idents = shows.idents; cards = shows.cards; entries = shows.entries; targets = shows.targets }
     one (CountNow target n) is = record { idents = shows.idents; cards = shows.cards; entries = shows.entries; targets = shows.targets }
     one (IdentNew i) is = absurd (cc)
@@ -54,11 +54,11 @@ shows_stay (c ∷ cs) rows l all shows = shows_stay cs (done c rows) l all.1 (on
     one (TargetsGone card targets) is = absurd (cc)
 
 -- and they fit any tables
-pub states_fit : (cs : List ChangeView) (rows : Rows) → AllByRecursion (λ c. tells_state c ≡ true) cs → AllFit cs rows
+pub states_fit : (cs : List ChangeView) (rows : Rows) → AllByRecursion (λ c. row_changes_state c ≡ true) cs → AllFit cs rows
 states_fit [] rows all = tt
 states_fit (c ∷ cs) rows all = (one c all.0, states_fit cs (done c rows) all.1)
   where
-    one : (c : ChangeView) → tells_state c ≡ true → Fits c rows
+    one : (c : ChangeView) → row_changes_state c ≡ true → Fits c rows
     one (StatusNow card active) is = tt
     one (CountNow target n) is = tt
     one (IdentNew i) is = tt

@@ -13,9 +13,9 @@ use Rattle.upd_core.specs.declared.target.Target.{Target}
 use Rattle.upd_core.specs.Library.{CardView, ref_of}
 use Rattle.upd_core.specs.Sound.{AreApart}
 use Rattle.upd_records.specs.Rows.{CardRow, EntryRow, TargetRow, same_ref, card_rows, entry_rows, target_rows}
-use Rattle.upd_diff.specs.Fates.{FateView, DeckFatesView, Kept, Gone, New, card_before}
+use Rattle.upd_diff.specs.CardDiffs.{CardDiffView, DeckDiffView, Kept, Gone, New, card_before}
 use Rattle.upd_records.specs.Changes.{CardGone, EntriesGone, TargetsGone}
-use Rattle.upd_diff.specs.Told.{begins, gone_of}
+use Rattle.upd_diff.specs.RowChanges.{begins, gone_of}
 use Rattle.upd_records.proofs.EffectLemmas.{on_cards, on_entries, on_targets, all_acts, is_in, without, without_none}
 
 -- ---- references
@@ -39,58 +39,58 @@ other_ref a b differ = go (same_ref a b) refl
 
 -- ---- which cards go, by a mark at each fate
 
-module _ (idents : List Ident) (goes : FateView → Bool) where
-  abbrev pub key_of : FateView → List CardRef
+module _ (idents : List Ident) (goes : CardDiffView → Bool) where
+  abbrev pub key_of : CardDiffView → List CardRef
   key_of f = cond (goes f) (map (ref_of idents) (card_before f)) []
 
-  abbrev pub Fits : List CardRef → FateView → Type 0
+  abbrev pub Fits : List CardRef → CardDiffView → Type 0
   Fits keys f = AllByRecursion (λ c. is_in keys (ref_of idents c) ≡ goes f) (card_before f)
 
-  is_not_in : (card : CardRef) (fates : List FateView) → AllByRecursion (λ r. card ≡ r → ⊥) (map (ref_of idents) (flat_map card_before fates))
-      → is_in (flat_map key_of fates) card ≡ false
+  is_not_in : (card : CardRef) (card_diffs : List CardDiffView) → AllByRecursion (λ r. card ≡ r → ⊥) (map (ref_of idents) (flat_map card_before card_diffs))
+      → is_in (flat_map key_of card_diffs) card ≡ false
   is_not_in card [] apart = refl
-  is_not_in card (Kept c d ∷ fates) apart = go (goes (Kept c d)) (is_not_in card fates apart.1)
+  is_not_in card (Kept c d ∷ card_diffs) apart = go (goes (Kept c d)) (is_not_in card card_diffs apart.1)
     where
-      go : (b : Bool) → is_in (flat_map key_of fates) card ≡ false → is_in (cond b (ref_of idents c ∷ []) [] ++ flat_map key_of fates) card ≡ false
+      go : (b : Bool) → is_in (flat_map key_of card_diffs) card ≡ false → is_in (cond b (ref_of idents c ∷ []) [] ++ flat_map key_of card_diffs) card ≡ false
       go true later = rw (other_ref (ref_of idents c) card (λ e. apart.0 (sym e))) later
       go false later = later
-  is_not_in card (Gone c ∷ fates) apart = go (goes (Gone c)) (is_not_in card fates apart.1)
+  is_not_in card (Gone c ∷ card_diffs) apart = go (goes (Gone c)) (is_not_in card card_diffs apart.1)
     where
-      go : (b : Bool) → is_in (flat_map key_of fates) card ≡ false → is_in (cond b (ref_of idents c ∷ []) [] ++ flat_map key_of fates) card ≡ false
+      go : (b : Bool) → is_in (flat_map key_of card_diffs) card ≡ false → is_in (cond b (ref_of idents c ∷ []) [] ++ flat_map key_of card_diffs) card ≡ false
       go true later = rw (other_ref (ref_of idents c) card (λ e. apart.0 (sym e))) later
       go false later = later
-  is_not_in card (New d ∷ fates) apart = go (goes (New d)) (is_not_in card fates apart)
+  is_not_in card (New d ∷ card_diffs) apart = go (goes (New d)) (is_not_in card card_diffs apart)
     where
-      go : (b : Bool) → is_in (flat_map key_of fates) card ≡ false → is_in (cond b [] [] ++ flat_map key_of fates) card ≡ false
+      go : (b : Bool) → is_in (flat_map key_of card_diffs) card ≡ false → is_in (cond b [] [] ++ flat_map key_of card_diffs) card ≡ false
       go true later = later
       go false later = later
 
   -- the keys fit still with that of a card which is none of these
-  still : (k : CardRef) (keys : List CardRef) (fates : List FateView) → AllByRecursion (λ r. k ≡ r → ⊥) (map (ref_of idents) (flat_map card_before fates))
-      → AllByRecursion (Fits keys) fates → AllByRecursion (Fits (k ∷ keys)) fates
+  still : (k : CardRef) (keys : List CardRef) (card_diffs : List CardDiffView) → AllByRecursion (λ r. k ≡ r → ⊥) (map (ref_of idents) (flat_map card_before card_diffs))
+      → AllByRecursion (Fits keys) card_diffs → AllByRecursion (Fits (k ∷ keys)) card_diffs
   still k keys [] apart fit = tt
-  still k keys (Kept c d ∷ fates) apart fit = ((rw (other_ref k (ref_of idents c) apart.0) fit.0.0, tt), still k keys fates apart.1 fit.1)
-  still k keys (Gone c ∷ fates) apart fit = ((rw (other_ref k (ref_of idents c) apart.0) fit.0.0, tt), still k keys fates apart.1 fit.1)
-  still k keys (New d ∷ fates) apart fit = (tt, still k keys fates apart fit.1)
+  still k keys (Kept c d ∷ card_diffs) apart fit = ((rw (other_ref k (ref_of idents c) apart.0) fit.0.0, tt), still k keys card_diffs apart.1 fit.1)
+  still k keys (Gone c ∷ card_diffs) apart fit = ((rw (other_ref k (ref_of idents c) apart.0) fit.0.0, tt), still k keys card_diffs apart.1 fit.1)
+  still k keys (New d ∷ card_diffs) apart fit = (tt, still k keys card_diffs apart fit.1)
 
   -- the keys of the cards that go fit
-  pub keys_fit : (fates : List FateView) → AreApart (map (ref_of idents) (flat_map card_before fates)) → AllByRecursion (Fits (flat_map key_of fates)) fates
+  pub keys_fit : (card_diffs : List CardDiffView) → AreApart (map (ref_of idents) (flat_map card_before card_diffs)) → AllByRecursion (Fits (flat_map key_of card_diffs)) card_diffs
   keys_fit [] apart = tt
-  keys_fit (Kept c d ∷ fates) apart = go (goes (Kept c d)) refl (is_not_in (ref_of idents c) fates apart.0) (keys_fit fates apart.1)
+  keys_fit (Kept c d ∷ card_diffs) apart = go (goes (Kept c d)) refl (is_not_in (ref_of idents c) card_diffs apart.0) (keys_fit card_diffs apart.1)
     where
-      go : (b : Bool) → goes (Kept c d) ≡ b → is_in (flat_map key_of fates) (ref_of idents c) ≡ false → AllByRecursion (Fits (flat_map key_of fates)) fates
-          → AllByRecursion (Fits (cond b (ref_of idents c ∷ []) [] ++ flat_map key_of fates)) (Kept c d ∷ fates)
-      go true e none later = ((rw (same_ref_own (ref_of idents c)) (sym e), tt), still (ref_of idents c) _ fates apart.0 later)
+      go : (b : Bool) → goes (Kept c d) ≡ b → is_in (flat_map key_of card_diffs) (ref_of idents c) ≡ false → AllByRecursion (Fits (flat_map key_of card_diffs)) card_diffs
+          → AllByRecursion (Fits (cond b (ref_of idents c ∷ []) [] ++ flat_map key_of card_diffs)) (Kept c d ∷ card_diffs)
+      go true e none later = ((rw (same_ref_own (ref_of idents c)) (sym e), tt), still (ref_of idents c) _ card_diffs apart.0 later)
       go false e none later = ((none ∙ sym e, tt), later)
-  keys_fit (Gone c ∷ fates) apart = go (goes (Gone c)) refl (is_not_in (ref_of idents c) fates apart.0) (keys_fit fates apart.1)
+  keys_fit (Gone c ∷ card_diffs) apart = go (goes (Gone c)) refl (is_not_in (ref_of idents c) card_diffs apart.0) (keys_fit card_diffs apart.1)
     where
-      go : (b : Bool) → goes (Gone c) ≡ b → is_in (flat_map key_of fates) (ref_of idents c) ≡ false → AllByRecursion (Fits (flat_map key_of fates)) fates
-          → AllByRecursion (Fits (cond b (ref_of idents c ∷ []) [] ++ flat_map key_of fates)) (Gone c ∷ fates)
-      go true e none later = ((rw (same_ref_own (ref_of idents c)) (sym e), tt), still (ref_of idents c) _ fates apart.0 later)
+      go : (b : Bool) → goes (Gone c) ≡ b → is_in (flat_map key_of card_diffs) (ref_of idents c) ≡ false → AllByRecursion (Fits (flat_map key_of card_diffs)) card_diffs
+          → AllByRecursion (Fits (cond b (ref_of idents c ∷ []) [] ++ flat_map key_of card_diffs)) (Gone c ∷ card_diffs)
+      go true e none later = ((rw (same_ref_own (ref_of idents c)) (sym e), tt), still (ref_of idents c) _ card_diffs apart.0 later)
       go false e none later = ((none ∙ sym e, tt), later)
-  keys_fit (New d ∷ fates) apart = go (goes (New d)) (keys_fit fates apart)
+  keys_fit (New d ∷ card_diffs) apart = go (goes (New d)) (keys_fit card_diffs apart)
     where
-      go : (b : Bool) → AllByRecursion (Fits (flat_map key_of fates)) fates → AllByRecursion (Fits (cond b [] [] ++ flat_map key_of fates)) (New d ∷ fates)
+      go : (b : Bool) → AllByRecursion (Fits (flat_map key_of card_diffs)) card_diffs → AllByRecursion (Fits (cond b [] [] ++ flat_map key_of card_diffs)) (New d ∷ card_diffs)
       go true later = (tt, later)
       go false later = (tt, later)
 
@@ -106,17 +106,17 @@ entry_of r = r.card
 abbrev pub target_of : TargetRow → CardRef
 target_of r = r.card
 
-abbrev pub card_goes : FateView → Bool
+abbrev pub card_goes : CardDiffView → Bool
 card_goes (Kept c d) = false
 card_goes (Gone c) = true
 card_goes (New d) = false
 
-abbrev pub entries_go : FateView → Bool
+abbrev pub entries_go : CardDiffView → Bool
 entries_go (Kept c d) = not (begins c.history d.history)
 entries_go (Gone c) = true
 entries_go (New d) = false
 
-abbrev pub targets_go : FateView → Bool
+abbrev pub targets_go : CardDiffView → Bool
 targets_go (Kept c d) = false
 targets_go (Gone c) = not (length c.targets == 0)
 targets_go (New d) = false
@@ -131,7 +131,7 @@ without_one card k (x ∷ xs) = go (same_ref k (card x)) (without_one card k xs)
     go true later = later
     go false later = ap (λ t. x ∷ t) later
 
-pub cards_gone : (idents : List Ident) (f : FateView) (xs : List CardRow) → all_acts on_cards (gone_of idents f) xs
+pub cards_gone : (idents : List Ident) (f : CardDiffView) (xs : List CardRow) → all_acts on_cards (gone_of idents f) xs
     ≡ without card_of (key_of idents card_goes f) xs
 cards_gone idents (Kept c d) xs = go (begins c.history d.history)
   where
@@ -147,7 +147,7 @@ cards_gone idents (Gone c) xs = go (length c.targets == 0)
     go false = without_one card_of (ref_of idents c) xs
 cards_gone idents (New d) xs = sym (without_none card_of xs)
 
-pub entries_gone : (idents : List Ident) (f : FateView) (xs : List EntryRow) → all_acts on_entries (gone_of idents f) xs
+pub entries_gone : (idents : List Ident) (f : CardDiffView) (xs : List EntryRow) → all_acts on_entries (gone_of idents f) xs
     ≡ without entry_of (key_of idents entries_go f) xs
 entries_gone idents (Kept c d) xs = go (begins c.history d.history)
   where
@@ -163,7 +163,7 @@ entries_gone idents (Gone c) xs = go (length c.targets == 0)
     go false = without_one entry_of (ref_of idents c) xs
 entries_gone idents (New d) xs = sym (without_none entry_of xs)
 
-pub targets_gone : (idents : List Ident) (f : FateView) (xs : List TargetRow) → all_acts on_targets (gone_of idents f) xs
+pub targets_gone : (idents : List Ident) (f : CardDiffView) (xs : List TargetRow) → all_acts on_targets (gone_of idents f) xs
     ≡ without target_of (key_of idents targets_go f) xs
 targets_gone idents (Kept c d) xs = go (begins c.history d.history)
   where
@@ -182,7 +182,7 @@ targets_gone idents (New d) xs = sym (without_none target_of xs)
 -- ---- what is left of the rows
 
 -- rows of a card stay unless the card is marked
-abbrev pub staying : {A : Type 0} → (FateView → Bool) → (CardView → List A) → FateView → List A
+abbrev pub staying : {A : Type 0} → (CardDiffView → Bool) → (CardView → List A) → CardDiffView → List A
 staying goes rows f = cond (goes f) [] (flat_map rows (card_before f))
 
 -- rows that are all of one card, as entries and targets of a card are
@@ -219,52 +219,52 @@ pub targets_are_of : (idents : List Ident) → AreOf target_of idents (λ c. tar
 targets_are_of idents keys c = targets_without keys (ref_of idents c) 0 c.targets
 
 -- where the keys fit, the rows of the marked cards go
-pub rows_left : {A : Type 0} (card : A → CardRef) (idents : List Ident) (rows : CardView → List A) (goes : FateView → Bool) (keys : List CardRef)
-    → AreOf card idents rows → (fates : List FateView) → AllByRecursion (Fits idents goes keys) fates
-    → without card keys (flat_map rows (flat_map card_before fates)) ≡ flat_map (staying goes rows) fates
+pub rows_left : {A : Type 0} (card : A → CardRef) (idents : List Ident) (rows : CardView → List A) (goes : CardDiffView → Bool) (keys : List CardRef)
+    → AreOf card idents rows → (card_diffs : List CardDiffView) → AllByRecursion (Fits idents goes keys) card_diffs
+    → without card keys (flat_map rows (flat_map card_before card_diffs)) ≡ flat_map (staying goes rows) card_diffs
 rows_left card idents rows goes keys own [] fit = refl
-rows_left card idents rows goes keys own (Kept c d ∷ fates) fit =
-    filter-append _ (rows c) (flat_map rows (flat_map card_before fates))
-    ∙ ap (λ t. t ++ without card keys (flat_map rows (flat_map card_before fates))) (one (own keys c))
-    ∙ ap (λ t. staying goes rows (Kept c d) ++ t) (rows_left card idents rows goes keys own fates fit.1)
+rows_left card idents rows goes keys own (Kept c d ∷ card_diffs) fit =
+    filter-append _ (rows c) (flat_map rows (flat_map card_before card_diffs))
+    ∙ ap (λ t. t ++ without card keys (flat_map rows (flat_map card_before card_diffs))) (one (own keys c))
+    ∙ ap (λ t. staying goes rows (Kept c d) ++ t) (rows_left card idents rows goes keys own card_diffs fit.1)
   where
     one : without card keys (rows c) ≡ cond (is_in keys (ref_of idents c)) [] (rows c) → without card keys (rows c) ≡ cond (goes (Kept c d)) [] (rows c ++ [])
     one e = e ∙ ap (λ b. cond b [] (rows c)) fit.0.0 ∙ ap (λ t. cond (goes (Kept c d)) [] t) (sym (append-nil (rows c)))
-rows_left card idents rows goes keys own (Gone c ∷ fates) fit =
-    filter-append _ (rows c) (flat_map rows (flat_map card_before fates))
-    ∙ ap (λ t. t ++ without card keys (flat_map rows (flat_map card_before fates))) (one (own keys c))
-    ∙ ap (λ t. staying goes rows (Gone c) ++ t) (rows_left card idents rows goes keys own fates fit.1)
+rows_left card idents rows goes keys own (Gone c ∷ card_diffs) fit =
+    filter-append _ (rows c) (flat_map rows (flat_map card_before card_diffs))
+    ∙ ap (λ t. t ++ without card keys (flat_map rows (flat_map card_before card_diffs))) (one (own keys c))
+    ∙ ap (λ t. staying goes rows (Gone c) ++ t) (rows_left card idents rows goes keys own card_diffs fit.1)
   where
     one : without card keys (rows c) ≡ cond (is_in keys (ref_of idents c)) [] (rows c) → without card keys (rows c) ≡ cond (goes (Gone c)) [] (rows c ++ [])
     one e = e ∙ ap (λ b. cond b [] (rows c)) fit.0.0 ∙ ap (λ t. cond (goes (Gone c)) [] t) (sym (append-nil (rows c)))
-rows_left card idents rows goes keys own (New d ∷ fates) fit =
-    rows_left card idents rows goes keys own fates fit.1 ∙ ap (λ t. t ++ flat_map (staying goes rows) fates) (no_rows (goes (New d)) [] refl)
+rows_left card idents rows goes keys own (New d ∷ card_diffs) fit =
+    rows_left card idents rows goes keys own card_diffs fit.1 ∙ ap (λ t. t ++ flat_map (staying goes rows) card_diffs) (no_rows (goes (New d)) [] refl)
 
 -- the rows of a deck's cards that stay, at the places where they were
-abbrev pub kept_from : List Ident → ℕ → ℕ → List FateView → List CardRow
+abbrev pub kept_from : List Ident → ℕ → ℕ → List CardDiffView → List CardRow
 kept_from idents d w [] = []
-kept_from idents d w (Kept was is ∷ fates) = record { card = ref_of idents was; deck = d; pos = w; body = was.text } ∷ kept_from idents d (w + 1) fates
-kept_from idents d w (Gone was ∷ fates) = kept_from idents d (w + 1) fates
-kept_from idents d w (New is ∷ fates) = kept_from idents d w fates
+kept_from idents d w (Kept was is ∷ card_diffs) = record { card = ref_of idents was; deck = d; pos = w; body = was.text } ∷ kept_from idents d (w + 1) card_diffs
+kept_from idents d w (Gone was ∷ card_diffs) = kept_from idents d (w + 1) card_diffs
+kept_from idents d w (New is ∷ card_diffs) = kept_from idents d w card_diffs
 
-cards_left_in : (idents : List Ident) (keys : List CardRef) (d w : ℕ) (fates : List FateView) → AllByRecursion (Fits idents card_goes keys) fates
-    → without card_of keys (card_rows idents d w (flat_map card_before fates)) ≡ kept_from idents d w fates
+cards_left_in : (idents : List Ident) (keys : List CardRef) (d w : ℕ) (card_diffs : List CardDiffView) → AllByRecursion (Fits idents card_goes keys) card_diffs
+    → without card_of keys (card_rows idents d w (flat_map card_before card_diffs)) ≡ kept_from idents d w card_diffs
 cards_left_in idents keys d w [] fit = refl
-cards_left_in idents keys d w (Kept c e ∷ fates) fit = rw fit.0.0 (ap (λ t. record {
+cards_left_in idents keys d w (Kept c e ∷ card_diffs) fit = rw fit.0.0 (ap (λ t. record {
   card = ref_of idents c;
   deck = d;
   pos = w;
   body = c.text;
-} ∷ t) (cards_left_in idents keys d (w + 1) fates fit.1))
-cards_left_in idents keys d w (Gone c ∷ fates) fit = rw fit.0.0 (cards_left_in idents keys d (w + 1) fates fit.1)
-cards_left_in idents keys d w (New e ∷ fates) fit = cards_left_in idents keys d w fates fit.1
+} ∷ t) (cards_left_in idents keys d (w + 1) card_diffs fit.1))
+cards_left_in idents keys d w (Gone c ∷ card_diffs) fit = rw fit.0.0 (cards_left_in idents keys d (w + 1) card_diffs fit.1)
+cards_left_in idents keys d w (New e ∷ card_diffs) fit = cards_left_in idents keys d w card_diffs fit.1
 
-pub cards_left : (idents : List Ident) (keys : List CardRef) (ks : List DeckFatesView)
-    → AllByRecursion (λ k. AllByRecursion (Fits idents card_goes keys) k.fates) ks
-    → without card_of keys (flat_map (λ k. card_rows idents k.deck 0 (flat_map card_before k.fates)) ks) ≡ flat_map (λ k. kept_from idents k.deck 0 k.fates) ks
+pub cards_left : (idents : List Ident) (keys : List CardRef) (ks : List DeckDiffView)
+    → AllByRecursion (λ k. AllByRecursion (Fits idents card_goes keys) k.card_diffs) ks
+    → without card_of keys (flat_map (λ k. card_rows idents k.deck 0 (flat_map card_before k.card_diffs)) ks) ≡ flat_map (λ k. kept_from idents k.deck 0 k.card_diffs) ks
 cards_left idents keys [] fit = refl
 cards_left idents keys (k ∷ ks) fit =
-    filter-append _ (card_rows idents k.deck 0 (flat_map card_before k.fates)) _
-    ∙ ap (λ t. t ++ without card_of keys (flat_map (λ j. card_rows idents j.deck 0 (flat_map card_before j.fates)) ks))
-    (cards_left_in idents keys k.deck 0 k.fates fit.0)
-    ∙ ap (λ t. kept_from idents k.deck 0 k.fates ++ t) (cards_left idents keys ks fit.1)
+    filter-append _ (card_rows idents k.deck 0 (flat_map card_before k.card_diffs)) _
+    ∙ ap (λ t. t ++ without card_of keys (flat_map (λ j. card_rows idents j.deck 0 (flat_map card_before j.card_diffs)) ks))
+    (cards_left_in idents keys k.deck 0 k.card_diffs fit.0)
+    ∙ ap (λ t. kept_from idents k.deck 0 k.card_diffs ++ t) (cards_left idents keys ks fit.1)

@@ -11,7 +11,7 @@ use Rattle.upd_core.specs.Library.{CardView, LibraryView, name_of, ref_of}
 use Rattle.upd_core.specs.Sound.{AreAgedFrom, Continues, IsSound, IsOfHeld, is_held}
 use Rattle.upd_core.proofs.FoundLemmas.{IsAt, held_at}
 use Rattle.upd_records.specs.Changes.{IdentNew, IdentPurged, purged_row}
-use Rattle.upd_diff.specs.Told.{idents_told}
+use Rattle.upd_diff.specs.RowChanges.{ident_changes}
 use Rattle.upd_records.proofs.EffectLemmas.{on_idents, all_acts, acts_append}
 
 -- ---- the changes of a directory
@@ -45,17 +45,17 @@ below_more n [] i below e = (omega arith, tt)
 below_more n (j ∷ idents) i below e = let less = below.0 in (omega arith, below_more n idents i below.1 e)
 
 -- what is told of one ident: nothing before it and nothing behind it changes
-one_told : (n : ℕ) (front old : List Ident) (i j : Ident) → AllByRecursion (λ k. k.age < n) front → i.age ≡ n → AreAgedFrom (n + 1) old
+one_row_change : (n : ℕ) (front old : List Ident) (i j : Ident) → AllByRecursion (λ k. k.age < n) front → i.age ≡ n → AreAgedFrom (n + 1) old
     → (j ≡ i) ⊎ (j ≡ record i { held = false })
     → all_acts on_idents (cond (i.held && not j.held) (IdentPurged i.age ∷ []) []) (front ++ i ∷ old) ≡ front ++ j ∷ old
-one_told n front old i j below age aged (inl e) = go i.held refl j.held refl
+one_row_change n front old i j below age aged (inl e) = go i.held refl j.held refl
   where
     go : (a : Bool) → i.held ≡ a → (b : Bool) → j.held ≡ b → all_acts on_idents (cond (a && not b) (IdentPurged i.age ∷ []) []) (front ++ i ∷ old) ≡ front
         ++ j ∷ old
     go true p true q = ap (λ k. front ++ k ∷ old) (sym e)
     go true p false q = let same = ap (λ k. k.held) e in absurd (cc)
     go false p b q = ap (λ k. front ++ k ∷ old) (sym e)
-one_told n front old i j below age aged (inr e) = go i.held refl j.held (ap (λ k. k.held) e)
+one_row_change n front old i j below age aged (inr e) = go i.held refl j.held (ap (λ k. k.held) e)
   where
     go : (a : Bool) → i.held ≡ a → (b : Bool) → b ≡ false → all_acts on_idents (cond (a && not b) (IdentPurged i.age ∷ []) []) (front ++ i ∷ old) ≡ front
         ++ j ∷ old
@@ -67,12 +67,12 @@ one_told n front old i j below age aged (inr e) = go i.held refl j.held (ap (λ 
     go false p b q = ap (λ k. front ++ k ∷ old) ((λ t. record i { held = p t }) ∙ sym e)
 
 idents_done : (n : ℕ) (front old new : List Ident) → AllByRecursion (λ k. k.age < n) front → AreAgedFrom n old → Continues old new
-    → all_acts on_idents (idents_told old new) (front ++ old) ≡ front ++ new
+    → all_acts on_idents (ident_changes old new) (front ++ old) ≡ front ++ new
 idents_done n front [] new below aged goes = idents_come new (front ++ []) ∙ ap (λ t. t ++ new) (append-nil front)
 idents_done n front (i ∷ old) [] below aged goes = absurd goes
 idents_done n front (i ∷ old) (j ∷ new) below aged goes =
-    acts_append on_idents (cond (i.held && not j.held) (IdentPurged i.age ∷ []) []) (idents_told old new) (front ++ i ∷ old)
-    ∙ ap (all_acts on_idents (idents_told old new)) (one_told n front old i j below aged.0 aged.1 goes.0 ∙ sym (append_assoc front (j ∷ []) old))
+    acts_append on_idents (cond (i.held && not j.held) (IdentPurged i.age ∷ []) []) (ident_changes old new) (front ++ i ∷ old)
+    ∙ ap (all_acts on_idents (ident_changes old new)) (one_row_change n front old i j below aged.0 aged.1 goes.0 ∙ sym (append_assoc front (j ∷ []) old))
     ∙ idents_done (n + 1) (front ++ j ∷ []) old new (below_more n front j below (age_of goes.0)) aged.1 goes.1
     ∙ append_assoc front (j ∷ []) new
   where
@@ -80,7 +80,7 @@ idents_done n front (i ∷ old) (j ∷ new) below aged goes =
     age_of (inl e) = ap (λ k. k.age) e ∙ aged.0
     age_of (inr e) = ap (λ k. k.age) e ∙ aged.0
 
-pub directory_done : (old new : List Ident) → AreAgedFrom 1 old → Continues old new → all_acts on_idents (idents_told old new) old ≡ new
+pub directory_done : (old new : List Ident) → AreAgedFrom 1 old → Continues old new → all_acts on_idents (ident_changes old new) old ≡ new
 directory_done old new aged goes = idents_done 1 [] old new tt aged goes
 
 -- ---- names stay

@@ -3,17 +3,17 @@ use Rattle.std.proofs.Common.{◌≡◌, ℕ, zero, suc, true, cond, inl, inr, L
 use Rattle.std.proofs.Common.{append_assoc, append-nil}
 use Rattle.std.specs.List.{list_any}
 use Rattle.upd_core.specs.Library.{CardView, DeckView}
-use Rattle.upd_diff.specs.Fates.{DeckFatesView, AreOfDeck, Await, Lead, Paired, deck_before, deck_after, has_cards, standing}
+use Rattle.upd_diff.specs.CardDiffs.{DeckDiffView, AreOfDeck, Await, Lead, Paired, deck_before, deck_after, has_cards, standing}
 
 -- ---- what paired fates lead to
 
 -- one more deck on both sides of an equation of standing decks
-standing_more : (g : DeckFatesView → DeckView) (ks : List DeckFatesView) (k : DeckFatesView) (xs : List DeckView) (d : DeckView)
+standing_more : (g : DeckDiffView → DeckView) (ks : List DeckDiffView) (k : DeckDiffView) (xs : List DeckView) (d : DeckView)
     → standing (map g ks) ≡ standing xs → g k ≡ d → standing (map g (k ∷ ks)) ≡ standing (d ∷ xs)
 standing_more g ks k xs d e same = λ i. cond (has_cards (same i)) (same i ∷ e i) (e i)
 
 -- a deck without cards on one side
-standing_none : (g : DeckFatesView → DeckView) (ks : List DeckFatesView) (k : DeckFatesView) (xs : List DeckView)
+standing_none : (g : DeckDiffView → DeckView) (ks : List DeckDiffView) (k : DeckDiffView) (xs : List DeckView)
     → standing (map g ks) ≡ standing xs → (g k).cards ≡ [] → standing (map g (k ∷ ks)) ≡ standing xs
 standing_none g ks k xs e none =
     ap (λ (cards : List CardView). cond (list_any (λ c. true) cards) (record { ident = (g k).ident; cards = cards } ∷ standing (map g ks))
@@ -23,34 +23,34 @@ standing_none g ks k xs e none =
 same_deck : (a : ℕ) (cards : List CardView) (d : DeckView) → a ≡ d.ident → cards ≡ d.cards → record { ident = a; cards = cards } ≡ d
 same_deck a cards d p q = λ i. record { ident = p i; cards = q i }
 
-lead_pair : (xs ys : List DeckView) (ks : List DeckFatesView) (d e : DeckView) (k : DeckFatesView) → e.ident ≡ d.ident
+lead_pair : (xs ys : List DeckView) (ks : List DeckDiffView) (d e : DeckView) (k : DeckDiffView) → e.ident ≡ d.ident
     → AreOfDeck d.ident d.cards e.cards k → Lead xs ys ks → Lead (d ∷ xs) (e ∷ ys) (k ∷ ks)
 lead_pair xs ys ks d e k same are lead = record {
-  olds = standing_more deck_before ks k xs d lead.olds (same_deck k.deck (deck_before k).cards d are.deck are.fates.olds);
-  news = standing_more deck_after ks k ys e lead.news (same_deck k.deck (deck_after k).cards e (are.deck ∙ sym same) are.fates.news);
-  kept = (are.fates.kept, lead.kept);
+  olds = standing_more deck_before ks k xs d lead.olds (same_deck k.deck (deck_before k).cards d are.deck are.card_diffs.olds);
+  news = standing_more deck_after ks k ys e lead.news (same_deck k.deck (deck_after k).cards e (are.deck ∙ sym same) are.card_diffs.news);
+  kept = (are.card_diffs.kept, lead.kept);
   short = (are.short, lead.short);
 }
 
-lead_gone : (xs ys : List DeckView) (ks : List DeckFatesView) (d : DeckView) (k : DeckFatesView) → AreOfDeck d.ident d.cards [] k → Lead xs ys ks
+lead_gone : (xs ys : List DeckView) (ks : List DeckDiffView) (d : DeckView) (k : DeckDiffView) → AreOfDeck d.ident d.cards [] k → Lead xs ys ks
     → Lead (d ∷ xs) ys (k ∷ ks)
 lead_gone xs ys ks d k are lead = record {
-  olds = standing_more deck_before ks k xs d lead.olds (same_deck k.deck (deck_before k).cards d are.deck are.fates.olds);
-  news = standing_none deck_after ks k ys lead.news are.fates.news;
-  kept = (are.fates.kept, lead.kept);
+  olds = standing_more deck_before ks k xs d lead.olds (same_deck k.deck (deck_before k).cards d are.deck are.card_diffs.olds);
+  news = standing_none deck_after ks k ys lead.news are.card_diffs.news;
+  kept = (are.card_diffs.kept, lead.kept);
   short = (are.short, lead.short);
 }
 
-lead_new : (xs ys : List DeckView) (ks : List DeckFatesView) (e : DeckView) (k : DeckFatesView) → AreOfDeck e.ident [] e.cards k → Lead xs ys ks
+lead_new : (xs ys : List DeckView) (ks : List DeckDiffView) (e : DeckView) (k : DeckDiffView) → AreOfDeck e.ident [] e.cards k → Lead xs ys ks
     → Lead xs (e ∷ ys) (k ∷ ks)
 lead_new xs ys ks e k are lead = record {
-  olds = standing_none deck_before ks k xs lead.olds are.fates.olds;
-  news = standing_more deck_after ks k ys e lead.news (same_deck k.deck (deck_after k).cards e are.deck are.fates.news);
-  kept = (are.fates.kept, lead.kept);
+  olds = standing_none deck_before ks k xs lead.olds are.card_diffs.olds;
+  news = standing_more deck_after ks k ys e lead.news (same_deck k.deck (deck_after k).cards e are.deck are.card_diffs.news);
+  kept = (are.card_diffs.kept, lead.kept);
   short = (are.short, lead.short);
 }
 
-pub paired_lead : (xs ys : List DeckView) (ks : List DeckFatesView) → Paired xs ys ks → Lead xs ys ks
+pub paired_lead : (xs ys : List DeckView) (ks : List DeckDiffView) → Paired xs ys ks → Lead xs ys ks
 paired_lead [] [] [] p = record { olds = refl; news = refl; kept = tt; short = tt }
 paired_lead [] [] (k ∷ ks) p = absurd p
 paired_lead [] (e ∷ ys) [] p = absurd p
@@ -63,13 +63,13 @@ paired_lead (d ∷ xs) (e ∷ ys) (k ∷ ks) (inr p) = lead_gone xs (e ∷ ys) k
 
 -- ---- one more deck
 
-pub await_pair : (before after : List DeckView) (ks : List DeckFatesView) (d e : DeckView) (k : DeckFatesView) (olds news : List DeckView)
+pub await_pair : (before after : List DeckView) (ks : List DeckDiffView) (d e : DeckView) (k : DeckDiffView) (olds news : List DeckView)
     → e.ident ≡ d.ident → AreOfDeck d.ident d.cards e.cards k → Await before after ks (d ∷ olds) (e ∷ news)
     → Await before after (ks ++ k ∷ []) olds news
 await_pair before after ks d e k olds news same are so rest p =
     subst (Paired before after) (sym (append_assoc ks (k ∷ []) rest)) (so (k ∷ rest) (inl (same, are, p)))
 
-pub await_gone : (before after : List DeckView) (ks : List DeckFatesView) (d : DeckView) (k : DeckFatesView) (olds news : List DeckView)
+pub await_gone : (before after : List DeckView) (ks : List DeckDiffView) (d : DeckView) (k : DeckDiffView) (olds news : List DeckView)
     → ((e : DeckView) (es : List DeckView) → news ≡ e ∷ es → e.ident ≡ d.ident → ⊥) → AreOfDeck d.ident d.cards [] k → Await before after ks (d ∷ olds) news
     → Await before after (ks ++ k ∷ []) olds news
 await_gone before after ks d k olds [] other are so rest p =
@@ -77,12 +77,12 @@ await_gone before after ks d k olds [] other are so rest p =
 await_gone before after ks d k olds (e ∷ news) other are so rest p =
     subst (Paired before after) (sym (append_assoc ks (k ∷ []) rest)) (so (k ∷ rest) (inr (other e news refl, are, p)))
 
-pub await_new : (before after : List DeckView) (ks : List DeckFatesView) (e : DeckView) (k : DeckFatesView) (news : List DeckView)
+pub await_new : (before after : List DeckView) (ks : List DeckDiffView) (e : DeckView) (k : DeckDiffView) (news : List DeckView)
     → AreOfDeck e.ident [] e.cards k → Await before after ks [] (e ∷ news) → Await before after (ks ++ k ∷ []) [] news
 await_new before after ks e k news are so rest p =
     subst (Paired before after) (sym (append_assoc ks (k ∷ []) rest)) (so (k ∷ rest) (are, p))
 
-pub await_none : (before after : List DeckView) (ks : List DeckFatesView) → Await before after ks [] [] → Paired before after ks
+pub await_none : (before after : List DeckView) (ks : List DeckDiffView) → Await before after ks [] [] → Paired before after ks
 await_none before after ks so = subst (Paired before after) (append-nil ks) (so [] tt)
 
 -- the first of those that are left

@@ -2,12 +2,12 @@ pub mod GoneLemmas
 pub mod MoveLemmas
 pub mod ComeLemmas
 pub mod IdentLemmas
-pub mod ToldLemmas
-pub mod FateLemmas
+pub mod RowChangeLemmas
+pub mod CardDiffLemmas
 pub mod LoopLemmas
 pub mod LeadLemmas
 pub mod StateLemmas
-pub mod TellLemmas
+pub mod ShownRowsLemmas
 pub mod AllLemmas
 pub mod KindLemmas
 pub mod FitLemmas

@@ -4,17 +4,17 @@ use Rattle.std.proofs.lemmas.Bool.{and_right}
 use Rattle.std.proofs.lemmas.List.{drop_more}
 use Rattle.upd_core.specs.declared.card.Entry.{Entry}
 use Rattle.upd_core.specs.declared.ident.Ident.{Ident}
-use Rattle.upd_diff.specs.declared.fates.Fate.{Fate}
-use Rattle.upd_diff.specs.Fates.{fate_seen}
-use Rattle.upd_diff.specs.Told.{begins, idents_told}
+use Rattle.upd_diff.specs.declared.card_diffs.CardDiff.{CardDiff}
+use Rattle.upd_diff.specs.CardDiffs.{card_diff_view}
+use Rattle.upd_diff.specs.RowChanges.{begins, ident_changes}
 use Rattle.upd_core.specs.Entries.{same_entry}
 
 -- the fates from an index on
-pub next_fates : (xs : List Fate) (i : ℕ) (x : Fate) → i < length xs → x ≡ get_or xs i x → map fate_seen (drop i xs)
-    ≡ fate_seen x ∷ map fate_seen (drop (i + 1) xs)
-next_fates xs i x within is = ap (map fate_seen) (drop_more xs i x within) ∙ ap (λ y. fate_seen y ∷ map fate_seen (drop (i + 1) xs)) (sym is)
+pub next_diffs : (xs : List CardDiff) (i : ℕ) (x : CardDiff) → i < length xs → x ≡ get_or xs i x → map card_diff_view (drop i xs)
+    ≡ card_diff_view x ∷ map card_diff_view (drop (i + 1) xs)
+next_diffs xs i x within is = ap (map card_diff_view) (drop_more xs i x within) ∙ ap (λ y. card_diff_view y ∷ map card_diff_view (drop (i + 1) xs)) (sym is)
 
-pub no_idents_more : (old : List Ident) → idents_told old [] ≡ []
+pub no_idents_more : (old : List Ident) → ident_changes old [] ≡ []
 no_idents_more [] = refl
 no_idents_more (i ∷ old) = refl
 

@@ -15,15 +15,15 @@ use Rattle.upd_core.proofs.FoundLemmas.{card_of_place, in_flat, status_at}
 use Rattle.upd_records.specs.Rows.{Rows, StateRow, same_ref}
 use Rattle.upd_records.specs.Changes.{ChangeView, IdentNew, IdentPurged, CardNew, CardGone, CardsMoved, EntryNew, EntriesGone, TargetNew, TargetsGone}
 use Rattle.upd_records.specs.Changes.{StatusNow, CountNow, done, done_all}
-use Rattle.upd_diff.specs.Fates.{FateView, DeckFatesView, Kept, Gone, New, Lead, IsKept, card_after, card_before}
-use Rattle.upd_diff.specs.States.{TakeGone, takes_card, tells_state}
-use Rattle.upd_diff.specs.Told.{brought, cards_told, gone_of, idents_told, moves, targets_told}
-use Rattle.upd_diff.specs.Told.{told}
+use Rattle.upd_diff.specs.CardDiffs.{CardDiffView, DeckDiffView, Kept, Gone, New, Lead, IsKept, card_after, card_before}
+use Rattle.upd_diff.specs.States.{TakeGone, takes_card, row_changes_state}
+use Rattle.upd_diff.specs.RowChanges.{brought, card_changes, gone_of, ident_changes, moves, target_changes}
+use Rattle.upd_diff.specs.RowChanges.{row_changes}
 use Rattle.upd_diff.proofs.AllLemmas.{all_joined}
 use Rattle.upd_records.proofs.EffectLemmas.{any_append}
 use Rattle.upd_diff.proofs.KindLemmas.{idents_all, gone_each, moves_each, brought_each}
 use Rattle.upd_diff.proofs.GoneLemmas.{same_ref_is, same_ref_own}
-use Rattle.upd_diff.proofs.ToldLemmas.{after_is, all_kept, before_is, fates, flat_twice, stay}
+use Rattle.upd_diff.proofs.RowChangeLemmas.{after_is, all_kept, before_is, card_diffs, flat_twice, stay}
 
 -- ---- tests of some
 
@@ -100,13 +100,13 @@ no_card l r sound none = decks (all_decks l) (λ d is. is)
 
 -- ---- each card that is gone is told
 
-gone_told : (idents : List Ident) (r : CardRef) (fs : List FateView) → AllByRecursion IsKept fs → list_any (has_ref idents r) (flat_map card_before fs) ≡ true
+gone_changes : (idents : List Ident) (r : CardRef) (fs : List CardDiffView) → AllByRecursion IsKept fs → list_any (has_ref idents r) (flat_map card_before fs) ≡ true
     → list_any (has_ref idents r) (flat_map card_after fs) ≡ false → list_any (takes_card r) (flat_map (gone_of idents) fs) ≡ true
-gone_told idents r [] kept was is = absurd (cc)
-gone_told idents r (Kept a b ∷ fs) kept was is =
+gone_changes idents r [] kept was is = absurd (cc)
+gone_changes idents r (Kept a b ∷ fs) kept was is =
     let same : has_ref idents r b ≡ has_ref idents r a = ap (has_ref idents r) kept.0 in
     any_later (takes_card r) (gone_of idents (Kept a b)) (flat_map (gone_of idents) fs)
-    (go (has_ref idents r a) (has_ref idents r b) same was is (gone_told idents r fs kept.1))
+    (go (has_ref idents r a) (has_ref idents r b) same was is (gone_changes idents r fs kept.1))
   where
     go : (x y : Bool) → y ≡ x → (x || list_any (has_ref idents r) (flat_map card_before fs)) ≡ true
         → (y || list_any (has_ref idents r) (flat_map card_after fs)) ≡ false
@@ -115,7 +115,7 @@ gone_told idents r (Kept a b ∷ fs) kept was is =
     go x true e was is later = absurd (cc)
     go true false e was is later = absurd (cc)
     go false false e was is later = later was is
-gone_told idents r (Gone a ∷ fs) kept was is = go (has_ref idents r a) refl (gone_told idents r fs kept.1)
+gone_changes idents r (Gone a ∷ fs) kept was is = go (has_ref idents r a) refl (gone_changes idents r fs kept.1)
   where
     go : (x : Bool) → has_ref idents r a ≡ x
         → (list_any (has_ref idents r) (flat_map card_before fs) ≡ true → list_any (has_ref idents r) (flat_map card_after fs) ≡ false
@@ -123,11 +123,11 @@ gone_told idents r (Gone a ∷ fs) kept was is = go (has_ref idents r a) refl (g
         → list_any (takes_card r) (gone_of idents (Gone a) ++ flat_map (gone_of idents) fs) ≡ true
     go true e later =
         any_first (takes_card r) (gone_of idents (Gone a)) (flat_map (gone_of idents) fs)
-        (any_later (takes_card r) (targets_told idents a) (EntriesGone (ref_of idents a) ∷ CardGone (ref_of idents a) ∷ []) (ap (λ b. b || false) e))
+        (any_later (takes_card r) (target_changes idents a) (EntriesGone (ref_of idents a) ∷ CardGone (ref_of idents a) ∷ []) (ap (λ b. b || false) e))
     go false e later =
         any_later (takes_card r) (gone_of idents (Gone a)) (flat_map (gone_of idents) fs)
         (later (rw e at was) is)
-gone_told idents r (New b ∷ fs) kept was is = gone_told idents r fs kept.1 was (later (has_ref idents r b) is)
+gone_changes idents r (New b ∷ fs) kept was is = gone_changes idents r fs kept.1 was (later (has_ref idents r b) is)
   where
     later : (y : Bool) → (y || list_any (has_ref idents r) (flat_map card_after fs)) ≡ false → list_any (has_ref idents r) (flat_map card_after fs) ≡ false
     later true e = absurd (cc)
@@ -137,37 +137,37 @@ gone_told idents r (New b ∷ fs) kept was is = gone_told idents r fs kept.1 was
 
 -- changes that tell no status and no count
 abbrev IsSilent : ChangeView → Type 0
-IsSilent c = tells_state c ≡ false
+IsSilent c = row_changes_state c ≡ false
 
 abbrev pub AreSilent : List ChangeView → Type 0
 AreSilent cs = AllByRecursion IsSilent cs
 
-told_silent : (old new : List Ident) (ks : List DeckFatesView) → AreSilent (told old new ks)
-told_silent old new ks =
-    all_joined IsSilent (idents_told old new) (cards_told new ks) (idents_all IsSilent (λ i. refl) (λ age. refl) old new)
-    (all_joined IsSilent (flat_map (λ k. flat_map (gone_of new) k.fates) ks)
-    (flat_map (λ k. moves k.deck 0 0 k.fates) ks ++ flat_map (λ k. brought new k.deck 0 k.fates) ks)
+row_changes_silent : (old new : List Ident) (ks : List DeckDiffView) → AreSilent (row_changes old new ks)
+row_changes_silent old new ks =
+    all_joined IsSilent (ident_changes old new) (card_changes new ks) (idents_all IsSilent (λ i. refl) (λ age. refl) old new)
+    (all_joined IsSilent (flat_map (λ k. flat_map (gone_of new) k.card_diffs) ks)
+    (flat_map (λ k. moves k.deck 0 0 k.card_diffs) ks ++ flat_map (λ k. brought new k.deck 0 k.card_diffs) ks)
     (gone_each IsSilent (λ card. refl) (λ card. refl) (λ card targets. refl) new ks)
-    (all_joined IsSilent (flat_map (λ k. moves k.deck 0 0 k.fates) ks) (flat_map (λ k. brought new k.deck 0 k.fates) ks)
+    (all_joined IsSilent (flat_map (λ k. moves k.deck 0 0 k.card_diffs) ks) (flat_map (λ k. brought new k.deck 0 k.card_diffs) ks)
     (moves_each IsSilent (λ d from by. refl) ks) (brought_each IsSilent (λ card d p body. refl) (λ card n e. refl) (λ card n t. refl) new ks)))
 
 -- ---- what is told takes what is gone, and leaves other statuses and the counts alone
 
-pub told_take : (old new : LibraryView) (ks : List DeckFatesView) → IsSound old → IsSound new → Continues old.idents new.idents
-    → Lead (all_decks old) (all_decks new) ks → TakeGone old new (told old.idents new.idents ks)
-told_take old new ks sound later goes lead = record {
+pub row_changes_take : (old new : LibraryView) (ks : List DeckDiffView) → IsSound old → IsSound new → Continues old.idents new.idents
+    → Lead (all_decks old) (all_decks new) ks → TakeGone old new (row_changes old.idents new.idents ks)
+row_changes_take old new ks sound later goes lead = record {
   gone = λ r some none.
-      let fs = fates old new ks sound goes lead in
+      let fs = card_diffs old new ks sound goes lead in
       let was = some_card old new r sound (stay old new ks sound goes lead) some in
       let is = no_card new r later none in
-      let told_gone = gone_told new.idents r fs (all_kept old new ks sound goes lead)
+      let row_changes_gone = gone_changes new.idents r fs (all_kept old new ks sound goes lead)
       (ap (list_any (has_ref new.idents r)) (before_is old new ks sound goes lead) ∙ was)
       (ap (list_any (has_ref new.idents r)) (after_is old new ks sound goes lead) ∙ is) in
-      let all = ap (list_any (takes_card r)) (sym (flat_twice (gone_of new.idents) (λ k. k.fates) ks)) ∙ told_gone in
-      any_later (takes_card r) (idents_told old.idents new.idents) (cards_told new.idents ks)
-      (any_first (takes_card r) (flat_map (λ k. flat_map (gone_of new.idents) k.fates) ks)
-      (flat_map (λ k. moves k.deck 0 0 k.fates) ks ++ flat_map (λ k. brought new.idents k.deck 0 k.fates) ks) all);
-  silent = told_silent old.idents new.idents ks;
+      let all = ap (list_any (takes_card r)) (sym (flat_twice (gone_of new.idents) (λ k. k.card_diffs) ks)) ∙ row_changes_gone in
+      any_later (takes_card r) (ident_changes old.idents new.idents) (card_changes new.idents ks)
+      (any_first (takes_card r) (flat_map (λ k. flat_map (gone_of new.idents) k.card_diffs) ks)
+      (flat_map (λ k. moves k.deck 0 0 k.card_diffs) ks ++ flat_map (λ k. brought new.idents k.deck 0 k.card_diffs) ks) all);
+  silent = row_changes_silent old.idents new.idents ks;
 }
 
 -- ---- rows that changes take
@@ -215,7 +215,7 @@ pub state_after : (cs : List ChangeView) (rows : Rows) (r : CardRef) → AreSile
 state_after [] rows r silent = refl
 state_after (c ∷ cs) rows r silent = state_after cs (done c rows) r silent.1 ∙ one c silent.0
   where
-    one : (c : ChangeView) → tells_state c ≡ false
+    one : (c : ChangeView) → row_changes_state c ≡ false
         → cond (list_any (takes_card r) cs) [] (filter (λ s. same_ref r s.card) (done c rows).states)
         ≡ cond (takes_card r c || list_any (takes_card r) cs) [] (filter (λ s. same_ref r s.card) rows.states)
     one (CardGone k) silent = go (same_ref r k) refl (list_any (takes_card r) cs)
@@ -243,7 +243,7 @@ pub counts_after : (cs : List ChangeView) (rows : Rows) → AreSilent cs → (do
 counts_after [] rows silent = refl
 counts_after (c ∷ cs) rows silent = counts_after cs (done c rows) silent.1 ∙ one c silent.0
   where
-    one : (c : ChangeView) → tells_state c ≡ false → (done c rows).counts ≡ rows.counts
+    one : (c : ChangeView) → row_changes_state c ≡ false → (done c rows).counts ≡ rows.counts
     one (IdentNew i) silent = refl
     one (IdentPurged age) silent = refl
     one (CardNew card deck place body) silent = refl

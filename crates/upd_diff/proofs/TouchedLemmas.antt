@@ -14,12 +14,12 @@ use Rattle.upd_core.specs.Library.{CardView, DeckView, LibraryView, is_card, is_
 use Rattle.upd_core.specs.Sound.{AreApart, AreRising, key_of, all_cards}
 use Rattle.upd_core.proofs.ApartLemmas.{all_at, all_by_index, all_mapped, at_contained, contained_at, apart_front, apart_back, rising_apart}
 use Rattle.upd_core.proofs.FoundLemmas.{cards_of_deck}
-use Rattle.upd_diff.specs.Fates.{FateView, DeckFatesView, Kept, Gone, New, Lead, IsKept, card_before, deck_before, deck_after, has_cards, standing}
+use Rattle.upd_diff.specs.CardDiffs.{CardDiffView, DeckDiffView, Kept, Gone, New, Lead, IsKept, card_before, deck_before, deck_after, has_cards, standing}
 use Rattle.std.proofs.lemmas.Option.{same_Some}
 use Rattle.std.proofs.lemmas.List.{drop_more, drop_all}
 use Rattle.upd_core.specs.declared.ident.Ident.{Ident}
 use Rattle.upd_text.specs.declared.card_ref.CardRef.{CardRef}
-use Rattle.upd_diff.proofs.ToldLemmas.{same_standing}
+use Rattle.upd_diff.proofs.RowChangeLemmas.{same_standing}
 
 -- ---- tests on cards
 
@@ -145,30 +145,30 @@ all_left P test (x ∷ xs) all = go (test x) (all_left P test xs all.1)
     go false later = later
 
 -- fates of cards that are these
-are_of : (cards : List CardView) (sure : Bool) (fates : List FateView) → AllByRecursion IsKept fates
-    → (sure ≡ true → AllByRecursion (Contains cards) (flat_map card_before fates)) → AllByRecursion (IsOf cards sure) fates
+are_of : (cards : List CardView) (sure : Bool) (card_diffs : List CardDiffView) → AllByRecursion IsKept card_diffs
+    → (sure ≡ true → AllByRecursion (Contains cards) (flat_map card_before card_diffs)) → AllByRecursion (IsOf cards sure) card_diffs
 are_of cards sure [] kept inside = tt
-are_of cards sure (Kept was is ∷ fates) kept inside = ((kept.0, λ e. (inside e).0), are_of cards sure fates kept.1 (λ e. (inside e).1))
-are_of cards sure (Gone was ∷ fates) kept inside = (tt, are_of cards sure fates kept.1 (λ e. (inside e).1))
-are_of cards sure (New is ∷ fates) kept inside = (tt, are_of cards sure fates kept.1 inside)
+are_of cards sure (Kept was is ∷ card_diffs) kept inside = ((kept.0, λ e. (inside e).0), are_of cards sure card_diffs kept.1 (λ e. (inside e).1))
+are_of cards sure (Gone was ∷ card_diffs) kept inside = (tt, are_of cards sure card_diffs kept.1 (λ e. (inside e).1))
+are_of cards sure (New is ∷ card_diffs) kept inside = (tt, are_of cards sure card_diffs kept.1 inside)
 
 -- each card of a list is one of it
 own_cards : (cards : List CardView) → AllByRecursion (Contains cards) cards
 own_cards cards = all_by_index cards (λ k c at. at_contained cards k c at)
 
 -- the fates of each deck are of its cards, where decks stand by age
-abbrev pub AreOf : LibraryView → Bool → DeckFatesView → Type 0
-AreOf l sure k = AllByRecursion (IsOf (cards_of k.deck l) sure) k.fates
+abbrev pub AreOf : LibraryView → Bool → DeckDiffView → Type 0
+AreOf l sure k = AllByRecursion (IsOf (cards_of k.deck l) sure) k.card_diffs
 
-found_cards : (l : LibraryView) (k : DeckFatesView) (ks : List DeckFatesView)
+found_cards : (l : LibraryView) (k : DeckDiffView) (ks : List DeckDiffView)
     → AllByRecursion (λ d. cards_of d.ident l ≡ d.cards) (standing (map deck_before (k ∷ ks)))
-    → AllByRecursion (Contains (cards_of k.deck l)) (flat_map card_before k.fates)
+    → AllByRecursion (Contains (cards_of k.deck l)) (flat_map card_before k.card_diffs)
     × AllByRecursion (λ d. cards_of d.ident l ≡ d.cards) (standing (map deck_before ks))
-found_cards l k ks all = go (flat_map card_before k.fates) refl all
+found_cards l k ks all = go (flat_map card_before k.card_diffs) refl all
   where
-    go : (cards : List CardView) → flat_map card_before k.fates ≡ cards
+    go : (cards : List CardView) → flat_map card_before k.card_diffs ≡ cards
         → AllByRecursion (λ d. cards_of d.ident l ≡ d.cards) (standing (record { ident = k.deck; cards = cards } ∷ map deck_before ks))
-        → AllByRecursion (Contains (cards_of k.deck l)) (flat_map card_before k.fates)
+        → AllByRecursion (Contains (cards_of k.deck l)) (flat_map card_before k.card_diffs)
         × AllByRecursion (λ d. cards_of d.ident l ≡ d.cards) (standing (map deck_before ks))
     go [] e all = (subst (AllByRecursion (Contains (cards_of k.deck l))) (sym e) tt, all)
     go (c ∷ cs) e all = (
@@ -177,16 +177,16 @@ found_cards l k ks all = go (flat_map card_before k.fates) refl all
       all.1,
     )
 
-each_are_of : (l : LibraryView) (sure : Bool) (ks : List DeckFatesView) → AllByRecursion (λ k. AllByRecursion IsKept k.fates) ks
+each_are_of : (l : LibraryView) (sure : Bool) (ks : List DeckDiffView) → AllByRecursion (λ k. AllByRecursion IsKept k.card_diffs) ks
     → (sure ≡ true → AllByRecursion (λ d. cards_of d.ident l ≡ d.cards) (standing (map deck_before ks))) → AllByRecursion (AreOf l sure) ks
 each_are_of l sure [] kept found = tt
 each_are_of l sure (k ∷ ks) kept found = (
-  are_of (cards_of k.deck l) sure k.fates kept.0 (λ e. (found_cards l k ks (found e)).0),
+  are_of (cards_of k.deck l) sure k.card_diffs kept.0 (λ e. (found_cards l k ks (found e)).0),
   each_are_of l sure ks kept.1 (λ e. (found_cards l k ks
       (found e)).1),
 )
 
-pub lead_are_of : (l : LibraryView) (after : List DeckView) (ks : List DeckFatesView) (sure : Bool) → Lead (all_decks l) after ks
+pub lead_are_of : (l : LibraryView) (after : List DeckView) (ks : List DeckDiffView) (sure : Bool) → Lead (all_decks l) after ks
     → (sure ≡ true → AreRising (map (λ d. d.ident) (all_decks l))) → AllByRecursion (AreOf l sure) ks
 lead_are_of l after ks sure lead rising =
     each_are_of l sure ks lead.kept (λ e. subst (AllByRecursion (λ d. cards_of d.ident l ≡ d.cards)) (sym lead.olds) (all_left _ has_cards
@@ -228,7 +228,7 @@ card_more idents before is rest found now whole b says e so_far = go (stood_in b
         ∙ append_assoc found (ref_of idents is ∷ []) (map (ref_of idents) (filter (λ c. not (stood_in before c)) rest)) ∙ so
 
 -- one more deck
-pub deck_more : (f : DeckFatesView → List CardRef) (P : DeckFatesView → Type 0) (ks : List DeckFatesView) (i : ℕ) (k : DeckFatesView)
+pub deck_more : (f : DeckDiffView → List CardRef) (P : DeckDiffView → Type 0) (ks : List DeckDiffView) (i : ℕ) (k : DeckDiffView)
     (found now whole : List CardRef) → i < length ks → k ≡ get_or ks i k → AllByRecursion P (drop i ks) × (found ++ flat_map f (drop i ks) ≡ whole)
     → (P k → now ≡ found ++ f k) → AllByRecursion P (drop (i + 1) ks) × (now ++ flat_map f (drop (i + 1) ks) ≡ whole)
 deck_more f P ks i k found now whole within is so_far added =
@@ -237,7 +237,7 @@ deck_more f P ks i k found now whole within is so_far added =
     (so.0.1, ap (λ t. t ++ flat_map f (drop (i + 1) ks)) (added so.0.0) ∙ append_assoc found (f k) (flat_map f (drop (i + 1) ks)) ∙ so.1)
 
 -- all decks
-pub decks_all : (idents : List Ident) (l : LibraryView) (after : List DeckView) (ks : List DeckFatesView) (i : ℕ) (found : List CardRef) → length ks ≤ i
+pub decks_all : (idents : List Ident) (l : LibraryView) (after : List DeckView) (ks : List DeckDiffView) (i : ℕ) (found : List CardRef) → length ks ≤ i
     → found ++ flat_map (λ k. touched_in idents l (deck_after k)) (drop i ks) ≡ flat_map (λ k. touched_in idents l (deck_after k)) ks
     → Lead (all_decks l) after ks → found ≡ flat_map (touched_in idents l) after
 decks_all idents l after ks i found end so_far lead =

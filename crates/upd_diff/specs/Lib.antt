@@ -1,4 +1,4 @@
-pub mod Fates
-pub mod Told
+pub mod CardDiffs
+pub mod RowChanges
 pub mod States
 pub mod Touched

@@ -23,20 +23,20 @@ takes_card card (StatusNow of active) = false
 takes_card card (CountNow target n) = false
 
 -- whether a change tells a status or a count
-abbrev pub tells_state : ChangeView → Bool
-tells_state (StatusNow card active) = true
-tells_state (CountNow target n) = true
-tells_state (CardGone card) = false
-tells_state (IdentNew ident) = false
-tells_state (IdentPurged age) = false
-tells_state (CardNew card deck place body) = false
-tells_state (CardsMoved deck from by) = false
-tells_state (EntryNew card ord entry) = false
-tells_state (EntriesGone card) = false
-tells_state (TargetNew card ord target) = false
-tells_state (TargetsGone card targets) = false
+abbrev pub row_changes_state : ChangeView → Bool
+row_changes_state (StatusNow card active) = true
+row_changes_state (CountNow target n) = true
+row_changes_state (CardGone card) = false
+row_changes_state (IdentNew ident) = false
+row_changes_state (IdentPurged age) = false
+row_changes_state (CardNew card deck place body) = false
+row_changes_state (CardsMoved deck from by) = false
+row_changes_state (EntryNew card ord entry) = false
+row_changes_state (EntriesGone card) = false
+row_changes_state (TargetNew card ord target) = false
+row_changes_state (TargetsGone card targets) = false
 
 -- Of one library and a later one, changes take each card away that stood and stands no more, and tell no status and no count.
 pub record TakeGone (old new : LibraryView) (changes : List ChangeView) : Type 0 where
   pub gone : (card : CardRef) → is_some (status_of card old) ≡ true → status_of card new ≡ None → list_any (takes_card card) changes ≡ true
-  pub silent : AllByRecursion (λ c. tells_state c ≡ false) changes
+  pub silent : AllByRecursion (λ c. row_changes_state c ≡ false) changes

@@ -5,7 +5,7 @@ use Rattle.upd_core.specs.declared.card.Entry.{Entry}
 use Rattle.upd_core.specs.declared.ident.Ident.{Ident}
 use Rattle.upd_text.specs.declared.card_ref.CardRef.{CardRef}
 use Rattle.upd_core.specs.Entries.{same_entry}
-use Rattle.upd_diff.specs.Fates.{FateView, Kept, Gone, New, IsKept}
+use Rattle.upd_diff.specs.CardDiffs.{CardDiffView, Kept, Gone, New, IsKept}
 use Rattle.upd_core.specs.Library.{CardView, DeckView, LibraryView, all_decks, cards_of, ref_of, is_card}
 
 -- the same entries in the same order
@@ -28,7 +28,7 @@ abbrev pub touched : LibraryView → LibraryView → List CardRef
 touched before after = flat_map (touched_in after.idents before) (all_decks after)
 
 -- a kept card differs in its history alone, and where this is sure it is one of these
-abbrev pub IsOf : List CardView → Bool → FateView → Type 0
+abbrev pub IsOf : List CardView → Bool → CardDiffView → Type 0
 IsOf cards sure (Kept was is) = IsKept (Kept was is) × (sure ≡ true → Contains cards was)
 IsOf cards sure (Gone was) = Unit {0}
 IsOf cards sure (New is) = Unit {0}

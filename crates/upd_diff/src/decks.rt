@@ -2,23 +2,23 @@
 ghost use Rattle.std.specs.Prelude.{◌≡◌, ◌<◌, ◌≤◌, List, [], ◌∷◌, length, drop, slice_get, Some};
 ghost use Rattle.std.specs.Prelude.{slice_index_or, IfOk, OnOk, MatchOption};
 ghost use Rattle.upd_core.specs.Library.{DeckView, all_decks};
-ghost use Rattle.upd_diff.specs.Fates.{Await, Paired};
+ghost use Rattle.upd_diff.specs.CardDiffs.{Await, Paired};
 
-use crate::fates::{DeckFates, deck_fates};
+use crate::card_diffs::{DeckDiff, deck_diff};
 use std::alloc::{AllocError, Global};
 use upd_core::{Deck, Library, Serial};
 
 /// What became of all cards, `YANK$$$` first. Cards of an age above `youngest` are taken to be new.
-pub(crate) fn library_fates<'a>(
+pub(crate) fn library_diff<'a>(
     alloc: Global,
     youngest: Serial,
     before: &'a Library,
     after: &'a Library,
-) -> Result<Vec<DeckFates<'a>>, AllocError>
+) -> Result<Vec<DeckDiff<'a>>, AllocError>
     ensures { IfOk result (λ decks. Paired (all_decks before.now) (all_decks after.now) decks.items) }
 {
     let mut found = Vec::new(alloc);
-    found.push(deck_fates(alloc, 0, youngest, before.yanks(), after.yanks())?)?;
+    found.push(deck_diff(alloc, 0, youngest, before.yanks(), after.yanks())?)?;
     let decks = after.decks();
     let next = add_decks(alloc, &mut found, youngest, before.decks(), decks)?;
     add_new_decks(alloc, &mut found, youngest, &decks[next..])?;
@@ -29,7 +29,7 @@ pub(crate) fn library_fates<'a>(
 /// from which on decks are left that have come.
 fn add_decks<'a>(
     alloc: Global,
-    found: &mut Vec<DeckFates<'a>>,
+    found: &mut Vec<DeckDiff<'a>>,
     youngest: Serial,
     before: &'a [Deck],
     after: &'a [Deck],
@@ -47,7 +47,7 @@ fn add_decks<'a>(
 
 fn add_deck<'a>(
     alloc: Global,
-    found: &mut Vec<DeckFates<'a>>,
+    found: &mut Vec<DeckDiff<'a>>,
     youngest: Serial,
     deck: &'a Deck,
     after: &'a [Deck],
@@ -61,13 +61,13 @@ fn add_deck<'a>(
 {
     match partner(deck, after, next) {
         Some(later) => {
-            let fates = deck_fates(alloc, deck.ident, youngest, &deck.cards, &later.cards)?;
-            found.push(fates)?;
+            let card_diffs = deck_diff(alloc, deck.ident, youngest, &deck.cards, &later.cards)?;
+            found.push(card_diffs)?;
             Ok(next + 1)
         }
         None => {
-            let fates = deck_fates(alloc, deck.ident, youngest, &deck.cards, &[])?;
-            found.push(fates)?;
+            let card_diffs = deck_diff(alloc, deck.ident, youngest, &deck.cards, &[])?;
+            found.push(card_diffs)?;
             Ok(next)
         }
     }
@@ -90,7 +90,7 @@ fn partner<'a>(deck: &Deck, after: &'a [Deck], next: usize) -> Option<&'a Deck>
 
 fn add_new_decks<'a>(
     alloc: Global,
-    found: &mut Vec<DeckFates<'a>>,
+    found: &mut Vec<DeckDiff<'a>>,
     youngest: Serial,
     decks: &'a [Deck],
 ) -> Result<(), AllocError>
@@ -98,8 +98,8 @@ fn add_new_decks<'a>(
         → OnOk result (Paired olds news found.new.items) }
 {
     for deck in decks {
-        let fates = deck_fates(alloc, deck.ident, youngest, &[], &deck.cards)?;
-        found.push(fates)?;
+        let card_diffs = deck_diff(alloc, deck.ident, youngest, &[], &deck.cards)?;
+        found.push(card_diffs)?;
     }
     Ok(())
 }

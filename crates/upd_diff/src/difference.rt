@@ -2,15 +2,15 @@
 ghost use Rattle.std.specs.Prelude.{◌≡◌, ◌-◌, length, map, slice_get, IfOk};
 ghost use Rattle.std.specs.Option.{option_map_or};
 ghost use Rattle.upd_core.specs.Sound.{AreApart, Continues, IsSound, all_cards, key_of};
-ghost use Rattle.upd_records.specs.Changes.{change_seen, done_all};
+ghost use Rattle.upd_records.specs.Changes.{change_view, done_all};
 ghost use Rattle.upd_records.specs.Fits.{AllFit};
 ghost use Rattle.upd_records.specs.Rows.{Rows, Shows};
 ghost use Rattle.upd_diff.specs.States.{TakeGone};
-ghost use Rattle.upd_diff.specs.Told.{Told};
+ghost use Rattle.upd_diff.specs.RowChanges.{RowChanges};
 ghost use Rattle.upd_diff.specs.Touched.{touched};
 
-use crate::decks::library_fates;
-use crate::told::told;
+use crate::decks::library_diff;
+use crate::row_changes::row_changes;
 use crate::touched::touched;
 use std::alloc::{AllocError, Global};
 use upd_core::{Change, Ident, Library, Serial};
@@ -29,22 +29,22 @@ pub struct Compared {
 /// that goes, then moves, then all that comes. What comes or goes at one place of a deck is one move. Memory alone can
 /// fail; a deck with 2^32 fates, or a card with as many entries, is answered as want of memory too.
 pub fn compare(alloc: Global, before: &Library, after: &Library) -> Result<Compared, AllocError>
-    ensures told { IfOk result (λ d. Told before.now after.now (map change_seen d.changes.items)) }
+    ensures row_changes { IfOk result (λ d. RowChanges before.now after.now (map change_view d.changes.items)) }
     ensures shows { (rows : Rows) → IsSound before.now → Continues before.now.idents after.now.idents
         → Shows rows before.now
-        → IfOk result (λ d. Shows (done_all (map change_seen d.changes.items) rows) after.now) }
+        → IfOk result (λ d. Shows (done_all (map change_view d.changes.items) rows) after.now) }
     ensures fits { (rows : Rows) → IsSound before.now → Continues before.now.idents after.now.idents
         → Shows rows before.now
-        → IfOk result (λ d. AllFit (map change_seen d.changes.items) rows) }
+        → IfOk result (λ d. AllFit (map change_view d.changes.items) rows) }
     ensures states { IsSound before.now → IsSound after.now → Continues before.now.idents after.now.idents
-        → IfOk result (λ d. TakeGone before.now after.now (map change_seen d.changes.items)) }
+        → IfOk result (λ d. TakeGone before.now after.now (map change_view d.changes.items)) }
     ensures touched { AreApart (map key_of (all_cards before.now))
         → IfOk result (λ d. d.touched.items ≡ touched before.now after.now) }
 {
     let idents = before.idents();
-    let decks = library_fates(alloc, last_age(idents), before, after)?;
+    let decks = library_diff(alloc, last_age(idents), before, after)?;
     let touched = touched(alloc, before, after.idents(), &decks)?;
-    let changes = told(alloc, idents, after.idents(), &decks)?;
+    let changes = row_changes(alloc, idents, after.idents(), &decks)?;
     Ok(Compared { changes, touched })
 }
 

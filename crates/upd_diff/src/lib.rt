@@ -3,8 +3,8 @@
 
 mod decks;
 pub mod difference;
-mod fates;
-mod told;
+mod card_diffs;
+mod row_changes;
 mod touched;
 
 pub use difference::{Compared, compare};

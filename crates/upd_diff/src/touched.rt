@@ -4,10 +4,10 @@ ghost use Rattle.std.specs.Prelude.{EachIndex, IfOk, OnOk};
 ghost use Rattle.std.specs.List.{AllByRecursion, Contains, filter, flat_map};
 ghost use Rattle.upd_core.specs.Library.{CardView, DeckView, all_decks, is_card, ref_of};
 ghost use Rattle.upd_core.specs.Sound.{AreApart, AreRising, all_cards, key_of};
-ghost use Rattle.upd_diff.specs.Fates.{Lead, card_after, fate_seen};
+ghost use Rattle.upd_diff.specs.CardDiffs.{Lead, card_after, card_diff_view};
 ghost use Rattle.upd_diff.specs.Touched.{IsOf, same_history, stood_in, touched_in};
 
-use crate::fates::{DeckFates, Fate};
+use crate::card_diffs::{DeckDiff, CardDiff};
 use std::alloc::{AllocError, Global};
 use upd_core::card::card_ref;
 use upd_core::{Card, Deck, Entry, Ident, Library, Serial};
@@ -18,7 +18,7 @@ pub(crate) fn touched(
     alloc: Global,
     before: &Library,
     idents: &[Ident],
-    decks: &[DeckFates],
+    decks: &[DeckDiff],
 ) -> Result<Vec<CardRef>, AllocError>
     ensures { (after : List DeckView) → Lead (all_decks before.now) after decks.now
         → AreApart (map key_of (all_cards before.now))
@@ -32,7 +32,7 @@ pub(crate) fn touched(
             idents,
             before.cards_of(deck.deck),
             rising,
-            &deck.fates,
+            &deck.card_diffs,
         )?;
     }
     Ok(found)
@@ -59,21 +59,21 @@ fn add_touched(
     idents: &[Ident],
     before: &[Card],
     sure: bool,
-    fates: &[Fate],
+    card_diffs: &[CardDiff],
 ) -> Result<(), AllocError>
-    ensures { AreApart (map key_of before.now) → AllByRecursion (IsOf before.now sure) (map fate_seen fates.now)
+    ensures { AreApart (map key_of before.now) → AllByRecursion (IsOf before.now sure) (map card_diff_view card_diffs.now)
         → OnOk result (found.new.items ≡ found.old.items ++ map (ref_of idents.now)
-        (filter (λ c. not (stood_in before.now c)) (flat_map card_after (map fate_seen fates.now)))) }
+        (filter (λ c. not (stood_in before.now c)) (flat_map card_after (map card_diff_view card_diffs.now)))) }
 {
     let youngest = youngest(before);
-    for fate in fates {
-        match fate {
-            Fate::Kept(was, is) => {
+    for card_diff in card_diffs {
+        match card_diff {
+            CardDiff::Kept(was, is) => {
                 let stood = has_stayed(before, youngest, sure, was, is);
                 add_unless(found, idents, stood, is)?;
             }
-            Fate::Gone(_) => {}
-            Fate::New(is) => {
+            CardDiff::Gone(_) => {}
+            CardDiff::New(is) => {
                 let stood = has_stood(before, youngest, is);
                 add_unless(found, idents, stood, is)?;
             }

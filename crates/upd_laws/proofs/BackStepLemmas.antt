@@ -20,9 +20,9 @@ use Rattle.upd_text.proofs.OutcomeLemmas.{after_any, after_need, after_refusal}
 use Rattle.upd_text.specs.Outcome.{◌>>=◌, need, refuse_if, at_line}
 use Rattle.upd_deck.specs.Items.{ItemView, LineView, Text, Call, Ident, Deck, CommonDeck, Insert, Before, Delete, Restore, Yank, SelYank, YankDeck, Purge}
 use Rattle.upd_deck.specs.Items.{PurgeFrom, SelPurge, PurDeck, Compile}
-use Rattle.upd_apply.specs.declared.state.Hand.{Hand}
-use Rattle.upd_apply.specs.declared.state.Spot.{Spot}
-use Rattle.upd_apply.specs.declared.state.Spot.TheVariants.{Nowhere, End, Inside}
+use Rattle.upd_apply.specs.declared.state.CurrentSet.{CurrentSet}
+use Rattle.upd_apply.specs.declared.state.InsertPoint.{InsertPoint}
+use Rattle.upd_apply.specs.declared.state.InsertPoint.TheVariants.{Nowhere, End, Inside}
 use Rattle.upd_apply.specs.declared.state.State.{State}
 use Rattle.upd_apply.specs.Applying.{Reached, started, stepped, applied}
 use Rattle.upd_apply.specs.Compile.{named_decks}
@@ -35,24 +35,24 @@ use Rattle.upd_laws.proofs.BackLibraryLemmas.{length-introduced, idents-with_car
 
 -- ---- states
 
-abbrev HandIn : ℕ → ℕ → Option Hand → Type 0
+abbrev HandIn : ℕ → ℕ → Option CurrentSet → Type 0
 HandIn x n None = Unit {0}
-HandIn x n (Some hand) = Within x n hand.ident
+HandIn x n (Some current_set) = Within x n current_set.ident
 
-abbrev SpotIn : ℕ → ℕ → Spot → Type 0
+abbrev SpotIn : ℕ → ℕ → InsertPoint → Type 0
 SpotIn x n Nowhere = Unit {0}
 SpotIn x n (End d next) = Within x n d
 SpotIn x n (Inside d after) = Unit {0}
 
-hand_later : (x n m : ℕ) → n ≤ m → (hand : Option Hand) → HandIn x n hand → HandIn x m hand
+hand_later : (x n m : ℕ) → n ≤ m → (current_set : Option CurrentSet) → HandIn x n current_set → HandIn x m current_set
 hand_later x n m le None w = tt
-hand_later x n m le (Some hand) w = (w.0, omega (arith, w))
+hand_later x n m le (Some current_set) w = (w.0, omega (arith, w))
 
 -- what is in hand is of an ident from x on
 pub record Ready (x : ℕ) (s : State) : Type 0 where
   pub from : x ≤ next_age s.library
-  pub hand : HandIn x (length s.library.idents) s.hand
-  pub spot : SpotIn x (length s.library.idents) s.spot
+  pub current_set : HandIn x (length s.library.idents) s.current_set
+  pub insert_point : SpotIn x (length s.library.idents) s.insert_point
 
 -- what a line leaves
 pub record Next (x : ℕ) (s t : State) : Type 0 where
@@ -65,7 +65,7 @@ set_begun_next x name s r =
     let more : length l.idents ≡ next_age s.library = length-introduced s.library name kind.Set false in
     after_any _ (new_name name s.library) _ (λ _. after_grown _ l _ (record {
       library = grows_ident x s.library name kind.Set false;
-      ready = record { from = omega (arith, r.from); hand = (r.from, omega arith); spot = tt };
+      ready = record { from = omega (arith, r.from); current_set = (r.from, omega arith); insert_point = tt };
     }))
 
 deck_begun_next : (x : ℕ) (name : List ℕ) (sort : Kind) (noprop : Bool) (text : List ℕ) (s : State) → Ready x s
@@ -78,69 +78,69 @@ deck_begun_next x name sort noprop text s r =
     let new : Within x (length l.idents) z = (r.from, omega arith) in
     after_any _ (new_name name s.library) _ (λ _. after_grown _ (with_deck d l) _ (record {
       library = grows_twice x s.library l (with_deck d l) (grows_ident x s.library name sort noprop) (grows_deck x l d new);
-      ready = record { from = omega (arith, r.from); hand = hand_later x _ _ (omega arith) s.hand r.hand; spot = new };
+      ready = record { from = omega (arith, r.from); current_set = hand_later x _ _ (omega arith) s.current_set r.current_set; insert_point = new };
     }))
 
 placed_after_next : (x : ℕ) (card : CardRef) (s : State) → Ready x s → IfOk (placed_after card s) (Next x s)
 placed_after_next x card s r =
-    after_any _ (need fault.NoIdent s.hand) _ (λ _. after_any _ (need fault.CardUnknown (place_of card s.library)) _ (λ p.
+    after_any _ (need fault.NoIdent s.current_set) _ (λ _. after_any _ (need fault.CardUnknown (place_of card s.library)) _ (λ p.
     after_any _ (refuse_if (p.deck == 0) fault.YankText) _ (λ _. record {
       library = grows x s.library;
-      ready = record { from = r.from; hand = r.hand; spot = tt };
+      ready = record { from = r.from; current_set = r.current_set; insert_point = tt };
     })))
 
 placed_before_next : (x : ℕ) (card : CardRef) (s : State) → Ready x s → IfOk (placed_before card s) (Next x s)
 placed_before_next x card s r =
-    after_any _ (need fault.NoIdent s.hand) _ (λ _. after_any _ (need fault.CardUnknown (place_of card s.library)) _ (λ p.
+    after_any _ (need fault.NoIdent s.current_set) _ (λ _. after_any _ (need fault.CardUnknown (place_of card s.library)) _ (λ p.
     after_any _ (refuse_if (p.deck == 0) fault.YankText) _ (λ _. after_any _ (refuse_if (is_deck_card p) fault.DeckCard) _ (λ _. record {
       library = grows x s.library;
-      ready = record { from = r.from; hand = r.hand; spot = tt };
+      ready = record { from = r.from; current_set = r.current_set; insert_point = tt };
     }))))
 
 -- a library that has gone on with the same directory
 same_idents : (x : ℕ) (s t : State) → Ready x s → t.library.idents ≡ s.library.idents → Grows x s.library t.library
-    → HandIn x (length s.library.idents) t.hand → SpotIn x (length s.library.idents) t.spot → Next x s t
-same_idents x s t r e g hand spot =
-    record { library = g; ready = record { from = rw e r.from; hand = rw e hand; spot = rw e spot } }
+    → HandIn x (length s.library.idents) t.current_set → SpotIn x (length s.library.idents) t.insert_point → Next x s t
+same_idents x s t r e g current_set insert_point =
+    record { library = g; ready = record { from = rw e r.from; current_set = rw e current_set; insert_point = rw e insert_point } }
 
 switched_next : (x : ℕ) (active : Bool) (first last : CardRef) (s : State) → Ready x s → IfOk (switched active first last s) (Next x s)
 switched_next x active first last s r =
-    after_need _ fault.NoIdent s.hand _ (λ hand held.
+    after_need _ fault.NoIdent s.current_set _ (λ current_set held.
     after_any _ (need fault.CardUnknown (place_of first s.library)) _ (λ p. after_any _ (need fault.CardUnknown (place_of last s.library)) _ (λ q.
     after_refusal _ (not (p.deck == q.deck) || ltb q.index p.index) fault.RangeOrder _ (λ right.
     after_any _ (refuse_if (is_deck_card p) fault.DeckCard) _ (λ _.
-    let e : Entry = record { ident = hand.ident; active = active } in
+    let e : Entry = record { ident = current_set.ident; active = active } in
     let l = with_entries p.deck p.index q.index e s.library in
     let ordered : p.index ≤ q.index = ltb-false q.index p.index (or_parts (not (p.deck == q.deck)) _ right).1 in
-    let within : Within x (length s.library.idents) hand.ident = rw held at r.hand in
+    let within : Within x (length s.library.idents) current_set.ident = rw held at r.current_set in
     after_grown _ l _ (same_idents x s _ r (idents-with_entries p.deck p.index q.index e s.library)
-    (grows_entries x s.library p.deck p.index q.index e ordered within) r.hand tt))))))
+    (grows_entries x s.library p.deck p.index q.index e ordered within) r.current_set tt))))))
 
-text_put_next : (x : ℕ) (text : List ℕ) (s : State) → Ready x s → (spot : Spot) → SpotIn x (length s.library.idents) spot
-    → IfOk (text_put text spot s) (Next x s)
+text_put_next : (x : ℕ) (text : List ℕ) (s : State) → Ready x s → (insert_point : InsertPoint) → SpotIn x (length s.library.idents) insert_point
+    → IfOk (text_put text insert_point s) (Next x s)
 text_put_next x text s r Nowhere w = tt
 text_put_next x text s r (End d next) w =
     after_grown _ (with_card d 0 (new_card d next text []) s.library) _ (same_idents x s _ r (idents-with_card d 0 _ s.library)
-    (grows_card x s.library d 0 d next text [] w) r.hand w)
+    (grows_card x s.library d 0 d next text [] w) r.current_set w)
 text_put_next x text s r (Inside d after) w =
-    after_need _ fault.TextNowhere s.hand _ (λ hand held. after_any _ (refuse_if (d == 0) fault.YankText) _ (λ _.
-    let within : Within x (length s.library.idents) hand.ident = rw held at r.hand in
-    after_grown _ (with_card d after (new_card hand.ident hand.next text []) s.library) _ (same_idents x s _ r (idents-with_card d after _ s.library)
-    (grows_card x s.library d after hand.ident hand.next text [] within) within r.spot)))
+    after_need _ fault.TextNowhere s.current_set _ (λ current_set held. after_any _ (refuse_if (d == 0) fault.YankText) _ (λ _.
+    let within : Within x (length s.library.idents) current_set.ident = rw held at r.current_set in
+    after_grown _ (with_card d after (new_card current_set.ident current_set.next text []) s.library) _ (same_idents x s _ r (idents-with_card d after _ s.library)
+    (grows_card x s.library d after current_set.ident current_set.next text [] within) within r.insert_point)))
 
 yank_put_next : (x : ℕ) (text : List ℕ) (targets : ℕ → LibraryView → Result (List Target) FaultKind) (s : State) → Ready x s
     → IfOk (yank_put text targets s) (Next x s)
 yank_put_next x text targets s r =
-    after_need _ fault.NoIdent s.hand _ (λ hand held. after_any _ (targets hand.ident s.library) _ (λ found.
-    let within : Within x (length s.library.idents) hand.ident = rw held at r.hand in
-    after_grown _ (with_yank (new_card hand.ident hand.next text found) s.library) _ (same_idents x s _ r refl
-    (grows_yank x s.library hand.ident hand.next text found within) within tt)))
+    after_need _ fault.NoIdent s.current_set _ (λ current_set held. after_any _ (targets current_set.ident s.library) _ (λ found.
+    let within : Within x (length s.library.idents) current_set.ident = rw held at r.current_set in
+    after_grown _ (with_yank (new_card current_set.ident current_set.next text found) s.library) _ (same_idents x s _ r refl
+    (grows_yank x s.library current_set.ident current_set.next text found within) within tt)))
 
 -- ---- lines
 
 done_next : (x : ℕ) (item : ItemView) (text : List ℕ) (s : State) → Ready x s → is_purge item ≡ false → IfOk (line_done item text s) (Next x s)
-done_next x Text text s r no_purge = text_put_next x text s r s.spot r.spot
-done_next x (Call name) text s r no_purge = text_put_next x text s r s.spot r.spot
+done_next x Text text s r no_purge = text_put_next x text s r s.insert_point r.insert_point
+done_next x (Call name) text s r no_purge = text_put_next x text s r s.insert_point r.insert_point
 done_next x (Ident name) text s r no_purge = set_begun_next x name s r
 done_next x (Deck name) text s r no_purge = deck_begun_next x name kind.Deck false text s r
 done_next x (CommonDeck name noprop) text s r no_purge = deck_begun_next x name kind.Common noprop text s r
@@ -155,7 +155,7 @@ done_next x (Purge ranges) text s r no_purge = cc
 done_next x (PurgeFrom name) text s r no_purge = cc
 done_next x (SelPurge pairs) text s r no_purge = cc
 done_next x (PurDeck ranges) text s r no_purge = cc
-done_next x (Compile ranges) text s r no_purge = same_idents x s s r refl (grows x s.library) r.hand r.spot
+done_next x (Compile ranges) text s r no_purge = same_idents x s s r refl (grows x s.library) r.current_set r.insert_point
 
 -- ---- runs
 
@@ -183,7 +183,7 @@ stepped_next x (line ∷ lines) s r p =
 applied_grows : (x : ℕ) (lines : List LineView) (l : LibraryView) → x ≤ next_age l → IsTrue (purges_nothing lines)
     → IfOk (applied lines l) (λ reached. Grows x l reached.library)
 applied_grows x lines l le p =
-    let ready : Ready x (started l) = record { from = le; hand = tt; spot = tt } in
+    let ready : Ready x (started l) = record { from = le; current_set = tt; insert_point = tt } in
     after_ok (Next x (started l)) _ (stepped lines (started l)) _ (stepped_next x lines (started l) ready p) (λ s n.
     after_any _ (named_decks lines s.library) _ (λ _. n.library))
 

@@ -23,9 +23,9 @@ use Rattle.upd_core.specs.Library.{CardView, DeckView, LibraryView, empty, all_d
 use Rattle.upd_core.specs.Sound.{all_cards}
 use Rattle.upd_deck.specs.Items.{ItemView, LineView, Text, Call, Ident, Deck, CommonDeck, Insert, Before, Delete, Restore, Yank, SelYank, YankDeck, Purge}
 use Rattle.upd_deck.specs.Items.{PurgeFrom, SelPurge, PurDeck, Compile}
-use Rattle.upd_apply.specs.declared.Hand.{Hand}
-use Rattle.upd_apply.specs.declared.state.Spot.{Spot}
-use Rattle.upd_apply.specs.declared.state.Spot.TheVariants.{Nowhere, End, Inside}
+use Rattle.upd_apply.specs.declared.CurrentSet.{CurrentSet}
+use Rattle.upd_apply.specs.declared.state.InsertPoint.{InsertPoint}
+use Rattle.upd_apply.specs.declared.state.InsertPoint.TheVariants.{Nowhere, End, Inside}
 use Rattle.upd_apply.specs.declared.state.State.{State}
 use Rattle.upd_apply.specs.Applying.{Reached, applied, started, stepped}
 use Rattle.upd_apply.specs.Step.{line_done, step, new_name, set_begun, deck_begun, is_deck_card, placed_after, placed_before, switched, text_put, yank_put, ended}
@@ -118,7 +118,7 @@ made_purged_in_all (a ∷ ages) l made = made_purged_in_all ages (purged_in a.de
 abbrev IsUpTo : ℕ → ℕ → Type 0
 IsUpTo k n = (0 < n) × (n ≤ k)
 
-abbrev IsSpotUpTo : ℕ → Spot → Type 0
+abbrev IsSpotUpTo : ℕ → InsertPoint → Type 0
 IsSpotUpTo k Nowhere = Unit {0}
 IsSpotUpTo k (End d n) = IsUpTo k n
 IsSpotUpTo k (Inside d behind) = Unit {0}
@@ -126,20 +126,20 @@ IsSpotUpTo k (Inside d behind) = Unit {0}
 -- a state that gives its next card a number of k at most
 record IsMade (k : ℕ) (s : State) : Type 0 where
   pub library : HasLineTexts s.library
-  pub hand : IfSome s.hand (λ (h : Hand). IsUpTo k h.next)
-  pub spot : IsSpotUpTo k s.spot
+  pub current_set : IfSome s.current_set (λ (h : CurrentSet). IsUpTo k h.next)
+  pub insert_point : IsSpotUpTo k s.insert_point
 
-more_hand : (k : ℕ) (hand : Option Hand) → IfSome hand (λ (h : Hand). IsUpTo k h.next) → IfSome hand (λ (h : Hand). IsUpTo (k + 1) h.next)
+more_hand : (k : ℕ) (current_set : Option CurrentSet) → IfSome current_set (λ (h : CurrentSet). IsUpTo k h.next) → IfSome current_set (λ (h : CurrentSet). IsUpTo (k + 1) h.next)
 more_hand k None up = tt
-more_hand k (Some hand) up = (up.0, let most = up.1 in omega arith)
+more_hand k (Some current_set) up = (up.0, let most = up.1 in omega arith)
 
-more_spot : (k : ℕ) (spot : Spot) → IsSpotUpTo k spot → IsSpotUpTo (k + 1) spot
+more_spot : (k : ℕ) (insert_point : InsertPoint) → IsSpotUpTo k insert_point → IsSpotUpTo (k + 1) insert_point
 more_spot k Nowhere up = tt
 more_spot k (End d n) up = (up.0, let most = up.1 in omega arith)
 more_spot k (Inside d behind) up = tt
 
 more_made : (k : ℕ) (s : State) → IsMade k s → IsMade (k + 1) s
-more_made k s made = record { library = made.library; hand = more_hand k s.hand made.hand; spot = more_spot k s.spot made.spot }
+more_made k s made = record { library = made.library; current_set = more_hand k s.current_set made.current_set; insert_point = more_spot k s.insert_point made.insert_point }
 
 set_made : (k : ℕ) (name : List ℕ) (s t : State) → 0 < k → is_name name ≡ true → IsMade k s → set_begun name s ≡ Ok t → IsMade (k + 1) t
 set_made k name s t some named made h =
@@ -147,8 +147,8 @@ set_made k name s t some named made h =
     through_grown (introduced name kind.Set false s.library) _ t (IsMade (k + 1) t) h1 (λ h2.
     holds_of (IsMade (k + 1)) _ t h2 (record {
       library = made_introduced name kind.Set false s.library named made.library;
-      hand = (omega arith, omega arith);
-      spot = tt;
+      current_set = (omega arith, omega arith);
+      insert_point = tt;
     })))
 
 begun_made : (k : ℕ) (name : List ℕ) (sort : Kind) (noprop : Bool) (text : List ℕ) (s t : State) → 0 < k → is_name name ≡ true → IsLineText text → IsMade k s
@@ -161,92 +161,92 @@ begun_made k name sort noprop text s t some named fits made h =
     through_grown (with_deck (record { ident = a; cards = c ∷ [] }) (introduced name sort noprop s.library)) _ t (IsMade (k + 1) t) h1 (λ h2.
     holds_of (IsMade (k + 1)) _ t h2 (record {
       library = made_deck a c (introduced name sort noprop s.library) (fits, up.0, up.1) (made_introduced name sort noprop s.library named made.library);
-      hand = more_hand k s.hand made.hand;
-      spot = (omega arith, omega arith);
+      current_set = more_hand k s.current_set made.current_set;
+      insert_point = (omega arith, omega arith);
     })))
 
-text_made : (k : ℕ) (text : List ℕ) (s t : State) (spot : Spot) → s.spot ≡ spot → k ≤ MAX_RUN_LINES → IsLineText text → IsMade k s → text_put text spot s ≡ Ok t
+text_made : (k : ℕ) (text : List ℕ) (s t : State) (insert_point : InsertPoint) → s.insert_point ≡ insert_point → k ≤ MAX_RUN_LINES → IsLineText text → IsMade k s → text_put text insert_point s ≡ Ok t
     → IsMade (k + 1) t
 text_made k text s t Nowhere e few fits made h = absurd (cc)
 text_made k text s t (End d n) e few fits made h =
-    let up : IsUpTo k n = subst (IsSpotUpTo k) e made.spot in
+    let up : IsUpTo k n = subst (IsSpotUpTo k) e made.insert_point in
     let most = up.1 in
     let fit : IsUpTo MAX_RUN_LINES n = (up.0, omega arith) in
     through_grown (with_card d 0 (new_card d n text []) s.library) _ t (IsMade (k + 1) t) h (λ h1.
     holds_of (IsMade (k + 1)) _ t h1 (record {
       library = made_card d 0 (new_card d n text []) s.library (fits, fit.0, fit.1) made.library;
-      hand = more_hand k s.hand made.hand;
-      spot = (omega arith, omega arith);
+      current_set = more_hand k s.current_set made.current_set;
+      insert_point = (omega arith, omega arith);
     }))
 text_made k text s t (Inside d after) e few fits made h =
-    through_need fault.TextNowhere s.hand _ t (IsMade (k + 1) t) h (λ hand f h1.
+    through_need fault.TextNowhere s.current_set _ t (IsMade (k + 1) t) h (λ current_set f h1.
     through_refusal (d == 0) fault.YankText _ t (IsMade (k + 1) t) h1 (λ g h2.
-    let c : CardView = new_card hand.ident hand.next text [] in
-    let up : IsUpTo k hand.next = subst (λ o. IfSome o (λ (h : Hand). IsUpTo k h.next)) f made.hand in
+    let c : CardView = new_card current_set.ident current_set.next text [] in
+    let up : IsUpTo k current_set.next = subst (λ o. IfSome o (λ (h : CurrentSet). IsUpTo k h.next)) f made.current_set in
     let most = up.1 in
-    let fit : IsUpTo MAX_RUN_LINES hand.next = (up.0, omega arith) in
+    let fit : IsUpTo MAX_RUN_LINES current_set.next = (up.0, omega arith) in
     through_grown (with_card d after c s.library) _ t (IsMade (k + 1) t) h2 (λ h3.
     holds_of (IsMade (k + 1)) _ t h3 (record {
       library = made_card d after c s.library (fits, fit.0, fit.1) made.library;
-      hand = (omega arith, omega arith);
-      spot = more_spot k s.spot made.spot;
+      current_set = (omega arith, omega arith);
+      insert_point = more_spot k s.insert_point made.insert_point;
     }))))
 
 yank_made : (k : ℕ) (text : List ℕ) (targets : ℕ → LibraryView → Result (List Target) FaultKind) (s t : State) → k ≤ MAX_RUN_LINES → IsLineText text
     → IsMade k s
     → yank_put text targets s ≡ Ok t → IsMade (k + 1) t
 yank_made k text targets s t few fits made h =
-    through_need fault.NoIdent s.hand _ t (IsMade (k + 1) t) h (λ hand e h1.
-    through (targets hand.ident s.library) _ t (IsMade (k + 1) t) h1 (λ found f h2.
-    let c : CardView = new_card hand.ident hand.next text found in
-    let up : IsUpTo k hand.next = subst (λ o. IfSome o (λ (h : Hand). IsUpTo k h.next)) e made.hand in
+    through_need fault.NoIdent s.current_set _ t (IsMade (k + 1) t) h (λ current_set e h1.
+    through (targets current_set.ident s.library) _ t (IsMade (k + 1) t) h1 (λ found f h2.
+    let c : CardView = new_card current_set.ident current_set.next text found in
+    let up : IsUpTo k current_set.next = subst (λ o. IfSome o (λ (h : CurrentSet). IsUpTo k h.next)) e made.current_set in
     let most = up.1 in
-    let fit : IsUpTo MAX_RUN_LINES hand.next = (up.0, omega arith) in
+    let fit : IsUpTo MAX_RUN_LINES current_set.next = (up.0, omega arith) in
     through_grown (with_yank c s.library) _ t (IsMade (k + 1) t) h2 (λ h3.
     holds_of (IsMade (k + 1)) _ t h3 (record {
       library = made_yank c s.library (fits, fit.0, fit.1) made.library;
-      hand = (omega arith, omega arith);
-      spot = tt;
+      current_set = (omega arith, omega arith);
+      insert_point = tt;
     }))))
 
 after_made : (k : ℕ) (card : CardRef) (s t : State) → IsMade k s → placed_after card s ≡ Ok t → IsMade (k + 1) t
 after_made k card s t made h =
-    through_need fault.NoIdent s.hand _ t (IsMade (k + 1) t) h (λ hand e h1.
+    through_need fault.NoIdent s.current_set _ t (IsMade (k + 1) t) h (λ current_set e h1.
     through_need fault.CardUnknown (place_of card s.library) _ t (IsMade (k + 1) t) h1 (λ p f h2.
     through_refusal (p.deck == 0) fault.YankText _ t (IsMade (k + 1) t) h2 (λ g h3.
-    holds_of (IsMade (k + 1)) _ t h3 (record { library = made.library; hand = more_hand k s.hand made.hand; spot = tt }))))
+    holds_of (IsMade (k + 1)) _ t h3 (record { library = made.library; current_set = more_hand k s.current_set made.current_set; insert_point = tt }))))
 
 before_made : (k : ℕ) (card : CardRef) (s t : State) → IsMade k s → placed_before card s ≡ Ok t → IsMade (k + 1) t
 before_made k card s t made h =
-    through_need fault.NoIdent s.hand _ t (IsMade (k + 1) t) h (λ hand e h1.
+    through_need fault.NoIdent s.current_set _ t (IsMade (k + 1) t) h (λ current_set e h1.
     through_need fault.CardUnknown (place_of card s.library) _ t (IsMade (k + 1) t) h1 (λ p f h2.
     through_refusal (p.deck == 0) fault.YankText _ t (IsMade (k + 1) t) h2 (λ g h3.
     through_refusal (is_deck_card p) fault.DeckCard _ t (IsMade (k + 1) t) h3 (λ n h4.
-    holds_of (IsMade (k + 1)) _ t h4 (record { library = made.library; hand = more_hand k s.hand made.hand; spot = tt })))))
+    holds_of (IsMade (k + 1)) _ t h4 (record { library = made.library; current_set = more_hand k s.current_set made.current_set; insert_point = tt })))))
 
 switched_made : (k : ℕ) (active : Bool) (first last : CardRef) (s t : State) → IsMade k s → switched active first last s ≡ Ok t → IsMade (k + 1) t
 switched_made k active first last s t made h =
-    through_need fault.NoIdent s.hand _ t (IsMade (k + 1) t) h (λ hand e h1.
+    through_need fault.NoIdent s.current_set _ t (IsMade (k + 1) t) h (λ current_set e h1.
     through_need fault.CardUnknown (place_of first s.library) _ t (IsMade (k + 1) t) h1 (λ p f h2.
     through_need fault.CardUnknown (place_of last s.library) _ t (IsMade (k + 1) t) h2 (λ q g h3.
     through_refusal (not (p.deck == q.deck) || nat_lt q.index p.index) fault.RangeOrder _ t (IsMade (k + 1) t) h3 (λ n h4.
     through_refusal (is_deck_card p) fault.DeckCard _ t (IsMade (k + 1) t) h4 (λ m h5.
-    let entry : Entry = record { ident = hand.ident; active = active } in
+    let entry : Entry = record { ident = current_set.ident; active = active } in
     through_grown (with_entries p.deck p.index q.index entry s.library) _ t (IsMade (k + 1) t) h5 (λ h6.
     holds_of (IsMade (k + 1)) _ t h6 (record {
       library = made_entries p.deck p.index q.index entry s.library made.library;
-      hand = more_hand k s.hand made.hand;
-      spot = tt;
+      current_set = more_hand k s.current_set made.current_set;
+      insert_point = tt;
     })))))))
 
 ended_made : (k : ℕ) (l : LibraryView) → HasLineTexts l → IsMade k (ended l)
-ended_made k l made = record { library = made; hand = tt; spot = tt }
+ended_made k l made = record { library = made; current_set = tt; insert_point = tt }
 
 done_made : (k : ℕ) (item : ItemView) (text : List ℕ) (s t : State) → 0 < k → k ≤ MAX_RUN_LINES → IsLineText text → BringsName item → IsMade k s
     → line_done item text s ≡ Ok t
     → IsMade (k + 1) t
-done_made k Text text s t some few fits named made h = text_made k text s t s.spot refl few fits made h
-done_made k (Call name) text s t some few fits named made h = text_made k text s t s.spot refl few fits made h
+done_made k Text text s t some few fits named made h = text_made k text s t s.insert_point refl few fits made h
+done_made k (Call name) text s t some few fits named made h = text_made k text s t s.insert_point refl few fits made h
 done_made k (Ident name) text s t some few fits named made h = set_made k name s t some named made h
 done_made k (Deck name) text s t some few fits named made h = begun_made k name kind.Deck false text s t some named fits made h
 done_made k (CommonDeck name noprop) text s t some few fits named made h = begun_made k name kind.Common noprop text s t some named fits made h
@@ -286,7 +286,7 @@ run_made lines l r were made h =
     let read = run_read lines were in
     let short = read.short in
     reached_by HasLineTexts lines l r
-    (λ s e. steps_made 1 lines (started l) s (omega arith) (omega arith) read.lines_fit (record { library = made; hand = tt; spot = tt }) e) h
+    (λ s e. steps_made 1 lines (started l) s (omega arith) (omega arith) read.lines_fit (record { library = made; current_set = tt; insert_point = tt }) e) h
 
 pub empty_made : HasLineTexts empty
 empty_made = record { names = tt; cards = tt }

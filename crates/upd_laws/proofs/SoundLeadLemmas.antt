@@ -16,8 +16,8 @@ use Rattle.upd_core.specs.Limits.{is_within_limits}
 use Rattle.upd_core.specs.Sound.{Continues}
 use Rattle.upd_deck.specs.Items.{ItemView, LineView, Text, Call, Ident, Deck, CommonDeck, Insert, Before, Delete, Restore, Yank, SelYank, YankDeck, Purge}
 use Rattle.upd_deck.specs.Items.{PurgeFrom, SelPurge, PurDeck, Compile}
-use Rattle.upd_apply.specs.declared.state.Spot.{Spot}
-use Rattle.upd_apply.specs.declared.state.Spot.TheVariants.{Nowhere, End, Inside}
+use Rattle.upd_apply.specs.declared.state.InsertPoint.{InsertPoint}
+use Rattle.upd_apply.specs.declared.state.InsertPoint.TheVariants.{Nowhere, End, Inside}
 use Rattle.upd_apply.specs.declared.state.State.{State}
 use Rattle.upd_apply.specs.Step.{line_done, step, new_name, deck_begun, is_deck_card, switched, text_put, yank_put, purged_in_all}
 use Rattle.upd_apply.specs.Names.{known_ident}
@@ -47,7 +47,7 @@ card_rests d behind c l = rest_with d (λ cards. insert cards (length cards - be
 entries_go : (d from to : ℕ) (e : Entry) (l : LibraryView) → Continues l.idents (with_entries d from to e l).idents
 entries_go d from to e l = goes_with d (entered_range from to e) l
 
-text_leads : (Q : LibraryView → Type 0) (text : List ℕ) (spot : Spot) (s t : State) → Leads Q s.library → text_put text spot s ≡ Ok t → Q t.library
+text_leads : (Q : LibraryView → Type 0) (text : List ℕ) (insert_point : InsertPoint) (s t : State) → Leads Q s.library → text_put text insert_point s ≡ Ok t → Q t.library
 text_leads Q text Nowhere s t leads h = absurd (cc)
 text_leads Q text (End d n) s t leads h =
     through_limits (with_card d 0 (new_card d n text []) s.library) _ t (Q t.library) h (λ within h1.
@@ -55,12 +55,12 @@ text_leads Q text (End d n) s t leads h =
     (leads.grows (with_card d 0 (new_card d n text []) s.library) within (card_goes d 0 (new_card d n text []) s.library)
     (card_rests d 0 (new_card d n text []) s.library)))
 text_leads Q text (Inside d after) s t leads h =
-    through_need fault.TextNowhere s.hand _ t (Q t.library) h (λ hand e h1.
+    through_need fault.TextNowhere s.current_set _ t (Q t.library) h (λ current_set e h1.
     through_refusal (d == 0) fault.YankText _ t (Q t.library) h1 (λ f h2.
-    through_limits (with_card d after (new_card hand.ident hand.next text []) s.library) _ t (Q t.library) h2 (λ within h3.
+    through_limits (with_card d after (new_card current_set.ident current_set.next text []) s.library) _ t (Q t.library) h2 (λ within h3.
     holds_of (λ (x : State). Q x.library) _ t h3
-    (leads.grows (with_card d after (new_card hand.ident hand.next text []) s.library) within
-    (card_goes d after (new_card hand.ident hand.next text []) s.library) (card_rests d after (new_card hand.ident hand.next text []) s.library)))))
+    (leads.grows (with_card d after (new_card current_set.ident current_set.next text []) s.library) within
+    (card_goes d after (new_card current_set.ident current_set.next text []) s.library) (card_rests d after (new_card current_set.ident current_set.next text []) s.library)))))
 
 deck_leads : (Q : LibraryView → Type 0) (name : List ℕ) (sort : Kind) (noprop : Bool) (text : List ℕ) (s t : State) → Leads Q s.library
     → deck_begun name sort noprop text s ≡ Ok t → Q t.library
@@ -80,31 +80,31 @@ deck_leads Q name sort noprop text s t leads h =
 yank_leads : (Q : LibraryView → Type 0) (text : List ℕ) (targets : ℕ → LibraryView → Result (List Target) FaultKind) (s t : State) → Leads Q s.library
     → yank_put text targets s ≡ Ok t → Q t.library
 yank_leads Q text targets s t leads h =
-    through_need fault.NoIdent s.hand _ t (Q t.library) h (λ hand e h1.
-    through (targets hand.ident s.library) _ t (Q t.library) h1 (λ found f h2.
-    through_limits (with_yank (new_card hand.ident hand.next text found) s.library) _ t (Q t.library) h2 (λ within h3.
+    through_need fault.NoIdent s.current_set _ t (Q t.library) h (λ current_set e h1.
+    through (targets current_set.ident s.library) _ t (Q t.library) h1 (λ found f h2.
+    through_limits (with_yank (new_card current_set.ident current_set.next text found) s.library) _ t (Q t.library) h2 (λ within h3.
     holds_of (λ (x : State). Q x.library) _ t h3
-    (leads.grows (with_yank (new_card hand.ident hand.next text found) s.library) within (continues_same s.library.idents) refl))))
+    (leads.grows (with_yank (new_card current_set.ident current_set.next text found) s.library) within (continues_same s.library.idents) refl))))
 
 switched_leads : (Q : LibraryView → Type 0) (active : Bool) (first last : CardRef) (s t : State) → Leads Q s.library → switched active first last s ≡ Ok t
     → Q t.library
 switched_leads Q active first last s t leads h =
-    through_need fault.NoIdent s.hand _ t (Q t.library) h (λ hand e h1.
+    through_need fault.NoIdent s.current_set _ t (Q t.library) h (λ current_set e h1.
     through_need fault.CardUnknown (place_of first s.library) _ t (Q t.library) h1 (λ p f h2.
     through_need fault.CardUnknown (place_of last s.library) _ t (Q t.library) h2 (λ q g h3.
     through_refusal (not (p.deck == q.deck) || nat_lt q.index p.index) fault.RangeOrder _ t (Q t.library) h3 (λ k h4.
     through_refusal (is_deck_card p) fault.DeckCard _ t (Q t.library) h4 (λ n h5.
-    through_limits (with_entries p.deck p.index q.index (record { ident = hand.ident; active = active }) s.library) _ t (Q t.library) h5 (λ within h6.
+    through_limits (with_entries p.deck p.index q.index (record { ident = current_set.ident; active = active }) s.library) _ t (Q t.library) h5 (λ within h6.
     holds_of (λ (x : State). Q x.library) _ t h6 (leads.grows (with_entries p.deck p.index q.index (record {
       ident =
-          hand.ident;
+          current_set.ident;
       active = active;
-    }) s.library) within (entries_go p.deck p.index q.index (record { ident = hand.ident; active = active }) s.library)
-    (rest_with p.deck (entered_range p.index q.index (record { ident = hand.ident; active = active })) s.library))))))))
+    }) s.library) within (entries_go p.deck p.index q.index (record { ident = current_set.ident; active = active }) s.library)
+    (rest_with p.deck (entered_range p.index q.index (record { ident = current_set.ident; active = active })) s.library))))))))
 
 done_leads : (Q : LibraryView → Type 0) (item : ItemView) (text : List ℕ) (s t : State) → Leads Q s.library → line_done item text s ≡ Ok t → Q t.library
-done_leads Q Text text s t leads h = text_leads Q text s.spot s t leads h
-done_leads Q (Call name) text s t leads h = text_leads Q text s.spot s t leads h
+done_leads Q Text text s t leads h = text_leads Q text s.insert_point s t leads h
+done_leads Q (Call name) text s t leads h = text_leads Q text s.insert_point s t leads h
 done_leads Q (Ident name) text s t leads h =
     through (new_name name s.library) _ t (Q t.library) h (λ b e h1.
     through_limits (introduced name kind.Set false s.library) _ t (Q t.library) h1 (λ within h2.
@@ -113,11 +113,11 @@ done_leads Q (Ident name) text s t leads h =
 done_leads Q (Deck name) text s t leads h = deck_leads Q name kind.Deck false text s t leads h
 done_leads Q (CommonDeck name noprop) text s t leads h = deck_leads Q name kind.Common noprop text s t leads h
 done_leads Q (Insert card) text s t leads h =
-    through_need fault.NoIdent s.hand _ t (Q t.library) h (λ hand e h1.
+    through_need fault.NoIdent s.current_set _ t (Q t.library) h (λ current_set e h1.
     through_need fault.CardUnknown (place_of card s.library) _ t (Q t.library) h1 (λ p f h2.
     through_refusal (p.deck == 0) fault.YankText _ t (Q t.library) h2 (λ g h3. holds_of (λ (x : State). Q x.library) _ t h3 leads.stays)))
 done_leads Q (Before card) text s t leads h =
-    through_need fault.NoIdent s.hand _ t (Q t.library) h (λ hand e h1.
+    through_need fault.NoIdent s.current_set _ t (Q t.library) h (λ current_set e h1.
     through_need fault.CardUnknown (place_of card s.library) _ t (Q t.library) h1 (λ p f h2.
     through_refusal (p.deck == 0) fault.YankText _ t (Q t.library) h2 (λ g h3.
     through_refusal (is_deck_card p) fault.DeckCard _ t (Q t.library) h3 (λ k h4. holds_of (λ (x : State). Q x.library) _ t h4 leads.stays))))

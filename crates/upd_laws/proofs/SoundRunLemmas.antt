@@ -11,8 +11,8 @@ use Rattle.upd_text.specs.Outcome.{at_line}
 use Rattle.upd_core.specs.Sound.{IsSound, IsWhole, Continues}
 use Rattle.upd_deck.specs.Items.{ItemView, LineView, Text, Call, Ident, Deck, CommonDeck, Insert, Before, Delete, Restore, Yank, SelYank, YankDeck, Purge}
 use Rattle.upd_deck.specs.Items.{PurgeFrom, SelPurge, PurDeck, Compile}
-use Rattle.upd_apply.specs.declared.Hand.{Hand}
-use Rattle.upd_apply.specs.declared.state.Spot.TheVariants.{End}
+use Rattle.upd_apply.specs.declared.CurrentSet.{CurrentSet}
+use Rattle.upd_apply.specs.declared.state.InsertPoint.TheVariants.{End}
 use Rattle.upd_apply.specs.declared.state.State.{State}
 use Rattle.upd_apply.specs.Applying.{Reached, applied, started, stepped}
 use Rattle.upd_apply.specs.Compile.{named_decks}
@@ -20,7 +20,7 @@ use Rattle.upd_apply.specs.Step.{line_done, step, purged_in_all}
 use Rattle.upd_apply.specs.Names.{known_ident}
 use Rattle.upd_apply.specs.Yanks.{sets_yanked, pairs_yanked, decks_yanked}
 use Rattle.upd_apply.specs.Purges.{idents_purged, decks_purged, pairs_purged}
-use Rattle.upd_laws.specs.Soundness.{count_of, IsInHand, IsHandSound, IsAtEnd, IsSpotSound, IsSoundState, after_run, after_runs}
+use Rattle.upd_laws.specs.Soundness.{count_of, IsCurrentSet, IsHandSound, IsAtEnd, IsSpotSound, IsSoundState, after_run, after_runs}
 use Rattle.upd_laws.proofs.SoundOutcomeLemmas.{through, holds_of}
 use Rattle.upd_laws.proofs.SoundIdentLemmas.{continues_same, continues_on}
 use Rattle.upd_laws.proofs.SoundYankLemmas.{sets_are, pairs_are, decks_are}
@@ -93,7 +93,7 @@ steps_rest (line ∷ lines) s t h =
     steps_rest lines x t h1 ∙ step_rests line s x (line_is line.number (step line s) x e))
 
 pub started_sound : (l : LibraryView) → IsSound l → IsSoundState (started l)
-started_sound l s = record { library = s; hand = tt; spot = tt }
+started_sound l s = record { library = s; current_set = tt; insert_point = tt }
 
 -- what holds of the library of each state that lines reach holds of what a run leaves
 pub reached_by : (P : LibraryView → Type 0) (lines : List LineView) (l : LibraryView) (r : Reached)
@@ -158,16 +158,16 @@ runs_go (run ∷ runs) l = continues_on l.idents (after_run l (applied run l)).i
 
 -- ---- the next numbers
 
-pub hand_counted : (lines : List LineView) (l : LibraryView) (s : State) (hand : Hand) → IsSound l → stepped lines (started l) ≡ Ok s → s.hand ≡ Some hand
-    → hand.next ≡ count_of hand.ident s.library + 1
-hand_counted lines l s hand sound h e =
+pub hand_counted : (lines : List LineView) (l : LibraryView) (s : State) (current_set : CurrentSet) → IsSound l → stepped lines (started l) ≡ Ok s → s.current_set ≡ Some current_set
+    → current_set.next ≡ count_of current_set.ident s.library + 1
+hand_counted lines l s current_set sound h e =
     let state = steps_sound lines (started l) s (started_sound l sound) h in
-    let in_hand : IsInHand hand s.library = subst (λ o. IsHandSound o s.library) e state.hand in
+    let in_hand : IsCurrentSet current_set s.library = subst (λ o. IsHandSound o s.library) e state.current_set in
     in_hand.next.counted
 
-pub end_counted : (lines : List LineView) (l : LibraryView) (s : State) (d n : ℕ) → IsSound l → stepped lines (started l) ≡ Ok s → s.spot ≡ End d n
+pub end_counted : (lines : List LineView) (l : LibraryView) (s : State) (d n : ℕ) → IsSound l → stepped lines (started l) ≡ Ok s → s.insert_point ≡ End d n
     → n ≡ count_of d s.library + 1
 end_counted lines l s d n sound h e =
     let state = steps_sound lines (started l) s (started_sound l sound) h in
-    let at : IsAtEnd d n s.hand s.library = subst (λ spot. IsSpotSound spot s.hand s.library) e state.spot in
+    let at : IsAtEnd d n s.current_set s.library = subst (λ insert_point. IsSpotSound insert_point s.current_set s.library) e state.insert_point in
     at.next.counted

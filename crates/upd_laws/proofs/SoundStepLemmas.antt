@@ -21,15 +21,15 @@ use Rattle.upd_core.specs.Library.{CardView, DeckView, LibraryView, all_decks, c
 use Rattle.upd_text.specs.Outcome.{refuse_if}
 use Rattle.upd_core.specs.Sound.{AreAgedFrom, all_cards, is_held, is_held_deck, stands, IsSound}
 use Rattle.upd_deck.specs.declared.item.IdentIn.{IdentIn}
-use Rattle.upd_apply.specs.declared.Hand.{Hand}
-use Rattle.upd_apply.specs.declared.state.Spot.{Spot}
-use Rattle.upd_apply.specs.declared.state.Spot.TheVariants.{Nowhere, End, Inside}
+use Rattle.upd_apply.specs.declared.CurrentSet.{CurrentSet}
+use Rattle.upd_apply.specs.declared.state.InsertPoint.{InsertPoint}
+use Rattle.upd_apply.specs.declared.state.InsertPoint.TheVariants.{Nowhere, End, Inside}
 use Rattle.upd_apply.specs.declared.state.State.{State}
 use Rattle.upd_apply.specs.Step.{new_name, set_begun, deck_begun, behind, is_deck_card, placed_after, placed_before, switched, text_put, yank_put, ended}
 use Rattle.upd_apply.specs.Step.{purged_in_all}
 use Rattle.upd_apply.specs.Names.{is_reserved, known_deck, known_ident}
 use Rattle.upd_apply.specs.Purges.{AgesIn, pair_ages, pairs_purged}
-use Rattle.upd_laws.specs.Soundness.{IsNext, IsInHand, IsHandSound, IsAtEnd, IsSpotSound, IsSoundState}
+use Rattle.upd_laws.specs.Soundness.{IsNext, IsCurrentSet, IsHandSound, IsAtEnd, IsSpotSound, IsSoundState}
 use Rattle.upd_laws.proofs.SoundOutcomeLemmas.{each_all, through, through_need, through_refusal, through_grown, holds_of}
 use Rattle.upd_laws.proofs.SoundListLemmas.{same_number, is_same_number, other_number, any_last, all_append, all_weaker, HasMore, zip_all, zip_length}
 use Rattle.upd_laws.proofs.SoundIdentLemmas.{held_within, held_more, held_last, held_deck_last, held_deck_held, not_some}
@@ -68,34 +68,34 @@ set_sound name s t sound h =
     i = record { name = name; age = next_age s.library; kind = kind.Set; noprop = false; held = true }
 
     after : (held_named name s.library.idents ≡ None) × (is_reserved name ≡ false)
-        → IsSoundState (record { library = l; hand = Some (record { ident = next_age s.library; next = 1 }); spot = Nowhere })
+        → IsSoundState (record { library = l; current_set = Some (record { ident = next_age s.library; next = 1 }); insert_point = Nowhere })
     after free = record {
       library = introduced_sound name s.library sound.library free.0 free.1;
-      hand = record {
+      current_set = record {
         held = held_last s.library.idents i refl;
         youngest = yanks_below s.library (next_age s.library) (omega arith) sound.library;
         next =
             next_first (next_age s.library) l (all_weaker (λ (c : CardView). c.ident ≤ length s.library.idents) _ (all_cards s.library)
             (λ c h e. absurd (omega arith)) (none_beyond s.library sound.library));
       };
-      spot = tt;
+      insert_point = tt;
     }
 
 -- ---- the set in hand while the library changes
 
-hand_moved : (hand : Option Hand) (l m : LibraryView) → ((h : Hand) → IsInHand h l → IsInHand h m) → IsHandSound hand l → IsHandSound hand m
+hand_moved : (current_set : Option CurrentSet) (l m : LibraryView) → ((h : CurrentSet) → IsCurrentSet h l → IsCurrentSet h m) → IsHandSound current_set l → IsHandSound current_set m
 hand_moved None l m k h = tt
-hand_moved (Some hand) l m k h = k hand h
+hand_moved (Some current_set) l m k h = k current_set h
 
-hand_apart : (hand : Option Hand) (d : ℕ) (l m : LibraryView) → ((h : Hand) → (h.ident ≡ d → ⊥) → IsInHand h l → IsInHand h m)
-    → IfSome hand (λ h. h.ident ≡ d → ⊥) → IsHandSound hand l → IsHandSound hand m
+hand_apart : (current_set : Option CurrentSet) (d : ℕ) (l m : LibraryView) → ((h : CurrentSet) → (h.ident ≡ d → ⊥) → IsCurrentSet h l → IsCurrentSet h m)
+    → IfSome current_set (λ h. h.ident ≡ d → ⊥) → IsHandSound current_set l → IsHandSound current_set m
 hand_apart None d l m k other h = tt
-hand_apart (Some hand) d l m k other h = k hand other h
+hand_apart (Some current_set) d l m k other h = k current_set other h
 
-hand_is_not : (hand : Option Hand) (l : LibraryView) (d : ℕ) → ((h : Hand) → IsInHand h l → h.ident ≡ d → ⊥) → IsHandSound hand l
-    → IfSome hand (λ h. h.ident ≡ d → ⊥)
+hand_is_not : (current_set : Option CurrentSet) (l : LibraryView) (d : ℕ) → ((h : CurrentSet) → IsCurrentSet h l → h.ident ≡ d → ⊥) → IsHandSound current_set l
+    → IfSome current_set (λ h. h.ident ≡ d → ⊥)
 hand_is_not None l d k h = tt
-hand_is_not (Some hand) l d k h = k hand h
+hand_is_not (Some current_set) l d k h = k current_set h
 
 -- ---- a new deck
 
@@ -126,27 +126,27 @@ deck_begun_sound name sort noprop text s t deck sound h =
     held : is_held_deck l.idents a ≡ true
     held = held_deck_last s.library.idents i refl deck
 
-    in_hand_below : (h : Hand) → IsInHand h s.library → h.ident ≡ a → ⊥
+    in_hand_below : (h : CurrentSet) → IsCurrentSet h s.library → h.ident ≡ a → ⊥
     in_hand_below h in_hand same = let w = held_within 1 s.library.idents h.ident sound.library.ages in_hand.held in omega arith
 
-    in_hand_after : (h : Hand) → IsInHand h s.library → IsInHand h m
+    in_hand_after : (h : CurrentSet) → IsCurrentSet h s.library → IsCurrentSet h m
     in_hand_after h in_hand = record {
       held = held_more s.library.idents (i ∷ []) h.ident in_hand.held;
       youngest = in_hand.youngest;
       next = next_other h.ident h.next c s.library m (more_with_deck a c l) (λ same. in_hand_below h in_hand (sym same)) in_hand.next;
     }
 
-    after : (held_named name s.library.idents ≡ None) × (is_reserved name ≡ false) → IsSoundState (record s { library = m; spot = End a 2 })
+    after : (held_named name s.library.idents ≡ None) × (is_reserved name ≡ false) → IsSoundState (record s { library = m; insert_point = End a 2 })
     after free = record {
       library = deck_sound name sort noprop text s.library deck sound.library free.0 free.1;
-      hand = hand_moved s.hand s.library m in_hand_after sound.hand;
-      spot = record {
+      current_set = hand_moved s.current_set s.library m in_hand_after sound.current_set;
+      insert_point = record {
         held = held;
         standing = any_last (is_deck a) (all_decks l) d (is_same_number a a refl);
         next =
             next_own a 1 c l m (more_with_deck a c l) refl refl
             (next_first a l (all_weaker (λ (b : CardView). b.ident < a) _ (all_cards l) (λ b h e. absurd (omega arith)) (cards_below s.library sound.library)));
-        other = hand_is_not s.hand s.library a in_hand_below sound.hand;
+        other = hand_is_not s.current_set s.library a in_hand_below sound.current_set;
       };
     }
 
@@ -161,26 +161,26 @@ behind_within n i h = omega arith
 
 pub after_sound : (card : CardRef) (s t : State) → IsSoundState s → placed_after card s ≡ Ok t → IsSoundState t
 after_sound card s t sound h =
-    through_need fault.NoIdent s.hand _ t (IsSoundState t) h (λ hand e h1.
+    through_need fault.NoIdent s.current_set _ t (IsSoundState t) h (λ current_set e h1.
     through_need fault.CardUnknown (place_of card s.library) _ t (IsSoundState t) h1 (λ p f h2.
     through_refusal (p.deck == 0) fault.YankText _ t (IsSoundState t) h2 (λ g h3.
     holds_of IsSoundState _ t h3 (record {
       library = sound.library;
-      hand = sound.hand;
-      spot = inr (behind_within (length (cards_of p.deck s.library)) p.index (place_within card s.library p sound.library f));
+      current_set = sound.current_set;
+      insert_point = inr (behind_within (length (cards_of p.deck s.library)) p.index (place_within card s.library p sound.library f));
     }))))
 
 pub before_sound : (card : CardRef) (s t : State) → IsSoundState s → placed_before card s ≡ Ok t → IsSoundState t
 before_sound card s t sound h =
-    through_need fault.NoIdent s.hand _ t (IsSoundState t) h (λ hand e h1.
+    through_need fault.NoIdent s.current_set _ t (IsSoundState t) h (λ current_set e h1.
     through_need fault.CardUnknown (place_of card s.library) _ t (IsSoundState t) h1 (λ p f h2.
     through_refusal (p.deck == 0) fault.YankText _ t (IsSoundState t) h2 (λ g h3.
     through_refusal (is_deck_card p) fault.DeckCard _ t (IsSoundState t) h3 (λ k h4.
     let within = place_within card s.library p sound.library f in
     holds_of IsSoundState _ t h4 (record {
       library = sound.library;
-      hand = sound.hand;
-      spot = inr (up (length (cards_of p.deck s.library)) p.index within (later p g k));
+      current_set = sound.current_set;
+      insert_point = inr (up (length (cards_of p.deck s.library)) p.index within (later p g k));
     })))))
   where
     later : (p : Place) → (p.deck == 0) ≡ false → is_deck_card p ≡ false → 0 < p.index
@@ -204,13 +204,13 @@ or_not false b e = absurd (cc)
 
 pub switched_sound : (active : Bool) (first last : CardRef) (s t : State) → IsSoundState s → switched active first last s ≡ Ok t → IsSoundState t
 switched_sound active first last s t sound h =
-    through_need fault.NoIdent s.hand _ t (IsSoundState t) h (λ hand e h1.
+    through_need fault.NoIdent s.current_set _ t (IsSoundState t) h (λ current_set e h1.
     through_need fault.CardUnknown (place_of first s.library) _ t (IsSoundState t) h1 (λ p f h2.
     through_need fault.CardUnknown (place_of last s.library) _ t (IsSoundState t) h2 (λ q g h3.
     through_refusal (not (p.deck == q.deck) || nat_lt q.index p.index) fault.RangeOrder _ t (IsSoundState t) h3 (λ k h4.
     through_refusal (is_deck_card p) fault.DeckCard _ t (IsSoundState t) h4 (λ n h5.
-    through_grown (with_entries p.deck p.index q.index (record { ident = hand.ident; active = active }) s.library) _ t (IsSoundState t) h5 (λ h6.
-    holds_of IsSoundState _ t h6 (after hand p q e
+    through_grown (with_entries p.deck p.index q.index (record { ident = current_set.ident; active = active }) s.library) _ t (IsSoundState t) h5 (λ h6.
+    holds_of IsSoundState _ t h6 (after current_set p q e
     (same_number p.deck q.deck (not_or (p.deck == q.deck) (nat_lt q.index p.index) k))
     (in_order p q (or_not (p.deck == q.deck) (nat_lt q.index p.index) k))
     (place_within last s.library q sound.library g))))))))
@@ -218,27 +218,27 @@ switched_sound active first last s t sound h =
     in_order : (p q : Place) → nat_lt q.index p.index ≡ false → p.index ≤ q.index
     in_order p q e = grind (arith, nat_tests)
 
-    after : (hand : Hand) (p q : Place) → s.hand ≡ Some hand → p.deck ≡ q.deck → p.index ≤ q.index → q.index < length (cards_of q.deck s.library)
+    after : (current_set : CurrentSet) (p q : Place) → s.current_set ≡ Some current_set → p.deck ≡ q.deck → p.index ≤ q.index → q.index < length (cards_of q.deck s.library)
         → IsSoundState (record s {
-          library = with_entries p.deck p.index q.index (record { ident = hand.ident; active = active }) s.library;
-          spot = Inside q.deck (behind q s.library);
+          library = with_entries p.deck p.index q.index (record { ident = current_set.ident; active = active }) s.library;
+          insert_point = Inside q.deck (behind q s.library);
         })
-    after hand p q e deck order within =
-        let was : IsInHand hand s.library = subst (λ o. IsHandSound o s.library) e sound.hand in
+    after current_set p q e deck order within =
+        let was : IsCurrentSet current_set s.library = subst (λ o. IsHandSound o s.library) e sound.current_set in
         record {
           library = entries_sound p.deck p.index q.index entry s.library sound.library order was.held was.youngest;
-          hand = subst (λ o. IsHandSound o l) (sym e) (record {
-            held = subst (λ idents. IsTrue (is_held idents hand.ident)) (sym (idents_with p.deck change s.library)) was.held;
-            youngest = yanks_kept (λ (c : CardView). c.ident ≤ hand.ident) p.deck change s.library
-                (zip_all (IsEntered entry) (λ (c : CardView). c.ident ≤ hand.ident) (λ c. c.ident ≤ hand.ident) s.library.yanks _
+          current_set = subst (λ o. IsHandSound o l) (sym e) (record {
+            held = subst (λ idents. IsTrue (is_held idents current_set.ident)) (sym (idents_with p.deck change s.library)) was.held;
+            youngest = yanks_kept (λ (c : CardView). c.ident ≤ current_set.ident) p.deck change s.library
+                (zip_all (IsEntered entry) (λ (c : CardView). c.ident ≤ current_set.ident) (λ c. c.ident ≤ current_set.ident) s.library.yanks _
                 (λ x y r h. rw (same_ident entry x y r) h) (some s.library.yanks) was.youngest) was.youngest;
-            next = next_entered hand.ident hand.next entry s.library l (zip_with_entries p.deck p.index q.index entry s.library order) was.next;
+            next = next_entered current_set.ident current_set.next entry s.library l (zip_with_entries p.deck p.index q.index entry s.library order) was.next;
           });
-          spot = inr (subst (λ d. behind q s.library < length (cards_of d l)) deck same_deck);
+          insert_point = inr (subst (λ d. behind q s.library < length (cards_of d l)) deck same_deck);
         }
       where
         entry : Entry
-        entry = record { ident = hand.ident; active = active }
+        entry = record { ident = current_set.ident; active = active }
 
         change : List CardView → List CardView
         change cards = take p.index cards ++ map (entered entry) (drop p.index (take (q.index + 1) cards)) ++ drop (q.index + 1) cards
@@ -262,8 +262,8 @@ switched_sound active first last s t sound h =
 
 -- ---- text
 
-hand_card : (d after : ℕ) (c : CardView) (l : LibraryView) (h : Hand) (n : ℕ) → (d ≡ 0 → ⊥) → IsInHand h l → IsNext h.ident n (with_card d after c l)
-    → IsInHand (record { ident = h.ident; next = n }) (with_card d after c l)
+hand_card : (d after : ℕ) (c : CardView) (l : LibraryView) (h : CurrentSet) (n : ℕ) → (d ≡ 0 → ⊥) → IsCurrentSet h l → IsNext h.ident n (with_card d after c l)
+    → IsCurrentSet (record { ident = h.ident; next = n }) (with_card d after c l)
 hand_card d after c l h n other in_hand next =
     let change : List CardView → List CardView = λ cards. insert cards (length cards - after) c in
     record {
@@ -273,7 +273,7 @@ hand_card d after c l h n other in_hand next =
     }
 
 -- at the end of a deck
-end_sound : (text : List ℕ) (d n : ℕ) (s t : State) → IsSoundState s → IsAtEnd d n s.hand s.library → text_put text (End d n) s ≡ Ok t → IsSoundState t
+end_sound : (text : List ℕ) (d n : ℕ) (s t : State) → IsSoundState s → IsAtEnd d n s.current_set s.library → text_put text (End d n) s ≡ Ok t → IsSoundState t
 end_sound text d n s t sound at h = through_grown m _ t (IsSoundState t) h (λ h1. holds_of IsSoundState _ t h1 after)
   where
     l : LibraryView
@@ -294,14 +294,14 @@ end_sound text d n s t sound at h = through_grown m _ t (IsSoundState t) h (λ h
     more : HasMore c (all_cards l) (all_cards m)
     more = more_with_card d 0 c l at.standing
 
-    in_hand_after : (h : Hand) → (h.ident ≡ d → ⊥) → IsInHand h l → IsInHand h m
+    in_hand_after : (h : CurrentSet) → (h.ident ≡ d → ⊥) → IsCurrentSet h l → IsCurrentSet h m
     in_hand_after h other in_hand = hand_card d 0 c l h h.next positive in_hand (next_other h.ident h.next c l m more (λ e. other (sym e)) in_hand.next)
 
-    after : IsSoundState (record s { library = m; spot = End d (n + 1) })
+    after : IsSoundState (record s { library = m; insert_point = End d (n + 1) })
     after = record {
       library = card_sound d 0 c l sound.library at.standing positive (next_new d n text [] l (held_deck_held l.idents d at.held) at.next) refl (inl refl);
-      hand = hand_apart s.hand d l m in_hand_after at.other sound.hand;
-      spot = record {
+      current_set = hand_apart s.current_set d l m in_hand_after at.other sound.current_set;
+      insert_point = record {
         held = subst (λ idents. IsTrue (is_held_deck idents d)) (sym (idents_with d change l)) at.held;
         standing = standing_with d change l ∙ at.standing;
         next = next_own d n c l m more refl refl at.next;
@@ -310,13 +310,13 @@ end_sound text d n s t sound at h = through_grown m _ t (IsSoundState t) h (λ h
     }
 
 -- inside a deck
-inside_sound : (text : List ℕ) (d after : ℕ) (s t : State) → IsSoundState s → s.spot ≡ Inside d after → (d ≡ 0) ⊎ (after < length (cards_of d s.library))
+inside_sound : (text : List ℕ) (d after : ℕ) (s t : State) → IsSoundState s → s.insert_point ≡ Inside d after → (d ≡ 0) ⊎ (after < length (cards_of d s.library))
     → text_put text (Inside d after) s ≡ Ok t → IsSoundState t
-inside_sound text d after s t sound spot place h =
-    through_need fault.TextNowhere s.hand _ t (IsSoundState t) h (λ hand e h1.
+inside_sound text d after s t sound insert_point place h =
+    through_need fault.TextNowhere s.current_set _ t (IsSoundState t) h (λ current_set e h1.
     through_refusal (d == 0) fault.YankText _ t (IsSoundState t) h1 (λ f h2.
-    through_grown (with_card d after (new_card hand.ident hand.next text []) s.library) _ t (IsSoundState t) h2 (λ h3.
-    holds_of IsSoundState _ t h3 (put hand e (other_number d 0 f) (within f place)))))
+    through_grown (with_card d after (new_card current_set.ident current_set.next text []) s.library) _ t (IsSoundState t) h2 (λ h3.
+    holds_of IsSoundState _ t h3 (put current_set e (other_number d 0 f) (within f place)))))
   where
     l : LibraryView
     l = s.library
@@ -325,22 +325,22 @@ inside_sound text d after s t sound spot place h =
     within f (inl zero) = absurd (other_number d 0 f zero)
     within f (inr inside) = inside
 
-    put : (hand : Hand) → s.hand ≡ Some hand → (d ≡ 0 → ⊥) → after < length (cards_of d l)
+    put : (current_set : CurrentSet) → s.current_set ≡ Some current_set → (d ≡ 0 → ⊥) → after < length (cards_of d l)
         → IsSoundState (record s {
-          library = with_card d after (new_card hand.ident hand.next text []) l;
-          hand = Some (record { ident = hand.ident; next = hand.next + 1 });
+          library = with_card d after (new_card current_set.ident current_set.next text []) l;
+          current_set = Some (record { ident = current_set.ident; next = current_set.next + 1 });
         })
-    put hand e other inside =
-        let was : IsInHand hand l = subst (λ o. IsHandSound o l) e sound.hand in
+    put current_set e other inside =
+        let was : IsCurrentSet current_set l = subst (λ o. IsHandSound o l) e sound.current_set in
         let more = more_with_card d after c l stands_there in
         record {
-          library = card_sound d after c l sound.library stands_there other (next_new hand.ident hand.next text [] l was.held was.next) refl (inr inside);
-          hand = hand_card d after c l hand (hand.next + 1) other was (next_own hand.ident hand.next c l m more refl refl was.next);
-          spot = subst (λ spot. IsSpotSound spot (Some (record { ident = hand.ident; next = hand.next + 1 })) m) (sym spot) (inr longer);
+          library = card_sound d after c l sound.library stands_there other (next_new current_set.ident current_set.next text [] l was.held was.next) refl (inr inside);
+          current_set = hand_card d after c l current_set (current_set.next + 1) other was (next_own current_set.ident current_set.next c l m more refl refl was.next);
+          insert_point = subst (λ insert_point. IsSpotSound insert_point (Some (record { ident = current_set.ident; next = current_set.next + 1 })) m) (sym insert_point) (inr longer);
         }
       where
         c : CardView
-        c = new_card hand.ident hand.next text []
+        c = new_card current_set.ident current_set.next text []
 
         m : LibraryView
         m = with_card d after c l
@@ -355,13 +355,13 @@ inside_sound text d after s t sound spot place h =
             let f = length-insert cards (length cards - after) c (omega arith) in
             omega arith
 
-text_sound : (text : List ℕ) (s t : State) (spot : Spot) → s.spot ≡ spot → IsSoundState s → text_put text spot s ≡ Ok t → IsSoundState t
+text_sound : (text : List ℕ) (s t : State) (insert_point : InsertPoint) → s.insert_point ≡ insert_point → IsSoundState s → text_put text insert_point s ≡ Ok t → IsSoundState t
 text_sound text s t Nowhere e sound h = absurd (cc)
-text_sound text s t (End d n) e sound h = end_sound text d n s t sound (subst (λ spot. IsSpotSound spot s.hand s.library) e sound.spot) h
-text_sound text s t (Inside d after) e sound h = inside_sound text d after s t sound e (subst (λ spot. IsSpotSound spot s.hand s.library) e sound.spot) h
+text_sound text s t (End d n) e sound h = end_sound text d n s t sound (subst (λ insert_point. IsSpotSound insert_point s.current_set s.library) e sound.insert_point) h
+text_sound text s t (Inside d after) e sound h = inside_sound text d after s t sound e (subst (λ insert_point. IsSpotSound insert_point s.current_set s.library) e sound.insert_point) h
 
-pub put_sound : (text : List ℕ) (s t : State) → IsSoundState s → text_put text s.spot s ≡ Ok t → IsSoundState t
-put_sound text s t sound h = text_sound text s t s.spot refl sound h
+pub put_sound : (text : List ℕ) (s t : State) → IsSoundState s → text_put text s.insert_point s ≡ Ok t → IsSoundState t
+put_sound text s t sound h = text_sound text s t s.insert_point refl sound h
 
 -- ---- yanks
 
@@ -369,30 +369,30 @@ pub yank_put_sound : (text : List ℕ) (targets : ℕ → LibraryView → Result
     → ((z : ℕ) (l : LibraryView) (found : List Target) → AreAgedFrom 1 l.idents → targets z l ≡ Ok found → AreYanked z found)
     → IsSoundState s → yank_put text targets s ≡ Ok t → IsSoundState t
 yank_put_sound text targets s t are sound h =
-    through_need fault.NoIdent s.hand _ t (IsSoundState t) h (λ hand e h1.
-    through (targets hand.ident s.library) _ t (IsSoundState t) h1 (λ found f h2.
-    through_grown (with_yank (new_card hand.ident hand.next text found) s.library) _ t (IsSoundState t) h2 (λ h3.
-    holds_of IsSoundState _ t h3 (put hand found (subst (λ o. IsHandSound o s.library) e sound.hand) (are hand.ident s.library found sound.library.ages f)))))
+    through_need fault.NoIdent s.current_set _ t (IsSoundState t) h (λ current_set e h1.
+    through (targets current_set.ident s.library) _ t (IsSoundState t) h1 (λ found f h2.
+    through_grown (with_yank (new_card current_set.ident current_set.next text found) s.library) _ t (IsSoundState t) h2 (λ h3.
+    holds_of IsSoundState _ t h3 (put current_set found (subst (λ o. IsHandSound o s.library) e sound.current_set) (are current_set.ident s.library found sound.library.ages f)))))
   where
     l : LibraryView
     l = s.library
 
-    put : (hand : Hand) (found : List Target) → IsInHand hand l → AreYanked hand.ident found
+    put : (current_set : CurrentSet) (found : List Target) → IsCurrentSet current_set l → AreYanked current_set.ident found
         → IsSoundState (record {
-          library = with_yank (new_card hand.ident hand.next text found) l;
-          hand = Some (record { ident = hand.ident; next = hand.next + 1 });
-          spot = Nowhere;
+          library = with_yank (new_card current_set.ident current_set.next text found) l;
+          current_set = Some (record { ident = current_set.ident; next = current_set.next + 1 });
+          insert_point = Nowhere;
         })
-    put hand found was yanked = record {
-      library = yank_sound hand.ident hand.next text found l sound.library (next_new hand.ident hand.next text found l was.held was.next) was.youngest yanked;
-      hand = record {
+    put current_set found was yanked = record {
+      library = yank_sound current_set.ident current_set.next text found l sound.library (next_new current_set.ident current_set.next text found l was.held was.next) was.youngest yanked;
+      current_set = record {
         held = was.held;
-        youngest = all_append (λ (c : CardView). c.ident ≤ hand.ident) l.yanks (new_card hand.ident hand.next text found ∷ []) was.youngest (omega arith, tt);
+        youngest = all_append (λ (c : CardView). c.ident ≤ current_set.ident) l.yanks (new_card current_set.ident current_set.next text found ∷ []) was.youngest (omega arith, tt);
         next =
-            next_own hand.ident hand.next (new_card hand.ident hand.next text found) l (with_yank (new_card hand.ident hand.next text found) l)
-            (more_with_yank (new_card hand.ident hand.next text found) l) refl refl was.next;
+            next_own current_set.ident current_set.next (new_card current_set.ident current_set.next text found) l (with_yank (new_card current_set.ident current_set.next text found) l)
+            (more_with_yank (new_card current_set.ident current_set.next text found) l) refl refl was.next;
       };
-      spot = tt;
+      insert_point = tt;
     }
 
 -- ---- purges
@@ -415,4 +415,4 @@ purged_in_all_sound [] l others s = s
 purged_in_all_sound (a ∷ ages) l others s = purged_in_all_sound ages (purged_in a.deck a.ident l) others.1 (purged_in_sound a.deck a.ident l others.0 s)
 
 pub ended_sound : (l : LibraryView) → IsSound l → IsSoundState (ended l)
-ended_sound l s = record { library = s; hand = tt; spot = tt }
+ended_sound l s = record { library = s; current_set = tt; insert_point = tt }

@@ -6,9 +6,9 @@ use Rattle.upd_text.specs.declared.fault.Fault.{Fault}
 use Rattle.upd_core.specs.Library.{LibraryView, cards_of}
 use Rattle.upd_core.specs.Sound.{IsSound, all_cards, is_held, is_held_deck, stands}
 use Rattle.upd_deck.specs.Items.{LineView}
-use Rattle.upd_apply.specs.declared.Hand.{Hand}
-use Rattle.upd_apply.specs.declared.state.Spot.{Spot}
-use Rattle.upd_apply.specs.declared.state.Spot.TheVariants.{Nowhere, End, Inside}
+use Rattle.upd_apply.specs.declared.CurrentSet.{CurrentSet}
+use Rattle.upd_apply.specs.declared.state.InsertPoint.{InsertPoint}
+use Rattle.upd_apply.specs.declared.state.InsertPoint.TheVariants.{Nowhere, End, Inside}
 use Rattle.upd_apply.specs.declared.state.State.{State}
 use Rattle.upd_apply.specs.Applying.{Reached, applied}
 
@@ -24,34 +24,34 @@ pub record IsNext (ident n : ℕ) (l : LibraryView) : Type 0 where
   pub above : AllByRecursion (λ c. c.ident ≡ ident → c.number < n) (all_cards l)
 
 -- The set in hand is held, and at least as young as the ident of any yank card.
-pub record IsInHand (hand : Hand) (l : LibraryView) : Type 0 where
-  pub held : IsTrue (is_held l.idents hand.ident)
-  pub youngest : AllByRecursion (λ c. c.ident ≤ hand.ident) l.yanks
-  pub next : IsNext hand.ident hand.next l
+pub record IsCurrentSet (current_set : CurrentSet) (l : LibraryView) : Type 0 where
+  pub held : IsTrue (is_held l.idents current_set.ident)
+  pub youngest : AllByRecursion (λ c. c.ident ≤ current_set.ident) l.yanks
+  pub next : IsNext current_set.ident current_set.next l
 
 -- the set in hand, if there is one
-abbrev pub IsHandSound : Option Hand → LibraryView → Type 0
+abbrev pub IsHandSound : Option CurrentSet → LibraryView → Type 0
 IsHandSound None l = Unit {0}
-IsHandSound (Some hand) l = IsInHand hand l
+IsHandSound (Some current_set) l = IsCurrentSet current_set l
 
 -- A deck whose end takes text is held and stands, and it is not the ident in hand.
-pub record IsAtEnd (d n : ℕ) (hand : Option Hand) (l : LibraryView) : Type 0 where
+pub record IsAtEnd (d n : ℕ) (current_set : Option CurrentSet) (l : LibraryView) : Type 0 where
   pub held : IsTrue (is_held_deck l.idents d)
   pub standing : IsTrue (stands d l)
   pub next : IsNext d n l
-  pub other : IfSome hand (λ h. h.ident ≡ d → ⊥)
+  pub other : IfSome current_set (λ h. h.ident ≡ d → ⊥)
 
 -- Text inside a deck never goes before its first card.
-abbrev pub IsSpotSound : Spot → Option Hand → LibraryView → Type 0
-IsSpotSound Nowhere hand l = Unit {0}
-IsSpotSound (End d next) hand l = IsAtEnd d next hand l
-IsSpotSound (Inside d behind) hand l = (d ≡ 0) ⊎ (behind < length (cards_of d l))
+abbrev pub IsSpotSound : InsertPoint → Option CurrentSet → LibraryView → Type 0
+IsSpotSound Nowhere current_set l = Unit {0}
+IsSpotSound (End d next) current_set l = IsAtEnd d next current_set l
+IsSpotSound (Inside d behind) current_set l = (d ≡ 0) ⊎ (behind < length (cards_of d l))
 
 -- what holds of a state on the way of a run
 pub record IsSoundState (s : State) : Type 0 where
   pub library : IsSound s.library
-  pub hand : IsHandSound s.hand s.library
-  pub spot : IsSpotSound s.spot s.hand s.library
+  pub current_set : IsHandSound s.current_set s.library
+  pub insert_point : IsSpotSound s.insert_point s.current_set s.library
 
 -- ---- libraries
 

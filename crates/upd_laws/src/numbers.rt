@@ -3,8 +3,8 @@ ghost use Rattle.std.specs.Prelude.{◌≡◌, ℕ, ◌+◌, List, Ok, Some};
 ghost use Rattle.upd_core.specs.Library.{LibraryView};
 ghost use Rattle.upd_core.specs.Sound.{IsSound};
 ghost use Rattle.upd_deck.specs.Items.{LineView};
-ghost use Rattle.upd_apply.specs.declared.Hand.{Hand};
-ghost use Rattle.upd_apply.specs.declared.state.Spot.TheVariants.{End};
+ghost use Rattle.upd_apply.specs.declared.CurrentSet.{CurrentSet};
+ghost use Rattle.upd_apply.specs.declared.state.InsertPoint.TheVariants.{End};
 ghost use Rattle.upd_apply.specs.declared.state.State.{State};
 ghost use Rattle.upd_apply.specs.Applying.{started, stepped};
 ghost use Rattle.upd_laws.specs.Soundness.{count_of};
@@ -12,10 +12,10 @@ ghost use Rattle.upd_laws.specs.Soundness.{count_of};
 /// The number that a run gives to the next card of the set in hand, or of the deck whose end takes text, is one more
 /// than the number of cards that the library has of it.
 pub fn next_numbers_count_cards()
-    ensures hand { (lines : List LineView) (l : LibraryView) (s : State) (hand : Hand) → IsSound l
+    ensures current_set { (lines : List LineView) (l : LibraryView) (s : State) (current_set : CurrentSet) → IsSound l
         → stepped lines (started l) ≡ Ok s
-        → s.hand ≡ Some hand → hand.next ≡ count_of hand.ident s.library + 1 }
+        → s.current_set ≡ Some current_set → current_set.next ≡ count_of current_set.ident s.library + 1 }
     ensures end { (lines : List LineView) (l : LibraryView) (s : State) (d next : ℕ) → IsSound l
         → stepped lines (started l) ≡ Ok s
-        → s.spot ≡ End d next → next ≡ count_of d s.library + 1 }
+        → s.insert_point ≡ End d next → next ≡ count_of d s.library + 1 }
 {}

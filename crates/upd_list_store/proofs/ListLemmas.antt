@@ -8,7 +8,7 @@ use Rattle.std.proofs.lemmas.List.{drop_more}
 use Rattle.upd_core.specs.declared.change.Change.{Change}
 use Rattle.upd_records.specs.Rows.{CardRow, Rows}
 use Rattle.upd_records.specs.Changes.{ChangeView, IdentNew, IdentPurged, CardNew, CardGone, CardsMoved, EntryNew, EntriesGone, TargetNew, TargetsGone}
-use Rattle.upd_records.specs.Changes.{StatusNow, CountNow, change_seen, done, done_all, moved_row, shifted}
+use Rattle.upd_records.specs.Changes.{StatusNow, CountNow, change_view, done, done_all, moved_row, shifted}
 use Rattle.upd_records.specs.Fits.{AllFit, CanMove, Fits}
 use Rattle.upd_list_store.specs.Lists.{carried, kept_place, kept_row}
 
@@ -50,11 +50,11 @@ carried_fits (CountNow target n) rows fit = refl
 
 -- the changes from the next one on, where the tables are fit for all of them
 pub next_change : (cs : List Change) (i : ℕ) (d x : Change) (rows next : Rows) → i < length cs → x ≡ get_or cs i d
-    → next ≡ carried (change_seen x) rows → AllFit (map change_seen (drop i cs)) rows
-    → AllFit (map change_seen (drop (i + 1) cs)) next
-    × (done_all (map change_seen (drop (i + 1) cs)) next ≡ done_all (map change_seen (drop i cs)) rows)
+    → next ≡ carried (change_view x) rows → AllFit (map change_view (drop i cs)) rows
+    → AllFit (map change_view (drop (i + 1) cs)) next
+    × (done_all (map change_view (drop (i + 1) cs)) next ≡ done_all (map change_view (drop i cs)) rows)
 next_change cs i d x rows next within read is_carried fit =
     let split : drop i cs ≡ x ∷ drop (i + 1) cs = drop_more cs i d within ∙ ap (λ y. y ∷ drop (i + 1) cs) (sym read) in
-    let fits : AllFit (map change_seen (x ∷ drop (i + 1) cs)) rows = rw split at fit in
-    let is : next ≡ done (change_seen x) rows = is_carried ∙ carried_fits (change_seen x) rows fits.0 in
+    let fits : AllFit (map change_view (x ∷ drop (i + 1) cs)) rows = rw split at fit in
+    let is : next ≡ done (change_view x) rows = is_carried ∙ carried_fits (change_view x) rows fits.0 in
     (rw is fits.1, rw (is, split) refl)

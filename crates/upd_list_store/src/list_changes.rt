@@ -3,7 +3,7 @@
 ghost use Rattle.std.specs.Prelude.{◌≡◌, not, map, OnOk};
 ghost use Rattle.std.specs.List.{filter};
 ghost use Rattle.upd_core.specs.Targets.{is_same};
-ghost use Rattle.upd_records.specs.Changes.{change_seen, done, done_all, purged_row};
+ghost use Rattle.upd_records.specs.Changes.{change_view, done, done_all, purged_row};
 ghost use Rattle.upd_records.specs.Changes.{CardNew, CardGone, CardsMoved, EntryNew, TargetNew, StatusNow, CountNow};
 ghost use Rattle.upd_records.specs.Fits.{AllFit};
 ghost use Rattle.upd_records.specs.Rows.{same_ref};
@@ -176,7 +176,7 @@ impl ListTables {
 
     /// Carries out one change; where memory runs out, it may be done in part.
     fn carry_out(&mut self, change: &Change) -> Result<(), AllocError>
-        ensures { OnOk result (self.new ≡ carried (change_seen change.now) self.old) }
+        ensures { OnOk result (self.new ≡ carried (change_view change.now) self.old) }
     {
         match change {
             Change::IdentNew(ident) => self.idents.push(*ident)?,
@@ -201,8 +201,8 @@ impl ListTables {
 
     /// Carries out changes in order; where memory runs out, they may be done in part.
     pub(crate) fn carry_out_all(&mut self, changes: &[Change]) -> Result<(), AllocError>
-        ensures { OnOk result (AllFit (map change_seen changes.now) self.old
-            → self.new ≡ done_all (map change_seen changes.now) self.old) }
+        ensures { OnOk result (AllFit (map change_view changes.now) self.old
+            → self.new ≡ done_all (map change_view changes.now) self.old) }
     {
         for change in changes {
             self.carry_out(change)?;

@@ -7,7 +7,7 @@ ghost use Rattle.std.specs.Vec.{vec_capacity, vec_len};
 ghost use Rattle.upd_core.specs.Actives.{actives_of};
 ghost use Rattle.upd_core.specs.Library.{LibraryView};
 ghost use Rattle.upd_core.specs.Sound.{IsSound, IsWhole};
-ghost use Rattle.upd_records.specs.Changes.{change_seen};
+ghost use Rattle.upd_records.specs.Changes.{change_view};
 ghost use Rattle.upd_records.specs.Fits.{AllFit};
 ghost use Rattle.upd_records.specs.Rows.{Rows, Shows, ShowsStates};
 ghost use Rattle.upd_row_store.specs.Asked.{decks_with};
@@ -217,8 +217,8 @@ impl ListTables {
         changes: &[Change],
         run: RunRow,
     ) -> Result<(), AllocError>
-        ensures done { OnOk result (AllFit (map change_seen changes.now) self.old
-            → self.new ≡ committed (map change_seen changes.now) run self.old) }
+        ensures done { OnOk result (AllFit (map change_view changes.now) self.old
+            → self.new ≡ committed (map change_view changes.now) run self.old) }
         ensures undone { OnErr result (self.new ≡ self.old) }
     {
         let mut tables = self.copy(alloc)?;

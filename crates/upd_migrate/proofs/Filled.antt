@@ -8,7 +8,7 @@ use Rattle.upd_core.specs.Sound.{IsSound, IsWhole}
 use Rattle.upd_records.specs.Changes.{ChangeView, done_all}
 use Rattle.upd_records.specs.Fits.{AllFit}
 use Rattle.upd_records.specs.Rows.{Rows, Shows, ShowsStates}
-use Rattle.upd_diff.specs.States.{tells_state}
+use Rattle.upd_diff.specs.States.{row_changes_state}
 use Rattle.upd_diff.proofs.FitLemmas.{states_fit}
 use Rattle.upd_row_store.specs.Assembling.{AreRowsOf}
 use Rattle.upd_records.specs.declared.rows.LibraryRows.{LibraryRows}
@@ -22,13 +22,13 @@ use Rattle.upd_sql.proofs.MakingLemmas.{leads_then}
 use Rattle.upd_migrate.specs.declared.version.Version.TheVariants.{First}
 use Rattle.upd_migrate.specs.Migrated.{AreLibraryRows, IsFilled, IsMigrated, StandsAfter, completed}
 use Rattle.upd_migrate.specs.Older.{schema_of, stored_in}
-use Rattle.upd_migrate.proofs.Told.{all_else_stays}
+use Rattle.upd_migrate.proofs.RowChanges.{all_else_stays}
 
 -- what is read is told, and what is told is carried out
 pub states_filled : (l library : LibraryView) (it : Rows) (cs : List ChangeView) (old mid new : State) (rows : LibraryRows) {X : Type 0} (r : Result X Error)
     → AreLibraryRows l it → Looks AreRowsOf old mid (Ok rows)
     → ((tables : Rows) (m : LibraryView) → IsSound m → IsWhole m → Shows tables m → AreRowsOf tables rows → library ≡ m)
-    → (IsSound library → ShowsStates (done_all cs it) library) → AllByRecursion (λ c. tells_state c ≡ true) cs
+    → (IsSound library → ShowsStates (done_all cs it) library) → AllByRecursion (λ c. row_changes_state c ≡ true) cs
     → Makes Stands (AllFit cs) (done_all cs) mid new r → Leads (Stands it) (StandsAfter (IsFilled l it)) old new r
 states_filled l library it cs old mid new rows (Ok x) lib looks assembles tells only makes = record {
   steps = steps_then old mid new rows (Ok x) looks.steps makes.steps;

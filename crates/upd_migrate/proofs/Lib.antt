@@ -1,6 +1,6 @@
 pub mod Versions
 pub mod Completed
 pub mod Loaded
-pub mod Told
+pub mod RowChanges
 pub mod Filled
 pub mod Migrates

@@ -3,9 +3,9 @@ ghost use Rattle.std.specs.Prelude.{◌≡◌, [], map, true, IfOk};
 ghost use Rattle.std.specs.List.{AllByRecursion};
 ghost use Rattle.std.specs.Result.{IsOkUnless};
 ghost use Rattle.upd_core.specs.Sound.{IsSound};
-ghost use Rattle.upd_records.specs.Changes.{change_seen, done_all};
+ghost use Rattle.upd_records.specs.Changes.{change_view, done_all};
 ghost use Rattle.upd_records.specs.Rows.{Rows, ShowsStates};
-ghost use Rattle.upd_diff.specs.States.{tells_state};
+ghost use Rattle.upd_diff.specs.States.{row_changes_state};
 ghost use Rattle.upd_text.specs.Faults.{fault_at};
 ghost use Rattle.upd_text.specs.declared.fault.FaultKind.TheVariants.{NoMemory};
 
@@ -20,9 +20,9 @@ use upd_yank::Cache;
 /// one run that brought it all. Memory alone can fail, where there are 2^32 yank cards or more as well.
 pub(crate) fn statuses(alloc: Global, library: &Library) -> Result<Vec<Change>, Fault>
     ensures states { IsSound library.now → (rows : Rows) → rows.states ≡ [] → rows.counts ≡ [] → IfOk result
-        (λ changes. ShowsStates (done_all (map change_seen changes.items) rows) library.now) }
+        (λ changes. ShowsStates (done_all (map change_view changes.items) rows) library.now) }
     ensures only { IfOk result (λ changes.
-        AllByRecursion (λ c. tells_state c ≡ true) (map change_seen changes.items)) }
+        AllByRecursion (λ c. row_changes_state c ≡ true) (map change_view changes.items)) }
     ensures err { IsOkUnless result (fault_at NoMemory 0) }
 {
     if u32::try_from(library.yanks().len()).is_err() {

@@ -58,7 +58,7 @@ pub(crate) fn known_version<S: Rising>(conn: &mut Connection<S>) -> Result<Versi
     ensures outside { conn.new.in_transaction ≡ false }
     ensures found { IfOk result (λ version. IsTrue (state S.Store conn.new).is_open
         → (state S.Store conn.new).committed.schema ≡ schema_of version) }
-    ensures told { IfOk result (λ version. HasCleanDisk (state S.Store conn.new) → (v : ℕ)
+    ensures row_changes { IfOk result (λ version. HasCleanDisk (state S.Store conn.new) → (v : ℕ)
         → TellsVersion v (state S.Store conn.old).committed → v ≡ number_of version) }
     ensures fault { IfErr result (λ e. HasCleanDisk (state S.Store conn.new) → (v : ℕ)
         → TellsVersion v (state S.Store conn.old).committed → (e.at ≡ v) ⊎ (e.at ≡ 0)) }

@@ -30,11 +30,11 @@ fn text_of(alloc: Global, text: &[u8]) -> Result<String, Fail> {
 
 /// Texts one behind the other.
 fn joined(alloc: Global, texts: &[Vec<u8>]) -> Result<String, Fail> {
-    let mut told = String::new(alloc);
+    let mut row_changes = String::new(alloc);
     for text in texts {
-        told.push_str(std::str::from_utf8(text)?)?;
+        row_changes.push_str(std::str::from_utf8(text)?)?;
     }
-    Ok(told)
+    Ok(row_changes)
 }
 
 /// The listings of idents, of deck A and of yanks.

@@ -44,7 +44,7 @@ decks_same out lines l =
 
 ran : (out : ℕ → Bool) (lines : List LineView) (l : LibraryView) → IsSound l → DoesWithout out lines l → Runs out lines (started l)
 ran out lines l sound does =
-    runs out lines (started l) (record { fresh = does.listed; spot = tt }) (sound_listed out l sound) does.plain (none_in out lines l sound does.cards)
+    runs out lines (started l) (record { fresh = does.listed; insert_point = tt }) (sound_listed out l sound) does.plain (none_in out lines l sound does.cards)
 
 -- what is behind the lines
 abbrev finish : List LineView → LibraryView → State → Result Reached Fault

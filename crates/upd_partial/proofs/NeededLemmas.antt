@@ -40,11 +40,11 @@ abbrev Tells : ℕ → List DeckView → Type 0
 Tells z ds = is_among (map (λ d. d.ident) ds) z ≡ true
 
 -- the deck of an age that holds a card which is asked for is told
-deck_told : (cards : List CardRef) (idents : List Ident) (ds : List DeckView) (z k : ℕ) (c : CardView)
+deck_changes : (cards : List CardRef) (idents : List Ident) (ds : List DeckView) (z k : ℕ) (c : CardView)
     → slice_get (option_map_or (λ (d : DeckView). d.cards) (find (is_deck z) ds) []) k ≡ Some c → is_asked cards (ref_of idents c) ≡ true
     → Tells z (filter (holds_one cards idents) ds)
-deck_told cards idents [] z k c e asked = absurd (cc)
-deck_told cards idents (d ∷ ds) z k c e asked = go (d.ident == z) refl (holds_one cards idents d) refl (λ e. deck_told cards idents ds z k c e asked)
+deck_changes cards idents [] z k c e asked = absurd (cc)
+deck_changes cards idents (d ∷ ds) z k c e asked = go (d.ident == z) refl (holds_one cards idents d) refl (λ e. deck_changes cards idents ds z k c e asked)
   where
     here : (d.ident == z) ≡ true → holds_one cards idents d ≡ true
     here own = any_at (λ c. is_asked cards (ref_of idents c)) d.cards k c (rw own at e) asked
@@ -62,9 +62,9 @@ asked_own : (cards : List CardRef) (k : ℕ) (card : CardRef) → slice_get card
 asked_own cards k card e = any_at (λ c. same_ref c card) cards k card e (same_ref_own card)
 
 -- the deck where a card stands that is asked for is `YANK$$$`, or one of those that are told
-pub told_or_yank : (cards : List CardRef) (l : LibraryView) (card : CardRef) (p : Place) → IsSound l → is_asked cards card ≡ true
+pub row_changes_or_yank : (cards : List CardRef) (l : LibraryView) (card : CardRef) (p : Place) → IsSound l → is_asked cards card ≡ true
     → place_of card l ≡ Some p → is_left_out (decks_with cards l) l p.deck ≡ false
-told_or_yank cards l card p sound asked at = go (0 == p.deck) refl (p.deck == 0) refl
+row_changes_or_yank cards l card p sound asked at = go (0 == p.deck) refl (p.deck == 0) refl
   where
     found : (c : CardView) × (card_in p l ≡ Some c) × (ref_of l.idents c ≡ card)
     found = card_of_place l card p sound at
@@ -73,7 +73,7 @@ told_or_yank cards l card p sound asked at = go (0 == p.deck) refl (p.deck == 0)
     among other = by found
       where
         by : (c : CardView) × (card_in p l ≡ Some c) × (ref_of l.idents c ≡ card) → is_among (decks_with cards l) p.deck ≡ true
-        by (c, stands, is) = deck_told cards l.idents l.decks p.deck p.index c (rw other at stands) (subst (λ r. is_asked cards r ≡ true) (sym is) asked)
+        by (c, stands, is) = deck_changes cards l.idents l.decks p.deck p.index c (rw other at stands) (subst (λ r. is_asked cards r ≡ true) (sym is) asked)
 
     end : (a b : Bool) → (a && b && not true) ≡ false
     end true true = refl
@@ -83,7 +83,7 @@ told_or_yank cards l card p sound asked at = go (0 == p.deck) refl (p.deck == 0)
     go : (x : Bool) → (0 == p.deck) ≡ x → (y : Bool) → (p.deck == 0) ≡ y → is_left_out (decks_with cards l) l p.deck ≡ false
     go x e true f = rw f refl
     go true e false f = absurd (let same : p.deck ≡ 0 = sym (same_number 0 p.deck e) in let bad : (p.deck == 0) ≡ true = grind (arith, nat_tests) in cc)
-    go false e false f = let told = among e in rw told (end (not (p.deck == 0)) (nat_le p.deck (length l.idents)))
+    go false e false f = let row_changes = among e in rw row_changes (end (not (p.deck == 0)) (nat_le p.deck (length l.idents)))
 
 -- a run that names cards can do without the decks that hold none of them
 pub others_unnamed : (lines : List LineView) (l : LibraryView) → IsSound l → NamesNone (is_left_out (decks_with (cards_named lines) l) l) lines l
@@ -97,7 +97,7 @@ others_unnamed lines l sound = all_weaker _ _ lines (λ line all. all_weaker _ _
         (all_by_index cards (λ k card. asked_own cards k card))
 
     unnamed : (card : CardRef) → is_asked cards card ≡ true → (p : Place) → place_of card l ≡ Some p → is_left_out (decks_with cards l) l p.deck ≡ false
-    unnamed card is p at = told_or_yank cards l card p sound is at
+    unnamed card is p at = row_changes_or_yank cards l card p sound is at
 
 -- ---- a card alone
 
@@ -106,11 +106,11 @@ pub card_placed : (card : CardRef) (l : LibraryView) → IsSound l
     → place_of card (part (is_left_out (decks_with (card ∷ []) l) l) l) ≡ place_of card l
 card_placed card l sound =
     place_same (is_left_out (decks_with (card ∷ []) l) l) l card refl (not_in (is_left_out (decks_with (card ∷ []) l) l) l card sound
-    (λ p at. told_or_yank (card ∷ []) l card p sound (asked_own (card ∷ []) 0 card refl) at))
+    (λ p at. row_changes_or_yank (card ∷ []) l card p sound (asked_own (card ∷ []) 0 card refl) at))
 
 -- and its deck has the same cards there
 pub card_deck_kept : (card : CardRef) (l : LibraryView) (p : Place) → IsSound l → place_of card l ≡ Some p
     → cards_of p.deck (part (is_left_out (decks_with (card ∷ []) l) l) l) ≡ cards_of p.deck l
 card_deck_kept card l p sound at =
     cards_same (is_left_out (decks_with (card ∷ []) l) l) p.deck l
-    (told_or_yank (card ∷ []) l card p sound (asked_own (card ∷ []) 0 card refl) at)
+    (row_changes_or_yank (card ∷ []) l card p sound (asked_own (card ∷ []) 0 card refl) at)

@@ -17,17 +17,17 @@ use Rattle.upd_core.proofs.ApartLemmas.{all_by_index, all_of_contained, at_conta
 use Rattle.upd_core.proofs.FoundLemmas.{card_of_place, in_flat, place_at}
 use Rattle.upd_records.specs.Changes.{ChangeView, IdentNew, IdentPurged, CardNew, CardGone, CardsMoved, EntryNew, EntriesGone, TargetNew, TargetsGone}
 use Rattle.upd_records.specs.Changes.{StatusNow, CountNow, done, done_all}
-use Rattle.upd_diff.specs.Fates.{DeckFatesView, FateView, Kept, Gone, New, card_before}
+use Rattle.upd_diff.specs.CardDiffs.{DeckDiffView, CardDiffView, Kept, Gone, New, card_before}
 use Rattle.upd_records.specs.Rows.{CountRow, Rows, ShowsStates, StateRow, count_rows, same_ref, state_rows}
-use Rattle.upd_diff.specs.States.{takes_card, tells_state}
-use Rattle.upd_diff.specs.Told.{Told, begins, brought, cards_told, gone_of, idents_told, moves, targets_told}
+use Rattle.upd_diff.specs.States.{takes_card, row_changes_state}
+use Rattle.upd_diff.specs.RowChanges.{RowChanges, begins, brought, card_changes, gone_of, ident_changes, moves, target_changes}
 use Rattle.upd_diff.proofs.AllLemmas.{all_joined}
 use Rattle.upd_diff.proofs.IdentLemmas.{refs_stay}
 use Rattle.upd_diff.proofs.KindLemmas.{brought_each, idents_all, moves_each}
 use Rattle.upd_diff.proofs.LeadLemmas.{paired_lead}
 use Rattle.upd_diff.proofs.StateLemmas.{filter_gone, filter_kept, state_after, states_gone, states_kept}
-use Rattle.upd_diff.proofs.TellLemmas.{tells_take}
-use Rattle.upd_diff.proofs.ToldLemmas.{before_is, flat_twice}
+use Rattle.upd_diff.proofs.ShownRowsLemmas.{taken_by_row_changes}
+use Rattle.upd_diff.proofs.RowChangeLemmas.{before_is, flat_twice}
 use Rattle.upd_deck.specs.Items.{LineView}
 use Rattle.upd_apply.specs.Applying.{Reached, applied}
 use Rattle.upd_laws.proofs.SoundListLemmas.{all_both, all_flat, all_weaker}
@@ -100,14 +100,14 @@ all_same_counts [] xs ys same = same
 all_same_counts (c ∷ cs) xs ys same = all_same_counts cs (done c xs) (done c ys) (same_counts c xs ys same)
 
 -- told statuses that leave a card no row once leave its rows alone always: they tell none of it
-untold : (cs : List ChangeView) (r : CardRef) (xs ys : Rows) → AllByRecursion (λ c. tells_state c ≡ true) cs → of_card r (done_all cs xs) ≡ []
+untold : (cs : List ChangeView) (r : CardRef) (xs ys : Rows) → AllByRecursion (λ c. row_changes_state c ≡ true) cs → of_card r (done_all cs xs) ≡ []
     → of_card r (done_all cs ys) ≡ of_card r ys
 untold [] r xs ys only none = refl
 untold (c ∷ cs) r xs ys only none =
     untold cs r (done c xs) (done c ys) only.1 none
     ∙ one c only.0 (sym (untold cs r (done c xs) (done c xs) only.1 none) ∙ none)
   where
-    one : (c : ChangeView) → tells_state c ≡ true → of_card r (done c xs) ≡ [] → of_card r (done c ys) ≡ of_card r ys
+    one : (c : ChangeView) → row_changes_state c ≡ true → of_card r (done c xs) ≡ [] → of_card r (done c ys) ≡ of_card r ys
     one (StatusNow k active) tells none = go (same_ref r k) refl
       where
         row : List StateRow
@@ -142,46 +142,46 @@ untold (c ∷ cs) r xs ys only none =
 abbrev Leaves : CardRef → ChangeView → Type 0
 Leaves r c = takes_card r c ≡ false
 
-none_gone : (idents : List Ident) (r : CardRef) (fates : List FateView) → AllByRecursion (λ c. same_ref r (ref_of idents c) ≡ false) (flat_map card_before fates)
-    → AllByRecursion (Leaves r) (flat_map (gone_of idents) fates)
+none_gone : (idents : List Ident) (r : CardRef) (card_diffs : List CardDiffView) → AllByRecursion (λ c. same_ref r (ref_of idents c) ≡ false) (flat_map card_before card_diffs)
+    → AllByRecursion (Leaves r) (flat_map (gone_of idents) card_diffs)
 none_gone idents r [] none = tt
-none_gone idents r (Kept was is ∷ fates) none =
-    all_joined (Leaves r) (gone_of idents (Kept was is)) (flat_map (gone_of idents) fates) (entries (begins was.history is.history))
-    (none_gone idents r fates none.1)
+none_gone idents r (Kept was is ∷ card_diffs) none =
+    all_joined (Leaves r) (gone_of idents (Kept was is)) (flat_map (gone_of idents) card_diffs) (entries (begins was.history is.history))
+    (none_gone idents r card_diffs none.1)
   where
     entries : (b : Bool) → AllByRecursion (Leaves r) (if b then [] else EntriesGone (ref_of idents was) ∷ [])
     entries true = tt
     entries false = (refl, tt)
-none_gone idents r (Gone was ∷ fates) none =
-    all_joined (Leaves r) (gone_of idents (Gone was)) (flat_map (gone_of idents) fates)
-    (all_joined (Leaves r) (targets_told idents was) (EntriesGone (ref_of idents was) ∷ CardGone (ref_of idents was) ∷ [])
+none_gone idents r (Gone was ∷ card_diffs) none =
+    all_joined (Leaves r) (gone_of idents (Gone was)) (flat_map (gone_of idents) card_diffs)
+    (all_joined (Leaves r) (target_changes idents was) (EntriesGone (ref_of idents was) ∷ CardGone (ref_of idents was) ∷ [])
     (targets (length was.targets == 0)) (refl, (none.0, tt)))
-    (none_gone idents r fates none.1)
+    (none_gone idents r card_diffs none.1)
   where
     targets : (b : Bool) → AllByRecursion (Leaves r) (if b then [] else TargetsGone (ref_of idents was) was.targets ∷ [])
     targets true = tt
     targets false = (refl, tt)
-none_gone idents r (New is ∷ fates) none = none_gone idents r fates none
+none_gone idents r (New is ∷ card_diffs) none = none_gone idents r card_diffs none
 
-untaken : (old new : LibraryView) (changes : List ChangeView) (r : CardRef) → IsSound old → Continues old.idents new.idents → Told old new changes
+untaken : (old new : LibraryView) (changes : List ChangeView) (r : CardRef) → IsSound old → Continues old.idents new.idents → RowChanges old new changes
     → AllByRecursion (λ c. same_ref r (ref_of new.idents c) ≡ false) (all_cards old) → list_any (takes_card r) changes ≡ false
 untaken old new changes r sound goes t others =
     none_passes (takes_card r) changes (subst (AllByRecursion (Leaves r)) (sym t.are)
-    (all_joined (Leaves r) (idents_told old.idents new.idents) (cards_told new.idents ks)
+    (all_joined (Leaves r) (ident_changes old.idents new.idents) (card_changes new.idents ks)
     (idents_all (Leaves r) (λ i. refl) (λ age. refl) old.idents new.idents)
-    (all_joined (Leaves r) (flat_map (λ k. flat_map (gone_of new.idents) k.fates) ks)
-    (flat_map (λ k. moves k.deck 0 0 k.fates) ks ++ flat_map (λ k. brought new.idents k.deck 0 k.fates) ks) gone
-    (all_joined (Leaves r) (flat_map (λ k. moves k.deck 0 0 k.fates) ks) (flat_map (λ k. brought new.idents k.deck 0 k.fates) ks)
+    (all_joined (Leaves r) (flat_map (λ k. flat_map (gone_of new.idents) k.card_diffs) ks)
+    (flat_map (λ k. moves k.deck 0 0 k.card_diffs) ks ++ flat_map (λ k. brought new.idents k.deck 0 k.card_diffs) ks) gone
+    (all_joined (Leaves r) (flat_map (λ k. moves k.deck 0 0 k.card_diffs) ks) (flat_map (λ k. brought new.idents k.deck 0 k.card_diffs) ks)
     (moves_each (Leaves r) (λ d from by. refl) ks)
     (brought_each (Leaves r) (λ card d p body. refl) (λ card n e. refl) (λ card n t. refl) new.idents ks)))))
   where
-    ks : List DeckFatesView
+    ks : List DeckDiffView
     ks = t.decks
 
-    gone : AllByRecursion (Leaves r) (flat_map (λ k. flat_map (gone_of new.idents) k.fates) ks)
+    gone : AllByRecursion (Leaves r) (flat_map (λ k. flat_map (gone_of new.idents) k.card_diffs) ks)
     gone =
-        subst (AllByRecursion (Leaves r)) (flat_twice (gone_of new.idents) (λ (k : DeckFatesView). k.fates) ks)
-        (none_gone new.idents r (flat_map (λ (k : DeckFatesView). k.fates) ks)
+        subst (AllByRecursion (Leaves r)) (flat_twice (gone_of new.idents) (λ (k : DeckDiffView). k.card_diffs) ks)
+        (none_gone new.idents r (flat_map (λ (k : DeckDiffView). k.card_diffs) ks)
         (subst (AllByRecursion (λ c. same_ref r (ref_of new.idents c) ≡ false))
         (sym (before_is old new ks sound goes (paired_lead (all_decks old) (all_decks new) ks t.paired))) others))
 
@@ -255,10 +255,10 @@ module _ (out : ℕ → Bool) (lines : List LineView) (l : LibraryView) (reached
       (left_status out lines l reached sound does is (yanks_as_before out lines l reached sound does no_yank is) card.0 card.1 card.2 card.3)
 
   -- no change of the part takes it
-  left_untaken : (changes : List ChangeView) (r : CardRef) (p : Place) → Told (part out l) (part out m) changes → place_of r l ≡ Some p → out p.deck ≡ true
+  left_untaken : (changes : List ChangeView) (r : CardRef) (p : Place) → RowChanges (part out l) (part out m) changes → place_of r l ≡ Some p → out p.deck ≡ true
       → list_any (takes_card r) changes ≡ false
-  left_untaken changes r p told at left =
-      untaken (part out l) (part out m) changes r (part_sound out l sound) goes told
+  left_untaken changes r p row_changes at left =
+      untaken (part out l) (part out m) changes r (part_sound out l sound) goes row_changes
       (all_weaker (λ c. (same_ref (ref_of l.idents c) r ≡ false) × (ref_of m.idents c ≡ ref_of l.idents c)) (λ c. same_ref r (ref_of m.idents c) ≡ false)
       (all_cards (part out l)) (λ c both. ap (same_ref r) both.1 ∙ same_ref_sym r (ref_of l.idents c) ∙ both.0)
       (all_both (λ c. same_ref (ref_of l.idents c) r ≡ false) (λ c. ref_of m.idents c ≡ ref_of l.idents c) (all_cards (part out l)) others
@@ -292,7 +292,7 @@ module _ (out : ℕ → Bool) (lines : List LineView) (l : LibraryView) (reached
           filter_kept is_other (λ s. same_ref r s.card) rows.states (λ s looked. of_row r s looked ∙ ap (λ o. not (is_some o)) e)
           ∙ shows.states r ∙ ap (state_rows r) (status_in_whole out l r active sound yanks e ∙ sym e)
 
-  module _ (run settled : List ChangeView) (told : Told (part out l) (part out m) run) (only : AllByRecursion (λ c. tells_state c ≡ true) settled)
+  module _ (run settled : List ChangeView) (row_changes : RowChanges (part out l) (part out m) run) (only : AllByRecursion (λ c. row_changes_state c ≡ true) settled)
       (leads : (rows : Rows) → ShowsStates rows (part out l) → ShowsStates (done_all settled (done_all run rows)) (part out m))
       (rows : Rows) (shows : ShowsStates rows l) where
     in_part : ShowsStates (done_all settled (done_all run (rows_in rows))) (part out m)
@@ -317,10 +317,10 @@ module _ (out : ℕ → Bool) (lines : List LineView) (l : LibraryView) (reached
         → of_card r (done_all settled (done_all run rows)) ≡ state_rows r (status_of r m)
     left_row r p at left =
         let new = left_after r p at left in
-        let taken = tells_take (part out l) (part out m) run (part_sound out l sound) (part_sound out m later) goes told in
+        let taken = taken_by_row_changes (part out l) (part out m) run (part_sound out l sound) (part_sound out m later) goes row_changes in
         untold settled r (done_all run (rows_in rows)) (done_all run rows) only
         (in_part.states r ∙ ap (state_rows r) (status_gone out m r new.0 later yanks new.1 new.2))
-        ∙ state_after run rows r taken.silent ∙ ap (λ b. cond b [] (of_card r rows)) (left_untaken run r p told at left)
+        ∙ state_after run rows r taken.silent ∙ ap (λ b. cond b [] (of_card r rows)) (left_untaken run r p row_changes at left)
         ∙ shows.states r ∙ ap (state_rows r) (sym (left_stays r p at left))
 
     pub part_leads : ShowsStates (done_all settled (done_all run rows)) m

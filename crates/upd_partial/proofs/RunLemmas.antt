@@ -22,8 +22,8 @@ use Rattle.upd_core.specs.Edits.{entered_range, introduced, next_age, new_card, 
 use Rattle.upd_core.specs.Library.{DeckView, LibraryView, held_named, place_in, place_of}
 use Rattle.upd_deck.specs.Items.{ItemView, LineView, Text, Call, Ident, Deck, CommonDeck, Insert, Before, Delete, Restore, Yank, SelYank, YankDeck, Purge}
 use Rattle.upd_deck.specs.Items.{PurgeFrom, SelPurge, PurDeck, Compile}
-use Rattle.upd_apply.specs.declared.state.Spot.{Spot}
-use Rattle.upd_apply.specs.declared.state.Spot.TheVariants.{Nowhere, End, Inside}
+use Rattle.upd_apply.specs.declared.state.InsertPoint.{InsertPoint}
+use Rattle.upd_apply.specs.declared.state.InsertPoint.TheVariants.{Nowhere, End, Inside}
 use Rattle.upd_apply.specs.declared.state.State.{State}
 use Rattle.upd_apply.specs.Applying.{stepped}
 use Rattle.upd_apply.specs.Step.{new_name, set_begun, deck_begun, placed_after, placed_before, switched, text_put, is_deck_card, line_done, step}
@@ -67,16 +67,16 @@ named_more gone l name sort noprop card old lacks z is = go (held_named card.nam
 pub record Keeps (out : ℕ → Bool) (s t : State) : Type 0 where
   pub left : left_out out t.library ≡ left_out out s.library
   pub more : length s.library.idents ≤ length t.library.idents
-  pub spot : SpotStays out t.spot
+  pub insert_point : SpotStays out t.insert_point
   pub named : (card : CardRef) → IsNotIn (left_out out s.library) s.library card → IsNotIn (left_out out s.library) t.library card
 
 -- a line that leaves the directory as it is
-same_names : (out : ℕ → Bool) (s t : State) → left_out out t.library ≡ left_out out s.library → t.library.idents ≡ s.library.idents → SpotStays out t.spot
+same_names : (out : ℕ → Bool) (s t : State) → left_out out t.library ≡ left_out out s.library → t.library.idents ≡ s.library.idents → SpotStays out t.insert_point
     → Keeps out s t
-same_names out s t left same spot = record {
+same_names out s t left same insert_point = record {
   left = left;
   more = rw same (omega arith);
-  spot = spot;
+  insert_point = insert_point;
   named = λ card lacks z is. lacks z (ap (λ is. option_map (λ (i : OneIdent). i.age) (held_named card.name is)) (sym same) ∙ is);
 }
 
@@ -87,7 +87,7 @@ set_keeps out name s old =
     after_any _ (new_name name s.library) _ (λ _. after_grown _ l _ (record {
       left = refl;
       more = omega (arith, more);
-      spot = tt;
+      insert_point = tt;
       named = λ card. named_more (left_out out s.library) s.library name kind.Set false card old;
     }))
 
@@ -101,52 +101,52 @@ deck_keeps out name sort noprop text s old stays =
     after_any _ (new_name name s.library) _ (λ _. after_grown _ (with_deck d l) _ (record {
       left = with_deck_left out d l stays;
       more = omega (arith, more);
-      spot = stays;
+      insert_point = stays;
       named = λ card. named_more (left_out out s.library) s.library name sort noprop card old;
     }))
 
 after_keeps : (out : ℕ → Bool) (card : CardRef) (s : State) → IsNotIn (left_out out s.library) s.library card
     → IfOk (placed_after card s) (Keeps out s)
 after_keeps out card s lacks =
-    after_any _ (need fault.NoIdent s.hand) _ (λ _. after_need _ fault.CardUnknown (place_of card s.library) _ (λ p at.
+    after_any _ (need fault.NoIdent s.current_set) _ (λ _. after_need _ fault.CardUnknown (place_of card s.library) _ (λ p at.
     after_any _ (refuse_if (p.deck == 0) fault.YankText) _ (λ _. same_names out s _ refl refl (deck_kept out s.library card p lacks at))))
 
 before_keeps : (out : ℕ → Bool) (card : CardRef) (s : State) → IsNotIn (left_out out s.library) s.library card
     → IfOk (placed_before card s) (Keeps out s)
 before_keeps out card s lacks =
-    after_any _ (need fault.NoIdent s.hand) _ (λ _. after_need _ fault.CardUnknown (place_of card s.library) _ (λ p at.
+    after_any _ (need fault.NoIdent s.current_set) _ (λ _. after_need _ fault.CardUnknown (place_of card s.library) _ (λ p at.
     after_any _ (refuse_if (p.deck == 0) fault.YankText) _ (λ _. after_any _ (refuse_if (is_deck_card p) fault.DeckCard) _ (λ _.
     same_names out s _ refl refl (deck_kept out s.library card p lacks at)))))
 
 switched_keeps : (out : ℕ → Bool) (active : Bool) (first last : CardRef) (s : State) → IsNotIn (left_out out s.library) s.library first
     → IsNotIn (left_out out s.library) s.library last → IfOk (switched active first last s) (Keeps out s)
 switched_keeps out active first last s lacks lacked =
-    after_any _ (need fault.NoIdent s.hand) _ (λ hand. after_need _ fault.CardUnknown (place_of first s.library) _ (λ p from.
+    after_any _ (need fault.NoIdent s.current_set) _ (λ current_set. after_need _ fault.CardUnknown (place_of first s.library) _ (λ p from.
     after_need _ fault.CardUnknown (place_of last s.library) _ (λ q to.
     after_any _ (refuse_if (not (p.deck == q.deck) || ltb q.index p.index) fault.RangeOrder) _ (λ _.
     after_any _ (refuse_if (is_deck_card p) fault.DeckCard) _ (λ _.
-    let e : Entry = record { ident = hand.ident; active = active } in
+    let e : Entry = record { ident = current_set.ident; active = active } in
     after_grown _ (with_entries p.deck p.index q.index e s.library) _ (same_names out s _
     (with_cards_left out p.deck (entered_range p.index q.index e) s.library (deck_kept out s.library first p lacks from))
     (idents-with_entries p.deck p.index q.index e s.library) (deck_kept out s.library last q lacked to)))))))
 
-text_keeps : (out : ℕ → Bool) (text : List ℕ) (s : State) (spot : Spot) → SpotStays out spot → SpotStays out s.spot → IfOk (text_put text spot s) (Keeps out s)
+text_keeps : (out : ℕ → Bool) (text : List ℕ) (s : State) (insert_point : InsertPoint) → SpotStays out insert_point → SpotStays out s.insert_point → IfOk (text_put text insert_point s) (Keeps out s)
 text_keeps out text s Nowhere stays here = tt
 text_keeps out text s (End d next) stays here =
     after_grown _ (with_card d 0 (new_card d next text []) s.library) _ (same_names out s _
     (with_cards_left out d (λ cards. insert cards (length cards - 0) (new_card d next text [])) s.library stays)
     (idents-with_card d 0 _ s.library) stays)
 text_keeps out text s (Inside d after) stays here =
-    after_any _ (need fault.TextNowhere s.hand) _ (λ hand. after_any _ (refuse_if (d == 0) fault.YankText) _ (λ _.
-    after_grown _ (with_card d after (new_card hand.ident hand.next text []) s.library) _ (same_names out s _
-    (with_cards_left out d (λ cards. insert cards (length cards - after) (new_card hand.ident hand.next text [])) s.library stays)
+    after_any _ (need fault.TextNowhere s.current_set) _ (λ current_set. after_any _ (refuse_if (d == 0) fault.YankText) _ (λ _.
+    after_grown _ (with_card d after (new_card current_set.ident current_set.next text []) s.library) _ (same_names out s _
+    (with_cards_left out d (λ cards. insert cards (length cards - after) (new_card current_set.ident current_set.next text [])) s.library stays)
     (idents-with_card d after _ s.library) here)))
 
 done_keeps : (out : ℕ → Bool) (item : ItemView) (text : List ℕ) (s : State) → Leaves out s → AreOfListed (left_out out s.library) s.library
     → is_plain_item item ≡ true
     → AllByRecursion (IsNotIn (left_out out s.library) s.library) (cards_of_item item) → IfOk (line_done item text s) (Keeps out s)
-done_keeps out Text text s leaves old plain lacks = text_keeps out text s s.spot leaves.spot leaves.spot
-done_keeps out (Call name) text s leaves old plain lacks = text_keeps out text s s.spot leaves.spot leaves.spot
+done_keeps out Text text s leaves old plain lacks = text_keeps out text s s.insert_point leaves.insert_point leaves.insert_point
+done_keeps out (Call name) text s leaves old plain lacks = text_keeps out text s s.insert_point leaves.insert_point leaves.insert_point
 done_keeps out (Ident name) text s leaves old plain lacks = set_keeps out name s old
 done_keeps out (Deck name) text s leaves old plain lacks = deck_keeps out name kind.Deck false text s old (leaves.fresh (next_age s.library) (omega arith))
 done_keeps out (CommonDeck name noprop) text s leaves old plain lacks =
@@ -162,14 +162,14 @@ done_keeps out (Purge ranges) text s leaves old plain lacks = absurd (cc)
 done_keeps out (PurgeFrom name) text s leaves old plain lacks = absurd (cc)
 done_keeps out (SelPurge pairs) text s leaves old plain lacks = absurd (cc)
 done_keeps out (PurDeck ranges) text s leaves old plain lacks = absurd (cc)
-done_keeps out (Compile ranges) text s leaves old plain lacks = same_names out s s refl refl leaves.spot
+done_keeps out (Compile ranges) text s leaves old plain lacks = same_names out s s refl refl leaves.insert_point
 
 -- ---- lines one after the other
 
 leaves_more : (out : ℕ → Bool) (s t : State) → Leaves out s → Keeps out s t → Leaves out t
 leaves_more out s t leaves k = record {
   fresh = λ z later. leaves.fresh z (omega (arith, later, k.more));
-  spot = k.spot;
+  insert_point = k.insert_point;
 }
 
 listed_more : (out : ℕ → Bool) (s t : State) → AreOfListed (left_out out s.library) s.library → Keeps out s t → AreOfListed (left_out out t.library) t.library

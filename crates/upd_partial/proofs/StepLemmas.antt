@@ -15,8 +15,8 @@ use Rattle.upd_core.specs.Library.{DeckView, LibraryView, place_of}
 use Rattle.upd_core.specs.Limits.{is_within_limits}
 use Rattle.upd_deck.specs.Items.{ItemView, Text, Call, Ident, Deck, CommonDeck, Insert, Before, Delete, Restore, Yank, SelYank, YankDeck, Purge}
 use Rattle.upd_deck.specs.Items.{PurgeFrom, SelPurge, PurDeck, Compile}
-use Rattle.upd_apply.specs.declared.state.Spot.{Spot}
-use Rattle.upd_apply.specs.declared.state.Spot.TheVariants.{Nowhere, End, Inside}
+use Rattle.upd_apply.specs.declared.state.InsertPoint.{InsertPoint}
+use Rattle.upd_apply.specs.declared.state.InsertPoint.TheVariants.{Nowhere, End, Inside}
 use Rattle.upd_apply.specs.declared.state.State.{State}
 use Rattle.upd_apply.specs.Step.{within_limits, new_name, set_begun, deck_begun, placed_after, placed_before, switched, text_put, is_deck_card, line_done}
 use Rattle.upd_core.specs.Parts.{part}
@@ -79,83 +79,83 @@ deck_same out name sort noprop text s stays =
     let l = introduced name sort noprop s.library in
     let same = with_deck_same out d l stays in
     any_same out (new_name name s.library) _ _ (λ _.
-    grown_same out (with_deck d l) (with_deck d (part out l)) _ _ same (λ i. Ok (record { library = same i; hand = s.hand; spot = End z 2 })))
+    grown_same out (with_deck d l) (with_deck d (part out l)) _ _ same (λ i. Ok (record { library = same i; current_set = s.current_set; insert_point = End z 2 })))
 
 after_same : (out : ℕ → Bool) (card : CardRef) (s : State) → out 0 ≡ false → IsNotIn (left_out out s.library) s.library card
     → placed_after card (parted out s) ≡ in_part out (placed_after card s)
 after_same out card s yanks lacks =
-    need_same out fault.NoIdent s.hand _ _ (λ hand _.
+    need_same out fault.NoIdent s.current_set _ _ (λ current_set _.
     need_moved out fault.CardUnknown (place_of card (part out s.library)) (place_of card s.library) _ _ (place_same out s.library card yanks lacks) (λ p at.
     refusal_same out (p.deck == 0) fault.YankText _ _ (λ _.
     λ i. Ok (record {
       library = part out s.library;
-      hand = s.hand;
-      spot = Inside p.deck (length (cards_same out p.deck s.library (deck_kept out s.library card p lacks at) i) - (p.index + 1));
+      current_set = s.current_set;
+      insert_point = Inside p.deck (length (cards_same out p.deck s.library (deck_kept out s.library card p lacks at) i) - (p.index + 1));
     }))))
 
 before_same : (out : ℕ → Bool) (card : CardRef) (s : State) → out 0 ≡ false → IsNotIn (left_out out s.library) s.library card
     → placed_before card (parted out s) ≡ in_part out (placed_before card s)
 before_same out card s yanks lacks =
-    need_same out fault.NoIdent s.hand _ _ (λ hand _.
+    need_same out fault.NoIdent s.current_set _ _ (λ current_set _.
     need_moved out fault.CardUnknown (place_of card (part out s.library)) (place_of card s.library) _ _ (place_same out s.library card yanks lacks) (λ p at.
     refusal_same out (p.deck == 0) fault.YankText _ _ (λ _. refusal_same out (is_deck_card p) fault.DeckCard _ _ (λ _.
     λ i. Ok (record {
       library = part out s.library;
-      hand = s.hand;
-      spot = Inside p.deck (length (cards_same out p.deck s.library (deck_kept out s.library card p lacks at) i) - (p.index + 1) + 1);
+      current_set = s.current_set;
+      insert_point = Inside p.deck (length (cards_same out p.deck s.library (deck_kept out s.library card p lacks at) i) - (p.index + 1) + 1);
     })))))
 
 switched_same : (out : ℕ → Bool) (active : Bool) (first last : CardRef) (s : State) → out 0 ≡ false → IsNotIn (left_out out s.library) s.library first
     → IsNotIn (left_out out s.library) s.library last → switched active first last (parted out s) ≡ in_part out (switched active first last s)
 switched_same out active first last s yanks lacks lacked =
-    need_same out fault.NoIdent s.hand _ _ (λ hand _.
+    need_same out fault.NoIdent s.current_set _ _ (λ current_set _.
     need_moved out fault.CardUnknown (place_of first (part out s.library)) (place_of first s.library) _ _
     (place_same out s.library first yanks lacks) (λ p from.
     need_moved out fault.CardUnknown (place_of last (part out s.library)) (place_of last s.library) _ _ (place_same out s.library last yanks lacked) (λ q to.
     refusal_same out (not (p.deck == q.deck) || ltb q.index p.index) fault.RangeOrder _ _ (λ _.
     refusal_same out (is_deck_card p) fault.DeckCard _ _ (λ _.
-    let e : Entry = record { ident = hand.ident; active = active } in
+    let e : Entry = record { ident = current_set.ident; active = active } in
     let stays = deck_kept out s.library first p lacks from in
     let here = deck_kept out s.library last q lacked to in
     let same = with_cards_same out p.deck (entered_range p.index q.index e) s.library stays in
     grown_same out (with_entries p.deck p.index q.index e s.library) (with_entries p.deck p.index q.index e (part out s.library)) _ _ same
     (λ i. Ok (record {
       library = same i;
-      hand = s.hand;
-      spot = Inside q.deck (length (cards_same out q.deck s.library here i) - (q.index + 1));
+      current_set = s.current_set;
+      insert_point = Inside q.deck (length (cards_same out q.deck s.library here i) - (q.index + 1));
     })))))))
 
 -- the deck that text goes to isn't left out
-abbrev pub SpotStays : (ℕ → Bool) → Spot → Type 0
+abbrev pub SpotStays : (ℕ → Bool) → InsertPoint → Type 0
 SpotStays out Nowhere = Unit {0}
 SpotStays out (End d next) = out d ≡ false
 SpotStays out (Inside d after) = out d ≡ false
 
-text_same : (out : ℕ → Bool) (text : List ℕ) (spot : Spot) (s : State) → SpotStays out spot
-    → text_put text spot (parted out s) ≡ in_part out (text_put text spot s)
+text_same : (out : ℕ → Bool) (text : List ℕ) (insert_point : InsertPoint) (s : State) → SpotStays out insert_point
+    → text_put text insert_point (parted out s) ≡ in_part out (text_put text insert_point s)
 text_same out text Nowhere s stays = refl
 text_same out text (End d next) s stays =
     let same = with_cards_same out d (λ cards. insert cards (length cards - 0) (new_card d next text [])) s.library stays in
     grown_same out (with_card d 0 (new_card d next text []) s.library) (with_card d 0 (new_card d next text []) (part out s.library)) _ _ same
-    (λ i. Ok (record { library = same i; hand = s.hand; spot = End d (next + 1) }))
+    (λ i. Ok (record { library = same i; current_set = s.current_set; insert_point = End d (next + 1) }))
 text_same out text (Inside d after) s stays =
-    need_same out fault.TextNowhere s.hand _ _ (λ hand _. refusal_same out (d == 0) fault.YankText _ _ (λ _.
-    let c = new_card hand.ident hand.next text [] in
+    need_same out fault.TextNowhere s.current_set _ _ (λ current_set _. refusal_same out (d == 0) fault.YankText _ _ (λ _.
+    let c = new_card current_set.ident current_set.next text [] in
     let same = with_cards_same out d (λ cards. insert cards (length cards - after) c) s.library stays in
     grown_same out (with_card d after c s.library) (with_card d after c (part out s.library)) _ _ same
-    (λ i. Ok (record { library = same i; hand = Some (record { ident = hand.ident; next = hand.next + 1 }); spot = s.spot }))))
+    (λ i. Ok (record { library = same i; current_set = Some (record { ident = current_set.ident; next = current_set.next + 1 }); insert_point = s.insert_point }))))
 
 -- ---- lines
 
 -- what a line needs to know of what is left out
 pub record Leaves (out : ℕ → Bool) (s : State) : Type 0 where
   pub fresh : (z : ℕ) → length s.library.idents < z → out z ≡ false
-  pub spot : SpotStays out s.spot
+  pub insert_point : SpotStays out s.insert_point
 
 pub done_same : (out : ℕ → Bool) (item : ItemView) (text : List ℕ) (s : State) → out 0 ≡ false → Leaves out s → is_plain_item item ≡ true
     → AllByRecursion (IsNotIn (left_out out s.library) s.library) (cards_of_item item) → line_done item text (parted out s) ≡ in_part out (line_done item text s)
-done_same out Text text s yanks leaves plain lacks = text_same out text s.spot s leaves.spot
-done_same out (Call name) text s yanks leaves plain lacks = text_same out text s.spot s leaves.spot
+done_same out Text text s yanks leaves plain lacks = text_same out text s.insert_point s leaves.insert_point
+done_same out (Call name) text s yanks leaves plain lacks = text_same out text s.insert_point s leaves.insert_point
 done_same out (Ident name) text s yanks leaves plain lacks = set_same out name s
 done_same out (Deck name) text s yanks leaves plain lacks = deck_same out name kind.Deck false text s (leaves.fresh (next_age s.library) (omega arith))
 done_same out (CommonDeck name noprop) text s yanks leaves plain lacks =

@@ -9,20 +9,20 @@ use Rattle.upd_core.specs.declared.card.Entry.{Entry}
 use Rattle.upd_core.specs.declared.ident.Ident.{Ident}
 use Rattle.upd_core.specs.Entries.{same_entry}
 use Rattle.upd_core.specs.Library.{CardView, DeckView}
-use Rattle.upd_diff.specs.Fates.{FateView, DeckFatesView, Kept, AreOfDeck, IsKept, Paired, card_after, card_before}
-use Rattle.upd_diff.specs.Told.{begins, brought, entries_new, gone_of, grown, idents_told, moves, told}
+use Rattle.upd_diff.specs.CardDiffs.{CardDiffView, DeckDiffView, Kept, AreOfDeck, IsKept, Paired, card_after, card_before}
+use Rattle.upd_diff.specs.RowChanges.{begins, brought, entries_new, gone_of, grown, ident_changes, moves, row_changes}
 use Rattle.upd_core.specs.Library.{ref_of}
 use Rattle.upd_laws.proofs.SoundListLemmas.{both, is_same_number}
 use Rattle.upd_partial.proofs.PartLemmas.{kept_of, left_of}
 
 -- ---- a deck that stays tells nothing
 
-abbrev stays : List CardView → List FateView
+abbrev stays : List CardView → List CardDiffView
 stays cards = map (λ c. Kept c c) cards
 
 -- the fates of a deck that stays
-abbrev pub stay : DeckView → DeckFatesView
-stay d = record { deck = d.ident; fates = stays d.cards }
+abbrev pub stay : DeckView → DeckDiffView
+stay d = record { deck = d.ident; card_diffs = stays d.cards }
 
 pub same_entry_own : (e : Entry) → same_entry e e ≡ true
 same_entry_own e = both (e.ident == e.ident) _ (is_same_number e.ident e.ident refl) (go e.active)
@@ -74,7 +74,7 @@ AreFew d = length d.cards < 2 ^ 32
 stay_of : (d : DeckView) → AreFew d → AreOfDeck d.ident d.cards d.cards (stay d)
 stay_of d few = record {
   deck = refl;
-  fates = record { olds = were d.cards; news = are d.cards; kept = all_kept d.cards };
+  card_diffs = record { olds = were d.cards; news = are d.cards; kept = all_kept d.cards };
   short = rw (as_many d.cards) few;
 }
 
@@ -93,28 +93,28 @@ StandFirst (d ∷ ds) [] = ⊥
 StandFirst (d ∷ ds) (e ∷ later) = (e.ident ≡ d.ident) × StandFirst ds later
 
 module _ (out : ℕ → Bool) where
-  abbrev pub weave : List DeckView → List DeckFatesView → List DeckFatesView
+  abbrev pub weave : List DeckView → List DeckDiffView → List DeckDiffView
   weave [] ks = ks
   weave (d ∷ ds) ks = cond (out d.ident) (stay d ∷ weave ds ks) (take 1 ks ++ weave ds (drop 1 ks))
 
   -- what stays adds nothing to what is told
-  flat_weave : {A : Type 0} (f : DeckFatesView → List A) → ((d : DeckView) → f (stay d) ≡ []) → (ds : List DeckView) (ks : List DeckFatesView)
+  flat_weave : {A : Type 0} (f : DeckDiffView → List A) → ((d : DeckView) → f (stay d) ≡ []) → (ds : List DeckView) (ks : List DeckDiffView)
       → flat_map f (weave ds ks) ≡ flat_map f ks
   flat_weave f none [] ks = refl
   flat_weave f none (d ∷ ds) ks = go (out d.ident) ks (flat_weave f none ds)
     where
-      go : (b : Bool) (ks : List DeckFatesView) → ((js : List DeckFatesView) → flat_map f (weave ds js) ≡ flat_map f js)
+      go : (b : Bool) (ks : List DeckDiffView) → ((js : List DeckDiffView) → flat_map f (weave ds js) ≡ flat_map f js)
           → flat_map f (cond b (stay d ∷ weave ds ks) (take 1 ks ++ weave ds (drop 1 ks))) ≡ flat_map f ks
       go true ks later = ap (λ t. t ++ flat_map f (weave ds ks)) (none d) ∙ later ks
       go false [] later = later []
       go false (k ∷ ks) later = ap (λ t. f k ++ t) (later ks)
 
-  pub told_woven : (old new : List Ident) (ds : List DeckView) (ks : List DeckFatesView) → told old new (weave ds ks) ≡ told old new ks
-  told_woven old new ds ks =
-      let gone = flat_weave (λ k. flat_map (gone_of new) k.fates) (λ d. none_gone new d.cards) ds ks in
-      let moved = flat_weave (λ k. moves k.deck 0 0 k.fates) (λ d. none_moved d.ident 0 d.cards) ds ks in
-      let come = flat_weave (λ k. brought new k.deck 0 k.fates) (λ d. none_brought new d.ident 0 d.cards) ds ks in
-      λ i. idents_told old new ++ (gone i ++ (moved i ++ come i))
+  pub row_changes_woven : (old new : List Ident) (ds : List DeckView) (ks : List DeckDiffView) → row_changes old new (weave ds ks) ≡ row_changes old new ks
+  row_changes_woven old new ds ks =
+      let gone = flat_weave (λ k. flat_map (gone_of new) k.card_diffs) (λ d. none_gone new d.cards) ds ks in
+      let moved = flat_weave (λ k. moves k.deck 0 0 k.card_diffs) (λ d. none_moved d.ident 0 d.cards) ds ks in
+      let come = flat_weave (λ k. brought new k.deck 0 k.card_diffs) (λ d. none_brought new d.ident 0 d.cards) ds ks in
+      λ i. ident_changes old new ++ (gone i ++ (moved i ++ come i))
 
   pub none_left : (ds : List DeckView) → left_of out ds ≡ [] → kept_of out ds ≡ ds
   none_left [] none = refl
@@ -125,16 +125,16 @@ module _ (out : ℕ → Bool) where
       go false o later = rw o (ap (λ xs. d ∷ xs) (later (rw o at none)))
 
   -- fates of the part, woven with decks that stay, are those of the whole
-  pub woven : (ds es : List DeckView) (ks : List DeckFatesView) → StandFirst ds es → left_of out es ≡ left_of out ds → AllByRecursion AreFew ds
+  pub woven : (ds es : List DeckView) (ks : List DeckDiffView) → StandFirst ds es → left_of out es ≡ left_of out ds → AllByRecursion AreFew ds
       → Paired (kept_of out ds) (kept_of out es) ks → Paired ds es (weave ds ks)
   woven [] es ks first same few p = subst (λ xs. Paired [] xs ks) (none_left es same) p
   woven (d ∷ ds) [] ks first same few p = absurd first
   woven (d ∷ ds) (e ∷ es) ks first same few p =
       go (out d.ident) refl (ap out first.0) ks same p (λ js left paired. woven ds es js first.1 left few.1 paired)
     where
-      go : (b : Bool) → out d.ident ≡ b → out e.ident ≡ out d.ident → (ks : List DeckFatesView) → left_of out (e ∷ es) ≡ left_of out (d ∷ ds)
+      go : (b : Bool) → out d.ident ≡ b → out e.ident ≡ out d.ident → (ks : List DeckDiffView) → left_of out (e ∷ es) ≡ left_of out (d ∷ ds)
           → Paired (kept_of out (d ∷ ds)) (kept_of out (e ∷ es)) ks
-          → ((js : List DeckFatesView) → left_of out es ≡ left_of out ds → Paired (kept_of out ds) (kept_of out es) js → Paired ds es (weave ds js))
+          → ((js : List DeckDiffView) → left_of out es ≡ left_of out ds → Paired (kept_of out ds) (kept_of out es) js → Paired ds es (weave ds js))
           → Paired (d ∷ ds) (e ∷ es) (weave (d ∷ ds) ks)
       go true o q ks left p later =
           let all : e ∷ left_of out es ≡ d ∷ left_of out ds = rw (q, o) at left in
@@ -145,9 +145,9 @@ module _ (out : ℕ → Bool) where
           rw o (inl (first.0, cards, later ks rest (rw (q, o) at p)))
       go false o q ks left p later = kept o ks (rw (q, o) at left) (rw (q, o) at p) later
         where
-          kept : out d.ident ≡ false → (ks : List DeckFatesView) → left_of out es ≡ left_of out ds
+          kept : out d.ident ≡ false → (ks : List DeckDiffView) → left_of out es ≡ left_of out ds
               → Paired (d ∷ kept_of out ds) (e ∷ kept_of out es) ks
-              → ((js : List DeckFatesView) → left_of out es ≡ left_of out ds → Paired (kept_of out ds) (kept_of out es) js → Paired ds es (weave ds js))
+              → ((js : List DeckDiffView) → left_of out es ≡ left_of out ds → Paired (kept_of out ds) (kept_of out es) js → Paired ds es (weave ds js))
               → Paired (d ∷ ds) (e ∷ es) (weave (d ∷ ds) ks)
           kept o [] left p later = absurd p
           kept o (k ∷ ks) left (inl p) later = rw o (inl (first.0, p.1, later ks left p.2))

@@ -16,8 +16,8 @@ use Rattle.upd_core.specs.Sound.{IsSound}
 use Rattle.upd_core.proofs.ApartLemmas.{all_by_index, rising_apart}
 use Rattle.upd_core.proofs.FoundLemmas.{cards_of_deck}
 use Rattle.upd_records.specs.Changes.{ChangeView}
-use Rattle.upd_diff.specs.Fates.{Paired}
-use Rattle.upd_diff.specs.Told.{Told}
+use Rattle.upd_diff.specs.CardDiffs.{Paired}
+use Rattle.upd_diff.specs.RowChanges.{RowChanges}
 use Rattle.upd_diff.specs.Touched.{same_history, stood_in, touched, touched_in}
 use Rattle.upd_diff.proofs.StateLemmas.{any_of}
 use Rattle.upd_deck.specs.Items.{ItemView, LineView, Purge, PurgeFrom, SelPurge, PurDeck}
@@ -30,7 +30,7 @@ use Rattle.upd_partial.specs.Needless.{DoesWithout, IsOnWhole, NamesNone, is_pla
 use Rattle.upd_partial.proofs.AppliedLemmas.{applied_left, applied_same}
 use Rattle.upd_partial.proofs.NeedLemmas.{others_listed, part_of_others}
 use Rattle.upd_partial.proofs.PartLemmas.{cards_same, kept_all, kept_of, left_of}
-use Rattle.upd_partial.proofs.WeaveLemmas.{AreFew, StandFirst, each_few, same_entry_own, told_woven, weave, woven}
+use Rattle.upd_partial.proofs.WeaveLemmas.{AreFew, StandFirst, each_few, same_entry_own, row_changes_woven, weave, woven}
 
 -- ---- plain runs leave decks where they stand
 
@@ -76,10 +76,10 @@ few_cards l within =
     let less : card_count l ≤ MAX_CARDS = grind (arith, nat_tests, cards) in
     each_few MAX_CARDS (all_decks l) (omega (arith, less)) (omega arith)
 
-pub told_whole : (out : ℕ → Bool) (lines : List LineView) (l : LibraryView) (reached : Reached) (changes : List ChangeView) → out 0 ≡ false → IsSound l
-    → is_within_limits l ≡ true → DoesWithout out lines l → applied lines l ≡ Ok reached → Told (part out l) (part out reached.library) changes
-    → Told l reached.library changes
-told_whole out lines l reached changes yanks sound within does is t =
+pub row_changes_whole : (out : ℕ → Bool) (lines : List LineView) (l : LibraryView) (reached : Reached) (changes : List ChangeView) → out 0 ≡ false → IsSound l
+    → is_within_limits l ≡ true → DoesWithout out lines l → applied lines l ≡ Ok reached → RowChanges (part out l) (part out reached.library) changes
+    → RowChanges l reached.library changes
+row_changes_whole out lines l reached changes yanks sound within does is t =
     let m = reached.library in
     let first : StandFirst (all_decks l) (all_decks m) = (refl, decks_first lines l reached does.plain is) in
     let in_part : Paired (kept_of out (all_decks l)) (kept_of out (all_decks m)) t.decks =
@@ -88,7 +88,7 @@ told_whole out lines l reached changes yanks sound within does is t =
     record {
       decks = weave out (all_decks l) t.decks;
       paired = woven out (all_decks l) (all_decks m) t.decks first (applied_left out lines l reached sound does is) (few_cards l within) in_part;
-      are = t.are ∙ sym (told_woven out l.idents m.idents (all_decks l) t.decks);
+      are = t.are ∙ sym (row_changes_woven out l.idents m.idents (all_decks l) t.decks);
     }
 
 -- ---- what is touched
@@ -152,8 +152,8 @@ same_ok x y r s p q e = cc
 
 pub on_whole : (ages : List ℕ) (lines : List LineView) (l : LibraryView) (here : Reached) (changes : List ChangeView) → IsSound l
     → is_within_limits l ≡ true → is_plain lines ≡ true → NamesNone (is_left_out ages l) lines l → applied lines (part_of ages l) ≡ Ok here
-    → Told (part_of ages l) here.library changes → IsOnWhole (is_left_out ages l) lines l here changes
-on_whole ages lines l here changes sound within plain names is told = go (applied lines l) refl
+    → RowChanges (part_of ages l) here.library changes → IsOnWhole (is_left_out ages l) lines l here changes
+on_whole ages lines l here changes sound within plain names is row_changes = go (applied lines l) refl
   where
     out : ℕ → Bool
     out = is_left_out ages l
@@ -168,13 +168,13 @@ on_whole ages lines l here changes sound within plain names is told = go (applie
     go (Ok there) e =
         let parted : record there { library = part out there.library } ≡ here = same_ok _ here _ (Ok here) (ap (reached_in_part out) e) refl same in
         let library : part out there.library ≡ here.library = ap (λ (r : Reached). r.library) parted in
-        let in_part : Told (part out l) (part out there.library) changes =
-        subst (λ m. Told (part out l) m changes) (sym library) (subst (λ m. Told m here.library changes) (part_of_others ages l sound) told) in
+        let in_part : RowChanges (part out l) (part out there.library) changes =
+        subst (λ m. RowChanges (part out l) m changes) (sym library) (subst (λ m. RowChanges m here.library changes) (part_of_others ages l sound) row_changes) in
         record {
           there = there;
           reached = e;
           parted = sym parted;
-          told = told_whole out lines l there changes refl sound within does e in_part;
+          row_changes = row_changes_whole out lines l there changes refl sound within does e in_part;
           touched = sym (touched_whole out lines l there refl sound does e) ∙ ap (touched (part out l)) library;
         }
     go (Err f) e = absurd (let bad = sym (ap (reached_in_part out) e) ∙ same in cc)

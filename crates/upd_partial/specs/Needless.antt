@@ -9,7 +9,7 @@ use Rattle.upd_core.specs.Edits.{is_among}
 use Rattle.upd_core.specs.Library.{DeckView, LibraryView, all_decks, place_of}
 use Rattle.upd_deck.specs.Items.{ItemView, LineView, Insert, Before, Delete, Restore, Yank, SelYank, YankDeck, Purge, PurgeFrom, SelPurge, PurDeck}
 use Rattle.upd_records.specs.Changes.{ChangeView}
-use Rattle.upd_diff.specs.Told.{Told}
+use Rattle.upd_diff.specs.RowChanges.{RowChanges}
 use Rattle.upd_apply.specs.Applying.{Reached, applied, touched}
 use Rattle.upd_core.specs.Parts.{part}
 
@@ -66,5 +66,5 @@ pub record IsOnWhole (out : Serial → Bool) (lines : List LineView) (l : Librar
   pub there : Reached
   pub reached : applied lines l ≡ Ok there
   pub parted : here ≡ record there { library = part out there.library }
-  pub told : Told l there.library changes
+  pub row_changes : RowChanges l there.library changes
   pub touched : touched l there.library ≡ touched (part out l) here.library

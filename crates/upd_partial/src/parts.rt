@@ -10,7 +10,7 @@ ghost use Rattle.upd_records.specs.Changes.{ChangeView, done_all};
 ghost use Rattle.upd_records.specs.Fits.{AllFit};
 ghost use Rattle.upd_records.specs.Rows.{Rows, Shows, same_ref};
 ghost use Rattle.upd_diff.specs.States.{TakeGone};
-ghost use Rattle.upd_diff.specs.Told.{Told};
+ghost use Rattle.upd_diff.specs.RowChanges.{RowChanges};
 ghost use Rattle.upd_diff.specs.Touched.{touched};
 ghost use Rattle.upd_deck.specs.Items.{LineView};
 ghost use Rattle.upd_apply.specs.Applying.{Reached, applied};
@@ -56,10 +56,10 @@ pub fn parts_of_sound_libraries_are_sound()
 /// The row changes that lead from a part to what a run reaches from it lead from the whole to what the run reaches
 /// from the whole: decks that are left out stay, and tell nothing. The run touches the same cards in both.
 pub fn changes_of_a_part_are_changes_of_the_whole()
-    ensures told { (out : Serial → Bool) (lines : List LineView) (l : LibraryView) (reached : Reached)
+    ensures row_changes { (out : Serial → Bool) (lines : List LineView) (l : LibraryView) (reached : Reached)
         → (changes : List ChangeView) → out 0 ≡ false → IsSound l → IsTrue (is_within_limits l)
         → DoesWithout out lines l → applied lines l ≡ Ok reached
-        → Told (part out l) (part out reached.library) changes → Told l reached.library changes }
+        → RowChanges (part out l) (part out reached.library) changes → RowChanges l reached.library changes }
     ensures touched { (out : Serial → Bool) (lines : List LineView) (l : LibraryView) (reached : Reached)
         → out 0 ≡ false → IsSound l → DoesWithout out lines l → applied lines l ≡ Ok reached
         → touched (part out l) (part out reached.library) ≡ touched l reached.library }
@@ -70,20 +70,20 @@ pub fn runs_on_a_part_are_runs_on_the_whole()
     ensures { (ages : List Serial) (lines : List LineView) (l : LibraryView) (here : Reached)
         → (changes : List ChangeView) → IsSound l → IsTrue (is_within_limits l) → IsTrue (is_plain lines)
         → NamesNone (is_left_out ages l) lines l → applied lines (part_of ages l) ≡ Ok here
-        → Told (part_of ages l) here.library changes → IsOnWhole (is_left_out ages l) lines l here changes }
+        → RowChanges (part_of ages l) here.library changes → IsOnWhole (is_left_out ages l) lines l here changes }
 {}
 
 /// Row changes that lead from a sound library to what a run reaches from it can be carried out on tables that show the
 /// library, and then these show what was reached. They take the cards that are gone.
 pub fn changes_lead_to_what_is_reached()
     ensures shows { (lines : List LineView) (l : LibraryView) (reached : Reached) (changes : List ChangeView)
-        → (rows : Rows) → IsSound l → applied lines l ≡ Ok reached → Told l reached.library changes → Shows rows l
+        → (rows : Rows) → IsSound l → applied lines l ≡ Ok reached → RowChanges l reached.library changes → Shows rows l
         → Shows (done_all changes rows) reached.library }
     ensures fits { (lines : List LineView) (l : LibraryView) (reached : Reached) (changes : List ChangeView)
-        → (rows : Rows) → IsSound l → applied lines l ≡ Ok reached → Told l reached.library changes → Shows rows l
+        → (rows : Rows) → IsSound l → applied lines l ≡ Ok reached → RowChanges l reached.library changes → Shows rows l
         → AllFit changes rows }
     ensures states { (lines : List LineView) (l : LibraryView) (reached : Reached) (changes : List ChangeView)
-        → IsSound l → applied lines l ≡ Ok reached → Told l reached.library changes
+        → IsSound l → applied lines l ≡ Ok reached → RowChanges l reached.library changes
         → TakeGone l reached.library changes }
 {}
 

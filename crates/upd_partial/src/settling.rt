@@ -11,8 +11,8 @@ ghost use Rattle.upd_core.specs.Sound.{IsSound, IsWhole};
 ghost use Rattle.upd_core.specs.Status.{status_of};
 ghost use Rattle.upd_records.specs.Changes.{ChangeView, done_all};
 ghost use Rattle.upd_records.specs.Rows.{Rows, ShowsStates, same_ref};
-ghost use Rattle.upd_diff.specs.States.{tells_state};
-ghost use Rattle.upd_diff.specs.Told.{Told};
+ghost use Rattle.upd_diff.specs.States.{row_changes_state};
+ghost use Rattle.upd_diff.specs.RowChanges.{RowChanges};
 ghost use Rattle.upd_diff.specs.Touched.{touched};
 ghost use Rattle.upd_deck.specs.Items.{LineView};
 ghost use Rattle.upd_apply.specs.Applying.{Reached, applied};
@@ -62,7 +62,7 @@ pub fn parts_are_settled_alone()
     ensures states { (out : Serial → Bool) (lines : List LineView) (l : LibraryView) (reached : Reached)
         → (run settled : List ChangeView) → out 0 ≡ false → IsSound l → DoesWithout out lines l
         → NamesNone (λ d. d == 0) lines l → applied lines l ≡ Ok reached
-        → Told (part out l) (part out reached.library) run → AllByRecursion (λ c. tells_state c ≡ true) settled
+        → RowChanges (part out l) (part out reached.library) run → AllByRecursion (λ c. row_changes_state c ≡ true) settled
         → ((rows : Rows) → ShowsStates rows (part out l)
         → ShowsStates (done_all settled (done_all run rows)) (part out reached.library))
         → (rows : Rows) → ShowsStates rows l → ShowsStates (done_all settled (done_all run rows)) reached.library }

@@ -25,18 +25,18 @@ pub data ChangeView : Type 0 where
   CountNow : Target → ℕ → ChangeView
 
 -- a change as clauses see it
-abbrev pub change_seen : Change → ChangeView
-change_seen (made.IdentNew ident) = IdentNew ident
-change_seen (made.IdentPurged age) = IdentPurged age
-change_seen (made.CardNew card deck place text) = CardNew card deck place text.items
-change_seen (made.CardGone card) = CardGone card
-change_seen (made.CardsMoved deck from by) = CardsMoved deck from by
-change_seen (made.EntryNew card ord entry) = EntryNew card ord entry
-change_seen (made.EntriesGone card) = EntriesGone card
-change_seen (made.TargetNew card ord target) = TargetNew card ord target
-change_seen (made.TargetsGone card targets) = TargetsGone card targets.items
-change_seen (made.StatusNow card active) = StatusNow card active
-change_seen (made.CountNow target n) = CountNow target n
+abbrev pub change_view : Change → ChangeView
+change_view (made.IdentNew ident) = IdentNew ident
+change_view (made.IdentPurged age) = IdentPurged age
+change_view (made.CardNew card deck place text) = CardNew card deck place text.items
+change_view (made.CardGone card) = CardGone card
+change_view (made.CardsMoved deck from by) = CardsMoved deck from by
+change_view (made.EntryNew card ord entry) = EntryNew card ord entry
+change_view (made.EntriesGone card) = EntriesGone card
+change_view (made.TargetNew card ord target) = TargetNew card ord target
+change_view (made.TargetsGone card targets) = TargetsGone card targets.items
+change_view (made.StatusNow card active) = StatusNow card active
+change_view (made.CountNow target n) = CountNow target n
 
 -- the ident of an age, no longer held
 abbrev pub purged_row : ℕ → Ident → Ident

@@ -281,7 +281,7 @@ module _ (ages : List ℕ) (l : LibraryView) (sound : IsSound l) where
       ap (filter test) (flat_flat entries_in (λ d. d.cards) (all_decks l))
       ∙ filter_flat test (λ d. is_loaded ages d.ident) (λ d. flat_map entries_in d.cards) (all_decks l)
       (all_by_index (all_decks l) (λ k d at_d. all_flat _ entries_in d.cards (all_by_index d.cards (λ i c at_c.
-      weaker (entries_in c) (λ e of. told e ∙ ap (λ card. list_any (λ r. is_loaded ages r.deck && same_ref r.card card) (rows_of l).cards) of
+      weaker (entries_in c) (λ e of. row_changes e ∙ ap (λ card. list_any (λ r. is_loaded ages r.deck && same_ref r.card card) (rows_of l).cards) of
       ∙ row_there k d i c at_d at_c) (of_entries (ref_of l.idents c) 0 c.history)))))
       ∙ ap (flat_map (λ d. flat_map entries_in d.cards)) decks_kept
       ∙ sym (flat_flat entries_in (λ d. d.cards) (all_decks parted))
@@ -289,9 +289,9 @@ module _ (ages : List ℕ) (l : LibraryView) (sound : IsSound l) where
       test : EntryRow → Bool
       test = is_of (filter (λ r. is_loaded ages r.deck) tables.cards)
 
-      told : (e : EntryRow) → is_of (filter (λ r. is_loaded ages r.deck) tables.cards) e
+      row_changes : (e : EntryRow) → is_of (filter (λ r. is_loaded ages r.deck) tables.cards) e
           ≡ list_any (λ r. is_loaded ages r.deck && same_ref r.card e.card) (rows_of l).cards
-      told e =
+      row_changes e =
           any_filter (λ r. is_loaded ages r.deck) (λ r. same_ref r.card e.card) tables.cards
           ∙ any_same (λ r. is_loaded ages r.deck && same_ref r.card e.card) same
 

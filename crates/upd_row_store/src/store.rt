@@ -4,7 +4,7 @@ ghost use Rattle.upd_text.specs.declared.fault.FaultKind.TheVariants.{Store};
 ghost use Rattle.upd_core.specs.Actives.{actives_of};
 ghost use Rattle.upd_core.specs.Library.{LibraryView};
 ghost use Rattle.upd_core.specs.Sound.{IsSound, IsWhole};
-ghost use Rattle.upd_records.specs.Changes.{change_seen};
+ghost use Rattle.upd_records.specs.Changes.{change_view};
 ghost use Rattle.upd_records.specs.Rows.{Rows, Shows, ShowsStates};
 ghost use Rattle.upd_records.specs.Fits.{AllFit};
 ghost use Rattle.upd_row_store.specs.Asked.{decks_with};
@@ -157,12 +157,12 @@ pub trait RowStore {
         requires new_key { is_honest self.old → is_open self.old → (rows : Rows) → shows (image self.old) rows
             → run_at run.site run.number rows ≡ None }
         ensures done { is_honest self.new → OnOk result ((rows : Rows) → shows (image self.old) rows
-            → AllFit (map change_seen changes.now) rows
-            → shows (image self.new) (committed (map change_seen changes.now) run rows)) }
+            → AllFit (map change_view changes.now) rows
+            → shows (image self.new) (committed (map change_view changes.now) run rows)) }
         ensures open { is_honest self.new → OnOk result (is_open self.new) }
         ensures undone { is_honest self.new → is_open self.new → OnErr result (image self.new ≡ image self.old) }
         ensures crash { Tries is_honest is_open image shows may_leave failures_of
-            (AllFit (map change_seen changes.now)) (committed (map change_seen changes.now) run) self.old self.new }
+            (AllFit (map change_view changes.now)) (committed (map change_view changes.now) run) self.old self.new }
         ensures lost { IfErr result IsLost }
         ensures failed { IfErr result (λ e. e.kind ≡ Store
             → MoreFailures (failures_of self.old) (failures_of self.new)) }

@@ -42,9 +42,9 @@ impl Follower {
         match apply(alloc, &mut self.library, &run) {
             Ok(applied) => {
                 let mut counted = Counted::new(&self.library);
-                let told = self.cache.settle(&mut counted, &applied)?;
+                let row_changes = self.cache.settle(&mut counted, &applied)?;
                 let mut changes = applied.changes;
-                for change in told {
+                for change in row_changes {
                     changes.push(change)?;
                 }
                 self.number = self.number.saturating_add(1);

@@ -3,7 +3,7 @@ use Rattle.std.proofs.Common.{◌≡◌, ℕ, ◌+◌, ◌<◌, List, [], ◌∷
 use Rattle.std.proofs.lemmas.List.{take_more, map-append}
 use Rattle.sqlite.specs.State.{State}
 use Rattle.upd_core.specs.declared.change.Change.{Change}
-use Rattle.upd_records.specs.Changes.{ChangeView, done, done_all, change_seen}
+use Rattle.upd_records.specs.Changes.{ChangeView, done, done_all, change_view}
 use Rattle.upd_records.specs.Rows.{Rows}
 use Rattle.upd_records.specs.Fits.{Fits, AllFit}
 use Rattle.upd_sqlite.specs.Steps.{Makes}
@@ -36,6 +36,6 @@ one_made cs d a b c x y p q =
     record { steps = record { going = whole.steps.going; kept = whole.steps.kept; survives = whole.steps.survives }; made = whole.made }
 
 pub seen_more : (changes : List Change) (i : ℕ) (c : Change) → i < length changes → c ≡ get_or changes i c
-    → map change_seen (take (i + 1) changes) ≡ map change_seen (take i changes) ++ change_seen c ∷ []
+    → map change_view (take (i + 1) changes) ≡ map change_view (take i changes) ++ change_view c ∷ []
 seen_more changes i c within is =
-    ap (map change_seen) (take_more changes i c within ∙ ap (λ x. take i changes ++ x ∷ []) (sym is)) ∙ map-append change_seen (take i changes) (c ∷ [])
+    ap (map change_view) (take_more changes i c within ∙ ap (λ x. take i changes ++ x ∷ []) (sym is)) ∙ map-append change_view (take i changes) (c ∷ [])

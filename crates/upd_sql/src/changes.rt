@@ -1,7 +1,7 @@
 //! Row changes carried out by statements.
 ghost use Rattle.std.specs.Prelude.{◌≡◌, map};
 ghost use Rattle.sqlite.specs.Held.{state};
-ghost use Rattle.upd_records.specs.Changes.{done, done_all, change_seen, CardGone, CardsMoved, CountNow, StatusNow};
+ghost use Rattle.upd_records.specs.Changes.{done, done_all, change_view, CardGone, CardsMoved, CountNow, StatusNow};
 ghost use Rattle.upd_records.specs.Fits.{AllFit, Fits};
 ghost use Rattle.upd_sqlite.specs.Steps.{Makes};
 ghost use Rattle.upd_sql.specs.Sizes.{KeepsSizes, Sized, SizedAll};
@@ -74,9 +74,9 @@ fn move_cards<S: Alter>(
 /// Carries out one change.
 fn carry_out<S: Alter>(tx: &mut Transaction<'_, S>, change: &Change) -> Result<(), Error>
     ensures same_reference { tx.new.conn.ghost_name ≡ tx.old.conn.ghost_name }
-    ensures makes { Makes Stands (Fits (change_seen change.now)) (done (change_seen change.now))
+    ensures makes { Makes Stands (Fits (change_view change.now)) (done (change_view change.now))
         (state S.Store tx.old.conn.now) (state S.Store tx.new.conn.now) result }
-    ensures sized { Sized (change_seen change.now)
+    ensures sized { Sized (change_view change.now)
         (state S.Store tx.old.conn.now) (state S.Store tx.new.conn.now) result }
 {
     match change {
@@ -102,9 +102,9 @@ fn carry_out<S: Alter>(tx: &mut Transaction<'_, S>, change: &Change) -> Result<(
 /// Carries out changes in order, inside a transaction.
 pub fn carry_out_all<S: Alter>(tx: &mut Transaction<'_, S>, changes: &[Change]) -> Result<(), Error>
     ensures same_reference { tx.new.conn.ghost_name ≡ tx.old.conn.ghost_name }
-    ensures makes { Makes Stands (AllFit (map change_seen changes.now)) (done_all (map change_seen changes.now))
+    ensures makes { Makes Stands (AllFit (map change_view changes.now)) (done_all (map change_view changes.now))
         (state S.Store tx.old.conn.now) (state S.Store tx.new.conn.now) result }
-    ensures sized { SizedAll (map change_seen changes.now)
+    ensures sized { SizedAll (map change_view changes.now)
         (state S.Store tx.old.conn.now) (state S.Store tx.new.conn.now) result }
 {
     for change in changes {

@@ -2,7 +2,7 @@
 ghost use Rattle.std.specs.Prelude.{◌≡◌, false, map, IsTrue, OnErr, OnOk};
 ghost use Rattle.sqlite.specs.Held.{state};
 ghost use Rattle.sqlite.specs.State.{HasCleanDisk, Survives};
-ghost use Rattle.upd_records.specs.Changes.{change_seen};
+ghost use Rattle.upd_records.specs.Changes.{change_view};
 ghost use Rattle.upd_records.specs.Fits.{AllFit};
 ghost use Rattle.upd_row_store.specs.Tables.{committed};
 ghost use Rattle.upd_sql.specs.Commits.{Commits, MayCommit};
@@ -26,18 +26,18 @@ pub fn commit_changes<S: Rising>(
     requires { conn.old.in_transaction ≡ false }
     ensures outside { conn.new.in_transaction ≡ false }
     ensures done { HasCleanDisk (state S.Store conn.new) → OnOk result
-        (Commits (AllFit (map change_seen changes.now)) (committed (map change_seen changes.now) row.now)
+        (Commits (AllFit (map change_view changes.now)) (committed (map change_view changes.now) row.now)
         (state S.Store conn.old) (state S.Store conn.new)) }
     ensures undone { HasCleanDisk (state S.Store conn.new) → IsTrue (state S.Store conn.new).is_open
         → OnErr result (IsTrue (state S.Store conn.old).is_open × ((state S.Store conn.new).committed
         ≡ (state S.Store conn.old).committed)) }
     ensures crash { Survives (state S.Store conn.old) (state S.Store conn.new)
-        (MayCommit (AllFit (map change_seen changes.now)) (committed (map change_seen changes.now) row.now)
+        (MayCommit (AllFit (map change_view changes.now)) (committed (map change_view changes.now) row.now)
         (state S.Store conn.old)) }
     ensures sized { HasCleanDisk (state S.Store conn.new) → OnOk result
-        ((state S.Store conn.old).committed.schema ≡ library_schema → TakeNone (map change_seen changes.now)
+        ((state S.Store conn.old).committed.schema ≡ library_schema → TakeNone (map change_view changes.now)
         → (n : Sizes) → HasSizes n (state S.Store conn.old).committed.trees
-        → HasSizes (sized_all (map change_seen changes.now) n) (state S.Store conn.new).committed.trees) }
+        → HasSizes (sized_all (map change_view changes.now) n) (state S.Store conn.new).committed.trees) }
 {
     note_order_outside(conn);
     // For its clause alone: outside a transaction the tables are those of the last commit.

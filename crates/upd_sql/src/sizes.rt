@@ -1,6 +1,6 @@
 //! How many cards and entries there are, kept up over row changes.
 ghost use Rattle.std.specs.Prelude.{◌≡◌, map, IfSome};
-ghost use Rattle.upd_records.specs.Changes.{change_seen};
+ghost use Rattle.upd_records.specs.Changes.{change_view};
 ghost use Rattle.upd_sql.specs.Sizes.{LeadToSizes, TakesNone, sized};
 
 use upd_core::Change;
@@ -14,8 +14,8 @@ pub struct Sizes {
 
 /// The numbers after a change; none where it takes cards or entries away, or there would be too many.
 fn size_after(sizes: Sizes, change: &Change) -> Option<Sizes>
-    ensures takes_none { IfSome result (λ m. TakesNone (change_seen change.now)) }
-    ensures sized { IfSome result (λ m. m ≡ sized (change_seen change.now) sizes) }
+    ensures takes_none { IfSome result (λ m. TakesNone (change_view change.now)) }
+    ensures sized { IfSome result (λ m. m ≡ sized (change_view change.now) sizes) }
 {
     let Sizes { cards, entries } = sizes;
     match change {
@@ -34,7 +34,7 @@ fn size_after(sizes: Sizes, change: &Change) -> Option<Sizes>
 
 /// The numbers after changes, where they were known before and no change takes cards or entries away.
 pub fn sizes_after(known: Option<Sizes>, changes: &[Change]) -> Option<Sizes>
-    ensures { IfSome result (λ m. LeadToSizes (map change_seen changes.now) known m) }
+    ensures { IfSome result (λ m. LeadToSizes (map change_view changes.now) known m) }
 {
     let mut sizes = known?;
     for change in changes {

@@ -2,7 +2,7 @@
 use crate::check::{same_number, same_text};
 use crate::shelf::{Fresh, adopted};
 use crate::tables::{kept_tables, wanted_tables};
-use crate::talk::{Ask, Talk, told};
+use crate::talk::{Ask, Talk, row_changes};
 use sqlite::MemStore;
 use std::alloc::Global;
 use std::process::Abort;
@@ -82,7 +82,7 @@ fn says_same(
     ask: Ask<'_>,
     wanted: Result<Vec<u8>, Fault>,
 ) -> Result<(), Fail> {
-    let wanted = told(talk.alloc, wanted)?;
+    let wanted = row_changes(talk.alloc, wanted)?;
     talk.says(rt, ask, wanted.as_str())
 }
 

@@ -5,7 +5,7 @@ ghost use Rattle.upd_records.specs.Rows.{Rows};
 ghost use Rattle.upd_row_store.specs.Keeping.{IsLost};
 
 use crate::check::{same_number, same_text};
-use crate::talk::{Ask, Talk, accepted, lyon, refused, same_answer, told};
+use crate::talk::{Ask, Talk, accepted, lyon, refused, same_answer, row_changes};
 use std::alloc::Global;
 use std::process::Abort;
 use std::test::Fail;
@@ -195,7 +195,7 @@ fn run_all(alloc: Global, list: &[Arrival<'_>], passing: u64) -> Result<String, 
     let mut desk = Desk::open(Failing::new(alloc, passing));
     let mut text = String::new(alloc);
     for answer in desk.run_all(alloc, list)? {
-        let answer = told(alloc, answer.map(|reply| reply.text))?;
+        let answer = row_changes(alloc, answer.map(|reply| reply.text))?;
         write!(text, "{answer}\n")?;
     }
     Ok(text)

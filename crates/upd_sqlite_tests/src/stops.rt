@@ -1,7 +1,7 @@
 //! A stop at each call of the disk: what is opened again holds the answered arrivals, with or without the one in hand.
 use crate::check::same;
 use crate::tables::{kept_tables, wanted_tables};
-use crate::talk::{Ask, Talk, lyon, plainly, told};
+use crate::talk::{Ask, Talk, lyon, plainly, row_changes};
 use sqlite::{Connection, FileStore, Options};
 use sqlite_disk::{Crash, Disk, Files, Fuse, Memory};
 use std::alloc::Global;
@@ -122,7 +122,7 @@ fn is_lost(fault: Fault) -> bool {
 fn answer(talk: &mut Talk<FileStored>, ask: Ask<'_>) -> Result<Option<String>, Fail> {
     match talk.answer(ask)? {
         Err(fault) if is_lost(fault) => Ok(None),
-        answer => Ok(Some(told(talk.alloc, answer)?)),
+        answer => Ok(Some(row_changes(talk.alloc, answer)?)),
     }
 }
 

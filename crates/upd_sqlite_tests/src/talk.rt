@@ -72,7 +72,7 @@ impl<S: RowStore> Talk<S> {
     /// The answer of the desk alone, or the fault in its place.
     pub fn ask(&mut self, ask: Ask<'_>) -> Result<String, Fail> {
         let answer = self.answer(ask)?;
-        told(self.alloc, answer)
+        row_changes(self.alloc, answer)
     }
 
     /// The answer of the desk alone, as its bytes; a mark as its digits.
@@ -178,7 +178,7 @@ pub fn plainly(plain: &mut Plain, ask: Ask<'_>) -> Result<String, Fail> {
 }
 
 /// An answer as text, or the fault in its place.
-pub fn told(alloc: Global, answer: Result<Vec<u8>, Fault>) -> Result<String, Fail> {
+pub fn row_changes(alloc: Global, answer: Result<Vec<u8>, Fault>) -> Result<String, Fail> {
     match answer {
         Ok(text) => Ok(String::from_str(alloc, std::str::from_utf8(&text)?)?),
         Err(fault) => Ok(format!(in alloc; "{fault}")?),

@@ -97,7 +97,7 @@ answered old new rows all schema has found =
 -- the version alone, and nothing where there is no row
 pub version_shown : (v : ℕ) (old new : State) (rows : List Row) → TellsVersion v old.now → Shown version_text [] old new rows
     → (rows ≡ (num v ∷ []) ∷ []) ⊎ ((v ≡ 0) × (rows ≡ []))
-version_shown v old new rows h found = elim h.told [
+version_shown v old new rows h found = elim h.row_changes [
   | inl row ↦ inl (one_permutation _ rows (subst (λ l. IsPermutation l rows) (one_row v) (answered old new rows _ h.schema row found)))
   | inr none ↦ inr (none.0, nil_from_length rows (length_permutation [] rows (answered old new rows [] h.schema none.1 found)))
 ]

@@ -14,4 +14,4 @@ IsLibrarySchema s = (s ≡ first_tables 6) ⊎ ((s ≡ first_tables 8) ⊎ (s �
 -- Its table `meta` tells a version and nothing else; without a row it tells 0.
 pub record TellsVersion (v : ℕ) (db : Database) : Type 0 where
   pub schema : IsLibrarySchema db.schema
-  pub told : HasRows db.trees meta (version_row v ∷ []) ⊎ ((v ≡ 0) × HasRows db.trees meta [])
+  pub row_changes : HasRows db.trees meta (version_row v ∷ []) ⊎ ((v ≡ 0) × HasRows db.trees meta [])

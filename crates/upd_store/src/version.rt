@@ -25,7 +25,7 @@ fn version_in<S: Alter>(tx: &mut Transaction<'_, S>) -> Result<u32, Error>
     ensures same_reference { tx.new.conn.ghost_name ≡ tx.old.conn.ghost_name }
     ensures steps { Steps (state S.Store tx.old.conn.now) (state S.Store tx.new.conn.now) result }
     ensures was_open { WasOpen (state S.Store tx.old.conn.now) (state S.Store tx.new.conn.now) result }
-    ensures told { HasCleanDisk (state S.Store tx.new.conn.now)
+    ensures row_changes { HasCleanDisk (state S.Store tx.new.conn.now)
         → IfOk result (λ n. (v : ℕ) → TellsVersion v (state S.Store tx.old.conn.now).now → n ≡ v) }
 {
     let rows = ask(tx, "SELECT v FROM meta WHERE k = 'version'", &[])?;
@@ -41,7 +41,7 @@ pub fn version_of<S: Alter>(conn: &mut Connection<S>) -> Result<u32, Error>
     ensures same { HasCleanDisk (state S.Store conn.new) → IsTrue (state S.Store conn.new).is_open
         → (state S.Store conn.new).committed ≡ (state S.Store conn.old).committed }
     ensures survives { Survives (state S.Store conn.old) (state S.Store conn.new) (λ _. ⊥) }
-    ensures told { HasCleanDisk (state S.Store conn.new) → IfOk result
+    ensures row_changes { HasCleanDisk (state S.Store conn.new) → IfOk result
         (λ n. (v : ℕ) → TellsVersion v (state S.Store conn.old).committed → n ≡ v) }
 {
     // For its clause alone: outside a transaction the tables are those of the last commit.

@@ -79,11 +79,11 @@ pub fn kept<R: RowStore>(alloc: Global, store: &mut R, number: u64) -> Result<St
 
 /// Texts one behind the other.
 fn joined(alloc: Global, texts: &[Vec<u8>]) -> Result<String, Fail> {
-    let mut told = String::new(alloc);
+    let mut row_changes = String::new(alloc);
     for text in texts {
-        told.push_str(std::str::from_utf8(text)?)?;
+        row_changes.push_str(std::str::from_utf8(text)?)?;
     }
-    Ok(told)
+    Ok(row_changes)
 }
 
 /// The listing of the idents, of a deck and of the yanks.

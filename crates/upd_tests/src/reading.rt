@@ -68,7 +68,7 @@ fn card_references_have_a_name_and_a_number(rt: HostRuntime) {
 }
 
 /// What a line says, by each of the calls that look at lines.
-fn told(alloc: Global, line: &[u8]) -> Result<String, Fail> {
+fn row_changes(alloc: Global, line: &[u8]) -> Result<String, Fail> {
     if is_comment(line) {
         Ok(String::from_str(alloc, "a comment")?)
     } else if !is_starred(line) {
@@ -86,16 +86,16 @@ fn told_call(alloc: Global, called: &[u8]) -> Result<String, Fail> {
 }
 
 fn told_fields(alloc: Global, word: &[u8], line: &[u8]) -> Result<String, Fail> {
-    let mut told = String::from_str(alloc, text(word)?)?;
+    let mut row_changes = String::from_str(alloc, text(word)?)?;
     for field in &fields(alloc, line)? {
-        push_field(&mut told, field)?;
+        push_field(&mut row_changes, field)?;
     }
-    Ok(told)
+    Ok(row_changes)
 }
 
-fn push_field(told: &mut String, field: &[u8]) -> Result<(), Fail> {
+fn push_field(row_changes: &mut String, field: &[u8]) -> Result<(), Fail> {
     let field = text(field)?;
-    Ok(write!(told, "|{field}")?)
+    Ok(write!(row_changes, "|{field}")?)
 }
 
 const LINES: &[(&str, &str)] = &[
@@ -118,8 +118,8 @@ const LINES: &[(&str, &str)] = &[
 #[test]
 fn lines_have_words_and_fields(rt: HostRuntime) -> Result<(), Fail> {
     for (line, wanted) in LINES {
-        let told = told(rt.alloc(), line.as_bytes())?;
-        same_text(&rt, line, told.as_str(), wanted);
+        let row_changes = row_changes(rt.alloc(), line.as_bytes())?;
+        same_text(&rt, line, row_changes.as_str(), wanted);
     }
     Ok(())
 }
@@ -157,25 +157,25 @@ fn name_if(is_it: bool, name: &'static str) -> &'static str {
 /// The lines of a run, each with its number and span.
 fn told_lines(alloc: Global, run: &[u8]) -> Result<String, Fail> {
     let run = read_run(alloc, run)?;
-    let mut told = String::new(alloc);
+    let mut row_changes = String::new(alloc);
     for line in run.lines() {
-        push_line(&mut told, line.number, line.span, text(line.text)?)?;
+        push_line(&mut row_changes, line.number, line.span, text(line.text)?)?;
     }
-    Ok(told)
+    Ok(row_changes)
 }
 
-fn push_line(told: &mut String, number: u32, span: Span, text: &str) -> Result<(), Fail> {
+fn push_line(row_changes: &mut String, number: u32, span: Span, text: &str) -> Result<(), Fail> {
     let Span { start, end } = span;
-    Ok(write!(told, "{number} {start}..{end} {text}\n")?)
+    Ok(write!(row_changes, "{number} {start}..{end} {text}\n")?)
 }
 
 fn told_items(alloc: Global, run: &[u8]) -> Result<String, Fail> {
     let run = read_run(alloc, run)?;
-    let mut told = String::new(alloc);
+    let mut row_changes = String::new(alloc);
     for line in run.lines() {
-        write!(told, "{}\n", item_name(&line.item))?;
+        write!(row_changes, "{}\n", item_name(&line.item))?;
     }
-    Ok(told)
+    Ok(row_changes)
 }
 
 const THREE_LINES: &str = "*ID X cleanup  \r\n*/ note\n*IDENT\tY\nlast\t";
@@ -199,9 +199,9 @@ common deck, noprop
 
 #[test]
 fn runs_are_read_line_by_line(rt: HostRuntime) -> Result<(), Fail> {
-    let told = told_lines(rt.alloc(), THREE_LINES.as_bytes())?;
+    let row_changes = told_lines(rt.alloc(), THREE_LINES.as_bytes())?;
     let wanted = "1 0..13 *ID X cleanup\n3 25..33 *IDENT\tY\n4 34..39 last\t\n";
-    same_text(&rt, "the lines", told.as_str(), wanted);
+    same_text(&rt, "the lines", row_changes.as_str(), wanted);
     Ok(())
 }
 
@@ -212,8 +212,8 @@ fn fields_are_read_by_their_word(rt: HostRuntime) -> Result<(), Fail> {
         (SIX_LINES, SIX_ITEMS),
     ];
     for (run, wanted) in RUNS {
-        let told = told_items(rt.alloc(), run.as_bytes())?;
-        same_text(&rt, run, told.as_str(), wanted);
+        let row_changes = told_items(rt.alloc(), run.as_bytes())?;
+        same_text(&rt, run, row_changes.as_str(), wanted);
     }
     Ok(())
 }

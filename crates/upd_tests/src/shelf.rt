@@ -100,7 +100,7 @@ impl Shelf {
     fn run(&mut self, text: &str) -> Result<String, Fail> {
         match self.apply(text) {
             Ok(_) => Ok(String::from_str(self.alloc(), "accepted")?),
-            Err(fault) => told(self.alloc(), fault),
+            Err(fault) => row_changes(self.alloc(), fault),
         }
     }
 
@@ -159,7 +159,7 @@ fn same_answer(rt: &impl Abort, ask: Ask<'_>, found: &str, wanted: &str) {
     assert_eq!(rt; found, wanted, "{ask:?}");
 }
 
-fn told(alloc: Global, fault: Fault) -> Result<String, Fail> {
+fn row_changes(alloc: Global, fault: Fault) -> Result<String, Fail> {
     Ok(format!(in alloc; "{fault}")?)
 }
 
@@ -168,12 +168,12 @@ fn ages(alloc: Global, ages: &[Serial]) -> Result<String, Fail> {
 }
 
 fn told_applied(alloc: Global, applied: &Applied) -> Result<String, Fail> {
-    let mut told = ages(alloc, &applied.idents)?;
-    write!(told, " {:?}", applied.compile.as_slice())?;
+    let mut row_changes = ages(alloc, &applied.idents)?;
+    write!(row_changes, " {:?}", applied.compile.as_slice())?;
     for card in &applied.touched {
-        write!(told, " {card}")?;
+        write!(row_changes, " {card}")?;
     }
-    Ok(told)
+    Ok(row_changes)
 }
 
 fn changes(before: &Library, after: &Library) -> Result<String, Fail> {
@@ -191,7 +191,7 @@ fn compiled(
     let alloc = after.allocator();
     match compile_file(alloc, after, before, mode, named) {
         Ok(file) => cards(alloc, &file),
-        Err(fault) => told(alloc, fault),
+        Err(fault) => row_changes(alloc, fault),
     }
 }
 
@@ -199,14 +199,14 @@ fn line_count(library: &Library, mode: Mode) -> Result<String, Fail> {
     let alloc = library.allocator();
     match compile_file(alloc, library, library, mode, &[]) {
         Ok(file) => Ok(format!(in alloc; "{}", file.lines)?),
-        Err(fault) => told(alloc, fault),
+        Err(fault) => row_changes(alloc, fault),
     }
 }
 
 fn listing(alloc: Global, listing: Result<Vec<u8>, Fault>) -> Result<String, Fail> {
     match listing {
         Ok(bytes) => Ok(String::from_utf8(bytes)?),
-        Err(fault) => told(alloc, fault),
+        Err(fault) => row_changes(alloc, fault),
     }
 }
 

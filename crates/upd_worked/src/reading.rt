@@ -3,20 +3,20 @@ ghost use Rattle.std.specs.Prelude.{◌≡◌, ◌++◌, [], ◌∷◌, codes, r
 ghost use Rattle.upd_text.specs.declared.fault.FaultKind.TheVariants.{BadByte, BadCard, BadField, BadName, LineLong};
 ghost use Rattle.upd_text.specs.declared.fault.FaultKind.TheVariants.{Reserved};
 ghost use Rattle.upd_compile.specs.Listings.{deck_listing};
-ghost use Rattle.upd_worked.specs.Worked.{after, deck_a, refused, told};
+ghost use Rattle.upd_worked.specs.Worked.{after, deck_a, refused, row_changes};
 
 /// Lines that are read as they stand.
 pub fn texts()
     // A tab is a byte of the text and no blank, so it ends no word.
-    ensures tab { told (codes "*DECK A\n*IDENT\tX\n" ∷ []) (deck_listing (codes "A"))
+    ensures tab { row_changes (codes "*DECK A\n*IDENT\tX\n" ∷ []) (deck_listing (codes "A"))
         ≡ Ok (codes "DECK A\nA A.1 *DECK A\nA A.2 *IDENT\tX\n") }
     // Trailing blanks are dropped, CR LF ends a line as LF does, and the last line needs neither.
-    ensures ends { told (codes "*DECK A  \r\nONE \nTWO" ∷ []) (deck_listing (codes "A"))
+    ensures ends { row_changes (codes "*DECK A  \r\nONE \nTWO" ∷ []) (deck_listing (codes "A"))
         ≡ Ok (codes "DECK A\nA A.1 *DECK A\nA A.2 ONE\nA A.3 TWO\n") }
     // A line of no bytes, or of blanks, is a text card of no bytes.
-    ensures empty { told (codes "*DECK A\n\n  " ∷ []) (deck_listing (codes "A"))
+    ensures empty { row_changes (codes "*DECK A\n\n  " ∷ []) (deck_listing (codes "A"))
         ≡ Ok (codes "DECK A\nA A.1 *DECK A\nA A.2 \nA A.3 \n") }
-    ensures longest { told ((codes "*DECK A\n" ++ replicate 80 84 ++ codes " \n") ∷ []) (deck_listing (codes "A"))
+    ensures longest { row_changes ((codes "*DECK A\n" ++ replicate 80 84 ++ codes " \n") ∷ []) (deck_listing (codes "A"))
         ≡ Ok (codes "DECK A\nA A.1 *DECK A\nA A.2 " ++ replicate 80 84 ++ codes "\n") }
 {}
 

@@ -11,7 +11,7 @@ pub mod LeftLemmas
 pub mod RowLemmas
 pub mod ReachLemmas
 pub mod UnflippedLemmas
-pub mod ToldLemmas
+pub mod StatusChangeLemmas
 pub mod WholeLemmas
 pub mod OnlyLemmas
 pub mod EnoughLemmas

@@ -6,28 +6,28 @@ use Rattle.upd_core.specs.declared.target.Target.{Target}
 use Rattle.upd_core.specs.TargetCounts.{count_in}
 use Rattle.upd_records.specs.Changes.{ChangeView, IdentNew, IdentPurged, CardNew, CardGone, CardsMoved, EntryNew, EntriesGone, TargetNew, TargetsGone}
 use Rattle.upd_records.specs.Changes.{StatusNow, CountNow}
-use Rattle.upd_diff.specs.States.{tells_state}
+use Rattle.upd_diff.specs.States.{row_changes_state}
 use Rattle.upd_diff.proofs.AllLemmas.{all_joined, each_flat}
 use Rattle.upd_yank.specs.Affected.{is_other}
 use Rattle.upd_yank.specs.Right.{kept_status}
-use Rattle.upd_yank.specs.Told.{again_told, all_again_told, count_told, counts_told, settling_told, status_of_card, status_told, statuses_told, zero_told}
+use Rattle.upd_yank.specs.StatusChanges.{repeated_statuses, all_repeated_statuses, count_changes, all_count_changes, update_changes, status_of_card, status_change, status_changes, zero_changes}
 
-abbrev TellsState : ChangeView → Type 0
-TellsState c = tells_state c ≡ true
+abbrev StatusRowChanges : ChangeView → Type 0
+StatusRowChanges c = row_changes_state c ≡ true
 
-one_or_none : (b : Bool) (c : ChangeView) → TellsState c → AllByRecursion TellsState (if b then c ∷ [] else [])
+one_or_none : (b : Bool) (c : ChangeView) → StatusRowChanges c → AllByRecursion StatusRowChanges (if b then c ∷ [] else [])
 one_or_none true c is = (is, tt)
 one_or_none false c is = tt
 
-none_or_one : (b : Bool) (c : ChangeView) → TellsState c → AllByRecursion TellsState (if b then [] else c ∷ [])
+none_or_one : (b : Bool) (c : ChangeView) → StatusRowChanges c → AllByRecursion StatusRowChanges (if b then [] else c ∷ [])
 none_or_one true c is = tt
 none_or_one false c is = (is, tt)
 
-card_only : (card : CardRef) (status : Option Bool) → AllByRecursion TellsState (status_of_card card status)
+card_only : (card : CardRef) (status : Option Bool) → AllByRecursion StatusRowChanges (status_of_card card status)
 card_only card None = tt
 card_only card (Some active) = (refl, tt)
 
-again_only : (now : CardRef → Option Bool) (c : ChangeView) → AllByRecursion TellsState (again_told now c)
+again_only : (now : CardRef → Option Bool) (c : ChangeView) → AllByRecursion StatusRowChanges (repeated_statuses now c)
 again_only now (CardGone card) = card_only card (now card)
 again_only now (IdentNew ident) = tt
 again_only now (IdentPurged age) = tt
@@ -41,15 +41,15 @@ again_only now (StatusNow card active) = tt
 again_only now (CountNow target n) = tt
 
 pub settling_only : (known found kept : List (CardRef × Bool)) (run : List ChangeView) (had has : List (Target × ℕ))
-    → AllByRecursion (λ c. tells_state c ≡ true) (settling_told known found kept run had has)
+    → AllByRecursion (λ c. row_changes_state c ≡ true) (update_changes known found kept run had has)
 settling_only known found kept run had has =
-    all_joined TellsState (statuses_told (kept_status known) found ++ all_again_told (kept_status kept) run) (counts_told had has)
-    (all_joined TellsState (statuses_told (kept_status known) found) (all_again_told (kept_status kept) run)
-    (each_flat TellsState (status_told (kept_status known))
+    all_joined StatusRowChanges (status_changes (kept_status known) found ++ all_repeated_statuses (kept_status kept) run) (all_count_changes had has)
+    (all_joined StatusRowChanges (status_changes (kept_status known) found) (all_repeated_statuses (kept_status kept) run)
+    (each_flat StatusRowChanges (status_change (kept_status known))
     (λ p. one_or_none (is_other p.1 (kept_status known p.0)) (StatusNow p.0 p.1) refl) found)
-    (each_flat TellsState (again_told (kept_status kept)) (again_only (kept_status kept)) run))
-    (all_joined TellsState _ _
-    (each_flat TellsState (count_told (count_in had) (count_in has))
+    (each_flat StatusRowChanges (repeated_statuses (kept_status kept)) (again_only (kept_status kept)) run))
+    (all_joined StatusRowChanges _ _
+    (each_flat StatusRowChanges (count_changes (count_in had) (count_in has))
     (λ p. none_or_one (count_in has p.0 == count_in had p.0) (CountNow p.0 (count_in has p.0)) refl) has)
-    (each_flat TellsState (zero_told (count_in had) (count_in has))
+    (each_flat StatusRowChanges (zero_changes (count_in had) (count_in has))
     (λ p. one_or_none ((count_in has p.0 == 0) && not (count_in had p.0 == 0)) (CountNow p.0 0) refl) had))

@@ -25,7 +25,7 @@ use Rattle.upd_yank.proofs.EnoughLemmas.{Sees}
 use Rattle.upd_yank.proofs.FlipLemmas.{same_active, status_is}
 use Rattle.upd_yank.proofs.KeptLemmas.{untouched_status}
 use Rattle.upd_yank.proofs.SettleLemmas.{settled_is}
-use Rattle.upd_yank.proofs.ToldLemmas.{IsSettled}
+use Rattle.upd_yank.proofs.StatusChangeLemmas.{IsSettled}
 use Rattle.upd_yank.proofs.WholeLemmas.{whole_right}
 use Rattle.upd_yank.proofs.StateLemmas.{HadStatus, all_counted, put_all, stay_right, statuses_are, unfound_stayed}
 use Rattle.upd_yank.proofs.WorkLemmas.{Agrees, HasStatus, IsListed, is_found, all_agree, all_both, all_listed_back, all_listed_others, all_map, found_back, length_back}

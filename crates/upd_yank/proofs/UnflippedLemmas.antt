@@ -60,7 +60,7 @@ some_listed before now (p ∷ ps) some =
 pub some_flipped : (had has : List (Target × ℕ)) (flipped : Bool) →
     flipped ≡ (list_any (λ p. is_flipped (count_in had) (count_in has) p.0) had || list_any (λ p. is_flipped (count_in had) (count_in has) p.0) has) →
     (flipped ≡ true) ↔ ((t : Target) × (is_flipped (count_in had) (count_in has) t ≡ true))
-some_flipped had has flipped is = (found, told flipped is)
+some_flipped had has flipped is = (found, row_changes flipped is)
   where
     listed : List (Target × ℕ) → Bool
     listed ps = list_any (λ p. is_flipped (count_in had) (count_in has) p.0) ps
@@ -72,9 +72,9 @@ some_flipped had has flipped is = (found, told flipped is)
         go (inl before) = some_listed (count_in had) (count_in has) had before
         go (inr now) = some_listed (count_in had) (count_in has) has now
 
-    told : (b : Bool) → b ≡ (listed had || listed has) → ((t : Target) × (is_flipped (count_in had) (count_in has) t ≡ true)) → b ≡ true
-    told true e some = refl
-    told false e some =
+    row_changes : (b : Bool) → b ≡ (listed had || listed has) → ((t : Target) × (is_flipped (count_in had) (count_in has) t ≡ true)) → b ≡ true
+    row_changes true e some = refl
+    row_changes false e some =
         let parts = or_parts (listed had) (listed has) (sym e) in
         let none = none_flipped had has parts.0 parts.1 some.0 in
         absurd (let flips = some.1 in cc)
@@ -82,7 +82,7 @@ some_flipped had has flipped is = (found, told flipped is)
 -- what no target does where it is told that none does
 pub none_told : {flipped : Bool} (before now : Target → ℕ) → ((flipped ≡ true) ↔ ((t : Target) × (is_flipped before now t ≡ true))) → flipped ≡ false →
     (t : Target) → is_flipped before now t ≡ false
-none_told before now told none t = false_from_ne_true (is_flipped before now t) (λ some. iff_false told none (t, some))
+none_told before now row_changes none t = false_from_ne_true (is_flipped before now t) (λ some. iff_false row_changes none (t, some))
 
 none_retaken : (before now : Target → ℕ) (d : ℕ) (es : List Entry) → ((t : Target) → is_flipped before now t ≡ false) →
     list_any (is_retaken before now d) es ≡ false

@@ -2,5 +2,5 @@ pub mod Cascade
 pub mod Right
 pub mod Affected
 pub mod Enough
-pub mod Told
+pub mod StatusChanges
 pub mod Renewed

@@ -9,9 +9,9 @@ ghost use Rattle.upd_core.specs.Sound.{IsSound};
 ghost use Rattle.upd_core.specs.TargetCounts.{count_in};
 ghost use Rattle.upd_text.specs.Faults.{fault_at};
 ghost use Rattle.upd_text.specs.declared.fault.FaultKind.TheVariants.{NoMemory};
-ghost use Rattle.upd_records.specs.Changes.{change_seen, done_all};
+ghost use Rattle.upd_records.specs.Changes.{change_view, done_all};
 ghost use Rattle.upd_records.specs.Rows.{Rows, ShowsStates};
-ghost use Rattle.upd_diff.specs.States.{TakeGone, tells_state};
+ghost use Rattle.upd_diff.specs.States.{TakeGone, row_changes_state};
 ghost use Rattle.upd_yank.specs.Affected.{affected, altered};
 ghost use Rattle.upd_yank.specs.Enough.{IsEnough};
 ghost use Rattle.upd_yank.specs.Renewed.{renewed};
@@ -20,7 +20,7 @@ ghost use Rattle.upd_yank.specs.Right.{IsRight, IsRunBetween, AreStatesOf, kept_
 use crate::cascade::{Before, settling};
 use crate::renewing::renewed_decks;
 use crate::statuses::Statuses;
-use crate::told::tell;
+use crate::status_changes::tell;
 use crate::touched::Touched;
 use std::alloc::{AllocError, Global};
 use std::marker::Model;
@@ -108,12 +108,12 @@ impl Cache {
             OnOk result (length (altered old new) ≤ self.new.work) }
         ensures changes { (old new : LibraryView) → IsEnough applied.now.touched.items old new counted.old.library →
             IsRunBetween old new self.old applied.now.touched.items →
-            TakeGone old new (map change_seen applied.now.changes.items) →
+            TakeGone old new (map change_view applied.now.changes.items) →
             (rows : Rows) → ShowsStates rows old → IfOk result (λ changes.
-            ShowsStates (done_all (map change_seen changes.items) (done_all (map change_seen applied.now.changes.items)
+            ShowsStates (done_all (map change_view changes.items) (done_all (map change_view applied.now.changes.items)
             rows)) new) }
         ensures only { IfOk result (λ changes.
-            AllByRecursion (λ c. tells_state c ≡ true) (map change_seen changes.items)) }
+            AllByRecursion (λ c. row_changes_state c ≡ true) (map change_view changes.items)) }
         ensures reads { counted.old.histories_read ≡ 0 → OnOk result (counted.new.histories_read ≡ self.new.work) }
         ensures err { IsOkUnless result (fault_at NoMemory 0) × OnErr result (self.new ≡ self.old) }
     {

@@ -7,7 +7,7 @@ mod cascade;
 pub mod laws;
 mod renewing;
 mod statuses;
-mod told;
+mod status_changes;
 mod touched;
 
 pub use cache::Cache;

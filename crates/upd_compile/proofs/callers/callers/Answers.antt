@@ -4,29 +4,29 @@ use Rattle.std.proofs.lemmas.List.{length-map}
 use Rattle.std.proofs.lemmas.Option.{gets, slice_get-map}
 use Rattle.upd_compile.proofs.FollowLemmas.{callers-all, callers-more, callers-same}
 use Rattle.upd_compile.proofs.callers.callers.Goals as goal
-use Rattle.upd_compile.proofs.callers.callers.Goals.{then-marks-position+in_ok-add_to_all, else-marks-position}
+use Rattle.upd_compile.proofs.callers.callers.Goals.{then-flags-position+in_ok-add_to_all, else-flags-position}
 
 pub loop-position-preserved : goal.loop-position-preserved
 loop-position-preserved c =
-    let marks = c.args.marks.now in
+    let flags = c.args.flags.now in
     let calls : List (List ℕ) = map (λ (list : Vec ℕ Global). list.items) c.args.calls.now in
     let i = c.loop-position.position in
-    let within : i < length marks = search rules in
-    elim c.if-marks-position.branch [
-      | then-marks-position+in_ok-add_to_all w ↦
+    let within : i < length flags = search rules in
+    elim c.if-flags-position.branch [
+      | then-flags-position+in_ok-add_to_all w ↦
           let at : slice_get c.args.calls.now i ≡ Some w.index-calls-position.result = grind (arith, common_steps, gets) in
           let found : slice_get calls i ≡ Some w.deref.result.now = slice_get-map (λ (list : Vec ℕ Global). list.items) c.args.calls.now i
           ∙ rw (at, w.deref.ensures.value) refl in
-          let marked : true ≡ get_or marks i true = search rules in
-          rw w.callers-is (callers-more calls marks i w.deref.result.now _ _ _ within found marked c.loop-position.invariant w.in_ok-add_to_all.ensures)
-      | else-marks-position w ↦
-          let unmarked : false ≡ get_or marks i false = search rules in
-          rw w.callers-is (callers-same calls marks i _ _ within unmarked c.loop-position.invariant)
+          let visited : true ≡ get_or flags i true = search rules in
+          rw w.callers-is (callers-more calls flags i w.deref.result.now _ _ _ within found visited c.loop-position.invariant w.in_ok-add_to_all.ensures)
+      | else-flags-position w ↦
+          let unvisited : false ≡ get_or flags i false = search rules in
+          rw w.callers-is (callers-same calls flags i _ _ within unvisited c.loop-position.invariant)
     ]
 
 pub returns : goal.returns
 returns c =
     let calls : List (List ℕ) = map (λ (list : Vec ℕ Global). list.items) c.args.calls.now in
     let count : length c.args.calls.now ≡ length calls = sym (length-map c.args.calls.now (λ (list : Vec ℕ Global). list.items)) in
-    callers-all calls c.args.marks.now c.loop-position.position
+    callers-all calls c.args.flags.now c.loop-position.position
     (length c.args.calls.now) _ _ count c.loop-position-test.false c.requires c.in_ok-callers.ensures c.loop-position.invariant

@@ -11,7 +11,7 @@ loop-position-preserved-in-Continue-branch-2 c =
     let at : slice_get followers position ≡ Some c.in-Some-get.next.now = grind (arith, common_steps, gets) in
     let found : slice_get (map (λ list. list.items) followers) position ≡ Some c.deref-in-Some-get.result.now =
     slice_get-map (λ list. list.items) followers position ∙ rw (at, c.deref-in-Some-get.ensures.value) refl in
-    reaching-more _ _ c.args.seeds.items _ _ c.pop.new.self.items _ position found c.in_ok-mark_all.ensures
+    reaching-more _ _ c.args.seeds.items _ _ c.pop.new.self.items _ position found c.in_ok-visit_all.ensures
     (rw c.in-Some.ensures.items at c.loop-position.invariant)
 
 pub loop-position-preserved : goal.loop-position-preserved

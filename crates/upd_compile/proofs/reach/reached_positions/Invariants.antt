@@ -3,7 +3,7 @@ use Rattle.upd_compile.proofs.ReachingLemmas.{IsReaching}
 use Rattle.upd_compile.proofs.reach.reached_positions.Given as goal
 
 abbrev pub invariant-loop-position : goal.invariant-loop-position
-invariant-loop-position l = IsReaching (map (λ list. list.items) l.followers) l.fn.seeds.items l.marks.items l.work.items
+invariant-loop-position l = IsReaching (map (λ list. list.items) l.followers) l.fn.seeds.items l.flags.items l.work.items
 
 abbrev pub decreases-loop-position : goal.decreases-loop-position
-decreases-loop-position l = count_by not l.marks.items + vec_len l.work
+decreases-loop-position l = count_by not l.flags.items + vec_len l.work

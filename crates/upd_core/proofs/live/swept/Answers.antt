@@ -14,8 +14,8 @@ loop-i-preserved-in-Continue-branch-2 c =
     let known = rw here at c.loop-i.invariant in
     let within : i < length c.args.yanks.now = search rules in
     let more = swept-more c.args.yanks.now c.loop-i.live.items c.loop-i.targets i c.is_good.result c.index-yanks-i.result
-    within known.len (search rules) known.marks known.targets (search rules) in
-    record { marks = more.0; targets = search rules; len = length-set c.loop-i.live.items i c.is_good.result ∙ known.len }
+    within known.len (search rules) known.flags known.targets (search rules) in
+    record { flags = more.0; targets = search rules; len = length-set c.loop-i.live.items i c.is_good.result ∙ known.len }
 
 pub loop-i-preserved : goal.loop-i-preserved
 loop-i-preserved c =
@@ -24,5 +24,5 @@ loop-i-preserved c =
     let known = rw here at c.loop-i.invariant in
     let within : i < length c.args.yanks.now = search rules in
     let more = swept-more c.args.yanks.now c.loop-i.live.items c.loop-i.targets i c.is_good.result c.index-yanks-i.result
-    within known.len (search rules) known.marks known.targets (search rules) in
-    record { marks = more.0; targets = search rules; len = length-set c.loop-i.live.items i c.is_good.result ∙ known.len }
+    within known.len (search rules) known.flags known.targets (search rules) in
+    record { flags = more.0; targets = search rules; len = length-set c.loop-i.live.items i c.is_good.result ∙ known.len }

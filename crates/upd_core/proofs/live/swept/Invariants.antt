@@ -4,7 +4,7 @@ use Rattle.upd_core.proofs.live.swept.Given as goal
 
 abbrev pub invariant-loop-i : goal.invariant-loop-i
 invariant-loop-i l = record {
-  marks : drop l.i l.live.items ≡ liveness (drop l.i l.yanks);
+  flags : drop l.i l.live.items ≡ liveness (drop l.i l.yanks);
   targets : l.targets ≡ targets_of (live_cards (drop l.i l.yanks));
   len : length l.live.items ≡ length l.yanks;
 }

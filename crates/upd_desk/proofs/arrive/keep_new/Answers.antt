@@ -1,6 +1,6 @@
 -- A new run is kept by the commit alone: its changes lead the tables to what the run makes of them.
 use Rattle.std.proofs.Common.{ap, map, sym}
-use Rattle.upd_records.specs.Changes.{change_seen}
+use Rattle.upd_records.specs.Changes.{change_view}
 use Rattle.upd_desk.proofs.LeadLemmas.{outcome_adds}
 use Rattle.upd_desk.proofs.LoadingLemmas.{read_no_more}
 use Rattle.upd_desk.proofs.StoreLemmas.{commit_as_run, commit_becomes, lost_memory}
@@ -11,20 +11,20 @@ returns-in-Err-run_row-clause-lost g c = lost_memory c.in-Err-run_row.fault c.in
 
 pub returns-in-Ok-commit-clause-tries : goal.returns-in-Ok-commit-clause-tries
 returns-in-Ok-commit-clause-tries g c =
-    commit_as_run c.args.mode c.args.arrival.now (map change_seen c.deref.result.now) c.in-Ok-run_row.run'
+    commit_as_run c.args.mode c.args.arrival.now (map change_view c.deref.result.now) c.in-Ok-run_row.run'
     c.args.store.now c.run_outcome.new.store c.commit.new.self c.in-Ok.ensures.same c.in-Ok-commit.ensures.crash
     (λ honest is l made rows shown shows states. outcome_adds c.args.mode c.args.arrival.now l rows c.in-Ok.outcome
-    (map change_seen c.deref.result.now) c.in-Ok-run_row.run' (c.in-Ok.ensures.found honest l made rows shown shows states)
-    (ap (map change_seen) (sym c.deref.ensures.value)) c.in-Ok-run_row.ensures.run)
+    (map change_view c.deref.result.now) c.in-Ok-run_row.run' (c.in-Ok.ensures.found honest l made rows shown shows states)
+    (ap (map change_view) (sym c.deref.ensures.value)) c.in-Ok-run_row.ensures.run)
 
 pub returns-in-Ok-commit-clause-becomes : goal.returns-in-Ok-commit-clause-becomes
 returns-in-Ok-commit-clause-becomes g c =
-    commit_becomes c.args.mode c.args.arrival.now (map change_seen c.deref.result.now) c.in-Ok-run_row.run'
+    commit_becomes c.args.mode c.args.arrival.now (map change_view c.deref.result.now) c.in-Ok-run_row.run'
     c.args.store.now c.run_outcome.new.store c.commit.new.self c.in-Ok.ensures.same c.in-Ok-commit.ensures.crash c.in-Ok-commit.ensures.open
     c.in-Ok-commit.ensures.done
     (λ honest l made rows shown shows states. outcome_adds c.args.mode c.args.arrival.now l rows c.in-Ok.outcome
-    (map change_seen c.deref.result.now) c.in-Ok-run_row.run' (c.in-Ok.ensures.found honest l made rows shown shows states)
-    (ap (map change_seen) (sym c.deref.ensures.value)) c.in-Ok-run_row.ensures.run)
+    (map change_view c.deref.result.now) c.in-Ok-run_row.run' (c.in-Ok.ensures.found honest l made rows shown shows states)
+    (ap (map change_view) (sym c.deref.ensures.value)) c.in-Ok-run_row.ensures.run)
 
 pub returns-in-Ok-commit-clause-reply : goal.returns-in-Ok-commit-clause-reply
 returns-in-Ok-commit-clause-reply g c honest l made rows shown shows states =
@@ -45,8 +45,8 @@ returns-in-Ok-commit-clause-reads g c honest l made rows shown shows =
 
 pub returns-in-Err-commit-clause-tries : goal.returns-in-Err-commit-clause-tries
 returns-in-Err-commit-clause-tries g c =
-    commit_as_run c.args.mode c.args.arrival.now (map change_seen c.deref.result.now) c.in-Ok-run_row.run'
+    commit_as_run c.args.mode c.args.arrival.now (map change_view c.deref.result.now) c.in-Ok-run_row.run'
     c.args.store.now c.run_outcome.new.store c.commit.new.self c.in-Ok.ensures.same c.in-Err-commit.ensures.crash
     (λ honest is l made rows shown shows states. outcome_adds c.args.mode c.args.arrival.now l rows c.in-Ok.outcome
-    (map change_seen c.deref.result.now) c.in-Ok-run_row.run' (c.in-Ok.ensures.found honest l made rows shown shows states)
-    (ap (map change_seen) (sym c.deref.ensures.value)) c.in-Ok-run_row.ensures.run)
+    (map change_view c.deref.result.now) c.in-Ok-run_row.run' (c.in-Ok.ensures.found honest l made rows shown shows states)
+    (ap (map change_view) (sym c.deref.ensures.value)) c.in-Ok-run_row.ensures.run)

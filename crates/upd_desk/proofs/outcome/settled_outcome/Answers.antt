@@ -2,7 +2,7 @@
 use Rattle.std.proofs.Common.{◌≤◌, length, map, refl, ap, sym, ◌∙◌, subst}
 use Rattle.upd_core.specs.Counted.{CountedView}
 use Rattle.upd_core.specs.Library.{LibraryView}
-use Rattle.upd_records.specs.Changes.{change_seen}
+use Rattle.upd_records.specs.Changes.{change_view}
 use Rattle.upd_yank.specs.Affected.{altered}
 use Rattle.upd_yank.specs.Enough.{IsEnough}
 use Rattle.upd_desk.specs.Outcomes.{Compiled}
@@ -22,7 +22,7 @@ returns-in-Ok-accepted-clause-found c = λ lines l loaded reached read made of_r
     let now_right = c.in_ok-settled.ensures.right loaded run.library enough across in
     let settled = c.in_ok-settled.settled.items in
     let only = c.in_ok-settled.ensures.only in
-    let later = settling.leads (map change_seen settled) only
+    let later = settling.leads (map change_view settled) only
     (λ part here. c.in_ok-settled.ensures.changes loaded run.library enough across settling.takes part here) rows states in
     let written = c.in-Ok.ensures.ok lines l loaded reached made of_run active now_right in
     let is = compiled_is c.args.mode c.args.arrival.now.bytes l lines reached c.in-Ok.file read of_run.applied written in

@@ -1,6 +1,6 @@
 use Rattle.std.proofs.Common.{List, [], drop}
 use Rattle.upd_core.specs.Library.{DeckView}
-use Rattle.upd_diff.specs.Fates.{Await}
+use Rattle.upd_diff.specs.CardDiffs.{Await}
 use Rattle.upd_diff.proofs.decks.add_new_decks.Given as goal
 
 abbrev pub invariant-loop-deck : goal.invariant-loop-deck

@@ -1,5 +1,5 @@
 use Rattle.std.proofs.Common.{◌++◌, ap, sym, subst, ◌∙◌, arith}
-use Rattle.upd_diff.specs.Fates.{DeckFatesView, deck_after}
+use Rattle.upd_diff.specs.CardDiffs.{DeckDiffView, deck_after}
 use Rattle.upd_diff.specs.Touched.{touched_in}
 use Rattle.upd_diff.proofs.TouchedLemmas.{AreOf, apart_in_deck, deck_more, decks_all, lead_are_of}
 use Rattle.upd_diff.proofs.touched.touched.Goals as goal
@@ -7,7 +7,7 @@ use Rattle.upd_diff.proofs.touched.touched.Goals as goal
 pub loop-deck-preserved : goal.loop-deck-preserved
 loop-deck-preserved c = λ apart all.
     let l = c.args.before.now in
-    let of_deck = λ (k : DeckFatesView). touched_in c.args.idents.now l (deck_after k) in
+    let of_deck = λ (k : DeckDiffView). touched_in c.args.idents.now l (deck_after k) in
     deck_more of_deck (AreOf l c.are_rising-rising.result) c.args.decks.now c.loop-deck.deck-index c.deck-item.result _ _ _ c.loop-deck-test.true
     c.deck-item.is (c.loop-deck.invariant apart all)
     (λ of.

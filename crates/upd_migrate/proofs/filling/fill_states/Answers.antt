@@ -1,7 +1,7 @@
 use Rattle.std.proofs.Common.{List, map, subst}
 use Rattle.sqlite.specs.Held.{state}
 use Rattle.upd_core.specs.declared.change.Change.{Change}
-use Rattle.upd_records.specs.Changes.{change_seen, done_all}
+use Rattle.upd_records.specs.Changes.{change_view, done_all}
 use Rattle.upd_records.specs.Fits.{AllFit}
 use Rattle.upd_sqlite.specs.Steps.{Makes}
 use Rattle.upd_sql.specs.Stands.{Stands}
@@ -13,7 +13,7 @@ returns-clause-leads g c l it lib states counts =
     let old = state g.S.Store c.args.tx.now.conn.now in
     let mid = state g.S.Store c.library_rows_in.new.tx.conn.now in
     let new = state g.S.Store c.carry_out_all.new.tx.conn.now in
-    let makes = subst (λ (xs : List Change). Makes Stands (AllFit (map change_seen xs)) (done_all (map change_seen xs)) mid new c.carry_out_all.result)
+    let makes = subst (λ (xs : List Change). Makes Stands (AllFit (map change_view xs)) (done_all (map change_view xs)) mid new c.carry_out_all.result)
     c.deref.ensures.value c.carry_out_all.ensures.makes in
-    states_filled l c.in_ok-library.library it (map change_seen c.in-Ok.changes.items) old mid new c.in_ok-rows.rows c.carry_out_all.result lib
+    states_filled l c.in_ok-library.library it (map change_view c.in-Ok.changes.items) old mid new c.in_ok-rows.rows c.carry_out_all.result lib
     c.in_ok-rows.ensures.looks c.in_ok-library.ensures.whole (λ sound. c.in-Ok.ensures.states sound it states counts) c.in-Ok.ensures.only makes

@@ -31,9 +31,9 @@ returns-in-Ok-migrate_from-clause-known g c clean o =
     let early = clean_before mid new _ c.in-Ok-migrate_from.ensures.crash clean in
     let was_open = (c.in-Ok-migrate_from.ensures.done clean).1 in
     let schema = ap (λ (d : Database). d.schema) (sym (c.in-Ok.ensures.same early was_open)) ∙ c.in-Ok.ensures.found was_open in
-    (c.in-Ok.version, schema, c.in-Ok.ensures.told early)
+    (c.in-Ok.version, schema, c.in-Ok.ensures.row_changes early)
 
 pub returns-then-matches-clause-known : goal.returns-then-matches-clause-known
 returns-then-matches-clause-known g c clean o =
     let schema = ap (λ (d : Database). d.schema) (sym (c.in-Ok.ensures.same clean o)) ∙ c.in-Ok.ensures.found o in
-    (c.in-Ok.version, schema, c.in-Ok.ensures.told clean)
+    (c.in-Ok.version, schema, c.in-Ok.ensures.row_changes clean)

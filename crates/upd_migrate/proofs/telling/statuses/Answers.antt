@@ -2,13 +2,13 @@ use Rattle.std.proofs.Common.{◌≡◌, ◌<◌, ◌^◌, map, length, ap, sym,
 use Rattle.upd_core.specs.Counted.{CountedView}
 use Rattle.upd_core.specs.Library.{LibraryView, empty}
 use Rattle.upd_core.specs.Sound.{AreApart, IsSound, all_cards, key_of}
-use Rattle.upd_records.specs.Changes.{change_seen, done_all}
+use Rattle.upd_records.specs.Changes.{change_view, done_all}
 use Rattle.upd_records.specs.Rows.{ShowsStates}
 use Rattle.upd_diff.specs.States.{TakeGone}
 use Rattle.upd_diff.specs.Touched.{touched}
 use Rattle.upd_laws.proofs.SoundRunLemmas.{empty_sound}
 use Rattle.upd_yank.specs.Right.{IsRight}
-use Rattle.upd_migrate.proofs.Told.{between, enough, none_gone, shows_nothing}
+use Rattle.upd_migrate.proofs.RowChanges.{between, enough, none_gone, shows_nothing}
 use Rattle.upd_migrate.proofs.telling.statuses.Goals as goal
 
 pub returns-clause-states : goal.returns-clause-states
@@ -28,6 +28,6 @@ returns-clause-states c = λ sound rows states counts.
     let across = between l cache run sound few right is in
     let all = enough l c.new-4.result.library run (ap (λ (k : CountedView). k.library) c.new-4.ensures) in
     let no_changes = c.new-3.ensures.items in
-    let told = c.in_ok-changes.ensures.changes empty l all across (subst (λ xs. TakeGone empty l (map change_seen xs)) (sym no_changes) (none_gone l))
+    let row_changes = c.in_ok-changes.ensures.changes empty l all across (subst (λ xs. TakeGone empty l (map change_view xs)) (sym no_changes) (none_gone l))
     rows (shows_nothing rows states counts) in
-    subst (λ xs. ShowsStates (done_all (map change_seen c.in_ok-changes.changes.items) (done_all (map change_seen xs) rows)) l) no_changes told
+    subst (λ xs. ShowsStates (done_all (map change_view c.in_ok-changes.changes.items) (done_all (map change_view xs) rows)) l) no_changes row_changes

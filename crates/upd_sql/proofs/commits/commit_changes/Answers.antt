@@ -2,7 +2,7 @@ use Rattle.std.proofs.Common.{◌≡◌, IsTrue, Ok, not, true, map, refl, sym, 
 use Rattle.sqlite.specs.Held.{state}
 use Rattle.sqlite.specs.State.{HasCleanDisk, Survives}
 use Rattle.sqlite.proofs.Callers.{survives_begin}
-use Rattle.upd_records.specs.Changes.{change_seen, done_all}
+use Rattle.upd_records.specs.Changes.{change_view, done_all}
 use Rattle.upd_records.specs.Fits.{AllFit}
 use Rattle.upd_row_store.specs.Tables.{committed, with_run}
 use Rattle.upd_sqlite.specs.Steps.{Makes}
@@ -21,7 +21,7 @@ returns-clause-crash g c =
     let mid = state g.S.Store c.carry_out_all.new.tx.conn.now in
     let last = state g.S.Store c.insert_run.new.tx.conn.now in
     let end = state g.S.Store c.commit.new.self.0 in
-    let cs = map change_seen c.args.changes.now in
+    let cs = map change_view c.args.changes.now in
     let made : Makes {X = Unit {0}} Stands (AllFit cs) (done_all cs) begun mid (Ok c.in_ok-carry_out_all.field-0) =
     rw c.transaction-tx.ensures.begun at c.in_ok-carry_out_all.ensures.makes in
     let whole : Makes {X = Unit {0}} Stands (AllFit cs) (committed cs c.args.row.now) begun last (Ok c.in_ok-insert_run.field-0) =
@@ -44,7 +44,7 @@ returns-clause-sized g c clean =
     let mid = state g.S.Store c.carry_out_all.new.tx.conn.now in
     let last = state g.S.Store c.insert_run.new.tx.conn.now in
     let end = state g.S.Store c.commit.new.self.0 in
-    let cs = map change_seen c.args.changes.now in
+    let cs = map change_view c.args.changes.now in
     let made : SizedAll {X = Unit {0}} cs begun mid (Ok c.in_ok-carry_out_all.field-0) = rw c.transaction-tx.ensures.begun at c.in_ok-carry_out_all.ensures.sized in
     let whole = makes_then HoldsSizes (λ _. TakeNone cs) AnySizes (sized_all cs) (λ n. n) begun mid last c.in_ok-carry_out_all.field-0
     (Ok c.in_ok-insert_run.field-0) made c.in_ok-insert_run.ensures.sized in

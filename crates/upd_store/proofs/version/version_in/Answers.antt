@@ -9,15 +9,15 @@ use Rattle.upd_store.specs.Version.{TellsVersion}
 use Rattle.upd_store.proofs.VersionLemmas.{version_shown, version_text}
 use Rattle.upd_store.proofs.version.version_in.Goals as goal
 
-told : (old new : State) (rows : List Row) (r : Result ℕ Error) → IfOk r (λ n. (v : ℕ) → rows ≡ (num v ∷ []) ∷ [] → n ≡ v)
+row_changes : (old new : State) (rows : List Row) (r : Result ℕ Error) → IfOk r (λ n. (v : ℕ) → rows ≡ (num v ∷ []) ∷ [] → n ≡ v)
     → IfOk r (λ n. rows ≡ [] → n ≡ 0)
     → Shown version_text [] old new rows
     → IfOk r (λ n. (v : ℕ) → TellsVersion v old.now → n ≡ v)
-told old new rows (Ok n) first none shown = λ v h. elim (version_shown v old new rows h shown) [
+row_changes old new rows (Ok n) first none shown = λ v h. elim (version_shown v old new rows h shown) [
   | inl row ↦ first v row
   | inr empty ↦ none empty.1 ∙ sym empty.0
 ]
-told old new rows (Err e) first none shown = tt
+row_changes old new rows (Err e) first none shown = tt
 
 was_open : (old new : State) (rows : List Row) (r : Result ℕ Error) → Shown version_text [] old new rows
     → OnOk r (IsTrue old.in_transaction → IsTrue old.is_open)
@@ -29,7 +29,7 @@ returns-clause-was_open g c clean =
     was_open (state g.S.Store c.args.tx.now.conn.now) (state g.S.Store c.ask.new.tx.conn.now) c.in_ok-rows.rows.items c.first_number.result
     (c.in_ok-rows.ensures.shown clean)
 
-pub returns-clause-told : goal.returns-clause-told
-returns-clause-told g c clean =
-    told (state g.S.Store c.args.tx.now.conn.now) (state g.S.Store c.ask.new.tx.conn.now) c.in_ok-rows.rows.items c.first_number.result
+pub returns-clause-row_changes : goal.returns-clause-row_changes
+returns-clause-row_changes g c clean =
+    row_changes (state g.S.Store c.args.tx.now.conn.now) (state g.S.Store c.ask.new.tx.conn.now) c.in_ok-rows.rows.items c.first_number.result
     (rw c.deref.ensures.value at c.first_number.ensures.first) (rw c.deref.ensures.value at c.first_number.ensures.none) (c.in_ok-rows.ensures.shown clean)

@@ -9,14 +9,14 @@ use Rattle.upd_store.proofs.version.version_of.Goals as goal
 told_outside : (old last : State) (n : ℕ) → HasCleanDisk last → (IsTrue old.is_open → old.now ≡ old.committed)
     → WasOpen {X = ℕ} (record old { in_transaction = true }) last (Ok n) → (HasCleanDisk last → (v : ℕ) → TellsVersion v old.now → n ≡ v)
     → (v : ℕ) → TellsVersion v old.committed → n ≡ v
-told_outside old last n clean settled was_open told v h = told clean v (subst (TellsVersion v) (sym (settled (was_open clean refl))) h)
+told_outside old last n clean settled was_open row_changes v h = row_changes clean v (subst (TellsVersion v) (sym (settled (was_open clean refl))) h)
 
-pub returns-clause-told : goal.returns-clause-told
-returns-clause-told g c clean =
+pub returns-clause-row_changes : goal.returns-clause-row_changes
+returns-clause-row_changes g c clean =
     let old = state g.S.Store c.args.conn.now in
     let last = state g.S.Store c.version_in.new.tx.conn.now in
     let begun = c.transaction-tx.ensures.begun in
     let outside : IsTrue c.is_autocommit-outside.result = c.is_autocommit-outside.ensures.value ∙ ap not c.requires in
     let early : HasCleanDisk last = search rules in
     told_outside old last c.in_ok-version.version early (c.is_autocommit-outside.ensures.settled outside) (rw begun at c.in_ok-version.ensures.was_open)
-    (rw begun at c.in_ok-version.ensures.told)
+    (rw begun at c.in_ok-version.ensures.row_changes)

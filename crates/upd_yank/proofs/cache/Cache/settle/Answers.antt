@@ -1,14 +1,14 @@
 use Rattle.std.proofs.Common.{◌≡◌, true, map, ap, sym, ◌∙◌, subst, arith}
 use Rattle.std.specs.List.{list_any, AllByRecursion}
-use Rattle.upd_records.specs.Changes.{change_seen, done_all}
+use Rattle.upd_records.specs.Changes.{change_view, done_all}
 use Rattle.upd_records.specs.Rows.{ShowsStates, same_ref}
-use Rattle.upd_diff.specs.States.{tells_state}
+use Rattle.upd_diff.specs.States.{row_changes_state}
 use Rattle.upd_yank.proofs.EnoughLemmas.{sees}
 use Rattle.upd_yank.proofs.OnlyLemmas.{settling_only}
 use Rattle.upd_yank.proofs.RightLemmas.{least_work, settled_right, settled_told}
-use Rattle.upd_yank.proofs.ToldLemmas.{settling_shows}
+use Rattle.upd_yank.proofs.StatusChangeLemmas.{settling_shows}
 use Rattle.upd_yank.specs.Right.{CacheView, IsRunBetween}
-use Rattle.upd_yank.specs.Told.{settling_told}
+use Rattle.upd_yank.specs.StatusChanges.{update_changes}
 use Rattle.upd_yank.proofs.cache.Cache.settle.Goals as goal
 
 pub returns-clause-right : goal.returns-clause-right
@@ -44,7 +44,7 @@ pub returns-clause-changes : goal.returns-clause-changes
 returns-clause-changes c = λ old new enough between taken rows shown.
     let l = c.args.counted.now.library in
     let run = c.args.applied.now.touched.items in
-    let gone = map change_seen c.args.applied.now.changes.items in
+    let gone = map change_view c.args.applied.now.changes.items in
     let cache : CacheView = record { states = c.self.inside.statuses; counts = c.self.inside.counts; work = c.self.inside.work } in
     let left : CacheView = record { states = c.in_ok-left.left.statuses; counts = c.in_ok-left.left.found.counts; work = c.len.result } in
     let found = c.in_ok-left.left.found.statuses.items in
@@ -54,18 +54,18 @@ returns-clause-changes c = λ old new enough between taken rows shown.
     let right = (settled_right old new l cache run c.in_ok-touched.touched found seen known same c.in_ok-left.ensures.found left
     c.in_ok-left.ensures.counts c.in_ok-left.ensures.statuses).0 in
     let settled = settled_told old new l cache run c.in_ok-touched.touched found seen known same c.in_ok-left.ensures.found left gone right taken in
-    let told = c.in_ok-changes.ensures
-    ∙ ap (λ cs. settling_told cache.states found left.states (map change_seen cs) cache.counts left.counts) c.deref-2.ensures.value in
-    subst (λ cs. ShowsStates (done_all cs (done_all gone rows)) new) (sym told)
+    let row_changes = c.in_ok-changes.ensures
+    ∙ ap (λ cs. update_changes cache.states found left.states (map change_view cs) cache.counts left.counts) c.deref-2.ensures.value in
+    subst (λ cs. ShowsStates (done_all cs (done_all gone rows)) new) (sym row_changes)
     (settling_shows old new cache.states found left.states gone cache.counts left.counts rows settled shown)
 
 pub returns-clause-only : goal.returns-clause-only
 returns-clause-only c =
-    let gone = map change_seen c.args.applied.now.changes.items in
+    let gone = map change_view c.args.applied.now.changes.items in
     let known = c.self.inside.statuses in
     let found = c.in_ok-left.left.found.statuses.items in
     let kept = c.in_ok-left.left.statuses in
     let had = c.self.inside.counts in
     let has = c.in_ok-left.left.found.counts in
-    let told = c.in_ok-changes.ensures ∙ ap (λ cs. settling_told known found kept (map change_seen cs) had has) c.deref-2.ensures.value in
-    subst (AllByRecursion (λ c. tells_state c ≡ true)) (sym told) (settling_only known found kept gone had has)
+    let row_changes = c.in_ok-changes.ensures ∙ ap (λ cs. update_changes known found kept (map change_view cs) had has) c.deref-2.ensures.value in
+    subst (AllByRecursion (λ c. row_changes_state c ≡ true)) (sym row_changes) (settling_only known found kept gone had has)

@@ -1,9 +1,0 @@
-use Rattle.std.proofs.Common.{arith}
-use Rattle.std.proofs.lemmas.Grind.{common_steps}
-use Rattle.upd_compile.proofs.changes.change_marks.Goals as goal
-
-pub loop-deck-preserved : goal.loop-deck-preserved
-loop-deck-preserved c = grind (arith, common_steps)
-
-pub returns : goal.returns
-returns c = grind (arith, common_steps)

@@ -1,6 +1,0 @@
-use Rattle.std.proofs.Common.{◌≡◌, map, take}
-use Rattle.upd_compile.specs.Chosen.{is_changed}
-use Rattle.upd_compile.proofs.changes.change_marks.Given as goal
-
-abbrev pub invariant-loop-deck : goal.invariant-loop-deck
-invariant-loop-deck l = l.marks.items ≡ map (is_changed l.before) (take l.deck-index l.decks)

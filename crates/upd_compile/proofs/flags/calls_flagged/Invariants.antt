@@ -1,0 +1,7 @@
+use Rattle.std.proofs.Common.{◌≡◌, map, take}
+use Rattle.std.specs.List.{list_any}
+use Rattle.upd_compile.specs.Reach.{is_flagged}
+use Rattle.upd_compile.proofs.flags.calls_flagged.Given as goal
+
+abbrev pub invariant-loop-positions : goal.invariant-loop-positions
+invariant-loop-positions l = l.found.items ≡ map (list_any (is_flagged l.flags)) (map (λ list. list.items) (take l.positions-index l.calls))

@@ -1,7 +1,0 @@
-use Rattle.std.proofs.Common.{◌≡◌, map, take}
-use Rattle.std.specs.List.{list_any}
-use Rattle.upd_compile.specs.Reach.{is_marked}
-use Rattle.upd_compile.proofs.marks.calls_marked.Given as goal
-
-abbrev pub invariant-loop-positions : goal.invariant-loop-positions
-invariant-loop-positions l = l.found.items ≡ map (list_any (is_marked l.marks)) (map (λ list. list.items) (take l.positions-index l.calls))

@@ -1,7 +1,0 @@
-use Rattle.std.proofs.Common.{◌≡◌, true, take, All}
-use Rattle.upd_core.specs.Homes.{StayMarked, is_home}
-use Rattle.upd_core.proofs.decks.mark_deck.Given as goal
-
-abbrev pub invariant-loop-card : goal.invariant-loop-card
-invariant-loop-card l =
-    StayMarked l.initial.strays l.strays × All (λ c. is_home l.strays l.deck.ident c ≡ true) (take l.card-index l.deck.cards)

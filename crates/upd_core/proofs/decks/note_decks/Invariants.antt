@@ -1,0 +1,6 @@
+use Rattle.std.proofs.Common.{take}
+use Rattle.upd_core.specs.Homes.{AreHome}
+use Rattle.upd_core.proofs.decks.note_decks.Given as goal
+
+abbrev pub invariant-loop-deck : goal.invariant-loop-deck
+invariant-loop-deck l = AreHome l.strays (take l.deck-index l.decks)

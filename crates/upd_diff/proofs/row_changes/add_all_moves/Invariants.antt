@@ -1,0 +1,10 @@
+use Rattle.std.proofs.Common.{◌≡◌, ◌++◌, map, drop}
+use Rattle.std.specs.List.{flat_map}
+use Rattle.upd_records.specs.Changes.{change_view}
+use Rattle.upd_diff.specs.RowChanges.{moves}
+use Rattle.upd_diff.proofs.row_changes.add_all_moves.Given as goal
+
+abbrev pub invariant-loop-deck : goal.invariant-loop-deck
+invariant-loop-deck l =
+    map change_view l.changes.items ++ flat_map (λ k. moves k.deck 0 0 k.card_diffs) (drop l.deck-index l.decks) ≡ map change_view l.initial.changes.items
+    ++ flat_map (λ k. moves k.deck 0 0 k.card_diffs) l.decks

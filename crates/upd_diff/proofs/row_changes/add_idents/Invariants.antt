@@ -1,0 +1,9 @@
+use Rattle.std.proofs.Common.{◌≡◌, ◌++◌, map, drop}
+use Rattle.upd_records.specs.Changes.{change_view}
+use Rattle.upd_diff.specs.RowChanges.{ident_changes}
+use Rattle.upd_diff.proofs.row_changes.add_idents.Given as goal
+
+abbrev pub invariant-loop-i : goal.invariant-loop-i
+invariant-loop-i l =
+    map change_view l.changes.items ++ ident_changes (drop l.i l.before) (drop l.i l.after) ≡ map change_view l.initial.changes.items
+    ++ ident_changes l.before l.after

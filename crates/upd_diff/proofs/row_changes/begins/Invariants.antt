@@ -1,0 +1,7 @@
+use Rattle.std.proofs.Common.{◌≡◌, ◌≤◌, drop, length}
+use Rattle.upd_diff.specs.RowChanges.{begins}
+use Rattle.upd_diff.proofs.row_changes.begins.Given as goal
+
+abbrev pub invariant-loop-i : goal.invariant-loop-i
+invariant-loop-i l =
+    (length l.history ≤ length l.later) × (begins (drop l.i l.history) (drop l.i l.later) ≡ begins l.history l.later)

@@ -1,6 +1,0 @@
-use Rattle.std.proofs.Common.{sym}
-use Rattle.upd_diff.proofs.LoopLemmas.{too_short}
-use Rattle.upd_diff.proofs.told.begins.Goals as goal
-
-pub returns-then-later-history-clause-begins : goal.returns-then-later-history-clause-begins
-returns-then-later-history-clause-begins c = sym (too_short _ _ c.if-later-history.true)

@@ -1,7 +1,0 @@
-use Rattle.std.proofs.Common.{◌≡◌, ◌≤◌, drop, length}
-use Rattle.upd_diff.specs.Told.{begins}
-use Rattle.upd_diff.proofs.told.begins.Given as goal
-
-abbrev pub invariant-loop-i : goal.invariant-loop-i
-invariant-loop-i l =
-    (length l.history ≤ length l.later) × (begins (drop l.i l.history) (drop l.i l.later) ≡ begins l.history l.later)
