@@ -5,7 +5,7 @@ use Rattle.upd_apply.specs.declared.state.InsertPoint.{InsertPoint}
 use Rattle.upd_apply.specs.declared.state.InsertPoint.TheVariants.{Nowhere, End, Inside}
 use Rattle.upd_apply.specs.declared.state.State.{State}
 
--- the next number of the current set; 1 where there is none
+-- the next number of the current set; 1 without one
 abbrev pub hand_next : Option CurrentSet → ℕ
 hand_next None = 1
 hand_next (Some h) = h.next

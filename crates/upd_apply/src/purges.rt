@@ -33,7 +33,7 @@ impl Model for AgePair {
     ghost inverse = { λ a. record { deck = a.deck; ident = a.ident } };
 }
 
-/// Purges need no current set, and after them there is none.
+/// Purges need no current set, and clear it.
 impl State {
     /// `*PURGE` of names and ranges.
     pub(crate) fn purge_idents(&mut self, ranges: &[NameRange]) -> Result<(), FaultKind>

@@ -78,7 +78,7 @@ no_point : (a : List ℕ) → HasNoPoint a → list_any is_point a ≡ false
 no_point [] h = refl
 no_point (x ∷ xs) h = rw (h.0, no_point xs h.1) refl
 
--- nothing follows the first point where there is none
+-- nothing follows the first point of a text without points
 after_none : (a : List ℕ) → HasNoPoint a → after_first is_point a ≡ []
 after_none a h = drop_all (prefix_len (λ x. not (is_point x)) a + 1) a (rw (place a h) (omega arith))
   where

@@ -78,7 +78,7 @@ may_have words.SelPurge n = nat_le 1 n
 may_have words.PurDeck n = nat_le 1 n
 may_have words.Compile n = nat_le 1 n
 
--- the first field; empty where there is none
+-- the first field; empty for no fields
 abbrev pub first_field : List (List ℕ) → List ℕ
 first_field [] = []
 first_field (f ∷ fs) = f

@@ -202,7 +202,7 @@ fn is_marked_right(word: Word, fields: &[&[u8]]) -> bool
     word != Word::CommonDeck || fields.len() == 1 || last_of_two(fields) == b"NOPROP".as_slice()
 }
 
-/// The first field; empty where there is none.
+/// The first field; empty for no fields.
 fn first_field<'a>(fields: &[&'a [u8]]) -> &'a [u8]
     ensures { result.now ≡ first_field (map (λ x. x.now) fields.now) }
 {
