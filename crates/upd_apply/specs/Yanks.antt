@@ -12,7 +12,7 @@ use Rattle.upd_deck.specs.declared.item.NameRange.{NameRange}
 use Rattle.upd_deck.specs.declared.item.IdentIn.{IdentIn}
 use Rattle.upd_apply.specs.Names.{ages_by, idents_in, known_deck, known_ident}
 
--- a list with each element once, where it first stands; the test says which are the same
+-- a list without repetitions: each element at its first position; the test says which elements are the same
 abbrev pub once : {A : Type 0} → (A → A → Bool) → List A → List A
 once same [] = []
 once same (x ∷ xs) = x ∷ filter (λ y. not (same x y)) (once same xs)

@@ -1,4 +1,4 @@
-//! The purges: `*PURGE`, `*SELPURGE`, `*PURDECK`, and the idents that they name.
+//! Purges: `*PURGE`, `*SELPURGE`, `*PURDECK`, and the idents that they name.
 ghost use Rattle.std.specs.Prelude.{◌≡◌, ◌&&◌, [], ◌++◌, map, OnOk};
 ghost use Rattle.std.specs.List.{filter};
 ghost use Rattle.upd_core.specs.Library.{is_deck_kind};
@@ -16,7 +16,7 @@ use upd_core::{Ident, Library, Serial};
 use upd_deck::{IdentIn, NameRange};
 use upd_text::{FaultKind, Name};
 
-/// An ident in a deck, by age.
+/// The serials of an ident and a deck.
 #[derive(Clone, Copy)]
 pub struct AgePair {
     pub deck: Serial,
@@ -33,7 +33,7 @@ impl Model for AgePair {
     ghost inverse = { λ a. record { deck = a.deck; ident = a.ident } };
 }
 
-/// Purges need no set in hand, and leave none.
+/// Purges need no current set, and clear it.
 impl State {
     /// `*PURGE` of names and ranges.
     pub(crate) fn purge_idents(&mut self, ranges: &[NameRange]) -> Result<(), FaultKind>
@@ -55,7 +55,7 @@ impl State {
         Ok(())
     }
 
-    /// `*SELPURGE`: idents from decks.
+    /// `*SELPURGE`: idents, each in one deck.
     pub(crate) fn purge_pairs(&mut self, pairs: &[IdentIn]) -> Result<(), FaultKind>
         ensures { Does result self.new (line_done (SelPurge pairs.now) [] self.old) }
     {
@@ -75,7 +75,7 @@ impl State {
         Ok(())
     }
 
-    /// A purge leaves no set in hand and no place of text.
+    /// Clears the current set and the insertion point, as each purge does.
     fn end(&mut self)
         ensures { self.new ≡ ended self.old.library }
     {
@@ -84,7 +84,7 @@ impl State {
     }
 }
 
-/// Purges idents from decks, one after the other.
+/// Purges idents, each in one deck, in order.
 fn purge_in_all(library: &mut Library, pairs: &[AgePair])
     ensures { library.new ≡ purged_in_all pairs.now library.old }
 {
@@ -93,7 +93,7 @@ fn purge_in_all(library: &mut Library, pairs: &[AgePair])
     }
 }
 
-/// The ages of the idents that `*PURGE` names.
+/// The serials of the idents that `*PURGE` names.
 pub(crate) fn idents_purged(
     library: &Library,
     ranges: &[NameRange],
@@ -108,7 +108,7 @@ pub(crate) fn idents_purged(
     Ok(found)
 }
 
-/// The ages of the decks that `*PURDECK` names.
+/// The serials of the decks that `*PURDECK` names.
 pub(crate) fn decks_purged(
     library: &Library,
     ranges: &[NameRange],
@@ -123,7 +123,7 @@ pub(crate) fn decks_purged(
     Ok(found)
 }
 
-/// The idents in decks that `*SELPURGE` names.
+/// The idents and decks that `*SELPURGE` names. DeckCard where an ident is the deck's own.
 pub(crate) fn pairs_purged(library: &Library, pairs: &[IdentIn]) -> Result<Vec<AgePair>, FaultKind>
     ensures { Gives (λ found. found.items) result (pairs_purged pairs.now library.now) }
 {
@@ -139,7 +139,7 @@ pub(crate) fn pairs_purged(library: &Library, pairs: &[IdentIn]) -> Result<Vec<A
     Ok(found)
 }
 
-/// Adds the ages of the held idents in a range.
+/// Adds the serials of the held idents in a range.
 fn add_idents(found: &mut Vec<Serial>, idents: &[Ident], ages: AgeRange) -> Result<(), AllocError>
     ensures { OnOk result (found.new.items
         ≡ found.old.items ++ map (λ i. i.age) (filter (λ i. i.held && is_in ages i.age) idents.now)) }
@@ -152,7 +152,7 @@ fn add_idents(found: &mut Vec<Serial>, idents: &[Ident], ages: AgeRange) -> Resu
     Ok(())
 }
 
-/// Adds the ages of the held decks in a range.
+/// Adds the serials of the held decks in a range.
 fn add_decks(found: &mut Vec<Serial>, idents: &[Ident], ages: AgeRange) -> Result<(), AllocError>
     ensures { OnOk result (found.new.items
         ≡ found.old.items

@@ -1,4 +1,4 @@
-//! The yanks: `*YANK`, `*SELYANK`, `*YANKDECK`, and the targets that they fix.
+//! Yanks: `*YANK`, `*SELYANK`, `*YANKDECK`, and their targets.
 ghost use Rattle.std.specs.Prelude.{◌≡◌, ◌+◌, ◌^◌, ◌<◌, ◌&&◌, ◌||◌, ◌==◌, ℕ, [], ◌∷◌, ◌++◌, map, Ok, Some, OnOk};
 ghost use Rattle.std.specs.List.{filter};
 ghost use Rattle.upd_text.specs.Outcome.{Does, Gives};
@@ -28,7 +28,7 @@ impl State {
         self.put_yank(current_set, text, targets)
     }
 
-    /// `*SELYANK`: idents in decks.
+    /// `*SELYANK`: idents, each in one deck.
     pub(crate) fn yank_pairs(&mut self, text: &[u8], pairs: &[IdentIn]) -> Result<(), FaultKind>
         requires { next_most self.old + 1 < 2 ^ 32 }
         ensures { Does result self.new (yank_put text.now (pairs_yanked pairs.now) self.old) }
@@ -48,7 +48,7 @@ impl State {
         self.put_yank(current_set, text, targets)
     }
 
-    /// A yank card of the set in hand, with these targets.
+    /// Appends a yank card of the current set, with these targets.
     fn put_yank(&mut self, current_set: CurrentSet, text: &[u8], targets: Vec<Target>) -> Result<(), FaultKind>
         requires current_set { self.old.current_set ≡ Some current_set }
         requires number { current_set.next + 1 < 2 ^ 32 }
@@ -126,8 +126,8 @@ pub(crate) fn decks_yanked(
     Ok(found)
 }
 
-/// Adds the idents of a range that aren't there yet. The marks tell which are: a range may name them all, and a search
-/// for each would go over all that was found.
+/// Adds the idents of a range that aren't in `found` yet. The flags by serial avoid a search of `found` for each ident:
+/// a range may name all idents.
 fn add_sets(
     found: &mut Vec<Target>,
     marks: &mut Vec<bool>,
@@ -149,7 +149,7 @@ fn add_sets(
     Ok(())
 }
 
-/// Adds an ident that isn't there yet.
+/// Adds an ident that isn't in `found` yet.
 fn add_set(found: &mut Vec<Target>, marks: &mut Vec<bool>, age: Serial) -> Result<(), AllocError>
     requires marked { AreMarked marks.old.items found.old.items }
     requires apart { once is_same found.old.items ≡ found.old.items }
@@ -163,7 +163,7 @@ fn add_set(found: &mut Vec<Target>, marks: &mut Vec<bool>, age: Serial) -> Resul
     Ok(())
 }
 
-/// Whether the ident of an age is marked.
+/// The flag of a serial; false past the last flag.
 fn has_set(marks: &[bool], age: Serial) -> bool
     ensures { result ≡ has_set marks.now age }
 {
@@ -171,7 +171,7 @@ fn has_set(marks: &[bool], age: Serial) -> bool
     age < marks.len() && marks[age]
 }
 
-/// Marks the ident of an age.
+/// Sets the flag of a serial.
 fn mark(marks: &mut Vec<bool>, age: Serial) -> Result<(), AllocError>
     ensures { OnOk result ((z : ℕ) → has_set marks.new.items z ≡ (has_set marks.old.items z || (z == age))) }
 {
@@ -183,7 +183,7 @@ fn mark(marks: &mut Vec<bool>, age: Serial) -> Result<(), AllocError>
     Ok(())
 }
 
-/// Adds a target that isn't there yet.
+/// Adds a target that isn't in `found` yet.
 fn add_target(found: &mut Vec<Target>, target: Target) -> Result<(), AllocError>
     requires { once is_same found.old.items ≡ found.old.items }
     ensures { OnOk result (found.new.items ≡ once is_same (found.old.items ++ target ∷ [])) }

@@ -1,4 +1,6 @@
-//! Compile files and listings: what a library is written as.
+//! Compile files and listings: the texts that a site gets of a library.
+//!
+//! Each call that returns an `AllocError` fails only when memory runs out; a `Fault` may also be NoMemory, at line 0.
 #![tactic(auto)]
 
 mod callers;

@@ -47,7 +47,7 @@ pub fn compare(alloc: Global, before: &Library, after: &Library) -> Result<Compa
     Ok(Compared { changes, touched })
 }
 
-/// The serial of the last ident, 0 where there is none.
+/// The serial of the last ident; 0 for an empty directory.
 fn last_age(idents: &[Ident]) -> Serial
     ensures { result ≡ option_map_or (λ i. i.age) (slice_get idents.now (length idents.now - 1)) 0 }
 {

@@ -11,7 +11,7 @@ abbrev pub ◌>>=◌ : {A B E : Type 0} → Result A E → (A → Result B E) �
 (Ok x) >>= f = f x
 (Err e) >>= f = Err e
 
--- the value, or the refusal where there is none
+-- the value of a Some, or the refusal
 abbrev pub need : {A : Type 0} → FaultKind → Option A → Result A FaultKind
 need fault (Some x) = Ok x
 need fault None = Err fault

@@ -39,7 +39,7 @@ pub fn word(line: &[u8]) -> &[u8]
     &text[..end_of_word(text)]
 }
 
-/// The first field of a starred line; empty where there is none.
+/// The first field of a starred line; empty where it has no field.
 pub fn called(line: &[u8]) -> &[u8]
     ensures { result.now ≡ called line.now }
 {
