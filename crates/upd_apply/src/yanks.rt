@@ -49,7 +49,12 @@ impl State {
     }
 
     /// Appends a yank card of the current set, with these targets.
-    fn put_yank(&mut self, current_set: CurrentSet, text: &[u8], targets: Vec<Target>) -> Result<(), FaultKind>
+    fn put_yank(
+        &mut self,
+        current_set: CurrentSet,
+        text: &[u8],
+        targets: Vec<Target>,
+    ) -> Result<(), FaultKind>
         requires current_set { self.old.current_set ≡ Some current_set }
         requires number { current_set.next + 1 < 2 ^ 32 }
         ensures { Does result self.new (yank_put text.now (λ _ _. Ok targets.items) self.old) }

@@ -9,9 +9,9 @@ ghost use Rattle.upd_compile.specs.Positions.{called_position, called_positions}
 ghost use Rattle.upd_compile.specs.Reach.{is_flagged};
 
 use crate::callers::callers;
+use crate::flags::{both, calls_flagged};
 use crate::idents::ident_at;
 use crate::indexed::Indexed;
-use crate::flags::{both, calls_flagged};
 use crate::reach::reached_positions;
 use crate::walk::is_first;
 use std::alloc::{AllocError, Global};

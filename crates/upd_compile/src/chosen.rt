@@ -11,9 +11,9 @@ ghost use Rattle.upd_compile.specs.Idents.{passes};
 
 use crate::chains::chain_flags;
 use crate::changes::change_flags;
+use crate::flags::any_of;
 use crate::idents::ident_at;
 use crate::indexed::Indexed;
-use crate::flags::any_of;
 use crate::mode::Mode;
 use std::alloc::{AllocError, Global};
 use std::collections::HashSet;

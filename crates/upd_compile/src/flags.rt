@@ -37,7 +37,9 @@ pub(crate) fn any_of(
 fn any_flagged(flags: &[bool], positions: &[usize]) -> bool
     ensures { result ≡ list_any (is_flagged flags.now) positions.now }
 {
-    positions.iter().any(|position| is_flagged(flags, *position))
+    positions
+        .iter()
+        .any(|position| is_flagged(flags, *position))
 }
 
 fn is_flagged(flags: &[bool], position: usize) -> bool

@@ -89,8 +89,8 @@ abbrev pub asked : {A : Type 0} → List (List ℕ) → (LibraryView → A) → 
 asked runs question = after runs >>= (λ l. Ok (question l))
 
 -- the value of a question that may be refused, after runs
-abbrev pub row_changes : {A : Type 0} → List (List ℕ) → (LibraryView → Result A Fault) → Result A Fault
-row_changes runs question = after runs >>= question
+abbrev pub asked_or_refused : {A : Type 0} → List (List ℕ) → (LibraryView → Result A Fault) → Result A Fault
+asked_or_refused runs question = after runs >>= question
 
 -- a card reference
 abbrev pub card : List ℕ → ℕ → CardRef

@@ -4,13 +4,13 @@ ghost use Rattle.upd_text.specs.declared.fault.FaultKind.TheVariants.{BadName, C
 ghost use Rattle.upd_text.specs.declared.fault.FaultKind.TheVariants.{RangeOrder, Reserved};
 ghost use Rattle.upd_core.specs.Edits.{purged_back};
 ghost use Rattle.upd_compile.specs.Listings.{card_listing, deck_listing, ident_listing, yank_listing};
-ghost use Rattle.upd_worked.specs.Worked.{active_after, after, asked, card, deck_a, refused, row_changes};
+ghost use Rattle.upd_worked.specs.Worked.{active_after, after, asked, card, deck_a, refused, asked_or_refused};
 ghost use Rattle.upd_worked.specs.Yanked.{grown_by_three, in_two_decks, inserted, replaced, yanked};
 
 /// A purge removes a set permanently, with its cards and its entries.
 pub fn purges()
     ensures purged { active_after (yanked ++ codes "*PURGE X\n" ∷ []) ≡ Ok (codes "A.2 A.3 A.4 ") }
-    ensures history { row_changes (yanked ++ codes "*PURGE X\n" ∷ []) (card_listing (card (codes "A") 2))
+    ensures history { asked_or_refused (yanked ++ codes "*PURGE X\n" ∷ []) (card_listing (card (codes "A") 2))
         ≡ Ok (codes "CARD A.2\nDECK A\nTEXT ONE\nSTATUS active\nENTRY A on\n") }
     ensures unyanked { active_after (yanked ++ codes "*PURGE X\n" ∷ codes "*IDENT W\n*DELETE Y.1\n" ∷ [])
         ≡ Ok (codes "A.2 A.3 A.4 ") }
@@ -37,7 +37,7 @@ pub fn purging_back()
         ≡ Ok (codes "1 A deck held\n2 X set purged\n3 B deck purged\n4 Y set purged\n") }
     ensures by_age { asked grown_by_three (λ l. ident_listing (purged_back 2 l))
         ≡ Ok (codes "1 A deck held\n2 X set purged\n3 B deck purged\n4 Y set purged\n") }
-    ensures by_age_deck { row_changes grown_by_three (λ l. deck_listing (codes "A") (purged_back 2 l))
+    ensures by_age_deck { asked_or_refused grown_by_three (λ l. deck_listing (codes "A") (purged_back 2 l))
         ≡ Ok (codes "DECK A\nA A.1 *DECK A\nA A.2 ONE\nA A.3 TWO\nA A.4 THREE\n") }
 {}
 
@@ -56,7 +56,7 @@ pub fn names_again()
         ∷ []) yank_listing
         ≡ Ok (codes "live Y.1 *YANK X\n set X purged\nlive Z.1 *YANK X\n set X\n") }
     // In one run.
-    ensures at_once { row_changes (inserted ++ codes "*PURGE X\n*IDENT X\n*INSERT A.4\nEND\n" ∷ []) (deck_listing (codes "A"))
+    ensures at_once { asked_or_refused (inserted ++ codes "*PURGE X\n*IDENT X\n*INSERT A.4\nEND\n" ∷ []) (deck_listing (codes "A"))
         ≡ Ok (codes "DECK A\nA A.1 *DECK A\nA A.2 ONE\nA A.3 TWO\nA A.4 THREE\nA X.1 END\n") }
 {}
 

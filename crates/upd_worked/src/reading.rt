@@ -3,20 +3,20 @@ ghost use Rattle.std.specs.Prelude.{◌≡◌, ◌++◌, [], ◌∷◌, codes, r
 ghost use Rattle.upd_text.specs.declared.fault.FaultKind.TheVariants.{BadByte, BadCard, BadField, BadName, LineLong};
 ghost use Rattle.upd_text.specs.declared.fault.FaultKind.TheVariants.{Reserved};
 ghost use Rattle.upd_compile.specs.Listings.{deck_listing};
-ghost use Rattle.upd_worked.specs.Worked.{after, deck_a, refused, row_changes};
+ghost use Rattle.upd_worked.specs.Worked.{after, deck_a, refused, asked_or_refused};
 
 /// Lines that are accepted.
 pub fn texts()
     // A tab is a byte of the text and not a blank, so it doesn't end a word.
-    ensures tab { row_changes (codes "*DECK A\n*IDENT\tX\n" ∷ []) (deck_listing (codes "A"))
+    ensures tab { asked_or_refused (codes "*DECK A\n*IDENT\tX\n" ∷ []) (deck_listing (codes "A"))
         ≡ Ok (codes "DECK A\nA A.1 *DECK A\nA A.2 *IDENT\tX\n") }
     // Trailing blanks are dropped, CR LF ends a line as LF does, and the last line needs neither.
-    ensures ends { row_changes (codes "*DECK A  \r\nONE \nTWO" ∷ []) (deck_listing (codes "A"))
+    ensures ends { asked_or_refused (codes "*DECK A  \r\nONE \nTWO" ∷ []) (deck_listing (codes "A"))
         ≡ Ok (codes "DECK A\nA A.1 *DECK A\nA A.2 ONE\nA A.3 TWO\n") }
     // An empty line, or one of blanks, is a text card with an empty text.
-    ensures empty { row_changes (codes "*DECK A\n\n  " ∷ []) (deck_listing (codes "A"))
+    ensures empty { asked_or_refused (codes "*DECK A\n\n  " ∷ []) (deck_listing (codes "A"))
         ≡ Ok (codes "DECK A\nA A.1 *DECK A\nA A.2 \nA A.3 \n") }
-    ensures longest { row_changes ((codes "*DECK A\n" ++ replicate 80 84 ++ codes " \n") ∷ []) (deck_listing (codes "A"))
+    ensures longest { asked_or_refused ((codes "*DECK A\n" ++ replicate 80 84 ++ codes " \n") ∷ []) (deck_listing (codes "A"))
         ≡ Ok (codes "DECK A\nA A.1 *DECK A\nA A.2 " ++ replicate 80 84 ++ codes "\n") }
 {}
 

@@ -4,17 +4,17 @@ ghost use Rattle.upd_text.specs.declared.fault.FaultKind.TheVariants.{DeckUnknow
 ghost use Rattle.upd_text.specs.declared.fault.FaultKind.TheVariants.{YankText};
 ghost use Rattle.upd_core.specs.declared.target.Target.TheVariants.{Set};
 ghost use Rattle.upd_compile.specs.Listings.{card_listing, deck_listing, ident_listing, yank_listing};
-ghost use Rattle.upd_worked.specs.Worked.{active_after, after, asked, card, deck_a, live_yanks_on, refused, row_changes};
+ghost use Rattle.upd_worked.specs.Worked.{active_after, after, asked, card, deck_a, live_yanks_on, refused, asked_or_refused};
 ghost use Rattle.upd_worked.specs.Yanked.{replaced, yanked_in_decks, yanked_twice, yank_yanked};
 
 /// A yank undoes what a set did, while the yank card is live.
 pub fn yanks()
     ensures corrected { active_after replaced ≡ Ok (codes "X.1 A.3 A.4 ") }
     ensures yanked { active_after (replaced ++ codes "*IDENT Z\n*YANK X\n" ∷ []) ≡ Ok (codes "A.2 A.3 A.4 ") }
-    ensures listed { row_changes (replaced ++ codes "*IDENT Z\n*YANK X\n" ∷ []) (deck_listing (codes "A"))
+    ensures listed { asked_or_refused (replaced ++ codes "*IDENT Z\n*YANK X\n" ∷ []) (deck_listing (codes "A"))
         ≡ Ok (codes "DECK A\nA A.1 *DECK A\nA A.2 ONE\nI X.1 NEW\nA A.3 TWO\nA A.4 THREE\n") }
     // Each deletion is an entry of its own, also on a card that is inactive already; the yank of one leaves the other.
-    ensures entries { row_changes (deck_a ∷ codes "*IDENT X\n*DELETE A.2\n" ∷ codes "*IDENT Y\n*DELETE A.2\n"
+    ensures entries { asked_or_refused (deck_a ∷ codes "*IDENT X\n*DELETE A.2\n" ∷ codes "*IDENT Y\n*DELETE A.2\n"
         ∷ codes "*IDENT Z\n*YANK X\n" ∷ [])
         (card_listing (card (codes "A") 2))
         ≡ Ok (codes "CARD A.2\nDECK A\nTEXT ONE\nSTATUS inactive\nENTRY A on\nENTRY X off taken\nENTRY Y off\n") }
