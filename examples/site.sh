@@ -26,7 +26,7 @@ folder=$1 site=$2 desk=$3
 upd=${UPD:-upd} tries=${TRIES:-10} pause=${PAUSE:-5}
 mkdir -p "$folder/outbox" "$folder/sent" "$folder/replies" || exit 3
 
-# The greatest number that was given to a run, 0 where there is none.
+# The greatest number that was given to a run, 0 without one.
 last_number() {
     for run in "$folder/sent"/*; do
         echo "${run##*/}"

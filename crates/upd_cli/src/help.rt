@@ -10,7 +10,7 @@ pub(crate) struct Text {
     pub more: &'static str,
 }
 
-/// What the program is, what its words mean, and where to go on: the head of `upd --help`.
+/// What the program is, what its words mean, and where to read on: the head of `upd --help`.
 pub(crate) const PROGRAM: &str = "\
 Keeps a library of program source in a file, and changes it by runs from many sites
 
