@@ -1,22 +1,18 @@
 -- What a store keeps, and what a crash leaves of it, over several calls.
-use Rattle.std.proofs.Common.{◌≡◌, ℕ, ◌⊎◌, inl, inr, refl, ◌∙◌, subst, arith}
+use Rattle.std.proofs.Common.{◌≡◌, ◌⊎◌, inl, inr, refl, ◌∙◌, subst, arith}
 use Rattle.upd_records.specs.Rows.{Rows}
+use Rattle.upd_row_store.specs.declared.meaning.Meaning.{Ghosts}
 use Rattle.upd_row_store.specs.Keeping.{Keeps, Tries}
 
-module _ {S : Type 0} {Image : Type 0} (is_honest is_open : S → Type 0) (image : S → Image) (shows : Image → Rows → Type 0)
-    (may_leave : S → Image → Type 0) (failures : S → ℕ) where
-  abbrev KeepsIt : S → S → Type 0
-  KeepsIt = Keeps is_honest is_open image shows may_leave failures
-
-  abbrev TriesIt : (Rows → Type 0) → (Rows → Rows) → S → S → Type 0
-  TriesIt = Tries is_honest is_open image shows may_leave failures
+module _ {S : Type 0} {meaning : Ghosts S} where
+  open meaning use {Image, shows, image, is_open, is_honest, may_leave}
 
   -- nothing was called
-  pub keeps_still : (s : S) → KeepsIt s s
+  pub keeps_still : (s : S) → Keeps meaning s s
   keeps_still s = record { honest = λ h. h; was_open = λ h o. o; same = λ h o. refl; crash = λ h i may. may; counts = omega arith }
 
   -- two calls that read
-  pub keeps_keeps : {old mid new : S} → KeepsIt old mid → KeepsIt mid new → KeepsIt old new
+  pub keeps_keeps : {old mid new : S} → Keeps meaning old mid → Keeps meaning mid new → Keeps meaning old new
   keeps_keeps a b = record {
     honest = λ h. a.honest (b.honest h);
     was_open = λ h o. a.was_open (b.honest h) (b.was_open h o);
@@ -26,8 +22,8 @@ module _ {S : Type 0} {Image : Type 0} (is_honest is_open : S → Type 0) (image
   }
 
   -- a call that reads, then one that tries to write
-  pub keeps_tries : {fits : Rows → Type 0} {write : Rows → Rows} {old mid new : S} → KeepsIt old mid → TriesIt fits write mid new
-      → TriesIt fits write old new
+  pub keeps_tries : {fits : Rows → Type 0} {write : Rows → Rows} {old mid new : S} → Keeps meaning old mid → Tries meaning fits write mid new
+      → Tries meaning fits write old new
   keeps_tries {fits} {write} {old} {mid} {new} a b = record {
     honest = λ h. a.honest (b.honest h);
     was_open = λ h o. a.was_open (b.honest h) (b.was_open h o);
@@ -46,8 +42,8 @@ module _ {S : Type 0} {Image : Type 0} (is_honest is_open : S → Type 0) (image
       )
 
   -- a call that tries to write, then one that reads
-  pub tries_keeps : {fits : Rows → Type 0} {write : Rows → Rows} {old mid new : S} → TriesIt fits write old mid → KeepsIt mid new
-      → TriesIt fits write old new
+  pub tries_keeps : {fits : Rows → Type 0} {write : Rows → Rows} {old mid new : S} → Tries meaning fits write old mid → Keeps meaning mid new
+      → Tries meaning fits write old new
   tries_keeps a b = record {
     honest = λ h. a.honest (b.honest h);
     was_open = λ h o. a.was_open (b.honest h) (b.was_open h o);
@@ -56,12 +52,12 @@ module _ {S : Type 0} {Image : Type 0} (is_honest is_open : S → Type 0) (image
   }
 
   -- a call that reads tries no more than any write
-  pub keeps_as_tries : {fits : Rows → Type 0} {write : Rows → Rows} {old new : S} → KeepsIt old new → TriesIt fits write old new
+  pub keeps_as_tries : {fits : Rows → Type 0} {write : Rows → Rows} {old new : S} → Keeps meaning old new → Tries meaning fits write old new
   keeps_as_tries a = record { honest = a.honest; was_open = a.was_open; crash = λ h i may. inl (a.crash h i may); counts = a.counts }
 
   -- a write of fewer tables, which does the same to them
   pub tries_weaker : {fits fewer : Rows → Type 0} {write other : Rows → Rows} {old new : S} → ((rows : Rows) → fewer rows → fits rows)
-      → ((rows : Rows) → fewer rows → write rows ≡ other rows) → TriesIt fits write old new → TriesIt fewer other old new
+      → ((rows : Rows) → fewer rows → write rows ≡ other rows) → Tries meaning fits write old new → Tries meaning fewer other old new
   tries_weaker {fits} {fewer} {write} {other} {old} {new} fit same a = record {
     honest = a.honest;
     was_open = a.was_open;

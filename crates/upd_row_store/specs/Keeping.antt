@@ -4,6 +4,7 @@ use Rattle.upd_text.specs.declared.fault.Fault.{Fault}
 use Rattle.upd_text.specs.declared.fault.FaultKind.TheVariants as fault
 use Rattle.upd_core.specs.Library.{LibraryView}
 use Rattle.upd_records.specs.Rows.{Rows}
+use Rattle.upd_row_store.specs.declared.meaning.Meaning.{Ghosts}
 
 -- a count of failures rose, or stands at its last value
 abbrev pub MoreFailures : ℕ → ℕ → Type 0
@@ -23,15 +24,24 @@ pub data IsLost : Fault → Type 0 where
   OfMemory : (f : Fault) → f.kind ≡ fault.NoMemory → f.at ≡ 0 → IsLost f
   OfStore : (f : Fault) → f.kind ≡ fault.Store → f.at ≡ 0 → IsLost f
 
-module _ {S : Type 0} {Image : Type 0} (is_honest is_open : S → Type 0) (image : S → Image) (shows : Image → Rows → Type 0)
-    (may_leave : S → Image → Type 0) (failures : S → ℕ) where
+module _ {S : Type 0} (meaning : Ghosts S) where
+  open meaning use {Image, shows, image, is_open, is_honest, may_leave, failures_of}
+
+  -- the store shows these tables
+  abbrev pub IsShown : Rows → S → Type 0
+  IsShown rows s = shows (image s) rows
+
+  -- it has failed once more
+  abbrev pub FailsMore : S → S → Type 0
+  FailsMore old new = MoreFailures (failures_of old) (failures_of new)
+
   -- A call that only reads: what the store keeps stays, and a crash leaves nothing that it could not leave before.
   pub record Keeps (old new : S) : Type 0 where
     pub honest : is_honest new → is_honest old
     pub was_open : is_honest new → is_open new → is_open old
     pub same : is_honest new → is_open new → image new ≡ image old
     pub crash : is_honest new → (i : Image) → may_leave new i → may_leave old i
-    pub counts : failures old ≤ failures new
+    pub counts : failures_of old ≤ failures_of new
 
   -- A call that tries to write: a crash leaves nothing that it could not leave before, but for what the write makes of the tables that the
   -- store kept, where these are fit for it.
@@ -40,4 +50,4 @@ module _ {S : Type 0} {Image : Type 0} (is_honest is_open : S → Type 0) (image
     pub was_open : is_honest new → is_open new → is_open old
     pub crash : is_honest new → (i : Image) → may_leave new i
         → may_leave old i ⊎ (is_open old × ((rows : Rows) → shows (image old) rows → fits rows → shows i (write rows)))
-    pub counts : failures old ≤ failures new
+    pub counts : failures_of old ≤ failures_of new

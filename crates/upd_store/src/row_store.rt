@@ -11,7 +11,7 @@ use std::alloc::Global;
 use upd_core::{Actives, CardRef, Change, Library, Serial, States};
 use upd_records::RunRow;
 use upd_row_store::{
-    RowStore, assembled, assembled_active, assembled_with_rest, decks_by_age, reads_with,
+    Meaning, RowStore, assembled, assembled_active, assembled_with_rest, decks_by_age, reads_with,
 };
 use upd_sql::{
     commit_changes, is_library_schema, kept_active, kept_decks_of, kept_library_rows, kept_mark,
@@ -31,13 +31,12 @@ fn is_ours<S: Rising>(conn: &Connection<S>) -> bool
     is_library_schema(conn.schema())
 }
 
-impl<S: Rising> RowStore for SqlStore<S> {
+impl<S: Rising> Meaning for SqlStore<S> {
     ghost use Rattle.std.specs.Prelude.{IsTrue};
     ghost use Rattle.sqlite_trees.specs.Tree.{Trees};
     ghost use Rattle.sqlite.specs.Held.{state};
     ghost use Rattle.sqlite.specs.State.{HasCleanDisk};
     ghost use Rattle.upd_sql.specs.Commits.{ShowsIn};
-    ghost use Rattle.upd_store.specs.One.{shows_one};
 
     ghost Image = { Trees };
 
@@ -54,8 +53,10 @@ impl<S: Rising> RowStore for SqlStore<S> {
     ghost failures_of = { λ s. s.failures };
 
     ghost decks_read_of = { λ s. s.decks_read };
+}
 
-    ghost caused = { λ _ _. Unit {0} };
+impl<S: Rising> RowStore for SqlStore<S> {
+    ghost use Rattle.upd_store.specs.One.{shows_one};
 
     fn load(&mut self, alloc: Global) -> Result<Library, Fault> {
         if !is_ours(&self.conn) {
