@@ -1,0 +1,12 @@
+pub mod FrameLemmas
+pub mod LimitLemmas
+pub mod StepLemmas
+pub mod SegmentLemmas
+pub mod DeckLemmas
+pub mod RunLemmas
+pub mod EffectLemmas
+pub mod AddedLemmas
+pub mod EditLemmas
+pub mod ReadLemmas
+pub mod SpellLemmas
+pub mod WholeLemmas

@@ -1,0 +1,4 @@
+pub mod RunLines
+pub mod Corrections
+pub mod Corrected
+pub mod Examples
