@@ -33,7 +33,7 @@ use Rattle.upd_correction_laws.specs.Corrections.{Correction, Edit, IsCorrection
 use Rattle.upd_correction_laws.specs.Corrections.{correction_lines, edit_lines, first_line, new_deck_lines}
 use Rattle.upd_correction_laws.specs.RunLines.{written}
 use Rattle.upd_correction_laws.proofs.AddedLemmas.{IsNew, added_ok, still_new, within_before_decks}
-use Rattle.upd_correction_laws.proofs.EffectLemmas.{added_active, cards_kept, live_stays, next_takes_older, none_takes, none_takes_deck}
+use Rattle.upd_correction_laws.proofs.EffectLemmas.{added_active, cards_beyond, cards_kept, live_stays, next_takes_older, none_takes, none_takes_deck}
 use Rattle.upd_correction_laws.proofs.EffectLemmas.{others_stay, texts_added, texts_led}
 use Rattle.upd_correction_laws.proofs.RunLemmas.{NamesNone, decks_idents, decks_name_none, lines_ok, none_chosen, none_named, texts_name_none}
 use Rattle.upd_correction_laws.proofs.StepLemmas.{bound_ok, in_set, run_steps, steps_follow, steps_sound, steps_then}
@@ -229,6 +229,12 @@ edit_kept l e c sound is there =
 pub edit_others : (l : LibraryView) (e : Edit) (d : ℕ) → IsSound l → IsEditOf l e → d < next_age l → AllByRecursion (λ c. c.deck ≡ d → ⊥) e.corrections
     → active_cards d (edited e l) ≡ active_cards d l
 edit_others l e d sound is old others = older_active d l e old ∙ others_stay l e.set e.corrections d sound is.corrections others
+
+pub edit_untouched : (l : LibraryView) (e : Edit) (d : ℕ) → d < next_age l → AllByRecursion (λ c. c.deck ≡ d → ⊥) e.corrections
+    → cards_of d (edited e l) ≡ cards_of d l
+edit_untouched l e d old others =
+    older_cards d e.added (corrected e.set e.corrections l) (omega (arith, next_corrected l e.set e.corrections))
+    ∙ cards_beyond (next_age l) 1 d e.corrections (introduced e.set kind.Set false l) others
 
 -- ---- new decks
 

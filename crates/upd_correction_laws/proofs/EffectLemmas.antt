@@ -228,7 +228,7 @@ live_stays l set corrections sound are =
     (all_weaker (IsFor (introduced set kind.Set false l) l.idents) _ corrections (λ c is. is.positive) (all_for l set corrections sound are.each)) refl)
 
 -- decks that no correction is of keep their cards
-cards_beyond : (z n d : ℕ) (corrections : List Correction) (l : LibraryView) → AllByRecursion (λ c. c.deck ≡ d → ⊥) corrections
+pub cards_beyond : (z n d : ℕ) (corrections : List Correction) (l : LibraryView) → AllByRecursion (λ c. c.deck ≡ d → ⊥) corrections
     → cards_of d (decks_corrected z n corrections l) ≡ cards_of d l
 cards_beyond z n d [] l others = refl
 cards_beyond z n d (c ∷ corrections) l others =

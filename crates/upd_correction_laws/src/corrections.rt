@@ -4,7 +4,7 @@ ghost use Rattle.std.specs.List.{AllByRecursion, Contains, filter};
 ghost use Rattle.upd_text.specs.declared.limits.TheConstants.{MAX_RUN_BYTES, MAX_RUN_LINES};
 ghost use Rattle.upd_text.specs.Names.{is_name};
 ghost use Rattle.upd_core.specs.Edits.{next_age};
-ghost use Rattle.upd_core.specs.Library.{LibraryView, deck_of};
+ghost use Rattle.upd_core.specs.Library.{LibraryView, cards_of, deck_of};
 ghost use Rattle.upd_core.specs.Limits.{is_within_limits};
 ghost use Rattle.upd_core.specs.Sound.{IsSound};
 ghost use Rattle.upd_core.specs.Status.{live_targets};
@@ -19,8 +19,8 @@ ghost use Rattle.upd_correction_laws.specs.Corrections.{edit_lines, new_deck_lin
 ghost use Rattle.upd_correction_laws.specs.RunLines.{IsSpelled, RunLine, run_of, written};
 
 /// A correction run is accepted. The active texts of each corrected deck are then those of its segments, the cards that
-/// stay are as they were, and other decks keep their active cards. Each new deck is held under its name and has its
-/// lines.
+/// stay are as they were, and other decks keep their cards and their active cards. Each new deck is held under its name
+/// and has its lines.
 pub fn corrections_of_decks()
     ensures accepted { (lines : List LineView) (l : LibraryView) (e : Edit) → IsSound l → IsEditOf l e
         → map written lines ≡ edit_lines l.idents e → IsTrue (is_within_limits (edited e l))
@@ -32,6 +32,8 @@ pub fn corrections_of_decks()
         ≡ staying_cards (live_targets l) c.deck c.segments }
     ensures others { (l : LibraryView) (e : Edit) (d : ℕ) → IsSound l → IsEditOf l e → d < next_age l
         → AllByRecursion (λ c. c.deck ≡ d → ⊥) e.corrections → active_cards d (edited e l) ≡ active_cards d l }
+    ensures untouched { (l : LibraryView) (e : Edit) (d : ℕ) → d < next_age l
+        → AllByRecursion (λ c. c.deck ≡ d → ⊥) e.corrections → cards_of d (edited e l) ≡ cards_of d l }
     ensures added { (l : LibraryView) (e : Edit) (d : NewDeck) → IsSound l → IsEditOf l e
         → IsTrue (is_within_limits (edited e l)) → Contains e.added d
         → (a : ℕ) × (deck_of d.name (edited e l) ≡ Some a)

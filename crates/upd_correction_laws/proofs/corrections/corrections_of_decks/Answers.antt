@@ -1,4 +1,4 @@
-use Rattle.upd_correction_laws.proofs.EditLemmas.{edit_accepted, edit_introduced, edit_kept, edit_others, edit_texts}
+use Rattle.upd_correction_laws.proofs.EditLemmas.{edit_accepted, edit_introduced, edit_kept, edit_others, edit_texts, edit_untouched}
 use Rattle.upd_correction_laws.proofs.corrections.corrections_of_decks.Goals as goal
 
 pub returns-clause-accepted : goal.returns-clause-accepted
@@ -12,6 +12,9 @@ returns-clause-kept c = edit_kept
 
 pub returns-clause-others : goal.returns-clause-others
 returns-clause-others c = edit_others
+
+pub returns-clause-untouched : goal.returns-clause-untouched
+returns-clause-untouched c = edit_untouched
 
 pub returns-clause-added : goal.returns-clause-added
 returns-clause-added c = edit_introduced
