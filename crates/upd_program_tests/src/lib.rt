@@ -6,8 +6,8 @@
 #[cfg(test)]
 mod console;
 #[cfg(test)]
-mod files;
-#[cfg(test)]
-mod library;
+mod library_files;
 #[cfg(test)]
 mod refusals;
+#[cfg(test)]
+mod site_commands;
