@@ -1,6 +1,6 @@
 use Rattle.std.proofs.Common.{refl}
 use Rattle.matchit.proofs.OnLiterals.{matchit_on_literals}
-use Rattle.upd_request.proofs.routes.router.Goals as goal
+use Rattle.upd_request.proofs.table.router.Goals as goal
 
 pub add-requires : goal.add-requires
 unfolding matchit_on_literals
