@@ -19,7 +19,7 @@ use upd_core::Library;
 use upd_records::LibraryRows;
 use upd_row_store::assembled;
 use upd_sql::library_rows_in;
-use upd_sqlite::{Rising, note_order_outside};
+use upd_sqlite::{Rising, begin};
 use upd_store::{fault_of, store_at};
 use upd_text::{Fault, FaultKind};
 
@@ -39,10 +39,7 @@ fn rows_of<S: Rising>(
     ensures found { HasCleanDisk (state S.Store conn.new) → IfOk result (λ found. (it : Rows)
         → ShowsAs version it (state S.Store conn.old).committed → AreRowsOf it found) }
 {
-    note_order_outside(conn);
-    // For its clause alone: outside a transaction the tables are those of the last commit.
-    let _outside = conn.is_autocommit();
-    let mut tx = conn.transaction();
+    let mut tx = begin(conn);
     complete(&mut tx, version)?;
     let found = library_rows_in(&mut tx, alloc)?;
     tx.rollback();

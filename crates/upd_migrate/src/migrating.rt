@@ -11,7 +11,7 @@ use crate::filling::fill;
 use crate::version::{Version, known_version};
 use sqlite::{Connection, Error};
 use std::alloc::Global;
-use upd_sqlite::{Rising, note_order_outside};
+use upd_sqlite::{Rising, begin};
 use upd_store::{fault_of, store_at};
 use upd_text::Fault;
 
@@ -32,10 +32,7 @@ fn migrate_from<S: Rising>(
     ensures crash { Survives (state S.Store conn.old) (state S.Store conn.new)
         (MayMigrateFrom version (state S.Store conn.old)) }
 {
-    note_order_outside(conn);
-    // For its clause alone: outside a transaction the tables are those of the last commit.
-    let _outside = conn.is_autocommit();
-    let mut tx = conn.transaction();
+    let mut tx = begin(conn);
     fill(&mut tx, alloc, version)?;
     tx.commit()
 }

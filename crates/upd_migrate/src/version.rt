@@ -9,7 +9,7 @@ ghost use Rattle.upd_migrate.specs.Older.{number_of, schema_of, tables_of};
 use sqlite::Connection;
 use sqlite_schema::schema::Schema;
 use upd_sql::has_first_tables;
-use upd_sqlite::Rising;
+use upd_sqlite::{Rising, committed_schema};
 use upd_store::{fault_of, store_at, version_of};
 use upd_text::Fault;
 
@@ -73,9 +73,7 @@ pub(crate) fn known_version<S: Rising>(conn: &mut Connection<S>) -> Result<Versi
         Ok(number) => number,
         Err(error) => return Err(fault_of(error)),
     };
-    // For its clause alone: outside a transaction the tables are those of the last commit.
-    let _outside = conn.is_autocommit();
-    match version_with(number, conn.schema()) {
+    match version_with(number, committed_schema(conn)) {
         Some(version) => Ok(version),
         None => Err(store_at(number)),
     }

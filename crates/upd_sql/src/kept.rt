@@ -22,7 +22,7 @@ use sqlite::{Connection, Error};
 use std::alloc::Global;
 use upd_core::{CardRef, Serial, States};
 use upd_records::{LibraryRows, RunRow};
-use upd_sqlite::{Rising, note_order_outside};
+use upd_sqlite::{Rising, begin};
 
 /// The number up to which a site has settled, 0 where it never did.
 pub fn kept_mark<S: Rising>(conn: &mut Connection<S>, site: &str) -> Result<u64, Error>
@@ -39,9 +39,7 @@ pub fn kept_mark<S: Rising>(conn: &mut Connection<S>, site: &str) -> Result<u64,
     ensures found { HasCleanDisk (state S.Store conn.new) → IfOk result (λ mark. (it : Rows)
         → ShowsTables it (state S.Store conn.old).committed → mark ≡ mark_at site.now it) }
 {
-    note_order_outside(conn);
-    let _outside = conn.is_autocommit();
-    let mut tx = conn.transaction();
+    let mut tx = begin(conn);
     let mark = reads::mark_in(&mut tx, site)?;
     tx.commit()?;
     Ok(mark)
@@ -66,9 +64,7 @@ pub fn kept_run<S: Rising>(
     ensures found { HasCleanDisk (state S.Store conn.new) → IfOk result
         (λ run. (it : Rows) → ShowsTables it (state S.Store conn.old).committed → run ≡ run_at site.now number it) }
 {
-    note_order_outside(conn);
-    let _outside = conn.is_autocommit();
-    let mut tx = conn.transaction();
+    let mut tx = begin(conn);
     let run = reads::run_in(&mut tx, site, number)?;
     tx.commit()?;
     Ok(run)
@@ -92,9 +88,7 @@ pub fn kept_library_rows<S: Rising>(
     ensures found { HasCleanDisk (state S.Store conn.new) → IfOk result
         (λ found. (it : Rows) → ShowsTables it (state S.Store conn.old).committed → AreRowsOf it found) }
 {
-    note_order_outside(conn);
-    let _outside = conn.is_autocommit();
-    let mut tx = conn.transaction();
+    let mut tx = begin(conn);
     let found = whole::library_rows_in(&mut tx, alloc)?;
     tx.commit()?;
     Ok(found)
@@ -117,9 +111,7 @@ pub fn kept_states<S: Rising>(conn: &mut Connection<S>, alloc: Global) -> Result
     ensures order { HasCleanDisk (state S.Store conn.new) → IfOk result
         (λ found. (it : Rows) → ShowsTables it (state S.Store conn.old).committed → AreByKey found) }
 {
-    note_order_outside(conn);
-    let _outside = conn.is_autocommit();
-    let mut tx = conn.transaction();
+    let mut tx = begin(conn);
     let found = whole::all_states_in(&mut tx, alloc)?;
     tx.commit()?;
     Ok(found)
@@ -147,9 +139,7 @@ pub fn kept_states_of<S: Rising>(
     ensures order { HasCleanDisk (state S.Store conn.new) → IfOk result
         (λ found. (it : Rows) → ShowsTables it (state S.Store conn.old).committed → AreByKey found) }
 {
-    note_order_outside(conn);
-    let _outside = conn.is_autocommit();
-    let mut tx = conn.transaction();
+    let mut tx = begin(conn);
     let found = statuses::card_states_in(&mut tx, alloc, cards)?;
     tx.commit()?;
     Ok(found)
@@ -174,9 +164,7 @@ pub fn kept_decks_of<S: Rising>(
     ensures found { HasCleanDisk (state S.Store conn.new) → IfOk result (λ found. (it : Rows)
         → ShowsTables it (state S.Store conn.old).committed → AreDecksOf cards.now it.cards found.items) }
 {
-    note_order_outside(conn);
-    let _outside = conn.is_autocommit();
-    let mut tx = conn.transaction();
+    let mut tx = begin(conn);
     let found = part::decks_in(&mut tx, alloc, cards)?;
     tx.commit()?;
     Ok(found)
@@ -207,9 +195,7 @@ pub fn kept_part<S: Rising>(
         (λ found. (state S.Store conn.old).committed.schema ≡ library_schema
         → HasSizes found.sizes (state S.Store conn.new).committed.trees) }
 {
-    note_order_outside(conn);
-    let _outside = conn.is_autocommit();
-    let mut tx = conn.transaction();
+    let mut tx = begin(conn);
     let found = part::part_in(&mut tx, alloc, ages, known)?;
     tx.commit()?;
     Ok(found)
@@ -230,9 +216,7 @@ pub fn kept_active<S: Rising>(conn: &mut Connection<S>, alloc: Global) -> Result
     ensures found { HasCleanDisk (state S.Store conn.new) → IfOk result
         (λ found. (it : Rows) → ShowsTables it (state S.Store conn.old).committed → AreActiveRows it found) }
 {
-    note_order_outside(conn);
-    let _outside = conn.is_autocommit();
-    let mut tx = conn.transaction();
+    let mut tx = begin(conn);
     let found = active::active_in(&mut tx, alloc)?;
     tx.commit()?;
     Ok(found)

@@ -8,7 +8,7 @@ ghost use Rattle.upd_sql.specs.Schema.{no_schema};
 ghost use Rattle.upd_sql.specs.Stands.{ShowsTables, Stands};
 
 use sqlite::{Alter, Connection, Error, Transaction};
-use upd_sqlite::run;
+use upd_sqlite::{Rising, begin, run};
 
 /// Makes the next table.
 fn create<S: Alter>(tx: &mut Transaction<'_, S>, sql: &str) -> Result<(), Error>
@@ -102,7 +102,7 @@ fn make_tables<S: Alter>(tx: &mut Transaction<'_, S>) -> Result<(), Error>
 }
 
 /// Makes the tables of an empty library in one transaction.
-pub fn make_library<S: Alter>(conn: &mut Connection<S>) -> Result<(), Error>
+pub fn make_library<S: Rising>(conn: &mut Connection<S>) -> Result<(), Error>
     requires { conn.old.in_transaction ≡ false }
     ensures outside { conn.new.in_transaction ≡ false }
     ensures done { HasCleanDisk (state S.Store conn.new) → OnOk result (IsTrue (state S.Store conn.new).is_open
@@ -113,9 +113,7 @@ pub fn make_library<S: Alter>(conn: &mut Connection<S>) -> Result<(), Error>
         (IsTrue (state S.Store conn.old).is_open × ((state S.Store conn.new).committed ≡ (state S.Store conn.old).committed)) }
     ensures crash { Survives (state S.Store conn.old) (state S.Store conn.new) (MayMake (state S.Store conn.old)) }
 {
-    // For its clause alone: outside a transaction the tables are those of the last commit.
-    let _outside = conn.is_autocommit();
-    let mut tx = conn.transaction();
+    let mut tx = begin(conn);
     make_tables(&mut tx)?;
     tx.commit()
 }

@@ -12,7 +12,7 @@ ghost use Rattle.upd_sql.specs.Stands.{AnyTables, ShowsTables, Stands};
 use crate::reads::mark_in;
 use crate::writes;
 use sqlite::{Alter, Connection, Error, Transaction};
-use upd_sqlite::{Rising, note_order_outside};
+use upd_sqlite::{Rising, begin};
 
 /// The site's runs up to a number go, and the number is its mark.
 fn set_mark<S: Alter>(tx: &mut Transaction<'_, S>, site: &str, number: u64) -> Result<(), Error>
@@ -62,10 +62,7 @@ pub fn settle_site<S: Rising>(
         → ShowsTables it (state S.Store conn.old).committed
         → mark ≡ mark_at site.now (settled_to site.now number it)) }
 {
-    note_order_outside(conn);
-    // For its clause alone: outside a transaction the tables are those of the last commit.
-    let _outside = conn.is_autocommit();
-    let mut tx = conn.transaction();
+    let mut tx = begin(conn);
     let mark = settle_in(&mut tx, site, number)?;
     tx.commit()?;
     Ok(mark)

@@ -34,24 +34,30 @@ pub type FileLibrary<S> = SqlStore<FileStore<FileFrom<S>>>;
 /// How each file of SQLite begins.
 const FIRST_BYTES: &[u8; 16] = b"SQLite format 3\0";
 
-/// Opens the library in a file. Where the file holds none the fault is Store, at the version that the file tells, 0
-/// where it tells none; no byte of it is changed, and a file that isn't there isn't made. The fault is Store at 0, too,
-/// where the file may not be read and written, where another program has it open, and where it is damaged. Want of
-/// memory is NoMemory at 0.
-pub fn open<S: Start>(rt: &HostRuntime, path: &str, start: S) -> Result<FileLibrary<S>, Fault>
-    ensures found { IfOk result (λ s. HasCleanDisk (file_state s.conn) → IsTrue (file_state s.conn).is_open
-        → FindsIn (image_at S.Start) (file_state s.conn)) }
-    ensures ours { IfOk result (λ s. HasCleanDisk (file_state s.conn) → IsTrue (file_state s.conn).is_open
-        → (file_state s.conn).committed.schema ≡ library_schema) }
-    ensures unopened { IfErr result IsUnopened }
-{
-    let conn = match connect(rt, path, start) {
-        Ok(conn) => conn,
-        Err(fault) => return Err(fault),
-    };
-    match SqlStore::adopt(conn) {
-        Ok(store) => Ok(store),
-        Err((fault, _)) => Err(fault),
+impl<S: Start> SqlStore<FileStore<FileFrom<S>>> {
+    /// Opens the library in a file. `new_has_sums` says whether an empty file would get checksums, as in
+    /// `Connection::open_from`; a library's file is never empty.
+    ///
+    /// Where the file holds no library the fault is Store, at the version in the file, 0 where it has none; no byte of it
+    /// is changed, and a file that does not exist is not made. The fault is Store at 0, too, where the file may not be
+    /// read and written, where another program has it open, and where it is damaged. Out of memory is NoMemory at 0.
+    pub fn open(
+        rt: &HostRuntime,
+        path: &str,
+        new_has_sums: bool,
+        start: S,
+    ) -> Result<SqlStore<FileStore<FileFrom<S>>>, Fault>
+        ensures found { IfOk result (λ s. HasCleanDisk (file_state s.conn) → IsTrue (file_state s.conn).is_open
+            → FindsIn (image_at S.Start) (file_state s.conn)) }
+        ensures ours { IfOk result (λ s. HasCleanDisk (file_state s.conn) → IsTrue (file_state s.conn).is_open
+            → (file_state s.conn).committed.schema ≡ library_schema) }
+        ensures unopened { IfErr result IsUnopened }
+    {
+        let conn = connect_with(rt, path, new_has_sums, start)?;
+        match SqlStore::adopt(conn) {
+            Ok(store) => Ok(store),
+            Err((fault, _)) => Err(fault),
+        }
     }
 }
 
@@ -66,10 +72,7 @@ pub fn create<S: Start>(rt: &HostRuntime, path: &str, start: S) -> Result<FileLi
         × ((held : Trees) → HoldsDatabase (image_at S.Start) held → found.trees ≡ held)) }
     ensures unopened { IfErr result IsUnopened }
 {
-    let conn = match connect_or_make(rt, path, start) {
-        Ok(conn) => conn,
-        Err(fault) => return Err(fault),
-    };
+    let conn = connect_or_make(rt, path, false, start)?;
     match SqlStore::init(conn) {
         Ok(store) => Ok(store),
         Err((fault, _)) => Err(fault),
@@ -101,8 +104,20 @@ pub fn connect<S: Start>(
     ensures found { IfOk result (λ c. HasCleanDisk (file_state c) → FindsIn (image_at S.Start) (file_state c)) }
     ensures lost { IfErr result IsLost }
 {
+    connect_with(rt, path, false, start)
+}
+
+fn connect_with<S: Start>(
+    rt: &HostRuntime,
+    path: &str,
+    new_has_sums: bool,
+    start: S,
+) -> Result<Connection<FileStore<FileFrom<S>>>, Fault>
+    ensures found { IfOk result (λ c. HasCleanDisk (file_state c) → FindsIn (image_at S.Start) (file_state c)) }
+    ensures lost { IfErr result IsLost }
+{
     if begins_as_database(rt, path).unwrap_or(false) {
-        connect_or_make(rt, path, start)
+        connect_or_make(rt, path, new_has_sums, start)
     } else {
         Err(store_at(0))
     }
@@ -111,12 +126,13 @@ pub fn connect<S: Start>(
 fn connect_or_make<S: Start>(
     rt: &HostRuntime,
     path: &str,
+    new_has_sums: bool,
     start: S,
 ) -> Result<Connection<FileStore<FileFrom<S>>>, Fault>
     ensures found { IfOk result (λ c. HasCleanDisk (file_state c) → FindsIn (image_at S.Start) (file_state c)) }
     ensures lost { IfErr result IsLost }
 {
-    match Connection::open_from(rt, path, false, start) {
+    match Connection::open_from(rt, path, new_has_sums, start) {
         Ok(conn) => Ok(conn),
         Err((error, _)) => Err(fault_of(error)),
     }

@@ -17,18 +17,16 @@ use upd_sql::{
     commit_changes, is_library_schema, kept_active, kept_decks_of, kept_library_rows, kept_mark,
     kept_part, kept_run, kept_states, kept_states_of, settle_site, sizes_after,
 };
-use upd_sqlite::Rising;
+use upd_sqlite::{Rising, committed_schema};
 use upd_text::Fault;
 
-/// Whether the schema is the library's, outside a transaction.
+/// Whether the last commit has the library's schema.
 fn is_ours<S: Rising>(conn: &Connection<S>) -> bool
     requires { conn.now.in_transaction ≡ false }
     ensures { IsTrue result → IsTrue (state S.Store conn.now).is_open
         → (state S.Store conn.now).committed.schema ≡ library_schema }
 {
-    // For its clause alone: outside a transaction the tables are those of the last commit.
-    let _outside = conn.is_autocommit();
-    is_library_schema(conn.schema())
+    is_library_schema(committed_schema(conn))
 }
 
 impl<S: Rising> RowStore for SqlStore<S> {

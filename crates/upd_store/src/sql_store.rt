@@ -13,7 +13,7 @@ use crate::fault::{fault_of, store_at, version_fault};
 use crate::version::version_of;
 use sqlite::Connection;
 use upd_sql::{Sizes, is_library_schema, is_no_schema, make_library};
-use upd_sqlite::Rising;
+use upd_sqlite::{Rising, committed_schema};
 use upd_text::Fault;
 
 /// The version of the schema.
@@ -70,9 +70,7 @@ impl<S: Rising> SqlStore<S> {
             Ok(version) => version,
             Err(error) => return Err((fault_of(error), conn)),
         };
-        // For its clause alone: outside a transaction the tables are those of the last commit.
-        let _outside = conn.is_autocommit();
-        if version != VERSION || !is_library_schema(conn.schema()) {
+        if version != VERSION || !is_library_schema(committed_schema(&conn)) {
             return Err((store_at(version), conn));
         }
         Ok(SqlStore {

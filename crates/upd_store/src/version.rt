@@ -8,7 +8,7 @@ ghost use Rattle.upd_sql.specs.Encoded.{num};
 ghost use Rattle.upd_store.specs.Version.{TellsVersion};
 
 use sqlite::{Alter, Connection, Error, Row, Transaction};
-use upd_sqlite::ask;
+use upd_sqlite::{Rising, ask, begin};
 
 /// The number that the first row begins with, 0 where there is no row.
 fn first_number(rows: &[Row]) -> Result<u32, Error>
@@ -33,7 +33,7 @@ fn version_in<S: Alter>(tx: &mut Transaction<'_, S>) -> Result<u32, Error>
 }
 
 /// The version that a file tells, 0 where it tells none; a file without such a table is an error. Nothing is written.
-pub fn version_of<S: Alter>(conn: &mut Connection<S>) -> Result<u32, Error>
+pub fn version_of<S: Rising>(conn: &mut Connection<S>) -> Result<u32, Error>
     requires { conn.old.in_transaction ≡ false }
     ensures outside { conn.new.in_transaction ≡ false }
     ensures was_open { HasCleanDisk (state S.Store conn.new) → IsTrue (state S.Store conn.new).is_open
@@ -44,9 +44,7 @@ pub fn version_of<S: Alter>(conn: &mut Connection<S>) -> Result<u32, Error>
     ensures row_changes { HasCleanDisk (state S.Store conn.new) → IfOk result
         (λ n. (v : ℕ) → TellsVersion v (state S.Store conn.old).committed → n ≡ v) }
 {
-    // For its clause alone: outside a transaction the tables are those of the last commit.
-    let _outside = conn.is_autocommit();
-    let mut tx = conn.transaction();
+    let mut tx = begin(conn);
     let version = version_in(&mut tx)?;
     tx.rollback();
     Ok(version)

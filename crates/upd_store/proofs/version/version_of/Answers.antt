@@ -15,8 +15,7 @@ pub returns-clause-row_changes : goal.returns-clause-row_changes
 returns-clause-row_changes g c clean =
     let old = state g.S.Store c.args.conn.now in
     let last = state g.S.Store c.version_in.new.tx.conn.now in
-    let begun = c.transaction-tx.ensures.begun in
-    let outside : IsTrue c.is_autocommit-outside.result = c.is_autocommit-outside.ensures.value ∙ ap not c.requires in
+    let begun = c.begin-tx.ensures.begun in
     let early : HasCleanDisk last = search rules in
-    told_outside old last c.in_ok-version.version early (c.is_autocommit-outside.ensures.settled outside) (rw begun at c.in_ok-version.ensures.was_open)
+    told_outside old last c.in_ok-version.version early c.begin-tx.ensures.settled (rw begun at c.in_ok-version.ensures.was_open)
     (rw begun at c.in_ok-version.ensures.row_changes)
