@@ -53,7 +53,7 @@ set_version_plain : IsPlain (understood library_schema set_version)
 unfolding understood everything
 set_version_plain = (refl, refl)
 
--- the row that tells a version passes the test, whatever the version, and becomes that of the present schema
+-- the row of the version passes the test, whatever the version, and becomes that of the present schema
 version_becomes : (version : Version) → (if list_all (holds ([] ∷ (Null ∷ version_row (number_of version)) ∷ [])) set_tests
     then cast_all meta_columns (eval_all set_news ([] ∷ (Null ∷ version_row (number_of version)) ∷ [])) else version_row (number_of version)) ≡ version_row 3
 version_becomes version =

@@ -24,7 +24,7 @@ use Rattle.upd_migrate.specs.Migrated.{AreLibraryRows, IsFilled, IsMigrated, Sta
 use Rattle.upd_migrate.specs.Older.{schema_of, stored_in}
 use Rattle.upd_migrate.proofs.RowChanges.{all_else_stays}
 
--- what is read is told, and what is told is carried out
+-- changes are made from what is read, and carried out
 pub states_filled : (l library : LibraryView) (it : Rows) (cs : List ChangeView) (old mid new : State) (rows : LibraryRows) {X : Type 0} (r : Result X Error)
     → AreLibraryRows l it → Looks AreRowsOf old mid (Ok rows)
     → ((tables : Rows) (m : LibraryView) → IsSound m → IsWhole m → Shows tables m → AreRowsOf tables rows → library ≡ m)

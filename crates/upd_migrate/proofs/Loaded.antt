@@ -22,7 +22,7 @@ as_they_were First it rows h = record { idents = h.idents; cards = h.cards; entr
 as_they_were Second it rows h = record { idents = h.idents; cards = h.cards; entries = h.entries; targets = h.targets }
 as_they_were Third it rows h = h
 
--- tables of the last commit stand in a transaction that has begun
+-- a transaction that has begun holds the tables of the last commit
 pub begun_holds : (version : Version) (it : Rows) (old : State) → (IsTrue old.is_open → TablesRise old.now)
     → (IsTrue old.is_open → old.now ≡ old.committed) → IsTrue old.is_open → ShowsAs version it old.committed
     → HoldsAllRows (schema_of version) (stored_in version it) old.now

@@ -73,7 +73,7 @@ fn create_missing<S: Alter>(tx: &mut Transaction<'_, S>, version: Version) -> Re
     }
 }
 
-/// The version of the present schema takes the place of the one before it.
+/// Sets the version of the present schema.
 fn set_version<S: Alter>(tx: &mut Transaction<'_, S>) -> Result<(), Error>
     ensures same_reference { tx.new.conn.ghost_name ≡ tx.old.conn.ghost_name }
     ensures leads { (version : Version) (it : Rows) → Leads (HasTables version it) (Stands it)

@@ -90,7 +90,7 @@ next_made n sql m old new count ran h =
     let w = runs_as sql [] old new (schema_up_to n) h.schema_is CreateTable m.is m.plain count ran in
     subst₂ (λ s rs. HoldsAllRows s rs new.now) m.next m.rows (creates (schema_up_to n) m.table old new (no_rows_in n) _ [] count m.defined m.lacks h w)
 
--- the version is told
+-- the version is written
 pub version_told : (old new : State) (count : ℕ) → Executes text.insert_version [] old new (Ok count) → HasMade 9 old.now → Stands no_rows new.now
 version_told old new count ran h =
     let w = runs_as text.insert_version [] old new library_schema h.schema_is _ text.insert_version_is text.insert_version_plain count ran in

@@ -29,7 +29,7 @@ bytes_itself : (a : List ℕ) → bytes_eq a a ≡ true
 bytes_itself [] = refl
 bytes_itself (x ∷ a) = grind (arith, nat_tests, bytes_itself a)
 
--- behind marks of other sites the new mark is found
+-- after marks of other sites the new mark is found
 found_behind : (site : List ℕ) (n : ℕ) (marks : List MarkRow)
     → find (is_mark_of site) (filter (λ m. not (is_mark_of site m)) marks ++ record { site = site; mark = n } ∷ []) ≡ Some (record { site = site; mark = n })
 found_behind site n [] = ap (λ b. if b then Some (record { site = site; mark = n }) else None) (bytes_itself site)

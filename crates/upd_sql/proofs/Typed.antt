@@ -1,4 +1,4 @@
--- The same statements on lists of records, each of which is kept as a row.
+-- The same statements on lists of records, each of which is stored as a row.
 use Rattle.std.proofs.Common.{OnOk, IsErr, inl, arith, ◌≡◌, ℕ, ◌/◌, ◌-◌, ◌^◌, nat_le, unwrap_or, None, Bool, not, if◌then◌else◌, List, [], ◌∷◌, ◌++◌, map}
 use Rattle.std.proofs.Common.{length, filter, slice_get, Some, Ok, refl, sym, ap, subst, ◌∙◌, IfOk, IsTrue, true, false, Result, Err}
 use Rattle.std.specs.List.{AllByRecursion, list_all}

@@ -1,4 +1,4 @@
--- Reading whole tables: the rows of an answer are the table's, in whatever order, and each is read as the record that it is kept as.
+-- Reading whole tables: the rows of an answer are the table's, in any order, and each is read as the record that it stores.
 use Rattle.std.proofs.Common.{◌≡◌, ℕ, ◌+◌, ◌<◌, Bool, true, List, [], ◌∷◌, ◌++◌, map, filter, take, length, get_or, Result, Ok, Err, refl, sym, ap, ap₂, subst, ◌∙◌}
 use Rattle.std.proofs.Common.{arith, int_cmp, nat_cmp, pos, Ordering, Less, Equal, Greater, IsErr, IfOk}
 use Rattle.std.specs.Ordering.{ordering_then}
@@ -102,7 +102,7 @@ targets_order a b = name_order a.card b.card a.ord b.ord
 state_rows_order : (a b : StateRow) → sort_cmp text.all_states_order ([] ∷ (Null ∷ state_row a) ∷ []) ([] ∷ (Null ∷ state_row b) ∷ []) ≡ by_state_row a b
 state_rows_order a b = ap₂ ordering_then (value_cmp-Text a.card.name b.card.name) (last_order a.card.number b.card.number)
 
--- what is found without a wish for an order
+-- what is found in any order
 in_any : {X : Type 0} {wanted all : List X} (found : List X) → wanted ≡ all → IsSame found wanted → AreInOrder in_any_order all found
 in_any found are same = record { same = subst (IsSame found) are same; sorted = λ k d low high. refl }
 

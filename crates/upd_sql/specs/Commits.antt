@@ -1,4 +1,4 @@
--- What a whole transaction does to the tables of the last commit, and what its statements do that only look.
+-- What a whole transaction does to the tables of the last commit, and what its statements do that only read.
 use Rattle.std.specs.Prelude.{◌≡◌, Result, IsTrue, IfOk, OnOk}
 use Rattle.std.specs.List.{AllZip}
 use Rattle.sqlite_trees.specs.Tree.{Trees}
@@ -38,7 +38,7 @@ MayKeep old trees = IsTrue old.is_open × (old.committed.schema ≡ library_sche
 abbrev pub LeavesTables : {X : Type 0} → State → State → Result X Error → Type 0
 LeavesTables old new r = HasCleanDisk new → OnOk r (old.now.schema ≡ library_schema → new.now ≡ old.now)
 
--- What statements of a transaction do that only read: they leave the tables, and what they find is so of the tables as they stood.
+-- What statements of a transaction do that only read: they leave the tables, and what they find is so of these tables.
 pub record Looks {X : Type 0} (Found : Rows → X → Type 0) (old new : State) (r : Result X Error) : Type 0 where
   pub steps : Steps old new r
   pub was_open : WasOpen old new r

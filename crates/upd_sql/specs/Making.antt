@@ -28,16 +28,16 @@ abbrev pub with_tables : List Table → Schema → Schema
 with_tables [] schema = schema
 with_tables (t ∷ tables) schema = with_tables tables (created schema t)
 
--- the schema with the first so many tables
+-- the schema with the first n tables
 abbrev pub schema_up_to : ℕ → Schema
 schema_up_to n = with_tables (take n all_tables) no_schema
 
--- so many tables with no rows
+-- n tables with no rows
 abbrev pub no_rows_in : ℕ → List (List Row)
 no_rows_in zero = []
 no_rows_in (suc n) = no_rows_in n ++ [] ∷ []
 
--- the database has the first so many tables, all of them empty
+-- the database has the first n tables, all of them empty
 abbrev pub HasMade : ℕ → Database → Type 0
 HasMade n = HoldsAllRows (schema_up_to n) (no_rows_in n)
 

@@ -1,4 +1,4 @@
--- When the tables stand in a database.
+-- When a database holds the tables of a library.
 use Rattle.sqlite.specs.Effect.{Database}
 use Rattle.upd_records.specs.Rows.{Rows}
 use Rattle.upd_sqlite.specs.Stored.{HasAllRows, HoldsAllRows}

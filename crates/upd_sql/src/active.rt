@@ -1,4 +1,4 @@
-//! The rows by which the active cards are told.
+//! The rows that give the active cards.
 ghost use Rattle.std.specs.Prelude.{◌≡◌};
 ghost use Rattle.sqlite.specs.Held.{state};
 ghost use Rattle.upd_sql.specs.Commits.{Looks};
@@ -35,7 +35,7 @@ fn state_rows_in<S: Alter>(
     )
 }
 
-/// The rows by which the active cards are told, inside a transaction.
+/// The rows that give the active cards, inside a transaction.
 pub(crate) fn active_in<S: Alter>(
     tx: &mut Transaction<'_, S>,
     alloc: Global,

@@ -1,4 +1,4 @@
-//! Row changes carried out by statements.
+//! Row changes, carried out by statements.
 ghost use Rattle.std.specs.Prelude.{◌≡◌, map};
 ghost use Rattle.sqlite.specs.Held.{state};
 ghost use Rattle.upd_records.specs.Changes.{done, done_all, change_view, CardGone, CardsMoved, CountNow, StatusNow};
@@ -11,7 +11,7 @@ use crate::writes;
 use sqlite::{Alter, Error, Transaction};
 use upd_core::{CardRef, Change, Serial, Target};
 
-/// The card goes, and its status with it.
+/// Removes the card and its status.
 fn remove_card<S: Alter>(tx: &mut Transaction<'_, S>, card: &CardRef) -> Result<(), Error>
     ensures same_reference { tx.new.conn.ghost_name ≡ tx.old.conn.ghost_name }
     ensures makes { Makes Stands AnyTables (done (CardGone card.now)) (state S.Store tx.old.conn.now)
@@ -23,7 +23,7 @@ fn remove_card<S: Alter>(tx: &mut Transaction<'_, S>, card: &CardRef) -> Result<
     writes::delete_state(tx, card)
 }
 
-/// The card's status takes the place of the one before it.
+/// Sets the card's status.
 fn set_state<S: Alter>(
     tx: &mut Transaction<'_, S>,
     card: &CardRef,
@@ -38,7 +38,7 @@ fn set_state<S: Alter>(
     writes::insert_state(tx, card, active)
 }
 
-/// The target's count takes the place of the one before it; 0 leaves no row.
+/// Sets the target's count; 0 leaves no row.
 fn set_count<S: Alter>(tx: &mut Transaction<'_, S>, target: Target, n: u32) -> Result<(), Error>
     ensures same_reference { tx.new.conn.ghost_name ≡ tx.old.conn.ghost_name }
     ensures makes { Makes Stands AnyTables (done (CountNow target n)) (state S.Store tx.old.conn.now)
@@ -52,7 +52,7 @@ fn set_count<S: Alter>(tx: &mut Transaction<'_, S>, target: Target, n: u32) -> R
     writes::insert_count(tx, target, n)
 }
 
-/// The cards of a deck that stand at a place or behind it move.
+/// Moves the cards of a deck at a place and after it.
 fn move_cards<S: Alter>(
     tx: &mut Transaction<'_, S>,
     deck: Serial,

@@ -17,7 +17,7 @@ use upd_core::Change;
 use upd_records::RunRow;
 use upd_sqlite::{Rising, begin};
 
-/// Carries out row changes and keeps the run that brought them, all or nothing.
+/// Carries out row changes and stores the run that made them, all or nothing.
 pub fn commit_changes<S: Rising>(
     conn: &mut Connection<S>,
     changes: &[Change],

@@ -1,6 +1,5 @@
-//! What is kept, read in transactions of their own. An error is want of memory, a failure of the disk, or a file whose
-//! tables or rows are no library's; none of these calls changes a table. `is_autocommit` is called for its clause
-//! alone: outside a transaction the tables are those of the last commit.
+//! What is stored, each read in a transaction of its own. An error is out of memory, a failure of the disk, or a file
+//! whose tables or rows are not a library's. None of these calls changes a table.
 ghost use Rattle.std.specs.Prelude.{◌≡◌, false, IfOk, IsTrue, OnOk};
 ghost use Rattle.sqlite.specs.Held.{state};
 ghost use Rattle.sqlite.specs.State.{HasCleanDisk, Survives};
@@ -45,7 +44,7 @@ pub fn kept_mark<S: Rising>(conn: &mut Connection<S>, site: &str) -> Result<u64,
     Ok(mark)
 }
 
-/// The run that is kept under a key.
+/// The run that is stored under a key.
 pub fn kept_run<S: Rising>(
     conn: &mut Connection<S>,
     site: &str,
@@ -145,7 +144,7 @@ pub fn kept_states_of<S: Rising>(
     Ok(found)
 }
 
-/// The ages of the decks in the rows of these cards, 0 for `YANK$$$`. An age may stand there more than once.
+/// The ages of the decks in the rows of these cards, 0 for `YANK$$$`. An age may occur more than once.
 pub fn kept_decks_of<S: Rising>(
     conn: &mut Connection<S>,
     alloc: Global,
@@ -170,8 +169,8 @@ pub fn kept_decks_of<S: Rising>(
     Ok(found)
 }
 
-/// The rows of `YANK$$$` and of the decks of these ages, and how many cards and entries there are in all: counted where
-/// the numbers aren't known.
+/// The rows of `YANK$$$` and of the decks of these ages, and the numbers of all cards and entries, which are counted
+/// where they are not known.
 pub fn kept_part<S: Rising>(
     conn: &mut Connection<S>,
     alloc: Global,
@@ -201,7 +200,7 @@ pub fn kept_part<S: Rising>(
     Ok(found)
 }
 
-/// The rows by which the active cards are told.
+/// The rows that give the active cards.
 pub fn kept_active<S: Rising>(conn: &mut Connection<S>, alloc: Global) -> Result<ActiveRows, Error>
     requires { conn.old.in_transaction ≡ false }
     ensures outside { conn.new.in_transaction ≡ false }

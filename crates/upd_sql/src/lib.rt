@@ -1,8 +1,7 @@
 //! The library in a file that any SQLite shell opens.
 //!
-//! Nine tables of whole numbers, texts and bytes. Each SQL statement that is run on them is a fixed string. But for
-//! those that make the tables each stands in a function of its own, whose contract is what the statement reads or makes
-//! of the tables.
+//! Nine tables of whole numbers, texts and bytes. Each SQL statement is a fixed string. Except for those that make the
+//! tables, each is in a function of its own, whose contract says what the statement reads or changes.
 #![tactic(auto)]
 
 mod active;

@@ -19,7 +19,7 @@ fn create<S: Alter>(tx: &mut Transaction<'_, S>, sql: &str) -> Result<(), Error>
     run(tx, sql, &[])
 }
 
-/// Tells the version of the schema.
+/// Writes the version of the schema.
 fn insert_version<S: Alter>(tx: &mut Transaction<'_, S>) -> Result<(), Error>
     ensures same_reference { tx.new.conn.ghost_name ≡ tx.old.conn.ghost_name }
     ensures leads { Leads (HasMade 9) (Stands no_rows) (state S.Store tx.old.conn.now)
@@ -29,7 +29,7 @@ fn insert_version<S: Alter>(tx: &mut Transaction<'_, S>) -> Result<(), Error>
     run(tx, "INSERT INTO meta (k, v) VALUES ('version', 3)", &[])
 }
 
-/// The tables of the version, the idents and the cards.
+/// Makes the tables of the version, the idents and the cards.
 fn create_cards<S: Alter>(tx: &mut Transaction<'_, S>) -> Result<(), Error>
     ensures same_reference { tx.new.conn.ghost_name ≡ tx.old.conn.ghost_name }
     ensures leads { Leads (HasMade 0) (HasMade 3) (state S.Store tx.old.conn.now)
@@ -49,7 +49,7 @@ fn create_cards<S: Alter>(tx: &mut Transaction<'_, S>) -> Result<(), Error>
     )
 }
 
-/// The tables of what hangs on cards, and of the runs.
+/// Makes the tables of entries, targets and runs.
 fn create_runs<S: Alter>(tx: &mut Transaction<'_, S>) -> Result<(), Error>
     ensures same_reference { tx.new.conn.ghost_name ≡ tx.old.conn.ghost_name }
     ensures leads { Leads (HasMade 3) (HasMade 6) (state S.Store tx.old.conn.now)
@@ -69,7 +69,7 @@ fn create_runs<S: Alter>(tx: &mut Transaction<'_, S>) -> Result<(), Error>
     )
 }
 
-/// The tables of statuses, counts and settled marks.
+/// Makes the tables of statuses, counts and settled marks.
 fn create_marks<S: Alter>(tx: &mut Transaction<'_, S>) -> Result<(), Error>
     ensures same_reference { tx.new.conn.ghost_name ≡ tx.old.conn.ghost_name }
     ensures leads { Leads (HasMade 6) (HasMade 9) (state S.Store tx.old.conn.now)
@@ -89,7 +89,7 @@ fn create_marks<S: Alter>(tx: &mut Transaction<'_, S>) -> Result<(), Error>
     )
 }
 
-/// All tables, and the version.
+/// Makes all tables, and writes the version.
 fn make_tables<S: Alter>(tx: &mut Transaction<'_, S>) -> Result<(), Error>
     ensures same_reference { tx.new.conn.ghost_name ≡ tx.old.conn.ghost_name }
     ensures leads { Leads (HasMade 0) (Stands no_rows) (state S.Store tx.old.conn.now) (state S.Store tx.new.conn.now) result }

@@ -1,4 +1,4 @@
-//! Parts of the tables: the rows of some decks and cards, and how many rows there are.
+//! Parts of the tables: the rows of some decks and cards, and the numbers of rows.
 ghost use Rattle.std.specs.Prelude.{◌≡◌, ◌==◌, ◌||◌, ℕ, [], ◌∷◌, List, length, map, IfOk, IfSome};
 ghost use Rattle.std.specs.List.{filter};
 ghost use Rattle.std.specs.BTreeSet as sorted;
@@ -37,10 +37,10 @@ use upd_row_store::card_set;
 /// The last number to which SQLite counts.
 const LAST: u64 = 0x7fff_ffff_ffff_ffff;
 
-/// The rows of some decks, and how many cards and entries there are in all.
+/// The rows of some decks, and the numbers of all cards and entries.
 #[derive(Debug, Drop)]
 pub struct Part {
-    /// Whole but for the cards of other decks, and their entries.
+    /// All rows, except those of the cards of other decks and of their entries.
     pub rows: LibraryRows,
     pub sizes: Sizes,
 }
@@ -74,7 +74,7 @@ fn decks_of_card<S: Alter>(
     )
 }
 
-/// The ages of the decks in the rows of these cards, 0 for `YANK$$$`. An age may stand there more than once.
+/// The ages of the decks in the rows of these cards, 0 for `YANK$$$`. An age may occur more than once.
 pub(crate) fn decks_in<S: Alter>(
     tx: &mut Transaction<'_, S>,
     alloc: Global,
@@ -119,7 +119,7 @@ fn is_loaded(ages: &[Serial], deck: Serial) -> bool
     deck == 0 || ages.contains(&deck)
 }
 
-/// The deck that is asked for where it is one alone, `YANK$$$` where there is none.
+/// The only deck that is asked for, `YANK$$$` where none is.
 fn lone_deck(ages: &[Serial]) -> Option<Serial>
     ensures { IfSome result (λ deck. (d : ℕ) → is_loaded ages.now d ≡ ((d == 0) || (d == deck))) }
 {
@@ -130,7 +130,7 @@ fn lone_deck(ages: &[Serial]) -> Option<Serial>
     }
 }
 
-/// Takes the cards of other decks away.
+/// Removes the cards of other decks.
 fn keep_cards(cards: &mut Vec<CardRow>, ages: &[Serial])
     ensures { cards.new.items ≡ filter (λ r. is_loaded ages.now r.deck) cards.old.items }
 {
@@ -157,8 +157,8 @@ fn cards_of_decks<S: Alter>(
     }
 }
 
-/// The records of all idents that brought these cards, by a query for those of one ident, `?1`. Each ident is asked for
-/// once.
+/// The records of all idents that introduced these cards, by a query for those of one ident, `?1`. It runs once for each
+/// ident.
 pub(crate) fn of_idents<S: Alter, T: Record + Drop>(
     tx: &mut Transaction<'_, S>,
     alloc: Global,
@@ -183,7 +183,7 @@ pub(crate) fn of_idents<S: Alter, T: Record + Drop>(
     Ok(found)
 }
 
-/// The entries of all cards of the idents that brought these.
+/// The entries of all cards of the idents that introduced these.
 fn entries_of_idents<S: Alter>(
     tx: &mut Transaction<'_, S>,
     alloc: Global,
@@ -201,15 +201,15 @@ fn entries_of_idents<S: Alter>(
     )
 }
 
-/// Takes the entries of other cards away.
+/// Removes the entries of other cards.
 fn keep_entries(entries: &mut Vec<EntryRow>, cards: &BTreeSet<CardRef>)
     ensures { entries.new.items ≡ filter (λ e. sorted.contains by_name cards.now e.card) entries.old.items }
 {
     entries.retain(|entry| cards.contains(&entry.card));
 }
 
-/// The entries of cards. All that their idents brought are read: one statement for each ident takes far less than one
-/// for each card.
+/// The entries of cards. Those of all cards of their idents are read: one statement for each ident takes far less time
+/// than one for each card.
 fn entries_of_cards<S: Alter>(
     tx: &mut Transaction<'_, S>,
     alloc: Global,
@@ -235,7 +235,7 @@ fn references_of(alloc: Global, cards: &[CardRow]) -> Result<Vec<CardRef>, Alloc
     Ok(references)
 }
 
-/// The number that the first row begins with, 0 where there is no row. A count that stands at its last value is refused.
+/// The number in the first column of the first row, 0 where there is no row. A count at its last value is refused.
 fn first_count(rows: &[Row]) -> Result<u64, Error>
     ensures { IfOk result (λ n. (count : ℕ) → rows.now ≡ (num (sqlite_count count) ∷ []) ∷ [] → n ≡ count) }
 {
@@ -245,7 +245,7 @@ fn first_count(rows: &[Row]) -> Result<u64, Error>
     }
 }
 
-/// A number that is a count; the last one stands for all that are above it, too.
+/// A number that is a count. The last one is refused, since SQLite returns it for all counts above it, too.
 fn below_last(n: u64) -> Result<u64, Error>
     ensures { IfOk result (λ m. (count : ℕ) → n ≡ sqlite_count count → m ≡ count) }
 {
@@ -256,7 +256,7 @@ fn below_last(n: u64) -> Result<u64, Error>
     }
 }
 
-/// The number that a SELECT count(*) answers; TooBig from 2^63 - 1 on.
+/// The number that a SELECT count(*) returns; TooBig from 2^63 - 1 on.
 fn number_of<S: Alter>(tx: &mut Transaction<'_, S>, sql: &str) -> Result<u64, Error>
     ensures same_reference { tx.new.conn.ghost_name ≡ tx.old.conn.ghost_name }
     ensures looks { (size : Rows → ℕ) → IsPlain (understood library_schema sql.now)
@@ -319,7 +319,7 @@ fn part_rows_in<S: Alter>(
     })
 }
 
-/// How many cards and entries there are.
+/// The numbers of cards and entries.
 fn sizes_in<S: Alter>(tx: &mut Transaction<'_, S>) -> Result<Sizes, Error>
     ensures same_reference { tx.new.conn.ghost_name ≡ tx.old.conn.ghost_name }
     ensures looks { Looks AreSizesOf (state S.Store tx.old.conn.now) (state S.Store tx.new.conn.now) result }
@@ -332,8 +332,8 @@ fn sizes_in<S: Alter>(tx: &mut Transaction<'_, S>) -> Result<Sizes, Error>
     Ok(Sizes { cards, entries })
 }
 
-/// The rows of `YANK$$$` and of the decks of these ages, and how many cards and entries there are in all: counted where
-/// the numbers aren't known.
+/// The rows of `YANK$$$` and of the decks of these ages, and the numbers of all cards and entries, which are counted
+/// where they are not known.
 pub(crate) fn part_in<S: Alter>(
     tx: &mut Transaction<'_, S>,
     alloc: Global,

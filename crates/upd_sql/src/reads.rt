@@ -1,4 +1,4 @@
-//! The queries that read a site's kept run and its mark, and what they answer.
+//! The queries that read a site's stored run and its mark.
 ghost use Rattle.std.specs.Prelude.{◌≡◌, map, IfOk};
 ghost use Rattle.std.specs.List.{filter};
 ghost use Rattle.sqlite.specs.Held.{state};
@@ -16,7 +16,7 @@ use sqlite::{Alter, Error, Row, Transaction};
 use upd_records::RunRow;
 use upd_sqlite::ask;
 
-/// The rows of a site's run of a number.
+/// The rows of a site's run with a number.
 pub(crate) fn runs_of_key<S: Alter>(
     tx: &mut Transaction<'_, S>,
     site: &str,
@@ -72,7 +72,7 @@ pub(crate) fn mark_in<S: Alter>(tx: &mut Transaction<'_, S>, site: &str) -> Resu
     first_mark(&rows)
 }
 
-/// The run that is kept under a key.
+/// The run that is stored under a key.
 pub(crate) fn run_in<S: Alter>(
     tx: &mut Transaction<'_, S>,
     site: &str,

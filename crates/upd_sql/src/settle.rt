@@ -1,4 +1,4 @@
-//! Settling a site's runs.
+//! Settlement of a site's runs.
 ghost use Rattle.std.specs.Prelude.{◌≡◌, false, IfOk, IsTrue, OnErr, OnOk};
 ghost use Rattle.sqlite.specs.Held.{state};
 ghost use Rattle.sqlite.specs.State.{HasCleanDisk, Survives};
@@ -14,7 +14,7 @@ use crate::writes;
 use sqlite::{Alter, Connection, Error, Transaction};
 use upd_sqlite::{Rising, begin};
 
-/// The site's runs up to a number go, and the number is its mark.
+/// Removes the site's runs up to a number, and makes the number its mark.
 fn set_mark<S: Alter>(tx: &mut Transaction<'_, S>, site: &str, number: u64) -> Result<(), Error>
     ensures same_reference { tx.new.conn.ghost_name ≡ tx.old.conn.ghost_name }
     ensures makes { Makes Stands AnyTables (with_runs_settled site.now number) (state S.Store tx.old.conn.now)
@@ -25,7 +25,7 @@ fn set_mark<S: Alter>(tx: &mut Transaction<'_, S>, site: &str, number: u64) -> R
     writes::insert_mark(tx, site, number)
 }
 
-/// Settles a site's runs up to a number, and answers the site's mark afterwards.
+/// Settles a site's runs up to a number, and returns the site's mark afterwards.
 fn settle_in<S: Alter>(tx: &mut Transaction<'_, S>, site: &str, number: u64) -> Result<u64, Error>
     ensures same_reference { tx.new.conn.ghost_name ≡ tx.old.conn.ghost_name }
     ensures makes { Makes Stands AnyTables (settled_to site.now number) (state S.Store tx.old.conn.now)
@@ -43,7 +43,7 @@ fn settle_in<S: Alter>(tx: &mut Transaction<'_, S>, site: &str, number: u64) -> 
     Ok(number)
 }
 
-/// Settles a site's runs up to a number in one transaction, and answers the site's mark afterwards.
+/// Settles a site's runs up to a number in one transaction, and returns the site's mark afterwards.
 pub fn settle_site<S: Rising>(
     conn: &mut Connection<S>,
     site: &str,

@@ -15,11 +15,11 @@ use std::alloc::Global;
 use upd_core::{CardRef, States};
 use upd_row_store::{card_set, keep_states, states_by_key};
 
-/// For how many cards the statuses are asked ident by ident, at most. The whole table is read for more: one statement
-/// takes less than one for each ident.
+/// The largest number of cards whose statuses are read ident by ident. The whole table is read for more: one statement
+/// takes less time than one for each ident.
 const MOST_BY_IDENT: usize = 10_000;
 
-/// The statuses of all cards of the idents that brought these.
+/// The statuses of all cards of the idents that introduced these.
 fn states_of_idents<S: Alter>(
     tx: &mut Transaction<'_, S>,
     alloc: Global,
@@ -37,7 +37,7 @@ fn states_of_idents<S: Alter>(
     )
 }
 
-/// Statuses that have those of these cards, and maybe others.
+/// The statuses of these cards, and maybe of others.
 fn states_with<S: Alter>(
     tx: &mut Transaction<'_, S>,
     alloc: Global,

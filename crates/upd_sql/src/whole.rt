@@ -25,7 +25,7 @@ use upd_records::{CardRow, EntryRow, LibraryRows, TargetRow};
 use upd_row_store::states_by_key;
 use upd_sqlite::ask;
 
-/// The rows that a query answers.
+/// The rows that a query returns.
 pub(crate) fn rows_of<S: Alter>(
     tx: &mut Transaction<'_, S>,
     sql: &str,
@@ -42,7 +42,7 @@ pub(crate) fn rows_of<S: Alter>(
     ask(tx, sql, params)
 }
 
-/// The records that a query answers.
+/// The records that a query returns.
 pub(crate) fn all_of<S: Alter, T: Record + Drop>(
     tx: &mut Transaction<'_, S>,
     alloc: Global,
@@ -165,7 +165,7 @@ pub fn library_rows_in<S: Alter>(
 }
 
 /// The status of each card and the count of each target that a live yank card has, by the keys of their tables. They
-/// are read as they stand and put in order here: an answer by its key takes a look-up for each row.
+/// are read in any order and sorted here: a query in the order of the key takes a look-up for each row.
 pub(crate) fn all_states_in<S: Alter>(
     tx: &mut Transaction<'_, S>,
     alloc: Global,

@@ -79,7 +79,7 @@ pub(crate) fn insert_card<S: Alter>(
     )
 }
 
-/// The card's row alone: its status goes by `delete_state`.
+/// Removes only the card's row; `delete_state` removes its status.
 pub(crate) fn delete_card<S: Alter>(
     tx: &mut Transaction<'_, S>,
     card: &CardRef,
@@ -321,7 +321,7 @@ pub(crate) fn delete_runs<S: Alter>(
     )
 }
 
-/// The cards of a deck that stand at a place or behind it move away from the front.
+/// Moves the cards of a deck at a place and after it away from the front.
 pub(crate) fn move_back<S: Alter>(
     tx: &mut Transaction<'_, S>,
     deck: Serial,
@@ -341,7 +341,7 @@ pub(crate) fn move_back<S: Alter>(
     )
 }
 
-/// They move towards the front.
+/// Moves the cards of a deck at a place and after it towards the front.
 pub(crate) fn move_up<S: Alter>(
     tx: &mut Transaction<'_, S>,
     deck: Serial,

@@ -1,10 +1,7 @@
 //! The library in a file: opened, made and closed by the file's path.
 //!
-//! Beside the file stands its log, under the file's name with `-wal` behind it. While a library is open its file is
-//! locked, so that another program of this kind finds it in use, and so does SQLite.
-//!
-//! Where clauses speak of both outcomes of a call, it stands in a `match` of two arms, so that each is a path of its
-//! own (docs/DECISIONS.md, Form).
+//! The log is beside the file, under the file's name followed by `-wal`. While a library is open its file is locked:
+//! another program of this kind finds it in use, and so does SQLite.
 ghost use Rattle.std.specs.Prelude.{◌≡◌, IfErr, IfOk, IsTrue};
 ghost use Rattle.sqlite.specs.Closing.{IsCopied};
 ghost use Rattle.sqlite.specs.Effect.{Database};
@@ -28,10 +25,10 @@ use std::io::Read;
 use std::{fs, io};
 use upd_text::Fault;
 
-/// A library in a file, where `S` stands for what the file and its log held as they were opened.
+/// A library in a file. `S` stands for the contents of the file and its log when they were opened.
 pub type FileLibrary<S> = SqlStore<FileStore<FileFrom<S>>>;
 
-/// How each file of SQLite begins.
+/// The first bytes of each file of SQLite.
 const FIRST_BYTES: &[u8; 16] = b"SQLite format 3\0";
 
 impl<S: Start> SqlStore<FileStore<FileFrom<S>>> {
@@ -62,8 +59,8 @@ impl<S: Start> SqlStore<FileStore<FileFrom<S>>> {
 }
 
 /// Makes an empty library in a file, and the file where there is none. Where the file has any table the fault is Store,
-/// at the version that it tells, 0 where it tells none, and no byte of it is changed. An empty file, or one in which this
-/// call was stopped, is taken for no file. Want of memory is NoMemory at 0.
+/// at the version in the file, 0 where it has none, and no byte of it is changed. An empty file, or one in which this
+/// call was cut off, counts as no file. Out of memory is NoMemory at 0.
 pub fn create<S: Start>(rt: &HostRuntime, path: &str, start: S) -> Result<FileLibrary<S>, Fault>
     ensures shows { IfOk result (λ s. HasCleanDisk (file_state s.conn)
         → IsTrue (file_state s.conn).is_open × ShowsTables no_rows (file_state s.conn).committed) }
@@ -79,8 +76,8 @@ pub fn create<S: Start>(rt: &HostRuntime, path: &str, start: S) -> Result<FileLi
     }
 }
 
-/// Copies the log into the file, so that the file alone is the library, and gives both back. Where that fails the file
-/// and its log together are the library as before, and the next open finds it.
+/// Copies the log into the file, so that the file is the whole library, and returns both. Where that fails the file and
+/// its log together are the library as before, and the next open finds it.
 pub fn close<D: Disk + Drop>(library: SqlStore<FileStore<D>>) -> Result<Files<D>, Fault>
     ensures copied { IfOk result (λ files. AreClean D.Disk files.log files.db → IsCopied library.conn files) }
     ensures lost { IfErr result IsLost }
@@ -94,8 +91,8 @@ pub fn close<D: Disk + Drop>(library: SqlStore<FileStore<D>>) -> Result<Files<D>
     }
 }
 
-/// A connection to a file of SQLite, whatever its tables are. Where it is no such file the fault is Store at 0, and a
-/// file that isn't there isn't made.
+/// A connection to a file of SQLite, whatever its tables are. Where it is not such a file the fault is Store at 0. A file
+/// that does not exist is not made.
 pub fn connect<S: Start>(
     rt: &HostRuntime,
     path: &str,

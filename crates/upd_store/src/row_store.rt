@@ -1,4 +1,4 @@
-//! The promises of a store of rows, kept by the tables.
+//! `SqlStore` as a `RowStore`.
 ghost use Rattle.std.specs.Prelude.{◌≡◌, false, IfErr, IfOk, IsTrue, OnOk};
 ghost use Rattle.sqlite.specs.Held.{state};
 ghost use Rattle.sqlite.specs.State.{HasCleanDisk};
