@@ -24,6 +24,7 @@ use Rattle.upd_sql.specs.Making.{schema_up_to, MakesNext}
 use Rattle.upd_sql.specs.Schema.{library_schema, meta_columns}
 use Rattle.upd_sql.specs.Stands.{Stands}
 use Rattle.upd_sql.proofs.Typed.{changes}
+use Rattle.upd_migrate.specs.declared.completing.TheConstants.{SET_VERSION}
 use Rattle.upd_migrate.specs.declared.version.Version.{Version}
 use Rattle.upd_migrate.specs.Older.{HasTables, number_of}
 
@@ -36,7 +37,7 @@ next_made n sql m all old new count ran h =
     subst (λ s. HoldsAllRows s (all ++ [] ∷ []) new.now) m.next (creates (schema_up_to n) m.table old new all _ [] count m.defined m.lacks h w)
 
 abbrev pub set_version : List ℕ
-set_version = codes "UPDATE meta SET v = 3 WHERE k = 'version'"
+set_version = SET_VERSION.now
 
 abbrev set_tests : List Term
 set_tests = op2 (Compare Eq Binary) (col 1 1) (lit (Text (codes "version"))) ∷ []

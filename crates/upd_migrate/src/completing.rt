@@ -14,7 +14,11 @@ ghost use Rattle.upd_migrate.specs.declared.version.Version.{Version};
 
 use crate::version::Version;
 use sqlite::{Alter, Error, Transaction};
+use upd_sql::{CREATE_COUNTS, CREATE_SETTLED, CREATE_STATES};
 use upd_sqlite::run;
+
+/// The text that sets the version of the present schema.
+const SET_VERSION: &str = "UPDATE meta SET v = 3 WHERE k = 'version'";
 
 /// Makes the next table, whatever rows the others have.
 fn create<S: Alter>(tx: &mut Transaction<'_, S>, sql: &str) -> Result<(), Error>
@@ -33,14 +37,8 @@ fn create_states<S: Alter>(tx: &mut Transaction<'_, S>) -> Result<(), Error>
         (HoldsAllRows (schema_up_to 8) ((all ++ [] ∷ []) ++ [] ∷ [])) (state S.Store tx.old.conn.now)
         (state S.Store tx.new.conn.now) result }
 {
-    create(
-        tx,
-        "CREATE TABLE states (ident TEXT NOT NULL, num INT NOT NULL, active INT NOT NULL, PRIMARY KEY (ident, num)) STRICT",
-    )?;
-    create(
-        tx,
-        "CREATE TABLE counts (kind INT NOT NULL, target INT NOT NULL, deck INT NOT NULL, n INT NOT NULL, PRIMARY KEY (kind, target, deck)) STRICT",
-    )
+    create(tx, CREATE_STATES)?;
+    create(tx, CREATE_COUNTS)
 }
 
 /// The table of settled marks.
@@ -50,10 +48,7 @@ fn create_settled<S: Alter>(tx: &mut Transaction<'_, S>) -> Result<(), Error>
         (HoldsAllRows (schema_up_to 9) (all ++ [] ∷ [])) (state S.Store tx.old.conn.now)
         (state S.Store tx.new.conn.now) result }
 {
-    create(
-        tx,
-        "CREATE TABLE settled (site TEXT NOT NULL, mark INT NOT NULL, PRIMARY KEY (site)) STRICT",
-    )
+    create(tx, CREATE_SETTLED)
 }
 
 /// The tables that a version lacks, with no rows.
@@ -80,7 +75,7 @@ fn set_version<S: Alter>(tx: &mut Transaction<'_, S>) -> Result<(), Error>
         (state S.Store tx.old.conn.now) (state S.Store tx.new.conn.now) result }
     ensures was_open { WasOpen (state S.Store tx.old.conn.now) (state S.Store tx.new.conn.now) result }
 {
-    run(tx, "UPDATE meta SET v = 3 WHERE k = 'version'", &[])
+    run(tx, SET_VERSION, &[])
 }
 
 /// Makes the tables that a version lacks, with no rows, and sets the version of the present schema; the rows stay.

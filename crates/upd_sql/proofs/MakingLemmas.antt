@@ -11,6 +11,7 @@ use Rattle.sqlite.specs.State.{State, Executes}
 use Rattle.sqlite.proofs.Callers.{runs_as}
 use Rattle.upd_sqlite.specs.Stored.{HoldsAllRows}
 use Rattle.upd_sqlite.specs.Steps.{Ran, Steps}
+use Rattle.upd_sql.specs.declared.texts.TheConstants.{CREATE_META, CREATE_IDENTS, CREATE_CARDS, CREATE_ENTRIES, CREATE_TARGETS, CREATE_RUNS, CREATE_STATES, CREATE_COUNTS, CREATE_SETTLED}
 use Rattle.upd_sql.specs.Commits.{WasOpen}
 use Rattle.upd_sqlite.proofs.Chains.{steps_then, clean_before}
 use Rattle.upd_sqlite.proofs.Shapes.{creates, inserts, cast_int}
@@ -21,63 +22,63 @@ use Rattle.upd_sql.specs.Stands.{Stands}
 use Rattle.upd_sql.proofs.Texts as text
 
 abbrev pub create_meta : List ℕ
-create_meta = codes "CREATE TABLE meta (k TEXT NOT NULL, v INT NOT NULL, PRIMARY KEY (k)) STRICT"
+create_meta = CREATE_META.now
 
 pub makes_meta : MakesNext 0 create_meta
 unfolding understood everything
 makes_meta = record { is = refl; plain = (refl, refl); table = meta; defined = refl; lacks = refl; next = refl; rows = refl }
 
 abbrev pub create_idents : List ℕ
-create_idents = codes "CREATE TABLE idents (age INT NOT NULL, name TEXT NOT NULL, kind INT NOT NULL, noprop INT NOT NULL, held INT NOT NULL, PRIMARY KEY (age)) STRICT"
+create_idents = CREATE_IDENTS.now
 
 pub makes_idents : MakesNext 1 create_idents
 unfolding understood everything
 makes_idents = record { is = refl; plain = (refl, refl); table = idents; defined = refl; lacks = refl; next = refl; rows = refl }
 
 abbrev pub create_cards : List ℕ
-create_cards = codes "CREATE TABLE cards (ident TEXT NOT NULL, num INT NOT NULL, deck INT NOT NULL, pos INT NOT NULL, body TEXT NOT NULL, PRIMARY KEY (ident, num)) STRICT"
+create_cards = CREATE_CARDS.now
 
 pub makes_cards : MakesNext 2 create_cards
 unfolding understood everything
 makes_cards = record { is = refl; plain = (refl, refl); table = cards; defined = refl; lacks = refl; next = refl; rows = refl }
 
 abbrev pub create_entries : List ℕ
-create_entries = codes "CREATE TABLE entries (ident TEXT NOT NULL, num INT NOT NULL, ord INT NOT NULL, who INT NOT NULL, active INT NOT NULL, PRIMARY KEY (ident, num, ord)) STRICT"
+create_entries = CREATE_ENTRIES.now
 
 pub makes_entries : MakesNext 3 create_entries
 unfolding understood everything
 makes_entries = record { is = refl; plain = (refl, refl); table = entries; defined = refl; lacks = refl; next = refl; rows = refl }
 
 abbrev pub create_targets : List ℕ
-create_targets = codes "CREATE TABLE targets (ident TEXT NOT NULL, num INT NOT NULL, ord INT NOT NULL, kind INT NOT NULL, target INT NOT NULL, deck INT NOT NULL, PRIMARY KEY (ident, num, ord)) STRICT"
+create_targets = CREATE_TARGETS.now
 
 pub makes_targets : MakesNext 4 create_targets
 unfolding understood everything
 makes_targets = record { is = refl; plain = (refl, refl); table = targets; defined = refl; lacks = refl; next = refl; rows = refl }
 
 abbrev pub create_runs : List ℕ
-create_runs = codes "CREATE TABLE runs (site TEXT NOT NULL, num INT NOT NULL, mode INT NOT NULL, body BLOB NOT NULL, accepted INT NOT NULL, reply BLOB NOT NULL, PRIMARY KEY (site, num)) STRICT"
+create_runs = CREATE_RUNS.now
 
 pub makes_runs : MakesNext 5 create_runs
 unfolding understood everything
 makes_runs = record { is = refl; plain = (refl, refl); table = runs; defined = refl; lacks = refl; next = refl; rows = refl }
 
 abbrev pub create_states : List ℕ
-create_states = codes "CREATE TABLE states (ident TEXT NOT NULL, num INT NOT NULL, active INT NOT NULL, PRIMARY KEY (ident, num)) STRICT"
+create_states = CREATE_STATES.now
 
 pub makes_states : MakesNext 6 create_states
 unfolding understood everything
 makes_states = record { is = refl; plain = (refl, refl); table = states; defined = refl; lacks = refl; next = refl; rows = refl }
 
 abbrev pub create_counts : List ℕ
-create_counts = codes "CREATE TABLE counts (kind INT NOT NULL, target INT NOT NULL, deck INT NOT NULL, n INT NOT NULL, PRIMARY KEY (kind, target, deck)) STRICT"
+create_counts = CREATE_COUNTS.now
 
 pub makes_counts : MakesNext 7 create_counts
 unfolding understood everything
 makes_counts = record { is = refl; plain = (refl, refl); table = counts; defined = refl; lacks = refl; next = refl; rows = refl }
 
 abbrev pub create_settled : List ℕ
-create_settled = codes "CREATE TABLE settled (site TEXT NOT NULL, mark INT NOT NULL, PRIMARY KEY (site)) STRICT"
+create_settled = CREATE_SETTLED.now
 
 pub makes_settled : MakesNext 8 create_settled
 unfolding understood everything

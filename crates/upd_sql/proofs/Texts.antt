@@ -14,12 +14,13 @@ use Rattle.sqlite_tied.specs.Compute.{everything}
 use Rattle.sqlite.specs.Listing.{understood, reads_listing}
 use Rattle.sqlite.proofs.Callers.{IsPlain, command_of}
 use Rattle.upd_sqlite.specs.Keyed.{plain_query, row_count}
+use Rattle.upd_sql.specs.declared.texts.TheConstants as sql
 use Rattle.upd_sql.specs.Schema.{library_schema}
 
 -- ---- one row more
 
 abbrev pub insert_version : List ℕ
-insert_version = codes "INSERT INTO meta (k, v) VALUES ('version', 3)"
+insert_version = sql.INSERT_VERSION.now
 
 pub insert_version_is : command_of (understood library_schema insert_version)
     ≡ Insert 0 (Values (lit Null ∷ lit (Text (codes "version")) ∷ lit (Int (pos 3)) ∷ []) 3)
@@ -31,7 +32,7 @@ unfolding understood everything
 insert_version_plain = (refl, refl)
 
 abbrev pub insert_ident : List ℕ
-insert_ident = codes "INSERT INTO idents (age, name, kind, noprop, held) VALUES (?1, ?2, ?3, ?4, ?5)"
+insert_ident = sql.INSERT_IDENT.now
 
 pub insert_ident_is : command_of (understood library_schema insert_ident)
     ≡ Insert 1 (Values (lit Null ∷ col 0 0 ∷ col 0 1 ∷ col 0 2 ∷ col 0 3 ∷ col 0 4 ∷ []) 6)
@@ -43,7 +44,7 @@ unfolding understood everything
 insert_ident_plain = (refl, refl)
 
 abbrev pub insert_card : List ℕ
-insert_card = codes "INSERT INTO cards (ident, num, deck, pos, body) VALUES (?1, ?2, ?3, ?4, ?5)"
+insert_card = sql.INSERT_CARD.now
 
 pub insert_card_is : command_of (understood library_schema insert_card) ≡ Insert 2 (Values (lit Null ∷ col 0 0 ∷ col 0 1 ∷ col 0 2 ∷ col 0 3 ∷ col 0 4 ∷ []) 6)
 unfolding understood everything
@@ -54,7 +55,7 @@ unfolding understood everything
 insert_card_plain = (refl, refl)
 
 abbrev pub insert_entry : List ℕ
-insert_entry = codes "INSERT INTO entries (ident, num, ord, who, active) VALUES (?1, ?2, ?3, ?4, ?5)"
+insert_entry = sql.INSERT_ENTRY.now
 
 pub insert_entry_is : command_of (understood library_schema insert_entry)
     ≡ Insert 3 (Values (lit Null ∷ col 0 0 ∷ col 0 1 ∷ col 0 2 ∷ col 0 3 ∷ col 0 4 ∷ []) 6)
@@ -66,7 +67,7 @@ unfolding understood everything
 insert_entry_plain = (refl, refl)
 
 abbrev pub insert_target : List ℕ
-insert_target = codes "INSERT INTO targets (ident, num, ord, kind, target, deck) VALUES (?1, ?2, ?3, ?4, ?5, ?6)"
+insert_target = sql.INSERT_TARGET.now
 
 pub insert_target_is : command_of (understood library_schema insert_target)
     ≡ Insert 4 (Values (lit Null ∷ col 0 0 ∷ col 0 1 ∷ col 0 2 ∷ col 0 3 ∷ col 0 4 ∷ col 0 5 ∷ []) 7)
@@ -78,7 +79,7 @@ unfolding understood everything
 insert_target_plain = (refl, refl)
 
 abbrev pub insert_run : List ℕ
-insert_run = codes "INSERT INTO runs (site, num, mode, body, accepted, reply) VALUES (?1, ?2, ?3, ?4, ?5, ?6)"
+insert_run = sql.INSERT_RUN.now
 
 pub insert_run_is : command_of (understood library_schema insert_run)
     ≡ Insert 5 (Values (lit Null ∷ col 0 0 ∷ col 0 1 ∷ col 0 2 ∷ col 0 3 ∷ col 0 4 ∷ col 0 5 ∷ []) 7)
@@ -90,7 +91,7 @@ unfolding understood everything
 insert_run_plain = (refl, refl)
 
 abbrev pub insert_state : List ℕ
-insert_state = codes "INSERT INTO states (ident, num, active) VALUES (?1, ?2, ?3)"
+insert_state = sql.INSERT_STATE.now
 
 pub insert_state_is : command_of (understood library_schema insert_state) ≡ Insert 6 (Values (lit Null ∷ col 0 0 ∷ col 0 1 ∷ col 0 2 ∷ []) 4)
 unfolding understood everything
@@ -101,7 +102,7 @@ unfolding understood everything
 insert_state_plain = (refl, refl)
 
 abbrev pub insert_count : List ℕ
-insert_count = codes "INSERT INTO counts (kind, target, deck, n) VALUES (?1, ?2, ?3, ?4)"
+insert_count = sql.INSERT_COUNT.now
 
 pub insert_count_is : command_of (understood library_schema insert_count) ≡ Insert 7 (Values (lit Null ∷ col 0 0 ∷ col 0 1 ∷ col 0 2 ∷ col 0 3 ∷ []) 5)
 unfolding understood everything
@@ -112,7 +113,7 @@ unfolding understood everything
 insert_count_plain = (refl, refl)
 
 abbrev pub insert_mark : List ℕ
-insert_mark = codes "INSERT INTO settled (site, mark) VALUES (?1, ?2)"
+insert_mark = sql.INSERT_MARK.now
 
 pub insert_mark_is : command_of (understood library_schema insert_mark) ≡ Insert 8 (Values (lit Null ∷ col 0 0 ∷ col 0 1 ∷ []) 3)
 unfolding understood everything
@@ -125,7 +126,7 @@ insert_mark_plain = (refl, refl)
 -- ---- rows taken out
 
 abbrev pub delete_card : List ℕ
-delete_card = codes "DELETE FROM cards WHERE ident = ?1 AND num = ?2"
+delete_card = sql.DELETE_CARD.now
 
 abbrev pub delete_card_tests : List Term
 delete_card_tests = op2 (Compare Eq Binary) (col 1 1) (col 0 0) ∷ op2 (Compare Eq Binary) (col 1 2) (col 0 1) ∷ []
@@ -140,7 +141,7 @@ unfolding understood everything
 delete_card_plain = (refl, refl)
 
 abbrev pub delete_entries : List ℕ
-delete_entries = codes "DELETE FROM entries WHERE ident = ?1 AND num = ?2"
+delete_entries = sql.DELETE_ENTRIES.now
 
 abbrev pub delete_entries_tests : List Term
 delete_entries_tests = op2 (Compare Eq Binary) (col 1 1) (col 0 0) ∷ op2 (Compare Eq Binary) (col 1 2) (col 0 1) ∷ []
@@ -155,7 +156,7 @@ unfolding understood everything
 delete_entries_plain = (refl, refl)
 
 abbrev pub delete_targets : List ℕ
-delete_targets = codes "DELETE FROM targets WHERE ident = ?1 AND num = ?2"
+delete_targets = sql.DELETE_TARGETS.now
 
 abbrev pub delete_targets_tests : List Term
 delete_targets_tests = op2 (Compare Eq Binary) (col 1 1) (col 0 0) ∷ op2 (Compare Eq Binary) (col 1 2) (col 0 1) ∷ []
@@ -170,7 +171,7 @@ unfolding understood everything
 delete_targets_plain = (refl, refl)
 
 abbrev pub delete_state : List ℕ
-delete_state = codes "DELETE FROM states WHERE ident = ?1 AND num = ?2"
+delete_state = sql.DELETE_STATE.now
 
 abbrev pub delete_state_tests : List Term
 delete_state_tests = op2 (Compare Eq Binary) (col 1 1) (col 0 0) ∷ op2 (Compare Eq Binary) (col 1 2) (col 0 1) ∷ []
@@ -185,7 +186,7 @@ unfolding understood everything
 delete_state_plain = (refl, refl)
 
 abbrev pub delete_count : List ℕ
-delete_count = codes "DELETE FROM counts WHERE kind = ?1 AND target = ?2 AND deck = ?3"
+delete_count = sql.DELETE_COUNT.now
 
 abbrev pub delete_count_tests : List Term
 delete_count_tests = op2 (Compare Eq Binary) (col 1 1) (col 0 0) ∷ op2 (Compare Eq Binary) (col 1 2) (col 0 1) ∷ op2 (Compare Eq Binary) (col 1 3)
@@ -201,7 +202,7 @@ unfolding understood everything
 delete_count_plain = (refl, refl)
 
 abbrev pub delete_mark : List ℕ
-delete_mark = codes "DELETE FROM settled WHERE site = ?1"
+delete_mark = sql.DELETE_MARK.now
 
 abbrev pub delete_mark_tests : List Term
 delete_mark_tests = op2 (Compare Eq Binary) (col 1 1) (col 0 0) ∷ []
@@ -216,7 +217,7 @@ unfolding understood everything
 delete_mark_plain = (refl, refl)
 
 abbrev pub delete_runs : List ℕ
-delete_runs = codes "DELETE FROM runs WHERE site = ?1 AND num <= ?2"
+delete_runs = sql.DELETE_RUNS.now
 
 abbrev pub delete_runs_tests : List Term
 delete_runs_tests = op2 (Compare Eq Binary) (col 1 1) (col 0 0) ∷ op2 (Compare Le Binary) (col 1 2) (col 0 1) ∷ []
@@ -233,7 +234,7 @@ delete_runs_plain = (refl, refl)
 -- ---- rows changed in place
 
 abbrev pub purge_ident : List ℕ
-purge_ident = codes "UPDATE idents SET held = 0 WHERE age = ?1"
+purge_ident = sql.PURGE_IDENT.now
 
 abbrev pub purge_ident_tests : List Term
 purge_ident_tests = op2 (Compare Eq Binary) (col 1 1) (col 0 0) ∷ []
@@ -251,7 +252,7 @@ unfolding understood everything
 purge_ident_plain = (refl, refl)
 
 abbrev pub move_back : List ℕ
-move_back = codes "UPDATE cards SET pos = pos + ?3 WHERE deck = ?1 AND pos >= ?2"
+move_back = sql.MOVE_BACK.now
 
 abbrev pub move_back_tests : List Term
 move_back_tests = op2 (Compare Eq Binary) (col 1 3) (col 0 0) ∷ op2 (Compare Ge Binary) (col 1 4) (col 0 1) ∷ []
@@ -269,7 +270,7 @@ unfolding understood everything
 move_back_plain = (refl, refl)
 
 abbrev pub move_up : List ℕ
-move_up = codes "UPDATE cards SET pos = pos - ?3 WHERE deck = ?1 AND pos >= ?2"
+move_up = sql.MOVE_UP.now
 
 abbrev pub move_up_tests : List Term
 move_up_tests = op2 (Compare Eq Binary) (col 1 3) (col 0 0) ∷ op2 (Compare Ge Binary) (col 1 4) (col 0 1) ∷ []
@@ -289,7 +290,7 @@ move_up_plain = (refl, refl)
 -- ---- rows read
 
 abbrev pub all_idents : List ℕ
-all_idents = codes "SELECT age, name, kind, noprop, held FROM idents ORDER BY age"
+all_idents = sql.ALL_IDENTS.now
 
 abbrev pub all_idents_tests : List Term
 all_idents_tests = []
@@ -315,7 +316,7 @@ unfolding everything
 all_idents_unlisted = refl
 
 abbrev pub all_cards : List ℕ
-all_cards = codes "SELECT ident, num, deck, pos, body FROM cards ORDER BY deck, pos"
+all_cards = sql.ALL_CARDS.now
 
 abbrev pub all_cards_tests : List Term
 all_cards_tests = []
@@ -341,7 +342,7 @@ unfolding everything
 all_cards_unlisted = refl
 
 abbrev pub all_entries : List ℕ
-all_entries = codes "SELECT ident, num, ord, who, active FROM entries ORDER BY ident, num, ord"
+all_entries = sql.ALL_ENTRIES.now
 
 abbrev pub all_entries_tests : List Term
 all_entries_tests = []
@@ -367,7 +368,7 @@ unfolding everything
 all_entries_unlisted = refl
 
 abbrev pub all_targets : List ℕ
-all_targets = codes "SELECT ident, num, ord, kind, target, deck FROM targets ORDER BY ident, num, ord"
+all_targets = sql.ALL_TARGETS.now
 
 abbrev pub all_targets_tests : List Term
 all_targets_tests = []
@@ -393,7 +394,7 @@ unfolding everything
 all_targets_unlisted = refl
 
 abbrev pub all_states : List ℕ
-all_states = codes "SELECT ident, num, active FROM states ORDER BY ident, num"
+all_states = sql.ALL_STATES.now
 
 abbrev pub all_states_tests : List Term
 all_states_tests = []
@@ -419,7 +420,7 @@ unfolding everything
 all_states_unlisted = refl
 
 abbrev pub each_state : List ℕ
-each_state = codes "SELECT ident, num, active FROM states"
+each_state = sql.EACH_STATE.now
 
 pub each_state_is : command_of (understood library_schema each_state)
     ≡ Select (record { lets = []; body = plain_query 12 all_states_tests all_states_shown [] })
@@ -436,7 +437,7 @@ unfolding everything
 each_state_unlisted = refl
 
 abbrev pub all_counts : List ℕ
-all_counts = codes "SELECT kind, target, deck, n FROM counts"
+all_counts = sql.ALL_COUNTS.now
 
 abbrev pub all_counts_tests : List Term
 all_counts_tests = []
@@ -459,7 +460,7 @@ unfolding everything
 all_counts_unlisted = refl
 
 abbrev pub run_of_key : List ℕ
-run_of_key = codes "SELECT site, num, mode, body, accepted, reply FROM runs WHERE site = ?1 AND num = ?2 ORDER BY rowid"
+run_of_key = sql.RUN_OF_KEY.now
 
 abbrev pub run_of_key_tests : List Term
 run_of_key_tests = op2 (Compare Eq Binary) (col 1 1) (col 0 0) ∷ op2 (Compare Eq Binary) (col 1 2) (col 0 1) ∷ []
@@ -485,7 +486,7 @@ unfolding everything
 run_of_key_unlisted = refl
 
 abbrev pub mark_of_site : List ℕ
-mark_of_site = codes "SELECT site, mark FROM settled WHERE site = ?1 ORDER BY rowid"
+mark_of_site = sql.MARK_OF_SITE.now
 
 abbrev pub mark_of_site_tests : List Term
 mark_of_site_tests = op2 (Compare Eq Binary) (col 1 1) (col 0 0) ∷ []
@@ -512,7 +513,7 @@ mark_of_site_unlisted = refl
 -- ---- rows of some cards
 
 abbrev pub deck_of_card : List ℕ
-deck_of_card = codes "SELECT deck FROM cards WHERE ident = ?1 AND num = ?2"
+deck_of_card = sql.DECK_OF_CARD.now
 
 abbrev pub deck_of_card_shown : List Term
 deck_of_card_shown = col 1 3 ∷ []
@@ -531,7 +532,7 @@ unfolding everything
 deck_of_card_unlisted = refl
 
 abbrev pub cards_of_deck : List ℕ
-cards_of_deck = codes "SELECT ident, num, deck, pos, body FROM cards WHERE deck = 0 OR deck = ?1 ORDER BY deck, pos"
+cards_of_deck = sql.CARDS_OF_DECK.now
 
 abbrev pub cards_of_deck_tests : List Term
 cards_of_deck_tests = op2 Or (op2 (Compare Eq Binary) (col 1 3) (lit (Int (pos 0)))) (op2 (Compare Eq Binary) (col 1 3) (col 0 0)) ∷ []
@@ -551,7 +552,7 @@ unfolding everything
 cards_of_deck_unlisted = refl
 
 abbrev pub entries_of_ident : List ℕ
-entries_of_ident = codes "SELECT ident, num, ord, who, active FROM entries WHERE ident = ?1"
+entries_of_ident = sql.ENTRIES_OF_IDENT.now
 
 abbrev pub ident_tests : List Term
 ident_tests = op2 (Compare Eq Binary) (col 1 1) (col 0 0) ∷ []
@@ -571,7 +572,7 @@ unfolding everything
 entries_of_ident_unlisted = refl
 
 abbrev pub states_of_ident : List ℕ
-states_of_ident = codes "SELECT ident, num, active FROM states WHERE ident = ?1"
+states_of_ident = sql.STATES_OF_IDENT.now
 
 pub states_of_ident_is : command_of (understood library_schema states_of_ident)
     ≡ Select (record { lets = []; body = plain_query 12 ident_tests all_states_shown [] }) (codes "ident" ∷ codes "num" ∷ codes "active" ∷ [])
@@ -589,7 +590,7 @@ states_of_ident_unlisted = refl
 -- ---- how many rows there are
 
 abbrev pub count_cards : List ℕ
-count_cards = codes "SELECT count(*) FROM cards"
+count_cards = sql.COUNT_CARDS.now
 
 pub count_cards_is : command_of (understood library_schema count_cards)
     ≡ Select (record { lets = []; body = row_count 4 }) (codes "count(*)" ∷ [])
@@ -605,7 +606,7 @@ unfolding everything
 count_cards_unlisted = refl
 
 abbrev pub count_entries : List ℕ
-count_entries = codes "SELECT count(*) FROM entries"
+count_entries = sql.COUNT_ENTRIES.now
 
 pub count_entries_is : command_of (understood library_schema count_entries)
     ≡ Select (record { lets = []; body = row_count 6 }) (codes "count(*)" ∷ [])

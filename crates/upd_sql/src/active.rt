@@ -5,6 +5,7 @@ ghost use Rattle.upd_sql.specs.Commits.{Looks};
 ghost use Rattle.upd_sql.specs.Listed.{AreInOrder, by_state_row};
 ghost use Rattle.upd_sql.specs.Part.{AreActiveRows};
 
+use crate::texts;
 use crate::whole::{all_of, cards_in, idents_in};
 use sqlite::{Alter, Error, Transaction};
 use std::alloc::Global;
@@ -27,12 +28,7 @@ fn state_rows_in<S: Alter>(
     ensures looks { Looks (λ it found. AreInOrder by_state_row it.states found.items)
         (state S.Store tx.old.conn.now) (state S.Store tx.new.conn.now) result }
 {
-    all_of(
-        tx,
-        alloc,
-        "SELECT ident, num, active FROM states ORDER BY ident, num",
-        &[],
-    )
+    all_of(tx, alloc, texts::ALL_STATES, &[])
 }
 
 /// The rows that give the active cards, inside a transaction.

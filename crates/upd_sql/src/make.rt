@@ -7,6 +7,7 @@ ghost use Rattle.upd_sql.specs.Making.{no_rows, HasMade, Leads, MakesNext, MayMa
 ghost use Rattle.upd_sql.specs.Schema.{no_schema};
 ghost use Rattle.upd_sql.specs.Stands.{ShowsTables, Stands};
 
+use crate::texts;
 use sqlite::{Alter, Connection, Error, Transaction};
 use upd_sqlite::{Rising, begin, run};
 
@@ -26,7 +27,7 @@ fn insert_version<S: Alter>(tx: &mut Transaction<'_, S>) -> Result<(), Error>
         (state S.Store tx.new.conn.now) result }
     ensures was_open { WasOpen (state S.Store tx.old.conn.now) (state S.Store tx.new.conn.now) result }
 {
-    run(tx, "INSERT INTO meta (k, v) VALUES ('version', 3)", &[])
+    run(tx, texts::INSERT_VERSION, &[])
 }
 
 /// Makes the tables of the version, the idents and the cards.
@@ -35,18 +36,9 @@ fn create_cards<S: Alter>(tx: &mut Transaction<'_, S>) -> Result<(), Error>
     ensures leads { Leads (HasMade 0) (HasMade 3) (state S.Store tx.old.conn.now)
         (state S.Store tx.new.conn.now) result }
 {
-    create(
-        tx,
-        "CREATE TABLE meta (k TEXT NOT NULL, v INT NOT NULL, PRIMARY KEY (k)) STRICT",
-    )?;
-    create(
-        tx,
-        "CREATE TABLE idents (age INT NOT NULL, name TEXT NOT NULL, kind INT NOT NULL, noprop INT NOT NULL, held INT NOT NULL, PRIMARY KEY (age)) STRICT",
-    )?;
-    create(
-        tx,
-        "CREATE TABLE cards (ident TEXT NOT NULL, num INT NOT NULL, deck INT NOT NULL, pos INT NOT NULL, body TEXT NOT NULL, PRIMARY KEY (ident, num)) STRICT",
-    )
+    create(tx, texts::CREATE_META)?;
+    create(tx, texts::CREATE_IDENTS)?;
+    create(tx, texts::CREATE_CARDS)
 }
 
 /// Makes the tables of entries, targets and runs.
@@ -55,18 +47,9 @@ fn create_runs<S: Alter>(tx: &mut Transaction<'_, S>) -> Result<(), Error>
     ensures leads { Leads (HasMade 3) (HasMade 6) (state S.Store tx.old.conn.now)
         (state S.Store tx.new.conn.now) result }
 {
-    create(
-        tx,
-        "CREATE TABLE entries (ident TEXT NOT NULL, num INT NOT NULL, ord INT NOT NULL, who INT NOT NULL, active INT NOT NULL, PRIMARY KEY (ident, num, ord)) STRICT",
-    )?;
-    create(
-        tx,
-        "CREATE TABLE targets (ident TEXT NOT NULL, num INT NOT NULL, ord INT NOT NULL, kind INT NOT NULL, target INT NOT NULL, deck INT NOT NULL, PRIMARY KEY (ident, num, ord)) STRICT",
-    )?;
-    create(
-        tx,
-        "CREATE TABLE runs (site TEXT NOT NULL, num INT NOT NULL, mode INT NOT NULL, body BLOB NOT NULL, accepted INT NOT NULL, reply BLOB NOT NULL, PRIMARY KEY (site, num)) STRICT",
-    )
+    create(tx, texts::CREATE_ENTRIES)?;
+    create(tx, texts::CREATE_TARGETS)?;
+    create(tx, texts::CREATE_RUNS)
 }
 
 /// Makes the tables of statuses, counts and settled marks.
@@ -75,18 +58,9 @@ fn create_marks<S: Alter>(tx: &mut Transaction<'_, S>) -> Result<(), Error>
     ensures leads { Leads (HasMade 6) (HasMade 9) (state S.Store tx.old.conn.now)
         (state S.Store tx.new.conn.now) result }
 {
-    create(
-        tx,
-        "CREATE TABLE states (ident TEXT NOT NULL, num INT NOT NULL, active INT NOT NULL, PRIMARY KEY (ident, num)) STRICT",
-    )?;
-    create(
-        tx,
-        "CREATE TABLE counts (kind INT NOT NULL, target INT NOT NULL, deck INT NOT NULL, n INT NOT NULL, PRIMARY KEY (kind, target, deck)) STRICT",
-    )?;
-    create(
-        tx,
-        "CREATE TABLE settled (site TEXT NOT NULL, mark INT NOT NULL, PRIMARY KEY (site)) STRICT",
-    )
+    create(tx, texts::CREATE_STATES)?;
+    create(tx, texts::CREATE_COUNTS)?;
+    create(tx, texts::CREATE_SETTLED)
 }
 
 /// Makes all tables, and writes the version.

@@ -25,6 +25,7 @@ ghost use Rattle.upd_sql.specs.Stands.{Stands};
 use crate::reads::mark_in;
 use crate::record::Record;
 use crate::sizes::Sizes;
+use crate::texts;
 use crate::values::{name, number};
 use crate::whole::{all_of, cards_in, idents_in, rows_of, targets_in};
 use sqlite::{Alter, Error, ErrorCode, Row, Transaction};
@@ -69,7 +70,7 @@ fn decks_of_card<S: Alter>(
     all_of(
         tx,
         alloc,
-        "SELECT deck FROM cards WHERE ident = ?1 AND num = ?2",
+        texts::DECK_OF_CARD,
         &[name(&card.name), number(card.number)],
     )
 }
@@ -104,12 +105,7 @@ fn cards_of_deck<S: Alter>(
         (filter (λ r. (r.deck == 0) || (r.deck == deck)) it.cards) found.items)
         (state S.Store tx.old.conn.now) (state S.Store tx.new.conn.now) result }
 {
-    all_of(
-        tx,
-        alloc,
-        "SELECT ident, num, deck, pos, body FROM cards WHERE deck = 0 OR deck = ?1 ORDER BY deck, pos",
-        &[number(deck)],
-    )
+    all_of(tx, alloc, texts::CARDS_OF_DECK, &[number(deck)])
 }
 
 /// Whether a deck is `YANK$$$` or of these ages.
@@ -193,12 +189,7 @@ fn entries_of_idents<S: Alter>(
     ensures looks { Looks (λ it found. IsSame found.items (filter (λ e. is_of_ident cards.now e.card) it.entries))
         (state S.Store tx.old.conn.now) (state S.Store tx.new.conn.now) result }
 {
-    of_idents(
-        tx,
-        alloc,
-        "SELECT ident, num, ord, who, active FROM entries WHERE ident = ?1",
-        cards,
-    )
+    of_idents(tx, alloc, texts::ENTRIES_OF_IDENT, cards)
 }
 
 /// Removes the entries of other cards.
@@ -282,7 +273,7 @@ fn card_count<S: Alter>(tx: &mut Transaction<'_, S>) -> Result<u64, Error>
         → IfOk result (λ n. (state S.Store tx.old.conn.now).now.schema ≡ library_schema
         → n ≡ length ((state S.Store tx.old.conn.now).now.trees card_tree)) }
 {
-    number_of(tx, "SELECT count(*) FROM cards")
+    number_of(tx, texts::COUNT_CARDS)
 }
 
 fn entry_count<S: Alter>(tx: &mut Transaction<'_, S>) -> Result<u64, Error>
@@ -293,7 +284,7 @@ fn entry_count<S: Alter>(tx: &mut Transaction<'_, S>) -> Result<u64, Error>
         → IfOk result (λ n. (state S.Store tx.old.conn.now).now.schema ≡ library_schema
         → n ≡ length ((state S.Store tx.old.conn.now).now.trees entry_tree)) }
 {
-    number_of(tx, "SELECT count(*) FROM entries")
+    number_of(tx, texts::COUNT_ENTRIES)
 }
 
 /// The rows of `YANK$$$` and of the decks of these ages.

@@ -11,6 +11,7 @@ ghost use Rattle.upd_sql.specs.Encoded.{mark_row, run_row};
 ghost use Rattle.upd_sql.specs.Stands.{Stands};
 
 use crate::decode::{first_mark, first_run};
+use crate::texts;
 use crate::values::{self, wide};
 use sqlite::{Alter, Error, Row, Transaction};
 use upd_records::RunRow;
@@ -31,11 +32,7 @@ pub(crate) fn runs_of_key<S: Alter>(
         → rows.items ≡ map run_row (filter (is_run site.now number) it.runs)) }
 {
     let number = wide(number)?;
-    ask(
-        tx,
-        "SELECT site, num, mode, body, accepted, reply FROM runs WHERE site = ?1 AND num = ?2 ORDER BY rowid",
-        &[values::site(site), number],
-    )
+    ask(tx, texts::RUN_OF_KEY, &[values::site(site), number])
 }
 
 /// The rows of a site's mark.
@@ -51,11 +48,7 @@ pub(crate) fn marks_of_site<S: Alter>(
         → IfOk result (λ rows. (it : Rows) → Stands it (state S.Store tx.old.conn.now).now
         → rows.items ≡ map mark_row (filter (is_mark_of site.now) it.settled)) }
 {
-    ask(
-        tx,
-        "SELECT site, mark FROM settled WHERE site = ?1 ORDER BY rowid",
-        &[values::site(site)],
-    )
+    ask(tx, texts::MARK_OF_SITE, &[values::site(site)])
 }
 
 /// The number up to which a site has settled, 0 where it never did.

@@ -9,6 +9,7 @@ ghost use Rattle.upd_sql.specs.Commits.{Looks};
 ghost use Rattle.upd_sql.specs.Part.{is_of_ident};
 
 use crate::part::of_idents;
+use crate::texts;
 use crate::whole::{counts_in, states_in};
 use sqlite::{Alter, Error, Transaction};
 use std::alloc::Global;
@@ -29,12 +30,7 @@ fn states_of_idents<S: Alter>(
     ensures looks { Looks (λ it found. IsSame found.items (filter (λ p. is_of_ident cards.now p.0) (map state_pair it.states)))
         (state S.Store tx.old.conn.now) (state S.Store tx.new.conn.now) result }
 {
-    of_idents(
-        tx,
-        alloc,
-        "SELECT ident, num, active FROM states WHERE ident = ?1",
-        cards,
-    )
+    of_idents(tx, alloc, texts::STATES_OF_IDENT, cards)
 }
 
 /// The statuses of these cards, and maybe of others.

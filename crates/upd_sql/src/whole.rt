@@ -17,6 +17,7 @@ ghost use Rattle.upd_sql.specs.Stands.{Stands};
 ghost use Rattle.upd_row_store.specs.Assembling.{AreRowsOf};
 
 use crate::record::{Record, each};
+use crate::texts;
 use sqlite::types::ValueRef;
 use sqlite::{Alter, Error, Row, Transaction};
 use std::alloc::Global;
@@ -69,12 +70,7 @@ pub(crate) fn idents_in<S: Alter>(
     ensures looks { Looks (λ it found. AreInOrder by_age it.idents found.items)
         (state S.Store tx.old.conn.now) (state S.Store tx.new.conn.now) result }
 {
-    all_of(
-        tx,
-        alloc,
-        "SELECT age, name, kind, noprop, held FROM idents ORDER BY age",
-        &[],
-    )
+    all_of(tx, alloc, texts::ALL_IDENTS, &[])
 }
 
 pub(crate) fn cards_in<S: Alter>(
@@ -85,12 +81,7 @@ pub(crate) fn cards_in<S: Alter>(
     ensures looks { Looks (λ it found. AreInOrder by_place it.cards found.items)
         (state S.Store tx.old.conn.now) (state S.Store tx.new.conn.now) result }
 {
-    all_of(
-        tx,
-        alloc,
-        "SELECT ident, num, deck, pos, body FROM cards ORDER BY deck, pos",
-        &[],
-    )
+    all_of(tx, alloc, texts::ALL_CARDS, &[])
 }
 
 fn entries_in<S: Alter>(tx: &mut Transaction<'_, S>, alloc: Global) -> Result<Vec<EntryRow>, Error>
@@ -98,12 +89,7 @@ fn entries_in<S: Alter>(tx: &mut Transaction<'_, S>, alloc: Global) -> Result<Ve
     ensures looks { Looks (λ it found. AreInOrder by_entry it.entries found.items)
         (state S.Store tx.old.conn.now) (state S.Store tx.new.conn.now) result }
 {
-    all_of(
-        tx,
-        alloc,
-        "SELECT ident, num, ord, who, active FROM entries ORDER BY ident, num, ord",
-        &[],
-    )
+    all_of(tx, alloc, texts::ALL_ENTRIES, &[])
 }
 
 pub(crate) fn targets_in<S: Alter>(
@@ -114,12 +100,7 @@ pub(crate) fn targets_in<S: Alter>(
     ensures looks { Looks (λ it found. AreInOrder by_target it.targets found.items)
         (state S.Store tx.old.conn.now) (state S.Store tx.new.conn.now) result }
 {
-    all_of(
-        tx,
-        alloc,
-        "SELECT ident, num, ord, kind, target, deck FROM targets ORDER BY ident, num, ord",
-        &[],
-    )
+    all_of(tx, alloc, texts::ALL_TARGETS, &[])
 }
 
 pub(crate) fn states_in<S: Alter>(
@@ -130,7 +111,7 @@ pub(crate) fn states_in<S: Alter>(
     ensures looks { Looks (λ it found. AreInOrder in_any_order (map state_pair it.states) found.items)
         (state S.Store tx.old.conn.now) (state S.Store tx.new.conn.now) result }
 {
-    all_of(tx, alloc, "SELECT ident, num, active FROM states", &[])
+    all_of(tx, alloc, texts::EACH_STATE, &[])
 }
 
 pub(crate) fn counts_in<S: Alter>(
@@ -141,7 +122,7 @@ pub(crate) fn counts_in<S: Alter>(
     ensures looks { Looks (λ it found. AreInOrder in_any_order (map count_pair it.counts) found.items)
         (state S.Store tx.old.conn.now) (state S.Store tx.new.conn.now) result }
 {
-    all_of(tx, alloc, "SELECT kind, target, deck, n FROM counts", &[])
+    all_of(tx, alloc, texts::ALL_COUNTS, &[])
 }
 
 /// The rows of the four tables that a library is made of, inside a transaction.

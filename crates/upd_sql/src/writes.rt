@@ -12,6 +12,7 @@ ghost use Rattle.upd_sql.specs.Commits.{WasOpen};
 ghost use Rattle.upd_sql.specs.Sizes.{KeepsSizes, Sized};
 ghost use Rattle.upd_sql.specs.Stands.{AnyTables, Stands};
 
+use crate::texts;
 use crate::values::{self, blob, codes_of, flag, kind, name, number, text, wide};
 use sqlite::{Alter, Error, Transaction};
 use upd_core::{CardRef, Entry, Ident, Serial, Target};
@@ -29,7 +30,7 @@ pub(crate) fn insert_ident<S: Alter>(
 {
     run(
         tx,
-        "INSERT INTO idents (age, name, kind, noprop, held) VALUES (?1, ?2, ?3, ?4, ?5)",
+        texts::INSERT_IDENT,
         &[
             number(ident.age),
             name(&ident.name),
@@ -46,11 +47,7 @@ pub(crate) fn purge_ident<S: Alter>(tx: &mut Transaction<'_, S>, age: Serial) ->
         (state S.Store tx.new.conn.now) result }
     ensures sized { KeepsSizes (state S.Store tx.old.conn.now) (state S.Store tx.new.conn.now) result }
 {
-    run(
-        tx,
-        "UPDATE idents SET held = 0 WHERE age = ?1",
-        &[number(age)],
-    )
+    run(tx, texts::PURGE_IDENT, &[number(age)])
 }
 
 pub(crate) fn insert_card<S: Alter>(
@@ -68,7 +65,7 @@ pub(crate) fn insert_card<S: Alter>(
 {
     run(
         tx,
-        "INSERT INTO cards (ident, num, deck, pos, body) VALUES (?1, ?2, ?3, ?4, ?5)",
+        texts::INSERT_CARD,
         &[
             name(&card.name),
             number(card.number),
@@ -90,7 +87,7 @@ pub(crate) fn delete_card<S: Alter>(
 {
     run(
         tx,
-        "DELETE FROM cards WHERE ident = ?1 AND num = ?2",
+        texts::DELETE_CARD,
         &[name(&card.name), number(card.number)],
     )
 }
@@ -109,7 +106,7 @@ pub(crate) fn insert_entry<S: Alter>(
 {
     run(
         tx,
-        "INSERT INTO entries (ident, num, ord, who, active) VALUES (?1, ?2, ?3, ?4, ?5)",
+        texts::INSERT_ENTRY,
         &[
             name(&card.name),
             number(card.number),
@@ -132,7 +129,7 @@ pub(crate) fn delete_entries<S: Alter>(
 {
     run(
         tx,
-        "DELETE FROM entries WHERE ident = ?1 AND num = ?2",
+        texts::DELETE_ENTRIES,
         &[name(&card.name), number(card.number)],
     )
 }
@@ -151,7 +148,7 @@ pub(crate) fn insert_target<S: Alter>(
     let codes = codes_of(target);
     run(
         tx,
-        "INSERT INTO targets (ident, num, ord, kind, target, deck) VALUES (?1, ?2, ?3, ?4, ?5, ?6)",
+        texts::INSERT_TARGET,
         &[
             name(&card.name),
             number(card.number),
@@ -174,7 +171,7 @@ pub(crate) fn delete_targets<S: Alter>(
 {
     run(
         tx,
-        "DELETE FROM targets WHERE ident = ?1 AND num = ?2",
+        texts::DELETE_TARGETS,
         &[name(&card.name), number(card.number)],
     )
 }
@@ -189,7 +186,7 @@ pub(crate) fn insert_run<S: Alter>(tx: &mut Transaction<'_, S>, row: &RunRow) ->
     let run_number = wide(row.number)?;
     run(
         tx,
-        "INSERT INTO runs (site, num, mode, body, accepted, reply) VALUES (?1, ?2, ?3, ?4, ?5, ?6)",
+        texts::INSERT_RUN,
         &[
             values::site(&row.site),
             run_number,
@@ -213,7 +210,7 @@ pub(crate) fn insert_state<S: Alter>(
 {
     run(
         tx,
-        "INSERT INTO states (ident, num, active) VALUES (?1, ?2, ?3)",
+        texts::INSERT_STATE,
         &[name(&card.name), number(card.number), flag(active)],
     )
 }
@@ -229,7 +226,7 @@ pub(crate) fn delete_state<S: Alter>(
 {
     run(
         tx,
-        "DELETE FROM states WHERE ident = ?1 AND num = ?2",
+        texts::DELETE_STATE,
         &[name(&card.name), number(card.number)],
     )
 }
@@ -247,7 +244,7 @@ pub(crate) fn insert_count<S: Alter>(
     let codes = codes_of(target);
     run(
         tx,
-        "INSERT INTO counts (kind, target, deck, n) VALUES (?1, ?2, ?3, ?4)",
+        texts::INSERT_COUNT,
         &[
             number(codes.kind),
             number(codes.target),
@@ -269,7 +266,7 @@ pub(crate) fn delete_count<S: Alter>(
     let codes = codes_of(target);
     run(
         tx,
-        "DELETE FROM counts WHERE kind = ?1 AND target = ?2 AND deck = ?3",
+        texts::DELETE_COUNT,
         &[number(codes.kind), number(codes.target), number(codes.deck)],
     )
 }
@@ -285,11 +282,7 @@ pub(crate) fn insert_mark<S: Alter>(
     ensures was_open { WasOpen (state S.Store tx.old.conn.now) (state S.Store tx.new.conn.now) result }
 {
     let mark_value = wide(mark)?;
-    run(
-        tx,
-        "INSERT INTO settled (site, mark) VALUES (?1, ?2)",
-        &[values::site(site), mark_value],
-    )
+    run(tx, texts::INSERT_MARK, &[values::site(site), mark_value])
 }
 
 pub(crate) fn delete_mark<S: Alter>(tx: &mut Transaction<'_, S>, site: &str) -> Result<(), Error>
@@ -297,11 +290,7 @@ pub(crate) fn delete_mark<S: Alter>(tx: &mut Transaction<'_, S>, site: &str) -> 
     ensures makes { Makes Stands AnyTables (without_mark site.now) (state S.Store tx.old.conn.now)
         (state S.Store tx.new.conn.now) result }
 {
-    run(
-        tx,
-        "DELETE FROM settled WHERE site = ?1",
-        &[values::site(site)],
-    )
+    run(tx, texts::DELETE_MARK, &[values::site(site)])
 }
 
 pub(crate) fn delete_runs<S: Alter>(
@@ -314,11 +303,7 @@ pub(crate) fn delete_runs<S: Alter>(
         (state S.Store tx.new.conn.now) result }
 {
     let up_to = wide(number)?;
-    run(
-        tx,
-        "DELETE FROM runs WHERE site = ?1 AND num <= ?2",
-        &[values::site(site), up_to],
-    )
+    run(tx, texts::DELETE_RUNS, &[values::site(site), up_to])
 }
 
 /// Moves the cards of a deck at a place and after it away from the front.
@@ -336,7 +321,7 @@ pub(crate) fn move_back<S: Alter>(
     let distance = wide(by)?;
     run(
         tx,
-        "UPDATE cards SET pos = pos + ?3 WHERE deck = ?1 AND pos >= ?2",
+        texts::MOVE_BACK,
         &[number(deck), number(from), distance],
     )
 }
@@ -356,9 +341,5 @@ pub(crate) fn move_up<S: Alter>(
     ensures sized { KeepsSizes (state S.Store tx.old.conn.now) (state S.Store tx.new.conn.now) result }
 {
     let distance = wide(by)?;
-    run(
-        tx,
-        "UPDATE cards SET pos = pos - ?3 WHERE deck = ?1 AND pos >= ?2",
-        &[number(deck), number(from), distance],
-    )
+    run(tx, texts::MOVE_UP, &[number(deck), number(from), distance])
 }

@@ -24,10 +24,11 @@ use Rattle.upd_sqlite.proofs.Tests.{eq_text, one_test}
 use Rattle.upd_sql.specs.Encoded.{num, version_row}
 use Rattle.upd_sql.specs.Schema.{meta}
 use Rattle.upd_sql.specs.Wanted.{first_tables}
+use Rattle.upd_store.specs.declared.version.TheConstants.{READ_VERSION}
 use Rattle.upd_store.specs.Version.{IsLibrarySchema, HasVersion}
 
 abbrev pub version_text : List ℕ
-version_text = codes "SELECT v FROM meta WHERE k = 'version'"
+version_text = READ_VERSION.now
 
 abbrev tests : List Term
 tests = op2 (Compare Eq Binary) (col 1 1) (lit (Text (codes "version"))) ∷ []

@@ -10,6 +10,9 @@ ghost use Rattle.upd_store.specs.Version.{HasVersion};
 use sqlite::{Alter, Connection, Error, Row, Transaction};
 use upd_sqlite::{Rising, ask, begin};
 
+/// The text that reads the version.
+const READ_VERSION: &str = "SELECT v FROM meta WHERE k = 'version'";
+
 /// The number in the first column of the first row, 0 where there is no row.
 fn first_number(rows: &[Row]) -> Result<u32, Error>
     ensures first { IfOk result (λ n. (v : ℕ) → rows.now ≡ (num v ∷ []) ∷ [] → n ≡ v) }
@@ -28,7 +31,7 @@ fn version_in<S: Alter>(tx: &mut Transaction<'_, S>) -> Result<u32, Error>
     ensures value { HasCleanDisk (state S.Store tx.new.conn.now)
         → IfOk result (λ n. (v : ℕ) → HasVersion v (state S.Store tx.old.conn.now).now → n ≡ v) }
 {
-    let rows = ask(tx, "SELECT v FROM meta WHERE k = 'version'", &[])?;
+    let rows = ask(tx, READ_VERSION, &[])?;
     first_number(&rows)
 }
 
