@@ -22,7 +22,7 @@ use Rattle.upd_sqlite.proofs.Tests.{eq_text, one_test}
 use Rattle.upd_sql.specs.Encoded.{stored, version_row}
 use Rattle.upd_sql.specs.Making.{schema_up_to, MakesNext}
 use Rattle.upd_sql.specs.Schema.{library_schema, meta_columns}
-use Rattle.upd_sql.specs.Stands.{Stands}
+use Rattle.upd_sql.specs.LibraryTables.{HoldsTables}
 use Rattle.upd_sql.proofs.Typed.{changes}
 use Rattle.upd_migrate.specs.declared.completing.TheConstants.{SET_VERSION}
 use Rattle.upd_migrate.specs.declared.version.Version.{Version}
@@ -63,7 +63,7 @@ version_becomes version =
 
 -- the version is set
 pub version_set : (version : Version) (it : Rows) (old new : State) (count : ℕ) → Executes set_version [] old new (Ok count) → HasTables version it old.now
-    → Stands it new.now
+    → HoldsTables it new.now
 version_set version it old new count ran h =
     changes 0 0 (codes "meta") meta_columns (1 ∷ []) refl refl (λ _ _. refl) (λ v. v) ((version_row (number_of version) ∷ []) ∷ drop 1 (stored it))
     (version_row (number_of version) ∷ []) refl set_version [] set_version_plain old new count ran h set_tests set_news set_version_is refl refl

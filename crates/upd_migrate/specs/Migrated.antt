@@ -7,7 +7,7 @@ use Rattle.upd_core.specs.Library.{LibraryView}
 use Rattle.upd_core.specs.Sound.{IsSound, IsWhole}
 use Rattle.upd_records.specs.Rows.{Rows, Shows, ShowsStates}
 use Rattle.upd_sql.specs.Commits.{ShowsIn}
-use Rattle.upd_sql.specs.Stands.{ShowsTables, Stands}
+use Rattle.upd_sql.specs.LibraryTables.{ShowsTables, HoldsTables}
 use Rattle.upd_store.specs.Version.{HasVersion}
 use Rattle.upd_migrate.specs.declared.version.Version.{Version}
 use Rattle.upd_migrate.specs.declared.version.Version.TheVariants.{First, Second, Third}
@@ -41,8 +41,8 @@ abbrev pub HasMigrated : Version → LibraryView → Rows → Database → Type 
 HasMigrated version l rows db = (after : Rows) × IsMigrated version l rows after × ShowsTables after db
 
 -- the database holds some tables of which this is so
-abbrev pub StandsAfter : (Rows → Type 0) → Database → Type 0
-StandsAfter P db = (after : Rows) × P after × Stands after db
+abbrev pub HoldsAfter : (Rows → Type 0) → Database → Type 0
+HoldsAfter P db = (after : Rows) × P after × HoldsTables after db
 
 -- A file of a version was migrated: the tables of a library are.
 abbrev pub MigratesFrom : Version → State → State → Type 0

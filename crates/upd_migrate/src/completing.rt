@@ -6,8 +6,8 @@ ghost use Rattle.upd_records.specs.Rows.{Rows};
 ghost use Rattle.upd_sqlite.specs.Steps.{Steps};
 ghost use Rattle.upd_sqlite.specs.Stored.{HoldsAllRows};
 ghost use Rattle.upd_sql.specs.Commits.{WasOpen};
-ghost use Rattle.upd_sql.specs.Making.{schema_up_to, Leads, MakesNext};
-ghost use Rattle.upd_sql.specs.Stands.{Stands};
+ghost use Rattle.upd_sql.specs.Making.{schema_up_to, Transforms, MakesNext};
+ghost use Rattle.upd_sql.specs.LibraryTables.{HoldsTables};
 ghost use Rattle.upd_migrate.specs.Migrated.{completed};
 ghost use Rattle.upd_migrate.specs.Older.{HasTables, schema_of, stored_in};
 ghost use Rattle.upd_migrate.specs.declared.version.Version.{Version};
@@ -23,7 +23,7 @@ const SET_VERSION: &str = "UPDATE meta SET v = 3 WHERE k = 'version'";
 /// Makes the next table, whatever rows the others have.
 fn create<S: Alter>(tx: &mut Transaction<'_, S>, sql: &str) -> Result<(), Error>
     ensures same_reference { tx.new.conn.ghost_name ≡ tx.old.conn.ghost_name }
-    ensures leads { (n : ℕ) (all : List (List Row)) → MakesNext n sql.now → Leads (HoldsAllRows (schema_up_to n) all)
+    ensures transforms { (n : ℕ) (all : List (List Row)) → MakesNext n sql.now → Transforms (HoldsAllRows (schema_up_to n) all)
         (HoldsAllRows (schema_up_to (n + 1)) (all ++ [] ∷ [])) (state S.Store tx.old.conn.now)
         (state S.Store tx.new.conn.now) result }
 {
@@ -33,7 +33,7 @@ fn create<S: Alter>(tx: &mut Transaction<'_, S>, sql: &str) -> Result<(), Error>
 /// The tables of statuses and counts.
 fn create_states<S: Alter>(tx: &mut Transaction<'_, S>) -> Result<(), Error>
     ensures same_reference { tx.new.conn.ghost_name ≡ tx.old.conn.ghost_name }
-    ensures leads { (all : List (List Row)) → Leads (HoldsAllRows (schema_up_to 6) all)
+    ensures transforms { (all : List (List Row)) → Transforms (HoldsAllRows (schema_up_to 6) all)
         (HoldsAllRows (schema_up_to 8) ((all ++ [] ∷ []) ++ [] ∷ [])) (state S.Store tx.old.conn.now)
         (state S.Store tx.new.conn.now) result }
 {
@@ -44,7 +44,7 @@ fn create_states<S: Alter>(tx: &mut Transaction<'_, S>) -> Result<(), Error>
 /// The table of settled marks.
 fn create_settled<S: Alter>(tx: &mut Transaction<'_, S>) -> Result<(), Error>
     ensures same_reference { tx.new.conn.ghost_name ≡ tx.old.conn.ghost_name }
-    ensures leads { (all : List (List Row)) → Leads (HoldsAllRows (schema_up_to 8) all)
+    ensures transforms { (all : List (List Row)) → Transforms (HoldsAllRows (schema_up_to 8) all)
         (HoldsAllRows (schema_up_to 9) (all ++ [] ∷ [])) (state S.Store tx.old.conn.now)
         (state S.Store tx.new.conn.now) result }
 {
@@ -54,7 +54,7 @@ fn create_settled<S: Alter>(tx: &mut Transaction<'_, S>) -> Result<(), Error>
 /// The tables that a version lacks, with no rows.
 fn create_missing<S: Alter>(tx: &mut Transaction<'_, S>, version: Version) -> Result<(), Error>
     ensures same_reference { tx.new.conn.ghost_name ≡ tx.old.conn.ghost_name }
-    ensures leads { (it : Rows) → Leads (HoldsAllRows (schema_of version) (stored_in version it))
+    ensures transforms { (it : Rows) → Transforms (HoldsAllRows (schema_of version) (stored_in version it))
         (HasTables version (completed version it))
         (state S.Store tx.old.conn.now) (state S.Store tx.new.conn.now) result }
 {
@@ -71,7 +71,7 @@ fn create_missing<S: Alter>(tx: &mut Transaction<'_, S>, version: Version) -> Re
 /// Sets the version of the present schema.
 fn set_version<S: Alter>(tx: &mut Transaction<'_, S>) -> Result<(), Error>
     ensures same_reference { tx.new.conn.ghost_name ≡ tx.old.conn.ghost_name }
-    ensures leads { (version : Version) (it : Rows) → Leads (HasTables version it) (Stands it)
+    ensures transforms { (version : Version) (it : Rows) → Transforms (HasTables version it) (HoldsTables it)
         (state S.Store tx.old.conn.now) (state S.Store tx.new.conn.now) result }
     ensures was_open { WasOpen (state S.Store tx.old.conn.now) (state S.Store tx.new.conn.now) result }
 {
@@ -82,8 +82,8 @@ fn set_version<S: Alter>(tx: &mut Transaction<'_, S>) -> Result<(), Error>
 pub(crate) fn complete<S: Alter>(tx: &mut Transaction<'_, S>, version: Version) -> Result<(), Error>
     ensures same_reference { tx.new.conn.ghost_name ≡ tx.old.conn.ghost_name }
     ensures steps { Steps (state S.Store tx.old.conn.now) (state S.Store tx.new.conn.now) result }
-    ensures leads { (it : Rows) → Leads (HoldsAllRows (schema_of version) (stored_in version it))
-        (Stands (completed version it)) (state S.Store tx.old.conn.now) (state S.Store tx.new.conn.now) result }
+    ensures transforms { (it : Rows) → Transforms (HoldsAllRows (schema_of version) (stored_in version it))
+        (HoldsTables (completed version it)) (state S.Store tx.old.conn.now) (state S.Store tx.new.conn.now) result }
     ensures was_open { WasOpen (state S.Store tx.old.conn.now) (state S.Store tx.new.conn.now) result }
 {
     create_missing(tx, version)?;

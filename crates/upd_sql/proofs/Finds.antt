@@ -14,7 +14,7 @@ use Rattle.upd_row_store.specs.Tables.{is_run, is_mark_of, mark_at, run_at}
 use Rattle.upd_sqlite.proofs.Answers.{shown_same}
 use Rattle.upd_sql.specs.Schema.{library_schema}
 use Rattle.upd_sql.specs.Encoded.{num, run_row, mark_row, stored}
-use Rattle.upd_sql.specs.Stands.{Stands}
+use Rattle.upd_sql.specs.LibraryTables.{HoldsTables}
 use Rattle.upd_sql.proofs.Typed.{reads_exactly}
 use Rattle.upd_sql.proofs.Conditions.{run_found, mark_found}
 use Rattle.upd_sql.proofs.QueryTexts as query
@@ -27,7 +27,7 @@ untouched items sql params old new (Ok x) plain shown = λ schema.
     (shown_same sql params old new (items x) (subst (λ s. IsPlain (understood s sql)) (sym schema) plain) shown).0.now_is
 untouched items sql params old new (Err e) plain shown = tt
 
-module _ (old new : State) (rows : List Row) (it : Rows) (h : Stands it old.now) where
+module _ (old new : State) (rows : List Row) (it : Rows) (h : HoldsTables it old.now) where
   pub runs_found : (site : List ℕ) (number : ℕ) → Shown query.run_of_key (Text site ∷ num number ∷ []) old new rows → rows
       ≡ map run_row (filter (is_run site number) it.runs)
   runs_found site number shown =

@@ -17,8 +17,8 @@ use Rattle.upd_sqlite.proofs.Chains.{steps_then, clean_before}
 use Rattle.upd_sqlite.proofs.Shapes.{creates, inserts, cast_int}
 use Rattle.upd_sql.specs.Schema.{meta, idents, cards, entries, targets, runs, states, counts, settled, meta_columns, library_schema}
 use Rattle.upd_sql.specs.Encoded.{version_row}
-use Rattle.upd_sql.specs.Making.{schema_up_to, no_rows_in, no_rows, HasMade, MakesNext, Leads}
-use Rattle.upd_sql.specs.Stands.{Stands}
+use Rattle.upd_sql.specs.Making.{schema_up_to, no_rows_in, no_rows, HasEmptyTables, MakesNext, Transforms}
+use Rattle.upd_sql.specs.LibraryTables.{HoldsTables}
 use Rattle.upd_sql.proofs.Texts as text
 
 abbrev pub create_meta : List ℕ
@@ -85,33 +85,33 @@ unfolding understood everything
 makes_settled = record { is = refl; plain = (refl, refl); table = settled; defined = refl; lacks = refl; next = refl; rows = refl }
 
 -- the next table is made
-pub next_made : (n : ℕ) (sql : List ℕ) → MakesNext n sql → (old new : State) (count : ℕ) → Executes sql [] old new (Ok count) → HasMade n old.now
-    → HasMade (n + 1) new.now
+pub next_made : (n : ℕ) (sql : List ℕ) → MakesNext n sql → (old new : State) (count : ℕ) → Executes sql [] old new (Ok count) → HasEmptyTables n old.now
+    → HasEmptyTables (n + 1) new.now
 next_made n sql m old new count ran h =
     let w = runs_as sql [] old new (schema_up_to n) h.schema_is CreateTable m.is m.plain count ran in
     subst₂ (λ s rs. HoldsAllRows s rs new.now) m.next m.rows (creates (schema_up_to n) m.table old new (no_rows_in n) _ [] count m.defined m.lacks h w)
 
 -- the version is written
-pub version_told : (old new : State) (count : ℕ) → Executes text.insert_version [] old new (Ok count) → HasMade 9 old.now → Stands no_rows new.now
+pub version_told : (old new : State) (count : ℕ) → Executes text.insert_version [] old new (Ok count) → HasEmptyTables 9 old.now → HoldsTables no_rows new.now
 version_told old new count ran h =
     let w = runs_as text.insert_version [] old new library_schema h.schema_is _ text.insert_version_is text.insert_version_plain count ran in
     subst (λ row. HoldsAllRows library_schema ((row ∷ []) ∷ [] ∷ [] ∷ [] ∷ [] ∷ [] ∷ [] ∷ [] ∷ [] ∷ []) new.now) (rw (cast_int (pos 3)) refl)
     (inserts library_schema 0 0 (codes "meta") meta_columns (1 ∷ []) refl refl (λ _ _. refl) old new (no_rows_in 9) _ [] count h
     (lit Null ∷ lit (Text (codes "version")) ∷ lit (Int (pos 3)) ∷ []) 3 (version_row 3) refl w)
 
-pub leads_from : {X : Type 0} (P Q : Database → Type 0) (sql : List ℕ) (old new : State) (r : Result X Error) → Ran sql [] old new r
+pub transforms_from : {X : Type 0} (P Q : Database → Type 0) (sql : List ℕ) (old new : State) (r : Result X Error) → Ran sql [] old new r
     → ((count : ℕ) → Executes sql [] old new (Ok count) → P old.now → Q new.now)
-    → Leads P Q old new r
-leads_from P Q sql old new (Ok x) ran means = record { steps = ran.steps; led = λ clean inside h. let ex = ran.executed clean inside in means ex.0 ex.1 h }
-leads_from P Q sql old new (Err e) ran means = record { steps = ran.steps; led = λ clean. tt }
+    → Transforms P Q old new r
+transforms_from P Q sql old new (Ok x) ran means = record { steps = ran.steps; transformed = λ clean inside h. let ex = ran.executed clean inside in means ex.0 ex.1 h }
+transforms_from P Q sql old new (Err e) ran means = record { steps = ran.steps; transformed = λ clean. tt }
 
-pub leads_then : {X Y : Type 0} (P Q R : Database → Type 0) (a b c : State) (x : X) (r : Result Y Error) → Leads {X = X} P Q a b (Ok x) → Leads Q R b c r
-    → Leads P R a c r
-leads_then P Q R a b c x (Ok y) p q = record {
+pub transforms_then : {X Y : Type 0} (P Q R : Database → Type 0) (a b c : State) (x : X) (r : Result Y Error) → Transforms {X = X} P Q a b (Ok x) → Transforms Q R b c r
+    → Transforms P R a c r
+transforms_then P Q R a b c x (Ok y) p q = record {
   steps = steps_then a b c x (Ok y) p.steps q.steps;
-  led = λ clean inside h. let early = clean_before b c _ q.steps.survives clean in q.led clean (p.steps.going early inside) (p.led early inside h);
+  transformed = λ clean inside h. let early = clean_before b c _ q.steps.survives clean in q.transformed clean (p.steps.going early inside) (p.transformed early inside h);
 }
-leads_then P Q R a b c x (Err e) p q = record { steps = steps_then a b c x (Err e) p.steps q.steps; led = λ clean. tt }
+transforms_then P Q R a b c x (Err e) p q = record { steps = steps_then a b c x (Err e) p.steps q.steps; transformed = λ clean. tt }
 
 -- the last of some steps ran while the connection was open, so it was open before them
 pub opened_before : {X Y : Type 0} (a b c : State) (x : X) (r : Result Y Error) → Steps {X = X} a b (Ok x) → Steps b c r → WasOpen b c r → WasOpen a c r
@@ -119,7 +119,7 @@ opened_before a b c x (Ok y) p q was = λ clean inside. let early = clean_before
 opened_before a b c x (Err e) p q was = λ clean. tt
 
 -- a step failed
-pub leads_stop : {X Y : Type 0} (P Q R : Database → Type 0) (a b : State) (d : Error) (r : Result Y Error) → Leads {X = X} P Q a b (Err d) → IsErr r → Leads P R a b r
-leads_stop P Q R a b d (Ok y) p err = absurd (cc)
-leads_stop P Q R a b d (Err e) p err =
-    record { steps = record { going = λ clean. tt; kept = p.steps.kept; survives = p.steps.survives }; led = λ clean. tt }
+pub transforms_stop : {X Y : Type 0} (P Q R : Database → Type 0) (a b : State) (d : Error) (r : Result Y Error) → Transforms {X = X} P Q a b (Err d) → IsErr r → Transforms P R a b r
+transforms_stop P Q R a b d (Ok y) p err = absurd (cc)
+transforms_stop P Q R a b d (Err e) p err =
+    record { steps = record { going = λ clean. tt; kept = p.steps.kept; survives = p.steps.survives }; transformed = λ clean. tt }

@@ -30,7 +30,7 @@ use Rattle.upd_sql.specs.Schema.{library_schema}
 use Rattle.upd_sql.specs.Encoded.{card_row, entry_row, kept_state, num, stored}
 use Rattle.upd_sql.specs.Part.{is_of_ident}
 use Rattle.upd_sql.specs.Listed.{AreInOrder, by_place, in_any_order}
-use Rattle.upd_sql.specs.Stands.{Stands}
+use Rattle.upd_sql.specs.LibraryTables.{HoldsTables}
 use Rattle.upd_sql.proofs.Conditions.{card_named, card_params, entry_of, in_deck, nat_flip, status_of}
 use Rattle.upd_sql.proofs.Listed.{lists, ordered_as}
 use Rattle.upd_sql.proofs.Typed.{own}
@@ -40,7 +40,7 @@ use Rattle.upd_sql.proofs.QueryTexts as query
 
 -- ---- what each text answers
 
-module _ (old new : State) (it : Rows) (h : Stands it old.now) (rows : List Row) where
+module _ (old new : State) (it : Rows) (h : HoldsTables it old.now) (rows : List Row) where
   pub decks_listed : (card : CardRef) → Shown query.deck_of_card (card_params card) old new rows
       → (us : List ℕ) × (rows ≡ map (λ n. num n ∷ []) us) × AreInOrder in_any_order (map (λ r. r.deck) (filter (λ r. same_ref card r.card) it.cards)) us
   decks_listed card shown =

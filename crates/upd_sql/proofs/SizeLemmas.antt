@@ -33,7 +33,7 @@ use Rattle.upd_sql.specs.Schema.{library_schema, ident_columns, card_columns, en
 use Rattle.upd_sql.specs.Encoded.{num, card_row, entry_row}
 use Rattle.upd_sql.specs.Sizes.{AnySizes, AreSizesOf, HasSizes, HoldsSizes, KeepsSizes, LeadToSizes, Sized, SizedAll, TakeNone, TakesNone, sized, sized_all}
 use Rattle.upd_sql.specs.Sizes.{one_card_more, one_entry_more}
-use Rattle.upd_sql.specs.Stands.{ShowsTables}
+use Rattle.upd_sql.specs.LibraryTables.{ShowsTables}
 use Rattle.upd_sql.specs.declared.sizes.Sizes.{Sizes}
 use Rattle.upd_sql.proofs.Bare.{is_bare, bare_tests, bare_values}
 use Rattle.upd_sql.proofs.Typed.{own, survives_itself}

@@ -28,7 +28,7 @@ use Rattle.upd_sql.specs.Schema.{library_schema}
 use Rattle.upd_sql.specs.Listed.{AreInOrder, by_age, by_entry, by_place, by_state_row, by_target, in_any_order}
 use Rattle.upd_sql.specs.Commits.{Looks, WasOpen, LeavesTables}
 use Rattle.upd_sql.specs.Encoded.{num, ident_row, card_row, entry_row, target_row, state_row, kept_state, kept_count, stored}
-use Rattle.upd_sql.specs.Stands.{Stands}
+use Rattle.upd_sql.specs.LibraryTables.{HoldsTables}
 use Rattle.upd_sql.proofs.Listed.{lists, ordered_as}
 use Rattle.upd_sql.proofs.QueryTexts as query
 
@@ -108,7 +108,7 @@ in_any found are same = record { same = subst (IsSame found) are same; sorted = 
 
 -- ---- what each text answers
 
-module _ (old new : State) (it : Rows) (h : Stands it old.now) (rows : List Row) where
+module _ (old new : State) (it : Rows) (h : HoldsTables it old.now) (rows : List Row) where
   pub idents_listed : Shown query.all_idents [] old new rows → (us : List (Ident)) × (rows ≡ map ident_row us) × AreInOrder by_age (it.idents) us
   idents_listed shown =
       let found = lists 1 2 refl ident_row ident_row (stored it) (it.idents) refl query.all_idents [] query.all_idents_plain query.all_idents_unlisted old new rows shown h
@@ -164,7 +164,7 @@ looks_then F G a b c x (Ok y) p q = record {
       q.same clean (subst (λ (d : Database). d.schema ≡ library_schema) (sym first) schema) ∙ first;
   found = λ clean it h.
       let early = clean_before b c _ q.steps.survives clean in
-      (p.found early it h, q.found clean it (subst (Stands it) (sym (p.same early h.schema_is)) h));
+      (p.found early it h, q.found clean it (subst (HoldsTables it) (sym (p.same early h.schema_is)) h));
 }
 looks_then F G a b c x (Err e) p q =
     record { steps = steps_then a b c x (Err e) p.steps q.steps; was_open = λ clean. tt; same = λ clean. tt; found = λ clean. tt }
@@ -203,7 +203,7 @@ looks_not F G a b s (Err e) p err = record {
 
 -- from a text that answered to what was made of its answer
 pub looked : {X Y : Type 0} (F : Rows → Y → Type 0) (a b : State) (x : X) (r : Result Y Error) → Steps {X = X} a b (Ok x) → WasOpen {X = X} a b (Ok x)
-    → LeavesTables {X = X} a b (Ok x) → (HasCleanDisk b → IfOk r (λ y. (it : Rows) → Stands it a.now → F it y)) → Looks F a b r
+    → LeavesTables {X = X} a b (Ok x) → (HasCleanDisk b → IfOk r (λ y. (it : Rows) → HoldsTables it a.now → F it y)) → Looks F a b r
 looked F a b x (Ok y) steps was_open same found = record {
   steps = record { going = steps.going; kept = steps.kept; survives = steps.survives };
   was_open = was_open;

@@ -9,7 +9,7 @@ use Rattle.upd_sqlite.specs.Steps.{Steps}
 use Rattle.upd_sqlite.specs.Stored.{HasRows}
 use Rattle.upd_sql.specs.Schema.{library_schema}
 use Rattle.upd_sql.specs.Encoded.{stored}
-use Rattle.upd_sql.specs.Stands.{ShowsTables, Stands}
+use Rattle.upd_sql.specs.LibraryTables.{ShowsTables, HoldsTables}
 
 -- trees that show these tables
 abbrev pub ShowsIn : Trees → Rows → Type 0
@@ -43,4 +43,4 @@ pub record Looks {X : Type 0} (Found : Rows → X → Type 0) (old new : State) 
   pub steps : Steps old new r
   pub was_open : WasOpen old new r
   pub same : LeavesTables old new r
-  pub found : HasCleanDisk new → IfOk r (λ x. (it : Rows) → Stands it old.now → Found it x)
+  pub found : HasCleanDisk new → IfOk r (λ x. (it : Rows) → HoldsTables it old.now → Found it x)

@@ -38,8 +38,8 @@ no_rows_in zero = []
 no_rows_in (suc n) = no_rows_in n ++ [] ∷ []
 
 -- the database has the first n tables, all of them empty
-abbrev pub HasMade : ℕ → Database → Type 0
-HasMade n = HoldsAllRows (schema_up_to n) (no_rows_in n)
+abbrev pub HasEmptyTables : ℕ → Database → Type 0
+HasEmptyTables n = HoldsAllRows (schema_up_to n) (no_rows_in n)
 
 -- an empty library's tables
 abbrev pub no_rows : Rows
@@ -55,10 +55,10 @@ pub record MakesNext (n : ℕ) (sql : List ℕ) : Type 0 where
   pub next : created (schema_up_to n) table ≡ schema_up_to (n + 1)
   pub rows : no_rows_in n ++ [] ∷ [] ≡ no_rows_in (n + 1)
 
--- a step that leads from one kind of database to another
-pub record Leads {X : Type 0} (Before After : Database → Type 0) (old new : State) (r : Result X Error) : Type 0 where
+-- a step that transforms from one kind of database to another
+pub record Transforms {X : Type 0} (Before After : Database → Type 0) (old new : State) (r : Result X Error) : Type 0 where
   pub steps : Steps old new r
-  pub led : HasCleanDisk new → OnOk r (IsTrue old.in_transaction → Before old.now → After new.now)
+  pub transformed : HasCleanDisk new → OnOk r (IsTrue old.in_transaction → Before old.now → After new.now)
 
 -- what a crash may leave while the tables are made
 abbrev pub MayMake : State → Trees → Type 0

@@ -8,7 +8,6 @@ mod active;
 mod changes;
 mod commits;
 mod decode;
-mod kept;
 mod make;
 mod part;
 mod reads;
@@ -17,6 +16,7 @@ mod schema;
 mod settle;
 mod sizes;
 mod statuses;
+mod stored;
 mod texts;
 mod values;
 mod whole;
@@ -25,14 +25,14 @@ mod writes;
 pub use active::ActiveRows;
 pub use changes::carry_out_all;
 pub use commits::commit_changes;
-pub use kept::{
-    kept_active, kept_decks_of, kept_library_rows, kept_mark, kept_part, kept_run, kept_states,
-    kept_states_of,
-};
 pub use make::make_library;
 pub use part::Part;
 pub use schema::{has_first_tables, is_library_schema, is_no_schema};
 pub use settle::settle_site;
 pub use sizes::{Sizes, sizes_after};
+pub use stored::{
+    stored_active, stored_decks_of, stored_library_rows, stored_mark, stored_part, stored_run,
+    stored_states, stored_states_of,
+};
 pub use texts::{CREATE_COUNTS, CREATE_SETTLED, CREATE_STATES};
 pub use whole::library_rows_in;

@@ -3,9 +3,9 @@ ghost use Rattle.std.specs.Prelude.{◌≡◌, ◌+◌, ℕ, false, IsTrue, OnEr
 ghost use Rattle.sqlite.specs.Held.{state};
 ghost use Rattle.sqlite.specs.State.{HasCleanDisk, Survives};
 ghost use Rattle.upd_sql.specs.Commits.{WasOpen};
-ghost use Rattle.upd_sql.specs.Making.{no_rows, HasMade, Leads, MakesNext, MayMake};
+ghost use Rattle.upd_sql.specs.Making.{no_rows, HasEmptyTables, Transforms, MakesNext, MayMake};
 ghost use Rattle.upd_sql.specs.Schema.{no_schema};
-ghost use Rattle.upd_sql.specs.Stands.{ShowsTables, Stands};
+ghost use Rattle.upd_sql.specs.LibraryTables.{ShowsTables, HoldsTables};
 
 use crate::texts;
 use sqlite::{Alter, Connection, Error, Transaction};
@@ -14,7 +14,7 @@ use upd_sqlite::{Rising, begin, run};
 /// Makes the next table.
 fn create<S: Alter>(tx: &mut Transaction<'_, S>, sql: &str) -> Result<(), Error>
     ensures same_reference { tx.new.conn.ghost_name ≡ tx.old.conn.ghost_name }
-    ensures leads { (n : ℕ) → MakesNext n sql.now → Leads (HasMade n) (HasMade (n + 1))
+    ensures transforms { (n : ℕ) → MakesNext n sql.now → Transforms (HasEmptyTables n) (HasEmptyTables (n + 1))
         (state S.Store tx.old.conn.now) (state S.Store tx.new.conn.now) result }
 {
     run(tx, sql, &[])
@@ -23,7 +23,7 @@ fn create<S: Alter>(tx: &mut Transaction<'_, S>, sql: &str) -> Result<(), Error>
 /// Writes the version of the schema.
 fn insert_version<S: Alter>(tx: &mut Transaction<'_, S>) -> Result<(), Error>
     ensures same_reference { tx.new.conn.ghost_name ≡ tx.old.conn.ghost_name }
-    ensures leads { Leads (HasMade 9) (Stands no_rows) (state S.Store tx.old.conn.now)
+    ensures transforms { Transforms (HasEmptyTables 9) (HoldsTables no_rows) (state S.Store tx.old.conn.now)
         (state S.Store tx.new.conn.now) result }
     ensures was_open { WasOpen (state S.Store tx.old.conn.now) (state S.Store tx.new.conn.now) result }
 {
@@ -33,7 +33,7 @@ fn insert_version<S: Alter>(tx: &mut Transaction<'_, S>) -> Result<(), Error>
 /// Makes the tables of the version, the idents and the cards.
 fn create_cards<S: Alter>(tx: &mut Transaction<'_, S>) -> Result<(), Error>
     ensures same_reference { tx.new.conn.ghost_name ≡ tx.old.conn.ghost_name }
-    ensures leads { Leads (HasMade 0) (HasMade 3) (state S.Store tx.old.conn.now)
+    ensures transforms { Transforms (HasEmptyTables 0) (HasEmptyTables 3) (state S.Store tx.old.conn.now)
         (state S.Store tx.new.conn.now) result }
 {
     create(tx, texts::CREATE_META)?;
@@ -44,7 +44,7 @@ fn create_cards<S: Alter>(tx: &mut Transaction<'_, S>) -> Result<(), Error>
 /// Makes the tables of entries, targets and runs.
 fn create_runs<S: Alter>(tx: &mut Transaction<'_, S>) -> Result<(), Error>
     ensures same_reference { tx.new.conn.ghost_name ≡ tx.old.conn.ghost_name }
-    ensures leads { Leads (HasMade 3) (HasMade 6) (state S.Store tx.old.conn.now)
+    ensures transforms { Transforms (HasEmptyTables 3) (HasEmptyTables 6) (state S.Store tx.old.conn.now)
         (state S.Store tx.new.conn.now) result }
 {
     create(tx, texts::CREATE_ENTRIES)?;
@@ -55,7 +55,7 @@ fn create_runs<S: Alter>(tx: &mut Transaction<'_, S>) -> Result<(), Error>
 /// Makes the tables of statuses, counts and settled marks.
 fn create_marks<S: Alter>(tx: &mut Transaction<'_, S>) -> Result<(), Error>
     ensures same_reference { tx.new.conn.ghost_name ≡ tx.old.conn.ghost_name }
-    ensures leads { Leads (HasMade 6) (HasMade 9) (state S.Store tx.old.conn.now)
+    ensures transforms { Transforms (HasEmptyTables 6) (HasEmptyTables 9) (state S.Store tx.old.conn.now)
         (state S.Store tx.new.conn.now) result }
 {
     create(tx, texts::CREATE_STATES)?;
@@ -66,7 +66,7 @@ fn create_marks<S: Alter>(tx: &mut Transaction<'_, S>) -> Result<(), Error>
 /// Makes all tables, and writes the version.
 fn make_tables<S: Alter>(tx: &mut Transaction<'_, S>) -> Result<(), Error>
     ensures same_reference { tx.new.conn.ghost_name ≡ tx.old.conn.ghost_name }
-    ensures leads { Leads (HasMade 0) (Stands no_rows) (state S.Store tx.old.conn.now) (state S.Store tx.new.conn.now) result }
+    ensures transforms { Transforms (HasEmptyTables 0) (HoldsTables no_rows) (state S.Store tx.old.conn.now) (state S.Store tx.new.conn.now) result }
     ensures was_open { WasOpen (state S.Store tx.old.conn.now) (state S.Store tx.new.conn.now) result }
 {
     create_cards(tx)?;

@@ -20,7 +20,7 @@ ghost use Rattle.upd_sql.specs.Listed.{AreInOrder, by_place, in_any_order};
 ghost use Rattle.upd_sql.specs.Part.{AnswersIdents, IsPart, is_of_ident};
 ghost use Rattle.upd_sql.specs.Schema.{library_schema};
 ghost use Rattle.upd_sql.specs.Sizes.{AreRightIfKnown, AreSizesOf, HasSizes, card_tree, entry_tree};
-ghost use Rattle.upd_sql.specs.Stands.{Stands};
+ghost use Rattle.upd_sql.specs.LibraryTables.{HoldsTables};
 
 use crate::reads::mark_in;
 use crate::record::Record;
@@ -251,7 +251,7 @@ fn below_last(n: u64) -> Result<u64, Error>
 fn number_of<S: Alter>(tx: &mut Transaction<'_, S>, sql: &str) -> Result<u64, Error>
     ensures same_reference { tx.new.conn.ghost_name ≡ tx.old.conn.ghost_name }
     ensures looks { (size : Rows → ℕ) → IsPlain (understood library_schema sql.now)
-        → ((it : Rows) → Stands it (state S.Store tx.old.conn.now).now → (rows : List SqlRow)
+        → ((it : Rows) → HoldsTables it (state S.Store tx.old.conn.now).now → (rows : List SqlRow)
         → Shown sql.now [] (state S.Store tx.old.conn.now) (state S.Store tx.new.conn.now) rows
         → rows ≡ (num (sqlite_count (size it)) ∷ []) ∷ [])
         → Looks (λ it n. n ≡ size it) (state S.Store tx.old.conn.now) (state S.Store tx.new.conn.now) result }

@@ -8,7 +8,7 @@ ghost use Rattle.upd_row_store.specs.Tables.{is_mark_of, is_run, mark_at, run_at
 ghost use Rattle.upd_sqlite.specs.Steps.{Steps};
 ghost use Rattle.upd_sql.specs.Commits.{LeavesTables, WasOpen};
 ghost use Rattle.upd_sql.specs.Encoded.{mark_row, run_row};
-ghost use Rattle.upd_sql.specs.Stands.{Stands};
+ghost use Rattle.upd_sql.specs.LibraryTables.{HoldsTables};
 
 use crate::decode::{first_mark, first_run};
 use crate::texts;
@@ -28,7 +28,7 @@ pub(crate) fn runs_of_key<S: Alter>(
     ensures was_open { WasOpen (state S.Store tx.old.conn.now) (state S.Store tx.new.conn.now) result }
     ensures same { LeavesTables (state S.Store tx.old.conn.now) (state S.Store tx.new.conn.now) result }
     ensures found { HasCleanDisk (state S.Store tx.new.conn.now)
-        → IfOk result (λ rows. (it : Rows) → Stands it (state S.Store tx.old.conn.now).now
+        → IfOk result (λ rows. (it : Rows) → HoldsTables it (state S.Store tx.old.conn.now).now
         → rows.items ≡ map run_row (filter (is_run site.now number) it.runs)) }
 {
     let number = wide(number)?;
@@ -45,7 +45,7 @@ pub(crate) fn marks_of_site<S: Alter>(
     ensures was_open { WasOpen (state S.Store tx.old.conn.now) (state S.Store tx.new.conn.now) result }
     ensures same { LeavesTables (state S.Store tx.old.conn.now) (state S.Store tx.new.conn.now) result }
     ensures found { HasCleanDisk (state S.Store tx.new.conn.now)
-        → IfOk result (λ rows. (it : Rows) → Stands it (state S.Store tx.old.conn.now).now
+        → IfOk result (λ rows. (it : Rows) → HoldsTables it (state S.Store tx.old.conn.now).now
         → rows.items ≡ map mark_row (filter (is_mark_of site.now) it.settled)) }
 {
     ask(tx, texts::MARK_OF_SITE, &[values::site(site)])
@@ -58,7 +58,7 @@ pub(crate) fn mark_in<S: Alter>(tx: &mut Transaction<'_, S>, site: &str) -> Resu
     ensures was_open { WasOpen (state S.Store tx.old.conn.now) (state S.Store tx.new.conn.now) result }
     ensures same { LeavesTables (state S.Store tx.old.conn.now) (state S.Store tx.new.conn.now) result }
     ensures found { HasCleanDisk (state S.Store tx.new.conn.now)
-        → IfOk result (λ mark. (it : Rows) → Stands it (state S.Store tx.old.conn.now).now → mark
+        → IfOk result (λ mark. (it : Rows) → HoldsTables it (state S.Store tx.old.conn.now).now → mark
         ≡ mark_at site.now it) }
 {
     let rows = marks_of_site(tx, site)?;
@@ -76,7 +76,7 @@ pub(crate) fn run_in<S: Alter>(
     ensures was_open { WasOpen (state S.Store tx.old.conn.now) (state S.Store tx.new.conn.now) result }
     ensures same { LeavesTables (state S.Store tx.old.conn.now) (state S.Store tx.new.conn.now) result }
     ensures found { HasCleanDisk (state S.Store tx.new.conn.now)
-        → IfOk result (λ run. (it : Rows) → Stands it (state S.Store tx.old.conn.now).now → run
+        → IfOk result (λ run. (it : Rows) → HoldsTables it (state S.Store tx.old.conn.now).now → run
         ≡ run_at site.now number it) }
 {
     let rows = runs_of_key(tx, site, number)?;

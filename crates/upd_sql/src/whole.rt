@@ -13,7 +13,7 @@ ghost use Rattle.upd_sqlite.specs.Steps.{Steps};
 ghost use Rattle.upd_sql.specs.Commits.{LeavesTables, Looks, WasOpen};
 ghost use Rattle.upd_sql.specs.Listed.{AreInOrder, by_age, by_entry, by_place, by_target, in_any_order};
 ghost use Rattle.upd_sql.specs.Schema.{library_schema};
-ghost use Rattle.upd_sql.specs.Stands.{Stands};
+ghost use Rattle.upd_sql.specs.LibraryTables.{HoldsTables};
 ghost use Rattle.upd_row_store.specs.Assembling.{AreRowsOf};
 
 use crate::record::{Record, each};
@@ -52,7 +52,7 @@ pub(crate) fn all_of<S: Alter, T: Record + Drop>(
 ) -> Result<Vec<T>, Error>
     ensures same_reference { tx.new.conn.ghost_name ≡ tx.old.conn.ghost_name }
     ensures looks { (listed : Rows → List T) (cmp : T → T → Ordering) → IsPlain (understood library_schema sql.now)
-        → ((it : Rows) → Stands it (state S.Store tx.old.conn.now).now → (rows : List SqlRow)
+        → ((it : Rows) → HoldsTables it (state S.Store tx.old.conn.now).now → (rows : List SqlRow)
         → Shown sql.now (bound params.now) (state S.Store tx.old.conn.now) (state S.Store tx.new.conn.now) rows
         → (kept : List T) × (rows ≡ map T.stored kept) × AreInOrder cmp (listed it) kept)
         → Looks (λ it found. AreInOrder cmp (listed it) found.items) (state S.Store tx.old.conn.now)

@@ -10,7 +10,7 @@ ghost use Rattle.upd_sql.specs.RowEdits.{with_count, with_mark, with_state, with
 ghost use Rattle.upd_sql.specs.RowEdits.{without_runs, without_state};
 ghost use Rattle.upd_sql.specs.Commits.{WasOpen};
 ghost use Rattle.upd_sql.specs.Sizes.{KeepsSizes, Sized};
-ghost use Rattle.upd_sql.specs.Stands.{AnyTables, Stands};
+ghost use Rattle.upd_sql.specs.LibraryTables.{AnyTables, HoldsTables};
 
 use crate::texts;
 use crate::values::{self, blob, codes_of, flag, kind, name, number, text, wide};
@@ -24,7 +24,7 @@ pub(crate) fn insert_ident<S: Alter>(
     ident: &Ident,
 ) -> Result<(), Error>
     ensures same_reference { tx.new.conn.ghost_name ≡ tx.old.conn.ghost_name }
-    ensures makes { Makes Stands AnyTables (done (IdentNew ident.now)) (state S.Store tx.old.conn.now)
+    ensures makes { Makes HoldsTables AnyTables (done (IdentNew ident.now)) (state S.Store tx.old.conn.now)
         (state S.Store tx.new.conn.now) result }
     ensures sized { KeepsSizes (state S.Store tx.old.conn.now) (state S.Store tx.new.conn.now) result }
 {
@@ -43,7 +43,7 @@ pub(crate) fn insert_ident<S: Alter>(
 
 pub(crate) fn purge_ident<S: Alter>(tx: &mut Transaction<'_, S>, age: Serial) -> Result<(), Error>
     ensures same_reference { tx.new.conn.ghost_name ≡ tx.old.conn.ghost_name }
-    ensures makes { Makes Stands AnyTables (done (IdentPurged age)) (state S.Store tx.old.conn.now)
+    ensures makes { Makes HoldsTables AnyTables (done (IdentPurged age)) (state S.Store tx.old.conn.now)
         (state S.Store tx.new.conn.now) result }
     ensures sized { KeepsSizes (state S.Store tx.old.conn.now) (state S.Store tx.new.conn.now) result }
 {
@@ -58,7 +58,7 @@ pub(crate) fn insert_card<S: Alter>(
     body: &[u8],
 ) -> Result<(), Error>
     ensures same_reference { tx.new.conn.ghost_name ≡ tx.old.conn.ghost_name }
-    ensures makes { Makes Stands AnyTables (done (CardNew card.now deck pos body.now))
+    ensures makes { Makes HoldsTables AnyTables (done (CardNew card.now deck pos body.now))
         (state S.Store tx.old.conn.now) (state S.Store tx.new.conn.now) result }
     ensures sized { Sized (CardNew card.now deck pos body.now)
         (state S.Store tx.old.conn.now) (state S.Store tx.new.conn.now) result }
@@ -82,7 +82,7 @@ pub(crate) fn delete_card<S: Alter>(
     card: &CardRef,
 ) -> Result<(), Error>
     ensures same_reference { tx.new.conn.ghost_name ≡ tx.old.conn.ghost_name }
-    ensures makes { Makes Stands AnyTables (without_card card.now) (state S.Store tx.old.conn.now)
+    ensures makes { Makes HoldsTables AnyTables (without_card card.now) (state S.Store tx.old.conn.now)
         (state S.Store tx.new.conn.now) result }
 {
     run(
@@ -99,7 +99,7 @@ pub(crate) fn insert_entry<S: Alter>(
     entry: &Entry,
 ) -> Result<(), Error>
     ensures same_reference { tx.new.conn.ghost_name ≡ tx.old.conn.ghost_name }
-    ensures makes { Makes Stands AnyTables (done (EntryNew card.now ord entry.now)) (state S.Store tx.old.conn.now)
+    ensures makes { Makes HoldsTables AnyTables (done (EntryNew card.now ord entry.now)) (state S.Store tx.old.conn.now)
         (state S.Store tx.new.conn.now) result }
     ensures sized { Sized (EntryNew card.now ord entry.now)
         (state S.Store tx.old.conn.now) (state S.Store tx.new.conn.now) result }
@@ -122,7 +122,7 @@ pub(crate) fn delete_entries<S: Alter>(
     card: &CardRef,
 ) -> Result<(), Error>
     ensures same_reference { tx.new.conn.ghost_name ≡ tx.old.conn.ghost_name }
-    ensures makes { Makes Stands AnyTables (done (EntriesGone card.now)) (state S.Store tx.old.conn.now)
+    ensures makes { Makes HoldsTables AnyTables (done (EntriesGone card.now)) (state S.Store tx.old.conn.now)
         (state S.Store tx.new.conn.now) result }
     ensures sized { Sized (EntriesGone card.now)
         (state S.Store tx.old.conn.now) (state S.Store tx.new.conn.now) result }
@@ -141,7 +141,7 @@ pub(crate) fn insert_target<S: Alter>(
     target: Target,
 ) -> Result<(), Error>
     ensures same_reference { tx.new.conn.ghost_name ≡ tx.old.conn.ghost_name }
-    ensures makes { Makes Stands AnyTables (done (TargetNew card.now ord target)) (state S.Store tx.old.conn.now)
+    ensures makes { Makes HoldsTables AnyTables (done (TargetNew card.now ord target)) (state S.Store tx.old.conn.now)
         (state S.Store tx.new.conn.now) result }
     ensures sized { KeepsSizes (state S.Store tx.old.conn.now) (state S.Store tx.new.conn.now) result }
 {
@@ -165,7 +165,7 @@ pub(crate) fn delete_targets<S: Alter>(
     card: &CardRef,
 ) -> Result<(), Error>
     ensures same_reference { tx.new.conn.ghost_name ≡ tx.old.conn.ghost_name }
-    ensures makes { Makes Stands AnyTables (done (TargetsGone card.now [])) (state S.Store tx.old.conn.now)
+    ensures makes { Makes HoldsTables AnyTables (done (TargetsGone card.now [])) (state S.Store tx.old.conn.now)
         (state S.Store tx.new.conn.now) result }
     ensures sized { KeepsSizes (state S.Store tx.old.conn.now) (state S.Store tx.new.conn.now) result }
 {
@@ -178,7 +178,7 @@ pub(crate) fn delete_targets<S: Alter>(
 
 pub(crate) fn insert_run<S: Alter>(tx: &mut Transaction<'_, S>, row: &RunRow) -> Result<(), Error>
     ensures same_reference { tx.new.conn.ghost_name ≡ tx.old.conn.ghost_name }
-    ensures makes { Makes Stands AnyTables (with_run row.now) (state S.Store tx.old.conn.now)
+    ensures makes { Makes HoldsTables AnyTables (with_run row.now) (state S.Store tx.old.conn.now)
         (state S.Store tx.new.conn.now) result }
     ensures sized { KeepsSizes (state S.Store tx.old.conn.now) (state S.Store tx.new.conn.now) result }
     ensures was_open { WasOpen (state S.Store tx.old.conn.now) (state S.Store tx.new.conn.now) result }
@@ -204,7 +204,7 @@ pub(crate) fn insert_state<S: Alter>(
     active: bool,
 ) -> Result<(), Error>
     ensures same_reference { tx.new.conn.ghost_name ≡ tx.old.conn.ghost_name }
-    ensures makes { Makes Stands AnyTables (with_state card.now active) (state S.Store tx.old.conn.now)
+    ensures makes { Makes HoldsTables AnyTables (with_state card.now active) (state S.Store tx.old.conn.now)
         (state S.Store tx.new.conn.now) result }
     ensures sized { KeepsSizes (state S.Store tx.old.conn.now) (state S.Store tx.new.conn.now) result }
 {
@@ -220,7 +220,7 @@ pub(crate) fn delete_state<S: Alter>(
     card: &CardRef,
 ) -> Result<(), Error>
     ensures same_reference { tx.new.conn.ghost_name ≡ tx.old.conn.ghost_name }
-    ensures makes { Makes Stands AnyTables (without_state card.now) (state S.Store tx.old.conn.now)
+    ensures makes { Makes HoldsTables AnyTables (without_state card.now) (state S.Store tx.old.conn.now)
         (state S.Store tx.new.conn.now) result }
     ensures sized { KeepsSizes (state S.Store tx.old.conn.now) (state S.Store tx.new.conn.now) result }
 {
@@ -237,7 +237,7 @@ pub(crate) fn insert_count<S: Alter>(
     n: u32,
 ) -> Result<(), Error>
     ensures same_reference { tx.new.conn.ghost_name ≡ tx.old.conn.ghost_name }
-    ensures makes { Makes Stands AnyTables (with_count target n) (state S.Store tx.old.conn.now)
+    ensures makes { Makes HoldsTables AnyTables (with_count target n) (state S.Store tx.old.conn.now)
         (state S.Store tx.new.conn.now) result }
     ensures sized { KeepsSizes (state S.Store tx.old.conn.now) (state S.Store tx.new.conn.now) result }
 {
@@ -259,7 +259,7 @@ pub(crate) fn delete_count<S: Alter>(
     target: Target,
 ) -> Result<(), Error>
     ensures same_reference { tx.new.conn.ghost_name ≡ tx.old.conn.ghost_name }
-    ensures makes { Makes Stands AnyTables (without_count target) (state S.Store tx.old.conn.now)
+    ensures makes { Makes HoldsTables AnyTables (without_count target) (state S.Store tx.old.conn.now)
         (state S.Store tx.new.conn.now) result }
     ensures sized { KeepsSizes (state S.Store tx.old.conn.now) (state S.Store tx.new.conn.now) result }
 {
@@ -277,7 +277,7 @@ pub(crate) fn insert_mark<S: Alter>(
     mark: u64,
 ) -> Result<(), Error>
     ensures same_reference { tx.new.conn.ghost_name ≡ tx.old.conn.ghost_name }
-    ensures makes { Makes Stands AnyTables (with_mark site.now mark) (state S.Store tx.old.conn.now)
+    ensures makes { Makes HoldsTables AnyTables (with_mark site.now mark) (state S.Store tx.old.conn.now)
         (state S.Store tx.new.conn.now) result }
     ensures was_open { WasOpen (state S.Store tx.old.conn.now) (state S.Store tx.new.conn.now) result }
 {
@@ -287,7 +287,7 @@ pub(crate) fn insert_mark<S: Alter>(
 
 pub(crate) fn delete_mark<S: Alter>(tx: &mut Transaction<'_, S>, site: &str) -> Result<(), Error>
     ensures same_reference { tx.new.conn.ghost_name ≡ tx.old.conn.ghost_name }
-    ensures makes { Makes Stands AnyTables (without_mark site.now) (state S.Store tx.old.conn.now)
+    ensures makes { Makes HoldsTables AnyTables (without_mark site.now) (state S.Store tx.old.conn.now)
         (state S.Store tx.new.conn.now) result }
 {
     run(tx, texts::DELETE_MARK, &[values::site(site)])
@@ -299,7 +299,7 @@ pub(crate) fn delete_runs<S: Alter>(
     number: u64,
 ) -> Result<(), Error>
     ensures same_reference { tx.new.conn.ghost_name ≡ tx.old.conn.ghost_name }
-    ensures makes { Makes Stands AnyTables (without_runs site.now number) (state S.Store tx.old.conn.now)
+    ensures makes { Makes HoldsTables AnyTables (without_runs site.now number) (state S.Store tx.old.conn.now)
         (state S.Store tx.new.conn.now) result }
 {
     let up_to = wide(number)?;
@@ -314,7 +314,7 @@ pub(crate) fn move_back<S: Alter>(
     by: u64,
 ) -> Result<(), Error>
     ensures same_reference { tx.new.conn.ghost_name ≡ tx.old.conn.ghost_name }
-    ensures makes { Makes Stands (Fits (CardsMoved deck from (pos by))) (done (CardsMoved deck from (pos by)))
+    ensures makes { Makes HoldsTables (Fits (CardsMoved deck from (pos by))) (done (CardsMoved deck from (pos by)))
         (state S.Store tx.old.conn.now) (state S.Store tx.new.conn.now) result }
     ensures sized { KeepsSizes (state S.Store tx.old.conn.now) (state S.Store tx.new.conn.now) result }
 {
@@ -335,7 +335,7 @@ pub(crate) fn move_up<S: Alter>(
 ) -> Result<(), Error>
     requires { 0 < by }
     ensures same_reference { tx.new.conn.ghost_name ≡ tx.old.conn.ghost_name }
-    ensures makes { Makes Stands (Fits (CardsMoved deck from (negsuc (by - 1))))
+    ensures makes { Makes HoldsTables (Fits (CardsMoved deck from (negsuc (by - 1))))
         (done (CardsMoved deck from (negsuc (by - 1)))) (state S.Store tx.old.conn.now)
         (state S.Store tx.new.conn.now) result }
     ensures sized { KeepsSizes (state S.Store tx.old.conn.now) (state S.Store tx.new.conn.now) result }

@@ -14,7 +14,7 @@ ghost use Rattle.sqlite_wal.specs.Reads.{AreClean};
 ghost use Rattle.upd_row_store.specs.Keeping.{IsLost};
 ghost use Rattle.upd_sql.specs.Making.{no_rows};
 ghost use Rattle.upd_sql.specs.Schema.{library_schema, no_schema};
-ghost use Rattle.upd_sql.specs.Stands.{ShowsTables};
+ghost use Rattle.upd_sql.specs.LibraryTables.{ShowsTables};
 ghost use Rattle.upd_store.specs.Faults.{IsUnopened};
 
 use crate::fault::{fault_of, store_at};

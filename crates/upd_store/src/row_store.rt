@@ -14,8 +14,8 @@ use upd_row_store::{
     RowStore, assembled, assembled_active, assembled_with_rest, decks_by_age, reads_with,
 };
 use upd_sql::{
-    commit_changes, is_library_schema, kept_active, kept_decks_of, kept_library_rows, kept_mark,
-    kept_part, kept_run, kept_states, kept_states_of, settle_site, sizes_after,
+    commit_changes, is_library_schema, settle_site, sizes_after, stored_active, stored_decks_of,
+    stored_library_rows, stored_mark, stored_part, stored_run, stored_states, stored_states_of,
 };
 use upd_sqlite::{Rising, committed_schema};
 use upd_text::Fault;
@@ -59,7 +59,7 @@ impl<S: Rising> RowStore for SqlStore<S> {
         if !is_ours(&self.conn) {
             return Err(refused(&mut self.failures));
         }
-        match kept_library_rows(&mut self.conn, alloc) {
+        match stored_library_rows(&mut self.conn, alloc) {
             Ok(rows) => match assembled(alloc, rows) {
                 Ok(library) => {
                     self.decks_read = reads_with(self.decks_read, &library);
@@ -77,7 +77,7 @@ impl<S: Rising> RowStore for SqlStore<S> {
         }
         let known = self.sizes;
         self.sizes = None;
-        match kept_part(&mut self.conn, alloc, decks, known) {
+        match stored_part(&mut self.conn, alloc, decks, known) {
             Ok(part) => match assembled_with_rest(
                 alloc,
                 part.rows,
@@ -99,7 +99,7 @@ impl<S: Rising> RowStore for SqlStore<S> {
         if !is_ours(&self.conn) {
             return Err(refused(&mut self.failures));
         }
-        match kept_decks_of(&mut self.conn, alloc, cards) {
+        match stored_decks_of(&mut self.conn, alloc, cards) {
             Ok(ages) => Ok(decks_by_age(ages)),
             Err(error) => Err(counted(error, &mut self.failures)),
         }
@@ -109,7 +109,7 @@ impl<S: Rising> RowStore for SqlStore<S> {
         if !is_ours(&self.conn) {
             return Err(refused(&mut self.failures));
         }
-        match kept_states(&mut self.conn, alloc) {
+        match stored_states(&mut self.conn, alloc) {
             Ok(states) => Ok(states),
             Err(error) => Err(counted(error, &mut self.failures)),
         }
@@ -119,7 +119,7 @@ impl<S: Rising> RowStore for SqlStore<S> {
         if !is_ours(&self.conn) {
             return Err(refused(&mut self.failures));
         }
-        match kept_states_of(&mut self.conn, alloc, cards) {
+        match stored_states_of(&mut self.conn, alloc, cards) {
             Ok(states) => Ok(states),
             Err(error) => Err(counted(error, &mut self.failures)),
         }
@@ -129,7 +129,7 @@ impl<S: Rising> RowStore for SqlStore<S> {
         if !is_ours(&self.conn) {
             return Err(refused(&mut self.failures));
         }
-        match kept_active(&mut self.conn, alloc) {
+        match stored_active(&mut self.conn, alloc) {
             Ok(rows) => match assembled_active(alloc, rows.idents, rows.cards, rows.states) {
                 Ok(actives) => Ok(actives),
                 Err(_) => Err(no_memory()),
@@ -142,7 +142,7 @@ impl<S: Rising> RowStore for SqlStore<S> {
         if !is_ours(&self.conn) {
             return Err(refused(&mut self.failures));
         }
-        match kept_run(&mut self.conn, site, number) {
+        match stored_run(&mut self.conn, site, number) {
             Ok(run) => Ok(run),
             Err(error) => Err(counted(error, &mut self.failures)),
         }
@@ -152,7 +152,7 @@ impl<S: Rising> RowStore for SqlStore<S> {
         if !is_ours(&self.conn) {
             return Err(refused(&mut self.failures));
         }
-        match kept_mark(&mut self.conn, site) {
+        match stored_mark(&mut self.conn, site) {
             Ok(mark) => Ok(mark),
             Err(error) => Err(counted(error, &mut self.failures)),
         }

@@ -5,7 +5,7 @@ ghost use Rattle.sqlite.specs.State.{HasCleanDisk, Survives};
 ghost use Rattle.upd_sql.specs.Making.{no_rows, MayMake};
 ghost use Rattle.upd_sql.specs.Schema.{library_schema, no_schema};
 ghost use Rattle.upd_sql.specs.Sizes.{AreOfCommit};
-ghost use Rattle.upd_sql.specs.Stands.{ShowsTables};
+ghost use Rattle.upd_sql.specs.LibraryTables.{ShowsTables};
 ghost use Rattle.upd_store.specs.Faults.{IsUnopened};
 ghost use Rattle.upd_store.specs.Version.{HasVersion};
 

@@ -20,7 +20,7 @@ returns-clause-done g c clean =
     subst (λ h. OnOk c.commit.result (IsTrue (state g.S.Store h).is_open × IsTrue old.is_open × MigratesFrom v old (state g.S.Store h))) same
     (on_ok c.commit.result (c.commit.ensures.ok clean_end)
     (λ ended. committed_whole v old last end c.in_ok-fill.field-0 c.begin-tx.ensures.rise c.begin-tx.ensures.settled
-    (rw begun at c.in_ok-fill.ensures.steps) (λ l rows lib. rw begun at c.in_ok-fill.ensures.leads l rows lib) early ended.1))
+    (rw begun at c.in_ok-fill.ensures.steps) (λ l rows lib. rw begun at c.in_ok-fill.ensures.transforms l rows lib) early ended.1))
 
 pub returns-clause-crash : goal.returns-clause-crash
 returns-clause-crash g c =
@@ -30,7 +30,7 @@ returns-clause-crash g c =
     let begun = c.begin-tx.ensures.begun in
     let v = c.args.version in
     let left = migration_leaves v old last end c.in_ok-fill.field-0 c.begin-tx.ensures.rise c.begin-tx.ensures.settled
-    (rw begun at c.in_ok-fill.ensures.steps) (λ l rows lib. rw begun at c.in_ok-fill.ensures.leads l rows lib) (rw begun at c.in_ok-fill.ensures.was_open)
+    (rw begun at c.in_ok-fill.ensures.steps) (λ l rows lib. rw begun at c.in_ok-fill.ensures.transforms l rows lib) (rw begun at c.in_ok-fill.ensures.was_open)
     c.commit.ensures.survives in
     let same : c.commit.new.self.0 ≡ c.conn-2-1.given.0 = search rules in
     subst (λ h. Survives old (state g.S.Store h) (MayMigrateFrom v old)) same

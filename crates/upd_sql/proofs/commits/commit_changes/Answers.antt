@@ -9,7 +9,7 @@ use Rattle.upd_sqlite.specs.Steps.{Makes}
 use Rattle.upd_sqlite.proofs.Chains.{clean_before, makes_then, makes_as}
 use Rattle.upd_sql.specs.Commits.{MayCommit}
 use Rattle.upd_sql.specs.Sizes.{AnySizes, HasSizes, HoldsSizes, SizedAll, TakeNone, sized_all}
-use Rattle.upd_sql.specs.Stands.{Stands, AnyTables}
+use Rattle.upd_sql.specs.LibraryTables.{HoldsTables, AnyTables}
 use Rattle.upd_sql.proofs.CommitLemmas.{crash_leaves}
 use Rattle.upd_sql.proofs.SizeLemmas.{committed_sizes, on_done}
 use Rattle.upd_sql.proofs.commits.commit_changes.Goals as goal
@@ -22,11 +22,11 @@ returns-clause-crash g c =
     let last = state g.S.Store c.insert_run.new.tx.conn.now in
     let end = state g.S.Store c.commit.new.self.0 in
     let cs = map change_view c.args.changes.now in
-    let made : Makes {X = Unit {0}} Stands (AllFit cs) (done_all cs) begun mid (Ok c.in_ok-carry_out_all.field-0) =
+    let made : Makes {X = Unit {0}} HoldsTables (AllFit cs) (done_all cs) begun mid (Ok c.in_ok-carry_out_all.field-0) =
     rw c.begin-tx.ensures.begun at c.in_ok-carry_out_all.ensures.makes in
-    let whole : Makes {X = Unit {0}} Stands (AllFit cs) (committed cs c.args.row.now) begun last (Ok c.in_ok-insert_run.field-0) =
-    makes_as Stands _ (AllFit cs) _ (committed cs c.args.row.now) begun last (Ok c.in_ok-insert_run.field-0) (λ it fits. (fits, tt)) (λ it. refl)
-    (makes_then Stands (AllFit cs) AnyTables (done_all cs) (with_run c.args.row.now) begun mid last c.in_ok-carry_out_all.field-0
+    let whole : Makes {X = Unit {0}} HoldsTables (AllFit cs) (committed cs c.args.row.now) begun last (Ok c.in_ok-insert_run.field-0) =
+    makes_as HoldsTables _ (AllFit cs) _ (committed cs c.args.row.now) begun last (Ok c.in_ok-insert_run.field-0) (λ it fits. (fits, tt)) (λ it. refl)
+    (makes_then HoldsTables (AllFit cs) AnyTables (done_all cs) (with_run c.args.row.now) begun mid last c.in_ok-carry_out_all.field-0
     (Ok c.in_ok-insert_run.field-0) made c.in_ok-insert_run.ensures.makes) in
     let left = crash_leaves (AllFit cs) (committed cs c.args.row.now) old last end c.in_ok-insert_run.field-0 c.begin-tx.ensures.rise
     c.begin-tx.ensures.settled whole

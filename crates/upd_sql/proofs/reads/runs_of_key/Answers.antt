@@ -7,7 +7,7 @@ use Rattle.sqlite.specs.State.{State, Shown}
 use Rattle.upd_records.specs.Rows.{Rows}
 use Rattle.upd_row_store.specs.Tables.{is_run}
 use Rattle.upd_sql.specs.Encoded.{num, run_row}
-use Rattle.upd_sql.specs.Stands.{Stands}
+use Rattle.upd_sql.specs.LibraryTables.{HoldsTables}
 use Rattle.upd_sql.proofs.Finds.{runs_found, untouched}
 use Rattle.upd_sql.proofs.Typed.{was_open_from}
 use Rattle.upd_sql.proofs.QueryTexts as query
@@ -15,7 +15,7 @@ use Rattle.upd_sql.proofs.reads.runs_of_key.Goals as goal
 
 found : {X : Type 0} (items : X → List Row) (site : List ℕ) (number : ℕ) (old new : State) (r : Result X Error)
     → IfOk r (λ rows. Shown query.run_of_key (Text site ∷ num number ∷ []) old new (items rows))
-    → IfOk r (λ rows. (it : Rows) → Stands it old.now → items rows ≡ map run_row (filter (is_run site number) it.runs))
+    → IfOk r (λ rows. (it : Rows) → HoldsTables it old.now → items rows ≡ map run_row (filter (is_run site number) it.runs))
 found items site number old new (Ok rows) shown = λ it h. runs_found old new (items rows) it h site number shown
 found items site number old new (Err e) shown = tt
 

@@ -4,7 +4,7 @@ use Rattle.sqlite.specs.State.{Survives}
 use Rattle.sqlite.proofs.Callers.{survives_begin}
 use Rattle.upd_sql.specs.Commits.{MayKeep}
 use Rattle.upd_sql.proofs.CommitLemmas.{read_leaves}
-use Rattle.upd_sql.proofs.kept.kept_library_rows.Goals as goal
+use Rattle.upd_sql.proofs.stored.stored_library_rows.Goals as goal
 
 pub returns-in_err-commit-clause-crash : goal.returns-in_err-commit-clause-crash
 returns-in_err-commit-clause-crash g c =

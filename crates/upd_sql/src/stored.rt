@@ -7,7 +7,7 @@ ghost use Rattle.upd_records.specs.Rows.{Rows};
 ghost use Rattle.upd_row_store.specs.Tables.{AreByKey, AreRead, AreReadOf, mark_at, run_at};
 ghost use Rattle.upd_sql.specs.Commits.{MayKeep};
 ghost use Rattle.upd_sql.specs.Schema.{library_schema};
-ghost use Rattle.upd_sql.specs.Stands.{ShowsTables};
+ghost use Rattle.upd_sql.specs.LibraryTables.{ShowsTables};
 ghost use Rattle.upd_row_store.specs.Asked.{AreDecksOf};
 ghost use Rattle.upd_row_store.specs.Assembling.{AreRowsOf};
 ghost use Rattle.upd_sql.specs.Part.{AreActiveRows, IsPart};
@@ -24,7 +24,7 @@ use upd_records::{LibraryRows, RunRow};
 use upd_sqlite::{Rising, begin};
 
 /// The number up to which a site has settled, 0 where it never did.
-pub fn kept_mark<S: Rising>(conn: &mut Connection<S>, site: &str) -> Result<u64, Error>
+pub fn stored_mark<S: Rising>(conn: &mut Connection<S>, site: &str) -> Result<u64, Error>
     requires { conn.old.in_transaction ≡ false }
     ensures outside { conn.new.in_transaction ≡ false }
     ensures was_open { HasCleanDisk (state S.Store conn.new) → IsTrue (state S.Store conn.new).is_open
@@ -45,7 +45,7 @@ pub fn kept_mark<S: Rising>(conn: &mut Connection<S>, site: &str) -> Result<u64,
 }
 
 /// The run that is stored under a key.
-pub fn kept_run<S: Rising>(
+pub fn stored_run<S: Rising>(
     conn: &mut Connection<S>,
     site: &str,
     number: u64,
@@ -70,7 +70,7 @@ pub fn kept_run<S: Rising>(
 }
 
 /// The rows of the four tables that a library is made of.
-pub fn kept_library_rows<S: Rising>(
+pub fn stored_library_rows<S: Rising>(
     conn: &mut Connection<S>,
     alloc: Global,
 ) -> Result<LibraryRows, Error>
@@ -94,7 +94,7 @@ pub fn kept_library_rows<S: Rising>(
 }
 
 /// The status of each card and the count of each target that a live yank card has, by the keys of their tables.
-pub fn kept_states<S: Rising>(conn: &mut Connection<S>, alloc: Global) -> Result<States, Error>
+pub fn stored_states<S: Rising>(conn: &mut Connection<S>, alloc: Global) -> Result<States, Error>
     requires { conn.old.in_transaction ≡ false }
     ensures outside { conn.new.in_transaction ≡ false }
     ensures was_open { HasCleanDisk (state S.Store conn.new) → IsTrue (state S.Store conn.new).is_open
@@ -118,7 +118,7 @@ pub fn kept_states<S: Rising>(conn: &mut Connection<S>, alloc: Global) -> Result
 
 /// The statuses of those of these cards that have one, and the count of each target that a live yank card has, by the
 /// keys of their tables.
-pub fn kept_states_of<S: Rising>(
+pub fn stored_states_of<S: Rising>(
     conn: &mut Connection<S>,
     alloc: Global,
     cards: &[CardRef],
@@ -145,7 +145,7 @@ pub fn kept_states_of<S: Rising>(
 }
 
 /// The ages of the decks in the rows of these cards, 0 for `YANK$$$`. An age may occur more than once.
-pub fn kept_decks_of<S: Rising>(
+pub fn stored_decks_of<S: Rising>(
     conn: &mut Connection<S>,
     alloc: Global,
     cards: &[CardRef],
@@ -171,7 +171,7 @@ pub fn kept_decks_of<S: Rising>(
 
 /// The rows of `YANK$$$` and of the decks of these ages, and the numbers of all cards and entries, which are counted
 /// where they are not known.
-pub fn kept_part<S: Rising>(
+pub fn stored_part<S: Rising>(
     conn: &mut Connection<S>,
     alloc: Global,
     ages: &[Serial],
@@ -201,7 +201,10 @@ pub fn kept_part<S: Rising>(
 }
 
 /// The rows that give the active cards.
-pub fn kept_active<S: Rising>(conn: &mut Connection<S>, alloc: Global) -> Result<ActiveRows, Error>
+pub fn stored_active<S: Rising>(
+    conn: &mut Connection<S>,
+    alloc: Global,
+) -> Result<ActiveRows, Error>
     requires { conn.old.in_transaction ≡ false }
     ensures outside { conn.new.in_transaction ≡ false }
     ensures was_open { HasCleanDisk (state S.Store conn.new) → IsTrue (state S.Store conn.new).is_open

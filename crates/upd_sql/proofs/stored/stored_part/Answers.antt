@@ -4,9 +4,9 @@ use Rattle.sqlite.specs.State.{HasCleanDisk, Survives}
 use Rattle.sqlite.proofs.Callers.{survives_begin}
 use Rattle.upd_sqlite.proofs.Chains.{clean_before}
 use Rattle.upd_sql.specs.Commits.{MayKeep}
-use Rattle.upd_sql.proofs.CommitLemmas.{read_leaves, stands_begun}
+use Rattle.upd_sql.proofs.CommitLemmas.{read_leaves, holds_begun}
 use Rattle.upd_sql.proofs.SizeLemmas.{sizes_shown}
-use Rattle.upd_sql.proofs.kept.kept_part.Goals as goal
+use Rattle.upd_sql.proofs.stored.stored_part.Goals as goal
 
 pub returns-in_err-commit-clause-crash : goal.returns-in_err-commit-clause-crash
 returns-in_err-commit-clause-crash g c =
@@ -31,5 +31,5 @@ returns-clause-found g c clean it shown =
     let early = clean_before last end _ c.commit.ensures.survives (subst (λ h. HasCleanDisk (state g.S.Store h)) (sym same) clean) in
     let was_open = looks.was_open early refl in
     let first = clean_before (record old { in_transaction = true }) last _ looks.steps.survives early in
-    looks.found early it (stands_begun old c.begin-tx.ensures.rise c.begin-tx.ensures.settled was_open it shown)
+    looks.found early it (holds_begun old c.begin-tx.ensures.rise c.begin-tx.ensures.settled was_open it shown)
     (λ n is. sizes_shown n it old.committed shown (c.requires.known n is first was_open))
