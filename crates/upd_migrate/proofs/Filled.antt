@@ -30,19 +30,19 @@ pub states_filled : (l library : LibraryView) (it : Rows) (cs : List ChangeView)
     → ((tables : Rows) (m : LibraryView) → IsSound m → IsWhole m → Shows tables m → AreRowsOf tables rows → library ≡ m)
     → (IsSound library → ShowsStates (done_all cs it) library) → AllByRecursion (λ c. row_changes_state c ≡ true) cs
     → Makes HoldsTables (AllFit cs) (done_all cs) mid new r → Transforms (HoldsTables it) (HoldsAfter (IsFilled l it)) old new r
-states_filled l library it cs old mid new rows (Ok x) lib looks assembles tells only makes = record {
+states_filled l library it cs old mid new rows (Ok x) lib looks assembles shows only makes = record {
   steps = steps_then old mid new rows (Ok x) looks.steps makes.steps;
   transformed = λ clean inside h.
       let early = clean_before mid new _ makes.steps.survives clean in
       let still = looks.same early h.schema_is in
       let is = assembles it l lib.sound lib.whole lib.shows (looks.found early it h) in
-      let shown = subst (ShowsStates (done_all cs it)) is (tells (subst IsSound (sym is) lib.sound)) in (
+      let shown = subst (ShowsStates (done_all cs it)) is (shows (subst IsSound (sym is) lib.sound)) in (
         done_all cs it,
         record { same = all_else_stays cs it only; states = shown },
         makes.made clean (looks.steps.going early inside) it (states_fit cs it only) (subst (HoldsTables it) (sym still) h),
       );
 }
-states_filled l library it cs old mid new rows (Err e) lib looks assembles tells only makes = record {
+states_filled l library it cs old mid new rows (Err e) lib looks assembles shows only makes = record {
   steps = steps_then old mid new rows (Err e) looks.steps makes.steps;
   transformed = λ clean. tt;
 }

@@ -12,7 +12,7 @@ ghost use Rattle.upd_migrate.specs.Migrated.{AreLibraryRows, IsFilled, IsMigrate
 ghost use Rattle.upd_migrate.specs.Older.{schema_of, stored_in};
 
 use crate::completing::complete;
-use crate::telling::statuses;
+use crate::initial_states::initial_states;
 use crate::version::Version;
 use sqlite::{Alter, Error, ErrorCode, Transaction};
 use std::alloc::Global;
@@ -29,7 +29,7 @@ fn fill_states<S: Alter>(tx: &mut Transaction<'_, S>, alloc: Global) -> Result<(
 {
     let rows = library_rows_in(tx, alloc)?;
     let library = assembled(alloc, rows)?;
-    let changes = match statuses(alloc, &library) {
+    let changes = match initial_states(alloc, &library) {
         Ok(changes) => changes,
         Err(_) => return Err(Error::SqliteFailure(ErrorCode::OutOfMemory)),
     };

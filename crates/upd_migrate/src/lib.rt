@@ -7,9 +7,9 @@
 
 mod completing;
 mod filling;
+mod initial_states;
 mod loading;
 mod migrating;
-mod telling;
 mod version;
 
 pub use loading::load_rows;

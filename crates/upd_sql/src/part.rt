@@ -46,9 +46,9 @@ pub struct Part {
     pub sizes: Sizes,
 }
 
-/// Looks at a row that isn't there: a shut connection fails, also where no card follows. It is called so that what is
-/// found says that the connection was open, after a loop with no turn too.
-fn look_at_nothing<S: Alter>(tx: &mut Transaction<'_, S>) -> Result<(), Error>
+/// Fails on a closed connection. A query for each card would not where there is no card. SQLite has no call for it, so
+/// this reads the mark of a site that has none.
+fn check_open<S: Alter>(tx: &mut Transaction<'_, S>) -> Result<(), Error>
     ensures same_reference { tx.new.conn.ghost_name ≡ tx.old.conn.ghost_name }
     ensures looks { Looks (λ _ _. Unit {0}) (state S.Store tx.old.conn.now) (state S.Store tx.new.conn.now) result }
 {
@@ -85,7 +85,7 @@ pub(crate) fn decks_in<S: Alter>(
     ensures looks { Looks (λ it found. AreDecksOf cards.now it.cards found.items) (state S.Store tx.old.conn.now)
         (state S.Store tx.new.conn.now) result }
 {
-    look_at_nothing(tx)?;
+    check_open(tx)?;
     let mut ages = Vec::new(alloc);
     for card in cards {
         let found = decks_of_card(tx, alloc, card)?;
@@ -167,7 +167,7 @@ pub(crate) fn of_idents<S: Alter, T: Record + Drop>(
         → Looks (λ it found. IsSame found.items (filter (λ x. is_of_ident cards.now (card_of x)) (listed it)))
         (state S.Store tx.old.conn.now) (state S.Store tx.new.conn.now) result }
 {
-    look_at_nothing(tx)?;
+    check_open(tx)?;
     let mut asked = BTreeSet::new(alloc);
     let mut found = Vec::new(alloc);
     for card in cards {

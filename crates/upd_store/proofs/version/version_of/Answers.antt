@@ -6,10 +6,10 @@ use Rattle.upd_store.specs.Version.{HasVersion}
 use Rattle.upd_store.proofs.version.version_of.Goals as goal
 
 -- outside a transaction what is there is what was committed
-told_outside : (old last : State) (n : ℕ) → HasCleanDisk last → (IsTrue old.is_open → old.now ≡ old.committed)
+found_outside : (old last : State) (n : ℕ) → HasCleanDisk last → (IsTrue old.is_open → old.now ≡ old.committed)
     → WasOpen {X = ℕ} (record old { in_transaction = true }) last (Ok n) → (HasCleanDisk last → (v : ℕ) → HasVersion v old.now → n ≡ v)
     → (v : ℕ) → HasVersion v old.committed → n ≡ v
-told_outside old last n clean settled was_open value v h = value clean v (subst (HasVersion v) (sym (settled (was_open clean refl))) h)
+found_outside old last n clean settled was_open value v h = value clean v (subst (HasVersion v) (sym (settled (was_open clean refl))) h)
 
 pub returns-clause-value : goal.returns-clause-value
 returns-clause-value g c clean =
@@ -17,5 +17,5 @@ returns-clause-value g c clean =
     let last = state g.S.Store c.version_in.new.tx.conn.now in
     let begun = c.begin-tx.ensures.begun in
     let early : HasCleanDisk last = search rules in
-    told_outside old last c.in_ok-version.version early c.begin-tx.ensures.settled (rw begun at c.in_ok-version.ensures.was_open)
+    found_outside old last c.in_ok-version.version early c.begin-tx.ensures.settled (rw begun at c.in_ok-version.ensures.was_open)
     (rw begun at c.in_ok-version.ensures.value)

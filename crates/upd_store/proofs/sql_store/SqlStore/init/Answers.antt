@@ -5,11 +5,11 @@ use Rattle.sqlite.specs.Held.{state}
 use Rattle.upd_store.specs.Version.{HasVersion}
 use Rattle.upd_store.proofs.sql_store.SqlStore.init.Goals as goal
 
-named : (Tells : ℕ → Type 0) (found : Result ℕ Error) (at : ℕ) → IfOk found (λ n. (v : ℕ) → Tells v → n ≡ v)
+named : (Has : ℕ → Type 0) (found : Result ℕ Error) (at : ℕ) → IfOk found (λ n. (v : ℕ) → Has v → n ≡ v)
     → MatchResult found (λ n. at ≡ n) (λ _. at ≡ 0)
-    → (v : ℕ) → Tells v → (at ≡ v) ⊎ (at ≡ 0)
-named Tells (Ok n) at value is v h = inl (is ∙ value v h)
-named Tells (Err e) at value is v h = inr is
+    → (v : ℕ) → Has v → (at ≡ v) ⊎ (at ≡ 0)
+named Has (Ok n) at value is v h = inl (is ∙ value v h)
+named Has (Err e) at value is v h = inr is
 
 pub returns-then-not-is_no_schema-clause-version : goal.returns-then-not-is_no_schema-clause-version
 returns-then-not-is_no_schema-clause-version g c clean =

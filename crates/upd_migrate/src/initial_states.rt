@@ -18,7 +18,7 @@ use upd_yank::Cache;
 
 /// The changes that set the status of each card of a library and the count of each target: those of a status update after
 /// one run that added everything. The only fault is NoMemory, also where there are 2^32 yank cards or more.
-pub(crate) fn statuses(alloc: Global, library: &Library) -> Result<Vec<Change>, Fault>
+pub(crate) fn initial_states(alloc: Global, library: &Library) -> Result<Vec<Change>, Fault>
     ensures states { IsSound library.now → (rows : Rows) → rows.states ≡ [] → rows.counts ≡ [] → IfOk result
         (λ changes. ShowsStates (done_all (map change_view changes.items) rows) library.now) }
     ensures only { IfOk result (λ changes.
