@@ -3,7 +3,7 @@
 //! No clause of a connection says so, and what INSERT and DELETE do to a table, row by row, rests on it. Here it is a
 //! law of the store, true of the store over files and of the one in memory, so that nothing has to be read again to
 //! know it of a connection in hand.
-ghost use Rattle.std.specs.Prelude.{◌≡◌, false, IsTrue};
+ghost use Rattle.std.specs.Prelude.{◌≡◌, false, true, IsTrue};
 ghost use Rattle.sqlite.specs.Held.{state};
 ghost use Rattle.upd_sqlite.specs.Rising.{Rises, TablesRise};
 
