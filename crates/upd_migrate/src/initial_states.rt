@@ -1,4 +1,4 @@
-//! The statuses and counts of a library, told as row changes.
+//! The statuses and counts of a library, as row changes.
 ghost use Rattle.std.specs.Prelude.{◌≡◌, [], map, true, IfOk};
 ghost use Rattle.std.specs.List.{AllByRecursion};
 ghost use Rattle.std.specs.Result.{IsOkUnless};
@@ -16,9 +16,9 @@ use upd_diff::compare;
 use upd_text::{Fault, FaultKind};
 use upd_yank::Cache;
 
-/// The changes that tell the status of each card of a library and the count of each target: those of a settling after
-/// one run that brought it all. Memory alone can fail, where there are 2^32 yank cards or more as well.
-pub(crate) fn statuses(alloc: Global, library: &Library) -> Result<Vec<Change>, Fault>
+/// The changes that set the status of each card of a library and the count of each target: those of a status update after
+/// one run that added everything. The only fault is NoMemory, also where there are 2^32 yank cards or more.
+pub(crate) fn initial_states(alloc: Global, library: &Library) -> Result<Vec<Change>, Fault>
     ensures states { IsSound library.now → (rows : Rows) → rows.states ≡ [] → rows.counts ≡ [] → IfOk result
         (λ changes. ShowsStates (done_all (map change_view changes.items) rows) library.now) }
     ensures only { IfOk result (λ changes.

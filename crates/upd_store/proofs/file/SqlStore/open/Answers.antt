@@ -1,7 +1,7 @@
 use Rattle.std.proofs.Common.{arith}
 use Rattle.sqlite.specs.Files.{file_state}
 use Rattle.upd_store.proofs.Opening.{found_still}
-use Rattle.upd_store.proofs.file.open.Goals as goal
+use Rattle.upd_store.proofs.file.SqlStore.open.Goals as goal
 
 pub returns-in-Ok-adopt-clause-found : goal.returns-in-Ok-adopt-clause-found
 returns-in-Ok-adopt-clause-found g c = λ clean is_open.

@@ -9,7 +9,7 @@ use Rattle.upd_diff.specs.Touched.{touched}
 use Rattle.upd_laws.proofs.SoundRunLemmas.{empty_sound}
 use Rattle.upd_yank.specs.Right.{IsRight}
 use Rattle.upd_migrate.proofs.RowChanges.{between, enough, none_gone, shows_nothing}
-use Rattle.upd_migrate.proofs.telling.statuses.Goals as goal
+use Rattle.upd_migrate.proofs.initial_states.initial_states.Goals as goal
 
 pub returns-clause-states : goal.returns-clause-states
 returns-clause-states c = λ sound rows states counts.

@@ -1,4 +1,4 @@
--- When the tables stand in a database.
+-- When a database holds the tables of a library.
 use Rattle.sqlite.specs.Effect.{Database}
 use Rattle.upd_records.specs.Rows.{Rows}
 use Rattle.upd_sqlite.specs.Stored.{HasAllRows, HoldsAllRows}
@@ -10,8 +10,8 @@ abbrev pub ShowsTables : Rows → Database → Type 0
 ShowsTables rows = HasAllRows library_schema (stored rows)
 
 -- the same, and in each table the rowids rise
-abbrev pub Stands : Rows → Database → Type 0
-Stands rows = HoldsAllRows library_schema (stored rows)
+abbrev pub HoldsTables : Rows → Database → Type 0
+HoldsTables rows = HoldsAllRows library_schema (stored rows)
 
 -- no condition on the tables
 abbrev pub AnyTables : Rows → Type 0

@@ -1,6 +1,5 @@
-//! What is kept, read in transactions of their own. An error is want of memory, a failure of the disk, or a file whose
-//! tables or rows are no library's; none of these calls changes a table. `is_autocommit` is called for its clause
-//! alone: outside a transaction the tables are those of the last commit.
+//! What is stored, each read in a transaction of its own. An error is out of memory, a failure of the disk, or a file
+//! whose tables or rows are not a library's. None of these calls changes a table.
 ghost use Rattle.std.specs.Prelude.{◌≡◌, false, IfOk, IsTrue, OnOk};
 ghost use Rattle.sqlite.specs.Held.{state};
 ghost use Rattle.sqlite.specs.State.{HasCleanDisk, Survives};
@@ -8,7 +7,7 @@ ghost use Rattle.upd_records.specs.Rows.{Rows};
 ghost use Rattle.upd_row_store.specs.Tables.{AreByKey, AreRead, AreReadOf, mark_at, run_at};
 ghost use Rattle.upd_sql.specs.Commits.{MayKeep};
 ghost use Rattle.upd_sql.specs.Schema.{library_schema};
-ghost use Rattle.upd_sql.specs.Stands.{ShowsTables};
+ghost use Rattle.upd_sql.specs.LibraryTables.{ShowsTables};
 ghost use Rattle.upd_row_store.specs.Asked.{AreDecksOf};
 ghost use Rattle.upd_row_store.specs.Assembling.{AreRowsOf};
 ghost use Rattle.upd_sql.specs.Part.{AreActiveRows, IsPart};
@@ -22,10 +21,10 @@ use sqlite::{Connection, Error};
 use std::alloc::Global;
 use upd_core::{CardRef, Serial, States};
 use upd_records::{LibraryRows, RunRow};
-use upd_sqlite::{Rising, note_order_outside};
+use upd_sqlite::{Rising, begin};
 
 /// The number up to which a site has settled, 0 where it never did.
-pub fn kept_mark<S: Rising>(conn: &mut Connection<S>, site: &str) -> Result<u64, Error>
+pub fn stored_mark<S: Rising>(conn: &mut Connection<S>, site: &str) -> Result<u64, Error>
     requires { conn.old.in_transaction ≡ false }
     ensures outside { conn.new.in_transaction ≡ false }
     ensures was_open { HasCleanDisk (state S.Store conn.new) → IsTrue (state S.Store conn.new).is_open
@@ -39,16 +38,14 @@ pub fn kept_mark<S: Rising>(conn: &mut Connection<S>, site: &str) -> Result<u64,
     ensures found { HasCleanDisk (state S.Store conn.new) → IfOk result (λ mark. (it : Rows)
         → ShowsTables it (state S.Store conn.old).committed → mark ≡ mark_at site.now it) }
 {
-    note_order_outside(conn);
-    let _outside = conn.is_autocommit();
-    let mut tx = conn.transaction();
+    let mut tx = begin(conn);
     let mark = reads::mark_in(&mut tx, site)?;
     tx.commit()?;
     Ok(mark)
 }
 
-/// The run that is kept under a key.
-pub fn kept_run<S: Rising>(
+/// The run that is stored under a key.
+pub fn stored_run<S: Rising>(
     conn: &mut Connection<S>,
     site: &str,
     number: u64,
@@ -66,16 +63,14 @@ pub fn kept_run<S: Rising>(
     ensures found { HasCleanDisk (state S.Store conn.new) → IfOk result
         (λ run. (it : Rows) → ShowsTables it (state S.Store conn.old).committed → run ≡ run_at site.now number it) }
 {
-    note_order_outside(conn);
-    let _outside = conn.is_autocommit();
-    let mut tx = conn.transaction();
+    let mut tx = begin(conn);
     let run = reads::run_in(&mut tx, site, number)?;
     tx.commit()?;
     Ok(run)
 }
 
 /// The rows of the four tables that a library is made of.
-pub fn kept_library_rows<S: Rising>(
+pub fn stored_library_rows<S: Rising>(
     conn: &mut Connection<S>,
     alloc: Global,
 ) -> Result<LibraryRows, Error>
@@ -92,16 +87,14 @@ pub fn kept_library_rows<S: Rising>(
     ensures found { HasCleanDisk (state S.Store conn.new) → IfOk result
         (λ found. (it : Rows) → ShowsTables it (state S.Store conn.old).committed → AreRowsOf it found) }
 {
-    note_order_outside(conn);
-    let _outside = conn.is_autocommit();
-    let mut tx = conn.transaction();
+    let mut tx = begin(conn);
     let found = whole::library_rows_in(&mut tx, alloc)?;
     tx.commit()?;
     Ok(found)
 }
 
 /// The status of each card and the count of each target that a live yank card has, by the keys of their tables.
-pub fn kept_states<S: Rising>(conn: &mut Connection<S>, alloc: Global) -> Result<States, Error>
+pub fn stored_states<S: Rising>(conn: &mut Connection<S>, alloc: Global) -> Result<States, Error>
     requires { conn.old.in_transaction ≡ false }
     ensures outside { conn.new.in_transaction ≡ false }
     ensures was_open { HasCleanDisk (state S.Store conn.new) → IsTrue (state S.Store conn.new).is_open
@@ -117,9 +110,7 @@ pub fn kept_states<S: Rising>(conn: &mut Connection<S>, alloc: Global) -> Result
     ensures order { HasCleanDisk (state S.Store conn.new) → IfOk result
         (λ found. (it : Rows) → ShowsTables it (state S.Store conn.old).committed → AreByKey found) }
 {
-    note_order_outside(conn);
-    let _outside = conn.is_autocommit();
-    let mut tx = conn.transaction();
+    let mut tx = begin(conn);
     let found = whole::all_states_in(&mut tx, alloc)?;
     tx.commit()?;
     Ok(found)
@@ -127,7 +118,7 @@ pub fn kept_states<S: Rising>(conn: &mut Connection<S>, alloc: Global) -> Result
 
 /// The statuses of those of these cards that have one, and the count of each target that a live yank card has, by the
 /// keys of their tables.
-pub fn kept_states_of<S: Rising>(
+pub fn stored_states_of<S: Rising>(
     conn: &mut Connection<S>,
     alloc: Global,
     cards: &[CardRef],
@@ -147,16 +138,14 @@ pub fn kept_states_of<S: Rising>(
     ensures order { HasCleanDisk (state S.Store conn.new) → IfOk result
         (λ found. (it : Rows) → ShowsTables it (state S.Store conn.old).committed → AreByKey found) }
 {
-    note_order_outside(conn);
-    let _outside = conn.is_autocommit();
-    let mut tx = conn.transaction();
+    let mut tx = begin(conn);
     let found = statuses::card_states_in(&mut tx, alloc, cards)?;
     tx.commit()?;
     Ok(found)
 }
 
-/// The ages of the decks in the rows of these cards, 0 for `YANK$$$`. An age may stand there more than once.
-pub fn kept_decks_of<S: Rising>(
+/// The ages of the decks in the rows of these cards, 0 for `YANK$$$`. An age may occur more than once.
+pub fn stored_decks_of<S: Rising>(
     conn: &mut Connection<S>,
     alloc: Global,
     cards: &[CardRef],
@@ -174,17 +163,15 @@ pub fn kept_decks_of<S: Rising>(
     ensures found { HasCleanDisk (state S.Store conn.new) → IfOk result (λ found. (it : Rows)
         → ShowsTables it (state S.Store conn.old).committed → AreDecksOf cards.now it.cards found.items) }
 {
-    note_order_outside(conn);
-    let _outside = conn.is_autocommit();
-    let mut tx = conn.transaction();
+    let mut tx = begin(conn);
     let found = part::decks_in(&mut tx, alloc, cards)?;
     tx.commit()?;
     Ok(found)
 }
 
-/// The rows of `YANK$$$` and of the decks of these ages, and how many cards and entries there are in all: counted where
-/// the numbers aren't known.
-pub fn kept_part<S: Rising>(
+/// The rows of `YANK$$$` and of the decks of these ages, and the numbers of all cards and entries, which are counted
+/// where they are not known.
+pub fn stored_part<S: Rising>(
     conn: &mut Connection<S>,
     alloc: Global,
     ages: &[Serial],
@@ -207,16 +194,17 @@ pub fn kept_part<S: Rising>(
         (λ found. (state S.Store conn.old).committed.schema ≡ library_schema
         → HasSizes found.sizes (state S.Store conn.new).committed.trees) }
 {
-    note_order_outside(conn);
-    let _outside = conn.is_autocommit();
-    let mut tx = conn.transaction();
+    let mut tx = begin(conn);
     let found = part::part_in(&mut tx, alloc, ages, known)?;
     tx.commit()?;
     Ok(found)
 }
 
-/// The rows by which the active cards are told.
-pub fn kept_active<S: Rising>(conn: &mut Connection<S>, alloc: Global) -> Result<ActiveRows, Error>
+/// The rows that give the active cards.
+pub fn stored_active<S: Rising>(
+    conn: &mut Connection<S>,
+    alloc: Global,
+) -> Result<ActiveRows, Error>
     requires { conn.old.in_transaction ≡ false }
     ensures outside { conn.new.in_transaction ≡ false }
     ensures was_open { HasCleanDisk (state S.Store conn.new) → IsTrue (state S.Store conn.new).is_open
@@ -230,9 +218,7 @@ pub fn kept_active<S: Rising>(conn: &mut Connection<S>, alloc: Global) -> Result
     ensures found { HasCleanDisk (state S.Store conn.new) → IfOk result
         (λ found. (it : Rows) → ShowsTables it (state S.Store conn.old).committed → AreActiveRows it found) }
 {
-    note_order_outside(conn);
-    let _outside = conn.is_autocommit();
-    let mut tx = conn.transaction();
+    let mut tx = begin(conn);
     let found = active::active_in(&mut tx, alloc)?;
     tx.commit()?;
     Ok(found)
