@@ -195,14 +195,14 @@ impl State {
         Ok(())
     }
 
-    /// The set in hand; else NoIdent.
+    /// The current set; else NoIdent.
     pub(crate) fn known_set(&self) -> Result<CurrentSet, FaultKind>
         ensures { result ≡ need fault.NoIdent self.now.current_set }
     {
         self.current_set.ok_or(FaultKind::NoIdent)
     }
 
-    /// The set in hand, for text inside a deck; else TextNowhere.
+    /// The current set, for text inside a deck; else TextNowhere.
     fn set_for_text(&self) -> Result<CurrentSet, FaultKind>
         ensures { result ≡ need fault.TextNowhere self.now.current_set }
     {
