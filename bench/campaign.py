@@ -3,7 +3,7 @@
 
     python3 bench/campaign.py [--executable FILE] [--seed N] [--requests N] [--spools N] [--kills N] [--frames N]
 
-Each answer has to be one of those that docs/rules.md defines, and what was answered has to be there afterwards. The exit status is 1 where it isn't.
+Each answer has to be one of those that docs/protocol.md defines, and what was answered has to be there afterwards. The exit status is 1 where it isn't.
 """
 
 import argparse

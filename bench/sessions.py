@@ -1,13 +1,12 @@
 #!/usr/bin/env python3
-"""Holds the sessions that stand in documents against the executable: each command is typed again, and must answer what stands there.
+"""Types the sessions of documents again, and compares each answer with the document.
 
     python3 bench/sessions.py [--executable FILE] [--write] DOCUMENT..
 
-A session is a fenced block whose first line begins with `$ `: a command, up to the end of its here-document if it has one; what follows, up to the next
-command, is what it writes to both streams. Blanks are held as one, and so is ` .. `, which stands for blanks that are left out. All sessions of a document are
-one shell in a new folder, with the executable (crates/upd/out/upd where none is named) on the path as `upd`. A block whose first line names files `1.run`,
-`2.run`, .. at the heads of columns gives these files. The session at the head of README.md, two commands side by side, isn't typed. --write puts what was
-answered in the place of what stands there; read it before you keep it. The exit status is 1 where an answer differs, or a document has no session.
+A session is a fenced block whose first line begins with `$ `. A command goes to the end of its here-document, if it has one. What follows, up to the next
+command, is what it writes to both streams. Several blanks count as one, and so does ` .. `, which replaces blanks. All sessions of a document are one shell in
+a new folder, with the executable (crates/upd/out/upd where none is named) on the path as `upd`. --write replaces the answers in the document by those that
+were given; read them before you keep them. The exit status is 1 where an answer differs, or a document has no session.
 """
 
 import argparse
@@ -53,17 +52,6 @@ def commands(lines, start, end):
         yield "\n".join([lines[first][2:]] + lines[first + 1:answer]), answer, at
 
 
-def files(lines, start, end):
-    """The files that stand side by side in a block, whose names head their columns."""
-    heads = [(m.group(), m.start()) for m in re.finditer(r"\S+\.run", lines[start])]
-    found = {}
-    for place, (name, left) in enumerate(heads):
-        right = heads[place + 1][1] if place + 1 < len(heads) else None
-        column = [line[left:right].rstrip() for line in lines[start + 1:end]]
-        found[name] = "".join(text + "\n" for text in column if text)
-    return found
-
-
 def answers(typed, folder, executables):
     """What each command writes, in one shell."""
     script = "".join(f"{command}\nsleep 0.2\nprintf '\\n%s\\n' '{MARK}'\n" for command in typed)
@@ -85,15 +73,12 @@ def shortened(line):
 
 
 def held(document, executables, write):
-    """Whether each answer is the one that stands in the document."""
+    """Whether each answer is the one in the document."""
     lines = Path(document).read_text().split("\n")
     sessions, typed = [], []
     with tempfile.TemporaryDirectory() as folder:
         for start, end in blocks(lines):
-            if re.match(r"\S+\.run\s", lines[start]):
-                for name, text in files(lines, start, end).items():
-                    (Path(folder) / name).write_text(text)
-            elif lines[start].startswith("$ ") and "cat insert.run" not in lines[start]:
+            if lines[start].startswith("$ "):
                 sessions += list(commands(lines, start, end))
         typed = [command for command, _, _ in sessions]
         given = answers(typed, folder, executables)

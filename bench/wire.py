@@ -3,7 +3,7 @@
 
     python3 bench/wire.py [--executable FILE] [--times]
 
-Each line tells a request, what it got and whether that is what docs/rules.md says. With --times the processor time of `upd` is told too: of the
+Each line tells a request, what it got and whether that is what docs/protocol.md says. With --times the processor time of `upd` is told too: of the
 requests to a library of 500 cards, of spools of 10,000 runs, of a run on a full library, and of the start. The exit status is 1 where an answer differs or a budget is passed.
 """
 

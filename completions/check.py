@@ -3,9 +3,9 @@
 
     python3 completions/check.py [--executable FILE]
 
-Each command of `upd --help` stands in each of them, and no other; the man page has each command's words as its `--help` has them, and groff, which has to
-be there, sets it without a warning. bash, and fish where it is there, are asked what they complete. The executable is crates/upd/out/upd where none is named. The
-exit status is 1 where something differs.
+Each of them has the commands of `upd --help`, and no others. The man page has each command's words as its `--help` has them, and groff, which is
+required, formats it without a warning. bash, and fish where it is installed, are asked what they complete. The default executable is
+crates/upd/out/upd. The exit status is 1 where something differs.
 """
 
 import argparse
@@ -25,7 +25,7 @@ def said(*words):
 
 MODES = ["full", "normal", "quick"]
 
-# How bash is asked for the completions of the words behind its script, the last of which is at hand.
+# Asks bash for the completions of the words after its script, the last of which is being typed.
 BASH = 'source "$0"; COMP_WORDS=("$@"); COMP_CWORD=$(($# - 1)); _upd; printf "%s\\n" "${COMPREPLY[@]}"'
 
 
@@ -40,7 +40,7 @@ def completed(folder, shell, line):
 
 
 def asked(shell, commands):
-    """What a shell completes otherwise than it should."""
+    """Lines that a shell completes wrongly."""
     wanted = {"upd ": sorted(commands), "upd ser": ["serve"], "upd trial ": MODES, "upd run library.db LYON 1 ": MODES, "upd run library.db LYON ": []}
     wanted |= {f"upd {command} ": ["library.db"] for command in commands if command != "trial"}
     with tempfile.TemporaryDirectory() as folder:
@@ -50,9 +50,9 @@ def asked(shell, commands):
 
 
 def groff_says():
-    """What groff has to say of the man page, in lines."""
+    """The warnings of groff on the man page, in lines."""
     if not shutil.which("groff"):
-        return ["groff isn't there, and the man page wasn't set"]
+        return ["groff is not installed, so the man page was not checked"]
     return subprocess.run(["groff", "-man", "-Tutf8", "-ww", ROOT / "man/upd.1"], capture_output=True, check=False, text=True).stderr.splitlines()
 
 

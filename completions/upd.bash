@@ -5,8 +5,8 @@ _upd() {
     case $COMP_CWORD,$command in
         1,*) words="trial init run settle spool serve compile list history idents yanks migrate --help --version" ;;
         2,trial | 5,run) words="full quick normal --help" ;;
-        2,*) mapfile -t COMPREPLY < <(compgen -f -- "$word"; compgen -W --help -- "$word"); return ;;
+        2,*) compopt -o filenames 2> /dev/null; mapfile -t COMPREPLY < <(compgen -f -- "$word"; compgen -W --help -- "$word"); return ;;
     esac
     mapfile -t COMPREPLY < <(compgen -W "$words" -- "$word")
 }
-complete -o filenames -F _upd upd
+complete -F _upd upd

@@ -1,17 +1,21 @@
 #!/bin/sh
-# Hands in the runs of one site, in order, and keeps the replies. It can be stopped and started again at any moment.
+# Sends the runs of one site to a library, in order, and stores the replies. It can be killed and started again at any time.
 #
 #     site.sh FOLDER SITE FILE     runs go to the library in FILE, by the program UPD (`upd` unless it is set)
 #     site.sh FOLDER SITE URL      runs go to a server, as http://127.0.0.1:8080, by curl
 #
-# Put a run into FOLDER/outbox under a name that ends in its mode, as fix-12.full, by a rename, so that it is whole when it
-# is there. In the order of names each gets the next number, and moves to FOLDER/sent/NUMBER.MODE; its reply comes to
+# Put a run into FOLDER/outbox under a name that ends in its mode, as fix-12.full. Use a rename, so that the file is complete
+# when it appears. In the order of names each gets the next number, and moves to FOLDER/sent/NUMBER.MODE. Its reply comes to
 # FOLDER/replies/NUMBER.json. A run keeps its number and its bytes until it is answered, so it acts once, however often it
 # is sent. When all that was sent is answered, the site settles: the library forgets replies that the site has.
 #
-# Exit status: 0 all is answered and settled; 1 a run was refused without a reply, as for its site, or because its number
-# is settled or was used for another run; 2 not three words; 3 the desk gave no answer after TRIES tries, PAUSE seconds
-# apart (10 and 5 unless they are set), or a file can't be moved, or the settlement failed: start the script again.
+# Files with other suffixes stay in the outbox. A refused run has a reply too: look for "state":"refused" in FOLDER/replies.
+# Start the script only once at a time for a folder, as with `flock FOLDER sh site.sh ..`.
+#
+# Exit status: 0 all is answered and settled; 1 a run was refused without a reply, for its site or its length, say, or because
+# its number is settled or was used for another run: rename FOLDER/sent/NUMBER.MODE to NUMBER.refused, put the corrected run
+# into the outbox, and start the script again; 2 not three words; 3 no answer after TRIES tries, PAUSE seconds apart (10 and
+# 5 unless they are set), or a file can't be moved, or the settlement failed: start the script again.
 set -u
 
 if [ $# -ne 3 ]; then
@@ -22,14 +26,14 @@ folder=$1 site=$2 desk=$3
 upd=${UPD:-upd} tries=${TRIES:-10} pause=${PAUSE:-5}
 mkdir -p "$folder/outbox" "$folder/sent" "$folder/replies" || exit 3
 
-# The greatest number that was given to a run, 0 where there is none.
+# The greatest number that was given to a run, 0 without one.
 last_number() {
     for run in "$folder/sent"/*; do
         echo "${run##*/}"
     done | sed -n 's/^\([1-9][0-9]*\)\.[a-z]*$/\1/p' | sort -n | tail -n 1 | grep . || echo 0
 }
 
-# Gives each run in the outbox its number. A rename is whole or not done at all.
+# Gives each run in the outbox its number. A rename happens wholly or not at all.
 number_runs() {
     number=$(last_number)
     for run in "$folder/outbox"/*.full "$folder/outbox"/*.quick "$folder/outbox"/*.normal; do
@@ -48,7 +52,7 @@ send() {
     case $desk in
     http://* | https://*)
         status=$(curl --silent --max-time 60 --output "$part" --write-out '%{http_code}' \
-            --data-binary "@$run" "$desk/sites/$site/runs/$number/$mode") || return 3 # an answer that is cut is none
+            --data-binary "@$run" "$desk/sites/$site/runs/$number/$mode") || return 3 # a truncated answer does not count
         case $status in
         200 | 422) return 0 ;;
         000 | 5??) return 3 ;;
@@ -59,14 +63,14 @@ send() {
         "$upd" run "$desk" "$site" "$number" "$mode" <"$run" >"$part"
         case $? in
         0) return 0 ;;
-        1) grep -q '"state":"refused"' "$part" ;; # a refused run has a reply; what has none is refused for good
+        1) grep -q '"state":"refused"' "$part" ;; # a refused run has a reply; without one it is refused for good
         *) return 3 ;;
         esac
         ;;
     esac
 }
 
-# Sends a run until it is answered, and keeps the answer.
+# Sends a run until it is answered, and stores the answer.
 send_until_answered() {
     left=$tries
     while [ "$left" -gt 0 ]; do
@@ -102,10 +106,14 @@ number_runs || exit 3
 last=$(last_number)
 number=1
 while [ "$number" -le "$last" ]; do
-    if [ ! -e "$folder/replies/$number.json" ]; then
-        set -- "$folder/sent/$number".*
-        send_until_answered "$number" "${1##*.}"
-    fi
+    set -- "$folder/sent/$number".*
+    case $1 in
+    *.full | *.quick | *.normal) # a number without such a file is not used
+        if [ ! -e "$folder/replies/$number.json" ]; then
+            send_until_answered "$number" "${1##*.}"
+        fi
+        ;;
+    esac
     number=$((number + 1))
 done
 if [ "$last" -gt 0 ]; then

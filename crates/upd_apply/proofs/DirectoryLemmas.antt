@@ -1,4 +1,4 @@
--- The directory goes on with each line.
+-- Each line extends the directory.
 use Rattle.std.proofs.Common.{◌≡◌, ℕ, ◌+◌, ◌-◌, Bool, true, false, not, List, [], ◌∷◌, ◌++◌, map, length, take, drop, inl, inr, refl, sym, subst, ◌∙◌}
 use Rattle.std.specs.Prelude.{◌==◌, ◌&&◌, ◌||◌, ◌⊎◌, nat_lt, nat_le, insert, cond, Result, Ok, Err, IfOk}
 use Rattle.upd_text.specs.declared.card_ref.CardRef.{CardRef}
@@ -72,7 +72,7 @@ same_idents age change l = go (age == 0)
 
 -- ---- lines
 
--- the directory of a state goes on in another
+-- the directory of a state is extended by another
 abbrev pub GoesOn : State → State → Type 0
 GoesOn s t = Continues s.library.idents t.library.idents
 

@@ -1,4 +1,4 @@
--- A filter in a loop: what is found so far, and what is still to come.
+-- A filter in a loop: what is found so far, and what remains.
 use Rattle.std.proofs.Common.{◌≡◌, ℕ, ◌+◌, ◌<◌, Bool, true, false, if◌then◌else◌, List, [], ◌∷◌, ◌++◌, map, length, drop, get_or, ap, sym, ◌∙◌, append_assoc}
 use Rattle.std.specs.List.{filter}
 use Rattle.std.proofs.lemmas.List.{drop_more}
@@ -9,7 +9,7 @@ one_more : {X Y : Type 0} (f : X → Y) (test : X → Bool) (x : X) (xs : List X
 one_more f test x xs found now true e is = ap (λ t. t ++ map f (filter test xs)) is ∙ append_assoc found (f x ∷ []) (map f (filter test xs))
 one_more f test x xs found now false e is = ap (λ t. t ++ map f (filter test xs)) is
 
--- the step of the loop at an element x, where b is what the test says
+-- the step of the loop at an element x, where b is the result of the test
 pub filter_more : {X Y : Type 0} (f : X → Y) (test : X → Bool) (xs : List X) (i : ℕ) (x : X) (found now whole : List Y)
     (b : Bool) → i < length xs → x ≡ get_or xs i x → b ≡ test x → now ≡ (if b then found ++ f x ∷ [] else found)
     → found ++ map f (filter test (drop i xs)) ≡ whole → now ++ map f (filter test (drop (i + 1) xs)) ≡ whole

@@ -1,4 +1,4 @@
--- A list with each element once, as a loop finds it: an element comes to the end unless it is there.
+-- A list without repetitions, as a loop finds it: an element is appended unless it is there.
 use Rattle.std.proofs.Common.{◌≡◌, ℕ, ◌+◌, ◌<◌, map, length, drop, get_or, Bool, true, false, not, ◌&&◌, ◌||◌, if◌then◌else◌, List, [], ◌∷◌, ◌++◌}
 use Rattle.std.proofs.Common.{Result, Ok, Err, refl, ap, sym, ◌∙◌, subst, append_assoc, append-nil}
 use Rattle.std.specs.List.{filter, list_any}
@@ -90,12 +90,12 @@ once-append same equal xs ys = sym (from_none same equal (xs ++ ys)) ∙ all_app
 
 -- ---- what a loop has found
 
--- one more element comes to the end, unless it is there
+-- one more element is appended, unless it is there
 pub one_more : {A : Type 0} (same : A → A → Bool) → AreEqual same → (found now : List A) (x : A) → once same found ≡ found
     → now ≡ with_one same found x → now ≡ once same (found ++ x ∷ [])
 one_more same equal found now x apart is = is ∙ sym (once-append same equal found (x ∷ []) ∙ ap (λ zs. with_one same zs x) apart)
 
--- behind elements that stand once, what comes is found as behind all those named
+-- appending to a list whose repetitions were removed finds the same as appending to the list itself
 pub goes_on : {A : Type 0} (same : A → A → Bool) → AreEqual same → (found more now rest : List A) → now ≡ once same (found ++ more)
     → once same now ≡ now → once same (now ++ rest) ≡ once same (found ++ (more ++ rest))
 goes_on same equal found more now rest is apart =
@@ -115,7 +115,7 @@ all_apart : {A : Type 0} (same : A → A → Bool) → AreEqual same → (found 
 all_apart same equal found [] apart = apart
 all_apart same equal found (x ∷ xs) apart = all_apart same equal (with_one same found x) xs (one_apart same equal found x apart)
 
--- what stands once stands once
+-- a list without repetitions is unchanged
 pub once_once : {A : Type 0} (same : A → A → Bool) → AreEqual same → (now xs : List A) → now ≡ once same xs → once same now ≡ now
 once_once same equal now xs is =
     let all : once same (with_all same [] xs) ≡ with_all same [] xs = all_apart same equal [] xs refl in
@@ -129,7 +129,7 @@ one_turn : {B E : Type 0} (same : B → B → Bool) → AreEqual same → (found
 one_turn same equal found more now (Ok last) is = ap Ok (goes_on same equal found more now last is (once_once same equal now (found ++ more) is))
 one_turn same equal found more now (Err e) is = refl
 
--- it gives more
+-- it returns more
 pub once_more : {A B E : Type 0} (same : B → B → Bool) → AreEqual same → (f : A → Result (List B) E) (xs : List A) (i : ℕ) (x : A)
     (found now more : List B) (whole : Result (List B) E) → i < length xs → x ≡ get_or xs i x → f x ≡ Ok more → now ≡ once same (found ++ more)
     → each f (drop i xs) >>= (λ last. Ok (once same (found ++ last))) ≡ whole
@@ -147,7 +147,7 @@ once_refused same f xs i x found e whole within read gives so_far =
     sym so_far ∙ ap (λ ys. each f ys >>= (λ last. Ok (once same (found ++ last)))) (drop_more xs i x within ∙ ap (λ y. y ∷ drop (i + 1) xs) (sym read))
     ∙ ap (λ r. (r >>= (λ more. each f (drop (i + 1) xs) >>= (λ last. Ok (more ++ last)))) >>= (λ last. Ok (once same (found ++ last)))) gives
 
--- ---- the turn of a loop that adds what f and g make of the element x, if that passes the test
+-- ---- the turn of a loop that adds f and g of the element x, if x passes the test
 
 pub filter_once : {X Y A : Type 0} (same : A → A → Bool) → AreEqual same → (f : Y → A) (g : X → Y) (test : X → Bool) (xs : List X) (i : ℕ) (x : X)
     (found now whole : List A) (b : Bool) → i < length xs → x ≡ get_or xs i x → b ≡ test x

@@ -1,4 +1,4 @@
--- A step raises the next number by one at most.
+-- A step raises the next number by at most 1.
 use Rattle.std.proofs.Common.{◌≡◌, ℕ, ◌+◌, ◌≤◌, Bool, true, false, not, ◌||◌, List, [], ◌∷◌, if◌then◌else◌, refl, subst, arith}
 use Rattle.std.specs.Prelude.{◌==◌, nat_lt, Result, Ok, Err}
 use Rattle.std.specs.Result.{IfOk}

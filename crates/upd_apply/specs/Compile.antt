@@ -9,7 +9,7 @@ use Rattle.upd_deck.specs.declared.item.NameRange.{NameRange}
 use Rattle.upd_deck.specs.Items.{ItemView, LineView, Compile}
 use Rattle.upd_apply.specs.Names.{Ages, ages_by, is_in, known_deck}
 
--- the ages of a range of decks
+-- the serials of a range of decks
 abbrev pub range_ages : LibraryView → NameRange → Result (List Ages) FaultKind
 range_ages l range = do
   ages ← ages_by known_deck range l
@@ -20,15 +20,15 @@ abbrev pub line_ranges : LibraryView → ItemView → Result (List Ages) FaultKi
 line_ranges l (Compile ranges) = each (range_ages l) ranges
 line_ranges l _ = Ok []
 
--- the ranges of decks that lines name, in their order
+-- the ranges of decks that lines name, in order
 abbrev pub ranges_named : List LineView → LibraryView → Result (List Ages) Fault
 ranges_named lines l = each (λ line. at_line line.number (line_ranges l line.item)) lines
 
--- the held decks in any of these ranges, by age
+-- the held decks in any of these ranges, in order of serial
 abbrev pub decks_in_any : List Ages → LibraryView → List ℕ
 decks_in_any ranges l = map (λ i. i.age) (filter (λ i. i.held && is_deck_kind i.kind && list_any (λ r. is_in r i.age) ranges) l.idents)
 
--- the decks that lines name, by age
+-- the decks that lines name, in order of serial
 abbrev pub named_decks : List LineView → LibraryView → Result (List ℕ) Fault
 named_decks lines l = do
   ranges ← ranges_named lines l

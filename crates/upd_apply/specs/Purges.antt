@@ -1,4 +1,4 @@
--- What the fields of a purge name.
+-- The idents and decks that the fields of a purge name.
 use Rattle.std.specs.Prelude.{ℕ, ◌==◌, List, [], ◌∷◌, Result, Ok}
 use Rattle.upd_text.specs.declared.fault.FaultKind.{FaultKind}
 use Rattle.upd_text.specs.declared.fault.FaultKind.TheVariants as fault
@@ -28,12 +28,12 @@ range_decks l range = do
 abbrev pub decks_purged : List NameRange → LibraryView → Result (List ℕ) FaultKind
 decks_purged ranges l = each (range_decks l) ranges
 
--- An ident in a deck, by age.
+-- The serials of an ident and a deck.
 pub record AgesIn : Type 0 where
   pub deck : ℕ
   pub ident : ℕ
 
--- an ident in a deck; the deck's own ident stays
+-- the ident and deck of a pair; the deck's own ident is refused
 abbrev pub pair_ages : LibraryView → IdentIn → Result (List AgesIn) FaultKind
 pair_ages l pair = do
   d ← known_deck pair.deck l
@@ -41,6 +41,6 @@ pair_ages l pair = do
   _ ← refuse_if (z == d) fault.DeckCard
   Ok (record { deck = d; ident = z } ∷ [])
 
--- the idents in decks that `*SELPURGE` names
+-- the idents and decks that `*SELPURGE` names
 abbrev pub pairs_purged : List IdentIn → LibraryView → Result (List AgesIn) FaultKind
 pairs_purged pairs l = each (pair_ages l) pairs

@@ -1,4 +1,4 @@
-//! Whole runs, and purging back.
+//! Applying whole runs, and purging back.
 ghost use Rattle.std.specs.Prelude.{◌≡◌, ◌+◌, ◌^◌, ◌<◌, map, drop, length, Ok, IfErr, IfOk, OnErr};
 ghost use Rattle.upd_core.specs.Edits.{purged_back};
 ghost use Rattle.upd_records.specs.Changes.{change_view, done_all};
@@ -21,21 +21,21 @@ use upd_deck::{Line, Run};
 use upd_diff::{Compared, compare};
 use upd_text::{CardRef, Fault};
 
-/// What a run left besides the library.
+/// The results of a run, besides the new library.
 #[derive(Debug, Drop)]
 pub struct Applied {
-    /// The ages of the idents that it introduced.
+    /// The serials of the idents that it introduced.
     pub idents: Vec<Serial>,
-    /// The ages of the decks that `*COMPILE` named.
+    /// The serials of the decks that `*COMPILE` named.
     pub compile: Vec<Serial>,
-    /// The cards that weren't there before, or whose history differs from before, by deck (`YANK$$$` first) and place.
+    /// The cards that are new or whose history differs, in order of deck (`YANK$$$` first) and place.
     pub touched: Vec<CardRef>,
-    /// The row changes by which a store follows it, in the order in which they are carried out.
+    /// The row changes by which a store follows the run, in the order in which they are carried out.
     pub changes: Vec<Change>,
 }
 
-/// Applies a run. A refusal is at the line that it stands at, want of memory at 0; either leaves the library as it was.
-/// What is answered lives in `alloc`; the library keeps its own allocator.
+/// Applies a run. A refusal has the number of its line; NoMemory is at 0. After either the library is unchanged. The
+/// results are allocated in `alloc`; the library keeps its own allocator.
 pub fn apply(alloc: Global, library: &mut Library, run: &Run) -> Result<Applied, Fault>
     ensures ok { IfOk result (λ a. applied run.now library.old
         ≡ Ok (record { library = library.new; idents = a.idents.items; compile = a.compile.items })) }
@@ -58,7 +58,7 @@ pub fn apply(alloc: Global, library: &mut Library, run: &Run) -> Result<Applied,
     Ok(applied)
 }
 
-/// What a run left besides the library, from the library before and after it.
+/// The results of a run, from the library before and after it.
 fn outcome(
     alloc: Global,
     before: &Library,
@@ -90,15 +90,15 @@ fn outcome(
     })
 }
 
-/// Purges the ident of an age and all younger ones. It takes no memory, and an age that no ident has is no fault. The
-/// program doesn't call it.
+/// Purges the ident with a serial and all younger ones. It does not allocate. A serial that no ident has changes
+/// nothing.
 pub fn purge_back(library: &mut Library, age: Serial)
     ensures { library.new ≡ purged_back age library.old }
 {
     library.purge_from(age);
 }
 
-/// Takes the lines one after the other, up to the first refusal.
+/// Applies the lines in order, up to the first refusal.
 fn take_steps(state: &mut State, lines: &[Line]) -> Result<(), Fault>
     requires { next_most state.old + length lines.now < 2 ^ 32 }
     ensures { DoesAt result state.new (stepped lines.now state.old) }
@@ -109,7 +109,7 @@ fn take_steps(state: &mut State, lines: &[Line]) -> Result<(), Fault>
     Ok(())
 }
 
-/// What a line does; a refusal is at its line.
+/// Applies a line. A refusal has the line's number.
 fn take_step(state: &mut State, line: &Line) -> Result<(), Fault>
     requires { next_most state.old + 1 < 2 ^ 32 }
     ensures { DoesAt result state.new (at_line line.now.number (step line.now state.old)) }
@@ -120,7 +120,7 @@ fn take_step(state: &mut State, line: &Line) -> Result<(), Fault>
     }
 }
 
-/// The ages of idents from an index on.
+/// The serials of idents, from an index on.
 fn ages_from(alloc: Global, idents: &[Ident], from: usize) -> Result<Vec<Serial>, AllocError>
     ensures { IfOk result (λ ages. ages.items ≡ map (λ i. i.age) (drop from idents.now)) }
 {

@@ -1,4 +1,4 @@
-//! `*COMPILE`: the decks that the lines of a run name, looked up once all lines have acted.
+//! `*COMPILE`: the decks that the lines of a run name. They are looked up after all lines have been applied.
 ghost use Rattle.std.specs.Prelude.{◌≡◌, ◌&&◌, map, IfOk};
 ghost use Rattle.std.specs.List.{filter, list_any};
 ghost use Rattle.upd_core.specs.Library.{is_deck_kind};
@@ -12,7 +12,7 @@ use upd_core::{Ident, Library, Serial};
 use upd_deck::{Item, Line, NameRange};
 use upd_text::{Fault, FaultKind};
 
-/// The ages of the decks that lines name, each once.
+/// The serials of the decks that lines name, each once, in rising order. A refusal has the number of its line.
 pub(crate) fn named_decks(
     alloc: Global,
     library: &Library,
@@ -37,7 +37,7 @@ fn ranges_named(alloc: Global, library: &Library, lines: &[Line]) -> Result<Vec<
     Ok(found)
 }
 
-/// The ranges of decks that a line names: none where it isn't `*COMPILE`.
+/// The ranges of decks that a line names; none unless it is `*COMPILE`.
 fn line_ranges(alloc: Global, library: &Library, line: &Line) -> Result<Vec<AgeRange>, Fault>
     ensures { GivesAt (λ found. found.items) result (at_line line.now.number (line_ranges library.now line.now.item)) }
 {
@@ -51,7 +51,7 @@ fn line_ranges(alloc: Global, library: &Library, line: &Line) -> Result<Vec<AgeR
     }
 }
 
-/// The ages of ranges of decks.
+/// The serials of ranges of decks.
 fn range_ages(
     alloc: Global,
     library: &Library,
@@ -67,7 +67,7 @@ fn range_ages(
     Ok(found)
 }
 
-/// The ages of the held decks in any of these ranges.
+/// The serials of the held decks in any of these ranges.
 fn decks_in_any(
     alloc: Global,
     idents: &[Ident],
@@ -94,7 +94,7 @@ fn is_deck_in_any(ident: &Ident, ranges: &[AgeRange]) -> bool
     ident.held && ident.kind.is_deck() && is_in_any(ranges, ident.age)
 }
 
-/// Whether an age lies in any of these ranges.
+/// Whether a serial is in any of these ranges.
 fn is_in_any(ranges: &[AgeRange], age: Serial) -> bool
     ensures { result ≡ list_any (λ r. is_in r age) ranges.now }
 {

@@ -1,4 +1,7 @@
-//! Applies a correction run to a library: what each line does, whole runs, and purging back.
+//! Applying correction runs to a library: the effect of each line, whole runs, and purging back.
+//!
+//! `apply` is the entry point; `docs/rules.md` has the rules. Besides the refusals of the rules only NoMemory occurs,
+//! when memory runs out.
 #![tactic(auto)]
 
 pub mod applying;
@@ -11,3 +14,4 @@ mod yanks;
 
 pub use applying::{Applied, apply, purge_back};
 pub use state::{CurrentSet, InsertPoint, State};
+pub use step::numbers_rise_by_one;

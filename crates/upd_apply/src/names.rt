@@ -1,4 +1,4 @@
-//! Names and ranges of names, looked up in a library.
+//! Looking up names and ranges of names in a library.
 ghost use Rattle.std.specs.Prelude.{◌≡◌, false, MatchResult};
 ghost use Rattle.upd_apply.specs.Step.{new_name};
 ghost use Rattle.upd_apply.specs.Names.{ages_by, is_in, is_reserved, known_deck, known_ident};
@@ -8,7 +8,7 @@ use upd_core::{Library, Serial};
 use upd_deck::NameRange;
 use upd_text::{FaultKind, Name};
 
-/// Ages from one to another.
+/// A range of serials, both ends included.
 #[derive(Clone, Copy)]
 pub struct AgeRange {
     pub from: Serial,
@@ -26,7 +26,7 @@ impl Model for AgeRange {
 }
 
 impl AgeRange {
-    /// Whether an age lies in the range.
+    /// Whether a serial is in the range.
     pub(crate) fn has(&self, age: Serial) -> bool
         ensures { result ≡ is_in self.now age }
     {
@@ -34,14 +34,14 @@ impl AgeRange {
     }
 }
 
-/// Whether a name is that of the deck of yank cards.
+/// Whether a name is `YANK$$$`.
 fn is_reserved(name: &Name) -> bool
     ensures { result ≡ is_reserved name.now }
 {
     *name == Name::yank()
 }
 
-/// Refuses a name that a new ident may not have: Reserved or NameTaken.
+/// Refuses a name that a new ident may not have, with Reserved or NameTaken.
 pub(crate) fn new_name(library: &Library, name: &Name) -> Result<(), FaultKind>
     ensures { MatchResult result
         (λ _. new_name name.now library.now ≡ Ok false)
@@ -56,7 +56,7 @@ pub(crate) fn new_name(library: &Library, name: &Name) -> Result<(), FaultKind>
     Ok(())
 }
 
-/// The age of the held ident of a name; else Reserved or IdentUnknown.
+/// The serial of the held ident with a name; else Reserved or IdentUnknown.
 pub(crate) fn known_ident(library: &Library, name: &Name) -> Result<Serial, FaultKind>
     ensures { result ≡ known_ident name.now library.now }
 {
@@ -66,7 +66,7 @@ pub(crate) fn known_ident(library: &Library, name: &Name) -> Result<Serial, Faul
     library.ident_of(name).ok_or(FaultKind::IdentUnknown)
 }
 
-/// The age of the held deck of a name; else Reserved or DeckUnknown.
+/// The serial of the held deck with a name; else Reserved or DeckUnknown.
 pub(crate) fn known_deck(library: &Library, name: &Name) -> Result<Serial, FaultKind>
     ensures { result ≡ known_deck name.now library.now }
 {
@@ -76,7 +76,7 @@ pub(crate) fn known_deck(library: &Library, name: &Name) -> Result<Serial, Fault
     library.deck_of(name).ok_or(FaultKind::DeckUnknown)
 }
 
-/// The ages of a range of idents; else Reserved, IdentUnknown or RangeOrder.
+/// The serials of a range of idents; else Reserved, IdentUnknown or RangeOrder.
 pub(crate) fn ident_ages(library: &Library, range: &NameRange) -> Result<AgeRange, FaultKind>
     ensures { result ≡ ages_by known_ident range.now library.now }
 {
@@ -88,7 +88,7 @@ pub(crate) fn ident_ages(library: &Library, range: &NameRange) -> Result<AgeRang
     Ok(AgeRange { from, to })
 }
 
-/// The ages of a range of decks; else Reserved, DeckUnknown or RangeOrder.
+/// The serials of a range of decks; else Reserved, DeckUnknown or RangeOrder.
 pub(crate) fn deck_ages(library: &Library, range: &NameRange) -> Result<AgeRange, FaultKind>
     ensures { result ≡ ages_by known_deck range.now library.now }
 {

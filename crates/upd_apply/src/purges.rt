@@ -1,12 +1,12 @@
-//! The purges: `*PURGE`, `*SELPURGE`, `*PURDECK`, and the idents that they name.
-ghost use Rattle.std.specs.Prelude.{◌≡◌, ◌&&◌, [], ◌++◌, map, OnOk};
+//! Purges: `*PURGE`, `*SELPURGE`, `*PURDECK`, and the idents that they name.
+ghost use Rattle.std.specs.Prelude.{◌≡◌, ◌&&◌, [], ◌∷◌, ◌++◌, map, Ok, Err, MatchResult, OnOk};
 ghost use Rattle.std.specs.List.{filter};
 ghost use Rattle.upd_core.specs.Library.{is_deck_kind};
 ghost use Rattle.upd_text.specs.Outcome.{Does, Gives};
 ghost use Rattle.upd_deck.specs.Items.{PurDeck, Purge, PurgeFrom, SelPurge};
 ghost use Rattle.upd_apply.specs.Step.{ended, line_done, purged_in_all};
 ghost use Rattle.upd_apply.specs.Names.{is_in};
-ghost use Rattle.upd_apply.specs.Purges.{decks_purged, idents_purged, pairs_purged};
+ghost use Rattle.upd_apply.specs.Purges.{decks_purged, idents_purged, pair_ages, pairs_purged};
 
 use crate::names::{AgeRange, deck_ages, ident_ages, known_deck, known_ident};
 use crate::state::{InsertPoint, State};
@@ -16,7 +16,7 @@ use upd_core::{Ident, Library, Serial};
 use upd_deck::{IdentIn, NameRange};
 use upd_text::{FaultKind, Name};
 
-/// An ident in a deck, by age.
+/// The serials of an ident and a deck.
 #[derive(Clone, Copy)]
 pub struct AgePair {
     pub deck: Serial,
@@ -33,7 +33,7 @@ impl Model for AgePair {
     ghost inverse = { λ a. record { deck = a.deck; ident = a.ident } };
 }
 
-/// Purges need no set in hand, and leave none.
+/// Purges need no current set, and clear it.
 impl State {
     /// `*PURGE` of names and ranges.
     pub(crate) fn purge_idents(&mut self, ranges: &[NameRange]) -> Result<(), FaultKind>
@@ -47,7 +47,9 @@ impl State {
 
     /// `*PURGE` of an ident and all younger ones.
     pub(crate) fn purge_from(&mut self, name: &Name) -> Result<(), FaultKind>
-        ensures { Does result self.new (line_done (PurgeFrom name.now) [] self.old) }
+        ensures { MatchResult result
+            (λ _. line_done (PurgeFrom name.now) [] self.old ≡ Ok self.new)
+            (λ e. line_done (PurgeFrom name.now) [] self.old ≡ Err e) }
     {
         let age = known_ident(&self.library, name)?;
         self.library.purge_from(age);
@@ -55,7 +57,7 @@ impl State {
         Ok(())
     }
 
-    /// `*SELPURGE`: idents from decks.
+    /// `*SELPURGE`: idents, each in one deck.
     pub(crate) fn purge_pairs(&mut self, pairs: &[IdentIn]) -> Result<(), FaultKind>
         ensures { Does result self.new (line_done (SelPurge pairs.now) [] self.old) }
     {
@@ -75,7 +77,7 @@ impl State {
         Ok(())
     }
 
-    /// A purge leaves no set in hand and no place of text.
+    /// Clears the current set and the insertion point, as each purge does.
     fn end(&mut self)
         ensures { self.new ≡ ended self.old.library }
     {
@@ -84,7 +86,7 @@ impl State {
     }
 }
 
-/// Purges idents from decks, one after the other.
+/// Purges idents, each in one deck, in order.
 fn purge_in_all(library: &mut Library, pairs: &[AgePair])
     ensures { library.new ≡ purged_in_all pairs.now library.old }
 {
@@ -93,7 +95,7 @@ fn purge_in_all(library: &mut Library, pairs: &[AgePair])
     }
 }
 
-/// The ages of the idents that `*PURGE` names.
+/// The serials of the idents that `*PURGE` names.
 pub(crate) fn idents_purged(
     library: &Library,
     ranges: &[NameRange],
@@ -108,7 +110,7 @@ pub(crate) fn idents_purged(
     Ok(found)
 }
 
-/// The ages of the decks that `*PURDECK` names.
+/// The serials of the decks that `*PURDECK` names.
 pub(crate) fn decks_purged(
     library: &Library,
     ranges: &[NameRange],
@@ -123,23 +125,33 @@ pub(crate) fn decks_purged(
     Ok(found)
 }
 
-/// The idents in decks that `*SELPURGE` names.
+/// The idents and decks that `*SELPURGE` names. DeckCard where an ident is the deck's own.
 pub(crate) fn pairs_purged(library: &Library, pairs: &[IdentIn]) -> Result<Vec<AgePair>, FaultKind>
     ensures { Gives (λ found. found.items) result (pairs_purged pairs.now library.now) }
 {
     let mut found = Vec::new(library.allocator());
     for pair in pairs {
-        let deck = known_deck(library, &pair.deck)?;
-        let ident = known_ident(library, &pair.ident)?;
-        if ident == deck {
-            return Err(FaultKind::DeckCard);
-        }
-        found.push(AgePair { deck, ident })?;
+        let ages = pair_ages(library, pair)?;
+        found.push(ages)?;
     }
     Ok(found)
 }
 
-/// Adds the ages of the held idents in a range.
+/// An ident in a deck, which isn't the deck's own; else Reserved, DeckUnknown, IdentUnknown or DeckCard.
+fn pair_ages(library: &Library, pair: &IdentIn) -> Result<AgePair, FaultKind>
+    ensures { MatchResult result
+        (λ ages. pair_ages library.now pair.now ≡ Ok (ages ∷ []))
+        (λ e. pair_ages library.now pair.now ≡ Err e) }
+{
+    let deck = known_deck(library, &pair.deck)?;
+    let ident = known_ident(library, &pair.ident)?;
+    if ident == deck {
+        return Err(FaultKind::DeckCard);
+    }
+    Ok(AgePair { deck, ident })
+}
+
+/// Adds the serials of the held idents in a range.
 fn add_idents(found: &mut Vec<Serial>, idents: &[Ident], ages: AgeRange) -> Result<(), AllocError>
     ensures { OnOk result (found.new.items
         ≡ found.old.items ++ map (λ i. i.age) (filter (λ i. i.held && is_in ages i.age) idents.now)) }
@@ -152,7 +164,7 @@ fn add_idents(found: &mut Vec<Serial>, idents: &[Ident], ages: AgeRange) -> Resu
     Ok(())
 }
 
-/// Adds the ages of the held decks in a range.
+/// Adds the serials of the held decks in a range.
 fn add_decks(found: &mut Vec<Serial>, idents: &[Ident], ages: AgeRange) -> Result<(), AllocError>
     ensures { OnOk result (found.new.items
         ≡ found.old.items

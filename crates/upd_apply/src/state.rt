@@ -1,11 +1,11 @@
-//! A run under way: the set in hand and the place of text, and what idents, decks, corrections and text do to it.
-ghost use Rattle.std.specs.Prelude.{◌≡◌, ◌+◌, ◌^◌, ◌<◌, ◌≤◌, [], length, Some, MatchResult};
+//! The state of a run in progress, and the directives for idents, decks, corrections and text.
+ghost use Rattle.std.specs.Prelude.{◌≡◌, ◌+◌, ◌^◌, ◌<◌, ◌≤◌, ◌==◌, ◌||◌, false, nat_lt, not, [], length, Some, Ok, Err, MatchResult};
 ghost use Rattle.upd_core.specs.Edits.{new_card, next_age};
 ghost use Rattle.upd_core.specs.Library.{place_of};
-ghost use Rattle.upd_text.specs.Outcome.{Does, need};
+ghost use Rattle.upd_text.specs.Outcome.{Does, need, refuse_if};
 ghost use Rattle.upd_text.specs.declared.fault.FaultKind.TheVariants as fault;
 ghost use Rattle.upd_apply.specs.Applying.{started};
-ghost use Rattle.upd_apply.specs.declared.state.InsertPoint.TheVariants.{End, Inside};
+ghost use Rattle.upd_apply.specs.declared.state.InsertPoint.TheVariants.{End, Inside, Nowhere};
 ghost use Rattle.upd_apply.specs.Numbers.{next_most};
 ghost use Rattle.upd_apply.specs.Step.{behind, deck_begun, is_deck_card, placed_after, placed_before, set_begun, within_limits};
 ghost use Rattle.upd_apply.specs.Step.{switched, text_put};
@@ -15,25 +15,25 @@ use upd_core::{Card, Deck, Entry, Kind, Library, Place, Serial};
 use upd_text::limits::MAX_INTRODUCED;
 use upd_text::{CardRef, FaultKind, Name};
 
-/// The correction set in hand, and the number that its next card gets.
+/// The correction set that lines act for, and the number of its next card.
 #[derive(Clone, Copy)]
 pub struct CurrentSet {
     pub ident: Serial,
     pub next: u32,
 }
 
-/// The place of text: where the next text goes. (A `Place` is where a card stands.)
+/// The place where the next text goes. (A `Place` is the place of a card.)
 #[derive(Clone, Copy)]
 pub enum InsertPoint {
     Nowhere,
-    /// The end of a deck that this run brought, and the number that its next card gets.
+    /// The end of a deck that this run introduced, and the number of its next card.
     End { deck: Serial, next: u32 },
-    /// Inside a deck, with so many of its cards behind. Text does not move the spot: the next text goes behind this
-    /// one, and as many cards stand behind that.
+    /// Inside a deck, in front of its last `behind` cards. It stays valid when text is inserted there: the next text
+    /// follows this one.
     Inside { deck: Serial, behind: usize },
 }
 
-/// A run under way: the library so far, the set in hand, and the place of text.
+/// The state of a run in progress: the library so far, the current set and the insertion point.
 #[derive(Drop)]
 pub struct State {
     pub(crate) library: Library,
@@ -41,9 +41,9 @@ pub struct State {
     pub(crate) insert_point: InsertPoint,
 }
 
-/// What each line does. A refused line may leave the state half changed: the run is then thrown away with it.
+/// The effect of each directive. A refused line may leave the state half changed; the run then discards it.
 impl State {
-    /// A run begins with no set in hand and no place of text.
+    /// The state before the first line: no current set and no insertion point.
     pub(crate) fn new(library: Library) -> State
         ensures { result ≡ started library }
     {
@@ -54,7 +54,7 @@ impl State {
         }
     }
 
-    /// `*IDENT`: a new set is in hand.
+    /// `*IDENT`: introduces a set, which is the current one.
     pub(crate) fn begin_set(&mut self, name: &Name) -> Result<(), FaultKind>
         ensures { Does result self.new (set_begun name.now self.old) }
     {
@@ -67,7 +67,7 @@ impl State {
         Ok(())
     }
 
-    /// `*DECK` and `*COMDECK`: a new deck, whose first card is the line.
+    /// `*DECK` and `*COMDECK`: introduces a deck, whose first card is the line. The current set stays.
     pub(crate) fn begin_deck(
         &mut self,
         name: &Name,
@@ -87,15 +87,15 @@ impl State {
         Ok(())
     }
 
-    /// `*INSERT`: text goes behind a card.
+    /// `*INSERT`: the next text follows a card.
     pub(crate) fn place_after(&mut self, card: &CardRef) -> Result<(), FaultKind>
-        ensures { Does result self.new (placed_after card.now self.old) }
+        ensures { MatchResult result
+            (λ _. placed_after card.now self.old ≡ Ok self.new)
+            (λ e. placed_after card.now self.old ≡ Err e) }
     {
-        self.current_set.ok_or(FaultKind::NoIdent)?;
+        self.known_set()?;
         let place = known_card(&self.library, card)?;
-        if place.deck == 0 {
-            return Err(FaultKind::YankText);
-        }
+        refuse_yanks(place.deck)?;
         self.insert_point = InsertPoint::Inside {
             deck: place.deck,
             behind: behind(&self.library, place),
@@ -103,18 +103,16 @@ impl State {
         Ok(())
     }
 
-    /// `*BEFORE`: text goes before a card.
+    /// `*BEFORE`: the next text precedes a card.
     pub(crate) fn place_before(&mut self, card: &CardRef) -> Result<(), FaultKind>
-        ensures { Does result self.new (placed_before card.now self.old) }
+        ensures { MatchResult result
+            (λ _. placed_before card.now self.old ≡ Ok self.new)
+            (λ e. placed_before card.now self.old ≡ Err e) }
     {
-        self.current_set.ok_or(FaultKind::NoIdent)?;
+        self.known_set()?;
         let place = known_card(&self.library, card)?;
-        if place.deck == 0 {
-            return Err(FaultKind::YankText);
-        }
-        if is_deck_card(place) {
-            return Err(FaultKind::DeckCard);
-        }
+        refuse_yanks(place.deck)?;
+        refuse_deck_card(place)?;
         self.insert_point = InsertPoint::Inside {
             deck: place.deck,
             behind: behind(&self.library, place) + 1,
@@ -122,7 +120,7 @@ impl State {
         Ok(())
     }
 
-    /// `*DELETE` and `*RESTORE`: an entry on each card of a range; text goes behind the last.
+    /// `*DELETE` and `*RESTORE`: appends an entry to each card of a range; the next text follows the last card.
     pub(crate) fn switch(
         &mut self,
         active: bool,
@@ -131,15 +129,11 @@ impl State {
     ) -> Result<(), FaultKind>
         ensures { Does result self.new (switched active first.now last.now self.old) }
     {
-        let current_set = self.current_set.ok_or(FaultKind::NoIdent)?;
+        let current_set = self.known_set()?;
         let from = known_card(&self.library, first)?;
         let to = known_last(&self.library, first, from, last)?;
-        if from.deck != to.deck || to.index < from.index {
-            return Err(FaultKind::RangeOrder);
-        }
-        if is_deck_card(from) {
-            return Err(FaultKind::DeckCard);
-        }
+        refuse_disorder(from, to)?;
+        refuse_deck_card(from)?;
         let behind = behind(&self.library, to);
         let entry = Entry {
             ident: current_set.ident,
@@ -154,10 +148,11 @@ impl State {
         Ok(())
     }
 
-    /// Text and calls: a card at the place of text.
+    /// Text and calls: inserts a card at the insertion point.
     pub(crate) fn put_text(&mut self, text: &[u8]) -> Result<(), FaultKind>
         requires { next_most self.old + 1 < 2 ^ 32 }
-        ensures { Does result self.new (text_put text.now self.old.insert_point self.old) }
+        ensures done { Does result self.new (text_put text.now self.old.insert_point self.old) }
+        ensures nowhere { self.old.insert_point ≡ Nowhere → result ≡ Err fault.TextNowhere }
     {
         match self.insert_point {
             InsertPoint::Nowhere => Err(FaultKind::TextNowhere),
@@ -166,7 +161,7 @@ impl State {
         }
     }
 
-    /// Text at the end of a deck that this run brought: it takes the deck's next number.
+    /// Text at the end of a deck that this run introduced: it gets the deck's next number.
     fn put_at_end(&mut self, deck: Serial, next: u32, text: &[u8]) -> Result<(), FaultKind>
         requires insert_point { self.old.insert_point ≡ End deck next }
         requires number { next_most self.old + 1 < 2 ^ 32 }
@@ -182,16 +177,14 @@ impl State {
         Ok(())
     }
 
-    /// Text inside a deck: it takes the next number of the set in hand.
+    /// Text inside a deck: it gets the next number of the current set.
     fn put_inside(&mut self, deck: Serial, behind: usize, text: &[u8]) -> Result<(), FaultKind>
         requires insert_point { self.old.insert_point ≡ Inside deck behind }
         requires number { next_most self.old + 1 < 2 ^ 32 }
         ensures { Does result self.new (text_put text.now self.old.insert_point self.old) }
     {
-        let CurrentSet { ident, next } = self.current_set.ok_or(FaultKind::TextNowhere)?;
-        if deck == 0 {
-            return Err(FaultKind::YankText);
-        }
+        let CurrentSet { ident, next } = self.set_for_text()?;
+        refuse_yanks(deck)?;
         let card = new_card(&self.library, ident, next, text)?;
         self.library.insert_card(deck, behind, card)?;
         check_limits(&self.library)?;
@@ -201,9 +194,59 @@ impl State {
         });
         Ok(())
     }
+
+    /// The current set; else NoIdent.
+    pub(crate) fn known_set(&self) -> Result<CurrentSet, FaultKind>
+        ensures { result ≡ need fault.NoIdent self.now.current_set }
+    {
+        self.current_set.ok_or(FaultKind::NoIdent)
+    }
+
+    /// The current set, for text inside a deck; else TextNowhere.
+    fn set_for_text(&self) -> Result<CurrentSet, FaultKind>
+        ensures { result ≡ need fault.TextNowhere self.now.current_set }
+    {
+        self.current_set.ok_or(FaultKind::TextNowhere)
+    }
 }
 
-/// Refuses a library that has grown past a limit.
+/// Refuses text in `YANK$$$`: YankText.
+fn refuse_yanks(deck: Serial) -> Result<(), FaultKind>
+    ensures { MatchResult result
+        (λ _. refuse_if (deck == 0) fault.YankText ≡ Ok false)
+        (λ e. refuse_if (deck == 0) fault.YankText ≡ Err e) }
+{
+    if deck == 0 {
+        return Err(FaultKind::YankText);
+    }
+    Ok(())
+}
+
+/// Refuses the place of a deck's first card: DeckCard.
+fn refuse_deck_card(place: Place) -> Result<(), FaultKind>
+    ensures { MatchResult result
+        (λ _. refuse_if (is_deck_card place) fault.DeckCard ≡ Ok false)
+        (λ e. refuse_if (is_deck_card place) fault.DeckCard ≡ Err e) }
+{
+    if is_deck_card(place) {
+        return Err(FaultKind::DeckCard);
+    }
+    Ok(())
+}
+
+/// Refuses a range over two decks, or one that ends before it begins: RangeOrder.
+fn refuse_disorder(from: Place, to: Place) -> Result<(), FaultKind>
+    ensures { MatchResult result
+        (λ _. refuse_if (not (from.deck == to.deck) || nat_lt to.index from.index) fault.RangeOrder ≡ Ok false)
+        (λ e. refuse_if (not (from.deck == to.deck) || nat_lt to.index from.index) fault.RangeOrder ≡ Err e) }
+{
+    if from.deck != to.deck || to.index < from.index {
+        return Err(FaultKind::RangeOrder);
+    }
+    Ok(())
+}
+
+/// Full where a library exceeds a limit.
 pub(crate) fn check_limits(library: &Library) -> Result<(), FaultKind>
     ensures { MatchResult result (λ _. within_limits library.now ≡ Ok library.now) (λ e. within_limits library.now ≡ Err e) }
 {
@@ -214,7 +257,7 @@ pub(crate) fn check_limits(library: &Library) -> Result<(), FaultKind>
     }
 }
 
-/// The age of the next ident; Full where as many were introduced as may be.
+/// The serial of the next ident; Full where no more may be introduced.
 fn next_age(library: &Library) -> Result<Serial, FaultKind>
     ensures { MatchResult result
         (λ age. (age ≡ next_age library.now) × (length library.now.idents < MAX_INTRODUCED))
@@ -227,14 +270,14 @@ fn next_age(library: &Library) -> Result<Serial, FaultKind>
     }
 }
 
-/// Where the card of a reference stands; else CardUnknown.
+/// The place of the card that a reference names; else CardUnknown.
 fn known_card(library: &Library, card: &CardRef) -> Result<Place, FaultKind>
     ensures { result ≡ need fault.CardUnknown (place_of card.now library.now) }
 {
     library.card_at(*card).ok_or(FaultKind::CardUnknown)
 }
 
-/// Where the last card of a range stands, whose first card stands at `from`. One card isn't looked for twice.
+/// The place of the last card of a range, whose first card is at `from`. A range of one card needs no second look-up.
 fn known_last(
     library: &Library,
     first: &CardRef,
@@ -250,7 +293,7 @@ fn known_last(
     known_card(library, last)
 }
 
-/// How many cards of its deck stand behind a place.
+/// The number of cards after a place in its deck.
 fn behind(library: &Library, place: Place) -> usize
     ensures count { result ≡ behind place library.now }
     ensures room { result + 1 < 2 ^ 64 }
@@ -262,7 +305,7 @@ fn behind(library: &Library, place: Place) -> usize
         .saturating_sub(1)
 }
 
-/// Whether a place is that of a deck's first card.
+/// Whether a place is that of a deck's first card; `YANK$$$` doesn't count.
 fn is_deck_card(place: Place) -> bool
     ensures { result ≡ is_deck_card place }
 {

@@ -1,4 +1,4 @@
-//! What a line does, by what it says.
+//! The effect of a line, by its item.
 ghost use Rattle.std.specs.Prelude.{◌≡◌, ◌+◌, ◌^◌, ◌<◌, ◌≤◌, Ok};
 ghost use Rattle.upd_deck.specs.Items.{LineView};
 ghost use Rattle.upd_text.specs.Outcome.{Does};
@@ -12,7 +12,7 @@ use upd_deck::{Item, Line};
 use upd_text::FaultKind;
 
 impl State {
-    /// What a line does, or why it is refused. After a refusal the state is of no use.
+    /// Applies a line. After a refusal the state must be discarded.
     pub(crate) fn step(&mut self, line: &Line) -> Result<(), FaultKind>
         requires { next_most self.old + 1 < 2 ^ 32 }
         ensures { Does result self.new (step line.now self.old) }
@@ -41,7 +41,7 @@ impl State {
     }
 }
 
-/// A line raises the next number by one at most, so a run never passes what a number holds.
+/// A line raises the next card number by at most 1, so the numbers of a run fit into 32 bits.
 pub fn numbers_rise_by_one()
     ensures { (line : LineView) (s t : State) → step line s ≡ Ok t → next_most t ≤ next_most s + 1 }
 {}

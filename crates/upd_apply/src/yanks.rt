@@ -1,5 +1,5 @@
-//! The yanks: `*YANK`, `*SELYANK`, `*YANKDECK`, and the targets that they fix.
-ghost use Rattle.std.specs.Prelude.{◌≡◌, ◌+◌, ◌^◌, ◌<◌, ◌&&◌, ◌||◌, ◌==◌, ℕ, [], ◌∷◌, ◌++◌, map, Ok, Some, OnOk};
+//! Yanks: `*YANK`, `*SELYANK`, `*YANKDECK`, and their targets.
+ghost use Rattle.std.specs.Prelude.{◌≡◌, ◌+◌, ◌^◌, ◌<◌, ◌&&◌, ◌||◌, ◌==◌, ℕ, [], ◌∷◌, ◌++◌, map, Ok, Err, Some, MatchResult, OnOk};
 ghost use Rattle.std.specs.List.{filter};
 ghost use Rattle.upd_text.specs.Outcome.{Does, Gives};
 ghost use Rattle.upd_core.specs.declared.target.Target.TheVariants.{Set};
@@ -8,7 +8,7 @@ ghost use Rattle.upd_apply.specs.Numbers.{next_most};
 ghost use Rattle.upd_apply.specs.Step.{yank_put};
 ghost use Rattle.upd_apply.specs.Names.{is_in};
 ghost use Rattle.upd_core.specs.Targets.{is_same};
-ghost use Rattle.upd_apply.specs.Yanks.{decks_yanked, once, pairs_yanked, sets_yanked};
+ghost use Rattle.upd_apply.specs.Yanks.{deck_targets, decks_yanked, older_ages, once, pair_targets, pairs_yanked, sets_yanked};
 
 use crate::names::{AgeRange, ident_ages, known_deck, known_ident};
 use crate::state::{CurrentSet, InsertPoint, State, check_limits};
@@ -23,17 +23,17 @@ impl State {
         requires { next_most self.old + 1 < 2 ^ 32 }
         ensures { Does result self.new (yank_put text.now (sets_yanked ranges.now) self.old) }
     {
-        let current_set = self.current_set.ok_or(FaultKind::NoIdent)?;
+        let current_set = self.known_set()?;
         let targets = sets_yanked(&self.library, current_set.ident, ranges)?;
         self.put_yank(current_set, text, targets)
     }
 
-    /// `*SELYANK`: idents in decks.
+    /// `*SELYANK`: idents, each in one deck.
     pub(crate) fn yank_pairs(&mut self, text: &[u8], pairs: &[IdentIn]) -> Result<(), FaultKind>
         requires { next_most self.old + 1 < 2 ^ 32 }
         ensures { Does result self.new (yank_put text.now (pairs_yanked pairs.now) self.old) }
     {
-        let current_set = self.current_set.ok_or(FaultKind::NoIdent)?;
+        let current_set = self.known_set()?;
         let targets = pairs_yanked(&self.library, current_set.ident, pairs)?;
         self.put_yank(current_set, text, targets)
     }
@@ -43,13 +43,18 @@ impl State {
         requires { next_most self.old + 1 < 2 ^ 32 }
         ensures { Does result self.new (yank_put text.now (decks_yanked names.now) self.old) }
     {
-        let current_set = self.current_set.ok_or(FaultKind::NoIdent)?;
+        let current_set = self.known_set()?;
         let targets = decks_yanked(&self.library, current_set.ident, names)?;
         self.put_yank(current_set, text, targets)
     }
 
-    /// A yank card of the set in hand, with these targets.
-    fn put_yank(&mut self, current_set: CurrentSet, text: &[u8], targets: Vec<Target>) -> Result<(), FaultKind>
+    /// Appends a yank card of the current set, with these targets.
+    fn put_yank(
+        &mut self,
+        current_set: CurrentSet,
+        text: &[u8],
+        targets: Vec<Target>,
+    ) -> Result<(), FaultKind>
         requires current_set { self.old.current_set ≡ Some current_set }
         requires number { current_set.next + 1 < 2 ^ 32 }
         ensures { Does result self.new (yank_put text.now (λ _ _. Ok targets.items) self.old) }
@@ -78,10 +83,7 @@ pub(crate) fn sets_yanked(
     let mut found = Vec::new(library.allocator());
     let mut marks = Vec::new(library.allocator());
     for range in ranges {
-        let ages = ident_ages(library, range)?;
-        if set <= ages.to {
-            return Err(FaultKind::YankSelf);
-        }
+        let ages = older_ages(library, set, range)?;
         add_sets(&mut found, &mut marks, library.idents(), ages)?;
     }
     Ok(found)
@@ -97,12 +99,8 @@ pub(crate) fn pairs_yanked(
 {
     let mut found = Vec::new(library.allocator());
     for pair in pairs {
-        let deck = known_deck(library, &pair.deck)?;
-        let ident = known_ident(library, &pair.ident)?;
-        if set <= deck || set <= ident {
-            return Err(FaultKind::YankSelf);
-        }
-        add_target(&mut found, Target::SetIn(ident, deck))?;
+        let target = pair_target(library, set, pair)?;
+        add_target(&mut found, target)?;
     }
     Ok(found)
 }
@@ -117,16 +115,51 @@ pub(crate) fn decks_yanked(
 {
     let mut found = Vec::new(library.allocator());
     for name in names {
-        let deck = known_deck(library, name)?;
-        if set <= deck {
-            return Err(FaultKind::YankSelf);
-        }
-        add_target(&mut found, Target::Deck(deck))?;
+        let target = deck_target(library, set, name)?;
+        add_target(&mut found, target)?;
     }
     Ok(found)
 }
 
-/// Adds the idents of a range that aren't there yet. The marks tell which are: a range may name them all, and a search
+/// The ages of a range of idents, all older than a set; else Reserved, IdentUnknown, RangeOrder or YankSelf.
+fn older_ages(library: &Library, set: Serial, range: &NameRange) -> Result<AgeRange, FaultKind>
+    ensures { result ≡ older_ages set library.now range.now }
+{
+    let ages = ident_ages(library, range)?;
+    if set <= ages.to {
+        return Err(FaultKind::YankSelf);
+    }
+    Ok(ages)
+}
+
+/// An ident in a deck, both older than a set; else Reserved, DeckUnknown, IdentUnknown or YankSelf.
+fn pair_target(library: &Library, set: Serial, pair: &IdentIn) -> Result<Target, FaultKind>
+    ensures { MatchResult result
+        (λ target. pair_targets set library.now pair.now ≡ Ok (target ∷ []))
+        (λ e. pair_targets set library.now pair.now ≡ Err e) }
+{
+    let deck = known_deck(library, &pair.deck)?;
+    let ident = known_ident(library, &pair.ident)?;
+    if set <= deck || set <= ident {
+        return Err(FaultKind::YankSelf);
+    }
+    Ok(Target::SetIn(ident, deck))
+}
+
+/// A deck older than a set; else Reserved, DeckUnknown or YankSelf.
+fn deck_target(library: &Library, set: Serial, name: &Name) -> Result<Target, FaultKind>
+    ensures { MatchResult result
+        (λ target. deck_targets set library.now name.now ≡ Ok (target ∷ []))
+        (λ e. deck_targets set library.now name.now ≡ Err e) }
+{
+    let deck = known_deck(library, name)?;
+    if set <= deck {
+        return Err(FaultKind::YankSelf);
+    }
+    Ok(Target::Deck(deck))
+}
+
+/// Adds the idents of a range that aren't in `found` yet. The flags by serial avoid a search of `found` for each ident:
 /// for each would go over all that was found.
 fn add_sets(
     found: &mut Vec<Target>,
@@ -149,7 +182,7 @@ fn add_sets(
     Ok(())
 }
 
-/// Adds an ident that isn't there yet.
+/// Adds an ident that isn't in `found` yet.
 fn add_set(found: &mut Vec<Target>, marks: &mut Vec<bool>, age: Serial) -> Result<(), AllocError>
     requires marked { AreMarked marks.old.items found.old.items }
     requires apart { once is_same found.old.items ≡ found.old.items }
@@ -163,7 +196,7 @@ fn add_set(found: &mut Vec<Target>, marks: &mut Vec<bool>, age: Serial) -> Resul
     Ok(())
 }
 
-/// Whether the ident of an age is marked.
+/// The flag of a serial; false past the last flag.
 fn has_set(marks: &[bool], age: Serial) -> bool
     ensures { result ≡ has_set marks.now age }
 {
@@ -171,7 +204,7 @@ fn has_set(marks: &[bool], age: Serial) -> bool
     age < marks.len() && marks[age]
 }
 
-/// Marks the ident of an age.
+/// Sets the flag of a serial.
 fn mark(marks: &mut Vec<bool>, age: Serial) -> Result<(), AllocError>
     ensures { OnOk result ((z : ℕ) → has_set marks.new.items z ≡ (has_set marks.old.items z || (z == age))) }
 {
@@ -183,7 +216,7 @@ fn mark(marks: &mut Vec<bool>, age: Serial) -> Result<(), AllocError>
     Ok(())
 }
 
-/// Adds a target that isn't there yet.
+/// Adds a target that isn't in `found` yet.
 fn add_target(found: &mut Vec<Target>, target: Target) -> Result<(), AllocError>
     requires { once is_same found.old.items ≡ found.old.items }
     ensures { OnOk result (found.new.items ≡ once is_same (found.old.items ++ target ∷ [])) }

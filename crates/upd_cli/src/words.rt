@@ -104,7 +104,7 @@ fn program<'a>(alloc: Global) -> Command<'a>
 {
     Command::new(alloc, "upd")
         .version("1.0")
-        .about("The desk of a program library")
+        .about(help::PROGRAM)
         .disable_help_subcommand(true)
         .subcommand_required(true)
 }

@@ -8,16 +8,16 @@ use Rattle.upd_compile.specs.Depths.{Gives, Meets, Walks, Text, Followed, OfNone
 use Rattle.upd_compile.specs.Walk.{WalkEvent, Line, Follow, Depth, call_events, card_events, common_named, text_cards, walk}
 use Rattle.upd_compile.proofs.WalkLemmas.{events-text, events-unknown}
 
--- so many levels are left at a depth
+-- the number of levels left at a depth
 abbrev pub AreLeft : ℕ → ℕ → Type 0
 AreLeft levels depth = levels + depth ≡ MAX_DEPTH + 1
 
--- what a call gives where no level is left
+-- the events of a call where no level is left
 events-deep : (levels : ℕ) (a : ActivesView) (c : ActiveCardView) → levels ≡ zero → is_call c.text ≡ true → card_events levels a c ≡ Depth ∷ []
 events-deep zero a c none call = rw call refl
 events-deep (suc levels) a c none call = absurd (omega arith)
 
--- what is given and met is one list
+-- the events by depth and those by levels are one list
 mutual
   given-is : (a : ActivesView) (depth : ℕ) (c : ActiveCardView) (events : List WalkEvent) → Gives a depth c events
       → (levels : ℕ) → AreLeft levels depth → events ≡ card_events levels a c
@@ -34,7 +34,7 @@ mutual
   met-is a _ _ _ (Next depth c later here events given met) levels left =
       rw (← given-is a depth c here given levels left, ← met-is a depth later events met levels left) refl
 
--- a card gives what it does where no level is left
+-- a card has its events where no level is left
 gives-deep : (a : ActivesView) (depth : ℕ) → AreLeft zero depth → (c : ActiveCardView) → Gives a depth c (card_events zero a c)
 gives-deep a depth left c = of (is_call c.text) refl
   where
@@ -42,7 +42,7 @@ gives-deep a depth left c = of (is_call c.text) refl
     of true e = TooDeep depth c e (omega arith)
     of false e = Text depth c e
 
--- and where a level is left, if decks one deeper do
+-- and where a level is left, if decks one deeper have theirs
 gives-next : (a : ActivesView) (levels depth : ℕ) → AreLeft (suc levels) depth → ((d : ActiveDeckView) → Walks a (depth + 1) d (walk levels a d))
     → (c : ActiveCardView) → Gives a depth c (card_events (suc levels) a c)
 gives-next a levels depth left deeper c = of (is_call c.text) refl
@@ -56,13 +56,13 @@ gives-next a levels depth left deeper c = of (is_call c.text) refl
     of true call = of_named (common_named (called c.text) a) call refl
     of false text = Text depth c text
 
--- where each card gives what it does, cards are met in order
+-- where each card has its events, cards have them in order
 meets-all : (a : ActivesView) (levels depth : ℕ) → ((c : ActiveCardView) → Gives a depth c (card_events levels a c)) → (cards : List ActiveCardView)
     → Meets a depth cards (flat_map (card_events levels a) cards)
 meets-all a levels depth gives [] = NoMore depth
 meets-all a levels depth gives (c ∷ cards) = Next depth c cards _ _ (gives c) (meets-all a levels depth gives cards)
 
--- a walk by depth gives what one by the levels left does
+-- a walk by depth has the events of the one by levels
 walks : (a : ActivesView) (levels depth : ℕ) → AreLeft levels depth → (d : ActiveDeckView) → Walks a depth d (walk levels a d)
 walks a zero depth left d = meets-all a zero depth (gives-deep a depth left) (text_cards d)
 walks a (suc levels) depth left d =

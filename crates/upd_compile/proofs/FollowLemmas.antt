@@ -47,7 +47,7 @@ and-or true b true = refl
 and-or true b false = sym (and_right b false refl)
 and-or false b e = refl
 
--- a position that follows a marked one, or the one that is marked now
+-- a position that follows a flagged one, or the one that is flagged now
 pub follows-visited : (m e f g : Bool) → (e ≡ true → f ≡ g) → ((m || e) && f) ≡ ((m && f) || (g && e))
 follows-visited true e true g same = refl
 follows-visited true true false g same = rw (← same refl) refl
@@ -55,7 +55,7 @@ follows-visited true false false g same = sym (and_right g false refl)
 follows-visited false true f g same = same refl ∙ sym (and-true g)
 follows-visited false false f g same = sym (and_right g false refl)
 
--- one marked position more
+-- one flagged position more
 pub callers-more : (calls : List (List ℕ)) (flags : List Bool) (i : ℕ) (list : List ℕ) (x y z : List (List ℕ)) → i < length flags
     → slice_get calls i ≡ Some list → true ≡ get_or flags i true
     → FollowsMore (λ c d. is_flagged (take i flags) d && follows calls d c) x y → FollowsMore (λ c d. is_in list c && (i == d)) y z
@@ -67,7 +67,7 @@ callers-more calls flags i list x y z within found visited first then =
     (follows-visited (is_flagged (take i flags) d) (i == d) (follows calls d c) (is_in list c) (λ e. rw (← eqb-true i d e, found) refl)))
     first then
 
--- a position more that isn't marked
+-- a position more that isn't flagged
 pub callers-same : (calls : List (List ℕ)) (flags : List Bool) (i : ℕ) (x y : List (List ℕ)) → i < length flags → false ≡ get_or flags i false
     → FollowsMore (λ c d. is_flagged (take i flags) d && follows calls d c) x y → FollowsMore (λ c d. is_flagged (take (i + 1) flags) d && follows calls d c) x y
 callers-same calls flags i x y within unvisited first = record {
@@ -75,7 +75,7 @@ callers-same calls flags i x y within unvisited first = record {
   same_length = first.same_length;
 }
 
--- the callers once all positions were gone through
+-- the callers after all positions
 pub callers-all : (calls : List (List ℕ)) (flags : List Bool) (i n : ℕ) (first callers : List (List ℕ)) → n ≡ length calls → n ≤ i → length flags ≡ n
     → first ≡ replicate n []
     → FollowsMore (λ c d. is_flagged (take i flags) d && follows calls d c) first callers → AreCallers calls flags callers

@@ -69,7 +69,7 @@ number-grows p q weaker (x ∷ xs) = here (p x) (q x) (weaker x) (number-le p q 
     here false true both no_fewer later = inl (omega arith)
     here false false both no_fewer later = ⊎_elim (λ more. inl more) (λ same. inr (refl, same)) later
 
--- all pass where so many do
+-- all pass where the number that pass is the length
 pub number-all : {A : Type 0} (p : A → Bool) (xs : List A) → length xs ≤ number p xs → AllByRecursion (λ x. p x ≡ true) xs
 number-all p [] h = tt
 number-all p (x ∷ xs) h = here (p x) h (number-all p xs) (number-le-length p xs)

@@ -1,4 +1,4 @@
--- In a directory whose ages count up, the ident of an age stands at its position.
+-- In a directory whose serials are 1, 2, .., the ident with serial n is at index n - 1.
 use Rattle.std.proofs.Common.{◌≡◌, ℕ, zero, suc, ◌+◌, ◌-◌, ◌<◌, ◌==◌, Bool, true, false, not, ◌&&◌, ◌||◌, List, [], ◌∷◌, refl, sym, ap, ◌∙◌, eq-eqb, arith}
 use Rattle.std.proofs.lemmas.Grind.{common_steps}
 use Rattle.std.specs.List.{slice_get}
@@ -8,12 +8,12 @@ use Rattle.upd_core.specs.Sound.{AreAgedFrom, is_held}
 use Rattle.upd_compile.specs.Idents.{ident_at}
 use Rattle.upd_compile.specs.Listings.{is_purged}
 
--- another age leaves the question to the rest
+-- an ident with another serial leaves the question to the rest
 passed : (held same rest : Bool) → same ≡ false → (held && same || rest) ≡ rest
 passed true same rest e = rw e refl
 passed false same rest e = refl
 
--- no other ident of the age settles it
+-- an ident with the serial decides it
 settled : (held same rest : Bool) → same ≡ true → rest ≡ false → (held && same || rest) ≡ held
 settled true same rest e f = rw e refl
 settled false same rest e f = f

@@ -10,7 +10,7 @@ use Rattle.upd_core.specs.Library.{is_common, held_named}
 use Rattle.upd_compile.specs.Positions.{kind_and_age, position_aged, position_named}
 use Rattle.upd_compile.specs.Walk.{common_named, deck_aged}
 
--- the element behind n others, and what stands behind it
+-- the element after n others, and those after it
 at_front : {A : Type 0} (all xs : List A) (x : A) (n : ℕ) → drop n all ≡ x ∷ xs → slice_get all n ≡ Some x
 at_front [] xs x zero e = cc
 at_front [] xs x (suc n) e = cc
@@ -23,7 +23,7 @@ behind_front [] xs x (suc n) e = cc
 behind_front (y ∷ ys) xs x zero e = cc
 behind_front (y ∷ ys) xs x (suc n) e = behind_front ys xs x n e
 
--- what is found behind n elements stands at its index
+-- what is found after n elements is at its index
 find-from : {A : Type 0} (p : A → Bool) (n : ℕ) (xs all : List A) → drop n all ≡ xs → find p xs ≡ option_and_then (slice_get all) (index_from p n xs)
 find-from p n [] all behind = refl
 find-from p n (x ∷ xs) all behind =

@@ -1,4 +1,4 @@
--- Marks and positions.
+-- Flags and positions.
 use Rattle.std.proofs.Common.{◌≡◌, ℕ, zero, suc, ◌<◌, ◌≤◌, ◌==◌, ◌⊎◌, ⊎_elim, nat_lt, Bool, true, false, ◌&&◌, ◌||◌, not, cond, List, [], ◌∷◌, ◌++◌, length}
 use Rattle.std.proofs.Common.{take, get_or, refl, sym, ap, ◌∙◌, length-append, arith}
 use Rattle.std.proofs.lemmas.Bool.Decides.{nat_tests}
@@ -20,7 +20,7 @@ or-false false = refl
 pub same_suc : (i k : ℕ) → (i == k) ≡ (suc i == suc k)
 same_suc i k = grind (arith, nat_tests)
 
--- one mark more in front of a position
+-- one flag more in front of a position
 pub is_flagged-more : (flags : List Bool) (i k : ℕ) (b : Bool) → i < length flags → b ≡ get_or flags i b
     → is_flagged (take (suc i) flags) k ≡ (is_flagged (take i flags) k || (b && (i == k)))
 is_flagged-more [] i k b h e = absurd (omega arith)
@@ -29,7 +29,7 @@ is_flagged-more (m ∷ ms) zero (suc k) b h e = sym (and_right b _ (ne_eqb 0 (su
 is_flagged-more (m ∷ ms) (suc i) zero b h e = rw (and_right b _ (ne_eqb (suc i) 0 (omega arith))) (sym (or-false m))
 is_flagged-more (m ∷ ms) (suc i) (suc k) b h e = is_flagged-more ms i k b (omega arith) e ∙ ap (λ c. is_flagged (take i ms) k || (b && c)) (same_suc i k)
 
--- a mark that is set
+-- a flag that is set
 pub is_flagged-set : (flags : List Bool) (i k : ℕ) → i < length flags → is_flagged (set flags i true) k ≡ (is_flagged flags k || (i == k))
 is_flagged-set [] i k h = absurd (omega arith)
 is_flagged-set (m ∷ ms) zero zero h = sym (or_right m true refl)

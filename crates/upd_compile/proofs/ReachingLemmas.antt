@@ -6,7 +6,7 @@ use Rattle.std.proofs.lemmas.Bool.{lt-ltb}
 use Rattle.upd_compile.specs.Reach.{VisitsMore, follows, is_in, is_flagged}
 use Rattle.upd_compile.proofs.ReachLemmas.{is_in-push}
 
--- A position that is marked has its followers marked, or is work.
+-- A position that is visited has its followers visited, or is work.
 pub record IsReaching (followers : List (List ℕ)) (seeds flags : List Bool) (work : List ℕ) : Type 0 where
   pub same_length : length flags ≡ length seeds
   pub has_seeds : (k : ℕ) → is_flagged seeds k ≡ true → is_flagged flags k ≡ true
@@ -15,7 +15,7 @@ pub record IsReaching (followers : List (List ℕ)) (seeds flags : List Bool) (w
   pub is_least : (test : ℕ → Bool) → ((c d : ℕ) → test c ≡ true → follows followers c d ≡ true → test d ≡ true)
       → ((k : ℕ) → is_flagged seeds k ≡ true → test k ≡ true) → (k : ℕ) → is_flagged flags k ≡ true → test k ≡ true
 
--- a position that no list belongs to is done
+-- a position without a list is done
 pub reaching-without : (followers : List (List ℕ)) (seeds flags : List Bool) (work : List ℕ) (position : ℕ) → slice_get followers position ≡ None
     → IsReaching followers seeds flags (work ++ position ∷ []) → IsReaching followers seeds flags work
 reaching-without followers seeds flags work position none r = record {
@@ -28,7 +28,7 @@ reaching-without followers seeds flags work position none r = record {
   is_least = r.is_least;
 }
 
--- a position is done once its followers are marked
+-- a position is done once its followers are visited
 pub reaching-more : (followers : List (List ℕ)) (next : List ℕ) (seeds flags visited : List Bool) (work still : List ℕ) (position : ℕ)
     → slice_get followers position ≡ Some next
     → VisitsMore (is_in next) flags visited work still → IsReaching followers seeds flags (work ++ position ∷ []) → IsReaching followers seeds visited still

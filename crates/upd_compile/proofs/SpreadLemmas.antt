@@ -1,4 +1,4 @@
--- The marks of decks that spread a change, by the positions that are reached from changed ones.
+-- The flags of decks that spread a change, by the positions that are reached from changed ones.
 use Rattle.std.proofs.Common.{◌≡◌, ℕ, zero, suc, ◌<◌, ◌==◌, ⊎_elim, nat_lt, Bool, true, false, ◌&&◌, ◌||◌, if◌then◌else◌, List, [], ◌∷◌, map, length, Option}
 use Rattle.std.proofs.Common.{Some, None, slice_get, refl, sym, ap, ◌∙◌, subst, arith}
 use Rattle.std.specs.List.{list_any, filter_map, cons_option, zip, AllByRecursion}
@@ -79,7 +79,7 @@ all-at Q [] k x all e = cc
 all-at Q (d ∷ ds) zero x all e = subst Q (let same : d ≡ x = cc in same) all.0
 all-at Q (d ∷ ds) (suc k) x all e = all-at Q ds k x all.1 e
 
--- The marks that are reached: what they are reached from and along.
+-- The flags that are reached: the seeds, and the lists along which.
 pub record AreSpread (before a : ActivesView) (calls callers : List (List ℕ)) (passed seeds flags : List Bool) : Type 0 where
   pub calls_are : calls ≡ map (called_positions a) a.decks
   pub passed_are : passed ≡ map (is_passed_on a) a.decks
@@ -111,7 +111,7 @@ spreads-here before a k x is passes e =
     ∙ all-at (λ c. spreads before a n c ≡ spreads before a (suc n) c) a.decks k x (settled-at_length before a) is
     ∙ and_from (is_passed_on a x) _ passes e
 
--- what is marked spreads
+-- what is flagged spreads
 pub visited-spreads : (before a : ActivesView) (calls callers : List (List ℕ)) (passed seeds flags : List Bool)
     → AreSpread before a calls callers passed seeds flags
     → (k : ℕ) → is_flagged flags k ≡ true → at_position (spreads before a (length a.decks)) a.decks k ≡ true
@@ -141,7 +141,7 @@ visited-spreads before a calls callers passed seeds flags s k e = s.reached.is_l
         let called : is_in (called_positions a deck.0) c ≡ true = sym (calls-at a calls d c deck.0 s.calls_are deck.1) ∙ here.1 in
         spreads-here before a d deck.0 deck.1 deck.2 (or_right (is_changed before deck.0) _ (at_call c deck.0 spread called))
 
--- what spreads is marked
+-- what spreads is flagged
 pub spreads-visited : (before a : ActivesView) (calls callers : List (List ℕ)) (passed seeds flags : List Bool)
     → AreSpread before a calls callers passed seeds flags
     → (j k : ℕ) → at_position (spreads before a j) a.decks k ≡ true → is_flagged flags k ≡ true
@@ -176,7 +176,7 @@ map-map : {A B C : Type 0} (f : B → C) (g : A → B) (h : A → C) → ((x : A
 map-map f g h same [] = refl
 map-map f g h same (x ∷ xs) = rw (same x, map-map f g h same xs) refl
 
--- a deck has a chain where it calls a marked one
+-- a deck has a chain where it calls a flagged one
 pub chains-visited : (before a : ActivesView) (calls callers : List (List ℕ)) (passed seeds flags : List Bool)
     → AreSpread before a calls callers passed seeds flags
     → map (λ positions. list_any (is_flagged flags) positions) calls ≡ map (has_chain before a) a.decks
@@ -191,7 +191,7 @@ chains-visited before a calls callers passed seeds flags s =
         (spreads-visited before a calls callers passed seeds flags s (length a.decks) k)) (called_positions a d)
         ∙ sym (list_any-called (spreads before a (length a.decks)) a d) ∙ sym (has_chain_within-spreads before a (length a.decks) d)
 
--- marks that two lists share
+-- the conjunction of two lists of flags
 pub is_flagged-both : (xs ys : List Bool) (k : ℕ) → is_flagged (map (λ p. p.0 && p.1) (zip xs ys)) k ≡ (is_flagged xs k && is_flagged ys k)
 is_flagged-both [] ys k = refl
 is_flagged-both (x ∷ xs) [] k = sym (and_right (is_flagged (x ∷ xs) k) false refl)

@@ -19,25 +19,25 @@ after_events-append idents (e ∷ es) fs p =
     elim (after_event idents e p) as (λ r. (r >>= after_events idents (es ++ fs)) ≡ (r >>= after_events idents es) >>= after_events idents fs)
     [ Ok q ↦ after_events-append idents es fs q | Err fault ↦ refl ]
 
--- what a card gives that is no call
+-- the events of a card that isn't a call
 pub events-text : (deep : ℕ) (a : ActivesView) (c : ActiveCardView) → is_call c.text ≡ false → card_events deep a c ≡ Line c ∷ []
 events-text zero a c text = rw text refl
 events-text (suc deep) a c text = rw text refl
 
--- what a call gives of what is no held common deck
+-- the events of a call whose name is not a held common deck
 pub events-unknown : (deep : ℕ) (a : ActivesView) (c : ActiveCardView) → 0 < deep → is_call c.text ≡ true → common_named (called c.text) a ≡ None
     → card_events deep a c ≡ Unknown ∷ []
 events-unknown zero a c h call none = absurd (omega arith)
 events-unknown (suc deep) a c h call none = rw (call, none) refl
 
--- what a call gives of a held common deck
+-- the events of a call of a held common deck
 pub events-followed : (deep : ℕ) (a : ActivesView) (c : ActiveCardView) (d : ActiveDeckView) → 0 < deep → is_call c.text ≡ true
     → common_named (called c.text) a ≡ Some d
     → card_events deep a c ≡ Follow ∷ walk (deep - 1) a d
 events-followed zero a c d h call named = absurd (omega arith)
 events-followed (suc deep) a c d h call named = rw (call, named, sub-one) refl
 
--- what a deck gives from a card on that isn't its first
+-- the events of a deck from a card on that isn't its first
 pub walk-at_card : (deep : ℕ) (a : ActivesView) (d : ActiveDeckView) (i : ℕ) (c : ActiveCardView) (idents : List Ident) (p : ProgressView)
     → i < length d.cards → c ≡ get_or d.cards i c → (c.ident == d.ident) && (c.number == 1) ≡ false
     → after_events idents (walk deep a (record d { cards = drop i d.cards })) p
@@ -46,7 +46,7 @@ walk-at_card deep a d i c idents p h e first =
     let F : List ActiveCardView → Result ProgressView FaultKind = λ cards. after_events idents (walk deep a (record d { cards = cards })) p in
     at_drop_more F d.cards i c h ∙ rw (← e, first) (after_events-append idents (card_events deep a c) _ p)
 
--- its first card gives nothing
+-- its first card has no events
 pub walk-at_first : (deep : ℕ) (a : ActivesView) (d : ActiveDeckView) (i : ℕ) (c : ActiveCardView) → i < length d.cards → c ≡ get_or d.cards i c
     → (c.ident == d.ident) && (c.number == 1) ≡ true
     → walk deep a (record d { cards = drop i d.cards }) ≡ walk deep a (record d { cards = drop (i + 1) d.cards })

@@ -1,4 +1,4 @@
--- A compile file that grows is what its walk is written as.
+-- A compile file written event by event is the file of its walk.
 use Rattle.std.proofs.Common.{◌≡◌, zero-add, add-zero, ◌+◌, nat_lt, Bool, true, false, cond, List, [], ◌∷◌, ◌++◌, length, take, Some, None, Ok, Err, Result}
 use Rattle.std.proofs.Common.{refl, sym, ap, ◌∙◌, subst, arith, append_assoc, append-nil, count_by}
 use Rattle.std.proofs.lemmas.List.{length-append}
@@ -38,12 +38,12 @@ Adds-follow : (idents : List Ident) (events : List WalkEvent) (p : ProgressView)
 Adds-follow idents events p (kind ∷ kinds) h adds = rw h adds
 Adds-follow idents events p [] h adds = rw h adds
 
--- what stands in a file so far is what these events have added
+-- a file so far has what these events have added
 pub record IsAfter (before : List WalkEvent) (p : ProgressView) : Type 0 where
   pub lines : count_by is_line before ≡ p.lines
   pub calls : count_by is_follow before ≡ p.calls
 
--- how many there are with one event more
+-- the counts with one event more
 count-one : (test : WalkEvent → Bool) (before : List WalkEvent) (e : WalkEvent) → count_by test (before ++ e ∷ []) ≡ count_by test before + cond (test e) 1 0
 count-one test before e = sum_by-append (λ e. cond (test e) 1 0) before (e ∷ []) ∙ ap (λ n. count_by test before + n) (zero-add (cond (test e) 1 0))
 

@@ -1,4 +1,4 @@
--- Which decks changed, and which decks a compile file holds.
+-- The decks that changed, and the decks of a compile file.
 use Rattle.std.specs.Prelude.{ℕ, zero, suc, ◌==◌, Bool, true, false, not, ◌&&◌, ◌||◌, if◌then◌else◌, IsTrue, Contains, List, [], ◌∷◌, map, length, None}
 use Rattle.std.specs.Option.{option_map_or}
 use Rattle.std.specs.List.{filter, filter_map, list_any}
@@ -23,11 +23,11 @@ same_cards [] (e ∷ es) = false
 same_cards (c ∷ cs) [] = false
 same_cards (c ∷ cs) (e ∷ es) = same_card c e && same_cards cs es
 
--- a deck changed where it wasn't there before, or its active cards differ
+-- a deck changed where it is new, or its active cards differ
 abbrev pub is_changed : ActivesView → ActiveDeckView → Bool
 is_changed before d = option_map_or (λ was. not (same_cards was.cards d.cards)) (deck_aged d.ident before) true
 
--- the decks that changed, by age
+-- the decks that changed, in order of serial
 abbrev pub changed : ActivesView → ActivesView → List ℕ
 changed before after = map (λ d. d.ident) (filter (is_changed before) after.decks)
 
@@ -43,13 +43,13 @@ is_passed_on a d = not (passes (λ i. i.noprop) a.idents d.ident)
 abbrev pub called_decks : ActivesView → ActiveDeckView → List ActiveDeckView
 called_decks a d = filter_map (λ c. if is_call c.text then common_named (called c.text) a else None) (text_cards d)
 
--- Whether a deck has a chain of so many calls or fewer to a changed common deck; each common deck on it passes changes on.
+-- Whether a deck has a chain of at most n calls to a changed common deck. Each common deck on it passes changes on.
 abbrev pub has_chain_within : ℕ → ActivesView → ActivesView → ActiveDeckView → Bool
 has_chain_within zero before a d = false
 has_chain_within (suc n) before a d =
     list_any (λ c. is_passed_on a c && (is_changed before c || has_chain_within n before a c)) (called_decks a d)
 
--- whether a deck has a chain to a changed common deck: one that calls no deck twice has at most as many calls as there are decks
+-- whether a deck has a chain to a changed common deck; a chain that calls no deck twice has at most as many calls as there are decks
 abbrev pub has_chain : ActivesView → ActivesView → ActiveDeckView → Bool
 has_chain before a d = has_chain_within (length a.decks) before a d
 
@@ -57,7 +57,7 @@ has_chain before a d = has_chain_within (length a.decks) before a d
 abbrev pub Calls : ActivesView → ActiveDeckView → ActiveDeckView → Type 0
 Calls a d c = IsTrue (is_passed_on a c) × Contains (called_decks a d) c
 
--- Chains as paths: of one call, or of a call and a chain from there.
+-- Chains as paths: one call, or a call and a chain from the called deck.
 pub data Chain (before a : ActivesView) : ActiveDeckView → Type 0 where
   Call : (d c : ActiveDeckView) → Calls a d c → IsTrue (is_changed before c) → Chain before a d
   Through : (d c : ActiveDeckView) → Calls a d c → Chain before a c → Chain before a d

@@ -6,8 +6,8 @@ use Rattle.upd_text.specs.declared.limits.TheConstants.{MAX_DEPTH}
 use Rattle.upd_compile.specs.Walk.{WalkEvent, Line, Follow, Depth, Unknown, common_named, text_cards}
 
 mutual
-  -- What an active card gives where calls have a depth. A text card gives its line. A call down to depth 8 gives what the cards of its deck give
-  -- where calls are one deeper, or is unknown where it names no held common deck. A deeper call is too deep, whatever it names.
+  -- The events of an active card where calls have a depth. A text card is a line. A call down to depth 8 is followed: its deck is walked with
+  -- calls one deeper; it is unknown where it names no held common deck. A deeper call is too deep, whatever it names.
   pub data Gives (a : ActivesView) : ℕ → ActiveCardView → List WalkEvent → Type 0 where
     Text : (depth : ℕ) (c : ActiveCardView) → is_call c.text ≡ false → Gives a depth c (Line c ∷ [])
     Followed : (depth : ℕ) (c : ActiveCardView) (d : ActiveDeckView) (events : List WalkEvent) → is_call c.text ≡ true → depth ≤ MAX_DEPTH
@@ -16,12 +16,12 @@ mutual
         → Gives a depth c (Unknown ∷ [])
     TooDeep : (depth : ℕ) (c : ActiveCardView) → is_call c.text ≡ true → MAX_DEPTH < depth → Gives a depth c (Depth ∷ [])
 
-  -- what cards give that are met in order, where calls have a depth
+  -- the events of cards in order, where calls have a depth
   pub data Meets (a : ActivesView) : ℕ → List ActiveCardView → List WalkEvent → Type 0 where
     NoMore : (depth : ℕ) → Meets a depth [] []
     Next : (depth : ℕ) (c : ActiveCardView) (later : List ActiveCardView) (here events : List WalkEvent) → Gives a depth c here → Meets a depth later events
         → Meets a depth (c ∷ later) (here ++ events)
 
--- what a deck gives whose calls have a depth: its cards are met in order, without its first
+-- the events of a deck whose calls have a depth: those of its cards in order, without its first
 abbrev pub Walks : ActivesView → ℕ → ActiveDeckView → List WalkEvent → Type 0
 Walks a depth d events = Meets a depth (text_cards d) events

@@ -13,20 +13,20 @@ use Rattle.upd_compile.specs.declared.mode.Mode.{Mode}
 use Rattle.upd_compile.specs.Chosen.{chosen}
 use Rattle.upd_compile.specs.Walk.{WalkEvent, Line, Follow, Depth, Unknown, walk}
 
--- A compile file: its bytes, and how many lines they are.
+-- A compile file: its bytes, and the number of its lines.
 pub record FileView : Type 0 where
   pub bytes : List ℕ
   pub lines : ℕ
 
--- so many blanks
+-- n blanks
 abbrev pub blanks : ℕ → List ℕ
 blanks n = replicate n 32
 
--- a text from the left in so many places, with blanks behind it
+-- a text padded with blanks on the right to a width
 abbrev pub from_left : ℕ → List ℕ → List ℕ
 from_left width text = text ++ blanks (width - length text)
 
--- a text from the right in so many places, with blanks before it
+-- a text padded with blanks on the left to a width
 abbrev pub from_right : ℕ → List ℕ → List ℕ
 from_right width text = blanks (width - length text) ++ text
 
@@ -34,7 +34,7 @@ from_right width text = blanks (width - length text) ++ text
 abbrev pub card_line : List Ident → ActiveCardView → List ℕ
 card_line idents c = from_left 80 c.text ++ 32 ∷ from_left 9 (name_of idents c.ident) ++ from_right 6 (decimal c.number) ++ 10 ∷ []
 
--- what an event is written as
+-- the bytes that an event writes
 abbrev pub event_line : List Ident → WalkEvent → List ℕ
 event_line idents (Line c) = card_line idents c
 event_line idents Follow = []
@@ -55,18 +55,18 @@ is_follow Follow = true
 is_follow Depth = false
 is_follow Unknown = false
 
--- the fault of an event with these before it: an unknown call, a call too deep, a line or a followed call with the most of its kind before it
+-- the fault of an event after others: an unknown call, a call too deep, or a line or a followed call beyond the limit
 abbrev pub event_fault : List WalkEvent → WalkEvent → Option FaultKind
 event_fault before (Line c) = if nat_lt (count_by is_line before) MAX_COMPILE_LINES then None else Some CompileLong
 event_fault before Follow = if nat_lt (count_by is_follow before) MAX_CALLS then None else Some CompileLong
 event_fault before Depth = Some CallDepth
 event_fault before Unknown = Some CallUnknown
 
--- the faults of a walk in the order of its events
+-- the faults of a walk, in the order of its events
 abbrev pub walk_faults : List WalkEvent → List FaultKind
 walk_faults events = filter_map (λ e. event_fault (take e.0 events) e.1) (enumerate_from 0 events)
 
--- what a walk is written as: its lines, or its first fault
+-- the file of a walk, or its first fault
 abbrev pub written : List Ident → List WalkEvent → Result FileView Fault
 written idents events = unless (walk_faults events)
   where
@@ -74,7 +74,7 @@ written idents events = unless (walk_faults events)
     unless (kind ∷ kinds) = Err (record { kind = kind; at = 0 })
     unless [] = Ok (record { bytes = flat_map (event_line idents) events; lines = count_by is_line events })
 
--- the compile file of a mode: the walks through the chosen decks, one after the other
+-- the compile file of a mode: the walks through the chosen decks, in order
 abbrev pub file_of : Mode → List ℕ → ActivesView → ActivesView → Result FileView Fault
 file_of mode named before after = written after.idents (flat_map (walk MAX_DEPTH after) (chosen mode named before after))
 

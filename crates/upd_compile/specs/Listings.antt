@@ -1,4 +1,4 @@
--- The four listings: lines with LF.
+-- The four listings. Each line ends with LF.
 use Rattle.std.specs.Prelude.{ℕ, ◌==◌, Bool, false, not, if◌then◌else◌, List, [], ◌∷◌, ◌++◌, codes, decimal, Option, Some, None, Result, Ok}
 use Rattle.std.specs.Option.{option_map_or}
 use Rattle.std.specs.List.{flat_map, list_any}
@@ -23,11 +23,11 @@ abbrev pub line_of : List (List ℕ) → List ℕ
 line_of [] = 10 ∷ []
 line_of (w ∷ ws) = w ++ flat_map (λ x. 32 ∷ x) ws ++ 10 ∷ []
 
--- a word that stands at the end of a line where something holds
+-- the last word of a line, present only where something holds
 abbrev pub word_if : Bool → List ℕ → List (List ℕ)
 word_if test word = if test then word ∷ [] else []
 
--- the name of the deck of an age
+-- the name of the deck with a serial
 abbrev pub deck_name : List Ident → ℕ → List ℕ
 deck_name idents age = if age == 0 then yank_name else name_of idents age
 
@@ -37,11 +37,11 @@ card_name idents c = card_text (ref_of idents c)
 
 -- ---- a deck
 
--- the deck of a name; `YANK$$$` can be listed too
+-- the serial of the deck with a name; `YANK$$$` can be listed too
 abbrev pub listed_deck : List ℕ → LibraryView → Option ℕ
 listed_deck name l = if bytes_eq name yank_name then Some 0 else deck_of name l
 
--- the head line of a deck of a name, by its ident; `YANK$$$` has no ident
+-- the head line of a deck, from its name and its ident; `YANK$$$` has no ident
 abbrev pub heading : List ℕ → Option Ident → List ℕ
 heading name None = line_of (codes "DECK" ∷ name ∷ [])
 heading name (Some i) =
@@ -49,7 +49,7 @@ heading name (Some i) =
     then line_of (codes "COMDECK" ∷ name ∷ word_if i.noprop (codes "NOPROP"))
     else line_of (codes "DECK" ∷ name ∷ [])
 
--- the head line of a deck, by its kind and mark
+-- the head line of a deck: its kind, its name and NOPROP
 abbrev pub deck_heading : List Ident → ℕ → List ℕ
 deck_heading idents age = heading (deck_name idents age) (ident_at idents age)
 
@@ -65,7 +65,7 @@ deck_listing name l = do
 
 -- ---- a card
 
--- the line of an entry: its ident, which way it switches, and whether the ident is taken
+-- the line of an entry: its ident, on or off, and whether the ident is taken
 abbrev pub entry_line : List Ident → List Target → ℕ → Entry → List ℕ
 entry_line idents live deck e =
     line_of (codes "ENTRY" ∷ name_of idents e.ident ∷ (if e.active then codes "on" else codes "off")
@@ -94,25 +94,25 @@ kind_word kind.Set = codes "set"
 kind_word kind.Deck = codes "deck"
 kind_word kind.Common = codes "comdeck"
 
--- the line of an ident: age, name, kind and state
+-- the line of an ident: serial, name, kind and state
 abbrev pub ident_line : Ident → List ℕ
 ident_line i = line_of (decimal i.age ∷ i.name ∷ kind_word i.kind ∷ (if i.held then codes "held" else codes "purged") ∷ [])
 
--- a line for each ident by age
+-- a line for each ident, in order of serial
 abbrev pub ident_listing : LibraryView → List ℕ
 ident_listing l = flat_map ident_line l.idents
 
 -- ---- the yanks
 
--- whether the ident at the place of an age in the directory isn't held, or none is there
+-- whether the directory has no held ident with a serial
 abbrev pub is_purged : List Ident → ℕ → Bool
 is_purged idents age = not (option_map_or (λ i. i.held) (ident_at idents age) false)
 
--- a mark where one of these idents is purged
+-- the suffix `purged` where one of these idents is purged
 abbrev pub purged_suffix : List Ident → List ℕ → List (List ℕ)
 purged_suffix idents ages = word_if (list_any (is_purged idents) ages) (codes "purged")
 
--- the line of a target, with a mark where an ident of it is purged
+-- the line of a target, with the suffix where one of its idents is purged
 abbrev pub target_line : List Ident → Target → List ℕ
 target_line idents (Set z) = 32 ∷ line_of (codes "set" ∷ name_of idents z ∷ purged_suffix idents (z ∷ []))
 target_line idents (SetIn z d) = 32 ∷ line_of (codes "setin" ∷ name_of idents z ∷ name_of idents d ∷ purged_suffix idents (z ∷ d ∷ []))

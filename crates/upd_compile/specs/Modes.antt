@@ -1,4 +1,4 @@
--- The modes as command lines and arrivals name them.
+-- The words for the modes, on command lines and in arrivals.
 use Rattle.std.specs.Prelude.{ℕ, if◌then◌else◌, List, codes, Option, Some, None}
 use Rattle.std.specs.Str.{bytes_eq}
 use Rattle.upd_compile.specs.declared.mode.Mode.{Mode}

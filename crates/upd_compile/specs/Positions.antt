@@ -1,4 +1,4 @@
--- What an index answers: idents by name, and decks by age as positions in a list.
+-- The look-ups of an index: idents by name, and decks by serial as positions in a list.
 use Rattle.std.specs.Prelude.{ℕ, ◌==◌, if◌then◌else◌, List, Option, None}
 use Rattle.std.specs.List.{filter_map}
 use Rattle.std.specs.Option.{option_map, option_and_then}
@@ -10,19 +10,19 @@ use Rattle.upd_core.specs.Library.{held_named, is_common}
 use Rattle.upd_text.specs.Lines.{is_call, called}
 use Rattle.upd_compile.specs.Walk.{text_cards}
 
--- the kind and the age of an ident
+-- the kind and the serial of an ident
 abbrev pub kind_and_age : Ident → Kind × ℕ
 kind_and_age i = (i.kind, i.age)
 
--- the kind and the age of the held ident of a name
+-- the kind and the serial of the held ident with a name
 abbrev pub held_kind : List ℕ → List Ident → Option (Kind × ℕ)
 held_kind name idents = option_map kind_and_age (held_named name idents)
 
--- the position of the deck of an age
+-- the position of the deck with a serial
 abbrev pub position_aged : ℕ → List ActiveDeckView → Option ℕ
 position_aged age decks = index_from (λ d. d.ident == age) 0 decks
 
--- the position of the held common deck of a name
+-- the position of the held common deck with a name
 abbrev pub position_named : List ℕ → ActivesView → Option ℕ
 position_named name a = option_and_then (λ i. if is_common i.0 then position_aged i.1 a.decks else None) (held_kind name a.idents)
 

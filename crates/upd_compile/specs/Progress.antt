@@ -1,4 +1,4 @@
--- A compile file as it grows on the walk.
+-- A compile file while it is written.
 use Rattle.std.specs.Prelude.{ℕ, ◌+◌, nat_lt, if◌then◌else◌, List, [], ◌∷◌, ◌++◌, Result, Ok, Err}
 use Rattle.upd_text.specs.declared.fault.FaultKind.{FaultKind}
 use Rattle.upd_text.specs.declared.fault.FaultKind.TheVariants.{CallUnknown, CallDepth, CompileLong}
@@ -8,7 +8,7 @@ use Rattle.upd_text.specs.Outcome.{◌>>=◌}
 use Rattle.upd_compile.specs.File.{FileView, card_line}
 use Rattle.upd_compile.specs.Walk.{WalkEvent, Line, Follow, Depth, Unknown}
 
--- What is written so far, and how many calls were followed.
+-- The bytes and lines written so far, and the number of calls followed.
 pub record ProgressView : Type 0 where
   pub bytes : List ℕ
   pub lines : ℕ
@@ -22,7 +22,7 @@ at_start = record { bytes = []; lines = 0; calls = 0 }
 abbrev pub file_so_far : ProgressView → FileView
 file_so_far p = record { bytes = p.bytes; lines = p.lines }
 
--- what an event adds
+-- the progress after an event, or its fault
 abbrev pub after_event : List Ident → WalkEvent → ProgressView → Result ProgressView FaultKind
 after_event idents (Line c) p =
     if nat_lt p.lines MAX_COMPILE_LINES
@@ -35,7 +35,7 @@ after_event idents Follow p =
 after_event idents Depth p = Err CallDepth
 after_event idents Unknown p = Err CallUnknown
 
--- what the events of a walk add, one after the other
+-- the progress after the events of a walk, in order
 abbrev pub after_events : List Ident → List WalkEvent → ProgressView → Result ProgressView FaultKind
 after_events idents [] p = Ok p
 after_events idents (e ∷ es) p = after_event idents e p >>= after_events idents es

@@ -1,9 +1,9 @@
--- Positions that are reached from marked ones along lists of followers.
+-- Graph search: the positions that are reached from flagged ones along lists of followers.
 use Rattle.std.specs.Prelude.{◌≡◌, ℕ, ◌+◌, ◌==◌, ◌<◌, nat_lt, Bool, true, false, not, ◌&&◌, ◌||◌, count_by, List, length, slice_get}
 use Rattle.std.specs.List.{list_any}
 use Rattle.std.specs.Option.{option_map_or}
 
--- whether a position is marked: past the marks none is
+-- the flag of a position; false past the last flag
 abbrev pub is_flagged : List Bool → ℕ → Bool
 is_flagged flags k = option_map_or (λ b. b) (slice_get flags k) false
 
@@ -11,11 +11,11 @@ is_flagged flags k = option_map_or (λ b. b) (slice_get flags k) false
 abbrev pub is_in : List ℕ → ℕ → Bool
 is_in positions k = list_any (λ p. p == k) positions
 
--- whether position d stands in the list of position c
+-- whether position d is in the list of position c
 abbrev pub follows : List (List ℕ) → ℕ → ℕ → Bool
 follows lists c d = option_map_or (λ list. is_in list d) (slice_get lists c) false
 
--- More positions are marked, and those that weren't before are open.
+-- A step of the search: more positions are visited, and those that weren't visited before are added to the work.
 pub record VisitsMore (more : ℕ → Bool) (flags visited : List Bool) (work still : List ℕ) : Type 0 where
   pub visits_more : (k : ℕ) → is_flagged visited k ≡ (is_flagged flags k || (more k && nat_lt k (length flags)))
   pub opened : (k : ℕ) → is_in still k ≡ (is_in work k || (is_flagged visited k && not (is_flagged flags k)))
@@ -27,12 +27,12 @@ pub record FollowsMore (more : ℕ → ℕ → Bool) (lists longer : List (List 
   pub follows_more : (c d : ℕ) → follows longer c d ≡ (follows lists c d || (more c d && nat_lt c (length lists)))
   pub same_length : length longer ≡ length lists
 
--- A position follows those that it calls, if it is marked.
+-- A position follows those that it calls, if it is flagged.
 abbrev pub AreCallers : List (List ℕ) → List Bool → List (List ℕ) → Type 0
 AreCallers calls flags callers =
     (c d : ℕ) → follows callers c d ≡ ((is_flagged flags d && follows calls d c) && nat_lt c (length calls))
 
--- The least marks that hold the seeds and, with a position, those that follow it.
+-- The least flags that contain the seeds and are closed under followers.
 pub record AreReached (followers : List (List ℕ)) (seeds flags : List Bool) : Type 0 where
   pub same_length : length flags ≡ length seeds
   pub has_seeds : (k : ℕ) → is_flagged seeds k ≡ true → is_flagged flags k ≡ true

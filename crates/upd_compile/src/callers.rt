@@ -1,11 +1,11 @@
-//! Who calls whom, from lists of whom each calls.
+//! The callers of each deck, from the calls of each deck.
 
 ghost use Rattle.std.specs.Prelude.{◌≡◌, ◌==◌, ◌&&◌, [], map, length, replicate, IfOk, OnOk};
 ghost use Rattle.upd_compile.specs.Reach.{AreCallers, FollowsMore, is_in};
 
 use std::alloc::{AllocError, Global};
 
-/// For each position the marked positions that call it. Positions past the end are left out.
+/// For each position the flagged positions that call it. Calls of positions past the end are ignored.
 pub(crate) fn callers(
     alloc: Global,
     calls: &[Vec<usize>],

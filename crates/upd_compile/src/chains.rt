@@ -1,4 +1,4 @@
-//! Chains of calls: which decks a change of a common deck reaches.
+//! Chains of calls: the decks that a change of a common deck reaches.
 
 ghost use Rattle.std.specs.Prelude.{◌≡◌, ◌&&◌, not, map, IfOk, IsTrue, ◌↔◌};
 ghost use Rattle.std.specs.List.{list_any, zip};
@@ -9,16 +9,16 @@ ghost use Rattle.upd_compile.specs.Positions.{called_position, called_positions}
 ghost use Rattle.upd_compile.specs.Reach.{is_flagged};
 
 use crate::callers::callers;
+use crate::flags::{both, calls_flagged};
 use crate::idents::ident_at;
 use crate::indexed::Indexed;
-use crate::flags::{both, calls_flagged};
 use crate::reach::reached_positions;
 use crate::walk::is_first;
 use std::alloc::{AllocError, Global};
 use upd_core::{ActiveCardRef, ActiveDeckRef, Ident, Serial};
 use upd_text::line::{called, is_call};
 
-/// A deck has a chain to a changed common deck where a path of calls leads there, and only there, however long it is.
+/// A deck has a chain to a changed common deck exactly when there is a path of calls to it, of any length.
 pub fn chains_are_paths()
     ensures { (before a : ActivesView) (d : ActiveDeckView) → IsTrue (has_chain before a d) ↔ Chain before a d }
 {}
@@ -82,7 +82,7 @@ fn is_passed_on(idents: &[Ident], deck: Serial) -> bool
     }
 }
 
-/// Whether each deck has a chain, by which decks changed.
+/// Whether each deck has a chain to a changed common deck, given which decks changed.
 pub(crate) fn chain_flags(
     alloc: Global,
     source: &Indexed,

@@ -13,9 +13,9 @@ use std::alloc::{AllocError, Global};
 use upd_core::{ActiveCardRef, ActiveDeckRef, ActivesRef, Library, Serial};
 use upd_text::Fault;
 
-/// The decks that changed from one library to another, by age; memory alone can fail.
+/// The serials of the decks that changed from one library to another, in rising order.
 ///
-/// A deck changed where it wasn't there before, or its active cards differ. The program doesn't call it.
+/// A deck changed where it is new, or its active cards differ.
 pub fn changed(alloc: Global, before: &Library, after: &Library) -> Result<Vec<Serial>, Fault>
     ensures ok { IfOk result (λ ages. ages.items ≡ changed (actives_of before.now) (actives_of after.now)) }
     ensures err { IsOkUnless result (fault_at NoMemory 0) }

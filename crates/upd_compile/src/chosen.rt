@@ -1,4 +1,4 @@
-//! Which decks a compile file holds.
+//! The decks of a compile file.
 
 ghost use Rattle.std.specs.Prelude.{◌≡◌, ℕ, Bool, ◌&&◌, ◌||◌, not, nat_eq, map, replicate, true, length, IfOk};
 ghost use Rattle.std.specs.HashSet as bag;
@@ -11,9 +11,9 @@ ghost use Rattle.upd_compile.specs.Idents.{passes};
 
 use crate::chains::chain_flags;
 use crate::changes::change_flags;
+use crate::flags::any_of;
 use crate::idents::ident_at;
 use crate::indexed::Indexed;
-use crate::flags::any_of;
 use crate::mode::Mode;
 use std::alloc::{AllocError, Global};
 use std::collections::HashSet;
@@ -33,7 +33,7 @@ pub(crate) fn chosen_decks<'a, 'b>(
     picked_decks(alloc, after, &choices)
 }
 
-/// The marked decks that aren't common.
+/// The flagged decks that aren't common.
 fn picked_decks<'a, 'b>(
     alloc: Global,
     source: &Indexed<'a, 'b>,
@@ -62,7 +62,7 @@ fn is_picked(idents: &[Ident], deck: Serial, is_flagged: bool) -> bool
     }
 }
 
-/// Whether the mode chooses each deck, if it isn't common.
+/// Whether the mode chooses each deck; common decks are left out later.
 fn choices(
     alloc: Global,
     mode: Mode,

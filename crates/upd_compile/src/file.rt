@@ -18,11 +18,11 @@ use upd_core::{ActiveDeckRef, Actives, ActivesRef, Library, Serial};
 use upd_text::Fault;
 use upd_text::limits::MAX_DEPTH;
 
-/// A compile file: lines of 97 bytes.
+/// A compile file: lines of 97 bytes, LF included.
 #[derive(Debug, Drop)]
 pub struct CompileFile {
     pub bytes: Vec<u8>,
-    /// How many lines it has.
+    /// The number of lines.
     pub lines: u32,
 }
 
@@ -34,8 +34,8 @@ impl Model for CompileFile {
     ghost view = { λ f. record { bytes = f.bytes.items; lines = f.lines } };
 }
 
-/// The compile file of the library `after` a run, where `before` is the library before it and `named` are the serials of
-/// the decks that the run named for the file. CallUnknown, CallDepth or CompileLong, at 0, where the walk meets one first.
+/// The compile file of the library `after` a run. `before` is the library before it, and `named` are the serials of the
+/// decks that the run named for the file. CallUnknown, CallDepth or CompileLong, at 0: the first that the walk meets.
 pub fn compile_file(
     alloc: Global,
     after: &Library,
@@ -50,14 +50,14 @@ pub fn compile_file(
     compile_shown(alloc, &before, &after, mode, named)
 }
 
-/// A quick compile file of no decks is empty, whatever the libraries hold: a run that calls for none needs no active
+/// A quick compile file of no decks is empty, whatever the libraries hold. So a run that names no deck needs no active
 /// cards.
 pub fn quick_file_of_no_decks_is_empty()
     ensures { (before after : ActivesView)
         → file_of Mode.Quick [] before after ≡ Ok (record { bytes = []; lines = 0 }) }
 {}
 
-/// The compile file of the active cards after a run and before it, as `compile_file` makes it of libraries.
+/// `compile_file`, from the active cards of the two libraries.
 pub fn compile_active(
     alloc: Global,
     after: &Actives,
@@ -86,7 +86,7 @@ fn compile_shown(
     file_of_walks(alloc, &source, &decks)
 }
 
-/// The file of the walks through these decks, one after the other.
+/// The file of the walks through these decks, in order.
 fn file_of_walks(
     alloc: Global,
     source: &Indexed,

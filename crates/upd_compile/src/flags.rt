@@ -1,4 +1,4 @@
-//! Marks: a `bool` for each deck.
+//! Flags: a `bool` for each deck.
 
 ghost use Rattle.std.specs.Prelude.{◌≡◌, ◌&&◌, ◌||◌, map, IfOk};
 ghost use Rattle.std.specs.List.{list_any, zip};
@@ -6,7 +6,7 @@ ghost use Rattle.upd_compile.specs.Reach.{is_flagged};
 
 use std::alloc::{AllocError, Global};
 
-/// The marks that two lists share.
+/// The conjunction of two lists of flags.
 pub(crate) fn both(alloc: Global, left: &[bool], right: &[bool]) -> Result<Vec<bool>, AllocError>
     ensures { IfOk result (λ flags. flags.items ≡ map (λ pair. pair.0 && pair.1) (zip left.now right.now)) }
 {
@@ -16,7 +16,7 @@ pub(crate) fn both(alloc: Global, left: &[bool], right: &[bool]) -> Result<Vec<b
         .collect(alloc)
 }
 
-/// The marks of any of three lists.
+/// The disjunction of three lists of flags.
 pub(crate) fn any_of(
     alloc: Global,
     first: &[bool],
@@ -37,7 +37,9 @@ pub(crate) fn any_of(
 fn any_flagged(flags: &[bool], positions: &[usize]) -> bool
     ensures { result ≡ list_any (is_flagged flags.now) positions.now }
 {
-    positions.iter().any(|position| is_flagged(flags, *position))
+    positions
+        .iter()
+        .any(|position| is_flagged(flags, *position))
 }
 
 fn is_flagged(flags: &[bool], position: usize) -> bool
@@ -46,7 +48,7 @@ fn is_flagged(flags: &[bool], position: usize) -> bool
     flags.get(position).copied().unwrap_or(false)
 }
 
-/// Whether each list has a marked position.
+/// Whether each list has a flagged position.
 pub(crate) fn calls_flagged(
     alloc: Global,
     calls: &[Vec<usize>],

@@ -1,4 +1,4 @@
-//! Idents by their ages.
+//! Idents by serial.
 
 ghost use Rattle.std.specs.Prelude.{◌≡◌};
 ghost use Rattle.std.specs.Option.{option_copied};
@@ -7,7 +7,7 @@ ghost use Rattle.upd_compile.specs.Idents.{ident_at};
 
 use upd_core::{Ident, Serial};
 
-/// The ident of an age, held or not.
+/// The ident with a serial, held or not.
 pub(crate) fn ident_at(idents: &[Ident], age: Serial) -> Option<&Ident>
     ensures { option_copied result ≡ ident_at idents.now age }
 {
@@ -17,7 +17,7 @@ pub(crate) fn ident_at(idents: &[Ident], age: Serial) -> Option<&Ident>
     idents.get(age as usize - 1)
 }
 
-/// The name of the ident of an age, and no bytes where there is no such ident.
+/// The name of the ident with a serial; empty where there is no such ident.
 pub(crate) fn name_of(idents: &[Ident], age: Serial) -> &[u8]
     ensures { result.now ≡ name_of idents.now age }
 {

@@ -1,4 +1,4 @@
-//! Active cards with an index of their idents and decks, so that a call and an age are looked up at once.
+//! Active cards with an index, for look-ups by name and by serial in constant time.
 
 ghost use Rattle.std.specs.Prelude.{◌≡◌, ℕ, List, nat_eq, IfOk};
 ghost use Rattle.std.specs.HashMap as hash;
@@ -12,7 +12,7 @@ use std::collections::HashMap;
 use std::marker::Model;
 use upd_core::{ActiveDeckRef, ActivesRef, Ident, Kind, Serial};
 
-/// Active cards, with an index of held idents by name and of decks by age.
+/// Active cards, with an index of held idents by name and of decks by serial.
 #[derive(Drop)]
 pub(crate) struct Indexed<'a, 'b> {
     actives: &'a ActivesRef<'b>,
@@ -64,14 +64,14 @@ impl<'a, 'b> Indexed<'a, 'b> {
         &actives.decks
     }
 
-    /// The position of the deck of an age.
+    /// The position of the deck with a serial.
     pub(crate) fn position_aged(&self, age: Serial) -> Option<usize>
         ensures { result ≡ position_aged age self.now.decks }
     {
         self.positions.get(&age).copied()
     }
 
-    /// The position of the held common deck of a name.
+    /// The position of the held common deck with a name.
     pub(crate) fn position_named(&self, name: &[u8]) -> Option<usize>
         ensures { result ≡ position_named name.now self.now }
     {
@@ -83,7 +83,7 @@ impl<'a, 'b> Indexed<'a, 'b> {
         }
     }
 
-    /// The deck of an age.
+    /// The deck with a serial.
     pub(crate) fn deck_aged(&self, age: Serial) -> Option<&'a ActiveDeckRef<'b>>
         ensures { option_copied result ≡ deck_aged age self.now }
     {
@@ -92,7 +92,7 @@ impl<'a, 'b> Indexed<'a, 'b> {
         actives.decks.get(position)
     }
 
-    /// The held common deck of a name.
+    /// The held common deck with a name.
     pub(crate) fn common_named(&self, name: &[u8]) -> Option<&'a ActiveDeckRef<'b>>
         ensures { option_copied result ≡ common_named name.now self.now }
     {
@@ -102,13 +102,13 @@ impl<'a, 'b> Indexed<'a, 'b> {
     }
 }
 
-/// The held ident of each name, the first of them in the directory.
+/// The held ident of each name; the first in the directory where there are several.
 fn held_names(alloc: Global, idents: &[Ident]) -> Result<HashMap<&[u8], (Kind, Serial)>, AllocError>
     ensures { IfOk result
         (λ names. (name : List ℕ) → hash.get_by (λ k. bytes_eq name k.now) names ≡ held_kind name idents.now) }
 {
     let mut names = HashMap::new(alloc);
-    // From the last to the first: an earlier entry takes the place of a later one, so that the first wins.
+    // From the last to the first: an earlier entry replaces a later one, so that the first wins.
     for i in (0..idents.len()).rev() {
         let ident = &idents[i];
         if ident.held {
@@ -118,7 +118,7 @@ fn held_names(alloc: Global, idents: &[Ident]) -> Result<HashMap<&[u8], (Kind, S
     Ok(names)
 }
 
-/// The position of the deck of each age, the first of them.
+/// The position of the deck with each serial; the first where there are several.
 fn deck_positions(
     alloc: Global,
     decks: &[ActiveDeckRef],

@@ -1,4 +1,6 @@
-//! Compile files and listings: what a library is written as.
+//! Compile files and listings: the texts that a site gets of a library.
+//!
+//! Each call that returns an `AllocError` fails only when memory runs out; a `Fault` may also be NoMemory, at line 0.
 #![tactic(auto)]
 
 mod callers;
@@ -6,10 +8,10 @@ mod chains;
 pub mod changes;
 mod chosen;
 pub mod file;
+mod flags;
 mod idents;
 mod indexed;
 pub mod listings;
-mod flags;
 pub mod mode;
 mod parts;
 mod progress;

@@ -1,4 +1,4 @@
-//! The four listings: lines with LF.
+//! The four listings. Each line ends with LF.
 
 ghost use Rattle.std.specs.Prelude.{◌≡◌, ◌∷◌, ◌++◌, [], ℕ, List, if◌then◌else◌, codes, drop, OnOk, IfOk, not};
 ghost use Rattle.std.specs.List.{flat_map, list_any};
@@ -21,8 +21,8 @@ use std::alloc::{AllocError, Global};
 use upd_core::{Card, Entry, Ident, Kind, Library, Live, Serial, Target};
 use upd_text::{CardRef, Fault, FaultKind, Name};
 
-/// A deck's head line and its cards, each active or inactive. `YANK$$$` can be listed too, and active means live there.
-/// DeckUnknown where no held deck has the name.
+/// Lists a deck: its head line, then its cards, each with A (active) or I (inactive). `YANK$$$` can be listed too;
+/// there active means live. DeckUnknown where no held deck has the name.
 pub fn list_deck(alloc: Global, library: &Library, name: &Name) -> Result<Vec<u8>, Fault>
     ensures { GivesAt (λ text. text.items) result (deck_listing name.now library.now) }
 {
@@ -30,7 +30,7 @@ pub fn list_deck(alloc: Global, library: &Library, name: &Name) -> Result<Vec<u8
     deck_text(alloc, library, deck, library.cards_of(deck))
 }
 
-/// A card with its status and its history. CardUnknown where there is no such card.
+/// Lists a card with its status and history. CardUnknown where there is no such card.
 pub fn list_card(alloc: Global, library: &Library, card: CardRef) -> Result<Vec<u8>, Fault>
     ensures { GivesAt (λ text. text.items) result (card_listing card library.now) }
 {
@@ -40,7 +40,7 @@ pub fn list_card(alloc: Global, library: &Library, card: CardRef) -> Result<Vec<
     card_text(alloc, library, place.deck, card)
 }
 
-/// All idents ever introduced, by age. Memory alone can fail.
+/// Lists all idents ever introduced, in order of serial.
 pub fn list_idents(alloc: Global, library: &Library) -> Result<Vec<u8>, Fault>
     ensures ok { IfOk result (λ text. text.items ≡ ident_listing library.now) }
     ensures err { IsOkUnless result (fault_at NoMemory 0) }
@@ -50,7 +50,7 @@ pub fn list_idents(alloc: Global, library: &Library) -> Result<Vec<u8>, Fault>
     Ok(text)
 }
 
-/// All yank cards, each live or dead, with their targets. Memory alone can fail.
+/// Lists all yank cards, each live or dead, with their targets.
 pub fn list_yanks(alloc: Global, library: &Library) -> Result<Vec<u8>, Fault>
     ensures ok { IfOk result (λ text. text.items ≡ yank_listing library.now) }
     ensures err { IsOkUnless result (fault_at NoMemory 0) }
@@ -61,13 +61,12 @@ pub fn list_yanks(alloc: Global, library: &Library) -> Result<Vec<u8>, Fault>
     Ok(text)
 }
 
-/// In a directory whose ages count 1, 2, .. the ident of an age stands at its place, so that the suffix of purged idents
-/// is found there.
+/// Where the serials of a directory are 1, 2, .., the suffix `purged` is on exactly the serials that are not held.
 pub fn suffixes_show_the_purged_idents()
     ensures { (idents : List Ident) (z : ℕ) → AreAgedFrom 1 idents → is_purged idents z ≡ not (is_held idents z) }
 {}
 
-/// The age of the deck of a name.
+/// The serial of the deck with a name; 0 for `YANK$$$`.
 fn listed_deck(library: &Library, name: &Name) -> Option<Serial>
     ensures { result ≡ listed_deck name.now library.now }
 {
@@ -131,7 +130,7 @@ fn push_deck_lines(
     Ok(())
 }
 
-/// A card with its status and its history.
+/// The listing of a card, with its status and history.
 fn card_text(alloc: Global, library: &Library, deck: Serial, card: &Card) -> Result<Vec<u8>, Fault>
     ensures ok { IfOk result (λ text. text.items
         ≡ card_lines library.now.idents (live_targets library.now) deck card.now) }
@@ -307,7 +306,7 @@ fn push_target(text: &mut Vec<u8>, idents: &[Ident], target: Target) -> Result<(
     }
 }
 
-/// A suffix where one of these idents is purged.
+/// The suffix ` purged` where one of these idents is purged; else nothing.
 fn purged_suffix<'a>(idents: &'a [Ident], ages: &[Serial]) -> &'a [u8]
     ensures { result.now ≡ flat_map (λ x. 32 ∷ x) (purged_suffix idents.now ages.now) }
 {
@@ -329,7 +328,7 @@ fn is_purged(idents: &[Ident], age: Serial) -> bool
     }
 }
 
-/// The name of the deck of an age.
+/// The name of the deck with a serial.
 fn deck_name(idents: &[Ident], age: Serial) -> &[u8]
     ensures { result.now ≡ deck_name idents.now age }
 {
@@ -363,14 +362,14 @@ fn push_card_name(text: &mut Vec<u8>, idents: &[Ident], card: &Card) -> Result<(
     text.extend_from_slice(Buffer::new().format(card.number).as_bytes())
 }
 
-/// One word or the other.
+/// `word` where the test holds, else `other`.
 fn word_of<'a>(test: bool, word: &'a [u8], other: &'a [u8]) -> &'a [u8]
     ensures { result.now ≡ (if test then word.now else other.now) }
 {
     if test { word } else { other }
 }
 
-/// A blank and a word where a test holds.
+/// The suffix where the test holds, else nothing. It begins with a blank.
 fn suffix_if<'a>(test: bool, suffix: &'a [u8]) -> &'a [u8]
     requires { suffix.now ≡ 32 ∷ drop 1 suffix.now }
     ensures { result.now ≡ flat_map (λ x. 32 ∷ x) (word_if test (drop 1 suffix.now)) }

@@ -2,7 +2,7 @@
 
 ghost use Rattle.std.specs.Prelude.{◌≡◌};
 
-/// Which decks a compile file holds. Common decks come in through calls alone.
+/// Which decks a compile file has. Common decks are only in it where they are called.
 #[derive(Clone, Copy, Debug, PartialEq, Eq)]
 pub enum Mode {
     /// All decks.

@@ -1,4 +1,4 @@
-//! A compile file as it grows.
+//! A compile file while it is written.
 
 ghost use Rattle.std.specs.Prelude.{◌≡◌, ◌≤◌, [], ◌++◌, OnOk};
 ghost use Rattle.upd_text.specs.Outcome.{Does};
@@ -16,7 +16,7 @@ use upd_core::{ActiveCardRef, Ident};
 use upd_text::FaultKind;
 use upd_text::limits::{MAX_CALLS, MAX_COMPILE_LINES};
 
-/// A compile file as it grows, and how many calls were followed.
+/// A compile file while it is written, and the number of calls followed.
 #[derive(Debug, Drop)]
 pub(crate) struct Progress {
     bytes: Vec<u8>,
@@ -43,7 +43,7 @@ impl Progress {
         }
     }
 
-    /// Writes the line of a card; CompileLong at the limit.
+    /// Writes the line of a card; CompileLong after 10,000 lines.
     pub(crate) fn line(&mut self, idents: &[Ident], card: &ActiveCardRef) -> Result<(), FaultKind>
         ensures { Does result self.new (after_event idents.now (Line card.now) self.old) }
     {
@@ -55,7 +55,7 @@ impl Progress {
         Ok(())
     }
 
-    /// The file, once all is written.
+    /// The finished file.
     pub(crate) fn finish(self) -> CompileFile
         ensures { result ≡ file_so_far self }
     {
@@ -63,7 +63,7 @@ impl Progress {
         CompileFile { bytes, lines }
     }
 
-    /// Counts a call; CompileLong at the limit.
+    /// Counts a call; CompileLong after 10,000 calls.
     pub(crate) fn follow(&mut self) -> Result<(), FaultKind>
         ensures { Does result self.new (after_event [] Follow self.old) }
     {
@@ -75,7 +75,7 @@ impl Progress {
     }
 }
 
-/// The columns of a line: its text, a blank, the name of the card's ident, the card's number.
+/// The columns of a line: the text, a blank, the name of the card's ident, the card's number.
 const TEXT_COLUMNS: usize = 80;
 
 const NAME_COLUMNS: usize = 9;
@@ -103,7 +103,7 @@ pub(crate) fn push_line(
     bytes.extend_from_slice(b"\n")
 }
 
-/// A text with blanks behind it up to a width.
+/// Appends a text, padded with blanks on the right to a width.
 fn push_padded(bytes: &mut Vec<u8>, text: &[u8], width: usize) -> Result<(), AllocError>
     requires { width ≤ TEXT_COLUMNS }
     ensures { OnOk result (bytes.new.items ≡ bytes.old.items ++ from_left width text.now) }
@@ -112,7 +112,7 @@ fn push_padded(bytes: &mut Vec<u8>, text: &[u8], width: usize) -> Result<(), All
     bytes.extend_from_slice(blanks(width.saturating_sub(text.len())))
 }
 
-/// A text with blanks before it up to a width.
+/// Appends a text, padded with blanks on the left to a width.
 fn push_padded_left(bytes: &mut Vec<u8>, text: &[u8], width: usize) -> Result<(), AllocError>
     requires { width ≤ TEXT_COLUMNS }
     ensures { OnOk result (bytes.new.items ≡ bytes.old.items ++ from_right width text.now) }

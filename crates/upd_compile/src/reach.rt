@@ -1,11 +1,11 @@
-//! Which positions are reached from marked ones.
+//! Graph search: the positions that are reached from flagged ones.
 
 ghost use Rattle.std.specs.Prelude.{◌≡◌, ◌==◌, ℕ, map, IfOk, OnOk};
 ghost use Rattle.upd_compile.specs.Reach.{AreReached, VisitsMore, is_in, is_flagged};
 
 use std::alloc::{AllocError, Global};
 
-/// Marks the positions that are reached from the marked ones along the lists of their followers.
+/// Flags all positions that are reached from the seeds along the lists of followers.
 pub(crate) fn reached_positions(
     alloc: Global,
     followers: &[Vec<usize>],
@@ -23,7 +23,7 @@ pub(crate) fn reached_positions(
     Ok(flags)
 }
 
-/// The marked positions.
+/// The flagged positions.
 fn flagged_positions(alloc: Global, flags: &[bool]) -> Result<Vec<usize>, AllocError>
     ensures { IfOk result (λ positions. (k : ℕ) → is_in positions.items k ≡ is_flagged flags.now k) }
 {
@@ -36,7 +36,7 @@ fn flagged_positions(alloc: Global, flags: &[bool]) -> Result<Vec<usize>, AllocE
     Ok(positions)
 }
 
-/// Marks these positions, and adds to the work those that weren't marked before.
+/// Flags these positions, and adds those that weren't flagged before to the work.
 fn visit_all(
     flags: &mut Vec<bool>,
     work: &mut Vec<usize>,

@@ -1,4 +1,4 @@
-//! The walk through decks and the common decks that they call.
+//! The walk through a deck and the common decks that it calls.
 
 ghost use Rattle.std.specs.Prelude.{List, ◌≡◌, ◌==◌, ◌&&◌, ◌↔◌, map};
 ghost use Rattle.std.specs.List.{flat_map};
@@ -15,14 +15,14 @@ use upd_core::{ActiveCardRef, ActiveDeckRef, Serial};
 use upd_text::FaultKind;
 use upd_text::line::{called, is_call};
 
-/// The walk through a deck is what the rule of depths gives, and nothing else: a call in the deck has depth 1, one in a
-/// deck that is called is one deeper, and calls are followed down to [`MAX_DEPTH`](upd_text::limits::MAX_DEPTH).
+/// The walk through a deck is exactly the one that the rule of depths defines: a call in the deck has depth 1, a call
+/// in a called deck is one deeper, and calls are followed down to [`MAX_DEPTH`](upd_text::limits::MAX_DEPTH).
 pub fn walks_go_by_depth()
     ensures { (a : ActivesView) (d : ActiveDeckView) (events : List WalkEvent)
         → Walks a 1 d events ↔ (events ≡ walk MAX_DEPTH a d) }
 {}
 
-/// Walks through decks, one after the other, where calls are followed so many levels deep.
+/// Walks through decks in order. Calls are followed `deep` levels deep.
 pub(crate) fn walk_all(
     source: &Indexed,
     decks: &[&ActiveDeckRef],
@@ -38,7 +38,7 @@ pub(crate) fn walk_all(
     Ok(())
 }
 
-/// Walks through a deck, where calls are followed so many levels deep.
+/// Walks through a deck. Calls are followed `deep` levels deep; one beyond that is CallDepth.
 #[cycle(walk)]
 pub(crate) fn walk(
     source: &Indexed,
@@ -57,7 +57,8 @@ pub(crate) fn walk(
     Ok(())
 }
 
-/// Writes the line of a card, or walks through the deck that it calls.
+/// Writes the line of a card, or walks through the deck that it calls. CallUnknown where that is not a held common
+/// deck.
 #[cycle(walk)]
 fn meet(
     source: &Indexed,
@@ -81,7 +82,7 @@ fn meet(
     walk(source, common, deep - 1, progress)
 }
 
-/// Whether a card is the first of the deck of an ident.
+/// Whether a card is card 1 of a deck's own ident.
 pub(crate) fn is_first(card: &ActiveCardRef, deck: Serial) -> bool
     ensures { result ≡ (card.now.ident == deck) && (card.now.number == 1) }
 {

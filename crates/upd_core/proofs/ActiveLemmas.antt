@@ -15,7 +15,7 @@ range_kept texts more from to rises within =
     let enough : to - from ≤ length (drop from texts) = omega arith in
     ap (λ t. take (to - from) t) (drop-append-le from texts more (omega arith)) ∙ take-append-le (to - from) (drop from texts) more enough
 
--- what is added stands at the end
+-- what is added is at the end
 range_added : (texts more : Bytes) → slice_range (texts ++ more) (length texts) (length texts + length more) ≡ more
 range_added texts more =
     let width : length texts + length more - length texts ≡ length more = omega arith in

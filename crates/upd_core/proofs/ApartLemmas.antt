@@ -103,7 +103,7 @@ find_only f test (y ∷ xs) (suc k) x apart e passes only = go (test y) refl (fi
     go true first later = absurd (all_at (λ z. f y ≡ f z → ⊥) xs k x (all_mapped (λ v. f y ≡ v → ⊥) f xs apart.0) e (only y first))
     go false other later = find_later test y xs other ∙ later
 
--- what a search finds passes, and stands at its index
+-- what a search finds passes, and is at its index
 pub index_found : {A : Type 0} (test : A → Bool) (n : ℕ) (xs : List A) (i : ℕ) → index_from test n xs ≡ Some i
     → (x : A) × (slice_get xs (i - n) ≡ Some x) × (test x ≡ true) × (n ≤ i)
 index_found test n [] i e = absurd (cc)

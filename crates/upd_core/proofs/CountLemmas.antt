@@ -24,7 +24,7 @@ sum_by-at_first test change f gain (x ∷ xs) gains = by_test (test x) (sum_by-a
     by_test true later = omega (arith, sum_by-cons f (change x) xs, sum_by-cons f x xs, gains x)
     by_test false later = omega (arith, sum_by-cons f x (at_first test change xs), sum_by-cons f x xs)
 
--- where each of these cards gains so much
+-- where each of these cards gains a number
 sum_by-entered : (e : Entry) (f : CardView → ℕ) (gain : ℕ) (cards : List CardView) → ((c : CardView) → f (entered e c) ≡ f c + gain) →
     sum_by f (map (entered e) cards) ≡ sum_by f cards + length cards * gain
 sum_by-entered e f gain [] gains = omega arith
@@ -85,7 +85,7 @@ no_gain : {A : Type 0} (o : Option A) → option_map_or {U = ℕ} (λ _. 0) o 0 
 no_gain (Some x) = refl
 no_gain None = refl
 
--- decks with so many more cards and entries
+-- decks with this number of cards and entries more
 AreOf-decks : (l : LibraryView) (decks : List DeckView) (counts : Counts) (cards entries : ℕ) → AreOf l counts →
     sum_by (λ d. length d.cards) decks ≡ sum_by (λ d. length d.cards) l.decks + cards →
     sum_by (λ d. sum_by (λ c. length c.history) d.cards) decks ≡ sum_by (λ d. sum_by (λ c. length c.history) d.cards) l.decks + entries →
@@ -101,7 +101,7 @@ AreOf-decks l decks counts cards entries known more_cards more_entries =
       targets = known.targets;
     }
 
--- a card in the deck of an age, if there is one
+-- a card in the deck with a serial, if there is one
 AreOf-inserted : (l : LibraryView) (counts : Counts) (age behind : ℕ) (card : CardView) (found : Bool) → AreOf l counts →
     found ≡ is_some (find (is_deck age) l.decks) → AreOf (record l { decks = inserted_in age behind card l.decks })
     (record counts { cards = capped (counts.cards + (if found then 1 else 0)); entries = capped (counts.entries + (if found then length card.history else 0)) })

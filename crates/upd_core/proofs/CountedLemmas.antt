@@ -38,7 +38,7 @@ target_same (Set a) = (Decides-eqb a a).1 refl
 target_same (SetIn a d) = rw ((Decides-eqb a a).1 refl, (Decides-eqb d d).1 refl) refl
 target_same (Deck d) = (Decides-eqb d d).1 refl
 
--- the order of two targets is nothing to whether they are the same
+-- the order of two targets doesn't affect whether they are the same
 pub same_target_sym : (t u : Target) → is_same t u ≡ is_same u t
 same_target_sym t u = go (is_same t u) refl (is_same u t) refl
   where

@@ -26,7 +26,7 @@ found_from test change n [] i d e = cc
 found_from test change n (x ∷ xs) i d e =
     found_by_test change n x xs (at_first test change xs) (index_from test (n + 1) xs) i d (test x) (found_from test change (n + 1) xs i d) e
 
--- where the first one, x, stands, the change is a write of y
+-- at the first one, x, the change is a write of y
 pub at_first_found : {A : Type 0} (test : A → Bool) (change : A → A) (xs : List A) (i : ℕ) (d x y : A) → Some i ≡ index_from test 0 xs → x ≡ get_or xs i d →
     y ≡ change x → set xs i y ≡ at_first test change xs
 at_first_found test change xs i d x y e read changed =

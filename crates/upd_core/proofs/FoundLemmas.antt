@@ -1,4 +1,4 @@
--- Where cards stand in a sound library: each is found under its own reference, and a reference finds no other card.
+-- Cards in a sound library: each is found by its own reference, and a reference finds no other card.
 use Rattle.std.proofs.Common.{◌≡◌, ℕ, zero, suc, ◌+◌, ◌-◌, ◌≤◌, Bool, true, false, ◌&&◌, List, [], ◌∷◌, ◌++◌, map, slice_get, Option, Some, None, refl, sym}
 use Rattle.std.proofs.Common.{ap, ◌∙◌, subst, arith}
 use Rattle.std.proofs.lemmas.Bool.Decides.{nat_tests, Decides-eqb}
@@ -22,7 +22,7 @@ use Rattle.upd_core.proofs.ApartLemmas.{apart_across, apart_same, find_first, fi
 
 -- ---- held idents and their names
 
--- an ident at its place in a directory that begins with age n
+-- an ident at its index in a directory that begins with serial n
 pub record IsAt (n z : ℕ) (idents : List Ident) (i : Ident) : Type 0 where
   pub place : slice_get idents (z - n) ≡ Some i
   pub from : n ≤ z
@@ -57,7 +57,7 @@ held_at n z (j ∷ idents) ages e = go j.held refl (j.age == z) refl (held_at (n
 abbrev is_named : List ℕ → Ident → Bool
 is_named name i = i.held && bytes_eq i.name name
 
--- what is found under a name stands at its place
+-- what is found by a name is at its index
 pub named_at : (n : ℕ) (name : List ℕ) (idents : List Ident) (i : Ident) → AreAgedFrom n idents → held_named name idents ≡ Some i
     → IsAt n i.age idents i × (i.name ≡ name)
 named_at n name [] i ages e = absurd (cc)
@@ -120,7 +120,7 @@ find_named (j ∷ idents) (suc k) i apart e held = go j.held refl (bytes_eq j.na
         absurd (name_held (λ n. j.name ≡ n → ⊥) idents k i apart.0 e held ((bytes_eq-Decides j.name i.name).0 g))
     go true f false g later = let apart = rw f at apart in find_later (is_named i.name) j idents (rw (f, g) refl) ∙ later apart.1
 
--- a held ident is found under its name
+-- a held ident is found by its name
 pub held_found : (l : LibraryView) (z : ℕ) → IsSound l → is_held l.idents z ≡ true → ident_of (name_of l.idents z) l ≡ Some z
 held_found l z sound held =
     let at = held_at 1 z l.idents sound.ages held in
@@ -200,7 +200,7 @@ card_place (b ∷ ds) (suc j) d k c apart e f =
     all_by_index b.cards (λ i a g. apart_across key_of b.cards (flat ds) i at.0 a c apart g at.1) in
     rw (no_card_index 0 b.cards c others) (card_place ds j d k c (apart_back key_of b.cards (flat ds) apart) e f)
 
--- the deck of an age, where ages differ
+-- the deck with a serial, where serials differ
 pub cards_of_deck : (l : LibraryView) (j : ℕ) (d : DeckView) → AreApart (map (λ d. d.ident) (all_decks l)) → slice_get (all_decks l) j ≡ Some d
     → cards_of d.ident l ≡ d.cards
 cards_of_deck l j d apart e =
@@ -211,7 +211,7 @@ cards_of_deck l j d apart e =
 pub deck_ages_apart : (l : LibraryView) → IsSound l → AreApart (map (λ d. d.ident) (all_decks l))
 deck_ages_apart l sound = rising_apart (map (λ d. d.ident) (all_decks l)) sound.deck_ages
 
--- ---- each card is found under its own reference
+-- ---- each card is found by its own reference
 
 pub card_held : (l : LibraryView) (c : CardView) → IsSound l → Contains (all_cards l) c → is_held l.idents c.ident ≡ true
 card_held l c sound is = let held : IsOfHeld l.idents c = all_of_contained (IsOfHeld l.idents) (all_cards l) c sound.cards is in held.0
@@ -237,7 +237,7 @@ status_at l d c sound is e =
 
 -- ---- a reference finds no other card
 
--- what is found in decks stands there
+-- what is found in decks is there
 pub record StandsAt (z n : ℕ) (p : Place) (ds : List DeckView) : Type 0 where
   pub index : ℕ
   pub deck : DeckView
@@ -290,7 +290,7 @@ card_of_place l card p sound e = go (held_named card.name l.idents) refl
             let number : c.number ≡ card.number = own.1 in
             rw (name, number) refl
 
--- references of cards of held idents tell these apart
+-- references of cards of held idents differ where the cards differ
 same_key_of : (l : LibraryView) (b c : CardView) → IsSound l → is_held l.idents b.ident ≡ true → is_held l.idents c.ident ≡ true
     → ref_of l.idents b ≡ ref_of l.idents c → key_of b ≡ key_of c
 same_key_of l b c sound one other same =

@@ -1,4 +1,4 @@
--- Which cards stand in the decks of their own idents, as decks are edited.
+-- Which cards are in the decks of their own idents, as decks are edited.
 use Rattle.std.proofs.Common.{◌≡◌, ℕ, suc, ◌+◌, Bool, true, false, not, ◌||◌, ◌&&◌, if◌then◌else◌, ◌-◌, List, [], ◌∷◌, ◌++◌, length, map, take, drop, get_or, insert, filter}
 use Rattle.std.proofs.Common.{Option, Some, None, refl, arith, All}
 use Rattle.std.proofs.lemmas.Bool.Decides.{nat_tests}
@@ -11,7 +11,7 @@ use Rattle.upd_core.specs.First.{at_first, index_from}
 use Rattle.upd_core.specs.Homes.{AreHome, IsHome, StayNoted, is_home, may_stray}
 use Rattle.upd_core.specs.Library.{CardView, DeckView, is_card, is_deck}
 
--- ---- marks
+-- ---- flags
 
 or_kept : (a b c : Bool) → (b ≡ true → c ≡ true) → (a || b) ≡ true → (a || c) ≡ true
 or_kept true b c more e = refl
@@ -20,7 +20,7 @@ or_kept false b c more e = more e
 pub home_kept : (old new : List Bool) (deck : ℕ) (c : CardView) → StayNoted old new → is_home old deck c ≡ true → is_home new deck c ≡ true
 home_kept old new deck c more home = or_kept (c.ident == deck) (may_stray old c.ident) (may_stray new c.ident) (more c.ident) home
 
--- more marks leave the cards of a deck where they are
+-- more flags leave the cards of a deck home
 pub deck_kept : (old new : List Bool) (deck : ℕ) (cards : List CardView) → StayNoted old new → All (λ c. is_home old deck c ≡ true) cards →
     All (λ c. is_home new deck c ≡ true) cards
 deck_kept old new deck cards more home = λ k c within. home_kept old new deck (get_or cards k c) more (home k c within)
@@ -37,7 +37,7 @@ changed_first : {A : Type 0} (P : A → Type 0) (x changed : A) (xs later : List
 changed_first P x changed xs later true here all same changes = All-cons P changed xs (changes refl) all
 changed_first P x changed xs later false here all same changes = All-cons P x later here same
 
--- what holds of each element holds with the first changed that passes a test, where it holds of that one still
+-- what holds of each element still holds after a change of the first that passes a test, where it holds of the changed one
 pub at_first_all : {A : Type 0} (P : A → Type 0) (test : A → Bool) (change : A → A) (xs : List A) → ((x : A) → test x ≡ true → P x → P (change x)) →
     All P xs → All P (at_first test change xs)
 at_first_all P test change [] keeps all = all
@@ -46,7 +46,7 @@ at_first_all P test change (x ∷ xs) keeps all =
     let rest : All P xs = λ k d within. all (suc k) d (omega arith) in
     changed_first P x (change x) xs (at_first test change xs) (test x) here rest (at_first_all P test change xs keeps rest) (λ e. keeps x e here)
 
--- a card that is home in the deck of an age
+-- a card that is home in the deck with a serial
 pub home_inserted : (flags : List Bool) (age behind : ℕ) (card : CardView) (decks : List DeckView) → is_home flags age card ≡ true → AreHome flags decks →
     AreHome flags (inserted_in age behind card decks)
 home_inserted flags age behind card decks here home = at_first_all (IsHome flags) (is_deck age) _ decks added home
@@ -95,7 +95,7 @@ home_left_in flags age gone decks home =
 
 -- ---- look-ups
 
--- a card that stands in another deck than that of an ident that doesn't stray isn't of that ident
+-- a card in a deck other than that of an ident that doesn't stray isn't of that ident
 is_other : (flags : List Bool) (deck ident own : ℕ) → ((own == deck) || may_stray flags own) ≡ true → may_stray flags ident ≡ false →
     (deck == ident) ≡ false → (own == ident) ≡ false
 is_other flags deck ident own home stays other = by_test (own == ident) refl

@@ -1,11 +1,11 @@
--- The live cards of `YANK$$$`, one card more at a time: what a walk from the last card to the first meets.
+-- The live cards of `YANK$$$`, one card at a time: what a loop from the last card to the first meets.
 use Rattle.std.proofs.Common.{◌≡◌, ℕ, ◌+◌, ◌<◌, Bool, true, false, if◌then◌else◌, List, ◌∷◌, ◌++◌, length, drop, set, get_or, refl, ap, sym, ◌∙◌, arith}
 use Rattle.std.proofs.lemmas.List.{drop_more, drop-set}
 use Rattle.upd_core.specs.declared.target.Target.{Target}
 use Rattle.upd_core.specs.Library.{CardView}
 use Rattle.upd_core.specs.Status.{is_good, targets_of, live_cards, liveness}
 
--- the live cards of a list, given those behind its first card y
+-- the live cards of a list, given those after its first card y
 abbrev pub live_before : CardView → List CardView → List CardView
 live_before y later = if is_good (targets_of later) 0 y then y ∷ later else later
 
@@ -15,7 +15,7 @@ good_before y later e = ap (λ b. if b then y ∷ later else later) e
 pub bad_before : (y : CardView) (later : List CardView) → is_good (targets_of later) 0 y ≡ false → live_before y later ≡ later
 bad_before y later e = ap (λ b. if b then y ∷ later else later) e
 
--- one card more: its mark, and the targets of the live cards from it on
+-- one card more: its liveness, and the targets of the live cards from it on
 pub swept-more : (yanks : List CardView) (live : List Bool) (targets : List Target) (i : ℕ) (b : Bool) (y : CardView) →
     i < length yanks → length live ≡ length yanks → y ≡ get_or yanks i y → drop (i + 1) live ≡ liveness (drop (i + 1) yanks) →
     targets ≡ targets_of (live_cards (drop (i + 1) yanks)) → b ≡ is_good targets 0 y →

@@ -40,7 +40,7 @@ stays_on-take taken es i d some h =
 is_other : (n : ℕ) → (0 ≡ n → ⊥) → (n == 0) ≡ false
 is_other n apart = grind (arith, nat_tests)
 
--- no place in decks of other ages is one of `YANK$$$`
+-- no place in decks with other serials is one of `YANK$$$`
 yank_at-place_in : (l : LibraryView) (ds : List DeckView) (ident number : ℕ) → AreApart (map (λ d. d.ident) (record { ident = 0; cards = l.yanks } ∷ ds)) →
     option_and_then (yank_at l) (place_in ds ident number) ≡ None
 yank_at-place_in l [] ident number apart = refl
@@ -63,7 +63,7 @@ live_yank-at l ident number apart = found (index_from (is_card ident number) 0 l
     found (Some i) is later = rw is refl
     found None is later = rw is (sym later)
 
--- in a sound library a reference finds the mark of the yank card that it names
+-- in a sound library a reference finds the liveness of the yank card that it names
 pub live_yank-place_of : (l : LibraryView) (card : CardRef) → IsSound l → live_yank card (live_of l) ≡ option_and_then (yank_at l) (place_of card l)
 live_yank-place_of l card sound = found (held_named card.name l.idents) refl
   where

@@ -35,7 +35,7 @@ good_same live more age c older young = ap ends_on (filter_same _ _ c.history (e
     entries [] young = tt
     entries (e ∷ es) young = (ap not (taken_behind e.ident 0 more live (takes_none age e.ident 0 young.0 more older)), entries es young.1)
 
--- the same of cards with entries from an age on
+-- the same of cards with entries from a serial on
 pub all_good_same : (live more : List Target) (age : ℕ) (ys : List CardView) → AllByRecursion (TakesOlder age) more → AllByRecursion (HasEntriesFrom age) ys →
     AllByRecursion (λ c. is_good (more ++ live) 0 c ≡ is_good live 0 c) ys
 all_good_same live more age [] older young = tt

@@ -67,7 +67,7 @@ live_where_good (y ∷ ys) aged = go (is_good later 0 y) refl (live_where_good y
     later : List Target
     later = targets_of (live_cards ys)
 
-    -- the marks, where these are all live cards
+    -- the liveness of each card, where these are all live cards
     IsTheirLiveness : List CardView → Type 0
     IsTheirLiveness live = is_good later 0 y ∷ liveness ys ≡ map (is_good (targets_of live) 0) (y ∷ ys)
 

@@ -1,4 +1,4 @@
--- Active decks whose texts lie in one buffer, and each card's text is a range of it.
+-- Active decks with one text buffer each; the text of a card is a range of it.
 use Rattle.std.specs.Prelude.{◌≤◌, All, map, length, slice_range}
 use Rattle.upd_core.specs.Actives.{ActiveCardView, ActiveDeckView}
 use Rattle.upd_core.specs.declared.actives.Ranged.{Ranged}

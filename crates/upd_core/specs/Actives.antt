@@ -1,4 +1,4 @@
--- The active cards of a library: all that a compile file is made of.
+-- The active cards of a library: the input of a compile file.
 use Rattle.std.specs.Prelude.{List, map}
 use Rattle.std.specs.List.{filter}
 use Rattle.upd_core.specs.declared.ident.Ident.{Ident}
@@ -8,7 +8,7 @@ use Rattle.upd_core.specs.Status.{is_active, live_targets}
 use Rattle.upd_text.specs.Units.{Bytes, Number}
 use Rattle.upd_core.specs.Serials.{Serial}
 
--- A card without its past.
+-- A card without its history and targets.
 pub record ActiveCardView : Type 0 where
   pub ident : Serial
   pub number : Number
@@ -19,7 +19,7 @@ pub record ActiveDeckView : Type 0 where
   pub ident : Serial
   pub cards : List ActiveCardView
 
--- The directory, and the active cards of each deck other than `YANK$$$`, by age.
+-- The directory, and the active cards of each deck other than `YANK$$$`, in order of serial.
 pub record ActivesView : Type 0 where
   pub idents : List Ident
   pub decks : List ActiveDeckView

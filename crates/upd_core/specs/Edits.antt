@@ -1,4 +1,4 @@
--- The edits of a library: each thing that a line can do to it.
+-- The edits of a library: each change that a line can make.
 use Rattle.std.specs.Prelude.{ℕ, ◌+◌, ◌-◌, ◌==◌, nat_le, Bool, true, not, ◌&&◌, List, [], ◌∷◌, ◌++◌, map, length, take, drop, insert}
 use Rattle.std.specs.List.{list_any, filter}
 use Rattle.upd_core.specs.declared.card.Entry.{Entry}
@@ -9,25 +9,25 @@ use Rattle.upd_core.specs.Library.{CardView, DeckView, LibraryView, with_cards}
 use Rattle.upd_text.specs.Units.{Bytes, Number}
 use Rattle.upd_core.specs.Serials.{Serial}
 
--- the age of the next ident
+-- the serial of the next ident
 abbrev pub next_age : LibraryView → Serial
 next_age l = length l.idents + 1
 
--- a new ident at the directory's end
+-- a new ident at the end of the directory
 abbrev pub introduced : Bytes → Kind → Bool → LibraryView → LibraryView
 introduced name kind noprop l =
     record l { idents = l.idents ++ record { name = name; age = next_age l; kind = kind; noprop = noprop; held = true } ∷ [] }
 
--- a new card: its history is its own ident, on
+-- a new card, whose history is one entry: its own ident, on
 abbrev pub new_card : Serial → Number → Bytes → List Target → CardView
 new_card ident number text targets =
     record { ident = ident; number = number; text = text; history = record { ident = ident; active = true } ∷ []; targets = targets }
 
--- a new deck at the library's end
+-- a new deck at the end of the library
 abbrev pub with_deck : DeckView → LibraryView → LibraryView
 with_deck d l = record l { decks = l.decks ++ d ∷ [] }
 
--- a card in deck d, with so many of its cards behind it
+-- a card in deck d, in front of its last `behind` cards
 abbrev pub with_card : Serial → ℕ → CardView → LibraryView → LibraryView
 with_card d behind c l = with_cards d (λ cards. insert cards (length cards - behind) c) l
 
@@ -39,7 +39,7 @@ with_yank c l = record l { yanks = l.yanks ++ c ∷ [] }
 abbrev pub entered : Entry → CardView → CardView
 entered e c = record c { history = c.history ++ e ∷ [] }
 
--- cards with an entry on each from one index to another, whatever its status
+-- cards with an entry appended to each from one index to another, whatever its status
 abbrev pub entered_range : ℕ → ℕ → Entry → List CardView → List CardView
 entered_range from to e cards = take from cards ++ map (entered e) (drop from (take (to + 1) cards)) ++ drop (to + 1) cards
 
@@ -51,24 +51,24 @@ with_entries d from to e l = with_cards d (entered_range from to e) l
 abbrev pub without_entries : (Serial → Bool) → CardView → CardView
 without_entries gone c = record c { history = filter (λ e. not (gone e.ident)) c.history }
 
--- what is left of cards without the cards and the entries of these idents
+-- cards without the cards and the entries of these idents
 abbrev pub without_idents : (Serial → Bool) → List CardView → List CardView
 without_idents gone cards = map (without_entries gone) (filter (λ c. not (gone c.ident)) cards)
 
--- what is left of a deck without these idents
+-- a deck without the cards and the entries of these idents
 abbrev pub deck_without : (Serial → Bool) → DeckView → DeckView
 deck_without gone d = record d { cards = without_idents gone d.cards }
 
--- what is left of decks once those of these idents are gone
+-- decks without those of these idents, and without their cards and entries
 abbrev pub decks_without : (Serial → Bool) → List DeckView → List DeckView
 decks_without gone decks = map (deck_without gone) (filter (λ d. not (gone d.ident)) decks)
 
--- an ident once the idents that pass a test are purged
+-- an ident after a purge of the idents that pass a test
 abbrev pub unheld : (Serial → Bool) → Ident → Ident
 unheld gone i = record i { held = i.held && not (gone i.age) }
 
--- A purge of the idents that pass a test: decks of these go with all their cards, their cards and entries go from every deck and from
--- `YANK$$$`, and they are no longer held.
+-- A purge of the idents that pass a test: it removes their decks with all cards, and their cards and entries from every deck and from
+-- `YANK$$$`; they are no longer held.
 abbrev pub purged : (Serial → Bool) → LibraryView → LibraryView
 purged gone l = record {
   idents = map (unheld gone) l.idents;
@@ -81,10 +81,10 @@ purged gone l = record {
 abbrev pub purged_in : Serial → Serial → LibraryView → LibraryView
 purged_in d z l = with_cards d (without_idents (λ x. x == z)) l
 
--- whether an age is among some
+-- whether a serial is in a list
 abbrev pub is_among : List Serial → Serial → Bool
 is_among ages z = list_any (λ a. a == z) ages
 
--- back to before the ident of age x: a purge of it and of all younger ones
+-- back to before the ident with serial x: a purge of it and of all younger ones
 abbrev pub purged_back : Serial → LibraryView → LibraryView
 purged_back x l = purged (nat_le x) l

@@ -1,25 +1,25 @@
--- How much a library holds, and how much it may hold.
+-- The sizes of a library, and their limits.
 use Rattle.std.specs.Prelude.{ℕ, ◌+◌, nat_le, Bool, ◌&&◌, length, sum_by, count_by}
 use Rattle.upd_text.specs.declared.limits.TheConstants.{MAX_HELD, MAX_INTRODUCED, MAX_CARDS, MAX_ENTRIES, MAX_TARGETS}
 use Rattle.upd_core.specs.Library.{LibraryView, all_decks}
 
--- how many cards a library has, those of decks that aren't loaded too
+-- the number of cards of a library, those of decks that aren't loaded included
 abbrev pub card_count : LibraryView → ℕ
 card_count l = l.rest.cards + sum_by (λ d. length d.cards) (all_decks l)
 
--- how many entries its histories have, those of decks that aren't loaded too
+-- the number of entries in its histories, those of decks that aren't loaded included
 abbrev pub entry_count : LibraryView → ℕ
 entry_count l = l.rest.entries + sum_by (λ d. sum_by (λ c. length c.history) d.cards) (all_decks l)
 
--- how many targets its yank cards have
+-- the number of targets on its yank cards
 abbrev pub target_count : LibraryView → ℕ
 target_count l = sum_by (λ c. length c.targets) l.yanks
 
--- how many of its idents are held
+-- the number of its held idents
 abbrev pub held_count : LibraryView → ℕ
 held_count l = count_by (λ i. i.held) l.idents
 
--- whether no limit is passed
+-- whether a library is within all its limits
 abbrev pub is_within_limits : LibraryView → Bool
 is_within_limits l =
     nat_le (length l.idents) MAX_INTRODUCED && nat_le (held_count l) MAX_HELD && nat_le (card_count l) MAX_CARDS

@@ -1,6 +1,6 @@
--- What tells idents apart.
+-- What identifies an ident.
 use Rattle.std.specs.Prelude.{ℕ}
 
--- the age of an ident, from 1 for the first that was introduced; 0 stands for `YANK$$$`
+-- the serial of an ident, from 1 for the first that was introduced; 0 is that of `YANK$$$`
 abbrev pub Serial : Type 0
 Serial = ℕ

@@ -34,7 +34,7 @@ ends_on [] = false
 ends_on (e ∷ []) = e.active
 ends_on (e ∷ f ∷ es) = ends_on (f ∷ es)
 
--- a history with the entries of taken idents left out ends with one that switches on
+-- a history stays on where its last entry of an ident that isn't taken switches on
 abbrev pub stays_on : (Serial → Bool) → List Entry → Bool
 stays_on taken history = ends_on (filter (λ e. not (taken e.ident)) history)
 
@@ -42,11 +42,11 @@ stays_on taken history = ends_on (filter (λ e. not (taken e.ident)) history)
 abbrev pub is_good : List Target → Serial → CardView → Bool
 is_good live d c = stays_on (is_taken live d) c.history
 
--- the targets of cards in order
+-- the targets of cards, in order
 abbrev pub targets_of : List CardView → List Target
 targets_of cards = flat_map (λ c. c.targets) cards
 
--- The live cards of `YANK$$$`, in order: a yank card is live where it is good, given the targets of the live cards after it. These are younger,
+-- The live cards of `YANK$$$`, in order. A yank card is live where it is good, given the targets of the live cards after it. These are younger,
 -- and only younger cards can take what switched a card.
 abbrev pub live_cards : List CardView → List CardView
 live_cards [] = []
@@ -76,7 +76,7 @@ pub record LiveView : Type 0 where
   pub live : List Bool
   pub targets : List Target
 
--- what the yank cards of a library do
+-- the live view of a library
 abbrev pub live_of : LibraryView → LiveView
 live_of l = record { idents = l.idents; yanks = l.yanks; live = liveness l.yanks; targets = live_targets l }
 
@@ -89,26 +89,26 @@ live_yank card v =
 abbrev pub yank_at : LibraryView → Place → Option Bool
 yank_at l place = if place.deck == 0 then slice_get (liveness l.yanks) place.index else None
 
--- an older age; `YANK$$$` itself, which has age 0, is none
+-- an ident is older than a serial; `YANK$$$`, which has serial 0, is not
 abbrev pub IsOlder : Serial → Serial → Type 0
 IsOlder age z = (0 < z) × (z < age)
 
--- a target is older than an age, the set of it as well as the deck
+-- what a target names, ident and deck, is older than a serial
 abbrev pub TakesOlder : Serial → Target → Type 0
 TakesOlder age (Set z) = IsOlder age z
 TakesOlder age (SetIn z d) = IsOlder age z × IsOlder age d
 TakesOlder age (Deck d) = IsOlder age d
 
--- the entries of a card are of this age or younger
+-- the idents of a card's entries have this serial or a greater one
 abbrev pub HasEntriesFrom : Serial → CardView → Type 0
 HasEntriesFrom age c = AllByRecursion (λ e. age ≤ e.ident) c.history
 
--- The order of age in `YANK$$$`: targets are older than their card, entries at least as young as the card, and the entries of every later
--- card as well.
+-- The order of `YANK$$$`: targets are older than their card; the entries of the card and of every later card are of the card's ident or of
+-- younger ones.
 abbrev pub IsAged : List CardView → Type 0
 IsAged [] = Unit {0}
 IsAged (y ∷ ys) = AllByRecursion (TakesOlder y.ident) y.targets × AllByRecursion (HasEntriesFrom y.ident) (y ∷ ys) × IsAged ys
 
--- the cards that are good, given the targets of all these cards
+-- `live` is the list of cards that are good, given the targets of `live`
 abbrev pub AreLive : List CardView → List CardView → Type 0
 AreLive live yanks = live ≡ filter (is_good (targets_of live) 0) yanks

@@ -1,4 +1,4 @@
--- How many live yank cards have each target.
+-- The number of live yank cards that have each target.
 use Rattle.std.specs.Prelude.{ℕ, List, unwrap_or, count_by, Bool}
 use Rattle.std.specs.List.{list_any}
 use Rattle.std.specs.Map.{lookup}
@@ -11,11 +11,11 @@ use Rattle.upd_core.specs.Targets.{is_same}
 abbrev pub has_target : Target → CardView → Bool
 has_target t c = list_any (is_same t) c.targets
 
--- how many of these cards have a target
+-- the number of these cards that have a target
 abbrev pub count_on : List CardView → Target → ℕ
 count_on cards t = count_by (has_target t) cards
 
--- how many live yank cards of a library have a target
+-- the number of live yank cards of a library that have a target
 abbrev pub live_count : LibraryView → Target → ℕ
 live_count l = count_on (live_cards l.yanks)
 

@@ -1,4 +1,4 @@
-//! The active cards of a library, without their past, shown where they stand.
+//! The active cards of a library without histories and targets, by reference: no text is copied.
 
 ghost use Rattle.std.specs.Prelude.{◌≡◌, IfOk, map};
 ghost use Rattle.std.specs.List.{filter};
@@ -13,10 +13,10 @@ use crate::targets::Targets;
 use std::alloc::{AllocError, Global};
 use std::marker::Model;
 
-/// An active card, without its past. Its text stands elsewhere.
+/// An active card without its history and targets; its text is borrowed.
 #[derive(Debug, Drop)]
 pub struct ActiveCardRef<'a> {
-    /// The age of the ident that brought the card.
+    /// The serial of the card's ident.
     pub ident: Serial,
     pub number: u32,
     pub text: &'a [u8],
@@ -33,7 +33,7 @@ impl<'a> Model for ActiveCardRef<'a> {
 /// The active cards of a deck, in order.
 #[derive(Debug, Drop)]
 pub struct ActiveDeckRef<'a> {
-    /// The age of the deck's own ident.
+    /// The serial of the deck's own ident.
     pub ident: Serial,
     pub cards: Vec<ActiveCardRef<'a>>,
 }
@@ -46,11 +46,11 @@ impl<'a> Model for ActiveDeckRef<'a> {
     ghost view = { λ d. record { ident = d.ident; cards = d.cards.items } };
 }
 
-/// A directory and the active cards of its decks, each shown where it stands: nothing is copied.
+/// A directory and the active cards of its decks, borrowed.
 #[derive(Debug, Drop)]
 pub struct ActivesRef<'a> {
     pub idents: &'a [Ident],
-    /// All decks other than `YANK$$$`, by age, also those with no active card.
+    /// All decks other than `YANK$$$`, in order of serial, those with no active card included.
     pub decks: Vec<ActiveDeckRef<'a>>,
 }
 
@@ -62,7 +62,7 @@ impl<'a> Model for ActivesRef<'a> {
     ghost view = { λ a. record { idents = a.idents.now; decks = a.decks.items } };
 }
 
-/// The active ones of the cards of a deck.
+/// The active cards among the cards of a deck.
 pub(crate) fn active_cards<'a>(
     alloc: Global,
     live: &Targets,

@@ -1,4 +1,4 @@
-//! The active cards of a library, without their past, with texts of their own.
+//! The active cards of a library without histories and targets, with texts of their own.
 
 ghost use Rattle.std.specs.Prelude.{◌≡◌, [], ◌∷◌, ◌++◌, All, length, map, slice_get, IfOk, OnOk};
 ghost use Rattle.upd_core.specs.ActiveTexts.{LiesIn, card_in_texts};
@@ -8,7 +8,7 @@ use crate::ident::{Ident, Serial};
 use std::alloc::{AllocError, Global};
 use std::marker::Model;
 
-/// An active card whose text is a range of the texts of its deck.
+/// An active card whose text is a range of the text buffer of its deck.
 #[derive(Clone, Copy, Debug)]
 struct Ranged {
     ident: Serial,
@@ -20,10 +20,10 @@ struct Ranged {
 /// The active cards of a deck, in order.
 #[derive(Debug, Drop)]
 pub struct ActiveDeck {
-    /// The age of the deck's own ident.
+    /// The serial of the deck's own ident.
     pub ident: Serial,
     cards: Vec<Ranged>,
-    /// The texts of the cards, one after the other.
+    /// The texts of the cards, concatenated.
     texts: Vec<u8>,
 }
 
@@ -39,11 +39,11 @@ impl Model for ActiveDeck {
     ghost invariant = { AreWithin };
 }
 
-/// A directory and the active cards of its decks: all that a compile file is made of.
+/// A directory and the active cards of its decks: the input of a compile file.
 #[derive(Debug, Drop)]
 pub struct Actives {
     pub idents: Vec<Ident>,
-    /// All decks other than `YANK$$$`, by age, also those with no active card.
+    /// All decks other than `YANK$$$`, in order of serial, those with no active card included.
     pub decks: Vec<ActiveDeck>,
 }
 
@@ -56,7 +56,7 @@ impl Model for Actives {
 }
 
 impl ActiveDeck {
-    /// A deck with no active card. It takes no memory.
+    /// A deck with no active card. It does not allocate.
     pub fn new(alloc: Global, ident: Serial) -> ActiveDeck
         ensures { result ≡ record { ident = ident; cards = [] } }
     {
@@ -116,7 +116,7 @@ impl ActiveDeck {
         })
     }
 
-    /// A copy; memory alone can fail.
+    /// A deep copy.
     pub fn copy(&self) -> Result<ActiveDeck, AllocError>
         ensures { IfOk result (λ copy. copy ≡ self.now) }
     {
@@ -131,7 +131,7 @@ impl ActiveDeck {
     }
 }
 
-/// The cards whose texts are ranges of these.
+/// The cards as references into the buffer that holds their texts.
 fn shown_cards<'a>(
     alloc: Global,
     texts: &'a [u8],
@@ -152,7 +152,7 @@ fn shown_cards<'a>(
 }
 
 impl Actives {
-    /// The same decks and cards where they stand: no text is copied.
+    /// The decks and cards as references into them: no text is copied.
     pub fn shown(&self) -> Result<ActivesRef<'_>, AllocError>
         ensures { IfOk result (λ shown. shown ≡ self.now) }
     {
@@ -175,7 +175,7 @@ fn shown_decks(alloc: Global, decks: &[ActiveDeck]) -> Result<Vec<ActiveDeckRef<
 }
 
 impl<'a> ActiveDeckRef<'a> {
-    /// A copy with texts of its own; memory alone can fail.
+    /// A copy with texts of its own.
     pub fn copy(&self) -> Result<ActiveDeck, AllocError>
         ensures { IfOk result (λ copy. copy ≡ self.now) }
     {
@@ -188,7 +188,7 @@ impl<'a> ActiveDeckRef<'a> {
 }
 
 impl<'a> ActivesRef<'a> {
-    /// A copy with texts of its own; memory alone can fail.
+    /// A copy with texts of its own.
     pub fn copy(&self) -> Result<Actives, AllocError>
         ensures { IfOk result (λ copy. copy ≡ self.now) }
     {

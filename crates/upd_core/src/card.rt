@@ -11,24 +11,24 @@ use std::alloc::{AllocError, Global};
 use std::marker::Model;
 use upd_text::{CardRef, Name};
 
-/// One entry of a card's history: an ident that switched the card on or off.
+/// One entry of a card's history: an ident, and whether it switched the card on or off.
 #[derive(Clone, Copy, Debug, PartialEq, Eq)]
 pub struct Entry {
     pub ident: Serial,
     pub active: bool,
 }
 
-/// A card: a numbered line of an ident, with all that ever happened to it.
+/// A card: a numbered line of an ident, with its text and history.
 #[derive(Debug, Drop)]
 pub struct Card {
-    /// The age of the ident that brought the card.
+    /// The serial of the ident that introduced the card.
     pub ident: Serial,
     /// Its number within that ident, from 1.
     pub number: u32,
     pub text: Vec<u8>,
-    /// From the oldest entry, which is the card's own ident, on.
+    /// Oldest entry first: it is of the card's own ident and switches on.
     pub history: Vec<Entry>,
-    /// What a yank card takes; none for other cards.
+    /// What a yank card takes out of use; empty for other cards.
     pub targets: Vec<Target>,
 }
 
@@ -47,7 +47,7 @@ impl Model for Card {
 }
 
 impl Card {
-    /// A new card: its history is its own ident, on.
+    /// A new card. Its history is one entry: its own ident, on.
     pub fn new(
         alloc: Global,
         ident: Serial,
@@ -74,7 +74,7 @@ impl Card {
         })
     }
 
-    /// A copy; memory alone can fail.
+    /// A deep copy.
     pub(crate) fn copy(&self) -> Result<Card, AllocError>
         ensures { IfOk result (λ copy. copy ≡ self.now) }
     {
@@ -92,7 +92,7 @@ impl Card {
     }
 }
 
-/// A copy of cards; memory alone can fail.
+/// Deep copies of cards.
 pub(crate) fn copy_cards(alloc: Global, cards: &[Card]) -> Result<Vec<Card>, AllocError>
     ensures { IfOk result (λ copies. copies.items ≡ cards.now) }
 {
@@ -103,7 +103,7 @@ pub(crate) fn copy_cards(alloc: Global, cards: &[Card]) -> Result<Vec<Card>, All
     Ok(copies)
 }
 
-/// The card as directives name it.
+/// The reference by which directives name the card.
 pub fn card_ref(idents: &[Ident], card: &Card) -> CardRef
     ensures { result ≡ ref_of idents.now card.now }
 {
@@ -113,7 +113,7 @@ pub fn card_ref(idents: &[Ident], card: &Card) -> CardRef
     }
 }
 
-/// How many entries the histories of cards have, `usize::MAX` where that is less.
+/// The number of entries in the histories of cards; at most `usize::MAX` is counted.
 pub fn entry_count(cards: &[Card]) -> usize
     ensures { result ≡ capped (sum_by (λ c. length c.history) cards.now) }
 {

@@ -1,15 +1,15 @@
-//! Row changes: what a run does to the tables of a store.
+//! Row changes: what a run changes in the tables of a store.
 
 use crate::card::Entry;
 use crate::ident::{Ident, Serial};
 use crate::target::Target;
 use upd_text::CardRef;
 
-/// One change of the tables. A list of them is carried out in order.
+/// One change of the tables. A store carries out a list of them in order.
 #[derive(Debug, Drop)]
 pub enum Change {
     IdentNew(Ident),
-    /// The ident of an age is no longer held.
+    /// The ident with this serial is no longer held.
     IdentPurged(Serial),
     CardNew {
         card: CardRef,
@@ -19,9 +19,9 @@ pub enum Change {
         pos: u32,
         text: Vec<u8>,
     },
-    /// The card goes, and its status with it.
+    /// The card is deleted, and its status with it.
     CardGone(CardRef),
-    /// The cards of a deck that stand at a place or behind it move, towards the front where `by` is negative.
+    /// The cards of a deck at position `from` or later move by `by`: towards the front where it is negative.
     CardsMoved {
         deck: Serial,
         from: u32,
@@ -33,7 +33,7 @@ pub enum Change {
         ord: u32,
         entry: Entry,
     },
-    /// All entries of the card go; those that stay follow as new.
+    /// All entries of the card are deleted; those that stay follow as `EntryNew`.
     EntriesGone(CardRef),
     TargetNew {
         card: CardRef,
@@ -41,17 +41,17 @@ pub enum Change {
         ord: u32,
         target: Target,
     },
-    /// All targets of the card go; they are named for those who count them.
+    /// All targets of the card are deleted. They are listed, so that a store that counts targets needs no look-up.
     TargetsGone {
         card: CardRef,
         targets: Vec<Target>,
     },
-    /// The card is active now or not; a yank card is live or not.
+    /// Whether the card is active now; for a yank card, whether it is live.
     StatusNow {
         card: CardRef,
         active: bool,
     },
-    /// So many live yank cards have the target; 0 leaves no row.
+    /// The number of live yank cards that have the target; 0 leaves no row.
     CountNow {
         target: Target,
         n: u32,

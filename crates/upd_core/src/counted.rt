@@ -1,4 +1,4 @@
-//! A library that counts the histories that it hands out: what tells how many cards have been looked at.
+//! A library that counts the histories that callers read: the measure of how many cards were looked at.
 
 ghost use Rattle.std.specs.Prelude.{◌≡◌, ◌++◌, if◌then◌else◌, is_some, map, IfOk, OnOk};
 ghost use Rattle.std.specs.Option.{option_copied, option_map};
@@ -21,7 +21,7 @@ use std::alloc::{AllocError, Global};
 use std::marker::Model;
 use upd_text::{CardRef, Fault, Name};
 
-/// A library that hands out histories one by one and counts them.
+/// A library that returns histories one at a time and counts them.
 #[derive(Drop)]
 pub struct Counted<'a> {
     library: &'a Library,
@@ -36,8 +36,8 @@ impl<'a> Model for Counted<'a> {
     ghost view = { λ c. record { library = c.library.now; histories_read = c.histories_read } };
 }
 
-/// A card of a counted library: its reference, its deck, its targets and the idents of its entries are known, its
-/// history is handed out by the `Counted`, which counts it.
+/// A card of a counted library. Its reference, deck, targets and the idents of its entries can be read freely; its
+/// history is read through the `Counted`, which counts it.
 #[derive(Drop)]
 pub struct CountedCard<'a> {
     reference: CardRef,
@@ -54,21 +54,21 @@ impl<'a> Model for CountedCard<'a> {
 }
 
 impl<'a> CountedCard<'a> {
-    /// The card as directives name it.
+    /// The reference by which directives name the card.
     pub fn reference(&self) -> CardRef
         ensures { result ≡ self.now.card }
     {
         self.reference
     }
 
-    /// The age of its deck, 0 for `YANK$$$`.
+    /// The serial of its deck, 0 for `YANK$$$`.
     pub fn deck(&self) -> Serial
         ensures { result ≡ self.now.deck }
     {
         self.deck
     }
 
-    /// What it takes out of use, if it is a yank card.
+    /// What it takes out of use; empty unless it is a yank card.
     pub fn targets(&self) -> &'a [Target]
         ensures { result.now ≡ self.now.view.targets }
     {
@@ -76,8 +76,8 @@ impl<'a> CountedCard<'a> {
         &card.targets
     }
 
-    /// Whether a target covers it whose count is 0 before or now, and not both. It looks at the idents of its entries
-    /// alone.
+    /// Whether some target covers the card whose count is 0 in exactly one of `before` and `now`. It reads only the
+    /// idents of the card's entries.
     pub fn is_reached(&self, before: &TargetCounts, now: &TargetCounts) -> bool
         ensures { result ≡ is_reached (count_in before.now) (count_in now.now) self.now.deck self.now.view }
     {
@@ -101,7 +101,7 @@ fn has_retaken(before: &TargetCounts, now: &TargetCounts, deck: Serial, history:
 }
 
 impl<'a> Counted<'a> {
-    /// A library of which no history has been read.
+    /// A counted library of which no history has been read.
     pub fn new(library: &'a Library) -> Counted<'a>
         ensures { result ≡ record { library = library.now; histories_read = 0 } }
     {
@@ -111,14 +111,14 @@ impl<'a> Counted<'a> {
         }
     }
 
-    /// The number of histories that were read; it stays at `u64::MAX`.
+    /// The number of histories that were read; it saturates at `u64::MAX`.
     pub fn reads(&self) -> u64
         ensures { result ≡ self.now.histories_read }
     {
         self.histories_read
     }
 
-    /// What the decks hold that aren't loaded: nothing in a whole library.
+    /// The cards and entries of decks that aren't loaded: both 0 in a whole library.
     pub fn rest(&self) -> Rest
         ensures { result ≡ self.now.library.rest }
     {
@@ -126,7 +126,7 @@ impl<'a> Counted<'a> {
         library.rest()
     }
 
-    /// The serial of the held ident of a name. It does not allocate.
+    /// The serial of the held ident with a name. It does not allocate.
     pub fn ident_of(&self, name: &Name) -> Option<Serial>
         ensures { result ≡ ident_of name.now self.now.library }
     {
@@ -142,7 +142,7 @@ impl<'a> Counted<'a> {
         library.card_at(card)
     }
 
-    /// The targets of the card that a reference names: none of its own unless it is a yank card. It does not allocate.
+    /// The targets of the card that a reference names; empty unless it is a yank card. It does not allocate.
     pub fn targets(&self, card: CardRef) -> Option<&'a [Target]>
         ensures { option_copied result ≡ option_map (λ c. c.targets) (card_named card self.now.library) }
     {
@@ -152,7 +152,8 @@ impl<'a> Counted<'a> {
         Some(&card.targets)
     }
 
-    /// The history of the card that a reference names: one read more where the card is there. It does not allocate.
+    /// The history of the card that a reference names. It adds 1 to the reads where the card exists, and does not
+    /// allocate.
     pub fn history(&mut self, card: CardRef) -> Option<&'a [Entry]>
         ensures history { option_copied result ≡ option_map (λ c. c.history) (card_named card self.old.library) }
         ensures reads { self.new ≡ (if is_some (card_named card self.old.library) then one_more self.old else self.old) }
@@ -164,7 +165,7 @@ impl<'a> Counted<'a> {
         Some(&card.history)
     }
 
-    /// The history of a card that this library showed: one read more.
+    /// The history of a card of this library. It adds 1 to the reads.
     pub fn history_of(&mut self, card: &CountedCard<'a>) -> &'a [Entry]
         ensures history { result.now ≡ card.now.view.history }
         ensures reads { self.new ≡ one_more self.old }
@@ -180,7 +181,7 @@ impl<'a> Counted<'a> {
         self.histories_read = self.histories_read.saturating_add(1);
     }
 
-    /// The cards that a target covers, by deck (`YANK$$$` first) and place; memory alone can fail.
+    /// The cards that a target covers, in order of deck (`YANK$$$` first) and place.
     pub fn covered(&self, alloc: Global, target: Target) -> Result<Vec<CardRef>, Fault>
         ensures ok { IfOk result (λ cards. cards.items ≡ covered target self.now.library) }
         ensures err { IsOkUnless result (fault_at NoMemory 0) }
@@ -202,7 +203,7 @@ impl<'a> Counted<'a> {
         Ok(found)
     }
 
-    /// The cards of the other decks, by deck and place.
+    /// The cards of the other decks, in order of deck and place.
     pub fn others(&self, alloc: Global) -> Result<Vec<CountedCard<'a>>, AllocError>
         ensures { IfOk result (λ cards. cards.items ≡ others_of self.now.library) }
     {

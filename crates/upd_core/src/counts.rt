@@ -1,4 +1,4 @@
-//! How much a library holds, counted once and kept by each edit.
+//! Sizes of a library, updated by each edit.
 
 ghost use Rattle.std.specs.Prelude.{◌≡◌, ◌+◌, length, sum_by, count_by};
 ghost use Rattle.upd_core.specs.Counts.{capped, AreOf};
@@ -8,7 +8,7 @@ use crate::deck::Deck;
 use crate::ident::Ident;
 use crate::library::Rest;
 
-/// How much a library holds. A count that doesn't fit stays at `usize::MAX`.
+/// The numbers of held idents, cards, entries and targets of a library. A count saturates at `usize::MAX`.
 #[derive(Clone, Copy, Debug)]
 pub struct Counts {
     pub held: usize,
@@ -18,7 +18,7 @@ pub struct Counts {
 }
 
 impl Counts {
-    /// Those of a library that holds nothing.
+    /// The counts of the empty library.
     pub(crate) fn none() -> Counts
         ensures { result ≡ record { held = 0; cards = 0; entries = 0; targets = 0 } }
     {
@@ -30,7 +30,7 @@ impl Counts {
         }
     }
 
-    /// Those of a library with these parts. It looks at each ident and each card.
+    /// The counts of a library with these parts. It visits each ident and each card.
     pub(crate) fn of(idents: &[Ident], decks: &[Deck], yanks: &[Card], rest: Rest) -> Counts
         ensures { AreOf (record { idents = idents.now; decks = decks.now; yanks = yanks.now; rest = rest }) result }
     {
@@ -75,14 +75,14 @@ impl Counts {
     }
 }
 
-/// How many of these idents are held.
+/// The number of held idents.
 fn held_count(idents: &[Ident]) -> usize
     ensures { result ≡ capped (count_by (λ i. i.held) idents.now) }
 {
     idents.iter().filter(|ident| ident.held).count()
 }
 
-/// How many cards decks have.
+/// The number of cards in decks.
 fn card_count(decks: &[Deck]) -> usize
     ensures { result ≡ capped (sum_by (λ d. length d.cards) decks.now) }
 {
@@ -93,7 +93,7 @@ fn card_count(decks: &[Deck]) -> usize
     count
 }
 
-/// How many entries the cards of decks have.
+/// The number of entries on the cards of decks.
 fn deck_entry_count(decks: &[Deck]) -> usize
     ensures { result ≡ capped (sum_by (λ d. sum_by (λ c. length c.history) d.cards) decks.now) }
 {
@@ -104,7 +104,7 @@ fn deck_entry_count(decks: &[Deck]) -> usize
     count
 }
 
-/// How many targets yank cards have.
+/// The number of targets on yank cards.
 fn target_count(cards: &[Card]) -> usize
     ensures { result ≡ capped (sum_by (λ c. length c.targets) cards.now) }
 {

@@ -1,4 +1,4 @@
-//! Decks, and where a card stands in them.
+//! Decks, and looking up cards in them.
 
 ghost use Rattle.std.specs.Prelude.{◌≡◌, [], ◌∷◌, ◌<◌, length, find, IfSome, IfOk};
 ghost use Rattle.std.specs.Option.{option_copied};
@@ -15,7 +15,7 @@ use std::marker::Model;
 /// A deck: its cards in order.
 #[derive(Debug, Drop)]
 pub struct Deck {
-    /// The age of the deck's own ident.
+    /// The serial of the deck's own ident.
     pub ident: Serial,
     pub cards: Vec<Card>,
 }
@@ -29,7 +29,7 @@ impl Model for Deck {
 }
 
 impl Deck {
-    /// A new deck: its first card has this text.
+    /// A new deck with one card, which has this text.
     pub fn new(alloc: Global, ident: Serial, text: &[u8]) -> Result<Deck, AllocError>
         ensures { IfOk result (λ deck. deck ≡ record { ident = ident; cards = new_card ident 1 text.now [] ∷ [] }) }
     {
@@ -39,7 +39,7 @@ impl Deck {
         Ok(Deck { ident, cards })
     }
 
-    /// A copy; memory alone can fail.
+    /// A deep copy.
     pub(crate) fn copy(&self) -> Result<Deck, AllocError>
         ensures { IfOk result (λ copy. copy ≡ self.now) }
     {
@@ -51,7 +51,7 @@ impl Deck {
     }
 }
 
-/// A copy of decks; memory alone can fail.
+/// Deep copies of decks.
 pub(crate) fn copy_decks(alloc: Global, decks: &[Deck]) -> Result<Vec<Deck>, AllocError>
     ensures { IfOk result (λ copies. copies.items ≡ decks.now) }
 {
@@ -62,7 +62,7 @@ pub(crate) fn copy_decks(alloc: Global, decks: &[Deck]) -> Result<Vec<Deck>, All
     Ok(copies)
 }
 
-/// The deck of an age.
+/// The deck with a serial.
 pub fn deck_aged(decks: &[Deck], age: Serial) -> Option<&Deck>
     ensures { option_copied result ≡ find (is_deck age) decks.now }
 {
@@ -74,7 +74,7 @@ pub fn deck_aged(decks: &[Deck], age: Serial) -> Option<&Deck>
     None
 }
 
-/// The index of the card of an ident and a number.
+/// The index of the card with an ident and a number.
 pub(crate) fn card_index(cards: &[Card], ident: Serial, number: u32) -> Option<usize>
     ensures first { result ≡ index_from (is_card ident number) 0 cards.now }
     ensures within { IfSome result (λ i. i < length cards.now) }
@@ -87,7 +87,7 @@ pub(crate) fn card_index(cards: &[Card], ident: Serial, number: u32) -> Option<u
     None
 }
 
-/// Where the card of an ident and a number stands in these decks.
+/// The place in these decks of the card with an ident and a number.
 pub(crate) fn place_in(decks: &[Deck], ident: Serial, number: u32) -> Option<Place>
     ensures { result ≡ place_in decks.now ident number }
 {

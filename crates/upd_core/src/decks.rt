@@ -1,4 +1,4 @@
-//! The decks of a library, with what makes look-ups of cards short.
+//! The decks of a library, with an index that shortens look-ups of cards.
 
 ghost use Rattle.std.specs.Prelude.{◌≡◌, ◌==◌, ◌≤◌, [], ◌∷◌, ◌++◌, true, false, find, is_some, IfOk, OnOk, OnErr};
 ghost use Rattle.std.specs.Option.{option_map_or};
@@ -23,7 +23,7 @@ use upd_text::limits::MAX_INTRODUCED;
 #[derive(Debug, Drop)]
 pub(crate) struct Decks {
     all: Vec<Deck>,
-    /// For each age whether its ident may have cards in another deck than its own.
+    /// By serial: whether the ident may have cards in a deck other than its own.
     strays: Vec<bool>,
 }
 
@@ -40,7 +40,7 @@ impl Model for Decks {
 }
 
 impl Decks {
-    /// These decks. Where there is no memory for marks, each look-up of a card goes through all decks.
+    /// These decks. Where memory for the flags runs out, each look-up of a card searches all decks.
     pub(crate) fn of(all: Vec<Deck>) -> Decks
         ensures { result ≡ all.items }
     {
@@ -49,7 +49,7 @@ impl Decks {
         Decks { all, strays }
     }
 
-    /// A copy; memory alone can fail.
+    /// A deep copy.
     pub(crate) fn copy(&self) -> Result<Decks, AllocError>
         ensures { IfOk result (λ copy. copy ≡ self.now) }
     {
@@ -63,7 +63,7 @@ impl Decks {
         self.all.as_slice()
     }
 
-    /// Where the card of an ident and a number stands.
+    /// The place of the card with an ident and a number.
     pub(crate) fn place_of(&self, ident: Serial, number: u32) -> Option<Place>
         ensures { result ≡ place_in self.now ident number }
     {
@@ -74,7 +74,7 @@ impl Decks {
         }
     }
 
-    /// A new deck at the end.
+    /// Appends a deck.
     pub(crate) fn push(&mut self, deck: Deck) -> Result<(), AllocError>
         ensures ok { OnOk result (self.new ≡ self.old ++ deck ∷ []) }
         ensures err { OnErr result (self.new ≡ self.old) }
@@ -84,7 +84,8 @@ impl Decks {
         Ok(())
     }
 
-    /// A card in the deck of an age, with so many of its cards behind it; whether there is such a deck.
+    /// Inserts a card into the deck with a serial, in front of its last `behind` cards. Returns whether the deck
+    /// exists.
     pub(crate) fn insert(
         &mut self,
         age: Serial,
@@ -100,7 +101,8 @@ impl Decks {
         Ok(found)
     }
 
-    /// An entry on the cards of the deck of an age from one index to another, both included; how many these are.
+    /// Appends an entry to the cards of a deck from one index to another, both included. Returns the number of these
+    /// cards.
     pub(crate) fn enter(
         &mut self,
         age: Serial,
@@ -118,14 +120,14 @@ impl Decks {
         Ok(count)
     }
 
-    /// Takes the decks of these idents away, and their cards and entries out of the other decks.
+    /// Removes the decks of these idents, and their cards and entries from the other decks.
     pub(crate) fn purge(&mut self, gone: &Gone)
         ensures { self.new ≡ decks_without (is_gone gone.now) self.old }
     {
         purge_decks(&mut self.all, gone);
     }
 
-    /// Purges an ident in the deck of an age.
+    /// Purges an ident in the deck with a serial.
     pub(crate) fn purge_in(&mut self, age: Serial, ident: Serial)
         ensures { self.new
             ≡ at_first (is_deck age) (λ d. record d { cards = without_idents (λ x. x == ident) d.cards }) self.old }
@@ -134,7 +136,7 @@ impl Decks {
     }
 }
 
-/// Marks that say of no ident up to the youngest deck that it strays; none where there is no memory for them.
+/// A false flag for each serial up to the youngest deck; no flags where memory runs out.
 fn no_strays(decks: &Vec<Deck>) -> Vec<bool> {
     let alloc = *decks.allocator();
     let count = match decks.last() {
@@ -147,7 +149,7 @@ fn no_strays(decks: &Vec<Deck>) -> Vec<bool> {
     }
 }
 
-/// Whether an ident may have cards in another deck than its own.
+/// Whether an ident may have cards in a deck other than its own.
 fn may_stray(strays: &[bool], ident: Serial) -> bool
     ensures { result ≡ may_stray strays.now ident }
 {
@@ -157,7 +159,7 @@ fn may_stray(strays: &[bool], ident: Serial) -> bool
     }
 }
 
-/// Marks an ident as one that may stray.
+/// Notes that an ident may stray.
 fn note_stray(strays: &mut [bool], ident: Serial)
     ensures kept { StayNoted strays.old strays.new }
     ensures noted { may_stray strays.new ident ≡ true }
@@ -168,7 +170,7 @@ fn note_stray(strays: &mut [bool], ident: Serial)
     }
 }
 
-/// Marks the ident of a card that stands in the deck of an age, unless the deck is its own.
+/// Notes that the ident of a card in a deck may stray, unless the deck is its own.
 fn note_card(strays: &mut [bool], deck: Serial, card: &Card)
     ensures kept { StayNoted strays.old strays.new }
     ensures home { is_home strays.new deck card.now ≡ true }
@@ -179,7 +181,7 @@ fn note_card(strays: &mut [bool], deck: Serial, card: &Card)
     }
 }
 
-/// [`note_card`] on a vector, whose length stays.
+/// [`note_card`] on a vector: its length is unchanged.
 fn note_kept(strays: &mut Vec<bool>, deck: Serial, card: &Card)
     ensures kept { StayNoted strays.old.items strays.new.items }
     ensures home { is_home strays.new.items deck card.now ≡ true }
@@ -187,7 +189,7 @@ fn note_kept(strays: &mut Vec<bool>, deck: Serial, card: &Card)
     note_card(strays, deck, card);
 }
 
-/// Marks the idents of the cards of a deck.
+/// [`note_card`] for the cards of a deck.
 fn note_deck(strays: &mut [bool], deck: &Deck)
     ensures kept { StayNoted strays.old strays.new }
     ensures home { IsHome strays.new deck.now }
@@ -197,7 +199,7 @@ fn note_deck(strays: &mut [bool], deck: &Deck)
     }
 }
 
-/// Marks the idents of the cards of all decks.
+/// [`note_card`] for the cards of all decks.
 fn note_decks(strays: &mut [bool], decks: &[Deck])
     ensures { AreHome strays.new decks.now }
 {
@@ -219,7 +221,7 @@ fn index_at_home(deck: &Deck, strays: &[bool], ident: Serial, number: u32) -> Op
     }
 }
 
-/// Where the card of an ident that doesn't stray stands.
+/// The place of the card of an ident that doesn't stray.
 fn place_at_home(decks: &[Deck], strays: &[bool], ident: Serial, number: u32) -> Option<Place>
     requires home { AreHome strays.now decks.now }
     requires stays { may_stray strays.now ident ≡ false }

@@ -1,4 +1,4 @@
-//! The edits of a library. Its look-ups stand in `library`.
+//! The edits of a library. Its look-ups are in `library`.
 
 ghost use Rattle.std.specs.Prelude.{◌≡◌, ◌==◌, ◌-◌, ◌+◌, ◌<◌, ◌≤◌, length, map, take, insert};
 ghost use Rattle.std.specs.Prelude.{find, is_some, IfOk, IfSome, OnOk, OnErr};
@@ -20,14 +20,14 @@ use std::alloc::{AllocError, Global};
 use upd_text::Name;
 use upd_text::limits::MAX_INTRODUCED;
 
-/// Each edit that takes memory fails for want of it alone, and then the library is as it was.
+/// After an error the library is unchanged.
 impl Library {
     /// The allocator of its vectors.
     pub fn allocator(&self) -> Global {
         *self.idents.allocator()
     }
 
-    /// A new ident with the next age.
+    /// Appends an ident with the next serial to the directory.
     pub fn introduce(&mut self, name: Name, kind: Kind, noprop: bool) -> Result<(), AllocError>
         requires { length self.old.idents < MAX_INTRODUCED }
         ensures ok { OnOk result (self.new ≡ introduced name kind noprop self.old) }
@@ -45,7 +45,7 @@ impl Library {
         Ok(())
     }
 
-    /// A new deck at the end.
+    /// Appends a deck.
     pub fn push_deck(&mut self, deck: Deck) -> Result<(), AllocError>
         ensures ok { OnOk result (self.new ≡ with_deck deck self.old) }
         ensures err { OnErr result (self.new ≡ self.old) }
@@ -56,8 +56,8 @@ impl Library {
         Ok(())
     }
 
-    /// A card in the deck of an age, 0 for `YANK$$$`, with so many of its cards behind it. Where there is no such deck
-    /// it is dropped.
+    /// Inserts a card into the deck with a serial, 0 for `YANK$$$`, in front of its last `behind` cards. Where the deck
+    /// doesn't exist the card is dropped.
     pub fn insert_card(&mut self, deck: Serial, behind: usize, card: Card) -> Result<(), AllocError>
         ensures ok { OnOk result (self.new ≡ with_card deck behind card self.old) }
         ensures err { OnErr result (self.new ≡ self.old) }
@@ -73,7 +73,7 @@ impl Library {
         Ok(())
     }
 
-    /// A yank card at the end of `YANK$$$`.
+    /// Appends a yank card to `YANK$$$`.
     pub fn push_yank(&mut self, card: Card) -> Result<(), AllocError>
         ensures ok { OnOk result (self.new ≡ with_yank card self.old) }
         ensures err { OnErr result (self.new ≡ self.old) }
@@ -86,8 +86,8 @@ impl Library {
         Ok(())
     }
 
-    /// An entry on each card of the deck of an age, 0 for `YANK$$$`, from one index to another, both included, as far as
-    /// there are cards.
+    /// Appends an entry to each card of the deck with a serial, 0 for `YANK$$$`, from one index to another, both
+    /// included. Indices past the last card are ignored.
     pub fn enter(
         &mut self,
         deck: Serial,
@@ -133,7 +133,7 @@ impl Library {
         Ok(())
     }
 
-    /// Purges the idents of these ages. It takes a mark for each age up to the greatest.
+    /// Purges the idents with these serials. It allocates one flag for each serial up to the greatest.
     pub fn purge(&mut self, ages: &[Serial]) -> Result<(), AllocError>
         ensures ok { OnOk result (self.new ≡ purged (is_among ages.now) self.old) }
         ensures err { OnErr result (self.new ≡ self.old) }
@@ -143,7 +143,7 @@ impl Library {
         Ok(())
     }
 
-    /// Purges the ident of an age and all younger ones. It takes no memory.
+    /// Purges the ident with a serial and all younger ones. It does not allocate.
     pub fn purge_from(&mut self, age: Serial)
         ensures { self.new ≡ purged_back age self.old }
     {
@@ -159,7 +159,7 @@ impl Library {
         self.counts = Counts::of(&self.idents, self.decks.as_slice(), &self.yanks, self.rest);
     }
 
-    /// Purges an ident in one deck, 0 for `YANK$$$`; it stays held. It takes no memory.
+    /// Purges an ident in one deck, 0 for `YANK$$$`; it stays held. It does not allocate.
     pub fn purge_in(&mut self, deck: Serial, ident: Serial)
         ensures { self.new ≡ purged_in deck ident self.old }
     {
@@ -172,7 +172,7 @@ impl Library {
     }
 }
 
-/// The index of the deck of an age.
+/// The index of the deck with a serial.
 fn deck_index(decks: &[Deck], age: Serial) -> Option<usize>
     ensures first { result ≡ index_from (is_deck age) 0 decks.now }
     ensures within { IfSome result (λ i. i < length decks.now) }
@@ -185,7 +185,7 @@ fn deck_index(decks: &[Deck], age: Serial) -> Option<usize>
     None
 }
 
-/// Puts a card where so many cards stand behind it, or in front of all where there are fewer.
+/// Inserts a card in front of the last `behind` cards, or of all where there are fewer.
 fn insert_behind(cards: &mut Vec<Card>, behind: usize, card: Card) -> Result<(), AllocError>
     ensures ok { OnOk result (cards.new.items ≡ insert cards.old.items (length cards.old.items - behind) card) }
     ensures err { OnErr result (cards.new.items ≡ cards.old.items) }
@@ -195,7 +195,7 @@ fn insert_behind(cards: &mut Vec<Card>, behind: usize, card: Card) -> Result<(),
     Ok(())
 }
 
-/// The same in the deck of an age; whether there is such a deck.
+/// [`insert_behind`] in the deck with a serial. Returns whether the deck exists.
 pub(crate) fn insert_in(
     decks: &mut Vec<Deck>,
     age: Serial,
@@ -215,7 +215,7 @@ pub(crate) fn insert_in(
     }
 }
 
-/// Puts an entry on a card.
+/// Appends an entry to a card's history.
 fn enter_one(card: &mut Card, entry: Entry) -> Result<(), AllocError>
     ensures ok { OnOk result (card.new ≡ entered entry card.old) }
     ensures err { OnErr result (card.new ≡ card.old) }
@@ -224,7 +224,7 @@ fn enter_one(card: &mut Card, entry: Entry) -> Result<(), AllocError>
     Ok(())
 }
 
-/// Takes the last entry out of a history.
+/// Removes the last entry of a history.
 fn drop_last(history: &mut Vec<Entry>)
     ensures { history.new.items ≡ take (length history.old.items - 1) history.old.items }
 {
@@ -232,7 +232,7 @@ fn drop_last(history: &mut Vec<Entry>)
     history.truncate(kept);
 }
 
-/// Takes the last entry off each card.
+/// Removes the last entry of each card.
 fn leave_each(cards: &mut [Card])
     ensures { cards.new ≡ map without_last cards.old }
 {
@@ -241,7 +241,7 @@ fn leave_each(cards: &mut [Card])
     }
 }
 
-/// Puts an entry on each card. Where memory runs out, those that have it lose it again.
+/// Appends an entry to each card. Where memory runs out, the entries already added are removed.
 fn enter_each(cards: &mut [Card], entry: Entry) -> Result<(), AllocError>
     ensures ok { OnOk result (cards.new ≡ map (entered entry) cards.old) }
     ensures err { OnErr result (cards.new ≡ cards.old) }
@@ -255,7 +255,8 @@ fn enter_each(cards: &mut [Card], entry: Entry) -> Result<(), AllocError>
     Ok(())
 }
 
-/// Puts an entry on the cards from one index to another, as far as there are cards; how many these are.
+/// Appends an entry to the cards from one index to another. Indices past the last card are ignored. Returns the number
+/// of cards changed.
 fn enter_some(cards: &mut [Card], from: usize, to: usize, entry: Entry) -> Result<usize, AllocError>
     requires { from ≤ to }
     ensures count { IfOk result (λ count. count ≡ entered_count from to cards.old) }
@@ -273,7 +274,7 @@ fn enter_some(cards: &mut [Card], from: usize, to: usize, entry: Entry) -> Resul
     }
 }
 
-/// [`enter_some`] on a deck's vector, whose length stays.
+/// [`enter_some`] on a deck's vector: its length is unchanged.
 fn enter_range(
     cards: &mut Vec<Card>,
     from: usize,
@@ -288,7 +289,7 @@ fn enter_range(
     enter_some(cards, from, to, entry)
 }
 
-/// [`enter_range`] in the deck of an age; on no card where there is no such deck.
+/// [`enter_range`] in the deck with a serial; it changes no card where there is no such deck.
 pub(crate) fn enter_in(
     decks: &mut Vec<Deck>,
     age: Serial,
@@ -311,7 +312,7 @@ pub(crate) fn enter_in(
     }
 }
 
-/// Purges an ident in the deck of an age.
+/// Purges an ident in the deck with a serial.
 pub(crate) fn purge_deck(decks: &mut Vec<Deck>, age: Serial, ident: Serial)
     ensures { decks.new.items
         ≡ at_first (is_deck age) (λ d. record d { cards = without_idents (λ x. x == ident) d.cards }) decks.old.items }

@@ -1,4 +1,4 @@
-//! Purges: what goes with the idents that a purge takes.
+//! Purges: what is removed with the purged idents.
 
 ghost use Rattle.std.specs.Prelude.{◌≡◌, ℕ, ◌<◌, not, map, slice_index, EachIndex, IfOk};
 ghost use Rattle.std.specs.List.{filter};
@@ -10,18 +10,18 @@ use crate::deck::Deck;
 use crate::ident::{Ident, Serial};
 use std::alloc::{AllocError, Global};
 
-/// The idents that a purge takes.
+/// The set of idents that a purge removes.
 #[derive(Drop)]
 pub enum Gone {
     Only(Serial),
     /// An ident and all younger ones.
     From(Serial),
-    /// The ages whose mark is set.
+    /// The serials whose flag is set.
     Listed(Vec<bool>),
 }
 
 impl Gone {
-    /// The idents of these ages. It takes a mark for each age up to the greatest.
+    /// The idents with these serials. It allocates one flag for each serial up to the greatest.
     pub(crate) fn among(alloc: Global, ages: &[Serial]) -> Result<Gone, AllocError>
         ensures { IfOk result (λ gone. (z : ℕ) → is_gone gone z ≡ is_among ages.now z) }
     {
@@ -29,7 +29,7 @@ impl Gone {
         Ok(Gone::Listed(flags))
     }
 
-    /// Whether the purge takes the ident of an age.
+    /// Whether the purge removes the ident with a serial.
     pub(crate) fn covers(&self, age: Serial) -> bool
         ensures { result ≡ is_gone self.now age }
     {
@@ -41,7 +41,7 @@ impl Gone {
     }
 }
 
-/// Whether an age has a mark: beyond the marks none has.
+/// The flag of a serial; false past the last flag.
 fn is_listed(flags: &[bool], age: Serial) -> bool
     ensures { result ≡ is_listed flags.now age }
 {
@@ -49,7 +49,7 @@ fn is_listed(flags: &[bool], age: Serial) -> bool
     age < flags.len() && flags[age]
 }
 
-/// A mark for each age up to the greatest of these.
+/// The flags of these serials, up to the greatest.
 fn flags(alloc: Global, ages: &[Serial]) -> Result<Vec<bool>, AllocError>
     ensures { IfOk result (λ flags. (z : ℕ) → is_listed flags.items z ≡ is_among ages.now z) }
 {
@@ -60,7 +60,7 @@ fn flags(alloc: Global, ages: &[Serial]) -> Result<Vec<bool>, AllocError>
     Ok(flags)
 }
 
-/// One more than the greatest age.
+/// One more than the greatest serial; 0 for none.
 fn after_all(ages: &[Serial]) -> usize
     ensures { EachIndex ages.now (λ k. slice_index ages.now k < result) }
 {
@@ -70,7 +70,7 @@ fn after_all(ages: &[Serial]) -> usize
     }
 }
 
-/// An ident once the purge is done.
+/// An ident after the purge.
 fn unheld(ident: Ident, gone: &Gone) -> Ident
     ensures { result ≡ unheld (is_gone gone.now) ident }
 {
@@ -78,7 +78,7 @@ fn unheld(ident: Ident, gone: &Gone) -> Ident
     Ident { held, ..ident }
 }
 
-/// Holds these idents no more.
+/// Clears `held` of these idents.
 pub(crate) fn unhold(idents: &mut [Ident], gone: &Gone)
     ensures { idents.new ≡ map (unheld (is_gone gone.now)) idents.old }
 {
@@ -87,14 +87,14 @@ pub(crate) fn unhold(idents: &mut [Ident], gone: &Gone)
     }
 }
 
-/// Takes the entries of these idents out of a history.
+/// Removes the entries of these idents from a history.
 fn purge_history(history: &mut Vec<Entry>, gone: &Gone)
     ensures { history.new.items ≡ filter (λ e. not (is_gone gone.now e.ident)) history.old.items }
 {
     history.retain(|entry| !gone.covers(entry.ident));
 }
 
-/// The same for the history of each card.
+/// [`purge_history`] for the history of each card.
 fn purge_histories(cards: &mut [Card], gone: &Gone)
     ensures { cards.new ≡ map (without_entries (is_gone gone.now)) cards.old }
 {
@@ -103,14 +103,14 @@ fn purge_histories(cards: &mut [Card], gone: &Gone)
     }
 }
 
-/// Takes the cards of these idents away.
+/// Removes the cards of these idents.
 fn drop_cards(cards: &mut Vec<Card>, gone: &Gone)
     ensures { cards.new.items ≡ filter (λ c. not (is_gone gone.now c.ident)) cards.old.items }
 {
     cards.retain(|card| !gone.covers(card.ident));
 }
 
-/// Takes the cards and the entries of these idents out of cards.
+/// Removes the cards of these idents, and their entries from the other cards.
 pub(crate) fn purge_cards(cards: &mut Vec<Card>, gone: &Gone)
     ensures { cards.new.items ≡ without_idents (is_gone gone.now) cards.old.items }
 {
@@ -118,7 +118,7 @@ pub(crate) fn purge_cards(cards: &mut Vec<Card>, gone: &Gone)
     purge_histories(cards, gone);
 }
 
-/// Takes the cards and the entries of these idents out of each deck.
+/// [`purge_cards`] for each deck.
 fn purge_each(decks: &mut [Deck], gone: &Gone)
     ensures { decks.new ≡ map (deck_without (is_gone gone.now)) decks.old }
 {
@@ -127,14 +127,14 @@ fn purge_each(decks: &mut [Deck], gone: &Gone)
     }
 }
 
-/// Takes the decks of these idents away, with all their cards.
+/// Removes the decks of these idents, with all their cards.
 fn drop_decks(decks: &mut Vec<Deck>, gone: &Gone)
     ensures { decks.new.items ≡ filter (λ d. not (is_gone gone.now d.ident)) decks.old.items }
 {
     decks.retain(|deck| !gone.covers(deck.ident));
 }
 
-/// Takes the decks of these idents away, and their cards and entries out of the other decks.
+/// Removes the decks of these idents, and their cards and entries from the other decks.
 pub(crate) fn purge_decks(decks: &mut Vec<Deck>, gone: &Gone)
     ensures { decks.new.items ≡ decks_without (is_gone gone.now) decks.old.items }
 {

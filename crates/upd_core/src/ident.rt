@@ -6,29 +6,30 @@ ghost use Rattle.upd_core.specs.Library.{held_named, is_deck_kind, is_common, na
 
 use upd_text::Name;
 
-/// The age of an ident: 1 for the first that was introduced. `YANK$$$` has age 0.
+/// The serial number of an ident: 1 for the first ever introduced, and a younger ident has a greater one. `YANK$$$`
+/// has serial 0.
 pub type Serial = u32;
 
-/// What an ident stands for.
+/// What an ident names.
 #[derive(Clone, Copy, Debug, PartialEq, Eq)]
 pub enum Kind {
     /// A correction set.
     Set,
     /// A deck that isn't common.
     Deck,
-    /// A common deck, whose cards stand where it is called.
+    /// A common deck: its cards are copied to where it is called.
     Common,
 }
 
-/// A correction set or a deck in the directory. Its age is its identity: a purged name may be introduced again, with a
-/// new age.
+/// A correction set or a deck in the directory. Its serial identifies it: a purged name may be introduced again, with
+/// a new serial.
 #[derive(Clone, Copy, Debug)]
 pub struct Ident {
     pub name: Name,
     pub age: Serial,
     pub kind: Kind,
-    /// Whether a change of this common deck leaves its callers out of a normal compile file, unless they are chosen
-    /// for another reason.
+    /// NOPROP, for a common deck: in mode normal, a change of it doesn't put its callers into the compile file. They
+    /// may be chosen for another reason.
     pub noprop: bool,
     /// Introduced and not purged.
     pub held: bool,
@@ -56,7 +57,7 @@ impl Kind {
     }
 }
 
-/// The held ident of a name.
+/// The held ident with a name.
 pub(crate) fn held_named<'a>(idents: &'a [Ident], name: &Name) -> Option<&'a Ident>
     ensures { option_copied result ≡ held_named name.now idents.now }
 {
@@ -68,7 +69,7 @@ pub(crate) fn held_named<'a>(idents: &'a [Ident], name: &Name) -> Option<&'a Ide
     None
 }
 
-/// The name of the ident of an age, held or not.
+/// The name of the ident with a serial, held or not.
 pub fn name_at(idents: &[Ident], age: Serial) -> Option<Name>
     ensures { result ≡ name_at idents.now age }
 {

@@ -1,8 +1,8 @@
-//! The program library: idents, decks of numbered cards, correction histories and yank cards, and what each of them
-//! means.
+//! The program library: idents, decks of numbered cards, correction histories and yank cards, and their statuses.
 //!
-//! The rules are in `docs/rules.md`. A library changes only by the few edits of `edits`, each of which is what its
-//! definition says.
+//! The rules are in `docs/rules.md`. A library changes only by the edits in `edits`; each is defined in `specs/Edits`.
+//! Each call that returns an `AllocError` fails only when memory runs out. Where it returns a `Fault`, that is NoMemory
+//! at line 0.
 #![tactic(auto)]
 
 pub mod active_refs;

@@ -1,4 +1,4 @@
-//! The library and its look-ups. What changes it stands in `edits`, its limits in `limits`.
+//! The library and its look-ups. Its edits are in `edits`, its limits in `limits`.
 
 ghost use Rattle.std.specs.Prelude.{◌≡◌, IfOk};
 ghost use Rattle.std.specs.Option.{option_copied};
@@ -21,14 +21,14 @@ use std::alloc::Global;
 use std::marker::Model;
 use upd_text::{CardRef, Fault, Name};
 
-/// Where a card stands: the age of its deck (0 for `YANK$$$`) and its index there.
+/// The place of a card: the serial of its deck (0 for `YANK$$$`) and its index there, from 0.
 #[derive(Clone, Copy, Debug, PartialEq, Eq)]
 pub struct Place {
     pub deck: Serial,
     pub index: usize,
 }
 
-/// What the decks that aren't loaded hold: the limits count it.
+/// The cards and entries of the decks that aren't loaded. They count towards the limits.
 #[derive(Clone, Copy, Debug, PartialEq, Eq)]
 pub struct Rest {
     pub cards: usize,
@@ -42,7 +42,7 @@ pub struct Library {
     pub(crate) decks: Decks,
     pub(crate) yanks: Vec<Card>,
     pub(crate) rest: Rest,
-    /// How much it holds: each edit keeps them.
+    /// Its sizes, updated by each edit.
     pub(crate) counts: Counts,
 }
 
@@ -68,7 +68,7 @@ impl Model for Library {
 }
 
 impl Library {
-    /// A library with no ident and no card. It takes no memory.
+    /// The empty library. It does not allocate.
     pub fn new(alloc: Global) -> Library
         ensures { result ≡ empty }
     {
@@ -103,7 +103,7 @@ impl Library {
         }
     }
 
-    /// A library with the same contents; memory alone can fail.
+    /// A deep copy.
     pub fn copy(&self) -> Result<Library, Fault>
         ensures ok { IfOk result (λ copy. copy ≡ self.now) }
         ensures err { IsOkUnless result (fault_at NoMemory 0) }
@@ -121,14 +121,14 @@ impl Library {
         })
     }
 
-    /// The directory: all idents ever introduced, by age.
+    /// The directory: all idents ever introduced, in order of serial.
     pub fn idents(&self) -> &[Ident]
         ensures { result.now ≡ self.now.idents }
     {
         self.idents.as_slice()
     }
 
-    /// The decks other than `YANK$$$`, by age.
+    /// The decks other than `YANK$$$`, in order of serial.
     pub fn decks(&self) -> &[Deck]
         ensures { result.now ≡ self.now.decks }
     {
@@ -142,28 +142,28 @@ impl Library {
         self.yanks.as_slice()
     }
 
-    /// What the decks hold that aren't loaded: nothing in a whole library.
+    /// The cards and entries of decks that aren't loaded: both 0 in a whole library.
     pub fn rest(&self) -> Rest
         ensures { result ≡ self.now.rest }
     {
         self.rest
     }
 
-    /// The held ident of a name.
+    /// The held ident with a name.
     pub fn held(&self, name: &Name) -> Option<&Ident>
         ensures { option_copied result ≡ held_named name.now self.now.idents }
     {
         held_named(&self.idents, name)
     }
 
-    /// The age of the held ident of a name.
+    /// The serial of the held ident with a name.
     pub fn ident_of(&self, name: &Name) -> Option<Serial>
         ensures { result ≡ ident_of name.now self.now }
     {
         self.held(name).map(|ident| ident.age)
     }
 
-    /// The age of the held deck of a name, common or not.
+    /// The serial of the held deck with a name, common or not.
     pub fn deck_of(&self, name: &Name) -> Option<Serial>
         ensures { result ≡ deck_of name.now self.now }
     {
@@ -175,7 +175,7 @@ impl Library {
         }
     }
 
-    /// The cards of the deck of an age, 0 for `YANK$$$`; none where there is no such deck.
+    /// The cards of the deck with a serial, 0 for `YANK$$$`; empty where there is no such deck.
     pub fn cards_of(&self, age: Serial) -> &[Card]
         ensures { result.now ≡ cards_of age self.now }
     {
@@ -188,7 +188,7 @@ impl Library {
         }
     }
 
-    /// Where the card stands that a reference names.
+    /// The place of the card that a reference names.
     pub fn card_at(&self, card: CardRef) -> Option<Place>
         ensures { result ≡ place_of card self.now }
     {
@@ -206,7 +206,7 @@ impl Library {
         self.cards_of(place.deck).get(place.index)
     }
 
-    /// Which yank cards are live; memory alone can fail.
+    /// Which yank cards are live.
     pub fn live_yanks(&self) -> Result<Live<'_>, Fault>
         ensures ok { IfOk result (λ live. live ≡ live_of self.now) }
         ensures err { IsOkUnless result (fault_at NoMemory 0) }
@@ -220,8 +220,8 @@ impl Library {
         })
     }
 
-    /// Whether the card that a reference names is active, for a yank card live; None where there is no such card. The
-    /// program doesn't call it.
+    /// Whether the card that a reference names is active; for a yank card, whether it is live. None where there is no
+    /// such card.
     pub fn status(&self, live: &Live, card: CardRef) -> Option<bool>
         requires { live.now ≡ live_of self.now }
         ensures { result ≡ status_of card self.now }
@@ -231,7 +231,7 @@ impl Library {
         Some(is_active(&live.targets, place.deck, card))
     }
 
-    /// The active cards of all decks other than `YANK$$$`, copied; memory alone can fail.
+    /// Copies of the active cards of all decks other than `YANK$$$`.
     pub fn actives(&self) -> Result<Actives, Fault>
         ensures ok { IfOk result (λ actives. actives ≡ actives_of self.now) }
         ensures err { IsOkUnless result (fault_at NoMemory 0) }
@@ -241,7 +241,7 @@ impl Library {
         Ok(actives)
     }
 
-    /// The same where they stand: no text is copied.
+    /// [`Library::actives`] by reference: no text is copied.
     pub fn actives_shown(&self) -> Result<ActivesRef<'_>, Fault>
         ensures ok { IfOk result (λ actives. actives ≡ actives_of self.now) }
         ensures err { IsOkUnless result (fault_at NoMemory 0) }

@@ -7,7 +7,7 @@ use crate::library::Library;
 use upd_text::limits::{MAX_CARDS, MAX_ENTRIES, MAX_HELD, MAX_INTRODUCED, MAX_TARGETS};
 
 impl Library {
-    /// Whether no limit is passed.
+    /// Whether the library is within all its limits.
     pub fn is_within_limits(&self) -> bool
         ensures { result ≡ is_within_limits self.now }
     {

@@ -1,4 +1,4 @@
-//! Which yank cards are live, and which cards are good and active under them.
+//! Which yank cards are live, and which cards are good and active given these.
 
 ghost use Rattle.std.specs.Prelude.{◌≡◌, IfOk};
 ghost use Rattle.std.specs.Option.{option_and_then};
@@ -15,7 +15,7 @@ use std::alloc::{AllocError, Global};
 use std::marker::Model;
 use upd_text::CardRef;
 
-/// Which yank cards of a library are live, and what these take.
+/// Which yank cards of a library are live, and the targets of the live ones.
 #[derive(Drop)]
 pub struct Live<'a> {
     pub(crate) idents: &'a [Ident],
@@ -38,8 +38,7 @@ impl<'a> Model for Live<'a> {
 }
 
 impl<'a> Live<'a> {
-    /// Whether the yank card is live that a reference names; None where there is no such card. The program doesn't call
-    /// it.
+    /// Whether the yank card that a reference names is live; None where there is no such card.
     pub fn live_yank(&self, card: CardRef) -> Option<bool>
         ensures { result ≡ live_yank card self.now }
     {
@@ -55,14 +54,14 @@ impl<'a> Live<'a> {
         self.targets.is_taken(deck, ident)
     }
 
-    /// Whether a card of a deck is good. It doesn't look whether the card stands there.
+    /// Whether a card of a deck is good. The caller says which deck: it isn't checked.
     pub fn is_good(&self, deck: Serial, card: &Card) -> bool
         ensures { result ≡ is_good self.now.targets deck card.now }
     {
         is_good(&self.targets, deck, card)
     }
 
-    /// Whether a card of a deck is active. It doesn't look whether the card stands there.
+    /// Whether a card of a deck is active. The caller says which deck: it isn't checked.
     pub fn is_active(&self, deck: Serial, card: &Card) -> bool
         ensures { result ≡ is_active self.now.targets deck card.now }
     {
@@ -70,13 +69,13 @@ impl<'a> Live<'a> {
     }
 }
 
-/// In a sound library a reference finds whether the yank card is live that stands at its place.
+/// In a sound library, looking up a yank card by reference and by place gives the same liveness.
 pub fn references_find_their_yank_cards()
     ensures { (l : LibraryView) (card : CardRef) → IsSound l
         → live_yank card (live_of l) ≡ option_and_then (yank_at l) (place_of card l) }
 {}
 
-/// Whether a history stays on in a deck.
+/// Whether a history stays on in a deck: the last entry of an ident that isn't taken there decides.
 pub(crate) fn stays_on(targets: &Targets, deck: Serial, history: &[Entry]) -> bool
     ensures { result ≡ stays_on (is_taken targets.now deck) history.now }
 {
@@ -102,8 +101,8 @@ pub(crate) fn is_active(targets: &Targets, deck: Serial, card: &Card) -> bool
     is_good(targets, deck, card) && !targets.takes_deck(deck)
 }
 
-/// Whether each yank card is live, and the targets of the live ones. It goes from the last card to the first: only
-/// younger cards can take what switched a card, so all that judges a card is known when it is met.
+/// Whether each yank card is live, and the targets of the live ones. The loop runs from the last card to the first:
+/// only younger cards can take what switched a card, so all that decides a card is known when the loop reaches it.
 pub(crate) fn swept(alloc: Global, yanks: &[Card]) -> Result<(Vec<bool>, Targets), AllocError>
     ensures live { IfOk result (λ found. found.0.items ≡ liveness yanks.now) }
     ensures targets { IfOk result (λ found. found.1 ≡ targets_of (live_cards yanks.now)) }

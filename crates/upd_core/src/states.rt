@@ -1,13 +1,12 @@
-//! Kept statuses and counts, as a store has them.
+//! Stored statuses and counts.
 
 use crate::target::Target;
 use upd_text::CardRef;
 
-/// Statuses by card, of all cards or of those that were asked for, and the count of each target that a live yank card
-/// has, by target.
+/// Statuses by card, of all cards or of those asked for; and by target the number of live yank cards that have it.
 #[derive(Debug, Drop)]
 pub struct States {
     pub states: Vec<(CardRef, bool)>,
-    /// No count is 0.
+    /// Only counts above 0 are listed.
     pub counts: Vec<(Target, u32)>,
 }

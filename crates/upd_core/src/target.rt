@@ -1,4 +1,4 @@
-//! What a yank card takes, and the order of it.
+//! Targets: what a yank card takes out of use, and their order.
 
 ghost use Rattle.std.specs.Prelude.{◌≡◌, ◌↔◌};
 ghost use Rattle.std.specs.Ordering.{is_eq};
@@ -12,7 +12,7 @@ use crate::ident::Serial;
 /// What a yank card takes out of use while it is live.
 #[derive(Clone, Copy, Debug, PartialEq, Eq, PartialOrd, Ord, Hash)]
 pub enum Target {
-    /// All that an ident brought and did, be it a set or a deck: written `set z` in listings.
+    /// All that an ident, a set or a deck, introduced and switched; `set z` in listings.
     Set(Serial),
     /// The same in one deck: the ident, then the deck.
     SetIn(Serial, Serial),
@@ -20,7 +20,7 @@ pub enum Target {
     Deck(Serial),
 }
 
-/// Targets are ordered by their keys, and are equal by this order exactly where they are the same.
+/// Targets are ordered by their keys. Two are equal in this order exactly when they are the same.
 pub fn targets_are_ordered_by_key()
     ensures order { (s t : Target) → target_order s t ≡ key_order (target_key s) (target_key t) }
     ensures equality { (s t : Target) → is_same s t ≡ is_eq (target_order s t) }

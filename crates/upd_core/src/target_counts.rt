@@ -1,4 +1,4 @@
-//! How many live yank cards have each target: what tells whether an ident is taken while yank cards come and go.
+//! The number of live yank cards that have each target. A target with a count above 0 is in force.
 
 ghost use Rattle.std.specs.Prelude.{◌≡◌, ◌<◌, ◌+◌, ◌^◌, [], if◌then◌else◌, count_by, IfOk, OnOk};
 ghost use Rattle.upd_core.specs.declared.target.Target.{Target};
@@ -11,7 +11,7 @@ use std::alloc::{AllocError, Global};
 use std::collections::BTreeMap;
 use std::marker::Model;
 
-/// A count for each target; a target that isn't there has count 0.
+/// A count for each target; one that isn't listed has count 0.
 #[derive(Drop)]
 pub struct TargetCounts {
     counts: BTreeMap<Target, u32>,
@@ -27,7 +27,7 @@ impl Model for TargetCounts {
 }
 
 impl TargetCounts {
-    /// No target has a count.
+    /// No counts: each target has count 0.
     pub fn new(alloc: Global) -> TargetCounts
         ensures { result ≡ [] }
     {
@@ -46,7 +46,7 @@ impl TargetCounts {
         }
     }
 
-    /// Sets the count of a target; memory alone can fail.
+    /// Sets the count of a target.
     pub fn put(&mut self, target: Target, count: u32) -> Result<(), AllocError>
         ensures { OnOk result ((t : Target) →
             count_in self.new t ≡ (if is_same target t then count else count_in self.old t)) }
@@ -55,7 +55,7 @@ impl TargetCounts {
         Ok(())
     }
 
-    /// The counts that have been set, by target; memory alone can fail.
+    /// The counts that have been set, in order of target.
     pub fn all(&self, alloc: Global) -> Result<Vec<(Target, u32)>, AllocError>
         ensures { IfOk result (λ all. all.items ≡ self.now) }
     {
@@ -66,7 +66,7 @@ impl TargetCounts {
         Ok(all)
     }
 
-    /// One more for each of these targets; memory alone can fail. A count stays at `u32::MAX`.
+    /// Adds 1 for each of these targets. A count saturates at `u32::MAX`.
     pub fn raise(&mut self, targets: &[Target]) -> Result<(), AllocError>
         ensures { OnOk result ((t : Target) → count_in self.old t + count_by (is_same t) targets.now < 2 ^ 32 →
             count_in self.new t ≡ count_in self.old t + count_by (is_same t) targets.now) }
@@ -78,7 +78,7 @@ impl TargetCounts {
         Ok(())
     }
 
-    /// Whether the count of a target is 0 in one of these and not in the other.
+    /// Whether the count of a target is 0 in exactly one of the two.
     pub fn is_flipped(before: &TargetCounts, now: &TargetCounts, target: Target) -> bool
         ensures { result ≡ is_flipped (count_in before.now) (count_in now.now) target }
     {

@@ -1,4 +1,4 @@
-//! The targets of live cards, in a form that answers fast what they take.
+//! The targets of live cards, with an index for fast look-ups.
 
 ghost use Rattle.std.specs.Prelude.{◌≡◌, [], ◌∷◌, ◌++◌, OnOk};
 ghost use Rattle.std.specs.List.{list_any};
@@ -10,11 +10,11 @@ use std::alloc::{AllocError, Global};
 use std::collections::HashSet;
 use std::marker::Model;
 
-/// The targets of live cards, with an index by which one is found. Cards come from the last to the first, so what came
-/// last stands first.
+/// The targets of live cards, with an index. Cards are added from the last to the first, so the card added last comes
+/// first in the list.
 #[derive(Drop)]
 pub(crate) struct Targets {
-    /// From the last to the first. It is never read: it is what the Model shows.
+    /// From the last to the first. The code never reads it: it is what the Model shows.
     all: Vec<Target>,
     index: HashSet<Target>,
 }
@@ -33,7 +33,7 @@ impl Model for Targets {
 }
 
 impl Targets {
-    /// No targets. It takes no memory.
+    /// No targets. It does not allocate.
     pub(crate) fn new(alloc: Global) -> Targets
         ensures { result ≡ [] }
     {
@@ -53,7 +53,7 @@ impl Targets {
         Ok(())
     }
 
-    /// Room is made first: where memory runs out, the index has no target that the list doesn't have.
+    /// Room is reserved first: where memory runs out, each target of the index is in the list.
     fn push_front(&mut self, target: Target) -> Result<(), AllocError>
         ensures { OnOk result (self.new ≡ target ∷ self.old) }
     {
@@ -63,14 +63,14 @@ impl Targets {
         Ok(())
     }
 
-    /// Whether one of them takes an ident in a deck.
+    /// Whether a target takes an ident in a deck.
     pub(crate) fn is_taken(&self, deck: Serial, ident: Serial) -> bool
         ensures { result ≡ is_taken self.now deck ident }
     {
         self.index.contains(&Target::Set(ident)) || self.index.contains(&Target::SetIn(ident, deck))
     }
 
-    /// Whether one of them takes all cards of a deck.
+    /// Whether a target takes all cards of a deck.
     pub(crate) fn takes_deck(&self, deck: Serial) -> bool
         ensures { result ≡ list_any (takes_deck deck) self.now }
     {

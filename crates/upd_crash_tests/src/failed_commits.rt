@@ -10,7 +10,7 @@ use upd_core::{Actives, CardRef, Change, Library, Serial, States};
 use upd_desk::{Arrival, Desk};
 use upd_list_store::ListStore;
 use upd_records::RunRow;
-use upd_row_store::RowStore;
+use upd_row_store::{Meaning, RowStore};
 use upd_testkit::asks::{Ask, Sent, lyon, shown};
 use upd_testkit::check::{holds, same, same_text};
 use upd_testkit::replies::{accepted, refused};
@@ -42,7 +42,7 @@ fn store_failed() -> Fault
     FaultKind::Store.without_line()
 }
 
-impl RowStore for Failing {
+impl Meaning for Failing {
     ghost Image = { Rows };
 
     ghost shows = { λ image rows. image ≡ rows };
@@ -58,9 +58,9 @@ impl RowStore for Failing {
     ghost failures_of = { λ s. s.failures };
 
     ghost decks_read_of = { λ s. s.lists.decks_read };
+}
 
-    ghost caused = { λ _ _. Unit {0} };
-
+impl RowStore for Failing {
     fn load(&mut self, alloc: Global) -> Result<Library, Fault> {
         self.lists.load(alloc)
     }
@@ -75,10 +75,6 @@ impl RowStore for Failing {
 
     fn load_states(&mut self, alloc: Global) -> Result<States, Fault> {
         self.lists.load_states(alloc)
-    }
-
-    fn states_of(&mut self, alloc: Global, cards: &[CardRef]) -> Result<States, Fault> {
-        self.lists.states_of(alloc, cards)
     }
 
     fn load_active(&mut self, alloc: Global) -> Result<Actives, Fault> {

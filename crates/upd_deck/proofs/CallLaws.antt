@@ -1,4 +1,4 @@
--- What is read as a call is what the walk of a compile file follows.
+-- A line that is read as a call is one that a compile file follows.
 use Rattle.std.proofs.Common.{◌≡◌, ◌↔◌, ℕ, zero, suc, Bool, true, ◌||◌, IsTrue, List, [], ◌∷◌, codes, refl, sym, ap, ◌∙◌, subst, ⊎_elim, Some, arith}
 use Rattle.std.proofs.lemmas.Bool.{and_parts, and_from, or_cases}
 use Rattle.std.proofs.lemmas.Slice.Eq.{bytes_eq-Decides}

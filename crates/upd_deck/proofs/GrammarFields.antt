@@ -14,7 +14,7 @@ use Rattle.upd_deck.proofs.GrammarParts.{no_end_ink, blanks_gone, blanks_only, i
 use Rattle.upd_deck.proofs.GrammarParts.{split_at_comma, split_onto, first_piece, begins_field, field_is, remark_is, begins_blanks, begins_more, fields_more}
 use Rattle.upd_deck.proofs.GrammarParts.{fields_last, blanks_before}
 
--- ---- what is spelled so is read so
+-- ---- a spelled line is read as spelled
 
 read_remark : (f rest : List ℕ) → IsField f → IsRemark rest → fields_of (slice_split is_comma (f ++ rest)) ≡ f ∷ []
 read_remark f _ h Nothing =
@@ -92,7 +92,7 @@ star_line_read line v fs (Fields w lead text gs ink l some more) =
           ∙ ap fields_by (lead_gone lead text l begin.0) ∙ fields_by_some text begin.1 ∙ read_fields text gs more,
     )
 
--- ---- what is read is spelled so
+-- ---- a line that is read is spelled as read
 
 blanks_split : (text : List ℕ) → (n : ℕ) × (text ≡ blanks n ++ after_blanks text)
 blanks_split [] = (0, refl)
@@ -121,7 +121,7 @@ blanks_first (b ∷ bs) rest some = by_blank (is_blank b) (blanks_first bs rest)
     by_blank true ih some = ih some
     by_blank false ih some = refl
 
--- what begins with a blank, and goes on behind its blanks with no comma, is a remark
+-- blanks that no comma follows begin a remark
 remark_of : (rest : List ℕ) → Begins is_blank rest → BeginsInked (after_blanks rest) → IsRemark rest
 remark_of [] blank ink = Nothing
 remark_of (b ∷ bs) blank ink =
@@ -130,7 +130,7 @@ remark_of (b ∷ bs) blank ink =
     let same : b ∷ bs ≡ blanks (suc split.0) ++ after_blanks bs = cc (eqb-true b 32 blank, split.1) in
     subst IsRemark (sym same) (Remark (suc split.0) (after_blanks bs) (omega arith) (subst BeginsInked gone ink))
 
--- what a lead leaves of a line behind its word
+-- the rest of a line after its word and lead
 lead_of : (text : List ℕ) → (lead : List ℕ) × IsLead lead × (text ≡ lead ++ after_blanks (after_comma (after_blanks text)))
 lead_of text =
     let split = blanks_split text in
@@ -178,7 +178,7 @@ all_both P Q (x ∷ xs) g h = ((g.0, h.0), all_both P Q xs g.1 h.1)
 no_blank_or_comma : (b : ℕ) → (is_blank b ≡ false) × (is_comma b ≡ false) → IsInk b
 no_blank_or_comma b h = (eqb-false b 32 h.0, eqb-false b 44 h.1)
 
--- the field of a piece is one if it isn't empty
+-- the field of a piece is a field if it isn't empty
 is_field : (piece : List ℕ) → HasNoComma piece → 0 < length (field piece) → IsField (field piece)
 is_field piece h some = (
   some,
@@ -194,7 +194,7 @@ inked_after text h = by_first (after_blanks text) (from_begins not_blank text) (
     by_first [] g h = tt
     by_first (b ∷ bs) g h = no_blank_or_comma b (not-true (is_blank b) g, h.0)
 
--- what stands behind the field in its piece
+-- what follows the field in its piece
 behind : List ℕ → List ℕ
 behind piece = from_first is_blank (after_blanks piece)
 
@@ -282,7 +282,7 @@ spelled_pieces piece (next ∷ pieces) h some = by_remark (remark piece) refl (s
         subst (AreFields (after_blanks (piece ++ 44 ∷ text))) (sym (fields_last piece (next ∷ pieces) b bs e))
         (spelled_last piece (44 ∷ text) h.0 (first_some piece (next ∷ pieces) some) (remark_before piece text b bs h.0 e))
 
--- a text behind a lead whose fields aren't empty
+-- a text after a lead whose fields aren't empty
 spelled_text : (text : List ℕ) → after_blanks text ≡ text → AllByRecursion (λ f. 0 < length f) (fields_of (slice_split is_comma text))
     → AreFields text (fields_of (slice_split is_comma text))
 spelled_text text same some =

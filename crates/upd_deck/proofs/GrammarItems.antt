@@ -1,4 +1,4 @@
--- A word takes fields exactly where they are spelled so.
+-- A word takes fields exactly when the grammar spells them.
 use Rattle.std.proofs.Common.{◌≡◌, ℕ, ◌<◌, Bool, true, false, cond, eqb, leb, not, ◌&&◌, ◌||◌, List, [], ◌∷◌, ◌++◌, length, length-append, refl, sym, ap, ◌∙◌}
 use Rattle.std.proofs.Common.{subst, ⊎_elim, codes, Result, Ok, arith}
 use Rattle.std.proofs.lemmas.Bool.{and_parts, and_from, or_cases, ne_eqb, eqb-true, leb-true, le-leb, false≢true, not_from_false}
@@ -52,7 +52,7 @@ all_filled R filled [] (x ∷ xs) h = absurd h
 all_filled R filled (f ∷ fs) [] h = absurd h
 all_filled R filled (f ∷ fs) (x ∷ xs) h = (filled f x h.0, all_filled R filled fs xs h.1)
 
--- ---- what a word takes is read so
+-- ---- the fields that a word takes are read
 
 has_byte : (f : List ℕ) → 0 < length f → eqb (length f) 0 ≡ false
 has_byte f h = ne_eqb (length f) 0 (λ e. omega arith)
@@ -146,7 +146,7 @@ takes_read w fs item (TakesPurDeck gs rs some h) =
 takes_read w fs item (TakesCompile gs rs some h) =
     (many_filled gs some (all_filled IsRange range_filled gs rs h), each_item IsRange range_in Compile range_read gs rs h)
 
--- ---- what is read is what the word takes
+-- ---- the fields that are read are those the word takes
 
 right_count : (x y z : Bool) → (x && y && z) ≡ true → x ≡ true
 right_count x y z e = (and_parts x y (and_parts (x && y) z e).0).0

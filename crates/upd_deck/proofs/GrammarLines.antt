@@ -1,4 +1,4 @@
--- A line is read as its text, and says what that says.
+-- A line is read as its text, and has the item of that text.
 use Rattle.std.proofs.Common.{◌≡◌, ℕ, zero, suc, ◌+◌, ◌-◌, ◌<◌, ◌≤◌, Bool, true, false, cond, eqb, ltb, leb, not, ◌&&◌, inl, inr, ⊎_elim, List, [], ◌∷◌, ◌++◌}
 use Rattle.std.proofs.Common.{length, take, get_or, length-append, refl, sym, ap, ◌∙◌, subst, Result, Ok, arith}
 use Rattle.std.proofs.Math.Seq.{take-append_seam}

@@ -1,4 +1,4 @@
--- Names, ranges, pairs and card references are read exactly where they are spelled so.
+-- Names, ranges, pairs and card references are read exactly when the grammar spells them.
 use Rattle.std.proofs.Common.{◌≡◌, ℕ, zero, suc, ◌+◌, ◌^◌, ◌<◌, Bool, true, false, cond, eqb, leb, not, ◌&&◌, ◌||◌, List, [], ◌∷◌, ◌++◌, length, refl, sym, ap}
 use Rattle.std.proofs.Common.{◌∙◌, subst, get_or, Some, None, Result, Ok, Err, arith, rules}
 use Rattle.std.proofs.Math.Seq.{take-append_seam, drop-append-add}
@@ -26,7 +26,7 @@ use Rattle.upd_deck.specs.Reading.{name_in, card_ref_in, names_in, ident_in, ran
 abbrev pub done : {A : Type 0} → A → Result A FaultKind
 done x = Ok x
 
--- what is there behind a step was there before it
+-- an Ok result after a step has an Ok result before it
 pub step_back : {A B E : Type 0} (r : Result A E) (f : A → Result B E) (y : B) → (r >>= f) ≡ Ok y → (x : A) × (r ≡ Ok x) × (f x ≡ Ok y)
 step_back (Ok x) f y e = (x, refl, e)
 step_back (Err x) f y e = absurd cc
@@ -78,7 +78,7 @@ no_point : (a : List ℕ) → HasNoPoint a → list_any is_point a ≡ false
 no_point [] h = refl
 no_point (x ∷ xs) h = rw (h.0, no_point xs h.1) refl
 
--- nothing stands behind the first point where there is none
+-- nothing follows the first point of a text without points
 after_none : (a : List ℕ) → HasNoPoint a → after_first is_point a ≡ []
 after_none a h = drop_all (prefix_len (λ x. not (is_point x)) a + 1) a (rw (place a h) (omega arith))
   where
@@ -122,7 +122,7 @@ no_point_from : (f : List ℕ) → list_any is_point f ≡ false → HasNoPoint 
 no_point_from [] h = tt
 no_point_from (x ∷ xs) h = let both = or_parts (is_point x) (list_any is_point xs) h in (both.0, no_point_from xs both.1)
 
--- what stands before the first point and behind it, where something does
+-- what precedes the first point and what follows it, where something does
 point_back : (f : List ℕ) → (after_first is_point f ≡ [] → ⊥) → f ≡ before_first is_point f ++ 46 ∷ after_first is_point f
 point_back f h = by_point (list_any is_point f) refl
   where

@@ -1,4 +1,4 @@
--- The parts of a line: what stands before a byte and from it on, ink and blanks, and pieces between commas.
+-- The parts of a line: the bytes before a byte and from it on, ink and blanks, and pieces between commas.
 use Rattle.std.proofs.Common.{◌≡◌, ℕ, zero, suc, ◌<◌, Bool, true, false, cond, eqb, not, List, [], ◌∷◌, ◌++◌, length, refl, sym, ap, ◌∙◌, append_assoc}
 use Rattle.std.proofs.Common.{append-nil, arith}
 use Rattle.std.proofs.lemmas.Bool.{cond_both, or_parts, ne_eqb, eqb-false}
@@ -76,7 +76,7 @@ pub no_comma_gone : (text : List ℕ) → BeginsInked text → after_comma text 
 no_comma_gone [] ink = refl
 no_comma_gone (b ∷ bs) ink = rw (ink_no_comma b ink) refl
 
--- what a lead leaves of the line behind it
+-- the rest of the line after a lead
 pub lead_gone : (lead text : List ℕ) → IsLead lead → BeginsInked text → after_blanks (after_comma (after_blanks (lead ++ text))) ≡ text
 lead_gone lead text (Blanks n) ink = rw (blanks_gone n text, ink_stays text ink, no_comma_gone text ink, ink_stays text ink) refl
 lead_gone lead text (Separator separator (Comma m n)) ink =
@@ -151,7 +151,7 @@ fields_last piece pieces b bs e =
     ap (λ r. cond (eqb (length r) 0) (field piece ∷ fields_of pieces) (field piece ∷ [])) e
     ∙ ap (λ t. cond t (field piece ∷ fields_of pieces) (field piece ∷ [])) (some_not_none (length bs))
 
--- blanks before a field are nothing
+-- blanks before a field don't matter
 pub blanks_before : (n : ℕ) (text : List ℕ) → fields_of (slice_split is_comma (blanks n ++ text)) ≡ fields_of (slice_split is_comma text)
 blanks_before n text =
     let first = first_piece is_comma text in

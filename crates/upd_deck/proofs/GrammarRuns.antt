@@ -1,4 +1,4 @@
--- A run reads as lines exactly where it is spelled so.
+-- A run is read as lines exactly when the grammar spells these lines.
 use Rattle.std.proofs.Common.{◌≡◌, ◌↔◌, ℕ, zero, suc, ◌+◌, ◌-◌, ◌<◌, ◌≤◌, Bool, true, false, cond, eqb, ltb, ◌⊎◌, inl, inr, ⊎_elim, List, [], ◌∷◌, ◌++◌, length}
 use Rattle.std.proofs.Common.{take, get_or, length-append, append_assoc, append-nil, refl, sym, ap, ◌∙◌, subst, Result, Ok, Err, arith}
 use Rattle.std.proofs.Math.Seq.{take-append_seam, get_or-append_seam}
@@ -80,7 +80,7 @@ strip_split (b ∷ bs) = by_return (eqb (get_or (b ∷ bs) (length (b ∷ bs) - 
         inr (sym (take_all (length piece - 1 + 1) piece (omega arith)) ∙ take_more piece (length piece - 1) 0 (omega arith)
         ∙ ap (λ c. take (length piece - 1) piece ++ c ∷ []) (eqb-true (get_or piece (length piece - 1) 0) 13 e))
 
--- ---- what is spelled so is read so
+-- ---- a spelled run is read as spelled
 
 pub plain_feed : (line : List ℕ) → AllByRecursion IsPlain line → AllByRecursion (λ b. eqb b 10 ≡ false) line
 unfolding IsPlain
@@ -101,13 +101,13 @@ cut_next number start line piece rest strip plain =
     rw (split_at_feed piece rest plain, first.2)
     (ap (λ l. cut_line number start l ∷ cut_from (number + 1) (start + length piece + 1) (first.0 ∷ first.1)) strip)
 
--- a line that was read, and what the lines behind it say
+-- a line that was read, and the lines after it
 next_read : (number start : ℕ) (line : List ℕ) (more later : List LineView) (cuts all : List CutLine) → all ≡ cut_line number start line ∷ cuts
     → said (cut_line number start line) ≡ Ok more → each said_at cuts ≡ Ok later → each said_at all ≡ Ok (more ++ later)
 next_read number start line more later cuts all e one rest =
     ap (each said_at) e ∙ ap (λ r. at_line number r >>= (λ m. each said_at cuts >>= (λ l. Ok (m ++ l)))) one ∙ ap (λ r. r >>= (λ l. Ok (more ++ l))) rest
 
--- what is left of a run from a place on reads as lines, and its lines are few
+-- the rest of a run from an offset on is read as lines, and these are within the limit
 abbrev IsReadAs : ℕ → List ℕ → List LineView → ℕ → Type 0
 IsReadAs number bytes lines start =
     (each said_at (cut_from number start (slice_split is_feed bytes)) ≡ Ok lines)
@@ -140,7 +140,7 @@ lines_read number start bytes lines (NextLine _ _ line end rest more later is Re
     let others = subst (IsReadAs (number + 1) rest later) begin (lines_read (number + 1) (start + length line + 2) rest later behind (omega (arith, one.0))) in
     (next_read number start line more later _ _ all one.1 others.0, omega (arith, ap length all, others.1))
 
--- ---- what is read is spelled so
+-- ---- a run that is read is spelled as read
 
 at_line_back : {A : Type 0} (number : ℕ) (r : Result A FaultKind) (x : A) → at_line number r ≡ Ok x → r ≡ Ok x
 at_line_back number (Ok y) x e = cc

@@ -1,4 +1,4 @@
--- A text says what it is spelled to say: a word of the profile with its fields, or it is a text card.
+-- A text has the item that the grammar spells: a word of the profile with its fields, or a text card.
 use Rattle.std.proofs.Common.{◌≡◌, ℕ, zero, suc, ◌<◌, Bool, true, false, cond, eqb, not, ◌&&◌, inl, inr, ⊎_elim, List, [], ◌∷◌, length, refl, sym, ap, ◌∙◌}
 use Rattle.std.proofs.Common.{subst, Option, Some, None, Result, Ok, arith}
 use Rattle.std.proofs.lemmas.Bool.{or_left, or_right, or_cases, both_ways, false_from_ne_true, and_parts, or_parts, eqb-true, eqb-false, false≢true, not-true}
@@ -31,7 +31,7 @@ text_same w = (bytes_eq-Decides w w).1 refl
 same_spelling : (s : Spelling) (w : List ℕ) (word : Word) → w ≡ s.text → s.means ≡ word → s ≡ spelled w word
 same_spelling s w word e f i = record { text = sym e i; means = f i }
 
--- what the first of some spellings that fits means
+-- the meaning of the first spelling that equals a text
 abbrev meaning_by : List Spelling → List ℕ → Option Word
 meaning_by ss w = option_map (λ s. s.means) (find (λ s. bytes_eq w s.text) ss)
 
@@ -44,7 +44,7 @@ in_table (s ∷ ss) w word e = by_test (bytes_eq w s.text) refl e (in_table ss w
     by_test true h e ih = (0, omega arith, same_spelling s w word (same_text w s.text h) cc)
     by_test false h e ih = let rest = ih e in (suc rest.0, omega (arith, rest.1), rest.2)
 
--- no spelling stands twice
+-- no two spellings are equal
 abbrev are_apart : List Spelling → Bool
 are_apart [] = true
 are_apart (s ∷ ss) = not (list_any (λ t. bytes_eq s.text t.text) ss) && are_apart ss
@@ -92,7 +92,7 @@ word_back (b ∷ bs) star =
     let has = Starred (up_to ends_word bs) (from_first ends_word bs) ink (ends_back (from_first ends_word bs) (from_begins ends_word bs)) in
     subst (λ l. HasWord l (up_to ends_word bs)) (cc (eqb-true b 42 star, both_parts ends_word bs)) has
 
--- ---- what a line says
+-- ---- the item of a line
 
 pub star_starred : (text w : List ℕ) (fs : List (List ℕ)) → IsStarLine text w fs → is_starred text ≡ true
 star_starred text v fs (Bare w lead ink l) = refl

@@ -1,4 +1,4 @@
--- The lines of a run stand where their spans say.
+-- The lines of a run are at their spans.
 use Rattle.std.proofs.Common.{◌≡◌, ℕ, ◌+◌, eqb, cond, false, List, [], ◌∷◌, ◌++◌, length, length-append, append_assoc, append-nil, refl, sym, ap, ◌∙◌, subst}
 use Rattle.std.proofs.Common.{Ok, arith}
 use Rattle.std.proofs.lemmas.List.Sums.{sum_by-append, sum_by-cons}

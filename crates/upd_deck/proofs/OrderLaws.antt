@@ -1,4 +1,4 @@
--- The lines of a run follow one another.
+-- The lines of a run are in order.
 use Rattle.std.proofs.Common.{◌≡◌, ℕ, ◌+◌, ◌-◌, ◌<◌, ◌≤◌, ◌==◌, nat_lt, Bool, true, false, cond, if◌then◌else◌, not, List, [], ◌∷◌, ◌++◌, length, take, drop}
 use Rattle.std.proofs.Common.{get_or, length-append, Result, Ok, Err, IfOk, sym, ap, ◌∙◌, subst, refl, arith}
 use Rattle.std.specs.List.{AllByRecursion, list_all, slice_split, suffix_len}
@@ -17,9 +17,9 @@ use Rattle.upd_deck.specs.Order.{FollowFrom}
 use Rattle.upd_deck.specs.Reading.{CutLine, cut, cut_from, is_allowed, is_feed, item_of, reading, said, said_at, trimmed}
 use Rattle.upd_deck.proofs.GrammarNames.{step_back, ok_same}
 
--- ---- what a line says
+-- ---- the reading of a line
 
--- the line that is said, cut from the run
+-- the line that is read, cut from the run
 record IsOf (line : CutLine) (x : LineView) : Type 0 where
   number : x.number ≡ line.number
   start : x.span.start ≡ line.start
@@ -55,8 +55,8 @@ said_of line more e =
         let same : x ∷ [] ≡ more = cc in
         subst (IsSaid line) same (refl, record { number = refl; start = refl; end = refl; text = refl })
 
--- What holds of no lines, goes on over a line that says nothing and over one that says a line, holds of the lines that were read and what
--- they said.
+-- Induction over cut lines and the lines read from them: what holds of no lines, and is kept by a comment and by a line with an item, holds
+-- of all.
 read_all : (Q : List CutLine → List LineView → Type 0) → Q [] []
     → ((line : CutLine) (lines : List CutLine) (out : List LineView) → Q lines out → Q (line ∷ lines) out)
     → ((line : CutLine) (x : LineView) (lines : List CutLine) (out : List LineView) → IsOf line x → Q lines out → Q (line ∷ lines) (x ∷ out))
@@ -76,7 +76,7 @@ read_all Q none silent speaks (line ∷ lines) out e = of (said line) (said_of l
         let said = is (x ∷ more) refl in
         subst (Q (line ∷ lines)) (ap (λ m. x ∷ m ++ rest.0) (sym said.0) ∙ ok_same _ _ rest.2) (speaks line x lines rest.0 said.1 (later rest.0 rest.1))
 
--- what holds of lines that were read, if no limit is passed
+-- what holds of the lines that were read, in a run within its limits
 if_read : (bytes : List ℕ) (P : List LineView → Type 0)
     → ((out : List LineView) → nat_lt MAX_RUN_LINES (length (cut bytes)) ≡ false → each said_at (cut bytes) ≡ Ok out → P out) → IfOk (reading bytes) P
 if_read bytes P holds = of (nat_lt MAX_RUN_BYTES (length bytes)) (nat_lt MAX_RUN_LINES (length (cut bytes))) (each said_at (cut bytes)) holds
@@ -101,7 +101,7 @@ strip_again piece = of (get_or piece (length piece - 1) 0 == 13)
 length-strip-le : (piece : List ℕ) → length (strip_carriage_return piece) ≤ length piece
 length-strip-le piece = omega (arith, simp length-append at (ap length (strip_again piece).1))
 
--- numbers rise from a number on, and lines follow one another from a place on
+-- numbers rise from a number on, and each line begins at or after the end of the one before it
 abbrev IsCutFrom : ℕ → ℕ → List CutLine → Type 0
 IsCutFrom number place [] = Unit {0}
 IsCutFrom number place (line ∷ lines) = (number ≤ line.number) × (place ≤ line.start) × IsCutFrom (line.number + 1) (line.start + length line.bytes) lines
@@ -124,7 +124,7 @@ cut_from_follows number start (piece ∷ next ∷ pieces) = (
       (omega arith) (omega (arith, length-strip-le piece)) (cut_from_follows (number + 1) (start + length piece + 1) (next ∷ pieces)),
 )
 
--- the numbers of so many lines
+-- the numbers of a given count of lines
 cut_from_is_below : (most number start : ℕ) (pieces : List (List ℕ)) → number + length (cut_from number start pieces) ≤ most
     → AllByRecursion (λ line. line.number < most) (cut_from number start pieces)
 cut_from_is_below most number start [] few = tt

@@ -92,7 +92,7 @@ misplaced_read w fs (Mark name mark other) =
 
 -- ---- the fault of a field
 
--- what one step makes is refused by that step
+-- a value read in one step is refused by that step
 pub made_err : {A B E : Type 0} (r : Result A E) (make : A → B) (e : E) → (r >>= (λ x. Ok (make x))) ≡ Err e → r ≡ Err e
 made_err (Ok x) make e h = absurd cc
 made_err (Err e') make e h = ap Err (err_same e' e h)
@@ -116,7 +116,7 @@ card_fault f k e = by_card (card_of f) e
     by_card (Some card) e = absurd cc
     by_card None e = cc
 
--- what two steps make is refused by one of them
+-- a value read in two steps is refused by one of them
 two_fault : {A B C : Type 0} (r : Result A FaultKind) (s : Result B FaultKind) (make : A → B → C) (kind k : FaultKind)
     → ((e : FaultKind) → r ≡ Err e → e ≡ kind) → ((e : FaultKind) → s ≡ Err e → e ≡ kind)
     → (r >>= (λ x. s >>= (λ y. Ok (make x y)))) ≡ Err k → k ≡ kind
@@ -173,14 +173,14 @@ item_fault words.SelPurge fs k e = made_fault (each_in ident_in fs) SelPurge fau
 item_fault words.PurDeck fs k e = made_fault (each_in range_in fs) PurDeck fault.BadName k (each_fault range_in fault.BadName range_fault fs) e
 item_fault words.Compile fs k e = made_fault (each_in range_in fs) Compile fault.BadName k (each_fault range_in fault.BadName range_fault fs) e
 
--- ---- what the word wants
+-- ---- what the word requires
 
 zip_all : {A : Type 0} (R : List ℕ → A → Type 0) (fs : List (List ℕ)) (xs : List A) → AllZip R fs xs → AllByRecursion (λ f. (x : A) × R f x) fs
 zip_all R [] xs h = tt
 zip_all R (f ∷ fs) [] h = absurd h
 zip_all R (f ∷ fs) (x ∷ xs) h = ((x, h.0), zip_all R fs xs h.1)
 
--- the fields that a word takes are what it wants, but for the one star
+-- the fields that a word takes are what it requires, except for the one star
 takes_wanted : (w : Word) (fs : List (List ℕ)) (item : ItemView) → Takes w fs item → AllByRecursion (IsWanted w) fs ⊎ EndsInStar w fs
 takes_wanted w fs item (TakesCall a h) = inl (h, tt)
 takes_wanted w fs item (TakesIdent a h) = inl (h, tt)
@@ -202,7 +202,7 @@ takes_wanted w fs item (TakesSelPurge gs ps some h) = inl (zip_all IsPair gs ps 
 takes_wanted w fs item (TakesPurDeck gs rs some h) = inl (zip_all IsRange gs rs h)
 takes_wanted w fs item (TakesCompile gs rs some h) = inl (zip_all IsRange gs rs h)
 
--- ---- the leftmost field that isn't wanted
+-- ---- the leftmost field that is not what the word requires
 
 done_wanted : {A B : Type 0} (r : Result A FaultKind) (make : A → B) (x : A) (k : FaultKind) → r ≡ Ok x → (r >>= (λ y. Ok (make y))) ≡ Err k → ⊥
 done_wanted (Ok y) make x k ok e = absurd cc
@@ -239,7 +239,7 @@ purge_wanted fs k all e = by_star (is_from_name fs) e
     by_star true e = absurd cc
     by_star false e = ranges_wanted Purge fs k all e
 
--- a word whose fields are all wanted, and are as many as it may have, isn't refused
+-- a word that may have this number of fields, each of them what it requires, isn't refused
 wanted_read : (w : Word) (fs : List (List ℕ)) → may_have w (length fs) ≡ true → AllByRecursion (IsWanted w) fs → (k : FaultKind)
     → item_with w fs ≡ Err k → ⊥
 wanted_read words.Call [] some all k e = false≢true some
@@ -271,7 +271,7 @@ wanted_read words.SelPurge fs some all k e = pairs_wanted SelPurge fs k all e
 wanted_read words.PurDeck fs some all k e = ranges_wanted PurDeck fs k all e
 wanted_read words.Compile fs some all k e = ranges_wanted Compile fs k all e
 
--- a field is what is read of it, or none
+-- a field has the value that is read from it, or no value
 read_or_not : {A : Type 0} (R : A → Type 0) (r : Result A FaultKind) → ((x : A) → r ≡ Ok x → R x) → ((x : A) → R x → r ≡ Ok x)
     → ((x : A) × R x) ⊎ ¬ ((x : A) × R x)
 read_or_not R (Ok x) back read = inl (x, back x refl)

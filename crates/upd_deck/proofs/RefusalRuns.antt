@@ -1,4 +1,4 @@
--- A run is refused with a fault exactly where the order of refusals gives that fault.
+-- A run is refused with a fault exactly when the order of refusals gives that fault.
 use Rattle.std.proofs.Common.{◌≡◌, ◌↔◌, ℕ, zero, suc, ◌≤◌, Bool, true, false, cond, ltb, not, ◌&&◌, List, [], ◌∷◌, ◌++◌, length, refl, sym, ap, ◌∙◌, subst}
 use Rattle.std.proofs.Common.{Option, Some, None, Result, Ok, Err, arith}
 use Rattle.std.proofs.lemmas.Bool.{both_ways, false_from_ne_true, false≢true, ltb-true, ltb-false, lt-ltb, le-ltb}
@@ -145,7 +145,7 @@ line_fails_back number start line k e = by_allowed (list_all is_allowed line) re
     by_allowed false bad = refused_as fault.BadByte (byte_refused line bad) (byte_back line bad)
     by_allowed true allowed = by_length (ltb MAX_LINE_BYTES (length (trimmed line))) allowed refl
 
--- ---- the first of some that is refused
+-- ---- the first refusal in a list
 
 -- what is in front is accepted
 abbrev IsAccepted : {A B E : Type 0} → (A → Result (List B) E) → A → Type 0

@@ -1,4 +1,4 @@
--- The grammar of a run: how its lines, their words and their fields are spelled, and what they say.
+-- The grammar of a run: how lines, words and fields are spelled, and what they mean.
 use Rattle.std.specs.Prelude.{◌≡◌, ◌≢◌, ℕ, ◌+◌, ◌^◌, ◌<◌, ◌≤◌, ◌⊎◌, true, false, IsTrue, List, [], ◌∷◌, ◌++◌, length, replicate, codes, count_by}
 use Rattle.std.specs.List.{AllByRecursion, AllZip, Contains}
 use Rattle.upd_text.specs.declared.card_ref.CardRef.{CardRef}
@@ -34,7 +34,7 @@ star = 42
 abbrev pub slash : ℕ
 slash = 47
 
--- the tab, which is no blank
+-- the tab, which is not a blank
 abbrev pub tab : ℕ
 tab = 9
 
@@ -46,7 +46,7 @@ carriage_return = 13
 abbrev pub line_feed : ℕ
 line_feed = 10
 
--- so many blanks
+-- n blanks
 abbrev pub blanks : ℕ → List ℕ
 blanks n = replicate n blank
 
@@ -60,48 +60,48 @@ IsInk b = (b ≢ blank) × (b ≢ comma)
 abbrev pub IsField : List ℕ → Type 0
 IsField field = (0 < length field) × AllByRecursion IsInk field
 
--- what stands between two fields: a comma, with or without blanks on either side
+-- a separator between two fields: a comma, with or without blanks on either side
 pub data IsSeparator : List ℕ → Type 0 where
   Comma : (m n : ℕ) → IsSeparator (blanks m ++ comma ∷ blanks n)
 
--- what stands between the word and the fields: blanks with at most one comma among them
+-- a lead between the word and the fields: blanks with at most one comma among them
 pub data IsLead : List ℕ → Type 0 where
   Blanks : (n : ℕ) → IsLead (blanks n)
   Separator : (separator : List ℕ) → IsSeparator separator → IsLead separator
 
--- the text is at its end, or goes on with a byte that is neither a blank nor a comma
+-- the text is empty, or its first byte is neither a blank nor a comma
 abbrev pub BeginsInked : List ℕ → Type 0
 BeginsInked [] = Unit {0}
 BeginsInked (b ∷ bs) = IsInk b
 
--- what stands behind the last field: nothing, or blanks that no comma follows, and then anything
+-- what follows the last field: nothing, or at least one blank and a remark that doesn't begin with a comma
 pub data IsRemark : List ℕ → Type 0 where
   Nothing : IsRemark []
   Remark : (n : ℕ) (text : List ℕ) → 0 < n → BeginsInked text → IsRemark (blanks n ++ text)
 
--- fields with separators between them, and a remark behind the last
+-- fields with separators between them, and a remark after the last
 pub data AreFields : List ℕ → List (List ℕ) → Type 0 where
   Last : (field remark : List ℕ) → IsField field → IsRemark remark → AreFields (field ++ remark) (field ∷ [])
   Next : (field separator text : List ℕ) (fields : List (List ℕ)) → IsField field → IsSeparator separator → AreFields text fields
       → AreFields (field ++ separator ++ text) (field ∷ fields)
 
--- A line of a star, a word and a lead, and fields or none. The word ends at the first blank or comma, or with the line.
+-- A line of a star, a word, a lead and any number of fields. The word ends at the first blank or comma, or with the line.
 pub data IsStarLine : List ℕ → List ℕ → List (List ℕ) → Type 0 where
   Bare : (word lead : List ℕ) → AllByRecursion IsInk word → IsLead lead → IsStarLine (star ∷ word ++ lead) word []
   Fields : (word lead text : List ℕ) (fields : List (List ℕ)) → AllByRecursion IsInk word → IsLead lead → 0 < length lead → AreFields text fields
       → IsStarLine (star ∷ word ++ lead ++ text) word fields
 
--- ---- what fields say
+-- ---- values of fields
 
 -- the field is a name
 abbrev pub IsName : List ℕ → Type 0
 IsName field = IsTrue (is_name field)
 
--- a card reference: a name, a point and a number from 1 to 999,999, as it is written
+-- a card reference: a name, a point and a number from 1 to 999,999 without leading zeros
 pub data IsCard : List ℕ → CardRef → Type 0 where
   Card : (card : CardRef) → IsName card.name → 0 < card.number → card.number < 10 ^ MAX_NUMBER_DIGITS → IsCard (card_text card) card
 
--- a range: two names with a point between, or a lone name, which stands for the range from it to itself
+-- a range: two names with a point between, or a single name, which is the range from it to itself
 pub data IsRange : List ℕ → NameRange → Type 0 where
   Two : (a b : List ℕ) → IsName a → IsName b → IsRange (a ++ point ∷ b) (record { first = a; last = b })
   Lone : (a : List ℕ) → IsName a → IsRange a (record { first = a; last = a })
@@ -110,7 +110,7 @@ pub data IsRange : List ℕ → NameRange → Type 0 where
 pub data IsPair : List ℕ → IdentIn → Type 0 where
   Pair : (d z : List ℕ) → IsName d → IsName z → IsPair (d ++ point ∷ z) (record { deck = d; ident = z })
 
--- the fields that each word takes, and what it says with them
+-- the fields of each word, and the item of the word with them
 pub data Takes : Word → List (List ℕ) → ItemView → Type 0 where
   TakesCall : (a : List ℕ) → IsName a → Takes words.Call (a ∷ []) (Call a)
   TakesIdent : (a : List ℕ) → IsName a → Takes words.Ident (a ∷ []) (Ident a)
@@ -132,7 +132,7 @@ pub data Takes : Word → List (List ℕ) → ItemView → Type 0 where
   TakesPurDeck : (fs : List (List ℕ)) (rs : List NameRange) → 0 < length fs → AllZip IsRange fs rs → Takes words.PurDeck fs (PurDeck rs)
   TakesCompile : (fs : List (List ℕ)) (rs : List NameRange) → 0 < length fs → AllZip IsRange fs rs → Takes words.Compile fs (Compile rs)
 
--- ---- what lines say
+-- ---- items of lines
 
 -- what ends a word: a blank, a comma or the line's end
 abbrev pub EndsWord : List ℕ → Type 0
@@ -147,7 +147,7 @@ pub data HasWord : List ℕ → List ℕ → Type 0 where
 abbrev pub Means : List ℕ → Word → Type 0
 Means spelling word = Contains spellings (spelled spelling word)
 
--- what a line says that is no comment: a word of the profile with its fields, or text where it has no such word
+-- the item of a line that isn't a comment: a word of the profile with its fields, or text where it has no such word
 pub data Says : List ℕ → ItemView → Type 0 where
   Directive : (text w : List ℕ) (word : Word) (fs : List (List ℕ)) (item : ItemView) → IsStarLine text w fs → Means w word → Takes word fs item
       → Says text item
@@ -159,42 +159,42 @@ pub data Says : List ℕ → ItemView → Type 0 where
 abbrev pub IsAllowed : ℕ → Type 0
 IsAllowed b = ((32 ≤ b) × (b ≤ 126)) ⊎ (b ≡ tab)
 
--- no blank stands at the end
+-- the text doesn't end with a blank
 abbrev pub EndsInked : List ℕ → Type 0
 EndsInked text = (front : List ℕ) → text ≢ front ++ blank ∷ []
 
--- a line is its text, at most 80 allowed bytes with no blank at the end, and blanks behind it
+-- a line is its text, at most 80 allowed bytes with no blank at the end, followed by any number of blanks
 pub data IsTextOf : List ℕ → List ℕ → Type 0 where
   Trimmed : (text : List ℕ) (n : ℕ) → AllByRecursion IsAllowed text → length text ≤ MAX_LINE_BYTES → EndsInked text → IsTextOf text (text ++ blanks n)
 
--- a star and a slash, whatever follows
+-- a comment: a star and a slash, whatever follows
 pub data IsComment : List ℕ → Type 0 where
   Slashed : (rest : List ℕ) → IsComment (star ∷ slash ∷ rest)
 
--- one of the 2,000 lines that a run may have: a comment, or what its text says
+-- one of the 2,000 lines that a run may have: a comment, or a line with the item of its text
 pub data IsLine : ℕ → ℕ → List ℕ → List LineView → Type 0 where
   Comment : (number start : ℕ) (line text : List ℕ) → number ≤ MAX_RUN_LINES → IsTextOf text line → IsComment text → IsLine number start line []
   Line : (number start : ℕ) (line text : List ℕ) (item : ItemView) → number ≤ MAX_RUN_LINES → IsTextOf text line → (IsComment text → ⊥) → Says text item
       → IsLine number start line (line_view number start text item ∷ [])
 
--- what ends a line: LF, or CR and LF
+-- the end of a line: LF, or CR and LF
 pub data IsLineEnd : List ℕ → Type 0 where
   Feed : IsLineEnd (line_feed ∷ [])
   ReturnFeed : IsLineEnd (carriage_return ∷ line_feed ∷ [])
 
--- What the lines of a run say from the line of a number on, which begins at a place. The last line may lack its end.
+-- The lines of the rest of a run, whose first line has this number and begins at this offset. The last line may lack its end.
 pub data AreLines : ℕ → ℕ → List ℕ → List LineView → Type 0 where
   NoMore : (number start : ℕ) → AreLines number start [] []
   LastLine : (number start : ℕ) (line : List ℕ) (said : List LineView) → 0 < length line → IsLine number start line said → AreLines number start line said
   NextLine : (number start : ℕ) (line end rest : List ℕ) (said later : List LineView) → IsLine number start line said → IsLineEnd end
       → AreLines (number + 1) (start + length line + length end) rest later → AreLines number start (line ++ end ++ rest) (said ++ later)
 
--- a run of at most 65,536 bytes and 2,000 lines that says these lines
+-- a run of at most 65,536 bytes and 2,000 lines, with these lines
 pub record Reads (bytes : List ℕ) (lines : List LineView) : Type 0 where
   pub short : length bytes ≤ MAX_RUN_BYTES
   pub spelled : AreLines 1 0 bytes lines
 
--- A line stands in its run: its span says how many bytes are before its text and up to its end, and its number is one more than the LFs before.
+-- A line's span gives the offsets of its text in the run, and its number is one more than the number of LFs before it.
 pub record StandsIn (bytes : List ℕ) (line : LineView) : Type 0 where
   pub before : List ℕ
   pub behind : List ℕ

@@ -1,11 +1,11 @@
--- What the lines of a run say.
+-- The lines of a run and their items.
 use Rattle.std.specs.Prelude.{ℕ, ◌+◌, Bool, List, length}
 use Rattle.upd_text.specs.declared.card_ref.CardRef.{CardRef}
 use Rattle.upd_deck.specs.declared.item.NameRange.{NameRange}
 use Rattle.upd_deck.specs.declared.item.IdentIn.{IdentIn}
 use Rattle.upd_deck.specs.declared.run.Span.{Span}
 
--- What a line says that is no comment.
+-- The item of a line that isn't a comment.
 pub data ItemView : Type 0 where
   Text : ItemView
   Call : List ℕ → ItemView
@@ -25,13 +25,13 @@ pub data ItemView : Type 0 where
   PurDeck : List NameRange → ItemView
   Compile : List NameRange → ItemView
 
--- A line: its number in the run from 1, where its text stands in the run, its text without trailing blanks, and what it says.
+-- A line: its number in the run, from 1; the span of its text in the run; its text without trailing blanks; and its item.
 pub record LineView : Type 0 where
   pub number : ℕ
   pub span : Span
   pub text : List ℕ
   pub item : ItemView
 
--- the line of a number whose text begins at a place of the run, and what it says
+-- the line with a number and an item, whose text begins at an offset of the run
 abbrev pub line_view : ℕ → ℕ → List ℕ → ItemView → LineView
 line_view number start text item = record { number = number; span = record { start = start; end = start + length text }; text = text; item = item }

@@ -1,4 +1,4 @@
--- What a run says: its lines in order, or its first fault.
+-- The reading of a run: its lines in order, or its first fault.
 use Rattle.std.specs.Prelude.{ℕ, ◌+◌, ◌-◌, ◌==◌, nat_lt, nat_le, Bool, true, not, ◌&&◌, ◌||◌, if◌then◌else◌, List, [], ◌∷◌, length, take, codes, Option, Some}
 use Rattle.std.specs.Prelude.{None, Result, Ok, Err}
 use Rattle.std.specs.Option.{option_map}
@@ -22,12 +22,12 @@ use Rattle.upd_deck.specs.Items.{Purge, PurgeFrom, SelPurge, PurDeck, Compile}
 
 -- ---- words
 
--- A word as it is written, and what it means.
+-- A spelling of a word, and the word.
 pub record Spelling : Type 0 where
   pub text : List ℕ
   pub means : Word
 
--- a text that means a word
+-- a text as a spelling of a word
 abbrev pub spelled : List ℕ → Word → Spelling
 spelled text means = record { text = text; means = means }
 
@@ -50,17 +50,17 @@ spellings =
     ∷ spelled (codes "SELPURGE") words.SelPurge
     ∷ spelled (codes "PURDECK") words.PurDeck ∷ []
 
--- what a text means by the first spelling that it is
+-- the meaning of the first spelling that equals a text
 abbrev pub meaning_in : List Spelling → List ℕ → Option Word
 meaning_in table text = option_map (λ s. s.means) (find (λ s. bytes_eq text s.text) table)
 
--- what a word means, if the profile knows it
+-- the word that a text spells, if it is one of the profile
 abbrev pub meaning : List ℕ → Option Word
 meaning = meaning_in spellings
 
 -- ---- fields
 
--- whether a word may have so many fields
+-- whether a word may have this number of fields
 abbrev pub may_have : Word → ℕ → Bool
 may_have words.Call n = n == 1
 may_have words.Ident n = n == 1
@@ -78,23 +78,23 @@ may_have words.SelPurge n = nat_le 1 n
 may_have words.PurDeck n = nat_le 1 n
 may_have words.Compile n = nat_le 1 n
 
--- the first field, or nothing
+-- the first field; empty for no fields
 abbrev pub first_field : List (List ℕ) → List ℕ
 first_field [] = []
 first_field (f ∷ fs) = f
 
--- the second field, or else the first
+-- the second field, or the first where there is only one
 abbrev pub last_of_two : List (List ℕ) → List ℕ
 last_of_two [] = []
 last_of_two (f ∷ []) = f
 last_of_two (f ∷ g ∷ fs) = g
 
--- whether a second field is NOPROP, if the word begins a common deck
+-- whether the second field is NOPROP, where the word is `*COMDECK` and has a second field
 abbrev pub is_marked_right : Word → List (List ℕ) → Bool
 is_marked_right words.CommonDeck fs = (length fs == 1) || bytes_eq (last_of_two fs) (codes "NOPROP")
 is_marked_right _ fs = true
 
--- the fields have the right number, none is empty, and a second one of a common deck is NOPROP
+-- the word may have this number of fields, no field is empty, and a second field of a common deck is NOPROP
 abbrev pub are_its_fields : Word → List (List ℕ) → Bool
 are_its_fields w fs = may_have w (length fs) && not (list_any (λ f. length f == 0) fs) && is_marked_right w fs
 
@@ -120,15 +120,15 @@ ident_in f = do
   z ← name_in (after_first is_point f)
   Ok (record { deck = d; ident = z })
 
--- a range `a.b`, or a lone name
+-- a range `a.b`, or a single name
 abbrev pub range_in : List ℕ → Result NameRange FaultKind
 range_in f = if list_any is_point f then names_in f else (name_in f >>= (λ a. Ok (record { first = a; last = a })))
 
--- the one thing that a field says
+-- the value of one field, as a list
 abbrev pub one_in : {A : Type 0} → (List ℕ → Result A FaultKind) → List ℕ → Result (List A) FaultKind
 one_in read f = read f >>= (λ x. Ok (x ∷ []))
 
--- what each field says, or the fault of the first from the left that is bad
+-- the values of the fields, or the fault of the leftmost bad one
 abbrev pub each_in : {A : Type 0} → (List ℕ → Result A FaultKind) → List (List ℕ) → Result (List A) FaultKind
 each_in read fs = each (one_in read) fs
 
@@ -136,14 +136,14 @@ each_in read fs = each (one_in read) fs
 abbrev pub is_from_name : List (List ℕ) → Bool
 is_from_name fs = (length fs == 2) && is_name (first_field fs) && bytes_eq (last_of_two fs) (codes "*")
 
--- a range of cards: two fields, or one for both
+-- a range of cards: two fields, or one for both ends
 abbrev pub two_cards_in : List (List ℕ) → (CardRef → CardRef → ItemView) → Result ItemView FaultKind
 two_cards_in fs item = do
   a ← card_ref_in (first_field fs)
   b ← card_ref_in (last_of_two fs)
   Ok (item a b)
 
--- what a directive or a call with these fields says
+-- the item of a word with its fields
 abbrev pub item_with : Word → List (List ℕ) → Result ItemView FaultKind
 item_with words.Call fs = name_in (first_field fs) >>= (λ name. Ok (Call name))
 item_with words.Ident fs = name_in (first_field fs) >>= (λ name. Ok (Ident name))
@@ -164,14 +164,14 @@ item_with words.Compile fs = each_in range_in fs >>= (λ ranges. Ok (Compile ran
 
 -- ---- lines
 
--- what a line says by its word: text where the profile has no such word
+-- the item of a starred line: text where its word isn't one of the profile
 abbrev pub item_by : Option Word → List (List ℕ) → Result ItemView FaultKind
 item_by None fs = Ok Text
 item_by (Some w) fs = do
   _ ← refuse_if (not (are_its_fields w fs)) fault.BadField
   item_with w fs
 
--- what a line says that is no comment: text, unless a star and a word of the profile begin it
+-- the item of a line that isn't a comment: text, unless the line begins with a star and a word of the profile
 abbrev pub item_of : List ℕ → Result ItemView FaultKind
 item_of text = if is_starred text then item_by (meaning (word text)) (fields text) else Ok Text
 
@@ -183,21 +183,21 @@ trimmed line = take (length line - suffix_len is_blank line) line
 abbrev pub is_allowed : ℕ → Bool
 is_allowed b = (nat_le 32 b && nat_le b 126) || (b == 9)
 
--- the text of a line, or why its bytes are none
+-- the text of a line, or the fault of its bytes
 abbrev pub text_of : List ℕ → Result (List ℕ) FaultKind
 text_of line = do
   _ ← refuse_if (not (list_all is_allowed line)) fault.BadByte
   _ ← refuse_if (nat_lt MAX_LINE_BYTES (length (trimmed line))) fault.LineLong
   Ok (trimmed line)
 
--- A line as it is cut from the run: its number, where it begins, and its bytes without its end.
+-- A line cut from the run: its number, the offset of its first byte, and its bytes without the line end.
 pub record CutLine : Type 0 where
   pub number : ℕ
   pub start : ℕ
   pub bytes : List ℕ
 
--- The lines from what stands between LFs: behind the last LF there is a line if there is a byte, and only a line before an LF loses
--- its carriage return.
+-- The lines of the pieces between LFs. The last piece is a line where it isn't empty. A carriage return is dropped only where an LF
+-- follows it.
 abbrev pub cut_from : ℕ → ℕ → List (List ℕ) → List CutLine
 cut_from number start [] = []
 cut_from number start (piece ∷ []) = if length piece == 0 then [] else record { number = number; start = start; bytes = piece } ∷ []
@@ -213,7 +213,7 @@ is_feed b = b == 10
 abbrev pub cut : List ℕ → List CutLine
 cut bytes = cut_from 1 0 (slice_split is_feed bytes)
 
--- what a line of a run says: nothing where it is a comment
+-- a line with its item; none for a comment
 abbrev pub said : CutLine → Result (List LineView) FaultKind
 said line = do
   text ← text_of line.bytes
@@ -221,11 +221,11 @@ said line = do
     item ← item_of text
     Ok (line_view line.number line.start text item ∷ []))
 
--- what a line of a run says, or its fault at its number
+-- a line with its item, or its fault with its number
 abbrev pub said_at : CutLine → Result (List LineView) Fault
 said_at line = at_line line.number (said line)
 
--- The reading of a run: what its lines say in order, or the fault of the first faulty one. The limits of a run come before that.
+-- The reading of a run: its lines in order, or the fault of the first faulty one. The limits of a run are checked before that.
 abbrev pub reading : List ℕ → Result (List LineView) Fault
 reading bytes = do
   _ ← at_line 0 (refuse_if (nat_lt MAX_RUN_BYTES (length bytes)) fault.RunLong)

@@ -1,5 +1,5 @@
--- Why a run is refused, and which fault is answered where several could be: the limits of the run come first, and then its first faulty line decides; in a
--- line a bad byte comes before its length, that before its fields as a whole, and these before the leftmost field that isn't what the word wants.
+-- The order of refusals: the limits of the run first, then its first faulty line. Within a line the order is: a bad byte, the length, the
+-- fields as a whole, then the leftmost field that is not what the word requires.
 use Rattle.std.specs.Prelude.{◌≡◌, ◌≢◌, ℕ, ◌<◌, ◌≤◌, false, List, [], ◌∷◌, ◌++◌, length, codes}
 use Rattle.std.specs.List.{AllByRecursion, Contains}
 use Rattle.upd_text.specs.declared.card_ref.CardRef.{CardRef}
@@ -17,13 +17,13 @@ use Rattle.upd_deck.specs.Reading.{may_have, CutLine, cut}
 
 -- ---- fields
 
--- Fields that their word can't have, whatever they say: too few or too many, an empty one, or a mark of a common deck that isn't NOPROP.
+-- Fields that their word can't have: a wrong number of them, an empty one, or a second field of a common deck other than NOPROP.
 pub data AreMisplaced : Word → List (List ℕ) → Type 0 where
   Count : (word : Word) (fields : List (List ℕ)) → may_have word (length fields) ≡ false → AreMisplaced word fields
   Empty : (word : Word) (fields : List (List ℕ)) → Contains fields [] → AreMisplaced word fields
   Mark : (name mark : List ℕ) → mark ≢ codes "NOPROP" → AreMisplaced words.CommonDeck (name ∷ mark ∷ [])
 
--- what a word wants each of its fields to be: a name, a card reference, a range of names or a pair
+-- what a word requires each of its fields to be: a name, a card reference, a range of names or a pair
 abbrev pub IsWanted : Word → List ℕ → Type 0
 IsWanted words.Call field = IsName field
 IsWanted words.Ident field = IsName field
@@ -41,7 +41,7 @@ IsWanted words.SelPurge field = (pair : IdentIn) × IsPair field pair
 IsWanted words.PurDeck field = (range : NameRange) × IsRange field range
 IsWanted words.Compile field = (range : NameRange) × IsRange field range
 
--- The fault of a field that isn't what its word wants. A word wants the same of each field, so it has one such fault, whichever field is bad.
+-- The fault of a field that is not what its word requires. A word requires the same of each field, so the fault depends only on the word.
 abbrev pub field_fault : Word → FaultKind
 field_fault words.Insert = fault.BadCard
 field_fault words.Before = fault.BadCard
@@ -49,11 +49,11 @@ field_fault words.Delete = fault.BadCard
 field_fault words.Restore = fault.BadCard
 field_fault _ = fault.BadName
 
--- the one place of a star as a field: behind a name, where a purge has these two fields
+-- the one case of a star as a field: after a name, in a purge with these two fields
 pub data EndsInStar : Word → List (List ℕ) → Type 0 where
   FromName : (a : List ℕ) → IsName a → EndsInStar words.Purge (a ∷ codes "*" ∷ [])
 
--- Why the fields of a word are refused. They are looked at as a whole first, and then one by one from the left.
+-- Why the fields of a word are refused. They are checked as a whole first, and then one by one from the left.
 pub data FieldsFail : Word → List (List ℕ) → FaultKind → Type 0 where
   Whole : (word : Word) (fields : List (List ℕ)) → AreMisplaced word fields → FieldsFail word fields fault.BadField
   Leftmost : (word : Word) (fields front behind : List (List ℕ)) (field : List ℕ) → ¬ (AreMisplaced word fields) → ¬ (EndsInStar word fields)
@@ -61,7 +61,7 @@ pub data FieldsFail : Word → List (List ℕ) → FaultKind → Type 0 where
 
 -- ---- lines and runs
 
--- Why the bytes of a line are refused. Each reason is asked only where those before it don't hold.
+-- Why the bytes of a line are refused. Each reason applies only where those before it don't.
 pub data LineFails : List ℕ → FaultKind → Type 0 where
   Byte : (line : List ℕ) (byte : ℕ) → Contains line byte → ¬ (IsAllowed byte) → LineFails line fault.BadByte
   Long : (text : List ℕ) (n : ℕ) → AllByRecursion IsAllowed text → EndsInked text → MAX_LINE_BYTES < length text
@@ -69,7 +69,7 @@ pub data LineFails : List ℕ → FaultKind → Type 0 where
   Fields : (line text w : List ℕ) (word : Word) (kind : FaultKind) → IsTextOf text line → ¬ (IsComment text) → HasWord text w → Means w word
       → FieldsFail word (fields text) kind → LineFails line kind
 
--- no reason to refuse the line
+-- the line has no fault
 abbrev pub IsFaultless : CutLine → Type 0
 IsFaultless line = (kind : FaultKind) → ¬ (LineFails line.bytes kind)
 
@@ -77,7 +77,7 @@ IsFaultless line = (kind : FaultKind) → ¬ (LineFails line.bytes kind)
 abbrev pub fault_of : FaultKind → ℕ → Fault
 fault_of kind at = record { kind = kind; at = at }
 
--- Why a run is refused. Each reason is asked only where those before it don't hold; the first faulty line has faultless lines before it.
+-- Why a run is refused. Each reason applies only where those before it don't. The lines before the first faulty one have no fault.
 pub data RunFails : List ℕ → Fault → Type 0 where
   ManyBytes : (bytes : List ℕ) → MAX_RUN_BYTES < length bytes → RunFails bytes (fault_of fault.RunLong 0)
   ManyLines : (bytes : List ℕ) → length bytes ≤ MAX_RUN_BYTES → MAX_RUN_LINES < length (cut bytes) → RunFails bytes (fault_of fault.TooManyLines 0)

@@ -1,4 +1,4 @@
-//! A run is cut into its lines: what stands before each LF, and what stands behind the last.
+//! Cutting a run into lines, at each LF.
 
 ghost use Rattle.std.specs.Prelude.{◌≡◌, ℕ, ◌+◌, ◌-◌, ◌<◌, ◌≤◌, ◌∷◌, length};
 ghost use Rattle.std.specs.List.{slice_split};
@@ -10,12 +10,12 @@ use std::marker::Model;
 use upd_text::limits::MAX_RUN_BYTES;
 use upd_text::line::split_once;
 
-/// A line as it is cut from a run: without its LF, and without a CR directly before that.
+/// A line of a run, without its LF and without a CR directly before that.
 #[derive(Drop)]
 pub(crate) struct CutLine<'a> {
     /// From 1.
     pub(crate) number: u32,
-    /// Where it begins in the run, in bytes.
+    /// The offset of its first byte in the run.
     pub(crate) start: usize,
     pub(crate) bytes: &'a [u8],
 }
@@ -32,7 +32,7 @@ impl<'a> Model for CutLine<'a> {
     ghost invariant = { λ l. l.start + length l.bytes.now ≤ MAX_RUN_BYTES };
 }
 
-/// The lines of a run that are not cut yet.
+/// The rest of a run, not yet cut.
 #[derive(Drop)]
 pub(crate) struct CutLines<'a> {
     number: u32,
@@ -50,7 +50,7 @@ impl<'a> Model for CutLines<'a> {
 
     ghost view = { λ l. cut_from l.number l.start (slice_split is_feed l.rest.now) };
 
-    // Each line takes a byte of the rest at least, so numbers and places stay as small as the run.
+    // Each line takes at least one byte of the rest, so numbers and offsets don't exceed the length of the run.
     ghost invariant = { λ l. (l.number + length l.rest.now ≤ MAX_RUN_BYTES + 1)
         × (l.start + length l.rest.now ≤ MAX_RUN_BYTES) };
 }
@@ -93,7 +93,7 @@ impl<'a> Iterator for CutLines<'a> {
     }
 }
 
-/// The first line of some bytes, and what stands behind its LF.
+/// The first line of some bytes, and the bytes after its LF.
 fn first_line(bytes: &[u8]) -> (&[u8], &[u8])
     requires { 0 < length bytes.now }
     ensures line { (number start : ℕ) → cut_from number start (slice_split is_feed bytes.now)
@@ -104,12 +104,12 @@ fn first_line(bytes: &[u8]) -> (&[u8], &[u8])
 {
     match split_once(bytes, b'\n') {
         Some((piece, after)) => (without_return(piece), after),
-        // The last line has no LF, and so a CR at its end is one of its bytes.
+        // The last line has no LF, so a CR at its end is one of its bytes.
         None => (bytes, &[]),
     }
 }
 
-/// A line without the CR that stood directly before its LF.
+/// A line that ended with LF, without a CR at its end.
 fn without_return(line: &[u8]) -> &[u8]
     ensures { result.now ≡ strip_carriage_return line.now }
 {

@@ -1,7 +1,6 @@
-//! What a line says by its word and its fields.
+//! The item of a line, from its word and its fields.
 //!
-//! Fields are tested as a whole first, and then read one by one from the left: this is the order in which their faults
-//! are answered.
+//! The fields are checked as a whole first, and then read one by one from the left. Faults are reported in this order.
 
 ghost use Rattle.std.specs.Prelude.{◌≡◌, ◌==◌, ℕ, List, Result, map, length, is_some, Some, IfSome};
 ghost use Rattle.std.specs.Str.{bytes_eq};
@@ -20,7 +19,7 @@ use std::alloc::Global;
 use upd_text::line::{fields, is_starred, split_once, word};
 use upd_text::{CardRef, FaultKind, Name};
 
-/// What a field says: a name, a card reference, a range of names, or an ident in a deck.
+/// The value of a field: a name, a card reference, a range of names, or an ident in a deck.
 trait FieldValue: Drop {
     ghost field_gives: { List ℕ → Result Self FaultKind };
 
@@ -48,7 +47,7 @@ impl FieldValue for NameRange {
     ghost field_gives = { range_in };
 
     fn from_field(field: &[u8]) -> Result<NameRange, FaultKind> {
-        // A lone name is the range from it to itself.
+        // A single name is the range from it to itself.
         let (first, last) = split_once(field, b'.').unwrap_or((field, field));
         Ok(NameRange {
             first: Name::from_field(first)?,
@@ -69,7 +68,7 @@ impl FieldValue for IdentIn {
     }
 }
 
-/// What each field says, or the fault of the first that is bad.
+/// The values of the fields, or the fault of the leftmost bad one.
 fn each_in<T: FieldValue>(alloc: Global, fields: &[&[u8]]) -> Result<Vec<T>, FaultKind>
     ensures { Gives (λ found. found.items) result (each_in T.field_gives (map (λ x. x.now) fields.now)) }
 {
@@ -80,7 +79,7 @@ fn each_in<T: FieldValue>(alloc: Global, fields: &[&[u8]]) -> Result<Vec<T>, Fau
     Ok(found)
 }
 
-/// What a line says that is no comment: text, unless it begins with a star and a word of the profile.
+/// The item of a line that isn't a comment: text, unless the line begins with a star and a word of the profile.
 pub(crate) fn item_of(alloc: Global, text: &[u8]) -> Result<Item, FaultKind>
     ensures { Gives seen result (item_of text.now) }
 {
@@ -93,7 +92,8 @@ pub(crate) fn item_of(alloc: Global, text: &[u8]) -> Result<Item, FaultKind>
     }
 }
 
-/// What a line says that begins with a word of the profile: a directive or a call.
+/// The item of a line with a word of the profile: a directive or a call. A wrong number of fields, an empty field or a
+/// second field of a common deck other than NOPROP is BadField.
 fn directive(alloc: Global, word: Word, fields: &[&[u8]]) -> Result<Item, FaultKind>
     ensures { Gives seen result (item_by (Some word) (map (λ x. x.now) fields.now)) }
 {
@@ -103,7 +103,7 @@ fn directive(alloc: Global, word: Word, fields: &[&[u8]]) -> Result<Item, FaultK
     item_with(alloc, word, fields)
 }
 
-/// What a word says with its fields, of which there are as many as it may have.
+/// The item of a word with its fields, of which it may have this number.
 fn item_with(alloc: Global, word: Word, fields: &[&[u8]]) -> Result<Item, FaultKind>
     ensures { Gives seen result (item_with word (map (λ x. x.now) fields.now)) }
 {
@@ -137,7 +137,7 @@ fn item_with(alloc: Global, word: Word, fields: &[&[u8]]) -> Result<Item, FaultK
     }
 }
 
-/// What a purge says with its fields: ranges, or a name and a star.
+/// A purge with its fields: ranges, or a name and a star.
 fn purge_with(alloc: Global, fields: &[&[u8]]) -> Result<Item, FaultKind>
     ensures { Gives seen result (item_with words.Purge (map (λ x. x.now) fields.now)) }
 {
@@ -147,7 +147,7 @@ fn purge_with(alloc: Global, fields: &[&[u8]]) -> Result<Item, FaultKind>
     }
 }
 
-/// The name that a star follows, in exactly two fields.
+/// The name in fields that are exactly a name and a star.
 fn from_name(fields: &[&[u8]]) -> Option<Name>
     ensures found { is_some result ≡ is_from_name (map (λ x. x.now) fields.now) }
     ensures name { IfSome result (λ name. name ≡ first_field (map (λ x. x.now) fields.now)) }
@@ -159,14 +159,14 @@ fn from_name(fields: &[&[u8]]) -> Option<Name>
     }
 }
 
-/// Whether the number of fields fits the word, none is empty, and a mark of a common deck is NOPROP.
+/// Whether the word may have this number of fields, no field is empty, and a second field of a common deck is NOPROP.
 fn are_its_fields(word: Word, fields: &[&[u8]]) -> bool
     ensures { result ≡ are_its_fields word (map (λ x. x.now) fields.now) }
 {
     may_have(word, fields.len()) && !has_empty(fields) && is_marked_right(word, fields)
 }
 
-/// Whether the word may have so many fields.
+/// Whether the word may have this number of fields.
 fn may_have(word: Word, count: usize) -> bool
     ensures { result ≡ may_have word count }
 {
@@ -195,14 +195,14 @@ fn has_empty(fields: &[&[u8]]) -> bool
     false
 }
 
-/// Whether a second field is NOPROP, if the word begins a common deck.
+/// Whether the second field is NOPROP, where the word is `*COMDECK` and has a second field.
 fn is_marked_right(word: Word, fields: &[&[u8]]) -> bool
     ensures { result ≡ is_marked_right word (map (λ x. x.now) fields.now) }
 {
     word != Word::CommonDeck || fields.len() == 1 || last_of_two(fields) == b"NOPROP".as_slice()
 }
 
-/// The first field, or nothing.
+/// The first field; empty for no fields.
 fn first_field<'a>(fields: &[&'a [u8]]) -> &'a [u8]
     ensures { result.now ≡ first_field (map (λ x. x.now) fields.now) }
 {
@@ -212,7 +212,7 @@ fn first_field<'a>(fields: &[&'a [u8]]) -> &'a [u8]
     }
 }
 
-/// The second field, or else the first: of a lone card the range ends at the card itself.
+/// The second field, or the first where there is only one: a single card is the range from it to itself.
 fn last_of_two<'a>(fields: &[&'a [u8]]) -> &'a [u8]
     ensures { result.now ≡ last_of_two (map (λ x. x.now) fields.now) }
 {

@@ -1,4 +1,4 @@
-//! The grammar of a run, as laws: what is read is what is spelled.
+//! Laws of the grammar: `read_run` reads exactly the runs that the grammar spells.
 
 ghost use Rattle.std.specs.Prelude.{◌≡◌, ◌↔◌, ℕ, ◌<◌, length, List, IsTrue, Some, Ok, Err};
 ghost use Rattle.std.specs.List.{AllByRecursion};
@@ -10,8 +10,8 @@ ghost use Rattle.upd_deck.specs.Items.{Call, ItemView, LineView};
 ghost use Rattle.upd_deck.specs.Reading.{meaning, reading};
 ghost use Rattle.upd_deck.specs.Refusals.{RunFails};
 
-/// A line that is spelled so is read so, a line that is read without an empty field is spelled so, and hence a line has
-/// one reading.
+/// Words and fields round-trip: a line spelled with a word and fields is read as these, and a line that is read without
+/// an empty field has that spelling. So a line has at most one reading.
 pub fn fields_are_as_spelled()
     ensures read { (line w : List ℕ) (fs : List (List ℕ)) → IsStarLine line w fs
         → (word line ≡ w) × (fields line ≡ fs) }
@@ -21,25 +21,24 @@ pub fn fields_are_as_spelled()
         → (v ≡ w) × (es ≡ fs) }
 {}
 
-/// A run reads as lines exactly where its bytes are spelled so.
+/// A run is read as lines exactly when the grammar spells these lines.
 pub fn runs_are_as_spelled()
     ensures { (bytes : List ℕ) (lines : List LineView) → Reads bytes lines ↔ (reading bytes ≡ Ok lines) }
 {}
 
-/// A run is refused exactly for the first of what is wrong with it: its limits, then its first faulty line; in a line
-/// its bytes, its length, its fields as a whole, and then the leftmost field that isn't what the word wants.
+/// A run is refused exactly for its first fault: its limits, then its first faulty line. Within a line the order is:
+/// its bytes, its length, its fields as a whole, then the leftmost field that is not what the word requires.
 pub fn runs_are_refused_in_order()
     ensures { (bytes : List ℕ) (fault : Fault) → RunFails bytes fault ↔ (reading bytes ≡ Err fault) }
 {}
 
-/// Each line that is read stands in the run where its span says, at the line of its number.
+/// The span of each line gives the offsets of its text in the run, and its number counts the lines up to it.
 pub fn lines_stand_in_their_run()
     ensures { (bytes : List ℕ) (lines : List LineView) → reading bytes ≡ Ok lines
         → AllByRecursion (StandsIn bytes) lines }
 {}
 
-/// A line is read as a call exactly where the walk of a compile file takes it for one, and the name that was read is
-/// the one that is called.
+/// A line is read as a call exactly when a compile file follows it as a call, and the name is the same.
 pub fn calls_are_what_is_called()
     ensures words { (text : List ℕ) → IsTrue (is_call text)
         ↔ (IsTrue (is_starred text) × (meaning (word text) ≡ Some words.Call)) }

@@ -1,8 +1,8 @@
-//! What a line says.
+//! Items: what a line of a run asks for.
 
 use upd_text::{CardRef, Name};
 
-/// The idents or decks from one name to another, by age; a lone name is the range from itself to itself.
+/// The idents or decks from one name to another, in order of serial. A single name is the range from it to itself.
 #[derive(Clone, Copy, Debug)]
 pub struct NameRange {
     pub first: Name,
@@ -16,41 +16,41 @@ pub struct IdentIn {
     pub ident: Name,
 }
 
-/// What a line says, comments aside.
+/// The item of a line that isn't a comment.
 #[derive(Debug, Drop)]
 pub enum Item {
     /// A text card.
     Text,
-    /// A text card that stands for the text of a common deck.
+    /// A text card that calls a common deck: a compile file has the deck's cards in its place.
     Call(Name),
     /// A new set.
     Ident(Name),
     /// A new deck.
     Deck(Name),
-    /// A new common deck; with `noprop` its changes aren't passed on to the decks that call it.
+    /// A new common deck. With `noprop`, a change of it doesn't put the decks that call it into a normal compile file.
     CommonDeck { name: Name, noprop: bool },
-    /// Text goes behind the card.
+    /// Text follows the card.
     Insert(CardRef),
-    /// Text goes before the card.
+    /// Text precedes the card.
     Before(CardRef),
-    /// Switches a range of cards off; a lone card is the range from it to itself.
+    /// Switches a range of cards off; a single card is the range from it to itself.
     Delete { first: CardRef, last: CardRef },
     /// Switches a range of cards on.
     Restore { first: CardRef, last: CardRef },
-    /// Takes idents out of use, for as long as the yank stands.
+    /// Takes idents out of use while the yank card is live.
     Yank(Vec<NameRange>),
-    /// Takes idents out of use in one deck each.
+    /// Takes idents out of use, each in one deck.
     SelYank(Vec<IdentIn>),
     /// Takes whole decks out of use.
     YankDeck(Vec<Name>),
-    /// Takes idents away for good.
+    /// Removes idents permanently.
     Purge(Vec<NameRange>),
-    /// Takes an ident and all younger ones away for good.
+    /// Removes an ident and all younger ones permanently.
     PurgeFrom(Name),
-    /// Takes what idents brought and did in one deck each away for good.
+    /// Removes the cards and entries of idents permanently, each in one deck.
     SelPurge(Vec<IdentIn>),
-    /// Takes decks away for good.
+    /// Removes decks permanently.
     PurDeck(Vec<NameRange>),
-    /// Names decks for the compile file.
+    /// Requests decks for the compile file.
     Compile(Vec<NameRange>),
 }

@@ -1,4 +1,7 @@
-//! Reads a correction run: its lines, and the directive, call or text of each.
+//! The reader of correction runs: cuts a run into lines, and reads the directive, call or text of each.
+//!
+//! `read_run` is the entry point; `docs/rules.md` has the rules. A fault is that of the first faulty line; besides
+//! those of the rules only NoMemory occurs, at line 0, when memory runs out.
 #![tactic(auto)]
 
 mod cut;

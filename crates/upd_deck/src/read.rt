@@ -1,6 +1,6 @@
-//! Reads a run as a whole: its limits, and then its lines in order.
+//! Reading a run: its limits, then its lines in order.
 
-ghost use Rattle.std.specs.Prelude.{◌≡◌, ℕ, ◌≤◌, List, length, IfOk};
+ghost use Rattle.std.specs.Prelude.{◌≡◌, ℕ, ◌≤◌, List, length, Ok, Err, IfOk, MatchResult};
 ghost use Rattle.std.specs.List.{AllByRecursion, list_all};
 ghost use Rattle.std.specs.Option.{option_to_list};
 ghost use Rattle.upd_text.specs.declared.limits.TheConstants.{MAX_RUN_BYTES, MAX_RUN_LINES};
@@ -16,9 +16,9 @@ use upd_text::limits::{MAX_LINE_BYTES, MAX_RUN_BYTES, MAX_RUN_LINES};
 use upd_text::line::is_comment;
 use upd_text::{Fault, FaultKind};
 
-/// Reads a run as a whole. A run that passes a limit is refused at 0, by RunLong or TooManyLines; otherwise the first
-/// faulty line decides, and the fault is at its number: BadByte, LineLong, BadField, BadName or BadCard. NoMemory is
-/// at 0.
+/// Reads a run. A run over a limit is refused at line 0, with RunLong (65,536 bytes) or TooManyLines (2,000 lines).
+/// Otherwise the first faulty line decides, and the fault has its number: BadByte, LineLong, BadField, BadName or
+/// BadCard. NoMemory is at line 0.
 pub fn read_run(alloc: Global, bytes: &[u8]) -> Result<Run<'_>, Fault>
     ensures reading { GivesAt (λ run. run) result (reading bytes.now) }
 {
@@ -33,7 +33,7 @@ pub fn read_run(alloc: Global, bytes: &[u8]) -> Result<Run<'_>, Fault>
     Ok(Run { lines })
 }
 
-/// What the lines of a run say, or the fault of the first faulty one.
+/// The lines with their items, or the fault of the first faulty line.
 fn read_lines<'a>(alloc: Global, cut: &[CutLine<'a>]) -> Result<Vec<Line<'a>>, Fault>
     ensures lines { GivesAt (λ lines. lines.items) result (each said_at cut.now) }
     ensures few { IfOk result (λ lines. length lines.items ≤ length cut.now) }
@@ -47,7 +47,7 @@ fn read_lines<'a>(alloc: Global, cut: &[CutLine<'a>]) -> Result<Vec<Line<'a>>, F
     Ok(lines)
 }
 
-/// What a line says, or its fault at its number.
+/// A line with its item, or its fault with its number; None for a comment.
 fn read_line<'a>(alloc: Global, line: &CutLine<'a>) -> Result<Option<Line<'a>>, Fault>
     ensures { GivesAt option_to_list result (said_at line.now) }
 {
@@ -55,7 +55,7 @@ fn read_line<'a>(alloc: Global, line: &CutLine<'a>) -> Result<Option<Line<'a>>, 
     said(alloc, line).map_err(|kind| kind.at_line(number))
 }
 
-/// What a line says; nothing where it is a comment.
+/// A line with its item; None for a comment.
 fn said<'a>(alloc: Global, line: &CutLine<'a>) -> Result<Option<Line<'a>>, FaultKind>
     ensures { Gives option_to_list result (said line.now) }
 {
@@ -76,9 +76,9 @@ fn said<'a>(alloc: Global, line: &CutLine<'a>) -> Result<Option<Line<'a>>, Fault
     }))
 }
 
-/// The text of a line: its bytes are tested first, and then its length without trailing blanks.
+/// The text of a line. BadByte is checked first, then LineLong, with trailing blanks not counted.
 fn text_of(line: &[u8]) -> Result<&[u8], FaultKind>
-    ensures text { Gives (λ text. text.now) result (text_of line.now) }
+    ensures text { MatchResult result (λ text. text_of line.now ≡ Ok text.now) (λ e. text_of line.now ≡ Err e) }
     ensures within { IfOk result (λ text. length text.now ≤ length line.now) }
 {
     if !all_allowed(line) {
@@ -91,14 +91,14 @@ fn text_of(line: &[u8]) -> Result<&[u8], FaultKind>
     Ok(text)
 }
 
-/// Whether a line may have each of its bytes.
+/// Whether all bytes are allowed in a line.
 fn all_allowed(line: &[u8]) -> bool
     ensures { result ≡ list_all is_allowed line.now }
 {
     line.iter().all(|&byte| is_allowed(byte))
 }
 
-/// Whether a line may have the byte: 0x20 to 0x7E and the tab.
+/// Whether a byte is allowed in a line: 0x20 to 0x7E and the tab.
 fn is_allowed(byte: u8) -> bool
     ensures { result ≡ is_allowed byte }
 {
@@ -117,7 +117,7 @@ fn trimmed(line: &[u8]) -> &[u8]
     text
 }
 
-/// Numbers rise from 1 to at most 2,000, and no span begins before the one in front of it ends.
+/// Line numbers rise from 1 to at most 2,000, and each span begins at or after the end of the one before it.
 pub fn lines_follow_one_another()
     ensures order { (bytes : List ℕ) → IfOk (reading bytes) (FollowFrom 1 0) }
     ensures numbers { (bytes : List ℕ) → IfOk (reading bytes) (AllByRecursion (λ line. line.number ≤ MAX_RUN_LINES)) }

@@ -1,4 +1,4 @@
-//! A run that was read: its lines, and where each stands.
+//! A run that was read: its lines and their spans.
 
 ghost use Rattle.std.specs.Prelude.{◌≡◌, ◌≤◌, length};
 ghost use Rattle.upd_text.specs.declared.limits.TheConstants.{MAX_RUN_LINES};
@@ -6,17 +6,17 @@ ghost use Rattle.upd_text.specs.declared.limits.TheConstants.{MAX_RUN_LINES};
 use crate::item::Item;
 use std::marker::Model;
 
-/// Where a line's text stands in the run: from `start` up to `end`, in bytes.
+/// The offsets of a line's text in the run, in bytes: `start` included, `end` excluded.
 #[derive(Clone, Copy, Debug, PartialEq, Eq)]
 pub struct Span {
     pub start: usize,
     pub end: usize,
 }
 
-/// A line of a run, comments aside.
+/// A line of a run that isn't a comment.
 #[derive(Debug, Drop)]
 pub struct Line<'a> {
-    /// From 1, comments counted.
+    /// From 1; comments are counted.
     pub number: u32,
     pub span: Span,
     /// Without trailing blanks.
@@ -34,7 +34,7 @@ impl<'a> Model for Line<'a> {
     ghost view = { line_seen };
 }
 
-/// The lines of a run in order, comments left out: at most 2,000.
+/// The lines of a run in order, without comments: at most 2,000.
 #[derive(Debug, Drop)]
 pub struct Run<'a> {
     pub(crate) lines: Vec<Line<'a>>,

@@ -3,7 +3,7 @@
 ghost use Rattle.std.specs.Prelude.{◌≡◌, map};
 ghost use Rattle.upd_deck.specs.Reading.{meaning, meaning_in, spelled};
 
-/// The words that the profile knows. A line with another word is a text card.
+/// The words of the profile. A line with any other word is a text card.
 #[derive(Clone, Copy, Debug, PartialEq, Eq)]
 pub enum Word {
     Call,
@@ -23,7 +23,7 @@ pub enum Word {
     Compile,
 }
 
-/// Each word as it is written, in full and short; no text stands twice.
+/// The spellings of the words, in full and short. No two are equal.
 const SPELLINGS: [(&[u8], Word); 25] = [
     (b"IDENT", Word::Ident),
     (b"ID", Word::Ident),
@@ -53,7 +53,7 @@ const SPELLINGS: [(&[u8], Word); 25] = [
 ];
 
 impl Word {
-    /// Reads a word or its short form, in full.
+    /// Reads a whole text as a word or its short form.
     pub fn read(text: &[u8]) -> Option<Word>
         ensures { result ≡ meaning text.now }
     {
@@ -61,7 +61,7 @@ impl Word {
     }
 }
 
-/// What the text means by the first spelling that it is.
+/// The meaning of the first spelling that equals the text.
 fn meaning_in(spellings: &[(&[u8], Word)], text: &[u8]) -> Option<Word>
     ensures { result ≡ meaning_in (map (λ s. spelled s.0.now s.1) spellings.now) text.now }
 {

@@ -1,4 +1,4 @@
--- Fates that are found one after the other.
+-- Card diffs that are found one after the other.
 use Rattle.std.proofs.Common.{ℕ, ◌+◌, List, [], ◌∷◌, ◌++◌, map, take, drop, refl, ap, subst, ◌∙◌, append-nil, arith}
 use Rattle.std.proofs.lemmas.List.{take-append-drop}
 use Rattle.std.proofs.lemmas.Grind.{flat_map-append}
@@ -6,7 +6,7 @@ use Rattle.upd_core.specs.Library.{CardView}
 use Rattle.upd_diff.proofs.AllLemmas.{all_joined}
 use Rattle.upd_diff.specs.CardDiffs.{CardDiffView, Gone, New, card_before, card_after, IsKept, AreCardDiffs}
 
--- fates with those of more cards
+-- card diffs with those of more cards
 pub diffs_joined : (xs ys us vs : List CardView) (fs gs : List CardDiffView) → AreCardDiffs xs ys fs → AreCardDiffs us vs gs → AreCardDiffs (xs ++ us) (ys ++ vs) (fs ++ gs)
 diffs_joined xs ys us vs fs gs a b = record {
   olds = flat_map-append card_before fs gs ∙ (λ i. a.olds i ++ b.olds i);
@@ -22,7 +22,7 @@ pub all_new : (cards : List CardView) → AreCardDiffs [] cards (map New cards)
 all_new [] = record { olds = refl; news = refl; kept = tt }
 all_new (c ∷ cards) = let later = all_new cards in record { olds = later.olds; news = ap (λ t. c ∷ t) later.news; kept = (tt, later.kept) }
 
--- an end of the cards before is gone, an end of the cards after is new
+-- cards left over before are gone, cards left over after are new
 pub diffs_end : (xs ys : List CardView) (fs : List CardDiffView) (i j : ℕ) → AreCardDiffs (take i xs) (take j ys) fs
     → AreCardDiffs xs ys ((fs ++ map Gone (drop i xs)) ++ map New (drop j ys))
 diffs_end xs ys fs i j so_far =

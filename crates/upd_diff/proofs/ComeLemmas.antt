@@ -1,4 +1,4 @@
--- The rows of what comes, behind the rows of what stays.
+-- The rows that are inserted, after the rows that stay.
 use Rattle.std.proofs.Common.{◌≡◌, ℕ, ◌+◌, Bool, true, false, cond, List, [], ◌∷◌, ◌++◌, length, drop, refl, ap, sym, subst, ◌∙◌, append_assoc, append-nil}
 use Rattle.std.proofs.Common.{arith}
 use Rattle.std.specs.Prelude.{not, ◌==◌}
@@ -22,7 +22,7 @@ use Rattle.upd_diff.proofs.KindLemmas.{entries_all, targets_all, grown_all}
 use Rattle.upd_diff.proofs.GoneLemmas.{entries_go, targets_go, staying}
 use Rattle.upd_diff.proofs.MoveLemmas.{kept_row, kept_to}
 
--- ---- the rows that come
+-- ---- the inserted rows
 
 abbrev pub come_cards : List Ident → ℕ → ℕ → List CardDiffView → List CardRow
 come_cards idents d p [] = []
@@ -42,7 +42,7 @@ come_targets idents (Kept was is) = []
 come_targets idents (Gone was) = []
 come_targets idents (New is) = target_rows (ref_of idents is) 0 is.targets
 
--- ---- the changes that bring them
+-- ---- the changes that insert them
 
 entries_come : (card : CardRef) (n : ℕ) (es : List Entry) (xs : List EntryRow) → all_acts on_entries (entries_new card n es) xs ≡ xs ++ entry_rows card n es
 entries_come card n [] xs = sym (append-nil xs)
@@ -137,7 +137,7 @@ pub all_targets_brought : (idents : List Ident) (ks : List DeckDiffView) (xs : L
 all_targets_brought idents = acts_appending on_targets (λ k. brought idents k.deck 0 k.card_diffs) (λ k. flat_map (come_targets idents) k.card_diffs)
     (λ k xs. targets_brought idents k.deck 0 k.card_diffs xs)
 
--- ---- what stays and what comes are the rows of the cards as they are
+-- ---- the rows that stay and the inserted rows are the rows of the cards after
 
 entry_rows_append : (card : CardRef) (n m : ℕ) (es fs : List Entry) → m ≡ n + length es → entry_rows card n (es ++ fs) ≡ entry_rows card n es
     ++ entry_rows card m fs

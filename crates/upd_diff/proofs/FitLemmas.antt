@@ -71,9 +71,9 @@ states_fit (c ∷ cs) rows all = (one c all.0, states_fit cs (done c rows) all.1
     one (TargetNew card ord target) is = tt
     one (TargetsGone card targets) is = tt
 
--- ---- whether changes fit is a matter of the rows of cards, in any order
+-- ---- whether changes fit depends only on the rows of cards, in any order
 
--- whether a move can bring a row to its place
+-- whether a row can be moved
 abbrev can_move : ℕ → ℕ → ℤ → CardRow → Bool
 can_move d from (pos n) r = not ((r.deck == d) && nat_le from r.pos) || nat_lt (r.pos + n) (2 ^ 32)
 can_move d from (negsuc n) r = not ((r.deck == d) && nat_le from r.pos) || (nat_le (n + 1) r.pos && nat_lt r.pos (2 ^ 32))
@@ -106,7 +106,7 @@ of_test d from (negsuc n) r can moved = go (nat_le (n + 1) r.pos) refl (rw moved
     go true more less = (grind (arith, nat_tests), grind (arith, nat_tests))
     go false more less = absurd (cc)
 
--- what each row passes the same rows pass in any order
+-- what holds of each row holds of the same rows in any order
 all_pass : {A : Type 0} (test : A → Bool) (xs : List A) → AllByRecursion (λ x. test x ≡ true) xs → count_by (λ x. not (test x)) xs ≡ 0
 all_pass test [] all = refl
 all_pass test (x ∷ xs) all =
@@ -148,7 +148,7 @@ fit_same (c ∷ cs) a b same fit = (fits_same c a b same fit.0, fit_same cs (don
     next : IsSame (done c a).cards (done c b).cards
     next = same_trans (same_of _ _ (cards_one c a)) (same_trans (act_same (on_cards c) same) (same_of _ _ (sym (cards_one c b))))
 
--- tables with no other rows than of cards
+-- tables with only rows of cards
 abbrev pub of_cards : List CardRow → Rows
 of_cards cards = record { idents = []; cards = cards; entries = []; targets = []; runs = []; states = []; counts = []; settled = [] }
 
@@ -166,7 +166,7 @@ carry_append cs ds xs ys zs a b = record {
   are = acts_append on_cards cs ds xs ∙ ap (all_acts on_cards ds) a.are ∙ b.are;
 }
 
--- a change that takes each row of cards by itself, as moves do
+-- a change that maps each row of cards by itself, as moves do
 abbrev pub IsMove : ChangeView → Type 0
 IsMove c = (xs ys us vs : List CardRow) → Carry (c ∷ []) xs us → Carry (c ∷ []) ys vs → Carry (c ∷ []) (xs ++ ys) (us ++ vs)
 

@@ -1,4 +1,4 @@
--- The rows of what goes, taken from the rows of all cards.
+-- The rows that are deleted from the rows of all cards.
 use Rattle.std.proofs.Common.{◌≡◌, ℕ, ◌+◌, Bool, true, false, cond, List, [], ◌∷◌, ◌++◌, map, length, refl, ap, sym, ◌∙◌, append-nil}
 use Rattle.std.specs.Prelude.{not, ◌==◌, ◌&&◌, ◌||◌}
 use Rattle.std.specs.Str.{bytes_eq}
@@ -37,7 +37,7 @@ other_ref a b differ = go (same_ref a b) refl
     go true e = absurd (differ (same_ref_is a b e))
     go false e = refl
 
--- ---- which cards go, by a mark at each fate
+-- ---- which cards are deleted, by a flag at each card diff
 
 module _ (idents : List Ident) (goes : CardDiffView → Bool) where
   abbrev pub key_of : CardDiffView → List CardRef
@@ -65,7 +65,7 @@ module _ (idents : List Ident) (goes : CardDiffView → Bool) where
       go true later = later
       go false later = later
 
-  -- the keys fit still with that of a card which is none of these
+  -- the keys still fit with that of a card which is not one of these
   still : (k : CardRef) (keys : List CardRef) (card_diffs : List CardDiffView) → AllByRecursion (λ r. k ≡ r → ⊥) (map (ref_of idents) (flat_map card_before card_diffs))
       → AllByRecursion (Fits keys) card_diffs → AllByRecursion (Fits (k ∷ keys)) card_diffs
   still k keys [] apart fit = tt
@@ -73,7 +73,7 @@ module _ (idents : List Ident) (goes : CardDiffView → Bool) where
   still k keys (Gone c ∷ card_diffs) apart fit = ((rw (other_ref k (ref_of idents c) apart.0) fit.0.0, tt), still k keys card_diffs apart.1 fit.1)
   still k keys (New d ∷ card_diffs) apart fit = (tt, still k keys card_diffs apart fit.1)
 
-  -- the keys of the cards that go fit
+  -- the keys of the deleted cards fit
   pub keys_fit : (card_diffs : List CardDiffView) → AreApart (map (ref_of idents) (flat_map card_before card_diffs)) → AllByRecursion (Fits (flat_map key_of card_diffs)) card_diffs
   keys_fit [] apart = tt
   keys_fit (Kept c d ∷ card_diffs) apart = go (goes (Kept c d)) refl (is_not_in (ref_of idents c) card_diffs apart.0) (keys_fit card_diffs apart.1)
@@ -94,7 +94,7 @@ module _ (idents : List Ident) (goes : CardDiffView → Bool) where
       go true later = (tt, later)
       go false later = (tt, later)
 
--- ---- the changes that take rows, and the marks that say of which cards
+-- ---- the changes that delete rows, and the flags that say of which cards
 
 -- the card that a row is of
 abbrev pub card_of : CardRow → CardRef
@@ -181,7 +181,7 @@ targets_gone idents (New d) xs = sym (without_none target_of xs)
 
 -- ---- what is left of the rows
 
--- rows of a card stay unless the card is marked
+-- rows of a card stay unless the card is flagged
 abbrev pub staying : {A : Type 0} → (CardDiffView → Bool) → (CardView → List A) → CardDiffView → List A
 staying goes rows f = cond (goes f) [] (flat_map rows (card_before f))
 
@@ -218,7 +218,7 @@ entries_are_of idents keys c = entries_without keys (ref_of idents c) 0 c.histor
 pub targets_are_of : (idents : List Ident) → AreOf target_of idents (λ c. target_rows (ref_of idents c) 0 c.targets)
 targets_are_of idents keys c = targets_without keys (ref_of idents c) 0 c.targets
 
--- where the keys fit, the rows of the marked cards go
+-- where the keys fit, the rows of the flagged cards are deleted
 pub rows_left : {A : Type 0} (card : A → CardRef) (idents : List Ident) (rows : CardView → List A) (goes : CardDiffView → Bool) (keys : List CardRef)
     → AreOf card idents rows → (card_diffs : List CardDiffView) → AllByRecursion (Fits idents goes keys) card_diffs
     → without card keys (flat_map rows (flat_map card_before card_diffs)) ≡ flat_map (staying goes rows) card_diffs
@@ -240,7 +240,7 @@ rows_left card idents rows goes keys own (Gone c ∷ card_diffs) fit =
 rows_left card idents rows goes keys own (New d ∷ card_diffs) fit =
     rows_left card idents rows goes keys own card_diffs fit.1 ∙ ap (λ t. t ++ flat_map (staying goes rows) card_diffs) (no_rows (goes (New d)) [] refl)
 
--- the rows of a deck's cards that stay, at the places where they were
+-- the rows of a deck's cards that stay, at their old positions
 abbrev pub kept_from : List Ident → ℕ → ℕ → List CardDiffView → List CardRow
 kept_from idents d w [] = []
 kept_from idents d w (Kept was is ∷ card_diffs) = record { card = ref_of idents was; deck = d; pos = w; body = was.text } ∷ kept_from idents d (w + 1) card_diffs

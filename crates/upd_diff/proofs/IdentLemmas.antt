@@ -1,4 +1,4 @@
--- A directory that goes on: its changes, and the names that stay.
+-- A directory that is extended: its changes, and the names that stay.
 use Rattle.std.proofs.Common.{◌≡◌, ℕ, zero, suc, ◌+◌, ◌-◌, ◌<◌, ◌≤◌, Bool, true, false, cond, List, [], ◌∷◌, ◌++◌, map, inl, inr, refl, ap, sym, subst, ◌∙◌}
 use Rattle.std.proofs.Common.{append_assoc, append-nil, arith}
 use Rattle.std.specs.Prelude.{not, ◌==◌, ◌&&◌, ◌⊎◌, slice_get, Some}
@@ -44,7 +44,7 @@ below_more : (n : ℕ) (idents : List Ident) (i : Ident) → AllByRecursion (λ 
 below_more n [] i below e = (omega arith, tt)
 below_more n (j ∷ idents) i below e = let less = below.0 in (omega arith, below_more n idents i below.1 e)
 
--- what is told of one ident: nothing before it and nothing behind it changes
+-- the change for one ident: nothing before it and nothing after it changes
 one_row_change : (n : ℕ) (front old : List Ident) (i j : Ident) → AllByRecursion (λ k. k.age < n) front → i.age ≡ n → AreAgedFrom (n + 1) old
     → (j ≡ i) ⊎ (j ≡ record i { held = false })
     → all_acts on_idents (cond (i.held && not j.held) (IdentPurged i.age ∷ []) []) (front ++ i ∷ old) ≡ front ++ j ∷ old
@@ -85,7 +85,7 @@ directory_done old new aged goes = idents_done 1 [] old new tt aged goes
 
 -- ---- names stay
 
--- an ident of the old directory stands in the new one, with its name
+-- an ident of the old directory is in the new one, with its name
 goes_at : (old new : List Ident) (k : ℕ) (i : Ident) → Continues old new → slice_get old k ≡ Some i → (j : Ident) × (slice_get new k ≡ Some j)
     × (j.name ≡ i.name)
 goes_at [] new k i goes e = absurd (cc)
@@ -117,7 +117,7 @@ names_stay old new z aged goes held = go (held_at 1 z old aged held)
 ref_stays : (old new : List Ident) (c : CardView) → AreAgedFrom 1 old → Continues old new → IsOfHeld old c → ref_of new c ≡ ref_of old c
 ref_stays old new c aged goes held = let e = names_stay old new c.ident aged goes held.0 in λ i. record { name = e i; number = c.number }
 
--- the references of the cards of a sound library are those of any directory that its own goes on to
+-- the references of the cards of a sound library are the same in any directory that extends its own
 pub refs_stay : (l : LibraryView) (new : List Ident) → IsSound l → Continues l.idents new → (cards : List CardView) → AllByRecursion (IsOfHeld l.idents) cards
     → AllByRecursion (λ c. ref_of new c ≡ ref_of l.idents c) cards
 refs_stay l new sound goes [] held = tt

@@ -1,4 +1,4 @@
--- What holds of each kind of change holds of all that is told.
+-- What holds of each kind of change holds of all row changes.
 use Rattle.std.proofs.Common.{ℕ, ◌+◌, Bool, true, false, cond, List, [], ◌∷◌, ◌++◌, length, drop}
 use Rattle.std.specs.Prelude.{not, ◌==◌, ◌&&◌, ℤ}
 use Rattle.std.specs.List.{flat_map, AllByRecursion}

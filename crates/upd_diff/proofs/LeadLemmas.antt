@@ -1,13 +1,13 @@
--- Fates that pair decks: found one after the other, and what they lead to.
+-- Deck diffs that pair decks: how they are found, and the decks that they lead to.
 use Rattle.std.proofs.Common.{◌≡◌, ℕ, zero, suc, true, cond, inl, inr, List, [], ◌∷◌, ◌++◌, map, drop, slice_get, Some, refl, ap, sym, subst, ◌∙◌}
 use Rattle.std.proofs.Common.{append_assoc, append-nil}
 use Rattle.std.specs.List.{list_any}
 use Rattle.upd_core.specs.Library.{CardView, DeckView}
 use Rattle.upd_diff.specs.CardDiffs.{DeckDiffView, AreOfDeck, Await, Lead, Paired, deck_before, deck_after, has_cards, standing}
 
--- ---- what paired fates lead to
+-- ---- the decks that paired diffs lead to
 
--- one more deck on both sides of an equation of standing decks
+-- one more deck on both sides of an equation of decks with cards
 standing_more : (g : DeckDiffView → DeckView) (ks : List DeckDiffView) (k : DeckDiffView) (xs : List DeckView) (d : DeckView)
     → standing (map g ks) ≡ standing xs → g k ≡ d → standing (map g (k ∷ ks)) ≡ standing (d ∷ xs)
 standing_more g ks k xs d e same = λ i. cond (has_cards (same i)) (same i ∷ e i) (e i)
@@ -85,7 +85,7 @@ await_new before after ks e k news are so rest p =
 pub await_none : (before after : List DeckView) (ks : List DeckDiffView) → Await before after ks [] [] → Paired before after ks
 await_none before after ks so = subst (Paired before after) (append-nil ks) (so [] tt)
 
--- the first of those that are left
+-- the first of the remaining decks
 pub first_left : (ds : List DeckView) (i : ℕ) (e : DeckView) (es : List DeckView) → drop i ds ≡ e ∷ es → slice_get ds i ≡ Some e
 first_left [] zero e es is = absurd (cc)
 first_left [] (suc i) e es is = absurd (cc)

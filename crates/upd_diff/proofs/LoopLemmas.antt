@@ -1,4 +1,4 @@
--- Steps of the loops that tell fates.
+-- Steps of the loops over card diffs.
 use Rattle.std.proofs.Common.{◌≡◌, ℕ, ◌+◌, ◌<◌, false, List, [], ◌∷◌, map, length, drop, get_or, refl, ap, sym, ◌∙◌, arith}
 use Rattle.std.proofs.lemmas.Bool.{and_right}
 use Rattle.std.proofs.lemmas.List.{drop_more}
@@ -9,7 +9,7 @@ use Rattle.upd_diff.specs.CardDiffs.{card_diff_view}
 use Rattle.upd_diff.specs.RowChanges.{begins, ident_changes}
 use Rattle.upd_core.specs.Entries.{same_entry}
 
--- the fates from an index on
+-- the card diffs from an index on
 pub next_diffs : (xs : List CardDiff) (i : ℕ) (x : CardDiff) → i < length xs → x ≡ get_or xs i x → map card_diff_view (drop i xs)
     ≡ card_diff_view x ∷ map card_diff_view (drop (i + 1) xs)
 next_diffs xs i x within is = ap (map card_diff_view) (drop_more xs i x within) ∙ ap (λ y. card_diff_view y ∷ map card_diff_view (drop (i + 1) xs)) (sym is)

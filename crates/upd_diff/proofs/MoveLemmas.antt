@@ -1,4 +1,4 @@
--- The moves bring the cards that stay to the places where they are to stand.
+-- The moves take the cards that stay to their new positions.
 use Rattle.std.proofs.Common.{◌≡◌, ℕ, ◌+◌, ◌-◌, ◌<◌, ◌≤◌, Bool, true, false, cond, List, [], ◌∷◌, ◌++◌, map, length, ◌^◌, refl, ap, sym, arith}
 use Rattle.std.specs.Prelude.{nat_lt, nat_le, ◌==◌, ◌&&◌, pos, negsuc, IsTrue}
 use Rattle.std.specs.List.{flat_map, AllByRecursion}
@@ -17,11 +17,11 @@ use Rattle.upd_diff.proofs.FitLemmas.{Carry, carry_none, carry_append, carry_joi
 use Rattle.upd_diff.proofs.KindLemmas.{moves_all}
 use Rattle.upd_diff.proofs.GoneLemmas.{kept_from}
 
--- the row of a card that stays, where it is to stand
+-- the row of a card that stays, at its new position
 abbrev pub kept_row : List Ident → ℕ → ℕ → CardView → CardRow
 kept_row idents d p c = record { card = ref_of idents c; deck = d; pos = p; body = c.text }
 
--- the rows of a deck's cards that stay, at the places where they are to stand
+-- the rows of a deck's cards that stay, at their new positions
 abbrev pub kept_to : List Ident → ℕ → ℕ → List CardDiffView → List CardRow
 kept_to idents d p [] = []
 kept_to idents d p (Kept was is ∷ card_diffs) = kept_row idents d p was ∷ kept_to idents d (p + 1) card_diffs
@@ -55,7 +55,7 @@ shift idents d w p v q (Kept c x ∷ card_diffs) behind e =
 shift idents d w p v q (Gone c ∷ card_diffs) behind e = shift idents d w p (v + 1) (q + 1) card_diffs (omega arith) (omega arith)
 shift idents d w p v q (New x ∷ card_diffs) behind e = shift idents d w p v q card_diffs behind e
 
--- a place behind where a move begins stays a place: the cards are fewer than 2^32
+-- a position at or after the start of a move stays valid: the cards are fewer than 2^32
 can_shift : (w p v : ℕ) → w ≤ v → v < 2 ^ 32 → v + p < 2 ^ 32 + w → CanMove (distance w p) v
 can_shift w p v behind within later = go (nat_lt p w) refl
   where
@@ -82,7 +82,7 @@ move_does idents d w p card_diffs short later = go (w == p) refl
       are = shift idents d w p w p card_diffs (omega arith) (omega arith);
     }
 
--- ---- rows that moves leave alone
+-- ---- rows that moves leave unchanged
 
 -- rows of other decks, and rows in front of what moves
 abbrev pub IsFixed : ℕ → ℕ → ℕ → CardRow → Type 0
@@ -150,7 +150,7 @@ moves_do idents d w p (Kept c e ∷ card_diffs) short later =
 moves_do idents d w p (Gone c ∷ card_diffs) short later = moves_do idents d (w + 1) p card_diffs (omega arith) (omega arith)
 moves_do idents d w p (New e ∷ card_diffs) short later = moves_do idents d w (p + 1) card_diffs (omega arith) (omega arith)
 
--- ---- the moves of all decks, where no two decks that had cards have one age
+-- ---- the moves of all decks, where no two decks that had cards have the same serial
 
 abbrev pub ages_before : List DeckDiffView → List ℕ
 ages_before ks = map (λ d. d.ident) (standing (map deck_before ks))

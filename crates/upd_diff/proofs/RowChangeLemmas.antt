@@ -1,4 +1,4 @@
--- The law of row changes: rows that show a library, changed as the fates of its cards are told, show the library that these lead to.
+-- The law of row changes: carried out on rows that show the library before, they leave rows that show the library after.
 use Rattle.std.proofs.Common.{◌≡◌, ℕ, ◌+◌, Bool, true, false, cond, List, [], ◌∷◌, ◌++◌, map, refl, ap, sym, subst, ◌∙◌}
 use Rattle.std.specs.List.{filter, flat_map, AllByRecursion}
 use Rattle.std.proofs.lemmas.Grind.{flat_map-append}
@@ -29,7 +29,7 @@ use Rattle.upd_diff.proofs.ComeLemmas.{come_cards, come_entries, come_targets, a
 use Rattle.upd_diff.proofs.ComeLemmas.{entries_woven, targets_woven, cards_woven}
 use Rattle.upd_diff.proofs.IdentLemmas.{directory_done, refs_stay}
 
--- ---- told changes, a table at a time
+-- ---- row changes, a table at a time
 
 module _ (idents : List Ident) (ks : List DeckDiffView) where
   abbrev pub all_gone : List ChangeView
@@ -38,7 +38,7 @@ module _ (idents : List Ident) (ks : List DeckDiffView) where
   abbrev pub all_brought : List ChangeView
   all_brought = flat_map (λ k. brought idents k.deck 0 k.card_diffs) ks
 
-  -- the references of the cards that are marked
+  -- the references of the cards that are flagged
   abbrev keys : (CardDiffView → Bool) → List CardRef
   keys goes = flat_map (λ k. flat_map (key_of idents goes) k.card_diffs) ks
 
@@ -175,7 +175,7 @@ module _ (old new : LibraryView) (ks : List DeckDiffView) (sound : IsSound old) 
   apart = subst (λ cs. AreApart (map (ref_of new.idents) cs)) (sym before_is) (subst AreApart (refs_agree old.idents new.idents
       (all_cards old) stay) (refs_apart old sound))
 
-  -- the keys of marked cards fit
+  -- the keys of flagged cards fit
   fit : (mark : CardDiffView → Bool) → AllByRecursion (Fits new.idents mark (keys new.idents ks mark)) card_diffs
   fit mark = subst (λ keys. AllByRecursion (Fits new.idents mark keys) card_diffs) (flat_twice (key_of new.idents mark) (λ k. k.card_diffs) ks)
       (keys_fit new.idents mark card_diffs apart)
@@ -187,7 +187,7 @@ module _ (old new : LibraryView) (ks : List DeckDiffView) (sound : IsSound old) 
   ages_apart = subst (λ ds. AreApart (map (λ d. d.ident) ds)) (sym lead.olds) (apart_filter (λ d. d.ident) has_cards (all_decks old) (rising_apart
       (map (λ d. d.ident) (all_decks old)) sound.deck_ages))
 
-  -- what is told of the directory leaves the other tables alone
+  -- the changes of the directory leave the other tables unchanged
   past_idents : {A : Type 0} (e : ChangeView → Effect A) (xs : List A) → AreIdle e (ident_changes old.idents new.idents)
       → all_acts e (row_changes old.idents new.idents ks) xs ≡ all_acts e (card_changes new.idents ks) xs
   past_idents e xs idle =
@@ -204,7 +204,7 @@ module _ (old new : LibraryView) (ks : List DeckDiffView) (sound : IsSound old) 
       deck_rows_agree old.idents new.idents (all_decks old) stay
       ∙ sym (same_standing (λ d. card_rows new.idents d.ident 0 d.cards) (λ d. refl) deck_before ks (all_decks old) lead.olds)
 
-  -- the rows of cards once all that goes is gone
+  -- the rows of cards after the deletions
   cards_left_are : all_acts on_cards (all_gone new.idents ks) (rows_of old).cards ≡ all_from new.idents ks
   cards_left_are =
       ap (all_acts on_cards (all_gone new.idents ks)) old_cards
@@ -226,7 +226,7 @@ module _ (old new : LibraryView) (ks : List DeckDiffView) (sound : IsSound old) 
       (λ k. card_rows new.idents k.deck 0 (flat_map card_after k.card_diffs)) (cards_woven new.idents) ks lead.kept)
       (same_of _ _ (same_standing (λ d. card_rows new.idents d.ident 0 d.cards) (λ d. refl) deck_after ks (all_decks new) lead.news)))
 
-  -- entries and targets: rows of a card, whatever its place
+  -- entries and targets: rows of a card, whatever its position
   module _ {A : Type 0} (e : ChangeView → Effect A) (card : A → CardRef) (row : CardRef → CardView → List A) (mark : CardDiffView → Bool) (come : CardDiffView → List A)
       (own : (keys : List CardRef) (c : CardView) → without card keys (row (ref_of new.idents c) c)
       ≡ cond (is_in keys (ref_of new.idents c)) [] (row (ref_of new.idents c) c))

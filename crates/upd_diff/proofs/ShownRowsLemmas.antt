@@ -1,4 +1,4 @@
--- Told changes: what they do to the tables, and which cards they take.
+-- Row changes: what they do to the tables, and which cards they delete.
 use Rattle.std.proofs.Common.{List, sym, subst}
 use Rattle.upd_core.specs.Library.{LibraryView, all_decks}
 use Rattle.upd_core.specs.Sound.{Continues, IsSound}
@@ -24,6 +24,6 @@ module _ (old new : LibraryView) (changes : List ChangeView) where
   pub fit_row_changes : IsSound old → Continues old.idents new.idents → RowChanges old new changes → (rows : Rows) → Shows rows old → AllFit changes rows
   fit_row_changes sound goes t rows shows = subst (λ cs. AllFit cs rows) (sym t.are) (row_changes_fit old new t.decks sound goes (lead t) rows shows)
 
-  -- they take each card that is gone
+  -- they delete each card that is gone
   pub taken_by_row_changes : IsSound old → IsSound new → Continues old.idents new.idents → RowChanges old new changes → TakeGone old new changes
   taken_by_row_changes sound later goes t = subst (TakeGone old new) (sym t.are) (row_changes_take old new t.decks sound later goes (lead t))

@@ -1,4 +1,4 @@
--- What told changes do to statuses and counts: the rows of cards that are gone go, and nothing else.
+-- What row changes do to statuses and counts: they delete the status rows of cards that are gone, and nothing else.
 use Rattle.std.proofs.Common.{◌≡◌, ℕ, zero, suc, Bool, true, false, cond, List, [], ◌∷◌, ◌++◌, slice_get, Option, Some, None, is_some}
 use Rattle.std.proofs.Common.{refl, ap, sym, ◌∙◌}
 use Rattle.std.specs.Prelude.{not, ◌||◌}
@@ -46,7 +46,7 @@ any_later test xs ys e = any_append test xs ys ∙ go (list_any test xs) (list_a
 any_first : {A : Type 0} (test : A → Bool) (xs ys : List A) → list_any test xs ≡ true → list_any test (xs ++ ys) ≡ true
 any_first test xs ys e = any_append test xs ys ∙ ap (λ b. b || list_any test ys) e
 
--- ---- a card that stands is one of all, and a reference without a status is that of none
+-- ---- a card in a deck is one of all cards, and a reference without a status is that of no card
 
 -- whether a card has a reference
 abbrev has_ref : List Ident → CardRef → CardView → Bool
@@ -98,7 +98,7 @@ no_card l r sound none = decks (all_decks l) (λ d is. is)
         let rest = decks ds (λ e is. let at = contained_at ds e is in inside e (at_contained (d ∷ ds) (suc at.0) e at.1)) in
         any_append (has_ref l.idents r) d.cards (flat_map (λ d. d.cards) ds) ∙ (λ i. here i || rest i)
 
--- ---- each card that is gone is told
+-- ---- each card that is gone is deleted
 
 gone_changes : (idents : List Ident) (r : CardRef) (fs : List CardDiffView) → AllByRecursion IsKept fs → list_any (has_ref idents r) (flat_map card_before fs) ≡ true
     → list_any (has_ref idents r) (flat_map card_after fs) ≡ false → list_any (takes_card r) (flat_map (gone_of idents) fs) ≡ true
@@ -133,9 +133,9 @@ gone_changes idents r (New b ∷ fs) kept was is = gone_changes idents r fs kept
     later true e = absurd (cc)
     later false e = e
 
--- ---- no status and no count is told
+-- ---- no status and no count is set
 
--- changes that tell no status and no count
+-- changes that set no status and no count
 abbrev IsSilent : ChangeView → Type 0
 IsSilent c = row_changes_state c ≡ false
 
@@ -151,7 +151,7 @@ row_changes_silent old new ks =
     (all_joined IsSilent (flat_map (λ k. moves k.deck 0 0 k.card_diffs) ks) (flat_map (λ k. brought new k.deck 0 k.card_diffs) ks)
     (moves_each IsSilent (λ d from by. refl) ks) (brought_each IsSilent (λ card d p body. refl) (λ card n e. refl) (λ card n t. refl) new ks)))
 
--- ---- what is told takes what is gone, and leaves other statuses and the counts alone
+-- ---- row changes delete what is gone, and leave other statuses and the counts unchanged
 
 pub row_changes_take : (old new : LibraryView) (ks : List DeckDiffView) → IsSound old → IsSound new → Continues old.idents new.idents
     → Lead (all_decks old) (all_decks new) ks → TakeGone old new (row_changes old.idents new.idents ks)
@@ -170,9 +170,9 @@ row_changes_take old new ks sound later goes lead = record {
   silent = row_changes_silent old.idents new.idents ks;
 }
 
--- ---- rows that changes take
+-- ---- rows that changes delete
 
--- none is left where all that is looked for is taken
+-- none is left where all that is looked for is deleted
 pub filter_gone : {A : Type 0} (taken looked : A → Bool) (xs : List A) → ((x : A) → looked x ≡ true → taken x ≡ true)
     → filter looked (filter (λ x. not (taken x)) xs) ≡ []
 filter_gone taken looked [] all = refl
@@ -184,7 +184,7 @@ filter_gone taken looked (x ∷ xs) all = go (taken x) refl (looked x) refl (fil
     go false e true f later = absurd (let h = sym e ∙ all x f in cc)
     go false e false f later = rw (e, f) later
 
--- all are left where none that is looked for is taken
+-- all are left where none that is looked for is deleted
 pub filter_kept : {A : Type 0} (taken looked : A → Bool) (xs : List A) → ((x : A) → looked x ≡ true → taken x ≡ false)
     → filter looked (filter (λ x. not (taken x)) xs) ≡ filter looked xs
 filter_kept taken looked [] none = refl
@@ -196,7 +196,7 @@ filter_kept taken looked (x ∷ xs) none = go (taken x) refl (looked x) refl (fi
     go true e false f later = rw (e, f) later
     go false e b f later = rw e (ap (λ t. cond (looked x) (x ∷ t) t) later)
 
--- the rows of one card once those of another one, or its own, are taken
+-- the rows of one card once those of another one, or its own, are deleted
 pub states_gone : (r k : CardRef) (xs : List StateRow) → same_ref r k ≡ true → filter (λ s. same_ref r s.card) (filter (λ s. not (same_ref k s.card)) xs) ≡ []
 states_gone r k xs e =
     filter_gone (λ s. same_ref k s.card) (λ s. same_ref r s.card) xs (λ x is. ap (λ z. same_ref z x.card) (sym (same_ref_is r k e)) ∙ is)
@@ -209,7 +209,7 @@ states_kept r k xs e = filter_kept (λ s. same_ref k s.card) (λ s. same_ref r s
     other x is false f = refl
     other x is true f = let own : same_ref r k ≡ true = ap (same_ref r) (same_ref_is k x.card f) ∙ is in absurd (let q = sym own ∙ e in cc)
 
--- the row of a card goes where it is taken, else it stays
+-- the row of a card is gone where it is deleted, else it stays
 pub state_after : (cs : List ChangeView) (rows : Rows) (r : CardRef) → AreSilent cs → filter (λ s. same_ref r s.card) (done_all cs rows).states
     ≡ cond (list_any (takes_card r) cs) [] (filter (λ s. same_ref r s.card) rows.states)
 state_after [] rows r silent = refl

@@ -52,7 +52,7 @@ none_of_key ident number same key (x ∷ xs) e others =
     step_at_other (is_card ident number x) (same x) _ false (λ t. others.0 (e
     ∙ sym (key_is ident number x t))) (none_of_key ident number same key xs e others.1)
 
--- where a card of these has the key that is looked for, it alone decides
+-- where a card of these has the key that is looked for, only that card decides
 stood_from : (ident number : ℕ) (same : CardView → Bool) (xs : List CardView) (k : ℕ) (c : CardView) → AreApart (map key_of xs) → slice_get xs k ≡ Some c
     → key_of c ≡ (ident, number) → is_card ident number c ≡ true → list_any (λ b. is_card ident number b && same b) xs ≡ same c
 stood_from ident number same [] k c apart at key is = absurd (cc)
@@ -66,7 +66,7 @@ stood_from ident number same (x ∷ xs) (suc k) c apart at key is =
     (λ t. all_at (λ y. key_of x ≡ key_of y → ⊥) xs k c (all_mapped (λ z. key_of x ≡ z → ⊥) key_of xs apart.0) at (key_is ident number x t ∙ sym key))
     (stood_from ident number same xs k c apart.1 at key is)
 
--- a card that is kept stood there if its history is the one that it had
+-- a kept card is among these with the same history exactly where its history is unchanged
 pub stayed : (xs : List CardView) (was is : CardView) → AreApart (map key_of xs) → Contains xs was → is ≡ record was { history = is.history }
     → same_history was.history is.history ≡ stood_in xs is
 stayed xs was is apart in_xs kept =
@@ -80,7 +80,7 @@ none_step : (b same rest rest' : Bool) → (b || rest) ≡ false → (rest ≡ f
 none_step true same rest rest' e later = absurd (cc)
 none_step false same rest rest' e later = later e
 
--- where no card is the one that is looked for, none of them stood there
+-- where no card has the key that is looked for, none of them is the card
 pub stood_nowhere : (ident number : ℕ) (same : CardView → Bool) (xs : List CardView) → list_any (is_card ident number) xs ≡ false
     → list_any (λ b. is_card ident number b && same b) xs ≡ false
 stood_nowhere ident number same [] e = refl
@@ -130,9 +130,9 @@ other_history [] (f ∷ fs) differ = refl
 other_history (e ∷ es) [] differ = refl
 other_history (e ∷ es) (f ∷ fs) differ = and_right (same_entry e f) _ (other_history es fs (λ same. differ (ap suc same)))
 
--- ---- fates of cards of a deck
+-- ---- diffs of cards of a deck
 
--- decks that stand by age are found by it
+-- decks in order of serial are found by it
 deck_found : (l : LibraryView) → AreRising (map (λ d. d.ident) (all_decks l)) → AllByRecursion (λ d. cards_of d.ident l ≡ d.cards) (all_decks l)
 deck_found l rising = all_by_index (all_decks l) (λ k d at. cards_of_deck l k d (rising_apart (map (λ d. d.ident) (all_decks l)) rising) at)
 
@@ -144,7 +144,7 @@ all_left P test (x ∷ xs) all = go (test x) (all_left P test xs all.1)
     go true later = (all.0, later)
     go false later = later
 
--- fates of cards that are these
+-- diffs of cards that are these
 are_of : (cards : List CardView) (sure : Bool) (card_diffs : List CardDiffView) → AllByRecursion IsKept card_diffs
     → (sure ≡ true → AllByRecursion (Contains cards) (flat_map card_before card_diffs)) → AllByRecursion (IsOf cards sure) card_diffs
 are_of cards sure [] kept inside = tt
@@ -156,7 +156,7 @@ are_of cards sure (New is ∷ card_diffs) kept inside = (tt, are_of cards sure c
 own_cards : (cards : List CardView) → AllByRecursion (Contains cards) cards
 own_cards cards = all_by_index cards (λ k c at. at_contained cards k c at)
 
--- the fates of each deck are of its cards, where decks stand by age
+-- the diffs of each deck are of its cards, where decks are in order of serial
 abbrev pub AreOf : LibraryView → Bool → DeckDiffView → Type 0
 AreOf l sure k = AllByRecursion (IsOf (cards_of k.deck l) sure) k.card_diffs
 
@@ -194,7 +194,7 @@ lead_are_of l after ks sure lead rising =
 
 -- ---- loops
 
--- one more age before those that rise
+-- one more serial before those that rise
 pub rising_more : (n m : ℕ) (ns : List ℕ) → n < m → AreRising (m ∷ ns) → AreRising (n ∷ m ∷ ns)
 rising_more n m ns less rising = ((less, below ns rising.0), rising)
   where
@@ -209,7 +209,7 @@ rising_step ds i last age d within is same less rising =
     subst (λ xs. AreRising (last ∷ map (λ d. d.ident) xs)) (sym next)
     (subst (λ n. AreRising (last ∷ n ∷ map (λ d. d.ident) (drop (i + 1) ds))) same (rising_more last age (map (λ d. d.ident) (drop (i + 1) ds)) less rising))
 
--- one more card, of which b says whether it stood
+-- one more card, where b says whether it was there with the same history
 pub card_more : (idents : List Ident) (before : List CardView) (is : CardView) (rest : List CardView) (found now whole : List CardRef) (b : Bool)
     → b ≡ stood_in before is → now ≡ found ++ (if not b then ref_of idents is ∷ [] else [])
     → found ++ map (ref_of idents) (filter (λ c. not (stood_in before c)) (is ∷ rest)) ≡ whole

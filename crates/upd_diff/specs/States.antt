@@ -1,4 +1,4 @@
--- What the row changes of a run do to statuses and counts.
+-- The effect of a run's row changes on statuses and counts.
 use Rattle.std.specs.Prelude.{◌≡◌, Bool, true, false, List, None, is_some}
 use Rattle.std.specs.List.{list_any, AllByRecursion}
 use Rattle.upd_text.specs.declared.card_ref.CardRef.{CardRef}
@@ -8,7 +8,7 @@ use Rattle.upd_records.specs.Rows.{same_ref}
 use Rattle.upd_records.specs.Changes.{ChangeView, IdentNew, IdentPurged, CardNew, CardGone, CardsMoved, EntryNew, EntriesGone, TargetNew, TargetsGone}
 use Rattle.upd_records.specs.Changes.{StatusNow, CountNow}
 
--- whether a change takes a card away, and its status with it
+-- whether a change deletes a card, and its status with it
 abbrev pub takes_card : CardRef → ChangeView → Bool
 takes_card card (CardGone gone) = same_ref card gone
 takes_card card (IdentNew ident) = false
@@ -22,7 +22,7 @@ takes_card card (TargetsGone of targets) = false
 takes_card card (StatusNow of active) = false
 takes_card card (CountNow target n) = false
 
--- whether a change tells a status or a count
+-- whether a change sets a status or a count
 abbrev pub row_changes_state : ChangeView → Bool
 row_changes_state (StatusNow card active) = true
 row_changes_state (CountNow target n) = true
@@ -36,7 +36,7 @@ row_changes_state (EntriesGone card) = false
 row_changes_state (TargetNew card ord target) = false
 row_changes_state (TargetsGone card targets) = false
 
--- Of one library and a later one, changes take each card away that stood and stands no more, and tell no status and no count.
+-- Changes from one library to another delete each card that is no longer there, and set no status and no count.
 pub record TakeGone (old new : LibraryView) (changes : List ChangeView) : Type 0 where
   pub gone : (card : CardRef) → is_some (status_of card old) ≡ true → status_of card new ≡ None → list_any (takes_card card) changes ≡ true
   pub silent : AllByRecursion (λ c. row_changes_state c ≡ false) changes

@@ -1,4 +1,4 @@
--- The cards that a run touched: those that weren't there before, or whose history differs from before.
+-- The cards that a run touched: those that are new, or whose history differs from before.
 use Rattle.std.specs.Prelude.{◌≡◌, Bool, true, false, not, ◌&&◌, List, [], ◌∷◌, map}
 use Rattle.std.specs.List.{list_any, filter, flat_map, Contains}
 use Rattle.upd_core.specs.declared.card.Entry.{Entry}
@@ -15,7 +15,7 @@ same_history [] (f ∷ fs) = false
 same_history (e ∷ es) [] = false
 same_history (e ∷ es) (f ∷ fs) = same_entry e f && same_history es fs
 
--- whether a card stood in these cards with the same history
+-- whether a card is among these cards, with the same history
 abbrev pub stood_in : List CardView → CardView → Bool
 stood_in cards c = list_any (λ b. is_card c.ident c.number b && same_history b.history c.history) cards
 
@@ -23,11 +23,11 @@ stood_in cards c = list_any (λ b. is_card c.ident c.number b && same_history b.
 abbrev pub touched_in : List Ident → LibraryView → DeckView → List CardRef
 touched_in idents before d = map (ref_of idents) (filter (λ c. not (stood_in (cards_of d.ident before) c)) d.cards)
 
--- the touched cards, by deck (`YANK$$$` first) and place
+-- the touched cards, in order of deck (`YANK$$$` first) and place
 abbrev pub touched : LibraryView → LibraryView → List CardRef
 touched before after = flat_map (touched_in after.idents before) (all_decks after)
 
--- a kept card differs in its history alone, and where this is sure it is one of these
+-- a kept card differs only in its history, and where `sure` holds, the card before is one of these
 abbrev pub IsOf : List CardView → Bool → CardDiffView → Type 0
 IsOf cards sure (Kept was is) = IsKept (Kept was is) × (sure ≡ true → Contains cards was)
 IsOf cards sure (Gone was) = Unit {0}

@@ -1,4 +1,4 @@
-//! What became of the cards of a deck: one walk over its cards before and after.
+//! Card diffs: one loop over the cards of a deck before and after a run.
 ghost use Rattle.std.specs.Prelude.{◌≡◌, ◌↔◌, ◌+◌, ◌<◌, ◌≤◌, [], ◌∷◌, ◌++◌, true, map, length, take, IfOk, OnOk};
 ghost use Rattle.std.specs.List.{flat_map, AllByRecursion};
 ghost use Rattle.upd_core.specs.Library.{CardView};
@@ -9,17 +9,17 @@ use std::alloc::{AllocError, Global};
 use std::marker::Model;
 use upd_core::{Card, Serial, Target};
 
-/// What became of a card.
+/// Whether a card is kept, gone or new.
 #[derive(Clone, Copy, Debug)]
 pub(crate) enum CardDiff<'a> {
-    /// As it was, and as it is.
+    /// The card before, and the card after.
     Kept(&'a Card, &'a Card),
     Gone(&'a Card),
     New(&'a Card),
 }
 
 impl<'a> CardDiff<'a> {
-    /// How many cards before it takes in: one where the card was there.
+    /// How many cards before the run the diff covers: 0 or 1.
     fn before(&self) -> usize
         ensures { result ≡ length (card_before (card_diff_view self.now)) }
     {
@@ -29,7 +29,7 @@ impl<'a> CardDiff<'a> {
         }
     }
 
-    /// How many cards after it takes in.
+    /// How many cards after the run the diff covers: 0 or 1.
     fn after(&self) -> usize
         ensures { result ≡ length (card_after (card_diff_view self.now)) }
     {
@@ -40,8 +40,7 @@ impl<'a> CardDiff<'a> {
     }
 }
 
-/// What became of the cards of a deck, and of those that came to it, in their order: fewer than 2^32, so that places
-/// are numbers of 32 bits.
+/// The card diffs of a deck, in order. There are fewer than 2^32, so that positions are numbers of 32 bits.
 #[derive(Debug, Drop)]
 pub(crate) struct DeckDiff<'a> {
     pub(crate) deck: Serial,
@@ -59,7 +58,7 @@ impl<'a> Model for DeckDiff<'a> {
     ghost invariant = { λ k. length k.card_diffs.items < 2 ^ 32 };
 }
 
-/// Whether a card is the same but for its history.
+/// Whether two cards differ at most in their histories.
 fn is_kept(was: &Card, is: &Card) -> bool
     ensures { (result ≡ true) ↔ (is.now ≡ record was.now { history = is.now.history }) }
 {
@@ -89,8 +88,8 @@ fn are_same_targets(targets: &[Target], others: &[Target]) -> bool
     true
 }
 
-/// What became of the next card before or of the next card after. A card of an ident younger than all idents before is
-/// new; otherwise an old card that isn't the next one after is gone.
+/// The diff of the next card before and the next card after. A card of an ident younger than `youngest`, the youngest
+/// ident before, is new. Otherwise an old card that isn't the next one after is gone.
 fn next_diff<'a>(youngest: Serial, was: &'a Card, is: &'a Card) -> CardDiff<'a>
     ensures next { IsNextOf was.now is.now (card_diff_view result) }
     ensures stays { is.now.ident ≤ youngest → is.now ≡ record was.now { history = is.now.history }
@@ -106,7 +105,7 @@ fn next_diff<'a>(youngest: Serial, was: &'a Card, is: &'a Card) -> CardDiff<'a>
     }
 }
 
-/// What became of cards that stood in one deck, before and after.
+/// The diffs of the cards of one deck, before and after.
 fn card_diffs<'a>(
     alloc: Global,
     youngest: Serial,
@@ -147,8 +146,7 @@ fn add_new<'a>(card_diffs: &mut Vec<CardDiff<'a>>, cards: &'a [Card]) -> Result<
     Ok(())
 }
 
-/// What became of a deck. So many cards that their places are no numbers of 32 bits are want of memory; the limits of a
-/// library stay far below.
+/// The diff of a deck. It returns `AllocError` for 2^32 card diffs or more.
 pub(crate) fn deck_diff<'a>(
     alloc: Global,
     deck: Serial,

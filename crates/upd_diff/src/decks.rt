@@ -1,4 +1,4 @@
-//! What became of all decks of a library.
+//! The diffs of all decks of a library.
 ghost use Rattle.std.specs.Prelude.{◌≡◌, ◌<◌, ◌≤◌, List, [], ◌∷◌, length, drop, slice_get, Some};
 ghost use Rattle.std.specs.Prelude.{slice_index_or, IfOk, OnOk, MatchOption};
 ghost use Rattle.upd_core.specs.Library.{DeckView, all_decks};
@@ -8,7 +8,7 @@ use crate::card_diffs::{DeckDiff, deck_diff};
 use std::alloc::{AllocError, Global};
 use upd_core::{Deck, Library, Serial};
 
-/// What became of all cards, `YANK$$$` first. Cards of an age above `youngest` are taken to be new.
+/// The diffs of all decks, `YANK$$$` first. Cards of idents with a serial above `youngest` are taken to be new.
 pub(crate) fn library_diff<'a>(
     alloc: Global,
     youngest: Serial,
@@ -25,8 +25,8 @@ pub(crate) fn library_diff<'a>(
     Ok(found)
 }
 
-/// What became of decks: those that stand in both libraries are taken in order, the others are gone. Answers the index
-/// from which on decks are left that have come.
+/// Adds the diffs of the decks before: a deck that is the next one after is kept, any other is gone. Returns the index
+/// in `after` of the first new deck.
 fn add_decks<'a>(
     alloc: Global,
     found: &mut Vec<DeckDiff<'a>>,
@@ -73,7 +73,7 @@ fn add_deck<'a>(
     }
 }
 
-/// The deck at an index, if it is the same one.
+/// The deck at an index, if it has the same serial.
 fn partner<'a>(deck: &Deck, after: &'a [Deck], next: usize) -> Option<&'a Deck>
     ensures { MatchOption result
         ((d : DeckView) → slice_get after.now next ≡ Some d → d.ident ≡ deck.now.ident → ⊥)

@@ -1,4 +1,4 @@
-//! The row changes of a run, from the library before and the library after it.
+//! The row changes and touched cards of a run, from the library before and the library after it.
 ghost use Rattle.std.specs.Prelude.{◌≡◌, ◌-◌, length, map, slice_get, IfOk};
 ghost use Rattle.std.specs.Option.{option_map_or};
 ghost use Rattle.upd_core.specs.Sound.{AreApart, Continues, IsSound, all_cards, key_of};
@@ -16,18 +16,17 @@ use std::alloc::{AllocError, Global};
 use upd_core::{Change, Ident, Library, Serial};
 use upd_text::CardRef;
 
-/// What leads from one library to another.
+/// The difference of two libraries.
 #[derive(Debug, Drop)]
 pub struct Compared {
     pub changes: Vec<Change>,
-    /// The cards that weren't there before, or whose history differs, by deck (`YANK$$$` first) and place.
+    /// The cards that are new or whose history differs, in order of deck (`YANK$$$` first) and place.
     pub touched: Vec<CardRef>,
 }
 
-/// The row changes that lead from one library to another whose directory goes on from its own, and the cards that were
-/// touched, from one comparison of the two. Changes stand in the order in which they are carried out: idents, then all
-/// that goes, then moves, then all that comes. What comes or goes at one place of a deck is one move. Memory alone can
-/// fail; a deck with 2^32 fates, or a card with as many entries, is answered as want of memory too.
+/// The row changes from one library to another, and the touched cards. The directory of `after` must extend that of
+/// `before`. Changes are in the order in which they are carried out: idents, then deletions, then moves, then
+/// insertions. Insertions and deletions at one place of a deck make one move.
 pub fn compare(alloc: Global, before: &Library, after: &Library) -> Result<Compared, AllocError>
     ensures row_changes { IfOk result (λ d. RowChanges before.now after.now (map change_view d.changes.items)) }
     ensures shows { (rows : Rows) → IsSound before.now → Continues before.now.idents after.now.idents
@@ -48,7 +47,7 @@ pub fn compare(alloc: Global, before: &Library, after: &Library) -> Result<Compa
     Ok(Compared { changes, touched })
 }
 
-/// The age of the last ident, 0 where there is none.
+/// The serial of the last ident; 0 for an empty directory.
 fn last_age(idents: &[Ident]) -> Serial
     ensures { result ≡ option_map_or (λ i. i.age) (slice_get idents.now (length idents.now - 1)) 0 }
 {

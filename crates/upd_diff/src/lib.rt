@@ -1,9 +1,12 @@
-//! What differs between two libraries: the cards a run touched, and the row changes that lead from one to the other.
+//! The difference of two libraries: the cards that a run touched, and the row changes from one to the other.
+//!
+//! `AllocError` is the only error. It is also returned where the index of a card, an entry or a target exceeds 32 bits,
+//! which is far above the limits of a library.
 #![tactic(auto)]
 
+mod card_diffs;
 mod decks;
 pub mod difference;
-mod card_diffs;
 mod row_changes;
 mod touched;
 

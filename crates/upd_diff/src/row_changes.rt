@@ -1,4 +1,4 @@
-//! Tells fates as row changes: idents, then all that goes, then moves, then all that comes.
+//! Row changes from card diffs: idents, then deletions, then moves, then insertions.
 ghost use Rattle.std.specs.Prelude.{◌≡◌, ◌+◌, ◌<◌, ◌≤◌, true, ◌^◌, ◌==◌, ◌&&◌, not, if◌then◌else◌, [], ◌∷◌, ◌++◌, map};
 ghost use Rattle.std.specs.Prelude.{length, drop, IfOk, OnOk};
 ghost use Rattle.std.specs.List.{flat_map};
@@ -8,12 +8,12 @@ ghost use Rattle.upd_diff.specs.RowChanges.{begins, brought, card_new, entries_n
 ghost use Rattle.upd_diff.specs.RowChanges.{moves};
 ghost use Rattle.upd_diff.specs.RowChanges.{targets_new, row_changes};
 
-use crate::card_diffs::{DeckDiff, CardDiff};
+use crate::card_diffs::{CardDiff, DeckDiff};
 use std::alloc::{AllocError, Global};
 use upd_core::card::card_ref;
 use upd_core::{Card, CardRef, Change, Entry, Ident, Serial, Target};
 
-/// The changes that lead from one directory and its cards to another.
+/// The row changes from one directory and its cards to another.
 pub(crate) fn row_changes(
     alloc: Global,
     before: &[Ident],
@@ -72,7 +72,11 @@ fn add_all_gone(
     Ok(())
 }
 
-fn add_gone(changes: &mut Vec<Change>, idents: &[Ident], card_diffs: &[CardDiff]) -> Result<(), AllocError>
+fn add_gone(
+    changes: &mut Vec<Change>,
+    idents: &[Ident],
+    card_diffs: &[CardDiff],
+) -> Result<(), AllocError>
     ensures { OnOk result (map change_view changes.new.items
         ≡ map change_view changes.old.items ++ flat_map (gone_of idents.now) (map card_diff_view card_diffs.now)) }
 {
@@ -86,7 +90,7 @@ fn add_gone(changes: &mut Vec<Change>, idents: &[Ident], card_diffs: &[CardDiff]
     Ok(())
 }
 
-/// The entries of a card that stays go, unless more have only come to them.
+/// Deletes the entries of a kept card, unless its history was only extended.
 fn add_old_entries(
     changes: &mut Vec<Change>,
     idents: &[Ident],
@@ -144,9 +148,13 @@ fn add_all_moves(changes: &mut Vec<Change>, decks: &[DeckDiff]) -> Result<(), Al
     Ok(())
 }
 
-/// Moves each card that stays and doesn't stand where it must, and all behind it with it: so what comes or goes at one
-/// place is one move.
-fn add_moves(changes: &mut Vec<Change>, deck: Serial, card_diffs: &[CardDiff]) -> Result<(), AllocError>
+/// Moves each kept card that is not at its new position, with all cards after it: insertions and deletions at one place
+/// make one move.
+fn add_moves(
+    changes: &mut Vec<Change>,
+    deck: Serial,
+    card_diffs: &[CardDiff],
+) -> Result<(), AllocError>
     requires { length card_diffs.now < 2 ^ 32 }
     ensures { OnOk result (map change_view changes.new.items
         ≡ map change_view changes.old.items ++ moves deck 0 0 (map card_diff_view card_diffs.now)) }
@@ -220,7 +228,7 @@ fn add_brought(
     Ok(())
 }
 
-/// The entries of a card that stays: those that have come, or all of them again.
+/// Adds the entries of a kept card: those that extend its history, or all of them where they were deleted.
 fn add_grown(
     changes: &mut Vec<Change>,
     idents: &[Ident],
@@ -275,8 +283,7 @@ fn add_card_row(
     Ok(())
 }
 
-/// Entries of a card, from a place on. A place that is no number of 32 bits is want of memory; the limits of a library
-/// stay far below.
+/// Adds entries of a card; the first has index `from`. It returns `AllocError` where an index exceeds 32 bits.
 fn add_entries(
     changes: &mut Vec<Change>,
     card: &CardRef,
@@ -323,7 +330,7 @@ fn row_number(place: usize) -> Result<u32, AllocError>
     u32::try_from(place).map_err(|_| AllocError)
 }
 
-/// Whether a history goes on as another.
+/// Whether `history` is a prefix of `later`.
 fn begins(history: &[Entry], later: &[Entry]) -> bool
     ensures begins { result ≡ begins history.now later.now }
     ensures short { result ≡ true → length history.now ≤ length later.now }

@@ -1,4 +1,4 @@
-//! The cards that a run touched, read off what became of all cards.
+//! The cards that a run touched, from the card diffs.
 ghost use Rattle.std.specs.Prelude.{◌≡◌, ◌≤◌, ◌&&◌, true, not, if◌then◌else◌, List, [], ◌∷◌, ◌++◌, map, slice_index_or};
 ghost use Rattle.std.specs.Prelude.{EachIndex, IfOk, OnOk};
 ghost use Rattle.std.specs.List.{AllByRecursion, Contains, filter, flat_map};
@@ -7,13 +7,13 @@ ghost use Rattle.upd_core.specs.Sound.{AreApart, AreRising, all_cards, key_of};
 ghost use Rattle.upd_diff.specs.CardDiffs.{Lead, card_after, card_diff_view};
 ghost use Rattle.upd_diff.specs.Touched.{IsOf, same_history, stood_in, touched_in};
 
-use crate::card_diffs::{DeckDiff, CardDiff};
+use crate::card_diffs::{CardDiff, DeckDiff};
 use std::alloc::{AllocError, Global};
 use upd_core::card::card_ref;
 use upd_core::{Card, Deck, Entry, Ident, Library, Serial};
 use upd_text::CardRef;
 
-/// The cards of the library after that weren't there before, or whose history differs, in the order of their fates.
+/// The cards of the library after that are new or whose history differs, in the order of their diffs.
 pub(crate) fn touched(
     alloc: Global,
     before: &Library,
@@ -38,7 +38,7 @@ pub(crate) fn touched(
     Ok(found)
 }
 
-/// Whether decks stand by age: no two have one, and none has that of `YANK$$$`.
+/// Whether decks are in order of serial: no two serials are equal, and none is that of `YANK$$$`.
 fn are_rising(decks: &[Deck]) -> bool
     ensures { result ≡ true → AreRising (0 ∷ map (λ d. d.ident) decks.now) }
 {
@@ -52,8 +52,8 @@ fn are_rising(decks: &[Deck]) -> bool
     true
 }
 
-/// Adds the touched cards of a deck that had these cards. `sure`: the decks of the library before stand by age, so that
-/// `before` are the very cards that the fates tell of; else each card is searched for.
+/// Adds the touched cards of a deck whose cards were `before`. `sure` says that the decks before were in order of
+/// serial, so that `before` are exactly the cards that the diffs compare; otherwise each card is searched for.
 fn add_touched(
     found: &mut Vec<CardRef>,
     idents: &[Ident],
@@ -97,8 +97,8 @@ fn add_unless(
     Ok(())
 }
 
-/// Whether a card that is kept has the history that it had. `sure`: `was` is one of the cards before; else the card is
-/// searched for among them.
+/// Whether a kept card has the same history as before. `sure` says that `was` is one of the cards before; otherwise the
+/// card is searched for among them.
 fn has_stayed(before: &[Card], youngest: Serial, sure: bool, was: &Card, is: &Card) -> bool
     requires { EachIndex before.now (λ i. (d : CardView) → (slice_index_or before.now i d).ident ≤ youngest) }
     ensures { AreApart (map key_of before.now) → (sure ≡ true → Contains before.now was.now)
@@ -110,7 +110,7 @@ fn has_stayed(before: &[Card], youngest: Serial, sure: bool, was: &Card, is: &Ca
     has_stood(before, youngest, is)
 }
 
-/// Whether a card stood in these cards, the youngest of which is of this age, with the same history.
+/// Whether a card is among `before`, with the same history. `youngest` bounds the serials of `before`.
 fn has_stood(before: &[Card], youngest: Serial, card: &Card) -> bool
     requires { EachIndex before.now (λ i. (d : CardView) → (slice_index_or before.now i d).ident ≤ youngest) }
     ensures { result ≡ stood_in before.now card.now }
@@ -132,7 +132,7 @@ fn stood_in(before: &[Card], card: &Card) -> bool
     false
 }
 
-/// Whether two cards have one ident, number and history.
+/// Whether two cards have the same ident, number and history.
 fn is_same_card(old: &Card, card: &Card) -> bool
     ensures { result ≡ is_card card.now.ident card.now.number old.now && same_history old.now.history card.now.history }
 {
@@ -141,7 +141,7 @@ fn is_same_card(old: &Card, card: &Card) -> bool
         && is_same_history(&old.history, &card.history)
 }
 
-/// The age of the youngest ident of these cards.
+/// The greatest serial of the idents of these cards.
 fn youngest(cards: &[Card]) -> Serial
     ensures { EachIndex cards.now (λ i. (d : CardView) → (slice_index_or cards.now i d).ident ≤ result) }
 {

@@ -1,4 +1,4 @@
--- Purging back gives a library again that has only grown, and runs without new idents change nothing.
+-- Purging back restores a library that has only grown, and runs without new idents change nothing.
 use Rattle.std.proofs.Common.{◌≡◌, ℕ, ◌<◌, ◌≤◌, Bool, false, ◌&&◌, List, [], ◌∷◌, ◌++◌, map, length, refl, ap, ◌∙◌, arith, append-nil, length-append}
 use Rattle.std.specs.Prelude.{nat_le}
 use Rattle.std.specs.List.{AllByRecursion}
@@ -15,7 +15,7 @@ use Rattle.upd_laws.proofs.BackLibraryLemmas.{Within, Grows}
 use Rattle.upd_laws.proofs.BackOldLemmas.{IsOld, ages_below}
 use Rattle.upd_laws.proofs.BackPurgeLemmas.{cards_back, decks_back, idents_back, none_held, none_found}
 
--- ---- back again
+-- ---- the library restored
 
 pub again : (l m : LibraryView) → IsOld (next_age l) l → Grows (next_age l) l m → IsAgain l (purged_back (next_age l) m)
 again l m old g =

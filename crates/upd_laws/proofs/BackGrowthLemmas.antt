@@ -1,4 +1,4 @@
--- Cards among others, and decks that go on: what each edit of a list leaves, and two steps in one.
+-- Cards among others, and decks that are extended: what each edit of a list leaves, and two steps in one.
 use Rattle.std.proofs.Common.{◌≡◌, ℕ, ◌+◌, ◌≤◌, Bool, true, false, cond, List, [], ◌∷◌, ◌++◌, map, length, take, drop, refl, sym, ap, ◌∙◌, arith}
 use Rattle.std.proofs.Common.{append_assoc, append-nil, add-zero, take-append-drop, take-take}
 use Rattle.std.specs.Prelude.{◌==◌, insert}

@@ -1,4 +1,4 @@
--- A library that has only grown, by idents from an age on: what each edit leaves, and two steps in one.
+-- A library that has only grown, by idents from a serial on: what each edit leaves, and two steps in one.
 use Rattle.std.proofs.Common.{◌≡◌, ℕ, ◌+◌, ◌-◌, ◌≤◌, Bool, true, false, cond, List, [], ◌∷◌, ◌++◌, length, refl, sym, ap, ◌∙◌, arith}
 use Rattle.std.proofs.Common.{append_assoc, append-nil, length-append}
 use Rattle.std.specs.Prelude.{◌==◌, insert}
@@ -26,7 +26,7 @@ pub record Grows (x : ℕ) (l m : LibraryView) : Type 0 where
   pub yanks : AreAmong (Within x (length m.idents)) l.yanks m.yanks
   pub rest : m.rest ≡ l.rest
 
--- decks and yank cards that go on, with no new ident
+-- decks and yank cards that are extended, with no new ident
 grows_by : (x : ℕ) (l : LibraryView) (ds : List DeckView) (ys : List CardView) → DecksGoOn (Within x (length l.idents)) l.decks ds
     → AreAmong (Within x (length l.idents)) l.yanks ys → Grows x l (record l { decks = ds; yanks = ys })
 grows_by x l ds ys d y = record { brought = []; idents = sym (append-nil l.idents); ages = tt; decks = d; yanks = y; rest = refl }

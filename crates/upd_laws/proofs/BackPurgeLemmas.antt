@@ -1,4 +1,4 @@
--- A purge of an ident and of all younger ones takes away what came by them, and leaves what is older.
+-- A purge of an ident and of all younger ones removes what is of them, and leaves what is older.
 use Rattle.std.proofs.Common.{◌≡◌, ℕ, ◌<◌, ◌≤◌, Bool, false, not, cond, leb, List, [], ◌∷◌, ◌++◌, map, Option, Some, refl, ap, le-leb}
 use Rattle.std.specs.Prelude.{nat_le}
 use Rattle.std.specs.List.{AllByRecursion, filter, find}

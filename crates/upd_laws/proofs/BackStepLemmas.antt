@@ -1,4 +1,4 @@
--- One line that purges nothing: the library only grows, by idents from x on, and what is in hand is one of these.
+-- One line that purges nothing: the library only grows, by idents from x on, and the current set is one of these.
 use Rattle.std.proofs.Common.{◌≡◌, ℕ, ◌≤◌, Bool, true, false, not, ◌||◌, ltb, List, [], ◌∷◌, length, Option, Some, None, Result, Ok, Err, refl, arith}
 use Rattle.std.proofs.Common.{ltb-false}
 use Rattle.std.specs.Prelude.{◌==◌, IsTrue}
@@ -48,7 +48,7 @@ hand_later : (x n m : ℕ) → n ≤ m → (current_set : Option CurrentSet) →
 hand_later x n m le None w = tt
 hand_later x n m le (Some current_set) w = (w.0, omega (arith, w))
 
--- what is in hand is of an ident from x on
+-- the current set and the insertion point are of an ident from x on
 pub record Ready (x : ℕ) (s : State) : Type 0 where
   pub from : x ≤ next_age s.library
   pub current_set : HandIn x (length s.library.idents) s.current_set
@@ -97,7 +97,7 @@ placed_before_next x card s r =
       ready = record { from = r.from; current_set = r.current_set; insert_point = tt };
     }))))
 
--- a library that has gone on with the same directory
+-- a library that was extended with the same directory
 same_idents : (x : ℕ) (s t : State) → Ready x s → t.library.idents ≡ s.library.idents → Grows x s.library t.library
     → HandIn x (length s.library.idents) t.current_set → SpotIn x (length s.library.idents) t.insert_point → Next x s t
 same_idents x s t r e g current_set insert_point =

@@ -247,7 +247,7 @@ name_plain name is = all_weaker (λ b. is_name_byte b ≡ true) IsFileByte name 
     bytes =
         and_right (is_between 1 MAX_NAME_BYTES (length name)) _ (and_left (is_between 1 MAX_NAME_BYTES (length name) && list_all is_name_byte name) _ is)
 
--- the name of an age: a held or purged ident's, or no bytes
+-- the name of a serial: a held or purged ident's, or no bytes
 pub name_of_plain : (idents : List Ident) (z : ℕ) → AllByRecursion (λ i. IsTrue (is_name i.name)) idents
     → AllByRecursion IsFileByte (name_of idents z)
 name_of_plain idents z named = go (z == 0) (slice_get idents (z - 1)) refl

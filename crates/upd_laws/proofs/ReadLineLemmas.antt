@@ -1,4 +1,4 @@
--- What a run is like that was read: how many lines it has, and what their texts and names are.
+-- Runs that were read: the number of their lines, and their texts and names.
 use Rattle.std.proofs.Common.{◌≡◌, ℕ, zero, suc, ◌+◌, ◌-◌, ◌≤◌, Bool, true, false, not, if◌then◌else◌, List, [], ◌∷◌, ◌++◌, length, Option, Some, None}
 use Rattle.std.proofs.Common.{Result, Ok, Err, refl, arith, length-append}
 use Rattle.std.proofs.lemmas.Bool.Decides.{nat_tests}
@@ -37,7 +37,7 @@ each_length f (x ∷ xs) ys k h =
 
 -- ---- a line
 
--- what names a line brings
+-- the name that a line introduces
 abbrev pub BringsName : ItemView → Type 0
 BringsName (Ident name) = IsTrue (is_name name)
 BringsName (Deck name) = IsTrue (is_name name)
@@ -112,7 +112,7 @@ text_fits line text h =
 
 -- ---- a run
 
--- a line's text is one that a line can have, and the name that it brings is a name
+-- a line's text is one that a line can have, and the name that it introduces is a name
 abbrev pub IsReadLine : LineView → Type 0
 IsReadLine line = IsLineText line.text × BringsName line.item
 

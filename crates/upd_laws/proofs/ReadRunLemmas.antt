@@ -1,4 +1,4 @@
--- What a run that was read makes of names and cards: a line's text, and a number that no more lines than stand before it can raise.
+-- Runs that were read: each card has the text of a line, and its number is at most the number of lines up to it.
 use Rattle.std.proofs.Common.{◌≡◌, ℕ, zero, suc, ◌+◌, ◌-◌, ◌<◌, ◌≤◌, Bool, true, false, not, ◌||◌, List, [], ◌∷◌, ◌++◌, map, length, take, drop, refl, sym}
 use Rattle.std.proofs.Common.{subst, arith}
 use Rattle.std.specs.Prelude.{Option, Some, None, Result, Ok, Err, ◌==◌, nat_lt, nat_le, insert, IsTrue}
@@ -123,7 +123,7 @@ IsSpotUpTo k Nowhere = Unit {0}
 IsSpotUpTo k (End d n) = IsUpTo k n
 IsSpotUpTo k (Inside d behind) = Unit {0}
 
--- a state that gives its next card a number of k at most
+-- a state whose next card number is at most k
 record IsMade (k : ℕ) (s : State) : Type 0 where
   pub library : HasLineTexts s.library
   pub current_set : IfSome s.current_set (λ (h : CurrentSet). IsUpTo k h.next)

@@ -68,7 +68,7 @@ yanks_kept P age change l after before = go (age == 0) refl
 pub standing_with : (age : ℕ) (change : List CardView → List CardView) (l : LibraryView) → stands age (with_cards age change l) ≡ stands age l
 standing_with age change l = ap (list_any (is_deck age)) (decks_with age change l) ∙ at_first_any (is_deck age) (changed change) (all_decks l) (λ d. refl)
 
--- whether a deck stands is told by the ages
+-- whether a deck is in the library depends only on the serials
 pub standing_by_ages : (d : ℕ) (ds es : List DeckView) → map (λ (e : DeckView). e.ident) ds ≡ map (λ (e : DeckView). e.ident) es
     → list_any (is_deck d) ds ≡ list_any (is_deck d) es
 standing_by_ages d ds es same = by_ages ds ∙ ap (list_any (λ a. a == d)) same ∙ sym (by_ages es)
@@ -77,7 +77,7 @@ standing_by_ages d ds es same = by_ages ds ∙ ap (list_any (λ a. a == d)) same
     by_ages [] = refl
     by_ages (e ∷ ds) = ap (λ b. is_deck d e || b) (by_ages ds)
 
--- a deck that isn't gone stands after a purge
+-- a deck that isn't gone is there after a purge
 pub standing_still : (gone : ℕ → Bool) (d : ℕ) (ds : List DeckView) → gone d ≡ false → list_any (is_deck d) ds ≡ true
     → list_any (is_deck d) (decks_without gone ds) ≡ true
 standing_still gone d [] stays e = absurd (cc)
@@ -106,7 +106,7 @@ cards_with age change l e =
     ap (find (is_deck age)) (decks_with age change l) ∙ at_first_find (is_deck age) (changed change) (all_decks l) found.0 (λ d. refl) found.1 in
     ap (λ o. option_map_or (λ (d : DeckView). d.cards) o []) after ∙ ap (λ o. change (option_map_or (λ (d : DeckView). d.cards) o [])) (sym found.1)
 
--- a deck of which a card is found stands
+-- a deck of which a card is found is there
 pub standing : (age : ℕ) (l : LibraryView) (n : ℕ) → n < length (cards_of age l) → stands age l ≡ true
 standing age l n h = go (all_decks l) h
   where
@@ -250,7 +250,7 @@ held_without gone idents c stays held = (held_still gone idents c.ident stays he
         one true f rest = rw f rest
         one false f rest = rw f (held_still gone idents e.ident f held.0, rest)
 
--- a history begins with its card's ident as long as the card stays, and with entries behind it
+-- a history begins with its card's ident as long as the card stays, and with entries appended
 pub begins_without : (gone : ℕ → Bool) (c : CardView) → gone c.ident ≡ false → BeginsOn c → BeginsOn (without_entries gone c)
 begins_without gone c stays begins = go c.history begins
   where

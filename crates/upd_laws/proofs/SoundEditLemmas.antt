@@ -40,7 +40,7 @@ of_held_more : (idents more : List Ident) (c : CardView) → IsOfHeld idents c �
 of_held_more idents more c h =
     (held_more idents more c.ident h.0, all_weaker (λ (e : Entry). IsTrue (is_held idents e.ident)) _ c.history (λ e f. held_more idents more e.ident f) h.1)
 
--- what the directory of a library says once it has a new ident of a free name
+-- the directory of a library with a new ident of a free name
 record IsIntroduced (i : Ident) (l : LibraryView) : Type 0 where
   ages : AreAgedFrom 1 (l.idents ++ i ∷ [])
   names : AreApart (map (λ i. i.name) (filter (λ i. i.held) (l.idents ++ i ∷ [])))
@@ -187,7 +187,7 @@ pub record IsNew (c : CardView) (l : LibraryView) : Type 0 where
   pub begins : BeginsOn c
   pub key : AllByRecursion (λ b. key_of c ≡ key_of b → ⊥) (all_cards l)
 
--- text behind the first card of a deck
+-- text after the first card of a deck
 pub card_sound : (d behind : ℕ) (c : CardView) (l : LibraryView) → IsSound l → stands d l ≡ true → (d ≡ 0 → ⊥) → IsNew c l → c.targets ≡ []
     → (behind ≡ 0) ⊎ (behind < length (cards_of d l)) → IsSound (with_card d behind c l)
 card_sound d behind c l s standing other new untargeted place =

@@ -1,4 +1,4 @@
--- The directory: its ages, the names that are held, who is held, and how it goes on.
+-- The directory: its serials, the names that are held, which idents are held, and how it is extended.
 use Rattle.std.proofs.Common.{◌≡◌, ℕ, ◌+◌, ◌<◌, ◌≤◌, Bool, true, false, cond, not, ◌&&◌, List, [], ◌∷◌, ◌++◌, map, length, inl, inr, refl, sym, ap, ◌∙◌}
 use Rattle.std.proofs.Common.{subst, arith}
 use Rattle.std.proofs.lemmas.Bool.{or_cases, or_left, or_right}
@@ -15,7 +15,7 @@ use Rattle.upd_laws.proofs.SoundListLemmas.{and_left, and_right, both, same_numb
 use Rattle.upd_laws.proofs.SoundListLemmas.{all_weaker, IsPart, none, fewer, kept, any_end, any_front, any_last, any_mapped, any_weaker, find_none_end}
 use Rattle.upd_laws.proofs.SoundListLemmas.{find_none_mapped}
 
--- ---- ages
+-- ---- serials
 
 pub ages_end : (n : ℕ) (idents : List Ident) (i : Ident) → AreAgedFrom n idents → i.age ≡ length idents + n → AreAgedFrom n (idents ++ i ∷ [])
 ages_end n [] i ages e = (omega arith, tt)
@@ -25,7 +25,7 @@ pub ages_unheld : (gone : ℕ → Bool) (n : ℕ) (idents : List Ident) → AreA
 ages_unheld gone n [] ages = tt
 ages_unheld gone n (i ∷ idents) ages = (ages.0, ages_unheld gone (n + 1) idents ages.1)
 
--- a held ident is as old as its place
+-- the serial of a held ident is its place
 pub held_within : (n : ℕ) (idents : List Ident) (z : ℕ) → AreAgedFrom n idents → is_held idents z ≡ true → (n ≤ z) × (z < n + length idents)
 held_within n [] z ages e = absurd (cc)
 held_within n (i ∷ idents) z ages e = go (or_cases (i.held && (i.age == z)) (is_held idents z) e) (held_within (n + 1) idents z ages.1)
@@ -35,7 +35,7 @@ held_within n (i ∷ idents) z ages e = go (or_cases (i.held && (i.age == z)) (i
     go (inl f) rest = let same = same_number i.age z (and_right i.held (i.age == z) f) in (omega (arith, ages.0), omega (arith, ages.0))
     go (inr f) rest = let r = rest f in (omega arith, omega arith)
 
--- ---- who is held
+-- ---- which idents are held
 
 pub held_more : (idents more : List Ident) (z : ℕ) → is_held idents z ≡ true → is_held (idents ++ more) z ≡ true
 held_more idents more z e = any_front _ idents more e
@@ -173,7 +173,7 @@ unnamed_still gone name idents free = find_none_mapped _ (unheld gone) idents (�
     go true false b e = refl
     go false s b e = refl
 
--- the idents of a directory that begins with age n are of this age or younger
+-- the idents of a directory that begins with serial n have this serial or a greater one
 pub found_from : (n : ℕ) (test : Ident → Bool) (idents : List Ident) (i : Ident) → AreAgedFrom n idents → find test idents ≡ Some i → n ≤ i.age
 found_from n test [] i ages e = absurd (cc)
 found_from n test (j ∷ idents) i ages e = go (test j) refl (found_from (n + 1) test idents i ages.1)
@@ -193,7 +193,7 @@ all_from n test idents ages = all_filter (λ (i : Ident). n ≤ i.age) test iden
     go m [] ages = tt
     go m (i ∷ is) ages = (omega (arith, ages.0), all_weaker (λ (j : Ident). m + 1 ≤ j.age) (λ j. m ≤ j.age) is (λ j h. omega arith) (go (m + 1) is ages.1))
 
--- ---- how it goes on
+-- ---- how it is extended
 
 pub continues_more : (idents more : List Ident) → Continues idents (idents ++ more)
 continues_more [] more = tt

@@ -1,4 +1,4 @@
--- What a line makes of a library: it grows within its limits, or idents are purged.
+-- What a line does to a library: it grows within its limits, or idents are purged.
 use Rattle.std.proofs.Common.{◌≡◌, ℕ, ◌-◌, Bool, true, false, not, ◌||◌, List, [], ◌∷◌, length, refl, sym, ◌∙◌, subst}
 use Rattle.std.specs.Prelude.{Result, Ok, ◌==◌, nat_lt, nat_le, insert}
 use Rattle.upd_core.specs.declared.card.Entry.{Entry}
@@ -166,7 +166,7 @@ step_within line s t e h = done_leads (λ m. is_within_limits m ≡ true) line.i
   parts = λ ages. purged_in_all_within ages s.library e;
 }) h
 
--- ---- what the decks hold that aren't loaded
+-- ---- the cards and entries of decks that aren't loaded
 
 purged_in_all_rests : (ages : List AgesIn) (l : LibraryView) → (purged_in_all ages l).rest ≡ l.rest
 purged_in_all_rests [] l = refl

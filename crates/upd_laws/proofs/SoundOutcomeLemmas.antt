@@ -1,4 +1,4 @@
--- What is known where a step goes through.
+-- What is known where a step is Ok.
 use Rattle.std.proofs.Common.{◌≡◌, Bool, true, false, refl, ap, subst}
 use Rattle.std.specs.Prelude.{List, [], ◌∷◌, ◌++◌, Option, Some, None, Result, Ok, Err}
 use Rattle.std.specs.List.{AllByRecursion}

@@ -1,4 +1,4 @@
--- Lines and runs keep what they find sound, the directory goes on, and no limit is passed.
+-- Lines and runs keep what is sound, extend the directory, and stay within the limits.
 use Rattle.std.proofs.Common.{◌≡◌, ℕ, ◌+◌, true, false, List, [], ◌∷◌, refl, ◌∙◌, subst}
 use Rattle.std.specs.Prelude.{Some, Result, Ok, Err, nat_le}
 use Rattle.upd_text.specs.declared.fault.Fault.{Fault}

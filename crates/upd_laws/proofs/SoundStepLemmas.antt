@@ -50,7 +50,7 @@ name_free name l b h = through_refusal (is_reserved name) fault.Reserved _ b _ h
     go true e h1 = absurd (cc)
     go false e h1 = not_some (held_named name l.idents) e
 
--- no yank card is younger than an age that no card is beyond
+-- no yank card is younger than a serial that no card exceeds
 yanks_below : (l : LibraryView) (z : ℕ) → length l.idents ≤ z → IsSound l → AllByRecursion (λ c. c.ident ≤ z) l.yanks
 yanks_below l z below s =
     all_weaker (λ (c : CardView). c.ident ≤ length l.idents) _ l.yanks (λ c h. omega arith) (all_front _ l.yanks (flat l.decks) (none_beyond l s))
@@ -81,7 +81,7 @@ set_sound name s t sound h =
       insert_point = tt;
     }
 
--- ---- the set in hand while the library changes
+-- ---- the current set while the library changes
 
 hand_moved : (current_set : Option CurrentSet) (l m : LibraryView) → ((h : CurrentSet) → IsCurrentSet h l → IsCurrentSet h m) → IsHandSound current_set l → IsHandSound current_set m
 hand_moved None l m k h = tt
@@ -150,9 +150,9 @@ deck_begun_sound name sort noprop text s t deck sound h =
       };
     }
 
--- ---- the place of text
+-- ---- the insertion point
 
--- a card that is found stands in the deck that is named
+-- a card that is found is in the deck that is named
 place_within : (card : CardRef) (l : LibraryView) (p : Place) → IsSound l → place_of card l ≡ Some p → p.index < length (cards_of p.deck l)
 place_within card l p sound e = let found = card_of_place l card p sound e in slice_get_within (cards_of p.deck l) p.index found.0 found.1
 

@@ -1,4 +1,4 @@
--- `YANK$$$` stays in order of age, and the targets of a yank are older than it and differ.
+-- `YANK$$$` stays in order of serial, and the targets of a yank are older than it and differ.
 use Rattle.std.proofs.Common.{◌≡◌, ℕ, ◌<◌, ◌≤◌, Bool, true, false, not, ◌&&◌, ◌||◌, List, [], ◌∷◌, ◌++◌, inl, inr, refl, sym, ap, subst, arith}
 use Rattle.std.proofs.lemmas.Bool.Decides.{nat_tests}
 use Rattle.std.specs.Prelude.{if◌then◌else◌, Option, Some, None, ◌==◌, nat_le, Result, Ok}
@@ -26,7 +26,7 @@ use Rattle.upd_laws.proofs.SoundCardLemmas.{IsEntered, all_without}
 use Rattle.upd_laws.proofs.SoundIdentLemmas.{all_from, found_from}
 use Rattle.upd_laws.proofs.SoundOutcomeLemmas.{each_all, through, through_option, through_refusal, holds_of}
 
--- ---- order of age
+-- ---- order of serial
 
 pub aged_end : (z n : ℕ) (text : List ℕ) (targets : List Target) (yanks : List CardView) → AllByRecursion (TakesOlder z) targets
     → AllByRecursion (λ c. c.ident ≤ z) yanks → IsAged yanks → IsAged (yanks ++ new_card z n text targets ∷ [])
@@ -90,7 +90,7 @@ is_same_itself (Set a) = is_same_number a a refl
 is_same_itself (SetIn a d) = both (a == a) (d == d) (is_same_number a a refl) (is_same_number d d refl)
 is_same_itself (Deck d) = is_same_number d d refl
 
--- a target that the test tells from t isn't t
+-- a target that the test distinguishes from t isn't t
 other_target : (t u : Target) → not (is_same t u) ≡ true → t ≡ u → ⊥
 other_target t u other same =
     let itself : is_same t u ≡ true = subst (λ v. is_same t v ≡ true) same (is_same_itself t) in absurd (let bad = rw itself at other in cc)

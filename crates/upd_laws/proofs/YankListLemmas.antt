@@ -1,4 +1,4 @@
--- The listing of `YANK$$$` and that of the yanks say the same of each yank card.
+-- The listing of `YANK$$$` and that of the yanks agree on each yank card.
 use Rattle.std.proofs.Common.{◌≡◌, ◌∷◌, ◌++◌, [], List, if◌then◌else◌, refl, ap, ◌∙◌}
 use Rattle.std.specs.Prelude.{codes, Ok}
 use Rattle.std.specs.List.{flat_map}

@@ -1,4 +1,4 @@
--- Runs that purge nothing: how a library grows by them, and what is left once their idents are purged.
+-- Runs without purges: how a library grows by them, and what is left once their idents are purged.
 use Rattle.std.specs.Prelude.{◌≡◌, ℕ, ◌<◌, ◌≤◌, Bool, true, false, not, IsTrue, List, [], ◌∷◌, ◌++◌, length, Result, Ok}
 use Rattle.std.specs.List.{list_all, AllByRecursion}
 use Rattle.upd_core.specs.declared.card.Entry.{Entry}
@@ -25,41 +25,41 @@ is_purge _ = false
 abbrev pub purges_nothing : List LineView → Bool
 purges_nothing run = list_all (λ line. not (is_purge line.item)) run
 
--- runs one after the other; the first refusal ends them
+-- the library after runs in order, or the first refusal
 abbrev pub all_applied : List (List LineView) → LibraryView → Result LibraryView Fault
 all_applied [] l = Ok l
 all_applied (run ∷ runs) l = do
   reached ← applied run l
   all_applied runs reached.library
 
--- runs that purge nothing and are all accepted lead from one library to another
+-- runs without purges, all of them accepted, take one library to another
 abbrev pub LeadWithoutPurge : List (List LineView) → LibraryView → LibraryView → Type 0
 LeadWithoutPurge runs before after = IsTrue (list_all purges_nothing runs) × (all_applied runs before ≡ Ok after)
 
 -- ---- growth by idents that are new
 
--- an age that the later library's directory has and the earlier one's has not
+-- a serial that is in the later directory and not in the earlier one
 abbrev pub IsNewer : LibraryView → LibraryView → ℕ → Type 0
 IsNewer before after z = (length before.idents < z) × (z ≤ length after.idents)
 
--- a card as it was, but for entries of new idents at the end of its history
+-- a card with a history that was only extended by entries of new idents
 abbrev pub GoesOn : (ℕ → Type 0) → CardView → CardView → Type 0
 GoesOn IsNew c d = (more : List Entry) × AllByRecursion (λ e. IsNew e.ident) more × (d ≡ record c { history = c.history ++ more })
 
--- Cards stand among others in their order: each has gone on, and those between them are new, with all their entries.
+-- Cards among others, in order: the history of each was only extended, and the cards between them are new, with all their entries.
 pub data AreAmong (IsNew : ℕ → Type 0) : List CardView → List CardView → Type 0 where
   Ended : AreAmong IsNew [] []
   Kept : {c d : CardView} {cs ds : List CardView} → GoesOn IsNew c d → AreAmong IsNew cs ds → AreAmong IsNew (c ∷ cs) (d ∷ ds)
   Come : {d : CardView} {cs ds : List CardView}
       → IsNew d.ident → AllByRecursion (λ e. IsNew e.ident) d.history → AreAmong IsNew cs ds → AreAmong IsNew cs (d ∷ ds)
 
--- decks stand first and in their order, each with its cards among the later ones; behind them come new decks
+-- decks are first, in order, each with its cards among the later ones; new decks follow
 abbrev pub DecksGoOn : (ℕ → Type 0) → List DeckView → List DeckView → Type 0
 DecksGoOn IsNew [] later = AllByRecursion (λ d. IsNew d.ident) later
 DecksGoOn IsNew (d ∷ decks) [] = ⊥
 DecksGoOn IsNew (d ∷ decks) (e ∷ later) = (e.ident ≡ d.ident) × AreAmong IsNew d.cards e.cards × DecksGoOn IsNew decks later
 
--- A library has only grown: idents came with the next ages, and all else that came is of them.
+-- A library has only grown: idents with the next serials were introduced, and everything else that is new is of them.
 pub record IsGrown (before after : LibraryView) : Type 0 where
   pub brought : List Ident
   pub idents : after.idents ≡ before.idents ++ brought
@@ -68,9 +68,9 @@ pub record IsGrown (before after : LibraryView) : Type 0 where
   pub yanks : AreAmong (IsNewer before after) before.yanks after.yanks
   pub rest : after.rest ≡ before.rest
 
--- ---- back again
+-- ---- the library restored
 
--- A library once more, but for idents at the end of the directory that are no longer held.
+-- The same library, except that more idents, no longer held, are at the end of the directory.
 pub record IsAgain (before back : LibraryView) : Type 0 where
   pub gone : List Ident
   pub idents : back.idents ≡ before.idents ++ gone

@@ -1,6 +1,6 @@
-//! Laws of the library: what holds of every library that runs can reach, and what purging back undoes.
+//! Laws of whole runs: what holds of every library that runs can reach, and what purging back undoes.
 //!
-//! Each function has an empty body, and each clause of it is a law about the definitions that other contracts cite.
+//! Each function has an empty body. Each clause of it is a law about the definitions that other contracts cite.
 #![tactic(auto)]
 
 pub mod compile_lines;

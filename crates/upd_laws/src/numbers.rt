@@ -1,4 +1,4 @@
-//! The numbers that a run gives to its cards.
+//! The card numbers that a run assigns.
 ghost use Rattle.std.specs.Prelude.{◌≡◌, ℕ, ◌+◌, List, Ok, Some};
 ghost use Rattle.upd_core.specs.Library.{LibraryView};
 ghost use Rattle.upd_core.specs.Sound.{IsSound};
@@ -9,8 +9,8 @@ ghost use Rattle.upd_apply.specs.declared.state.State.{State};
 ghost use Rattle.upd_apply.specs.Applying.{started, stepped};
 ghost use Rattle.upd_laws.specs.Soundness.{count_of};
 
-/// The number that a run gives to the next card of the set in hand, or of the deck whose end takes text, is one more
-/// than the number of cards that the library has of it.
+/// The next card number of the current set, or of the deck whose end is the insertion point, is one more than the
+/// number of its cards in the library.
 pub fn next_numbers_count_cards()
     ensures current_set { (lines : List LineView) (l : LibraryView) (s : State) (current_set : CurrentSet) → IsSound l
         → stepped lines (started l) ≡ Ok s

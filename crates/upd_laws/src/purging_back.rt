@@ -1,4 +1,4 @@
-//! Purging back undoes all that runs without purges have done.
+//! Purging back undoes all that runs without purges did.
 ghost use Rattle.std.specs.Prelude.{◌≡◌, List, length};
 ghost use Rattle.upd_text.specs.declared.card_ref.CardRef.{CardRef};
 ghost use Rattle.upd_core.specs.Edits.{next_age, purged_back};
@@ -8,22 +8,22 @@ ghost use Rattle.upd_core.specs.Status.{status_of};
 ghost use Rattle.upd_deck.specs.Items.{LineView};
 ghost use Rattle.upd_laws.specs.PurgingBack.{IsAgain, IsGrown, LeadWithoutPurge};
 
-/// Runs that purge nothing only add: all cards stay, in their order, with their histories, and what comes is of the
-/// idents that come.
+/// Runs without purges only add: all cards stay, in order and with their histories, and everything new is of the idents
+/// that the runs introduce.
 pub fn runs_only_add()
     ensures { (runs : List (List LineView)) (before after : LibraryView) → LeadWithoutPurge runs before after
         → IsGrown before after }
 {}
 
-/// Runs that purge nothing and introduce no ident change nothing.
+/// Runs without purges that introduce no ident change nothing.
 pub fn runs_without_idents_change_nothing()
     ensures { (runs : List (List LineView)) (before after : LibraryView) → LeadWithoutPurge runs before after
         → length after.idents ≡ length before.idents
         → after ≡ before }
 {}
 
-/// A purge of the first ident that such runs introduce, and of all younger ones, gives the library again, and the
-/// status of each card.
+/// A purge of the first ident that such runs introduce, and of all younger ones, restores the library and the status of
+/// each card.
 pub fn purging_back_undoes_runs()
     ensures again { (runs : List (List LineView)) (before after : LibraryView) → IsSound before
         → LeadWithoutPurge runs before after

@@ -1,4 +1,4 @@
-//! What names and cards are like in a library that runs have made as they were read.
+//! The names, texts and numbers in libraries that runs have made.
 ghost use Rattle.std.specs.Prelude.{◌≡◌, ℕ, Bool, List, Ok};
 ghost use Rattle.std.specs.List.{AllByRecursion};
 ghost use Rattle.upd_core.specs.Edits.{purged};
@@ -8,7 +8,7 @@ ghost use Rattle.upd_apply.specs.Applying.{Reached, applied};
 ghost use Rattle.upd_laws.specs.ReadRuns.{HasLineTexts, WereRead};
 ghost use Rattle.upd_laws.specs.Soundness.{after_runs};
 
-/// Runs that were read bring names as they are spelled, and cards with texts of lines and numbers of 1 to 2,000.
+/// Runs that `read_run` accepts introduce valid names, and cards with texts of lines and numbers from 1 to 2,000.
 pub fn read_runs_bring_cards_of_lines()
     ensures run { (lines : List LineView) (l : LibraryView) (r : Reached) → WereRead lines → HasLineTexts l
         → applied lines l ≡ Ok r → HasLineTexts r.library }

@@ -1,4 +1,4 @@
-//! What holds of every library that runs can reach, and of every state on the way.
+//! The invariant of libraries, and of the states within a run.
 ghost use Rattle.std.specs.Prelude.{◌≡◌, ℕ, Bool, IsTrue, List, Ok};
 ghost use Rattle.upd_core.specs.Edits.{purged};
 ghost use Rattle.upd_core.specs.Library.{LibraryView, empty};
@@ -11,7 +11,7 @@ ghost use Rattle.upd_apply.specs.Applying.{Reached, applied, started, stepped};
 ghost use Rattle.upd_apply.specs.Step.{step};
 ghost use Rattle.upd_laws.specs.Soundness.{after_runs, IsSoundState};
 
-/// Each line keeps a state sound, and a run that has not begun is sound where its library is.
+/// Each line keeps a state sound. The state before the first line is sound where its library is.
 pub fn lines_keep_states_sound()
     ensures started { (l : LibraryView) → IsSound l → IsSoundState (started l) }
     ensures kept { (line : LineView) (s t : State) → IsSoundState s → step line s ≡ Ok t → IsSoundState t }
@@ -27,14 +27,14 @@ pub fn runs_keep_libraries_sound()
     ensures purge { (gone : ℕ → Bool) (l : LibraryView) → IsSound l → IsSound (purged gone l) }
 {}
 
-/// Each library that runs can reach is sound, and so its yank cards stand in order of age.
+/// Each library that runs can reach is sound, so its yank cards are in order of serial.
 pub fn reached_libraries_are_sound()
     ensures empty { IsSound empty }
     ensures sound { (runs : List (List LineView)) → IsSound (after_runs runs empty) }
     ensures aged { (runs : List (List LineView)) → IsAged (after_runs runs empty).yanks }
 {}
 
-/// No library that runs can reach passes a limit.
+/// Each library that runs can reach is within the limits.
 pub fn reached_libraries_are_within_limits()
     ensures run { (lines : List LineView) (l : LibraryView) (r : Reached) → IsTrue (is_within_limits l)
         → applied lines l ≡ Ok r
@@ -44,7 +44,7 @@ pub fn reached_libraries_are_within_limits()
         → IsTrue (is_within_limits (purged gone l)) }
 {}
 
-/// The directory goes on: idents come at its end, and purged ones are no longer held.
+/// The directory is only extended: idents are appended, and purged ones are no longer held.
 pub fn directories_go_on()
     ensures line { (line : LineView) (s t : State) → step line s ≡ Ok t → Continues s.library.idents t.library.idents }
     ensures run { (lines : List LineView) (l : LibraryView) (r : Reached) → applied lines l ≡ Ok r

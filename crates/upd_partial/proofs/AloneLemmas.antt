@@ -1,4 +1,4 @@
--- A part is settled alone, as the library that it is.
+-- The status update of a part, taken as a library of its own.
 use Rattle.std.proofs.Common.{◌≡◌, ℕ, Bool, false, List, ◌++◌, Some, Ok, inr, refl, sym, ap, ◌∙◌}
 use Rattle.std.proofs.lemmas.List.Elements.{filter-append}
 use Rattle.std.specs.Prelude.{◌==◌}
@@ -27,7 +27,7 @@ use Rattle.upd_partial.proofs.PartSoundLemmas.{part_sound}
 
 -- ---- a run names no yank card of a part, where it names none of the whole
 
--- a card that a run names doesn't stand in a deck that passes a test
+-- a card that a run names isn't in a deck that passes a test
 abbrev StandsOut : (ℕ → Bool) → LibraryView → CardRef → Type 0
 StandsOut out l card = (p : Place) → place_of card l ≡ Some p → out p.deck ≡ false
 
@@ -42,7 +42,7 @@ named_in_part out test lines l yanks sound names none =
     (all_both (λ line. AllByRecursion (StandsOut test l) (cards_of_item line.item)) (λ line. AllByRecursion (IsNotIn (left_out out l) l) (cards_of_item line.item))
     lines none (none_in out lines l sound names))
 
--- ---- a part alone
+-- ---- a part as a library of its own
 
 module _ (out : ℕ → Bool) (lines : List LineView) (l : LibraryView) (reached : Reached) (yanks : out 0 ≡ false) (sound : IsSound l)
     (does : DoesWithout out lines l) (no_yank : NamesNone (λ d. d == 0) lines l) (is : applied lines l ≡ Ok reached) where
@@ -52,7 +52,7 @@ module _ (out : ℕ → Bool) (lines : List LineView) (l : LibraryView) (reached
   abbrev new : LibraryView
   new = part out reached.library
 
-  -- it does without no deck
+  -- it leaves out no deck
   pub idle_alone : AreIdle (touched old new) old new (λ _. false)
   idle_alone =
       idle_in (λ _. false) lines old (record reached { library = new }) (part_sound out l sound)
@@ -68,7 +68,7 @@ module _ (out : ℕ → Bool) (lines : List LineView) (l : LibraryView) (reached
       none : NamesNone (λ d. d == 0) lines old
       none = named_in_part out (λ d. d == 0) lines l yanks sound does.cards no_yank
 
-  -- what a run reaches from it is enough to settle the run on it
+  -- the part after a run is enough for the status update of the run
   pub enough_alone : IsEnough (touched old new) old new new
   enough_alone = inr ((λ _. false), part_of_none new, idle_alone)
 

@@ -17,7 +17,7 @@ use Rattle.upd_partial.proofs.NeedLemmas.{none_in, sound_listed}
 use Rattle.upd_partial.proofs.RunLemmas.{Runs, runs}
 use Rattle.upd_partial.proofs.StepLemmas.{in_part, parted}
 
--- what `*COMPILE` names is read in the directory alone
+-- what `*COMPILE` names depends only on the directory
 ranges_same : (out : ℕ → Bool) (l : LibraryView) (item : ItemView) → line_ranges (part out l) item ≡ line_ranges l item
 ranges_same out l Text = refl
 ranges_same out l (Call name) = refl
@@ -46,7 +46,7 @@ ran : (out : ℕ → Bool) (lines : List LineView) (l : LibraryView) → IsSound
 ran out lines l sound does =
     runs out lines (started l) (record { fresh = does.listed; insert_point = tt }) (sound_listed out l sound) does.plain (none_in out lines l sound does.cards)
 
--- what is behind the lines
+-- what follows the lines
 abbrev finish : List LineView → LibraryView → State → Result Reached Fault
 finish lines l s = named_decks lines s.library >>= (λ decks. Ok (record { library = s.library; idents = ages_brought l s.library; compile = decks }))
 

@@ -1,4 +1,4 @@
--- How many decks stand in a part, and the whole as a part.
+-- The number of decks in a part, and the whole as a part.
 use Rattle.std.proofs.Common.{◌≡◌, ℕ, ◌+◌, ◌≤◌, Bool, true, false, not, cond, ◌||◌, List, [], ◌∷◌, length, map, refl, sym, ap, subst, arith}
 use Rattle.std.proofs.lemmas.Bool.Decides.{Decides-eqb}
 use Rattle.std.specs.Prelude.{◌==◌}
@@ -13,7 +13,7 @@ twice : (b : Bool) → not (not b) ≡ b
 twice true = refl
 twice false = refl
 
--- ---- one deck of an age, at most
+-- ---- at most one deck with a serial
 
 either : {A : Type 0} (p q : A → Bool) (xs : List A) → length (filter (λ x. p x || q x) xs) ≤ length (filter p xs) + length (filter q xs)
 either p q [] = omega arith
@@ -63,7 +63,7 @@ few (z ∷ ages) ds apart =
     let rest = few ages ds apart in
     omega (arith, both, one, rest)
 
--- a part has no more decks than ages were asked for
+-- a part has no more decks than serials were asked for
 pub decks_few : (ages : List ℕ) (l : LibraryView) → IsSound l → length (part_of ages l).decks ≤ length ages
 decks_few ages l sound =
     let apart = deck_ages_apart l sound in

@@ -1,4 +1,4 @@
--- Decks that a plain run does without are idle in its settling: no card of them is affected, and the run takes no card away.
+-- Decks that a plain run doesn't need are idle in its status update: no card of them is affected, and the run deletes no card.
 use Rattle.std.proofs.Common.{◌≡◌, ℕ, zero, suc, ◌<◌, Bool, true, false, not, ◌&&◌, ◌||◌, cond, List, [], ◌∷◌, map, slice_get, Option, Some, None, Result, Ok}
 use Rattle.std.proofs.Common.{refl, sym, ap, ◌∙◌, subst, arith}
 use Rattle.std.proofs.lemmas.Bool.Decides.{nat_tests}
@@ -45,7 +45,7 @@ use Rattle.upd_partial.proofs.AppliedLemmas.{applied_left}
 use Rattle.upd_partial.proofs.StayLemmas.{yanks_stay}
 use Rattle.upd_partial.proofs.WholeLemmas.{no_purges, stood}
 
--- ---- a plain run takes no card away
+-- ---- a plain run deletes no card
 
 -- a card of the same ident and number
 abbrev IsSameCard : CardView → CardView → Type 0
@@ -113,7 +113,7 @@ still_there x l m card old new on grown none = go (place_of card l) refl
         let deck = cards_found l p.deck p.index named.0 named.1 in
         absurd (stands deck.0 named.0 deck.1 deck.3 (ap (λ r. status_of r m) named.2 ∙ none))
 
--- ---- no card is touched where it stands as it stood
+-- ---- a card that is where it was, with the same history, isn't touched
 
 none_in_flat : {A B : Type 0} (test : B → Bool) (f : A → List B) (xs : List A) → AllByRecursion (λ x. list_any test (f x) ≡ false) xs →
     list_any test (flat_map f xs) ≡ false
@@ -130,7 +130,7 @@ none_in_list test f p (x ∷ xs) all = go (p x) refl (none_in_list test f p xs a
     go true e later = rw e (let here = all.0 e in rw here later)
     go false e later = rw e later
 
--- a card that stands as it stood isn't touched: no other card has its reference
+-- such a card isn't touched: no other card has its reference
 untouched : (l m : LibraryView) (d : DeckView) (c : CardView) → IsSound m → Contains (all_decks m) d → Contains d.cards c →
     stood_in (cards_of d.ident l) c ≡ true → list_any (same_ref (ref_of m.idents c)) (touched l m) ≡ false
 untouched l m d c sound in_decks in_cards same =
@@ -169,7 +169,7 @@ unreached counts d c = (λ i. none c.history i || unflipped (counts (target.Deck
     none [] = refl
     none (e ∷ es) = λ i. (unflipped (counts (target.Set e.ident) == 0) i || unflipped (counts (target.SetIn e.ident d) == 0) i) || none es i
 
--- ---- the decks that a plain run does without
+-- ---- the decks that a plain run doesn't need
 
 all_left : {A : Type 0} (P : A → Type 0) (test : A → Bool) (xs : List A) → AllByRecursion (λ x. test x ≡ true → P x) xs → AllByRecursion P (filter test xs)
 all_left P test [] all = tt
@@ -179,7 +179,7 @@ all_left P test (x ∷ xs) all = go (test x) refl (all_left P test xs all.1)
     go true e later = rw e (all.0 e, later)
     go false e later = rw e later
 
--- a deck that stays stands as it stood
+-- a deck that stays has the cards that it had
 stands_as_it_stood : (out : ℕ → Bool) (l m : LibraryView) (d : DeckView) → IsSound l → left_out out m ≡ left_out out l → Contains (all_decks m) d →
     out d.ident ≡ true → cards_of d.ident l ≡ d.cards
 stands_as_it_stood out l m d sound same in_decks is =
@@ -189,7 +189,7 @@ stands_as_it_stood out l m d sound same in_decks is =
     all_passed (λ d. cards_of d.ident l ≡ d.cards) (λ d. out d.ident) (all_decks m) here.0 d here.1 is
     (subst (AllByRecursion (λ d. cards_of d.ident l ≡ d.cards)) (sym same) (all_filter _ (λ d. out d.ident) (all_decks l) stand))
 
--- decks that stay are idle where the yank cards stay and no card is taken away
+-- decks that stay are idle where the yank cards stay and no card is deleted
 unaffected : (out : ℕ → Bool) (l m : LibraryView) → IsSound l → IsSound m → left_out out m ≡ left_out out l → m.yanks ≡ l.yanks →
     AllByRecursion (λ k. out k.deck ≡ false) (affected (touched l m) l m)
 unaffected out l m old new same yanks =
@@ -221,7 +221,7 @@ yanks_as_before out lines l reached sound does no_yank is =
     young : (z : ℕ) → length l.idents < z → (z == 0) ≡ false
     young z more = grind (arith, nat_tests)
 
--- The decks that a run without yanks and purges does without are idle in its settling where it names no yank card.
+-- The decks that a plain run doesn't need are idle in its status update where it names no yank card.
 pub idle_in : (out : ℕ → Bool) (lines : List LineView) (l : LibraryView) (reached : Reached) → IsSound l → DoesWithout out lines l →
     NamesNone (λ d. d == 0) lines l → applied lines l ≡ Ok reached → AreIdle (touched l reached.library) l reached.library out
 idle_in out lines l reached sound does no_yank is = record {

@@ -1,4 +1,4 @@
--- Decks that a plain run does without, where it names no yank card: their cards keep their statuses.
+-- Decks that a plain run doesn't need, where it names no yank card: their cards keep their statuses.
 use Rattle.std.proofs.Common.{◌≡◌, ℕ, ◌<◌, Bool, true, false, List, [], ◌∷◌, length, Some, Ok, refl, sym, ap, ◌∙◌, arith}
 use Rattle.std.proofs.lemmas.Bool.{or_parts}
 use Rattle.std.proofs.lemmas.Bool.Decides.{nat_tests}

@@ -44,7 +44,7 @@ sound_listed out l sound z m later =
     young : (c : CardView) → IsOfHeld l.idents c → c.ident < z
     young c h = let w = held_within 1 l.idents c.ident sound.ages h.0 in omega (arith, w.1, later)
 
--- ---- the decks of some ages
+-- ---- the decks with some serials
 
 pub others_listed : (ages : List ℕ) (l : LibraryView) (z : ℕ) → length l.idents < z → is_left_out ages l z ≡ false
 others_listed ages l z later = go (not (z == 0)) (nat_le z (length l.idents)) refl
@@ -69,7 +69,7 @@ others_are ages l d sound held =
     let within : nat_le d (length l.idents) ≡ true = (let high = w.1 in grind (arith, nat_tests, high)) in
     rw (some, within) refl
 
--- the part with the decks of these ages is the one that leaves out the others
+-- the part with the decks of these serials is the one that leaves out the others
 pub part_of_others : (ages : List ℕ) (l : LibraryView) → IsSound l → part_of ages l ≡ part (is_left_out ages l) l
 part_of_others ages l sound = λ i. record {
   idents = l.idents;
@@ -108,7 +108,7 @@ among test (x ∷ ds) k d e = go (test x) refl k e (λ j. among test ds j d)
     go true pass j f more = here pass j (rw pass at f) more
     go false miss j f more = let later = more j (rw miss at f) in record { index = suc later.index; found = later.found; passes = later.passes }
 
--- a reference names no card of decks that aren't the one where its card stands
+-- a reference names no card of decks other than the one of its card
 pub not_in : (out : ℕ → Bool) (l : LibraryView) (card : CardRef) → IsSound l → ((p : Place) → place_of card l ≡ Some p → out p.deck ≡ false)
     → IsNotIn (left_out out l) l card
 not_in out l card sound stays z is = go (place_in (left_out out l) z card.number) refl

@@ -1,4 +1,4 @@
--- The decks that hold the cards which a run names are all that it needs.
+-- The decks that have the cards which a run names are all that it needs.
 use Rattle.std.proofs.Common.{◌≡◌, ℕ, zero, suc, Bool, true, false, not, ◌&&◌, ◌||◌, List, [], ◌∷◌, map, Some, refl, sym, ◌∙◌, subst}
 use Rattle.std.proofs.Common.{arith}
 use Rattle.std.proofs.lemmas.Bool.Decides.{nat_tests}
@@ -24,7 +24,7 @@ use Rattle.upd_partial.proofs.PartLemmas.{cards_same, place_same}
 use Rattle.upd_partial.specs.Needed.{cards_named}
 use Rattle.upd_partial.specs.Needless.{NamesNone, cards_of_item, is_left_out}
 
--- ---- a card that is asked for is held by a deck
+-- ---- a card that is asked for is in a deck
 
 any_at : {A : Type 0} (test : A → Bool) (xs : List A) (k : ℕ) (x : A) → slice_get xs k ≡ Some x → test x ≡ true → list_any test xs ≡ true
 any_at test [] k x e pass = absurd (cc)
@@ -35,11 +35,11 @@ any_at test (y ∷ xs) (suc k) x e pass = or_later (test y) (any_at test xs k x 
     or_later true later = refl
     or_later false later = later
 
--- these decks have one of an age
+-- these decks have one with a serial
 abbrev Tells : ℕ → List DeckView → Type 0
 Tells z ds = is_among (map (λ d. d.ident) ds) z ≡ true
 
--- the deck of an age that holds a card which is asked for is told
+-- the deck with a serial that has a card which is asked for is among those returned
 deck_changes : (cards : List CardRef) (idents : List Ident) (ds : List DeckView) (z k : ℕ) (c : CardView)
     → slice_get (option_map_or (λ (d : DeckView). d.cards) (find (is_deck z) ds) []) k ≡ Some c → is_asked cards (ref_of idents c) ≡ true
     → Tells z (filter (holds_one cards idents) ds)
@@ -61,7 +61,7 @@ deck_changes cards idents (d ∷ ds) z k c e asked = go (d.ident == z) refl (hol
 asked_own : (cards : List CardRef) (k : ℕ) (card : CardRef) → slice_get cards k ≡ Some card → is_asked cards card ≡ true
 asked_own cards k card e = any_at (λ c. same_ref c card) cards k card e (same_ref_own card)
 
--- the deck where a card stands that is asked for is `YANK$$$`, or one of those that are told
+-- the deck of a card that is asked for is `YANK$$$`, or among those returned
 pub row_changes_or_yank : (cards : List CardRef) (l : LibraryView) (card : CardRef) (p : Place) → IsSound l → is_asked cards card ≡ true
     → place_of card l ≡ Some p → is_left_out (decks_with cards l) l p.deck ≡ false
 row_changes_or_yank cards l card p sound asked at = go (0 == p.deck) refl (p.deck == 0) refl
@@ -85,7 +85,7 @@ row_changes_or_yank cards l card p sound asked at = go (0 == p.deck) refl (p.dec
     go true e false f = absurd (let same : p.deck ≡ 0 = sym (same_number 0 p.deck e) in let bad : (p.deck == 0) ≡ true = grind (arith, nat_tests) in cc)
     go false e false f = let row_changes = among e in rw row_changes (end (not (p.deck == 0)) (nat_le p.deck (length l.idents)))
 
--- a run that names cards can do without the decks that hold none of them
+-- a run that names cards doesn't need the decks that have none of them
 pub others_unnamed : (lines : List LineView) (l : LibraryView) → IsSound l → NamesNone (is_left_out (decks_with (cards_named lines) l) l) lines l
 others_unnamed lines l sound = all_weaker _ _ lines (λ line all. all_weaker _ _ (cards_of_item line.item) unnamed all) asked
   where
@@ -99,9 +99,9 @@ others_unnamed lines l sound = all_weaker _ _ lines (λ line all. all_weaker _ _
     unnamed : (card : CardRef) → is_asked cards card ≡ true → (p : Place) → place_of card l ≡ Some p → is_left_out (decks_with cards l) l p.deck ≡ false
     unnamed card is p at = row_changes_or_yank cards l card p sound is at
 
--- ---- a card alone
+-- ---- only one card
 
--- the part with the decks that hold a card finds it where the whole does
+-- the part with the decks that have a card finds it where the whole does
 pub card_placed : (card : CardRef) (l : LibraryView) → IsSound l
     → place_of card (part (is_left_out (decks_with (card ∷ []) l) l) l) ≡ place_of card l
 card_placed card l sound =

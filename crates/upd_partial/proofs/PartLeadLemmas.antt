@@ -1,4 +1,4 @@
--- What leads the statuses of a part to those of what a plain run reaches from it leads those of the whole.
+-- Changes that take the statuses of a part to those after a plain run take the statuses of the whole to those after it.
 use Rattle.std.proofs.Common.{◌≡◌, ℕ, Bool, true, false, not, cond, if◌then◌else◌, List, [], ◌∷◌, ◌++◌, length, Option, Some, None, Ok, is_some}
 use Rattle.std.proofs.Common.{refl, sym, ap, ◌∙◌, subst, append-nil}
 use Rattle.std.proofs.lemmas.List.Elements.{filter-append}
@@ -49,7 +49,7 @@ use Rattle.upd_partial.proofs.PartStatusLemmas.{none_passes, other_ref, status_g
 abbrev of_card : CardRef → Rows → List StateRow
 of_card r rows = filter (λ s. same_ref r s.card) rows.states
 
--- what is left of a card's rows once those of a card go depends on the card's rows alone
+-- a card's rows that are left once those of a card are deleted depend only on the card's rows
 same_left : (r k : CardRef) (xs ys : List StateRow) → filter (λ s. same_ref r s.card) xs ≡ filter (λ s. same_ref r s.card) ys
     → filter (λ s. same_ref r s.card) (filter (λ s. not (same_ref k s.card)) xs) ≡ filter (λ s. same_ref r s.card) (filter (λ s. not (same_ref k s.card)) ys)
 same_left r k xs ys same = go (same_ref r k) refl
@@ -60,7 +60,7 @@ same_left r k xs ys same = go (same_ref r k) refl
     go true e = states_gone r k xs e ∙ sym (states_gone r k ys e)
     go false e = states_kept r k xs e ∙ same ∙ sym (states_kept r k ys e)
 
--- the state rows of a card after a change depend on those before it alone
+-- the state rows of a card after a change depend only on those before it
 same_states : (c : ChangeView) (r : CardRef) (xs ys : Rows) → of_card r xs ≡ of_card r ys → of_card r (done c xs) ≡ of_card r (done c ys)
 same_states (CardGone k) r xs ys same = same_left r k xs.states ys.states same
 same_states (StatusNow k active) r xs ys same =
@@ -81,7 +81,7 @@ all_same_states : (cs : List ChangeView) (r : CardRef) (xs ys : Rows) → of_car
 all_same_states [] r xs ys same = same
 all_same_states (c ∷ cs) r xs ys same = all_same_states cs r (done c xs) (done c ys) (same_states c r xs ys same)
 
--- the count rows after a change depend on those before it alone
+-- the count rows after a change depend only on those before it
 same_counts : (c : ChangeView) (xs ys : Rows) → xs.counts ≡ ys.counts → (done c xs).counts ≡ (done c ys).counts
 same_counts (CountNow target n) xs ys same = ap (λ (cs : List CountRow). filter (λ r. not (is_same target r.target)) cs ++ count_rows target n) same
 same_counts (CardGone k) xs ys same = same
@@ -99,7 +99,7 @@ all_same_counts : (cs : List ChangeView) (xs ys : Rows) → xs.counts ≡ ys.cou
 all_same_counts [] xs ys same = same
 all_same_counts (c ∷ cs) xs ys same = all_same_counts cs (done c xs) (done c ys) (same_counts c xs ys same)
 
--- told statuses that leave a card no row once leave its rows alone always: they tell none of it
+-- status changes that once leave a card without a row never change its rows: none of them is of the card
 untold : (cs : List ChangeView) (r : CardRef) (xs ys : Rows) → AllByRecursion (λ c. row_changes_state c ≡ true) cs → of_card r (done_all cs xs) ≡ []
     → of_card r (done_all cs ys) ≡ of_card r ys
 untold [] r xs ys only none = refl
@@ -136,9 +136,9 @@ untold (c ∷ cs) r xs ys only none =
     one (TargetNew card ord target) tells none = absurd (cc)
     one (TargetsGone card targets) tells none = absurd (cc)
 
--- ---- told changes take no card but those that stood
+-- ---- row changes delete only cards that were there
 
--- a change doesn't take a card
+-- a change doesn't delete a card
 abbrev Leaves : CardRef → ChangeView → Type 0
 Leaves r c = takes_card r c ≡ false
 
@@ -254,7 +254,7 @@ module _ (out : ℕ → Bool) (lines : List LineView) (l : LibraryView) (reached
       subst (λ x. status_of x m ≡ status_of x l) card.4
       (left_status out lines l reached sound does is (yanks_as_before out lines l reached sound does no_yank is) card.0 card.1 card.2 card.3)
 
-  -- no change of the part takes it
+  -- no change of the part deletes it
   left_untaken : (changes : List ChangeView) (r : CardRef) (p : Place) → RowChanges (part out l) (part out m) changes → place_of r l ≡ Some p → out p.deck ≡ true
       → list_any (takes_card r) changes ≡ false
   left_untaken changes r p row_changes at left =

@@ -101,7 +101,7 @@ status_gone out l r p sound yanks at left =
     ∙ ap (λ b. if b then status_of r l else None) (none_passes (λ k. same_ref k.card r) (counted_cards (part out l))
     (all_counted (λ k. same_ref k.card r ≡ false) (part out l) (other_ref out l r p sound yanks at left)))
 
--- a card that stands in no such deck has the same status
+-- a card that is in no such deck has the same status
 pub status_kept : (out : ℕ → Bool) (l : LibraryView) (r : CardRef) → IsSound l → out 0 ≡ false
     → ((p : Place) → place_of r l ≡ Some p → out p.deck ≡ false) → status_of r (part out l) ≡ status_of r l
 status_kept out l r sound yanks stays = go (place_of r l) refl

@@ -20,7 +20,7 @@ use Rattle.upd_partial.proofs.AppliedLemmas.{applied_left}
 use Rattle.upd_partial.proofs.IdleLemmas.{yanks_as_before}
 use Rattle.upd_partial.proofs.PartSoundLemmas.{part_sound}
 
--- where the same decks are left out, the same ones behind `YANK$$$` are
+-- where the same decks are left out, the same ones after `YANK$$$` are
 left_behind : (out : ℕ → Bool) (l m : LibraryView) → left_out out m ≡ left_out out l →
     filter (λ (d : DeckView). out d.ident) m.decks ≡ filter (λ (d : DeckView). out d.ident) l.decks
 left_behind out l m same = go (out 0) refl same
@@ -33,7 +33,7 @@ left_behind out l m same = go (out 0) refl same
     go true e h = tails _ _ _ _ (rw e at h)
     go false e h = rw e at h
 
--- the decks left out stood before a plain run, with the same active cards
+-- the decks left out were there before a plain run, with the same active cards
 left_as_before : (out : ℕ → Bool) (lines : List LineView) (l : LibraryView) (reached : Reached) → IsSound l → DoesWithout out lines l →
     NamesNone (λ d. d == 0) lines l → applied lines l ≡ Ok reached →
     AllByRecursion (IsAsBefore l reached.library) (filter (λ (d : DeckView). out d.ident) reached.library.decks)
@@ -54,7 +54,7 @@ renewed_in out lines l reached cache sound whole does no_yank is right =
     renewed_is out l reached.library cache sound (run_sound lines l reached sound is) (run_whole lines l reached whole is) right
     (left_as_before out lines l reached sound does no_yank is)
 
--- by a cache that is right for the part alone
+-- by a cache of only the part
 pub renewed_alone : (out : ℕ → Bool) (lines : List LineView) (l : LibraryView) (reached : Reached) (cache : CacheView) → IsSound l → IsWhole l →
     DoesWithout out lines l → NamesNone (λ d. d == 0) lines l → applied lines l ≡ Ok reached → IsRight (part out reached.library) cache →
     renewed cache.states (part out reached.library) (actives_of l) ≡ actives_of reached.library

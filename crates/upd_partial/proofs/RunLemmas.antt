@@ -34,7 +34,7 @@ use Rattle.upd_partial.specs.Needless.{is_plain, cards_of_item, is_plain_item, l
 use Rattle.upd_partial.proofs.PartLemmas.{AreNotIn, IsNotIn, deck_kept, with_cards_left, with_deck_left}
 use Rattle.upd_partial.proofs.StepLemmas.{Leaves, SpotStays, done_same, in_part, parted}
 
--- ---- names that come
+-- ---- new names
 
 -- no card of these decks is of an ident that a library doesn't list
 abbrev pub AreOfListed : List DeckView → LibraryView → Type 0

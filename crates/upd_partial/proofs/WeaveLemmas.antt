@@ -1,4 +1,4 @@
--- Fates of the decks of a part, and between them those of the decks that are left out: these stay, and tell nothing.
+-- Card diffs of the decks of a part, and between them those of the decks that are left out: these stay, and have no changes.
 use Rattle.std.proofs.Common.{◌≡◌, ℕ, ◌+◌, ◌<◌, ◌≤◌, ◌^◌, Bool, true, false, cond, List, [], ◌∷◌, ◌++◌, map, length, take, drop, inl, inr, refl, sym, ap}
 use Rattle.std.proofs.Common.{◌∙◌, subst, arith}
 use Rattle.std.proofs.lemmas.List.{drop_all}
@@ -15,12 +15,12 @@ use Rattle.upd_core.specs.Library.{ref_of}
 use Rattle.upd_laws.proofs.SoundListLemmas.{both, is_same_number}
 use Rattle.upd_partial.proofs.PartLemmas.{kept_of, left_of}
 
--- ---- a deck that stays tells nothing
+-- ---- a deck that stays has no changes
 
 abbrev stays : List CardView → List CardDiffView
 stays cards = map (λ c. Kept c c) cards
 
--- the fates of a deck that stays
+-- the card diffs of a deck that stays
 abbrev pub stay : DeckView → DeckDiffView
 stay d = record { deck = d.ident; card_diffs = stays d.cards }
 
@@ -67,7 +67,7 @@ as_many : (cards : List CardView) → length (stays cards) ≡ length cards
 as_many [] = refl
 as_many (c ∷ cards) = let later = as_many cards in omega (arith, later)
 
--- so few cards that their places are numbers of 32 bits
+-- few enough cards that their positions are numbers of 32 bits
 abbrev pub AreFew : DeckView → Type 0
 AreFew d = length d.cards < 2 ^ 32
 
@@ -84,9 +84,9 @@ each_few n [] less few = tt
 each_few n (d ∷ ds) less few =
     let sum = sum_by-cons (λ (e : DeckView). length e.cards) d ds in (omega (arith, sum), each_few n ds (omega (arith, sum)) few)
 
--- ---- fates of a part, with the decks that stay between them
+-- ---- card diffs of a part, with the decks that stay between them
 
--- decks stand at the front, in their order
+-- decks are at the front, in order
 abbrev pub StandFirst : List DeckView → List DeckView → Type 0
 StandFirst [] later = Unit {0}
 StandFirst (d ∷ ds) [] = ⊥
@@ -97,7 +97,7 @@ module _ (out : ℕ → Bool) where
   weave [] ks = ks
   weave (d ∷ ds) ks = cond (out d.ident) (stay d ∷ weave ds ks) (take 1 ks ++ weave ds (drop 1 ks))
 
-  -- what stays adds nothing to what is told
+  -- what stays adds no row changes
   flat_weave : {A : Type 0} (f : DeckDiffView → List A) → ((d : DeckView) → f (stay d) ≡ []) → (ds : List DeckView) (ks : List DeckDiffView)
       → flat_map f (weave ds ks) ≡ flat_map f ks
   flat_weave f none [] ks = refl
@@ -124,7 +124,7 @@ module _ (out : ℕ → Bool) where
       go true o later = absurd (let bad = rw o at none in cc)
       go false o later = rw o (ap (λ xs. d ∷ xs) (later (rw o at none)))
 
-  -- fates of the part, woven with decks that stay, are those of the whole
+  -- card diffs of the part, woven with decks that stay, are those of the whole
   pub woven : (ds es : List DeckView) (ks : List DeckDiffView) → StandFirst ds es → left_of out es ≡ left_of out ds → AllByRecursion AreFew ds
       → Paired (kept_of out ds) (kept_of out es) ks → Paired ds es (weave ds ks)
   woven [] es ks first same few p = subst (λ xs. Paired [] xs ks) (none_left es same) p

@@ -1,4 +1,4 @@
--- What a plain run tells and touches in a part is what it tells and touches in the whole.
+-- The row changes and touched cards of a plain run on a part are those on the whole.
 use Rattle.std.proofs.Common.{◌≡◌, ℕ, suc, ◌≤◌, Bool, true, false, not, ◌&&◌, List, [], ◌∷◌, ◌++◌, map, length, Result, Ok, Err, refl, sym, ap, ◌∙◌, subst, arith}
 use Rattle.std.proofs.lemmas.Bool.Decides.{nat_tests}
 use Rattle.std.proofs.lemmas.Result.{IfOk-at_ok}
@@ -32,7 +32,7 @@ use Rattle.upd_partial.proofs.NeedLemmas.{others_listed, part_of_others}
 use Rattle.upd_partial.proofs.PartLemmas.{cards_same, kept_all, kept_of, left_of}
 use Rattle.upd_partial.proofs.WeaveLemmas.{AreFew, StandFirst, each_few, same_entry_own, row_changes_woven, weave, woven}
 
--- ---- plain runs leave decks where they stand
+-- ---- plain runs keep the decks, in order
 
 no_purge : (item : ItemView) → is_plain_item item ≡ true → not (is_purge item) ≡ true
 no_purge (Purge ranges) plain = absurd (cc)
@@ -60,7 +60,7 @@ decks_first lines l reached plain is =
     IfOk-at_ok (Grows x l) (rw is refl) (all_applied_grows x (lines ∷ []) l (omega arith) (both (purges_nothing lines) true (no_purges lines plain) refl)) in
     first_of_on _ l.decks reached.library.decks grows.decks
 
--- ---- what is told
+-- ---- row changes
 
 third : (a b c d e : Bool) → (a && b && c && d && e) ≡ true → c ≡ true
 third true true true d e h = refl
@@ -91,13 +91,13 @@ row_changes_whole out lines l reached changes yanks sound within does is t =
       are = t.are ∙ sym (row_changes_woven out l.idents m.idents (all_decks l) t.decks);
     }
 
--- ---- what is touched
+-- ---- touched cards
 
 same_history_own : (es : List Entry) → same_history es es ≡ true
 same_history_own [] = refl
 same_history_own (e ∷ es) = both (same_entry e e) (same_history es es) (same_entry_own e) (same_history_own es)
 
--- a card of a deck stood in it
+-- a card of a deck was in it
 pub stood : (cards : List CardView) (k : ℕ) (c : CardView) → slice_get cards k ≡ Some c → stood_in cards c ≡ true
 stood cards k c at =
     any_of (λ b. is_card c.ident c.number b && same_history b.history c.history) cards k c at
@@ -109,7 +109,7 @@ none_new : (test : CardView → Bool) (cards : List CardView) → AllByRecursion
 none_new test [] all = refl
 none_new test (c ∷ cards) all = rw all.0 (none_new test cards all.1)
 
--- no card of a deck that stands as it stood is touched
+-- no card of an unchanged deck is touched
 none_touched : (idents : List Ident) (l : LibraryView) (d : DeckView) → cards_of d.ident l ≡ d.cards → touched_in idents l d ≡ []
 none_touched idents l d same =
     let all = all_by_index d.cards (λ k c at. stood d.cards k c at) in

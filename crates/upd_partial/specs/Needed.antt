@@ -1,4 +1,4 @@
--- Which decks a run needs of a library.
+-- The decks that a run needs of a library.
 use Rattle.std.specs.Prelude.{◌==◌, Bool, false, not, ◌&&◌, if◌then◌else◌, List, map}
 use Rattle.std.specs.List.{flat_map, list_any}
 use Rattle.std.specs.Option.{option_map_or}
@@ -9,7 +9,7 @@ use Rattle.upd_deck.specs.Items.{LineView}
 use Rattle.upd_row_store.specs.Asked.{decks_with}
 use Rattle.upd_partial.specs.Needless.{is_plain, cards_of_item}
 
--- the cards that the lines of a run name, in their order
+-- the cards that the lines of a run name, in order
 abbrev pub cards_named : List LineView → List CardRef
 cards_named lines = flat_map (λ line. cards_of_item line.item) lines
 
@@ -17,7 +17,7 @@ cards_named lines = flat_map (λ line. cards_of_item line.item) lines
 abbrev pub is_yank_card : LibraryView → CardRef → Bool
 is_yank_card l card = option_map_or (λ p. p.deck == 0) (place_of card l) false
 
--- A run needs all decks where it yanks, purges or names a yank card; otherwise those that hold a card which it names. `YANK$$$` is no deck here.
+-- A run needs all decks where it yanks, purges or names a yank card; otherwise those that have a card which it names. `YANK$$$` is not counted.
 abbrev pub decks_needed : List LineView → LibraryView → List Serial
 decks_needed lines l =
     if is_plain lines && not (list_any (is_yank_card l) (cards_named lines)) then decks_with (cards_named lines) l else map (λ d. d.ident) l.decks

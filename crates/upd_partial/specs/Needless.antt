@@ -1,4 +1,4 @@
--- Runs on a part of a library: which decks a run can do without.
+-- Runs on a part of a library: the decks that a run doesn't need.
 use Rattle.std.specs.Prelude.{◌≡◌, ◌==◌, ◌<◌, nat_le, Bool, true, false, not, ◌&&◌, IsTrue, List, [], ◌∷◌, length, Some, Result, Ok, Err}
 use Rattle.std.specs.List.{filter, list_all, AllByRecursion}
 use Rattle.upd_text.specs.declared.card_ref.CardRef.{CardRef}
@@ -24,7 +24,7 @@ is_plain_item (SelPurge pairs) = false
 is_plain_item (PurDeck ranges) = false
 is_plain_item _ = true
 
--- no line of a run yanks or purges
+-- a run is plain: no line of it yanks or purges
 abbrev pub is_plain : List LineView → Bool
 is_plain lines = list_all (λ line. is_plain_item line.item) lines
 
@@ -36,32 +36,31 @@ cards_of_item (Delete first last) = first ∷ last ∷ []
 cards_of_item (Restore first last) = first ∷ last ∷ []
 cards_of_item _ = []
 
--- the ages of a library's directory that aren't among these: those of the decks that a part with these decks alone leaves out
+-- the serials of a directory that are not among these: those of the decks that a part with only these decks leaves out
 abbrev pub is_left_out : List Serial → LibraryView → Serial → Bool
 is_left_out ages l d = not (d == 0) && nat_le d (length l.idents) && not (is_among ages d)
 
--- the decks of the ages that pass a test, `YANK$$$` as a deck of age 0 among them
+-- the decks whose serials pass a test; `YANK$$$` counts as a deck with serial 0
 abbrev pub left_out : (Serial → Bool) → LibraryView → List DeckView
 left_out out l = filter (λ d. out d.ident) (all_decks l)
 
--- each card that a run names, where there is such a card, stands in a deck of an age that doesn't pass the test
+-- each card that a run names, where it exists, is in a deck whose serial doesn't pass the test
 abbrev pub NamesNone : (Serial → Bool) → List LineView → LibraryView → Type 0
 NamesNone out lines l =
     AllByRecursion (λ line. AllByRecursion (λ card. (p : Place) → place_of card l ≡ Some p → out p.deck ≡ false) (cards_of_item line.item)) lines
 
--- A run without yanks and purges does without decks of which it names no card. The test passes no age that is yet to come.
+-- A plain run doesn't need decks of which it names no card. The test passes no serial of a later ident.
 pub record DoesWithout (out : Serial → Bool) (lines : List LineView) (l : LibraryView) : Type 0 where
   pub plain : IsTrue (is_plain lines)
   pub listed : (z : Serial) → length l.idents < z → out z ≡ false
   pub cards : NamesNone out lines l
 
--- what a run reaches, with the same part left out
+-- the result of a run, with the same part left out
 abbrev pub reached_in_part : (Serial → Bool) → Result Reached Fault → Result Reached Fault
 reached_in_part out (Ok reached) = Ok (record reached { library = part out reached.library })
 reached_in_part out (Err fault) = Err fault
 
--- What a run reaches from a part is the part of what it reaches from the whole; and the same row changes lead there, and the same cards are
--- touched.
+-- The result of a run on a part is the part of its result on the whole; the row changes are the same, and so are the touched cards.
 pub record IsOnWhole (out : Serial → Bool) (lines : List LineView) (l : LibraryView) (here : Reached) (changes : List ChangeView) : Type 0 where
   pub there : Reached
   pub reached : applied lines l ≡ Ok there

@@ -1,4 +1,4 @@
-//! What a run says of the decks that it needs.
+//! The decks that a run needs, from its lines.
 
 ghost use Rattle.std.specs.Prelude.{◌≡◌, ◌++◌, IfOk, OnOk};
 ghost use Rattle.std.specs.List.{list_any};
@@ -33,7 +33,7 @@ fn is_plain_item(item: &Item) -> bool
     }
 }
 
-/// The cards that the lines of a run name, in their order; one may stand there more than once.
+/// The cards that the lines of a run name, in order. A card may be listed more than once.
 pub fn cards_named(alloc: Global, run: &Run<'_>) -> Result<Vec<CardRef>, AllocError>
     ensures { IfOk result (λ cards. cards.items ≡ cards_named run.now) }
 {

@@ -1,4 +1,4 @@
-//! What a run without yanks and purges makes of decks of which it names no card: nothing.
+//! Laws: a plain run changes no deck of which it names no card.
 ghost use Rattle.std.specs.Prelude.{◌≡◌, ◌==◌, Bool, true, false, List, IsTrue, Ok};
 ghost use Rattle.std.specs.List.{Contains, list_any};
 ghost use Rattle.upd_core.specs.Serials.{Serial};
@@ -19,16 +19,16 @@ ghost use Rattle.upd_partial.specs.Needed.{cards_named, is_yank_card};
 ghost use Rattle.upd_partial.specs.Needless.{DoesWithout, IsOnWhole, NamesNone, is_plain, is_left_out, left_out};
 ghost use Rattle.upd_partial.specs.Needless.{reached_in_part};
 
-/// Loaded with the decks that hold the cards which a run names, a library gives the same refusal as the whole one, or
-/// the same idents and named decks; and what the run reaches then is the part of what it reaches from the whole: the
-/// decks that were loaded, and the new ones.
+/// A plain run on the decks that have the cards which it names gives the same refusal as on the whole library, or the
+/// same idents and named decks. The library after it is the part of the whole library after it: the loaded decks and
+/// the new ones.
 pub fn runs_need_the_decks_that_they_name()
     ensures { (ages : List Serial) (lines : List LineView) (l : LibraryView) → IsSound l → IsTrue (is_plain lines)
         → NamesNone (is_left_out ages l) lines l
         → applied lines (part_of ages l) ≡ reached_in_part (is_left_out ages l) (applied lines l) }
 {}
 
-/// The other decks stay as they are, `YANK$$$` too where the run names no card of it.
+/// The other decks are unchanged; so is `YANK$$$` where the run names no yank card.
 pub fn other_decks_stay()
     ensures decks { (out : Serial → Bool) (lines : List LineView) (l : LibraryView) (reached : Reached) → IsSound l
         → DoesWithout out lines l
@@ -38,7 +38,7 @@ pub fn other_decks_stay()
         → applied lines l ≡ Ok reached → out 0 ≡ true → reached.library.yanks ≡ l.yanks }
 {}
 
-/// A run without yanks and purges that names no yank card changes the status of no card but those that it touches.
+/// A plain run that names no yank card changes only statuses of cards that it touches.
 pub fn untouched_cards_keep_their_status()
     ensures { (out : Serial → Bool) (lines : List LineView) (l : LibraryView) (reached : Reached) → IsSound l
         → DoesWithout out lines l
@@ -53,8 +53,8 @@ pub fn parts_of_sound_libraries_are_sound()
     ensures { (out : Serial → Bool) (l : LibraryView) → IsSound l → IsSound (part out l) }
 {}
 
-/// The row changes that lead from a part to what a run reaches from it lead from the whole to what the run reaches
-/// from the whole: decks that are left out stay, and tell nothing. The run touches the same cards in both.
+/// The row changes of a run on a part are row changes of the run on the whole, since decks that are left out have no
+/// changes. The run touches the same cards in both.
 pub fn changes_of_a_part_are_changes_of_the_whole()
     ensures row_changes { (out : Serial → Bool) (lines : List LineView) (l : LibraryView) (reached : Reached)
         → (changes : List ChangeView) → out 0 ≡ false → IsSound l → IsTrue (is_within_limits l)
@@ -65,7 +65,7 @@ pub fn changes_of_a_part_are_changes_of_the_whole()
         → touched (part out l) (part out reached.library) ≡ touched l reached.library }
 {}
 
-/// A run that was applied to the decks which hold the cards that it names has been applied to the whole library.
+/// A plain run on the decks that have the cards which it names is a run on the whole library.
 pub fn runs_on_a_part_are_runs_on_the_whole()
     ensures { (ages : List Serial) (lines : List LineView) (l : LibraryView) (here : Reached)
         → (changes : List ChangeView) → IsSound l → IsTrue (is_within_limits l) → IsTrue (is_plain lines)
@@ -73,8 +73,8 @@ pub fn runs_on_a_part_are_runs_on_the_whole()
         → RowChanges (part_of ages l) here.library changes → IsOnWhole (is_left_out ages l) lines l here changes }
 {}
 
-/// Row changes that lead from a sound library to what a run reaches from it can be carried out on tables that show the
-/// library, and then these show what was reached. They take the cards that are gone.
+/// The row changes of a run on a sound library can be carried out on tables that show it, and then the tables show the
+/// library after the run. They delete the cards that are gone.
 pub fn changes_lead_to_what_is_reached()
     ensures shows { (lines : List LineView) (l : LibraryView) (reached : Reached) (changes : List ChangeView)
         → (rows : Rows) → IsSound l → applied lines l ≡ Ok reached → RowChanges l reached.library changes → Shows rows l
@@ -87,8 +87,8 @@ pub fn changes_lead_to_what_is_reached()
         → TakeGone l reached.library changes }
 {}
 
-/// A run without yanks and purges that names no yank card leaves `YANK$$$` as it is, and the cards in decks that it does
-/// without keep their statuses.
+/// A plain run that names no yank card leaves `YANK$$$` unchanged, and the cards in decks that it doesn't need keep
+/// their statuses.
 pub fn cards_left_out_keep_their_statuses()
     ensures named { (lines : List LineView) (l : LibraryView) → list_any (is_yank_card l) (cards_named lines) ≡ false
         → NamesNone (λ d. d == 0) lines l }

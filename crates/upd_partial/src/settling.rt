@@ -1,4 +1,4 @@
-//! On which parts of a library a run is settled, and active cards are renewed.
+//! Laws: a part on which the status update of a run, and the new active cards, are those of the whole library.
 ghost use Rattle.std.specs.Prelude.{◌≡◌, ◌==◌, Bool, false, true, if◌then◌else◌, List, None, Ok};
 ghost use Rattle.std.specs.List.{AllByRecursion, list_any};
 ghost use Rattle.upd_text.specs.declared.card_ref.CardRef.{CardRef};
@@ -22,8 +22,8 @@ ghost use Rattle.upd_yank.specs.Renewed.{renewed};
 ghost use Rattle.upd_yank.specs.Right.{CacheView, IsRight};
 ghost use Rattle.upd_partial.specs.Needless.{DoesWithout, NamesNone};
 
-/// A run without yanks and purges that names no yank card is settled on the part of the library that it reaches from
-/// which the decks are left out that it does without: no card of them is affected, and it takes no card away.
+/// For a plain run that names no yank card, the part without the decks that it doesn't need is enough for the status
+/// update: the run affects no card of these decks and deletes no card.
 pub fn parts_settle_plain_runs()
     ensures { (out : Serial → Bool) (lines : List LineView) (l : LibraryView) (reached : Reached) → IsSound l
         → DoesWithout out lines l → NamesNone (λ d. d == 0) lines l
@@ -31,8 +31,8 @@ pub fn parts_settle_plain_runs()
         → IsEnough (touched l reached.library) l reached.library (part out reached.library) }
 {}
 
-/// By a cache that is right for what such a run has reached, the active cards renewed from the part without the decks
-/// left out, and from those before the run, are those of all that it has reached.
+/// After such a run, the active cards made from the part, a cache of the whole and the active cards before the run are
+/// those of the whole library after it.
 pub fn parts_renew_active_cards()
     ensures { (out : Serial → Bool) (lines : List LineView) (l : LibraryView) (reached : Reached) (cache : CacheView)
         → IsSound l → IsWhole l → DoesWithout out lines l → NamesNone (λ d. d == 0) lines l
@@ -40,16 +40,16 @@ pub fn parts_renew_active_cards()
         → renewed cache.states (part out reached.library) (actives_of l) ≡ actives_of reached.library }
 {}
 
-/// In a part with the yank cards each card has the status that it has in the whole, and no other reference has one.
+/// In a part with the yank cards each card has the same status as in the whole, and no other reference has one.
 pub fn statuses_of_a_part_are_those_of_the_whole()
     ensures { (out : Serial → Bool) (l : LibraryView) (card : CardRef) → IsSound l → out 0 ≡ false
         → status_of card (part out l)
         ≡ (if list_any (λ k. same_ref k.card card) (counted_cards (part out l)) then status_of card l else None) }
 {}
 
-/// A run without yanks and purges that names no yank card can be settled on the part without the decks that it does
-/// without, as if this were all: that affects the same cards, what leads the statuses of the part on leads those of
-/// the whole on, and a cache that is right for the part reached renews all active cards.
+/// For a plain run that names no yank card, the status update may treat the part as the whole library: it affects the
+/// same cards, row changes that update the statuses of the part update those of the whole, and a cache of the part is
+/// enough to make all active cards.
 pub fn parts_are_settled_alone()
     ensures enough { (out : Serial → Bool) (lines : List LineView) (l : LibraryView) (reached : Reached) → out 0 ≡ false
         → IsSound l → DoesWithout out lines l → NamesNone (λ d. d == 0) lines l → applied lines l ≡ Ok reached

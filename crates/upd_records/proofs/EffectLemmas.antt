@@ -1,4 +1,4 @@
--- What changes do to one table at a time: each appends a row, keeps some rows, changes rows in place, or leaves the table alone.
+-- What changes do to one table at a time: each appends a row, keeps some rows, changes rows in place, or leaves the table unchanged.
 use Rattle.std.proofs.Common.{◌≡◌, Bool, true, false, cond, List, [], ◌∷◌, ◌++◌, map, refl, ap, sym, ◌∙◌, append_assoc, append-nil}
 use Rattle.std.specs.Prelude.{not, ◌||◌}
 use Rattle.std.specs.List.{filter, flat_map, list_any, AllByRecursion}
@@ -162,12 +162,12 @@ act_same (Append x) same = same_append same (same_of (x ∷ []) (x ∷ []) refl)
 act_same (Keep test) same = same_filter test same
 act_same (Alter f) same = same_map f same
 
--- the order of rows is no matter
+-- the order of rows doesn't matter
 pub acts_same : {A : Type 0} (e : ChangeView → Effect A) (cs : List ChangeView) {xs ys : List A} → IsSame xs ys → IsSame (all_acts e cs xs) (all_acts e cs ys)
 acts_same e [] same = same
 acts_same e (c ∷ cs) same = acts_same e cs (act_same (e c) same)
 
--- ---- changes that leave a table alone
+-- ---- changes that leave a table unchanged
 
 abbrev pub AreIdle : {A : Type 0} → (ChangeView → Effect A) → List ChangeView → Type 0
 AreIdle e cs = AllByRecursion (λ c. e c ≡ Nothing) cs
@@ -176,9 +176,9 @@ pub idle_acts : {A : Type 0} (e : ChangeView → Effect A) (cs : List ChangeView
 idle_acts e [] xs idle = refl
 idle_acts e (c ∷ cs) xs idle = ap (λ f. all_acts e cs (act f xs)) idle.0 ∙ idle_acts e cs xs idle.1
 
--- ---- rows of some cards go
+-- ---- rows of some cards are deleted
 
--- whether a reference is among some
+-- whether a reference is in a list
 abbrev pub is_in : List CardRef → CardRef → Bool
 is_in keys card = list_any (λ k. same_ref k card) keys
 
@@ -210,7 +210,7 @@ without_both card ks ls (x ∷ xs) = rw (any_append (λ k. same_ref k (card x)) 
     go false true e later = rw e later
     go false false e later = rw e (ap (λ t. x ∷ t) later)
 
--- each step takes the rows of some cards
+-- each step deletes the rows of some cards
 pub acts_without : {Z A : Type 0} (e : ChangeView → Effect A) (card : A → CardRef) (g : Z → List ChangeView) (key : Z → List CardRef)
     → ((z : Z) (xs : List A) → all_acts e (g z) xs ≡ without card (key z) xs) → (zs : List Z) (xs : List A)
     → all_acts e (flat_map g zs) xs ≡ without card (flat_map key zs) xs
@@ -219,7 +219,7 @@ acts_without e card g key each (z ∷ zs) xs =
     acts_append e (g z) (flat_map g zs) xs ∙ acts_without e card g key each zs (all_acts e (g z) xs)
     ∙ ap (λ t. without card (flat_map key zs) t) (each z xs) ∙ without_both card (key z) (flat_map key zs) xs
 
--- ---- rows come
+-- ---- rows are added
 
 -- each step appends some rows
 pub acts_appending : {Z A : Type 0} (e : ChangeView → Effect A) (g : Z → List ChangeView) (r : Z → List A)

@@ -1,4 +1,4 @@
--- What row changes do to the tables.
+-- The effect of row changes on the tables.
 use Rattle.std.specs.Prelude.{ℕ, ◌+◌, ◌-◌, ◌==◌, nat_le, ℤ, pos, negsuc, Bool, false, not, ◌&&◌, if◌then◌else◌, List, [], ◌∷◌, ◌++◌, map}
 use Rattle.std.specs.List.{filter}
 use Rattle.upd_core.specs.declared.card.Entry.{Entry}
@@ -10,7 +10,7 @@ use Rattle.upd_core.specs.declared.change.Change.{Change}
 use Rattle.upd_core.specs.declared.change.Change.TheVariants as made
 use Rattle.upd_records.specs.Rows.{CardRow, Rows, same_ref, count_rows}
 
--- A change of rows. Cards, entries and targets come with their places, texts as bytes; cards move by a signed distance.
+-- A row change. New cards, entries and targets have their positions; texts are bytes; cards move by a signed distance.
 pub data ChangeView : Type 0 where
   IdentNew : Ident → ChangeView
   IdentPurged : ℕ → ChangeView
@@ -38,20 +38,20 @@ change_view (made.TargetsGone card targets) = TargetsGone card targets.items
 change_view (made.StatusNow card active) = StatusNow card active
 change_view (made.CountNow target n) = CountNow target n
 
--- the ident of an age, no longer held
+-- the ident with a serial, no longer held
 abbrev pub purged_row : ℕ → Ident → Ident
 purged_row age i = if i.age == age then record i { held = false } else i
 
--- a place moved by a signed distance
+-- a position moved by a signed distance
 abbrev pub shifted : ℤ → ℕ → ℕ
 shifted (pos n) p = p + n
 shifted (negsuc n) p = p - (n + 1)
 
--- a row of the cards of a deck that stand at a place or behind it, moved
+-- the row of a card, moved where the card is in the deck at position `from` or later
 abbrev pub moved_row : ℕ → ℕ → ℤ → CardRow → CardRow
 moved_row deck from by r = if (r.deck == deck) && nat_le from r.pos then record r { pos = shifted by r.pos } else r
 
--- the tables after one change; a status or a count takes the place of the one before it
+-- the tables after one change; a status or a count replaces the one before it
 abbrev pub done : ChangeView → Rows → Rows
 done (IdentNew i) rows = record rows { idents = rows.idents ++ i ∷ [] }
 done (IdentPurged age) rows = record rows { idents = map (purged_row age) rows.idents }

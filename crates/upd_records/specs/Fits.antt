@@ -5,12 +5,12 @@ use Rattle.upd_records.specs.Rows.{Rows}
 use Rattle.upd_records.specs.Changes.{ChangeView, IdentNew, IdentPurged, CardNew, CardGone, CardsMoved, EntryNew, EntriesGone, TargetNew, TargetsGone, StatusNow}
 use Rattle.upd_records.specs.Changes.{CountNow, done}
 
--- a place that is moved by a signed distance is a place again: not before the first; before and after it is a number of 32 bits
+-- a position can be moved by a signed distance: the new one is not negative, and both are numbers of 32 bits
 abbrev pub CanMove : ℤ → ℕ → Type 0
 CanMove (pos n) p = p + n < 2 ^ 32
 CanMove (negsuc n) p = (n + 1 ≤ p) × (p < 2 ^ 32)
 
--- a change moves no card where no card can stand
+-- a change moves no card to a position that isn't valid
 abbrev pub Fits : ChangeView → Rows → Type 0
 Fits (CardsMoved deck from by) rows = AllByRecursion (λ r. IsTrue ((r.deck == deck) && nat_le from r.pos) → CanMove by r.pos) rows.cards
 Fits (IdentNew i) rows = Unit {0}
@@ -24,7 +24,7 @@ Fits (TargetsGone card targets) rows = Unit {0}
 Fits (StatusNow card active) rows = Unit {0}
 Fits (CountNow target n) rows = Unit {0}
 
--- each change fits the tables that the changes before it have left
+-- each change fits the tables that the changes before it leave
 abbrev pub AllFit : List ChangeView → Rows → Type 0
 AllFit [] rows = Unit {0}
 AllFit (c ∷ cs) rows = Fits c rows × AllFit cs (done c rows)

@@ -12,28 +12,28 @@ use Rattle.upd_core.specs.Status.{status_of}
 use Rattle.upd_core.specs.TargetCounts.{live_count}
 use Rattle.upd_core.specs.Targets.{is_same}
 
--- ---- rows; the card that a row is of stands first, or else what its key is
+-- ---- rows; the first fields are the key
 
--- A card stands in a deck (0 for `YANK$$$`) at a place, from 0 on.
+-- A card, its deck (0 for `YANK$$$`), its position there, from 0, and its text.
 pub record CardRow : Type 0 where
   pub card : CardRef
   pub deck : ℕ
   pub pos : ℕ
   pub body : List ℕ
 
--- A card's history has an entry at a place, from 0 on.
+-- An entry of a card's history, and its index there, from 0.
 pub record EntryRow : Type 0 where
   pub card : CardRef
   pub ord : ℕ
   pub entry : Entry
 
--- A yank card has a target at a place, from 0 on.
+-- A target of a yank card, and its index there, from 0.
 pub record TargetRow : Type 0 where
   pub card : CardRef
   pub ord : ℕ
   pub target : Target
 
--- A site's run of a number was sent in a mode (0 full, 1 quick, 2 normal) with these bytes, was accepted or not, and has this reply.
+-- A stored run: its site and number, its mode (0 full, 1 quick, 2 normal), its bytes, whether it was accepted, and its reply.
 pub record RunView : Type 0 where
   pub site : List ℕ
   pub number : ℕ
@@ -42,22 +42,22 @@ pub record RunView : Type 0 where
   pub accepted : Bool
   pub reply : List ℕ
 
--- A card is active or not; a yank card is live or not.
+-- A card, and whether it is active; for a yank card, whether it is live.
 pub record StateRow : Type 0 where
   pub card : CardRef
   pub active : Bool
 
--- So many live yank cards have a target.
+-- A target, and the number of live yank cards that have it.
 pub record CountRow : Type 0 where
   pub target : Target
   pub n : ℕ
 
--- A site's runs up to a number are settled.
+-- A site, and its mark: its runs up to this number are settled.
 pub record MarkRow : Type 0 where
   pub site : List ℕ
   pub mark : ℕ
 
--- All tables but `meta`. A row of idents is the ident itself.
+-- All tables except `meta`. A row of idents is the ident itself.
 pub record Rows : Type 0 where
   pub idents : List Ident
   pub cards : List CardRow
@@ -70,22 +70,22 @@ pub record Rows : Type 0 where
 
 -- ---- the rows of a library
 
--- the rows of cards that stand in a deck from a place on
+-- the rows of cards of a deck; the first is at position p
 abbrev pub card_rows : List Ident → ℕ → ℕ → List CardView → List CardRow
 card_rows idents d p [] = []
 card_rows idents d p (c ∷ cs) = record { card = ref_of idents c; deck = d; pos = p; body = c.text } ∷ card_rows idents d (p + 1) cs
 
--- the rows of a card's entries from a place on
+-- the rows of entries of a card; the first has index n
 abbrev pub entry_rows : CardRef → ℕ → List Entry → List EntryRow
 entry_rows card n [] = []
 entry_rows card n (e ∷ es) = record { card = card; ord = n; entry = e } ∷ entry_rows card (n + 1) es
 
--- the rows of a card's targets from a place on
+-- the rows of targets of a card; the first has index n
 abbrev pub target_rows : CardRef → ℕ → List Target → List TargetRow
 target_rows card n [] = []
 target_rows card n (t ∷ ts) = record { card = card; ord = n; target = t } ∷ target_rows card (n + 1) ts
 
--- the rows of a library; what is kept of runs, statuses and counts is no part of them
+-- the rows of a library; stored runs, statuses, counts and marks are no part of them
 abbrev pub rows_of : LibraryView → Rows
 rows_of l = record {
   idents = l.idents;
@@ -98,11 +98,11 @@ rows_of l = record {
   settled = [];
 }
 
--- The same elements as often, in whatever order: each test passes as many of the one list as of the other.
+-- Two lists have the same elements, each the same number of times, in any order: every test passes equally many elements of both.
 pub record IsSame {A : Type 0} (xs ys : List A) : Type 0 where
   pub passes : (test : A → Bool) → count_by test xs ≡ count_by test ys
 
--- Tables show a library where they have its idents, cards, entries and targets as rows, in whatever order, and no others.
+-- Tables show a library where their idents, cards, entries and targets are exactly the library's rows, in any order.
 pub record Shows (rows : Rows) (l : LibraryView) : Type 0 where
   pub idents : IsSame rows.idents (rows_of l).idents
   pub cards : IsSame rows.cards (rows_of l).cards
@@ -115,17 +115,17 @@ pub record Shows (rows : Rows) (l : LibraryView) : Type 0 where
 abbrev pub same_ref : CardRef → CardRef → Bool
 same_ref a b = bytes_eq a.name b.name && (a.number == b.number)
 
--- the row of a card that is there: its status
+-- the status row of a card; none where the card doesn't exist
 abbrev pub state_rows : CardRef → Option Bool → List StateRow
 state_rows card None = []
 state_rows card (Some active) = record { card = card; active = active } ∷ []
 
--- the row of a target that is counted
+-- the count row of a target; none for a count of 0
 abbrev pub count_rows : Target → ℕ → List CountRow
 count_rows target n = if n == 0 then [] else record { target = target; n = n } ∷ []
 
--- Tables show the statuses of a library where each card that it has is in one row with its status, each target that a live yank card has
--- is in one row with the number of these, and there are no others.
+-- Tables show the statuses of a library where each card of the library has one row, with its status; each target of a live yank card has one
+-- row, with the number of live yank cards that have it; and there are no other rows.
 pub record ShowsStates (rows : Rows) (l : LibraryView) : Type 0 where
   pub states : (card : CardRef) → filter (λ r. same_ref card r.card) rows.states ≡ state_rows card (status_of card l)
   pub counts : (target : Target) → filter (λ r. is_same target r.target) rows.counts ≡ count_rows target (live_count l target)

@@ -1,4 +1,4 @@
-//! The tables of a library as records, and what row changes do to them.
+//! The tables of a library as records, and the effect of row changes on them. `AllocError` is the only error.
 #![tactic(auto)]
 
 pub mod rows;

@@ -1,4 +1,4 @@
-//! The rows of the tables, one struct for each table. A row of idents is the ident itself.
+//! The rows of the tables, one struct for each table. A row of the table of idents is the `Ident` itself.
 
 ghost use Rattle.std.specs.Prelude.{◌≡◌, IfOk};
 ghost use Rattle.upd_records.specs.Rows.{RunView, same_ref};
@@ -8,7 +8,7 @@ use std::alloc::{AllocError, Global};
 use std::marker::Model;
 use upd_core::{CardRef, Entry, Ident, Serial, Target};
 
-/// A card in its deck.
+/// The row of a card: its deck, its position there and its text.
 #[derive(Debug, Drop)]
 pub struct CardRow {
     pub card: CardRef,
@@ -28,7 +28,7 @@ impl Model for CardRow {
 }
 
 impl CardRow {
-    /// A copy; memory alone can fail.
+    /// A deep copy.
     pub fn copy(&self) -> Result<CardRow, AllocError>
         ensures { IfOk result (λ copy. copy ≡ self.now) }
     {
@@ -98,7 +98,7 @@ impl Model for StateRow {
     ghost inverse = { λ r. record { card = r.card; active = r.active } };
 }
 
-/// How many live yank cards have a target.
+/// The number of live yank cards that have a target.
 #[derive(Clone, Copy, Debug)]
 pub struct CountRow {
     pub target: Target,
@@ -116,7 +116,7 @@ impl Model for CountRow {
     ghost inverse = { λ r. record { target = r.target; n = r.n } };
 }
 
-/// The number up to which a site's runs are settled.
+/// A site's mark: its runs up to this number are settled.
 #[derive(Debug, Drop)]
 pub struct MarkRow {
     pub site: String,
@@ -133,7 +133,7 @@ impl Model for MarkRow {
 }
 
 impl MarkRow {
-    /// A copy; memory alone can fail.
+    /// A deep copy.
     pub fn copy(&self, alloc: Global) -> Result<MarkRow, AllocError>
         ensures { IfOk result (λ copy. copy ≡ self.now) }
     {
@@ -145,7 +145,7 @@ impl MarkRow {
     }
 }
 
-/// The rows that make a library, in any order.
+/// The rows of a library, in any order.
 #[derive(Debug, Drop)]
 pub struct LibraryRows {
     pub idents: Vec<Ident>,
@@ -154,7 +154,7 @@ pub struct LibraryRows {
     pub targets: Vec<TargetRow>,
 }
 
-/// A copy of a run's row; memory alone can fail.
+/// A deep copy of a stored run.
 pub fn copy_run(alloc: Global, run: &RunRow) -> Result<RunRow, AllocError>
     ensures { IfOk result (λ copy. copy ≡ run.now) }
 {

@@ -1,18 +1,18 @@
-//! The row of a run that was answered.
+//! The row of a stored run.
 
 use std::marker::Model;
 
-/// A run with its answer, as it is kept for repeats. Site and number are its key.
+/// A run with its reply, stored so that a repeat gets the same reply. Site and number are its key.
 #[derive(Debug, Drop)]
 pub struct RunRow {
     pub site: String,
     pub number: u64,
     /// 0 full, 1 quick, 2 normal.
     pub mode: u32,
-    /// The run as it was sent.
+    /// The run as it arrived.
     pub bytes: Vec<u8>,
     pub accepted: bool,
-    /// The answer as it was sent.
+    /// The reply as it was sent.
     pub reply: Vec<u8>,
 }
 

@@ -17,7 +17,7 @@ use Rattle.upd_text.specs.Names.{IsReference, card_of, card_text, is_card_number
 pub numeral_model : IsNumeralModel (λ ds. list_all is_digit ds ≡ true) (number_behind 0)
 numeral_model = numerals_by_fold _ (search rules) number_behind (search rules)
 
--- what stands before the first point, the point, and what stands behind it
+-- what is before the first point, the point, and what follows it
 parts_again : (field : List ℕ) → 0 < length (after_first is_point field) → before_first is_point field ++ 46 ∷ after_first is_point field ≡ field
 parts_again field some = at_place (position_or_len is_point field) within (of_not _ (prefix_len_stops (λ b. not (is_point b)) field 0 within))
   where

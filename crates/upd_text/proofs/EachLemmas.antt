@@ -1,14 +1,14 @@
--- A loop that looks at each element: what it has found stands in front of what the rest gives, unless one is refused.
+-- A loop that looks at each element: what it has found comes before what the rest returns, unless an element is refused.
 use Rattle.std.proofs.Common.{◌≡◌, ℕ, ◌+◌, ◌<◌, List, [], ◌∷◌, ◌++◌, length, drop, get_or, Result, Ok, Err, refl, ap, sym, ◌∙◌, append_assoc, append-nil}
 use Rattle.std.proofs.lemmas.List.{drop_more}
 use Rattle.upd_text.specs.Outcome.{◌>>=◌, each}
 
--- what was found, and behind it what the rest gives; the first refusal of the rest
+-- what was found, then what the rest returns; the first refusal of the rest
 abbrev pub each_behind : {A B E : Type 0} → (A → Result (List B) E) → List B → List A → Result (List B) E
 each_behind f found [] = Ok found
 each_behind f found (x ∷ xs) = f x >>= (λ more. each_behind f (found ++ more) xs)
 
--- what was found stands in front
+-- what was found comes first
 abbrev pub in_front : {B E : Type 0} → List B → Result (List B) E → Result (List B) E
 in_front found rest = rest >>= (λ more. Ok (found ++ more))
 
@@ -26,7 +26,7 @@ more_each : {A B E : Type 0} (f : A → Result (List B) E) (found : List B) (xs 
 more_each f found xs (Ok more) rest = rest more ∙ further found more (each f xs)
 more_each f found xs (Err e) rest = refl
 
--- a loop that has found some goes on: behind them comes what the rest gives, or its first refusal
+-- a loop that has found some elements continues: next comes what the rest returns, or its first refusal
 pub each_behind-each : {A B E : Type 0} (f : A → Result (List B) E) (found : List B) (xs : List A)
     → each_behind f found xs ≡ in_front found (each f xs)
 each_behind-each f found [] = ap Ok (sym (append-nil found))
@@ -38,7 +38,7 @@ each_behind-none f xs = each_behind-each f [] xs ∙ none_in_front (each f xs)
 
 -- ---- the turns of a loop over xs, at the element x
 
--- it gives more
+-- it returns more
 pub each_more : {A B E : Type 0} (f : A → Result (List B) E) (xs : List A) (i : ℕ) (x : A) (found now more : List B) (whole : Result (List B) E)
     → i < length xs → x ≡ get_or xs i x → f x ≡ Ok more → now ≡ found ++ more
     → each_behind f found (drop i xs) ≡ whole → each_behind f now (drop (i + 1) xs) ≡ whole

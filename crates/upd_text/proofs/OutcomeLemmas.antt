@@ -1,4 +1,4 @@
--- What holds behind an outcome that goes through.
+-- What holds after an outcome that is Ok.
 use Rattle.std.proofs.Common.{◌≡◌, Bool, true, false, refl}
 use Rattle.std.specs.Prelude.{Option, Some, None, Result, Ok, Err}
 use Rattle.std.specs.Result.{IfOk}

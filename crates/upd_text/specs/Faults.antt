@@ -80,7 +80,7 @@ fault_name CutFrame = codes "CutFrame"
 fault_name Read = codes "Read"
 fault_name Write = codes "Write"
 
--- a refusal at a line of a run; want of memory has no line
+-- a refusal at a line of a run; out of memory has no line
 abbrev pub fault_at : FaultKind → ℕ → Fault
 fault_at NoMemory n = record { kind = NoMemory; at = 0 }
 fault_at kind n = record { kind = kind; at = n }

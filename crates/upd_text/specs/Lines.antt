@@ -4,7 +4,7 @@ use Rattle.std.specs.Str.{bytes_eq}
 use Rattle.std.specs.List.{slice_split}
 use Rattle.upd_text.specs.Units.{Byte, Bytes}
 
--- a blank: 0x20 alone
+-- a blank: only 0x20
 abbrev pub is_blank : Byte → Bool
 is_blank b = b == 32
 
@@ -21,16 +21,16 @@ abbrev pub up_to : (Byte → Bool) → Bytes → Bytes
 up_to ends [] = []
 up_to ends (b ∷ bs) = if ends b then [] else b ∷ up_to ends bs
 
--- the bytes from the first on that passes the test
+-- the bytes from the first that passes the test, that one included
 abbrev pub from_first : (Byte → Bool) → Bytes → Bytes
 from_first begins [] = []
 from_first begins (b ∷ bs) = if begins b then b ∷ bs else from_first begins bs
 
--- a text without the blanks that begin it
+-- a text without its leading blanks
 abbrev pub after_blanks : Bytes → Bytes
 after_blanks text = from_first (λ b. not (is_blank b)) text
 
--- a text without the comma that begins it, if one does
+-- a text without its leading comma, if it has one
 abbrev pub after_comma : Bytes → Bytes
 after_comma [] = []
 after_comma (b ∷ bs) = if is_comma b then bs else b ∷ bs
@@ -49,23 +49,23 @@ is_comment (b ∷ bs) = (b == 42) && begins_slash bs
     begins_slash [] = false
     begins_slash (c ∷ cs) = c == 47
 
--- the word of a starred line
+-- the word of a starred line: what follows the star, up to the first blank or comma
 abbrev pub word : Bytes → Bytes
 word line = up_to ends_word (drop 1 line)
 
--- what stands behind a line's word and its lead: the fields and the remark
+-- the fields and the remark: what follows the word and at most one comma, blanks dropped
 abbrev pub body : Bytes → Bytes
 body line = after_blanks (after_comma (after_blanks (from_first ends_word (drop 1 line))))
 
--- the field in a piece between two commas
+-- the field of a piece between two commas
 abbrev pub field : Bytes → Bytes
 field piece = up_to is_blank (after_blanks piece)
 
--- what stands in a piece behind its field and the blanks there
+-- what follows the field of a piece, blanks dropped
 abbrev pub remark : Bytes → Bytes
 remark piece = after_blanks (from_first is_blank (after_blanks piece))
 
--- a field of each piece; the first remark ends the fields
+-- the field of each piece; a piece with a remark is the last
 abbrev pub fields_of : List Bytes → List Bytes
 fields_of [] = []
 fields_of (piece ∷ pieces) = if length (remark piece) == 0 then field piece ∷ fields_of pieces else field piece ∷ []

@@ -1,4 +1,4 @@
--- How a `Name` keeps its bytes: at the front of an array, with zeros behind.
+-- How a `Name` stores its bytes: at the front of an array, padded with zeros.
 use Rattle.std.specs.Prelude.{◌≡◌, ℕ, ◌-◌, ◌≤◌, ◌++◌, length, take, drop, replicate}
 use Rattle.std.proofs.Common.{arith}
 use Rattle.std.proofs.lemmas.Grind.{common_steps}
@@ -9,7 +9,7 @@ use Rattle.upd_text.specs.Units.{Bytes}
 abbrev pub shown : Inside → Bytes
 shown n = take n.len n.bytes
 
--- nine bytes, of which those behind the name are zeros
+-- nine bytes; those after the name are zeros
 pub record IsPadded (n : Inside) : Type 0 where
   pub array : length n.bytes ≡ 9
   pub short : n.len ≤ 9
@@ -22,7 +22,7 @@ inside_of name = record { bytes = name ++ replicate (9 - length name) 0; len = l
 same_inside : (bs cs : Bytes) (m n : ℕ) → bs ≡ cs → m ≡ n → (let a : Inside = record { bytes = bs; len = m } in a) ≡ record { bytes = cs; len = n }
 same_inside bs cs m n e f i = record { bytes = e i; len = f i }
 
--- a name gives its fields back
+-- the bytes of a name determine its fields
 pub fields_again : (n : Inside) → IsPadded n → inside_of (shown n) ≡ n
 fields_again n padded =
     let len : length (take n.len n.bytes) ≡ n.len = grind (arith, common_steps, padded.array, padded.short) in

@@ -1,4 +1,4 @@
--- Names and card references, as they are spelled.
+-- Names and card references: their spelling.
 use Rattle.std.specs.Prelude.{ℕ, ◌+◌, ◌-◌, ◌*◌, ◌^◌, ◌<◌, ◌==◌, nat_le, IsTrue, Bool, not, ◌&&◌, ◌||◌, if◌then◌else◌, [], ◌∷◌, ◌++◌, length, slice_index, codes}
 use Rattle.std.specs.Prelude.{decimal, Option, Some, None}
 use Rattle.std.specs.Str.{bytes_eq}
@@ -19,7 +19,7 @@ is_digit b = is_between 48 57 b
 abbrev pub is_name_byte : Byte → Bool
 is_name_byte b = is_between 65 90 b || is_digit b || list_any (λ c. c == b) (codes "+-*/()$=")
 
--- a name: 1 to 9 of these bytes, and not `*` alone
+-- a name: 1 to 9 of these bytes, but not the single `*`
 abbrev pub is_name : Bytes → Bool
 is_name text = is_between 1 MAX_NAME_BYTES (length text) && list_all is_name_byte text && not (bytes_eq text (codes "*"))
 
@@ -31,7 +31,7 @@ yank_name = codes "YANK$$$"
 abbrev pub is_card_number : Bytes → Bool
 is_card_number digits = is_between 1 MAX_NUMBER_DIGITS (length digits) && list_all is_digit digits && not (slice_index digits 0 == 48)
 
--- the number that digits spell behind those of n
+-- the number that digits spell when they follow the digits of n
 abbrev pub number_behind : ℕ → Bytes → ℕ
 number_behind n [] = n
 number_behind n (digit ∷ digits) = number_behind (10 * n + (digit - 48)) digits

@@ -11,7 +11,7 @@ use Rattle.upd_text.specs.declared.card_ref.CardRef.{CardRef}
 abbrev pub is_same_reference : CardRef → CardRef → Bool
 is_same_reference = (compared.ghosts).eq
 
--- the order of references, as it is derived
+-- the order of references, as derived
 abbrev pub card_order : CardRef → CardRef → Ordering
 card_order = (ordered.ghosts).cmp
 

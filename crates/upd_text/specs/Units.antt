@@ -1,4 +1,4 @@
--- What a number stands for, and a list of numbers.
+-- Names for numbers and lists of numbers, by what they count.
 use Rattle.std.specs.Prelude.{ℕ, List}
 
 -- a byte

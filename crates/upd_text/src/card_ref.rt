@@ -1,4 +1,4 @@
-//! Card references: how they are read, written and ordered.
+//! Card references: reading, writing and order.
 
 ghost use Rattle.std.specs.Prelude.{◌≡◌, ◌↔◌, ℕ, List, if◌then◌else◌, Option, Some, None, IfSome, IsTrue};
 ghost use Rattle.std.specs.List.{list_all};
@@ -22,7 +22,7 @@ pub struct CardRef {
 }
 
 impl CardRef {
-    /// Reads a card reference, in full.
+    /// Reads a whole field as a card reference.
     pub fn read(field: &[u8]) -> Option<CardRef>
         ensures { result ≡ card_of field.now }
     {
@@ -41,7 +41,7 @@ impl fmt::Display for CardRef {
     }
 }
 
-/// The number that digits spell, where they are a card's number.
+/// The number that the digits spell; None where they are not a card number.
 fn read_number(digits: &[u8]) -> Option<u32>
     ensures { result ≡ (if is_card_number digits.now then Some (number_behind 0 digits.now) else None) }
 {
@@ -61,14 +61,14 @@ fn is_card_number(digits: &[u8]) -> bool
         && digits[0] != b'0'
 }
 
-/// Whether a text has nothing but digits. A text of no bytes has.
+/// Whether a text consists of digits only; true for the empty text.
 pub fn all_digits(text: &[u8]) -> bool
     ensures { result ≡ list_all is_digit text.now }
 {
     text.iter().all(|byte| byte.is_ascii_digit())
 }
 
-/// The number that digits spell. It fits: there are 6 of them at most.
+/// The number that the digits spell. At most 6 digits, so it fits.
 fn value_of(digits: &[u8]) -> u32
     requires { IsTrue (is_card_number digits.now) }
     ensures { result ≡ number_behind 0 digits.now }
@@ -80,15 +80,16 @@ fn value_of(digits: &[u8]) -> u32
     number
 }
 
-/// A card reference is read from the one text that it is written as, and from no other.
+/// Reading and writing card references round-trips: each reference is read from exactly the one text that it is
+/// written as.
 pub fn card_references_are_read_from_one_text()
     ensures written { (field : List ℕ) → IfSome (card_of field) (λ card. field ≡ card_text card) }
     ensures spelled { (field : List ℕ) → IfSome (card_of field) IsReference }
     ensures read_back { (card : CardRef) → IsReference card → card_of (card_text card) ≡ Some card }
 {}
 
-/// References are ordered by the bytes of their names, then by their numbers, and are equal by this order exactly where
-/// they are the same.
+/// References are ordered by the bytes of their names, then by number. Two are equal in this order exactly when they
+/// are the same.
 pub fn card_references_are_ordered_by_name()
     ensures order { (a b : CardRef) → card_order a b ≡ by_name a b }
     ensures equality { (a b : CardRef) → is_same_reference a b ≡ is_eq (card_order a b) }

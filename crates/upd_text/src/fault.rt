@@ -1,4 +1,4 @@
-//! Refusals: the 33 kinds, and where a refusal was met.
+//! Refusals: the 33 kinds, and where each was met.
 
 ghost use Rattle.std.specs.Prelude.{◌≡◌};
 ghost use Rattle.upd_text.specs.Faults.{fault_at, fault_name, fault_number};
@@ -16,19 +16,19 @@ pub enum FaultKind {
     TooManyLines,
     /// A byte that no line may have: other than 0x20 to 0x7E and the tab.
     BadByte,
-    /// A line of more than 80 bytes without its trailing blanks.
+    /// A line of more than 80 bytes, trailing blanks not counted.
     LineLong,
-    /// A field that is no name, pair or range of names.
+    /// A field that is not a name, a pair or a range of names.
     BadName,
-    /// A field that is no card reference.
+    /// A field that is not a card reference.
     BadCard,
     /// A wrong number of fields, an empty field, a second field of `*COMDECK` other than `NOPROP`.
     BadField,
-    /// A correction or yank with no set in hand.
+    /// A correction or yank with no current set.
     NoIdent,
-    /// Text with no place to go.
+    /// Text with no insertion point.
     TextNowhere,
-    /// A new ident whose name a held ident has.
+    /// A new ident with the name of a held ident.
     NameTaken,
     /// No held ident of that name.
     IdentUnknown,
@@ -42,13 +42,13 @@ pub enum FaultKind {
     DeckCard,
     /// Text that would go into `YANK$$$`.
     YankText,
-    /// A yank of an ident that isn't older than its set.
+    /// A yank of an ident that isn't older than the current set.
     YankSelf,
-    /// `YANK$$$` as a name where it may not stand.
+    /// `YANK$$$` as a name where it isn't allowed.
     Reserved,
-    /// A limit of the library would be passed.
+    /// The run would exceed a limit of the library.
     Full,
-    /// A call of what is no held common deck.
+    /// A call whose name is not a held common deck.
     CallUnknown,
     /// A call at depth 9.
     CallDepth,
@@ -64,9 +64,9 @@ pub enum FaultKind {
     RunChanged,
     /// A run whose number is at or below the site's settled mark.
     Settled,
-    /// Want of memory; the call can be made again.
+    /// Out of memory; the call can be repeated.
     NoMemory,
-    /// The store failed, or the file is no library of the present schema.
+    /// The store failed, or the file is not a library of the current schema.
     Store,
     /// A malformed frame or request, no route, or a method that the route doesn't have.
     BadFrame,
@@ -74,19 +74,19 @@ pub enum FaultKind {
     CutFrame,
     /// The reader, an accept or a bind failed.
     Read,
-    /// The writer failed or took nothing.
+    /// The writer failed or accepted no bytes.
     Write,
 }
 
 impl FaultKind {
-    /// The number by which replies name it.
+    /// The number of the kind in replies.
     pub fn number(self) -> u32
         ensures { result ≡ fault_number self }
     {
         self as u32
     }
 
-    /// The word by which replies name it.
+    /// The name of the kind in replies.
     pub fn name(self) -> &'static str
         ensures { result.now ≡ fault_name self }
     {
@@ -127,7 +127,7 @@ impl FaultKind {
         }
     }
 
-    /// The refusal at a line of a run, counted from 1. Want of memory has no line.
+    /// The refusal at a line of a run, counted from 1. Out of memory has no line: it is at 0.
     pub fn at_line(self, number: u32) -> Fault
         ensures { result ≡ fault_at self number }
     {
@@ -137,7 +137,7 @@ impl FaultKind {
         }
     }
 
-    /// The refusal where no line is to blame: it is at 0.
+    /// The refusal where no line is at fault: it is at 0.
     pub fn without_line(self) -> Fault
         ensures { result ≡ fault_at self 0 }
     {
@@ -166,7 +166,7 @@ impl<T: Drop> From<AllocFailed<T>> for FaultKind {
 #[error("{} ({}) at {at}", .kind.name(), .kind.number())]
 pub struct Fault {
     pub kind: FaultKind,
-    /// A line of a run counted from 1, a frame of a spool, a schema version when a library is opened, and else 0.
+    /// A line of a run counted from 1, a frame of a spool, a schema version where a library is opened; otherwise 0.
     pub at: u32,
 }
 

@@ -1,6 +1,7 @@
-//! The words of the program library: names, card references, the words and fields of a line, refusals and limits.
+//! The text layer of the program library: names, card references, words and fields of a line, refusals and limits.
 //!
-//! Whoever reads a run, keeps a library or follows calls speaks of these; `docs/rules.md` has their rules.
+//! `upd_deck`, `upd_core` and `upd_compile` build on these types; `docs/rules.md` has their rules. Each call that
+//! returns an `AllocError` fails only when memory runs out.
 #![tactic(auto)]
 
 pub mod card_ref;

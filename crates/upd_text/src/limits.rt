@@ -6,7 +6,7 @@ pub const MAX_RUN_BYTES: usize = 65_536;
 /// The most lines of a run, comments included.
 pub const MAX_RUN_LINES: usize = 2_000;
 
-/// The longest line, in bytes, once its trailing blanks are dropped.
+/// The longest line, in bytes, trailing blanks not counted.
 pub const MAX_LINE_BYTES: usize = 80;
 
 /// The longest name, in bytes.
@@ -15,7 +15,7 @@ pub const MAX_NAME_BYTES: usize = 9;
 /// The most digits of a card's number in a card reference.
 pub const MAX_NUMBER_DIGITS: usize = 6;
 
-/// The most idents held at a time.
+/// The most idents held at the same time.
 pub const MAX_HELD: usize = 4_096;
 
 /// The most idents ever introduced.

@@ -1,7 +1,6 @@
-//! How a line is cut into its word and its fields.
+//! Lines: cutting a line into its word and its fields.
 //!
-//! Words and fields are parts of the line that they were read from. Nothing here tests which bytes a line has or how
-//! long it is.
+//! Words and fields are slices of the line. These calls don't check the bytes or the length of a line.
 
 ghost use Rattle.std.specs.Prelude.{◌≡◌, ◌+◌, ◌≤◌, ◌==◌, [], ◌∷◌, length, map, take, drop, position, is_some, IfNone};
 ghost use Rattle.std.specs.Prelude.{IfSome, IfOk};
@@ -11,14 +10,14 @@ ghost use Rattle.upd_text.specs.Lines.{is_blank, is_call, is_comment, is_starred
 
 use std::alloc::{AllocError, Global};
 
-/// Whether a star begins the line.
+/// Whether the line begins with a star.
 pub fn is_starred(line: &[u8]) -> bool
     ensures { result ≡ is_starred line.now }
 {
     matches!(line, [b'*', ..])
 }
 
-/// Whether `*/` begins the line.
+/// Whether the line begins with `*/`.
 pub fn is_comment(line: &[u8]) -> bool
     ensures { result ≡ is_comment line.now }
 {
@@ -32,7 +31,7 @@ pub fn is_call(line: &[u8]) -> bool
     is_starred(line) && matches!(word(line), b"CALL" | b"CA")
 }
 
-/// What stands behind the star, up to the first blank or comma.
+/// The word of a starred line: the bytes after the star, up to the first blank or comma.
 pub fn word(line: &[u8]) -> &[u8]
     ensures { result.now ≡ word line.now }
 {
@@ -40,7 +39,7 @@ pub fn word(line: &[u8]) -> &[u8]
     &text[..end_of_word(text)]
 }
 
-/// The first field of a starred line; empty where there is none.
+/// The first field of a starred line; empty where it has no field.
 pub fn called(line: &[u8]) -> &[u8]
     ensures { result.now ≡ called line.now }
 {
@@ -50,7 +49,7 @@ pub fn called(line: &[u8]) -> &[u8]
     field
 }
 
-/// The fields of a starred line, up to its remark. Memory alone can fail.
+/// The fields of a starred line, up to its remark.
 pub fn fields<'a>(alloc: Global, line: &'a [u8]) -> Result<Vec<&'a [u8]>, AllocError>
     ensures { IfOk result (λ found. map (λ x. x.now) found.items ≡ fields line.now) }
 {
@@ -72,7 +71,7 @@ pub fn fields<'a>(alloc: Global, line: &'a [u8]) -> Result<Vec<&'a [u8]>, AllocE
     Ok(found)
 }
 
-/// What stands before the first of a byte and behind it.
+/// The bytes before and after the first occurrence of a byte; None where it does not occur.
 pub fn split_once(text: &[u8], at: u8) -> Option<(&[u8], &[u8])>
     ensures found { is_some result ≡ list_any (λ b. b == at) text.now }
     ensures before { IfSome result (λ parts. parts.0.now ≡ before_first (λ b. b == at) text.now) }
@@ -102,7 +101,7 @@ fn behind_star(line: &[u8]) -> &[u8]
     }
 }
 
-/// What stands behind a line's word and its lead: the fields and the remark.
+/// The fields and the remark of a starred line: what follows its word and at most one comma, blanks dropped.
 fn body(line: &[u8]) -> &[u8]
     ensures { result.now ≡ body line.now }
 {
@@ -111,7 +110,7 @@ fn body(line: &[u8]) -> &[u8]
     after_blanks(after_comma(after_blanks(lead)))
 }
 
-/// The field between two commas, and what stands behind it.
+/// The field of a piece between two commas, and what follows it.
 fn split_field(piece: &[u8]) -> (&[u8], &[u8])
     ensures field { result.0.now ≡ field piece.now }
     ensures behind { after_blanks result.1.now ≡ remark piece.now }

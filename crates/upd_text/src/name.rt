@@ -15,8 +15,8 @@ use std::cmp::Ordering;
 use std::marker::Model;
 use std::{fmt, str};
 
-/// A name of an ident: 1 to 9 of `A-Z 0-9 + - * / ( ) $ =`, and not `*` alone, as `read` makes them; or no bytes, as
-/// `none` makes, where an ident isn't listed.
+/// A name of an ident: 1 to 9 of `A-Z 0-9 + - * / ( ) $ =`, but not the single `*`. `read` makes these. `none` makes
+/// the empty name, for an ident that isn't in the directory.
 #[derive(Clone, Copy, Debug)]
 pub struct Name {
     bytes: [u8; 9],
@@ -40,7 +40,7 @@ impl Model for Name {
 }
 
 impl Name {
-    /// Reads a name, in full.
+    /// Reads a whole text as a name.
     pub fn read(text: &[u8]) -> Option<Name>
         ensures name { IsSome result ↔ IsTrue (is_name text.now) }
         ensures value { IfSome result (λ n. n ≡ text.now) }
@@ -52,14 +52,14 @@ impl Name {
         }
     }
 
-    /// The name of the deck of yank cards. It is reserved: no ident has it.
+    /// The name of the deck of yank cards, `YANK$$$`. It is reserved: no ident has it.
     pub fn yank() -> Name
         ensures { result ≡ yank_name }
     {
         Name::of(b"YANK$$$")
     }
 
-    /// What stands for the name of an ident that isn't listed: it has no bytes, so it is equal to no name that is read.
+    /// The empty name, for an ident that isn't in the directory. No name that `read` returns equals it.
     pub fn none() -> Name
         ensures { result ≡ [] }
     {
@@ -78,7 +78,7 @@ impl Name {
         }
     }
 
-    /// Its bytes, as it is spelled.
+    /// The bytes of the name.
     pub fn as_bytes(&self) -> &[u8]
         ensures { result.now ≡ self.now }
     {
@@ -86,7 +86,7 @@ impl Name {
     }
 }
 
-/// Whether a text is spelled as a name is.
+/// Whether a text is a name.
 fn is_name(text: &[u8]) -> bool
     ensures { result ≡ is_name text.now }
 {

@@ -1,4 +1,4 @@
--- What row changes that are written out make of the tables of a library.
+-- The tables of a library after row changes that are written out.
 use Rattle.std.specs.Prelude.{ℕ, ◌==◌, nat_lt, Bool, true, false, ◌&&◌, ◌||◌, if◌then◌else◌, List, [], ◌∷◌, ◌++◌, Result}
 use Rattle.upd_core.specs.declared.ident.Ident.{Ident}
 use Rattle.upd_core.specs.declared.ident.Kind.{Kind}
@@ -8,7 +8,7 @@ use Rattle.upd_records.specs.Rows.{CardRow, EntryRow, Rows, TargetRow, rows_of}
 use Rattle.upd_records.specs.Changes.{ChangeView, done_all}
 use Rattle.upd_worked.specs.Worked.{asked}
 
--- whether a key comes before another: by their first numbers that differ, or as its beginning
+-- whether a key comes before another: by their first numbers that differ, or as a prefix of it
 abbrev pub is_less : List ℕ → List ℕ → Bool
 is_less [] [] = false
 is_less [] (m ∷ ms) = true
@@ -16,7 +16,7 @@ is_less (n ∷ ns) [] = false
 is_less (n ∷ ns) (m ∷ ms) = nat_lt n m || ((n == m) && is_less ns ms)
 
 module _ {A : Type 0} (key : A → List ℕ) where
-  -- a row put before the first one of a greater key
+  -- a row inserted before the first one with a greater key
   abbrev pub placed : A → List A → List A
   placed x [] = x ∷ []
   placed x (y ∷ ys) = if is_less (key x) (key y) then x ∷ y ∷ ys else y ∷ placed x ys
@@ -28,19 +28,19 @@ module _ {A : Type 0} (key : A → List ℕ) where
 
 -- ---- the keys of the tables
 
--- an ident's key: its age
+-- an ident's key: its serial
 abbrev pub ident_key : Ident → List ℕ
 ident_key i = i.age ∷ []
 
--- a card's key: its deck and its place there
+-- a card's key: its deck and its position there
 abbrev pub card_key : CardRow → List ℕ
 card_key r = r.deck ∷ r.pos ∷ []
 
--- an entry's key: the name and the number of its card, with 0 between them, and its place in the history
+-- an entry's key: the name and the number of its card, with 0 between them, and its index in the history
 abbrev pub entry_key : EntryRow → List ℕ
 entry_key r = r.card.name ++ 0 ∷ r.card.number ∷ r.ord ∷ []
 
--- a target's key: the name and the number of its card, with 0 between them, and its place among the card's targets
+-- a target's key: the name and the number of its card, with 0 between them, and its index among the card's targets
 abbrev pub target_key : TargetRow → List ℕ
 target_key r = r.card.name ++ 0 ∷ r.card.number ∷ r.ord ∷ []
 
@@ -63,7 +63,7 @@ tables_after runs = asked runs (λ l. in_order (rows_of l))
 abbrev pub changed_after : List (List ℕ) → List ChangeView → Result Rows Fault
 changed_after runs changes = asked runs (λ l. in_order (done_all changes (rows_of l)))
 
--- an ident that is held and doesn't stop changes
+-- a held ident without NOPROP
 abbrev pub brought : List ℕ → ℕ → Kind → Ident
 brought name age kind = record { name = name; age = age; kind = kind; noprop = false; held = true }
 

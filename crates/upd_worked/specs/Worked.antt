@@ -1,4 +1,4 @@
--- Runs given as texts, one after the other, and what comes of them.
+-- Runs given as texts, applied in order, and their results.
 use Rattle.std.specs.Prelude.{ℕ, List, [], ◌∷◌, ◌++◌, count_by, codes, Result, Ok, Err}
 use Rattle.std.specs.List.{flat_map, list_any}
 use Rattle.upd_text.specs.declared.card_ref.CardRef.{CardRef}
@@ -23,15 +23,15 @@ use Rattle.upd_compile.specs.Walk.{WalkEvent, Line, Follow, Depth, Unknown, walk
 
 -- ---- runs
 
--- the run that brings deck A with the lines ONE, TWO and THREE
+-- the run that introduces deck A with the lines ONE, TWO and THREE
 abbrev pub deck_a : List ℕ
 deck_a = codes "*DECK A\nONE\nTWO\nTHREE\n"
 
--- what a run makes of a library
+-- the result of a run on a library
 abbrev pub ran : LibraryView → List ℕ → Result Reached Fault
 ran l run = reading run >>= (λ lines. applied lines l)
 
--- the library after runs, the first applied to this library and each further one to what the one before it left; or the first refusal
+-- the library after runs that are applied in order, or the first refusal
 abbrev pub ran_from : LibraryView → List (List ℕ) → Result LibraryView Fault
 ran_from l [] = Ok l
 ran_from l (run ∷ runs) = ran l run >>= (λ reached. ran_from reached.library runs)
@@ -46,7 +46,7 @@ refused kind at = Err (record { kind = kind; at = at })
 
 -- ---- compile files
 
--- the cards of a walk, each with a blank behind
+-- the cards of a walk, each followed by a blank
 abbrev pub event_card : List Ident → WalkEvent → List ℕ
 event_card idents (Line c) = card_text (record { name = name_of idents c.ident; number = c.number }) ++ 32 ∷ []
 event_card idents Follow = []
@@ -84,18 +84,18 @@ changed_by runs run = do
 
 -- ---- listings and counts
 
--- what a listing, a count or another question says after runs
+-- the value of a listing, a count or another question after runs
 abbrev pub asked : {A : Type 0} → List (List ℕ) → (LibraryView → A) → Result A Fault
 asked runs question = after runs >>= (λ l. Ok (question l))
 
--- what a question that may be refused says after runs
-abbrev pub row_changes : {A : Type 0} → List (List ℕ) → (LibraryView → Result A Fault) → Result A Fault
-row_changes runs question = after runs >>= question
+-- the value of a question that may be refused, after runs
+abbrev pub asked_or_refused : {A : Type 0} → List (List ℕ) → (LibraryView → Result A Fault) → Result A Fault
+asked_or_refused runs question = after runs >>= question
 
 -- a card reference
 abbrev pub card : List ℕ → ℕ → CardRef
 card name number = record { name = name; number = number }
 
--- how many live yank cards have a target
+-- the number of live yank cards that have a target
 abbrev pub live_yanks_on : Target → LibraryView → ℕ
 live_yanks_on t l = count_by (λ y. list_any (is_same t) y.targets) (live_cards l.yanks)

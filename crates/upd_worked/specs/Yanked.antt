@@ -18,7 +18,7 @@ yanked = replaced ++ codes "*IDENT Y\n*YANK X\n" ∷ []
 abbrev pub yank_yanked : List (List ℕ)
 yank_yanked = yanked ++ codes "*IDENT Z\n*YANK Y\n" ∷ []
 
--- one run that brings a set, a deck and a set that yanks deck A
+-- one run that introduces a set, a deck and a set that yanks deck A
 abbrev pub grown_by_three : List (List ℕ)
 grown_by_three = deck_a ∷ codes "*IDENT X\n*INSERT A.4\nEND\n*DECK B\nBEE\n*IDENT Y\n*YANK A\n" ∷ []
 
@@ -34,7 +34,7 @@ inserted = deck_a ∷ codes "*IDENT X\n*INSERT A.2\nNEW\n" ∷ []
 abbrev pub with_common : List ℕ
 with_common = codes "*COMDECK C\nCEE\n*DECK A\n*CALL C\n*DECK B\nBEE\n"
 
--- the same with a common deck that passes no change on
+-- the same, where the common deck has NOPROP
 abbrev pub with_noprop : List ℕ
 with_noprop = codes "*COMDECK C,NOPROP\nCEE\n*DECK A\n*CALL C\n*DECK B\nBEE\n"
 
@@ -42,7 +42,7 @@ with_noprop = codes "*COMDECK C,NOPROP\nCEE\n*DECK A\n*CALL C\n*DECK B\nBEE\n"
 abbrev pub called_by_two : List ℕ
 called_by_two = codes "*COMDECK C\nCEE\n*COMDECK D\n*CALL C\nDEE\n*DECK A\n*CALL D\n*DECK B\nBEE\n"
 
--- the same where the one in the middle passes no change on
+-- the same, where the common deck in the middle has NOPROP
 abbrev pub noprop_between : List ℕ
 noprop_between = codes "*COMDECK C\nCEE\n*COMDECK D,NOPROP\n*CALL C\nDEE\n*DECK A\n*CALL D\n*DECK B\nBEE\n"
 
@@ -50,7 +50,7 @@ noprop_between = codes "*COMDECK C\nCEE\n*COMDECK D,NOPROP\n*CALL C\nDEE\n*DECK 
 abbrev pub yanked_in_decks : List (List ℕ)
 yanked_in_decks = in_two_decks ++ codes "*IDENT Y\n*SELYANK A.X,B.X\n*YANKDECK B\n" ∷ []
 
--- a common deck that a set has grown, and the deck that calls it
+-- a common deck into which a set has inserted a line, and the deck that calls it
 abbrev pub grown_common : List (List ℕ)
 grown_common = with_common ∷ codes "*IDENT X\n*INSERT C.2\nMORE\n" ∷ []
 

@@ -1,4 +1,4 @@
-//! The row changes of small runs, written out: carried out on the tables before, they make the tables after.
+//! The row changes of small runs, written out. Carried out on the tables before, they make the tables after.
 ghost use Rattle.std.specs.Prelude.{◌≡◌, ◌++◌, [], ◌∷◌, codes, pos, negsuc};
 ghost use Rattle.upd_core.specs.declared.ident.Kind.TheVariants.{Set};
 ghost use Rattle.upd_core.specs.declared.target.Target.TheVariants as target;
@@ -8,7 +8,7 @@ ghost use Rattle.upd_worked.specs.Changed.{brought, changed_after, off, on, tabl
 ghost use Rattle.upd_worked.specs.Worked.{card, deck_a};
 ghost use Rattle.upd_worked.specs.Yanked.{grown_by_three, inserted, replaced, yank_yanked, yanked};
 
-/// Texts at one place move what stands behind them once.
+/// Texts at one place move the cards after them once.
 pub fn insertions()
     ensures nearer { tables_after (inserted ++ codes "*IDENT Y\n*INSERT A.2\nYY\n" ∷ [])
         ≡ changed_after inserted
@@ -30,7 +30,7 @@ pub fn insertions()
         ∷ EntryNew (card (codes "X") 1) 0 (on 2) ∷ []) }
 {}
 
-/// A deletion is one entry more, also on a card that is off and on a yank card.
+/// A deletion adds one entry, also on a card that is off and on a yank card.
 pub fn deletions()
     ensures again { tables_after (replaced ++ codes "*IDENT Y\n*DELETE A.2\n" ∷ [])
         ≡ changed_after replaced
@@ -42,7 +42,7 @@ pub fn deletions()
         ∷ EntryNew (card (codes "Z") 1) 1 (off 5) ∷ []) }
 {}
 
-/// A yank is a card of the deck of age 0 with its targets.
+/// A yank is a card of the deck with serial 0, with its targets.
 pub fn yanks()
     ensures { tables_after yanked
         ≡ changed_after replaced
@@ -52,8 +52,8 @@ pub fn yanks()
         ∷ TargetNew (card (codes "Y") 1) 0 (target.Set 2) ∷ []) }
 {}
 
-/// A purge takes its cards along, and its entries from cards that stay: these lose all their entries, and get those
-/// that are left.
+/// A purge deletes its cards, and its entries on other cards: all entries of such a card are deleted, and those that
+/// stay are inserted again.
 pub fn purges()
     ensures set { tables_after (yanked ++ codes "*PURGE X\n" ∷ [])
         ≡ changed_after yanked
@@ -63,7 +63,7 @@ pub fn purges()
         ∷ CardGone (card (codes "X") 1)
         ∷ CardsMoved 1 3 (negsuc 0)
         ∷ EntryNew (card (codes "A") 2) 0 (on 1) ∷ []) }
-    // A set, a deck and a yank card go.
+    // A set, a deck and a yank card are deleted.
     ensures all { tables_after (grown_by_three ++ codes "*PURGE X,*\n" ∷ [])
         ≡ changed_after grown_by_three
         (IdentPurged 2
@@ -80,7 +80,7 @@ pub fn purges()
         ∷ CardGone (card (codes "B") 2) ∷ []) }
 {}
 
-/// A name that comes again is another ident: its cards go and come.
+/// A purged name that is introduced again is another ident: its old cards are deleted, its new ones inserted.
 pub fn names_again()
     ensures later { tables_after (yanked ++ codes "*PURGE X\n" ∷ codes "*IDENT X\n*DELETE A.3\n" ∷ [])
         ≡ changed_after (yanked ++ codes "*PURGE X\n" ∷ [])

@@ -7,10 +7,10 @@ ghost use Rattle.upd_worked.specs.Worked.{active_after, after, changed_by, compi
 ghost use Rattle.upd_worked.specs.Yanked.{called_by_two, chained, grown_common, noprop_between, with_common};
 ghost use Rattle.upd_worked.specs.Yanked.{with_noprop};
 
-/// Which decks the modes choose.
+/// The decks that each mode chooses.
 pub fn modes()
     ensures new { compiled Normal [] with_common ≡ Ok (codes "C.2 B.2 ") }
-    // A change of a common deck is passed on to its callers, unless it is marked NOPROP.
+    // A change of a common deck is passed on to its callers, unless the common deck has NOPROP.
     ensures changed { changed_by (with_common ∷ []) (codes "*IDENT X\n*INSERT C.2\nMORE\n") ≡ Ok (1 ∷ []) }
     ensures passed_on { compiled Normal (with_common ∷ []) (codes "*IDENT X\n*INSERT C.2\nMORE\n")
         ≡ Ok (codes "C.2 X.1 ") }
@@ -18,17 +18,17 @@ pub fn modes()
     ensures quick { compiled Quick (with_common ∷ []) (codes "*COMPILE B\n") ≡ Ok (codes "B.2 ") }
 {}
 
-/// Chains of two calls: a change is passed on along them, unless a common deck on the way is marked NOPROP.
+/// Chains of two calls: a change is passed on along them, unless a common deck on the way has NOPROP.
 pub fn chains()
     ensures passed_on { compiled Normal (called_by_two ∷ []) (codes "*IDENT X\n*INSERT C.2\nMORE\n")
         ≡ Ok (codes "C.2 X.1 D.3 ") }
     ensures not_passed_on { compiled Normal (noprop_between ∷ []) (codes "*IDENT X\n*INSERT C.2\nMORE\n") ≡ Ok [] }
-    // The calls of a marked deck are followed as ever.
+    // The calls in a deck with NOPROP are followed all the same.
     ensures followed { compiled Full (noprop_between ∷ []) (codes "*IDENT X\n*INSERT C.2\nMORE\n")
         ≡ Ok (codes "C.2 X.1 D.3 B.2 ") }
 {}
 
-/// Decks named for the compile file are looked at when every line of the run has acted.
+/// Decks named for the compile file are looked up after all lines of the run have been applied.
 pub fn decks_named()
     ensures backwards { after (with_common ∷ codes "*COMPILE B.A\n" ∷ []) ≡ refused RangeOrder 1 }
     ensures reserved { after (with_common ∷ codes "*COMPILE YANK$$$\n" ∷ []) ≡ refused Reserved 1 }
@@ -37,15 +37,15 @@ pub fn decks_named()
     ensures range { compiled Quick (with_common ∷ []) (codes "*COMPILE A.B\n") ≡ Ok (codes "C.2 B.2 ") }
 {}
 
-/// A yanked common deck: its own cards go, or all of them.
+/// Yanks of a common deck: its own cards are out of use, or all of its cards.
 pub fn yanked_commons()
     ensures grown { active_after grown_common ≡ Ok (codes "C.2 X.1 B.2 ") }
-    // The cards that sets have put into it stay.
+    // The cards that sets have inserted into it stay.
     ensures ident { active_after (grown_common ++ codes "*IDENT Y\n*YANK C\n" ∷ []) ≡ Ok (codes "X.1 B.2 ") }
     ensures deck { active_after (grown_common ++ codes "*IDENT Y\n*YANKDECK C\n" ∷ []) ≡ Ok (codes "B.2 ") }
 {}
 
-/// Calls go eight deep.
+/// Calls may be eight deep.
 pub fn depth()
     ensures eight { compiled Full [] (chained ++ codes "*COMDECK C8\nDEEP\n") ≡ Ok (codes "C8.2 ") }
     ensures nine { file_after Full [] (chained ++ codes "*COMDECK C8\n*CALL C9\n*COMDECK C9\nDEEP\n")

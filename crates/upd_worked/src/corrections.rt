@@ -18,20 +18,20 @@ pub fn compile_lines()
     }) }
 {}
 
-/// Where text goes.
+/// Where text is inserted.
 pub fn insertions()
-    // A later insertion at the same place stands nearer to the card.
+    // A later insertion at the same place is nearer to the card.
     ensures nearer { active_after (deck_a ∷ codes "*IDENT X\n*INSERT A.2\nXX\n" ∷ codes "*IDENT Y\n*INSERT A.2\nYY\n"
         ∷ [])
         ≡ Ok (codes "A.2 Y.1 X.1 A.3 A.4 ") }
-    // Several texts stand in the order given, before a card too.
+    // Several texts are in the order given, before a card too.
     ensures before { active_after (deck_a ∷ codes "*IDENT X\n*BEFORE A.3\nXX\nXY\n" ∷ [])
         ≡ Ok (codes "A.2 X.1 X.2 A.3 A.4 ") }
-    // Text may go behind a deck's first card.
+    // Text may follow a deck's first card.
     ensures top { active_after (deck_a ∷ codes "*DECK B\nBEE\n" ∷ codes "*IDENT X\n*INSERT A.1\nTOP\n" ∷ [])
         ≡ Ok (codes "X.1 A.2 A.3 A.4 B.2 ") }
-    // Text behind a deletion goes behind the last card. Words may be short, blanks may stand beside a comma, and a remark
-    // ends the fields; a comment is no card, and an unknown word is text.
+    // Text after a deletion follows the last card. Words may be short, blanks may surround a comma, and a remark ends
+    // the fields. A comment is not a card, and an unknown word is text.
     ensures replaced { active_after (deck_a ∷ codes "*ID X cleanup\n*D A.2 , A.3 old lines\n*/ note\nNEW\n*FOO\n" ∷ [])
         ≡ Ok (codes "X.1 X.2 A.4 ") }
     // A deleted card may be restored, and inactive cards may be named.
@@ -45,7 +45,7 @@ pub fn refusals()
     ensures backwards { after (deck_a ∷ codes "*IDENT X\n*DELETE A.4,A.2\n" ∷ []) ≡ refused RangeOrder 2 }
     ensures two_decks { after (deck_a ∷ codes "*DECK B\nBEE\n" ∷ codes "*IDENT X\n*DELETE A.2,B.2\n" ∷ [])
         ≡ refused RangeOrder 2 }
-    // A range that holds a deck's first card, too, is refused for its order.
+    // A range that includes a deck's first card is refused for its order first.
     ensures backwards_to_first { after (deck_a ∷ codes "*IDENT X\n*DELETE A.2,A.1\n" ∷ []) ≡ refused RangeOrder 2 }
     ensures two_decks_from_first { after (deck_a ∷ codes "*DECK B\nBEE\n" ∷ codes "*IDENT X\n*DELETE A.1,B.2\n" ∷ [])
         ≡ refused RangeOrder 2 }

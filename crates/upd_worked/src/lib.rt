@@ -1,8 +1,8 @@
-//! Worked examples: theorems by which the definitions of the other crates are held against what the rules say of small
+//! Worked examples: theorems that compare the definitions of the other crates with what the rules say of small
 //! libraries.
 //!
-//! Each function has an empty body, and each clause of it is one example, which computes from the texts of the runs. In
-//! the clauses deck A is the deck of three lines that `deck_a` brings.
+//! Each function has an empty body. Each clause of it is one example, which computes from the texts of the runs. In the
+//! clauses deck A is the deck of three lines that `deck_a` introduces.
 #![tactic(auto)]
 
 pub mod changes;

@@ -4,21 +4,21 @@ ghost use Rattle.upd_text.specs.declared.fault.FaultKind.TheVariants.{DeckUnknow
 ghost use Rattle.upd_text.specs.declared.fault.FaultKind.TheVariants.{YankText};
 ghost use Rattle.upd_core.specs.declared.target.Target.TheVariants.{Set};
 ghost use Rattle.upd_compile.specs.Listings.{card_listing, deck_listing, ident_listing, yank_listing};
-ghost use Rattle.upd_worked.specs.Worked.{active_after, after, asked, card, deck_a, live_yanks_on, refused, row_changes};
+ghost use Rattle.upd_worked.specs.Worked.{active_after, after, asked, card, deck_a, live_yanks_on, refused, asked_or_refused};
 ghost use Rattle.upd_worked.specs.Yanked.{replaced, yanked_in_decks, yanked_twice, yank_yanked};
 
-/// A yank takes back what a set did, for as long as it stands.
+/// A yank undoes what a set did, while the yank card is live.
 pub fn yanks()
     ensures corrected { active_after replaced ≡ Ok (codes "X.1 A.3 A.4 ") }
     ensures yanked { active_after (replaced ++ codes "*IDENT Z\n*YANK X\n" ∷ []) ≡ Ok (codes "A.2 A.3 A.4 ") }
-    ensures listed { row_changes (replaced ++ codes "*IDENT Z\n*YANK X\n" ∷ []) (deck_listing (codes "A"))
+    ensures listed { asked_or_refused (replaced ++ codes "*IDENT Z\n*YANK X\n" ∷ []) (deck_listing (codes "A"))
         ≡ Ok (codes "DECK A\nA A.1 *DECK A\nA A.2 ONE\nI X.1 NEW\nA A.3 TWO\nA A.4 THREE\n") }
     // Each deletion is an entry of its own, also on a card that is inactive already; the yank of one leaves the other.
-    ensures entries { row_changes (deck_a ∷ codes "*IDENT X\n*DELETE A.2\n" ∷ codes "*IDENT Y\n*DELETE A.2\n"
+    ensures entries { asked_or_refused (deck_a ∷ codes "*IDENT X\n*DELETE A.2\n" ∷ codes "*IDENT Y\n*DELETE A.2\n"
         ∷ codes "*IDENT Z\n*YANK X\n" ∷ [])
         (card_listing (card (codes "A") 2))
         ≡ Ok (codes "CARD A.2\nDECK A\nTEXT ONE\nSTATUS inactive\nENTRY A on\nENTRY X off taken\nENTRY Y off\n") }
-    // Inside one deck alone, and of a whole deck.
+    // Only in one deck, and of a whole deck.
     ensures in_a_deck { active_after (deck_a ∷ codes "*DECK B\nBEE\n"
         ∷ codes "*IDENT X\n*INSERT A.2\nXA\n*INSERT B.2\nXB\n"
         ∷ codes "*IDENT Y\n*SELYANK A.X\n" ∷ [])
@@ -55,7 +55,7 @@ pub fn yanks_of_yanks()
         ≡ Ok (codes "live Y.1 *YANK X\n set X\ndead Z.1 *YANK Y\n set Y\n") }
 {}
 
-/// The listing of yanks has a line for each target, and marks one of whose idents is purged.
+/// The listing of yanks has a line for each target, with the suffix `purged` where one of its idents is purged.
 pub fn listings()
     ensures targets { asked yanked_in_decks yank_listing
         ≡ Ok (codes "live Y.1 *SELYANK A.X,B.X\n setin X A\n setin X B\n"
@@ -72,7 +72,7 @@ pub fn listings()
 pub fn refusals()
     ensures itself { after (deck_a ∷ codes "*IDENT X\n*YANK X\n" ∷ []) ≡ refused YankSelf 2 }
     ensures range_to_itself { after (deck_a ∷ codes "*IDENT X\n*YANK A.X\n" ∷ []) ≡ refused YankSelf 2 }
-    // A range that runs backwards is refused for that, also where it names the set in hand.
+    // A range that runs backwards is refused for that, also where it names the current set.
     ensures backwards { after (deck_a ∷ codes "*IDENT X\n*YANK X.A\n" ∷ []) ≡ refused RangeOrder 2 }
     ensures second { after (deck_a ∷ codes "*IDENT X\n*YANK A,Q\n" ∷ []) ≡ refused IdentUnknown 2 }
     ensures directory { asked (deck_a ∷ []) ident_listing ≡ Ok (codes "1 A deck held\n") }

@@ -1,4 +1,4 @@
--- What a part of a library shows of a settling is what the whole one shows, where the decks left out are idle.
+-- A status update is the same on a part of a library as on the whole, where the decks left out are idle.
 use Rattle.std.proofs.Common.{◌≡◌, ◌+◌, Bool, true, false, not, cond, List, [], ◌∷◌, ◌++◌, map, length, None, inl, inr, refl, ap, sym, ◌∙◌}
 use Rattle.std.proofs.Common.{subst, arith}
 use Rattle.std.specs.List.{filter, flat_map, AllByRecursion}
@@ -98,9 +98,9 @@ same_cards out idents (d ∷ ds) none = go (out d.ident) refl (same_cards out id
         ∙ ap (λ ks. map (counted_card idents d.ident) d.cards ++ ks)
         (later (sym (ap (λ b. cards_of_decks (cond b (d ∷ gone) gone)) e) ∙ none))
 
--- ---- what is seen of a settling
+-- ---- what a status update sees
 
--- a library on which a settling shows what it shows on the one that the run reached
+-- a library on which a status update sees what it sees on the library after the run
 pub record Sees (run : List CardRef) (old new l : LibraryView) : Type 0 where
   pub idents : l.idents ≡ new.idents
   pub yanks : l.yanks ≡ new.yanks

@@ -1,4 +1,4 @@
--- What a test of some finds, and the deck that a card of an age's cards stands in.
+-- What a test of some finds, and the deck that has a card found by serial.
 use Rattle.std.proofs.Common.{◌≡◌, ℕ, zero, suc, Bool, true, false, List, [], ◌∷◌, slice_get, Option, Some, None, refl}
 use Rattle.std.specs.List.{list_any, find, Contains}
 use Rattle.std.proofs.lemmas.Bool.Decides.{Decides-eqb}

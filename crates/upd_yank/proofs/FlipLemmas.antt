@@ -1,4 +1,4 @@
--- Counts in place of the targets of live cards, and cards that nothing that flipped reaches.
+-- Counts in place of the targets of live cards, and cards that no flipped target reaches.
 use Rattle.std.proofs.Common.{◌≡◌, ℕ, ◌+◌, ◌<◌, Bool, true, false, not, ◌&&◌, ◌||◌, if◌then◌else◌, List, [], ◌∷◌, refl, ap, sym, ◌∙◌, arith}
 use Rattle.std.specs.Prelude.{◌==◌}
 use Rattle.std.specs.List.{list_any, filter, AllByRecursion}
@@ -76,7 +76,7 @@ good_is cs d c = λ i. stays_on (λ z. taken_is cs d z i) c.history
 pub status_is : (cs : List CardView) (d : ℕ) (c : CardView) → is_active (targets_of cs) d c ≡ is_active_by (count_on cs) d c
 status_is cs d c = λ i. good_is cs d c i && deck_is cs d i
 
--- ---- what nothing that flipped reaches stays as it was
+-- ---- a card that no flipped target reaches stays as it was
 
 pub same_stays : (f g : ℕ → Bool) (es : List Entry) → AllByRecursion (λ e. f e.ident ≡ g e.ident) es → stays_on f es ≡ stays_on g es
 same_stays f g es same = ap ends_on (kept es same)

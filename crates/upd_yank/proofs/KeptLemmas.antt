@@ -1,4 +1,4 @@
--- A card that a run didn't touch stood in its deck before, with the same history, and was what it would be by the counts before.
+-- A card that a run didn't touch was in its deck before, with the same history, and had the status that this gives by the counts before.
 use Rattle.std.proofs.Common.{◌≡◌, ℕ, zero, suc, ◌-◌, ◌<◌, Bool, true, false, not, ◌&&◌, List, [], ◌∷◌, map, slice_get, Some, inl, inr, refl, ap, sym, ◌∙◌}
 use Rattle.std.proofs.Common.{arith}
 use Rattle.std.specs.Prelude.{◌==◌, ◌⊎◌}
@@ -48,7 +48,7 @@ not_false : (b : Bool) → (not b ≡ true → true ≡ false) → b ≡ true
 not_false true h = refl
 not_false false h = absurd (let q = h refl in cc)
 
--- a card that isn't touched stood in its deck
+-- a card that isn't touched was in its deck
 pub untouched_stood : (old new : LibraryView) (d : DeckView) (c : CardView) → Contains (all_decks new) d → Contains d.cards c →
     list_any (same_ref (ref_of new.idents c)) (touched old new) ≡ false → stood_in (cards_of d.ident old) c ≡ true
 untouched_stood old new d c in_decks in_cards none =
@@ -89,7 +89,7 @@ same_histories (e ∷ es) (f ∷ fs) is =
     let both = and_both (same_entry e f) (same_history es fs) is in
     let head = same_entries e f both.0 in let rest = same_histories es fs both.1 in λ i. head i ∷ rest i
 
--- ---- a name goes on
+-- ---- a name stays
 
 goes_on : (old new : List Ident) (k : ℕ) (i : Ident) → Continues old new → slice_get old k ≡ Some i →
     (j : Ident) × (slice_get new k ≡ Some j) × (j.name ≡ i.name)
@@ -115,7 +115,7 @@ same_name old new z sound on held =
     let later = goes_on old.idents new.idents (z - 1) at.0 on (at.1).place in
     name_there z old.idents at.0 (omega arith) (at.1).place ∙ sym (name_there z new.idents later.0 (omega arith) later.1 ∙ later.2)
 
--- ---- what was kept of a card that stood
+-- ---- the stored status of a card that was there
 
 pub stood_status : (old new : LibraryView) (d : DeckView) (c : CardView) → IsSound old → Continues old.idents new.idents →
     stood_in (cards_of d.ident old) c ≡ true →
@@ -138,7 +138,7 @@ stood_status old new d c sound on stood =
     ∙ ap Some (ap (λ n. is_active (live_targets old) n b) deck.2 ∙ status_is (live_cards old.yanks) d.ident b
     ∙ ap (λ h. is_active_by (live_count old) d.ident (record b { history = h })) history)
 
--- a card that isn't touched was what it would be by the counts before
+-- a card that isn't touched had the status that its history gives by the counts before
 pub untouched_status : (old new : LibraryView) (d : DeckView) (c : CardView) → IsSound old → Continues old.idents new.idents → Contains (all_decks new) d →
     Contains d.cards c →
     is_touched (touched old new) (counted_card new.idents d.ident c) ≡ false →

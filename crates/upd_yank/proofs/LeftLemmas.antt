@@ -1,4 +1,4 @@
--- What a settling leaves, put together from its steps.
+-- The results of a status update, put together from its steps.
 use Rattle.std.proofs.Common.{◌≡◌, ℕ, Bool, if◌then◌else◌, List, [], ◌++◌, Option, None, ap, ◌∙◌}
 use Rattle.std.specs.List.{list_any}
 use Rattle.std.specs.Map.{update_all}

@@ -1,4 +1,4 @@
--- A settling tells statuses and counts alone.
+-- The row changes of a status update are only of statuses and counts.
 use Rattle.std.proofs.Common.{◌≡◌, ℕ, ◌==◌, Bool, true, false, not, ◌&&◌, if◌then◌else◌, List, [], ◌∷◌, ◌++◌, Option, Some, None, refl}
 use Rattle.std.specs.List.{AllByRecursion}
 use Rattle.upd_text.specs.declared.card_ref.CardRef.{CardRef}

@@ -1,4 +1,4 @@
--- A card is reached exactly where a target that flipped covers it.
+-- A card is reached exactly when a flipped target covers it.
 use Rattle.std.proofs.Common.{◌≡◌, ℕ, Bool, true, false, ◌||◌, List, [], ◌∷◌, inl, inr, refl, sym, subst}
 use Rattle.std.specs.Prelude.{◌==◌, ◌⊎◌}
 use Rattle.std.specs.List.{list_any}

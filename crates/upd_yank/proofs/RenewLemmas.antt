@@ -1,4 +1,4 @@
--- Active cards renewed from a part are those of the library that a run has reached.
+-- Active cards made from a part are those of the library after a run.
 use Rattle.std.proofs.Common.{◌≡◌, ℕ, zero, suc, ◌+◌, ◌<◌, ◌≤◌, Bool, true, false, not, ◌&&◌, ◌||◌, cond, if◌then◌else◌, List, [], ◌∷◌, ◌++◌, map, slice_get}
 use Rattle.std.proofs.Common.{Some, None, inl, inr, unwrap_or, refl, ap, sym, ◌∙◌, subst, arith}
 use Rattle.std.specs.Prelude.{◌==◌, ◌⊎◌}
@@ -88,7 +88,7 @@ held_from n z (i ∷ idents) aged held =
     go (inl here) later = let same = (Decides-eqb i.age z).0 (own (is_one i) here) in omega (arith, same, aged.0)
     go (inr there) later = let more = later there in omega (arith, more)
 
--- the held decks of a directory from an age on, as they stand by age
+-- the held decks of a directory from a serial on, in order of serial
 record Stand (n : ℕ) (idents : List Ident) (ds : List DeckView) : Type 0 where
   aged : AreAgedFrom n idents
   rising : AreRising (map (λ d. d.ident) ds)
@@ -104,7 +104,7 @@ passed_over n i idents ds s none = record {
   stands = λ z h. s.stands z (first_held i idents z ∙ or_right (is_one i && (i.age == z)) (is_held_deck idents z) h);
 }
 
--- a held deck stands first
+-- a held deck is first
 first_stands : (n : ℕ) (i : Ident) (idents : List Ident) (d : DeckView) (ds : List DeckView) → Stand n (i ∷ idents) (d ∷ ds) → is_one i ≡ true →
     i.age ≡ d.ident
 first_stands n i idents d ds s one =
@@ -182,7 +182,7 @@ walk t f n (i ∷ idents) (d ∷ ds) s each =
 
 -- ---- the active cards of a deck
 
--- by kept statuses that are right, the active cards of a deck are its own
+-- by stored statuses that are right, the active cards of a deck are its own
 pub anew_is : (l : LibraryView) (cache : CacheView) (d : DeckView) → IsSound l → IsRight l cache → Contains (all_decks l) d →
     deck_anew cache.states l.idents d ≡ active_deck (live_targets l) d
 anew_is l cache d sound right in_decks =
@@ -200,7 +200,7 @@ anew_is l cache d sound right in_decks =
 
 -- ---- all decks
 
--- by kept statuses, the active cards of each deck that isn't left out are its own
+-- by stored statuses, the active cards of each deck that isn't left out are its own
 abbrev pub AreAnew : (Serial → Bool) → LibraryView → List (CardRef × Bool) → Type 0
 AreAnew out new states =
     (k : ℕ) (d : DeckView) → slice_get new.decks k ≡ Some d → out d.ident ≡ false → deck_anew states new.idents d ≡ active_deck (live_targets new) d

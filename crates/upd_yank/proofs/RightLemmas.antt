@@ -1,4 +1,4 @@
--- A settling leaves the statuses and counts of the library after a run, and looks at no more cards than it must.
+-- A status update leaves the statuses and counts of the library after a run, and examines no more cards than it must.
 use Rattle.std.proofs.Common.{◌≡◌, ℕ, zero, suc, ◌+◌, ◌<◌, ◌≤◌, ◌^◌, Bool, true, false, ◌||◌, List, [], ◌∷◌, ◌++◌, map, length, Option, Some, None}
 use Rattle.std.proofs.Common.{is_some, unwrap_or, inl, inr, refl, ap, sym, ◌∙◌, subst, arith, length-append}
 use Rattle.std.specs.List.{list_any, filter, AllByRecursion}
@@ -54,7 +54,7 @@ are_yanks l = go l.yanks
 
 -- ---- the cascade on a sound library
 
--- what the cascade knows of a library: kept statuses are those before, and cards that aren't due had theirs
+-- what the cascade knows of a library: stored statuses are those before, and cards that aren't due had theirs
 pub record IsKnown (touched was : CountedCardView → Bool) (before : Target → ℕ) (known : CardRef → Option Bool) (l : LibraryView) : Type 0 where
   pub sound : IsSound l
   pub kept : AllByRecursion (IsRightBefore touched was before) (counted_cards l)
@@ -140,7 +140,7 @@ statuses_right touched was before known l r is =
 before_is : (old new : LibraryView) (cache : CacheView) (run : List CardRef) → IsRunBetween old new cache run → count_in cache.counts ≡ live_count old
 before_is old new cache run between = λ i t. between.right.count t i
 
--- a card that isn't touched was, before a run, what its history says by the counts before it
+-- a card that isn't touched had, before a run, the status that its history gives by the counts before it
 untouched_was : (old new : LibraryView) → IsSound old → Continues old.idents new.idents →
     AllByRecursion (λ k. is_touched (touched old new) k ≡ false → status_of k.card old ≡ Some (is_active_by (live_count old) k.deck k.view)) (counted_cards new)
 untouched_was old new before goes_on =
@@ -178,7 +178,7 @@ known_between old new cache run between = record {
       both ks w.1 has.1,
     )
 
--- each card that is new or differs in status is looked at
+-- each card that is new or differs in status is examined
 least : (old new : LibraryView) (before : Target → ℕ) (run : List CardRef) (ks : List CountedCardView) →
     AllByRecursion (λ k. is_touched run k ≡ false → status_of k.card old ≡ Some (is_active_by before k.deck k.view)) ks →
     length (filter (λ k. is_other (is_active (live_targets new) k.deck k.view) (status_of k.card old)) ks) ≤ length
@@ -218,7 +218,7 @@ pub least_work : (old new : LibraryView) (cache : CacheView) (run : List CardRef
 least_work old new cache run between =
     subst (λ cs. length (altered old new) ≤ length (affected cs old new)) (sym between.touched) (least_affected old new between.before between.goes_on)
 
--- ---- what a settling is
+-- ---- what a status update is
 
 -- yank cards of a sound library are countable
 pub countable : (l : LibraryView) → IsSound l → length l.yanks < 2 ^ 32 → AreCountable l.yanks
@@ -243,7 +243,7 @@ all_stay l due known found statuses sound right had listed staying put r =
     go none None e = staying r e ∙ sym e
     go none (Some s) e = unfound_stayed l due known found r sound had listed none (ap is_some e)
 
--- statuses with what is found put are those of the library
+-- statuses with what is found added are those of the library
 put_right : (run was : CountedCardView → Bool) (before : Target → ℕ) (known : CardRef → Option Bool) (l : LibraryView) (rest : ℕ)
     (ys os : List CountedCardView) (found statuses : List (CardRef × Bool)) →
     IsKnown run was before known l → found ≡ found_of_all run was before l → IsSeen known l rest ys os → ArePut known rest ys os found statuses →
@@ -284,7 +284,7 @@ left_right run was before known l rest ys os found cache is found_all counts see
   count = λ t. counts t ∙ ap (λ cards. count_on cards t) (live_is run was before known l is);
 }
 
--- as many cards are looked at as are affected
+-- as many cards are examined as are affected
 pub left_work : (old new : LibraryView) (cache : CacheView) (run : List CardRef) (found : List (CardRef × Bool)) → IsRunBetween old new cache run →
     found ≡ found_of_all (is_touched run) (was_active cache.states) (count_in cache.counts) new → length found ≡ length (affected run old new)
 left_work old new cache run found between found_all =
@@ -303,7 +303,7 @@ known_anew run was before known l sound all = record {
       (λ k h. λ none. absurd (let q = sym h ∙ (or_parts (run k) (is_reached before (live_count l) k.deck k.view) none).0 in cc)) all;
 }
 
--- ---- what a settling is, on a library that shows it
+-- ---- what a status update is, on a library that shows it
 
 module _ (old new l : LibraryView) (cache : CacheView) (run set : List CardRef) (found : List (CardRef × Bool)) (sees : Sees run old new l)
     (between : IsRunBetween old new cache run) (same : (r : CardRef) → list_any (same_ref r) set ≡ list_any (same_ref r) run)
@@ -329,7 +329,7 @@ module _ (old new l : LibraryView) (cache : CacheView) (run set : List CardRef) 
   live_seen : count_on (live_now (is_touched run) was before (yanks_of new)) ≡ live_count new
   live_seen = ap count_on (live_is (is_touched run) was before (kept_status cache.states) new known)
 
-  -- the cards that are due are those of the library that the run reached
+  -- the cards that are due are those of the library after the run
   others_seen : found_others (is_touched run) before (live_count new) (others_of l) ≡ found_others (is_touched run) before (live_count new) (others_of new)
   others_seen = ap (map (found_of (live_count new))) (subst (λ (n : Target → ℕ). filter (is_due (is_touched run) n (live_count new)) (others_of l)
       ≡ filter (is_due (is_touched run) n (live_count new)) (others_of new)) (sym (before_is old new cache run between)) sees.due)
@@ -360,7 +360,7 @@ module _ (old new l : LibraryView) (cache : CacheView) (run set : List CardRef) 
     left_work old new cache run found between found_seen,
   )
 
-  -- what is told of a settling
+  -- the row changes of a status update
   pub settled_told : (left : CacheView) (changes : List ChangeView) → IsRight new left → TakeGone old new changes →
       IsSettled old new cache.states found left.states changes cache.counts left.counts
   settled_told left changes right taken =

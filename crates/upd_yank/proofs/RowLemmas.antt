@@ -1,4 +1,4 @@
--- Statuses and counts that are put one after the other: what each reference and target gets.
+-- Statuses and counts that are set in order: what each reference and target gets.
 use Rattle.std.proofs.Common.{◌≡◌, ℕ, Bool, true, false, cond, if◌then◌else◌, List, [], ◌∷◌, ◌++◌, Option, Some, None, refl, ap, sym, ◌∙◌}
 use Rattle.std.specs.Prelude.{◌==◌}
 use Rattle.std.specs.List.{filter}
@@ -14,7 +14,7 @@ use Rattle.upd_yank.specs.Right.{count_pairs, put_counts, status_pairs}
 
 -- ---- statuses
 
--- what a reference gets depends on what it had alone
+-- what a reference gets depends only on what it had
 update_here : (ps : List (CardRef × Bool)) (f g : CardRef → Option Bool) (r : CardRef) → f r ≡ g r → update_all same_ref f ps r ≡ update_all same_ref g ps r
 update_here [] f g r e = e
 update_here (p ∷ ps) f g r e =

@@ -1,4 +1,4 @@
--- The cards that the cascade settles are the live ones, and statuses that it keeps are what they would be anew.
+-- The cards that the cascade finds live are the live ones, and the statuses that it keeps are those that it would find.
 use Rattle.std.proofs.Common.{◌≡◌, ℕ, ◌+◌, Bool, true, false, ◌&&◌, ◌||◌, if◌then◌else◌, List, [], ◌∷◌, refl, ap, sym, ◌∙◌, arith}
 use Rattle.std.specs.Prelude.{◌==◌}
 use Rattle.std.specs.List.{AllByRecursion}
@@ -12,7 +12,7 @@ use Rattle.upd_core.specs.TargetCounts.{count_on, has_target}
 use Rattle.upd_yank.proofs.FlipLemmas.{count_cons, good_is, same_active}
 use Rattle.upd_yank.specs.Cascade.{is_taken_by, AreYanks, IsRightBefore, TakesNoYanks, is_taken_by, is_active_by, status_now, live_now, views}
 
--- the status now is what it would be anew
+-- the status now is the one that would be found
 pub status_anew : (touched was : CountedCardView → Bool) (before now : Target → ℕ) (k : CountedCardView) → IsRightBefore touched was before k →
     status_now touched was before now k ≡ is_active_by now k.deck k.view
 status_anew touched was before now k kept = go (touched k) refl (is_reached before now k.deck k.view) refl
@@ -55,7 +55,7 @@ yank_is_good live y none =
     and_true true = refl
     and_true false = refl
 
--- ---- the cards that are settled are the live ones
+-- ---- the cards that the cascade finds live are the live ones
 
 pub settled_is : (touched was : CountedCardView → Bool) (before : Target → ℕ) (ks : List CountedCardView) → AreYanks ks → TakesNoYanks (views ks) →
     AllByRecursion (IsRightBefore touched was before) ks → live_now touched was before ks ≡ live_cards (views ks)

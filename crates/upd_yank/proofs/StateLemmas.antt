@@ -1,4 +1,4 @@
--- The statuses once what is found is put to those that stay.
+-- The statuses after what is found is added to those that stay.
 use Rattle.std.proofs.Common.{◌≡◌, ℕ, zero, suc, Bool, true, false, ◌||◌, cond, if◌then◌else◌, List, [], ◌∷◌, ◌++◌, map, slice_get, Option, Some, None, is_some}
 use Rattle.std.proofs.Common.{refl, ap, sym, ◌∙◌}
 use Rattle.std.specs.List.{list_any, flat_map, AllByRecursion, Contains}
@@ -108,7 +108,7 @@ status_there l r s sound e = go (place_of r l) refl
 
 -- ---- what is put
 
--- once what is found is put one after the other, each card has its status, if those that aren't found had it
+-- once what is found is added in order, each card has its status, if those that aren't found had it
 pub put_all : (l : LibraryView) (found : List (CardRef × Bool)) (had : CardRef → Option Bool) (r : CardRef) →
     AllByRecursion (λ p. status_of p.0 l ≡ Some p.1) found →
     (is_found found r ≡ false → had r ≡ status_of r l) → update_all same_ref had found r ≡ status_of r l

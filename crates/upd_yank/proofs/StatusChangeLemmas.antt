@@ -1,4 +1,4 @@
--- What a settling tells leads rows that show the statuses before a run to rows that show those after it.
+-- The row changes of a status update take rows that show the statuses before a run to rows that show those after it.
 use Rattle.std.proofs.Common.{◌≡◌, ℕ, Bool, true, false, not, ◌&&◌, ◌||◌, cond, List, [], ◌∷◌, ◌++◌, Option, Some, None, is_some, refl, ap}
 use Rattle.std.proofs.Common.{sym, ◌∙◌, append-nil}
 use Rattle.std.specs.Prelude.{◌==◌}
@@ -26,9 +26,9 @@ use Rattle.upd_yank.specs.Affected.{is_other}
 use Rattle.upd_yank.specs.Right.{kept_status}
 use Rattle.upd_yank.specs.StatusChanges.{repeated_statuses, all_repeated_statuses, count_changes, all_count_changes, update_changes, status_of_card, status_change, status_changes, zero_changes}
 
--- ---- changes that tell statuses and counts of a library
+-- ---- changes that set statuses and counts of a library
 
--- a change tells a status or a count that is right of a library
+-- a change sets a status or a count that is right of a library
 abbrev pub IsRightOf : LibraryView → ChangeView → Type 0
 IsRightOf l (StatusNow card active) = status_of card l ≡ Some active
 IsRightOf l (CountNow target n) = n ≡ live_count l target
@@ -42,7 +42,7 @@ IsRightOf l (EntriesGone card) = ⊥
 IsRightOf l (TargetNew card ord target) = ⊥
 IsRightOf l (TargetsGone card targets) = ⊥
 
--- whether a change tells the status of a card
+-- whether a change sets the status of a card
 abbrev pub tells_status : CardRef → ChangeView → Bool
 tells_status r (StatusNow card active) = same_ref r card
 tells_status r (CountNow target n) = false
@@ -56,7 +56,7 @@ tells_status r (EntriesGone card) = false
 tells_status r (TargetNew card ord target) = false
 tells_status r (TargetsGone card targets) = false
 
--- whether a change tells the count of a target
+-- whether a change sets the count of a target
 abbrev pub tells_count : Target → ChangeView → Bool
 tells_count t (CountNow target n) = is_same t target
 tells_count t (StatusNow card active) = false
@@ -72,7 +72,7 @@ tells_count t (TargetsGone card targets) = false
 
 -- ---- the row of a card, and of a target, after such changes
 
--- the row of a card once the status of k is told
+-- the row of a card once the status of k is set
 state_change : (l : LibraryView) (r k : CardRef) (a : Bool) (xs : List StateRow) → status_of k l ≡ Some a → (b : Bool) → same_ref r k ≡ b →
     filter (λ s. same_ref r s.card) (filter (λ s. not (same_ref k s.card)) xs ++ record { card = k; active = a } ∷ [])
     ≡ cond b (state_rows r (status_of r l)) (filter (λ s. same_ref r s.card) xs)
@@ -86,7 +86,7 @@ state_change l r k a xs right false e =
     ∙ (λ i. states_kept r k xs e i ++ cond (e i) (record { card = k; active = a } ∷ []) [])
     ∙ append-nil (filter (λ s. same_ref r s.card) xs)
 
--- the row of a card once changes are told that are right
+-- the row of a card after changes that are right
 pub state_is : (l : LibraryView) (cs : List ChangeView) (rows : Rows) (r : CardRef) → AllByRecursion (IsRightOf l) cs →
     filter (λ s. same_ref r s.card) (done_all cs rows).states
     ≡ cond (list_any (tells_status r) cs) (state_rows r (status_of r l)) (filter (λ s. same_ref r s.card) rows.states)
@@ -155,7 +155,7 @@ count_row_told l t u n xs right b e =
         append-nil (filter looked (filter (λ s. not (taken s)) xs))
         ∙ filter_kept taken looked xs (λ x is. others e x is (is_same u x.target) refl)
 
--- the row of a target once changes are told that are right
+-- the row of a target after changes that are right
 pub count_is : (l : LibraryView) (cs : List ChangeView) (rows : Rows) (t : Target) → AllByRecursion (IsRightOf l) cs →
     filter (λ s. is_same t s.target) (done_all cs rows).counts
     ≡ cond (list_any (tells_count t) cs) (count_rows t (live_count l t)) (filter (λ s. is_same t s.target) rows.counts)
@@ -204,7 +204,7 @@ right_statuses l known (p ∷ ps) right =
     one true = (right.0, tt)
     one false = tt
 
--- of what was found and isn't told, the status was known
+-- where what was found isn't set, the status was known
 known_status : (l : LibraryView) (known : CardRef → Option Bool) (found : List (CardRef × Bool)) (r : CardRef) →
     AllByRecursion (λ p. status_of p.0 l ≡ Some p.1) found → list_any (tells_status r) (status_changes known found) ≡ false → is_found found r ≡ true →
     known r ≡ status_of r l
@@ -226,7 +226,7 @@ known_status l known (p ∷ ps) r right untold is =
         let own : same_ref r p.0 ≡ true = ap (same_ref r) one ∙ ref_same r in
         absurd (let q = sym (ap (λ b. b || false) own) ∙ row_changes in cc)
 
--- ---- the statuses of cards that are there again
+-- ---- the statuses of cards that were inserted again
 
 right_again : (l : LibraryView) (now : CardRef → Option Bool) (cs : List ChangeView) → ((r : CardRef) → now r ≡ status_of r l) →
     AllByRecursion (IsRightOf l) (all_repeated_statuses now cs)
@@ -250,7 +250,7 @@ right_again l now (c ∷ cs) right = all_both (IsRightOf l) (repeated_statuses n
     one (TargetNew card ord target) = tt
     one (TargetsGone card targets) = tt
 
--- a card that is taken and isn't told again isn't there
+-- a card that is deleted and isn't set again isn't there
 none_again : (now : CardRef → Option Bool) (cs : List ChangeView) (r : CardRef) → list_any (tells_status r) (all_repeated_statuses now cs) ≡ false →
     list_any (takes_card r) cs ≡ true → now r ≡ None
 none_again now [] r untold taken = absurd (cc)
@@ -306,7 +306,7 @@ right_zeros l before now (p ∷ ps) right =
     one true e false = (sym ((Decides-eqb (now p.0) 0).0 e) ∙ right p.0, tt)
     one false e b = tt
 
--- of a target that is listed now and isn't told, the count was the same
+-- where the count of a target that is listed now isn't set, it was the same
 same_count : (before now : Target → ℕ) (ps : List (Target × ℕ)) (t : Target) → list_any (tells_count t) (flat_map (count_changes before now) ps) ≡ false →
     is_listed t ps ≡ true → now t ≡ before t
 same_count before now [] t untold is = absurd (cc)
@@ -323,7 +323,7 @@ same_count before now (p ∷ ps) t untold is =
         ap now one ∙ (Decides-eqb (now p.0) (before p.0)).0 f ∙ ap before (sym one)
     go true e false f none later = let row_changes : (is_same t p.0 || false) ≡ false = rw f at none in absurd (let q = sym (ap (λ b. b || false) e) ∙ row_changes in cc)
 
--- of a target that was listed, isn't told and has no count now, there was none
+-- where the count of a target that was listed isn't set and is 0 now, it was 0
 none_before : (before now : Target → ℕ) (ps : List (Target × ℕ)) (t : Target) → list_any (tells_count t) (flat_map (zero_changes before now) ps) ≡ false →
     is_listed t ps ≡ true → now t ≡ 0 → before t ≡ 0
 none_before before now [] t untold is zero = absurd (cc)
@@ -341,7 +341,7 @@ none_before before now (p ∷ ps) t untold is zero =
         let row_changes : (is_same t p.0 || false) ≡ false = rw (now_none, f) at none in
         absurd (let q = sym (ap (λ b. b || false) e) ∙ row_changes in cc)
 
--- a count that isn't told is as it was
+-- a count that isn't set is as it was
 untold_count : (had has : List (Target × ℕ)) (t : Target) → list_any (tells_count t) (all_count_changes had has) ≡ false → count_in has t ≡ count_in had t
 untold_count had has t untold = go (is_listed t has) refl (is_listed t had) refl
   where
@@ -360,9 +360,9 @@ untold_count had has t untold = go (is_listed t has) refl (is_listed t had) refl
     go false e true f = unlisted has t e ∙ sym (none_before before now had t parts.1 f (unlisted has t e))
     go false e false f = unlisted has t e ∙ sym (unlisted had t f)
 
--- ---- all that is told
+-- ---- all row changes
 
--- what a settling has found, has kept, and takes from a run
+-- what a status update has found, has kept, and takes from a run
 pub record IsSettled (old new : LibraryView) (known found kept : List (CardRef × Bool)) (run : List ChangeView) (had has : List (Target × ℕ)) : Type 0 where
   pub before : (r : CardRef) → kept_status known r ≡ status_of r old
   pub right : AllByRecursion (λ p. status_of p.0 new ≡ Some p.1) found
@@ -372,7 +372,7 @@ pub record IsSettled (old new : LibraryView) (known found kept : List (CardRef �
   pub counts : (t : Target) → count_in has t ≡ live_count new t
   pub taken : TakeGone old new run
 
--- rows that show the statuses before show those after, once the run and what is told are carried out
+-- rows that show the statuses before show those after, once the changes of the run and of the update are carried out
 pub settling_shows : (old new : LibraryView) (known found kept : List (CardRef × Bool)) (run : List ChangeView) (had has : List (Target × ℕ)) (rows : Rows) →
     IsSettled old new known found kept run had has → ShowsStates rows old →
     ShowsStates (done_all (update_changes known found kept run had has) (done_all run rows)) new

@@ -74,7 +74,7 @@ one_or_none : (b : Bool) → (if b then 1 else 0) ≤ 1
 one_or_none true = omega arith
 one_or_none false = omega arith
 
--- the counts f so far become g once the card k, the next one down, is looked at
+-- the counts f so far become g once the card k, the next one down, is examined
 counted_more : (touched was : CountedCardView → Bool) (before f g : Target → ℕ) (k : CountedCardView) (ks : List CountedCardView) →
     length (k ∷ ks) < 2 ^ 32 → AreApart k.view.targets →
     ((t : Target) → f t ≡ count_on (live_now touched was before ks) t) →

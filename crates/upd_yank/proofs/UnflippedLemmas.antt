@@ -79,7 +79,7 @@ some_flipped had has flipped is = (found, row_changes flipped is)
         let none = none_flipped had has parts.0 parts.1 some.0 in
         absurd (let flips = some.1 in cc)
 
--- what no target does where it is told that none does
+-- what no target does where the test says that none does
 pub none_told : {flipped : Bool} (before now : Target → ℕ) → ((flipped ≡ true) ↔ ((t : Target) × (is_flipped before now t ≡ true))) → flipped ≡ false →
     (t : Target) → is_flipped before now t ≡ false
 none_told before now row_changes none t = false_from_ne_true (is_flipped before now t) (λ some. iff_false row_changes none (t, some))

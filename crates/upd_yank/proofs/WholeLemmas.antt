@@ -1,4 +1,4 @@
--- Where as many statuses are kept as a library has cards, and each card has its own, no other card has one.
+-- Where as many statuses are stored as a library has cards, and each card has its own, no other card has one.
 use Rattle.std.proofs.Common.{◌≡◌, ℕ, ◌+◌, ◌≤◌, Bool, true, false, cond, List, [], ◌∷◌, ◌++◌, map, length, Option, Some, None, is_some, refl, ap}
 use Rattle.std.proofs.Common.{sym, ◌∙◌, subst}
 use Rattle.std.proofs.Common.{arith}
@@ -19,7 +19,7 @@ use Rattle.upd_yank.proofs.WorkLemmas.{HasStatus, IsListed, all_map}
 use Rattle.upd_yank.specs.Cascade.{is_active_by}
 use Rattle.upd_yank.specs.Right.{kept_status}
 
--- ---- references that differ and are all kept are no more than what is kept
+-- ---- references that differ and are all stored are no more than what is stored
 
 one_fewer : (x : CardRef) (ys : List (CardRef × Bool)) → is_some (kept_status ys x) ≡ true → length ys ≡ length (remove_entry (same_ref x) ys) + 1
 one_fewer x [] e = absurd (cc)

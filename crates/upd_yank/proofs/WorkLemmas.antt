@@ -1,4 +1,4 @@
--- What is found of `YANK$$$` on the way is what the settled counts say: whatever can take an entry of a card is younger than the card.
+-- What is found of `YANK$$$` on the way agrees with the final counts: whatever can take an entry of a card is younger than the card.
 use Rattle.std.proofs.Common.{◌≡◌, ℕ, ◌≤◌, Bool, true, false, not, ◌&&◌, ◌||◌, if◌then◌else◌, List, [], ◌∷◌, ◌++◌, length, Some, refl, ap, sym, ◌∙◌, subst}
 use Rattle.std.proofs.Common.{arith, length-append, append-nil}
 use Rattle.std.specs.Prelude.{◌==◌}
@@ -57,7 +57,7 @@ takes_no_yanks (y ∷ ys) aged = (no_deck_zero y.ident y.targets aged.0, takes_n
 
 -- ---- counts that agree on what a card has
 
--- counts say of a card of `YANK$$$` what the settled counts say
+-- counts agree with the final counts on a card of `YANK$$$`
 pub record Agrees (final now : Target → ℕ) (c : CardView) : Type 0 where
   pub entries : AllByRecursion (λ e. (now (Set e.ident) ≡ final (Set e.ident)) × (now (SetIn e.ident 0) ≡ final (SetIn e.ident 0))) c.history
   pub deck : now (Deck 0) ≡ final (Deck 0)
@@ -97,7 +97,7 @@ active_same now final c agrees =
     entries [] all = tt
     entries (e ∷ es) all = ((λ i. not (all.0.0 i == 0) || not (all.0.1 i == 0)), entries es all.1)
 
--- the cards behind y say of cards that are no older than y what the cards from y on say
+-- on cards that are no older than y, the cards after y agree with the cards from y on
 agree_behind : (final : Target → ℕ) (y : CardView) (ys : List CardView) (c : CardView) → IsAged (y ∷ ys) → HasEntriesFrom y.ident c →
     Agrees final (count_on (live_cards (y ∷ ys))) c → Agrees final (count_on (live_cards ys)) c
 agree_behind final y ys c aged young agrees = record {
@@ -124,7 +124,7 @@ agree_all : (final : Target → ℕ) (y : CardView) (ys cs : List CardView) → 
 agree_all final y ys [] aged young all = tt
 agree_all final y ys (c ∷ cs) aged young all = (agree_behind final y ys c aged young.0 all.0, agree_all final y ys cs aged young.1 all.1)
 
--- ---- what is found of `YANK$$$`, by the settled counts
+-- ---- what is found of `YANK$$$`, by the final counts
 
 -- what is found of a card if it is due
 abbrev pub found_at : (CountedCardView → Bool) → (Target → ℕ) → (Target → ℕ) → CountedCardView → List (CardRef × Bool)

@@ -1,4 +1,4 @@
--- The cards that a run can have changed the status of.
+-- The cards whose status a run may have changed.
 use Rattle.std.specs.Prelude.{Bool, true, false, not, List, Option, Some, None}
 use Rattle.std.specs.List.{list_any, filter}
 use Rattle.upd_text.specs.declared.card_ref.CardRef.{CardRef}
@@ -13,11 +13,11 @@ use Rattle.upd_yank.specs.Cascade.{is_due}
 abbrev pub is_touched : List CardRef → CountedCardView → Bool
 is_touched touched k = list_any (same_ref k.card) touched
 
--- the cards of a library after a run that are touched, or covered by a target that has live cards before or after it, and not both
+-- the cards of a library after a run that are touched, or covered by a target that has live cards either before it or after it, but not both
 abbrev pub affected : List CardRef → LibraryView → LibraryView → List CountedCardView
 affected touched old new = filter (is_due (is_touched touched) (live_count old) (live_count new)) (counted_cards new)
 
--- whether a status is none or another one
+-- whether a status is new or differs
 abbrev pub is_other : Bool → Option Bool → Bool
 is_other now None = true
 is_other true (Some was) = not was

@@ -1,4 +1,4 @@
--- The cascade: what becomes of kept statuses when yank cards come, go and change.
+-- The cascade: how stored statuses change when yank cards are inserted, deleted and changed.
 use Rattle.std.specs.Prelude.{◌≡◌, ◌⊎◌, ℕ, ◌+◌, ◌==◌, Bool, false, not, ◌&&◌, ◌||◌, if◌then◌else◌, List, [], ◌∷◌, ◌++◌, map, length, Option, None}
 use Rattle.std.specs.Map.{lookup, update_all}
 use Rattle.std.specs.List.{list_any, filter, AllByRecursion}
@@ -13,7 +13,7 @@ use Rattle.upd_core.specs.Reach.{is_reached}
 use Rattle.upd_core.specs.Status.{stays_on}
 use Rattle.upd_core.specs.TargetCounts.{count_on, has_target}
 
--- an ident is taken in deck d where a count says that a live card takes it
+-- whether an ident is taken in deck d, by the counts of live cards
 abbrev pub is_taken_by : (Target → ℕ) → ℕ → ℕ → Bool
 is_taken_by counts d z = not (counts (Set z) == 0) || not (counts (SetIn z d) == 0)
 
@@ -21,26 +21,26 @@ is_taken_by counts d z = not (counts (Set z) == 0) || not (counts (SetIn z d) ==
 abbrev pub is_active_by : (Target → ℕ) → ℕ → CardView → Bool
 is_active_by counts d c = stays_on (is_taken_by counts d) c.history && (counts (Deck d) == 0)
 
--- a card is looked at where it is touched, or reached by what flipped
+-- a card is due to be examined where it is touched, or reached by a flipped target
 abbrev pub is_due : (CountedCardView → Bool) → (Target → ℕ) → (Target → ℕ) → CountedCardView → Bool
 is_due touched before now k = touched k || is_reached before now k.deck k.view
 
--- the status of a card: anew where it is looked at, else as it was
+-- the status of a card: the new one where it is due, else the one before
 abbrev pub status_now : (CountedCardView → Bool) → (CountedCardView → Bool) → (Target → ℕ) → (Target → ℕ) → CountedCardView → Bool
 status_now touched was before now k = if is_due touched before now k then is_active_by now k.deck k.view else was k
 
--- The cards of `YANK$$$` that are live now: each is judged by the counts of the live ones behind it, which are younger.
+-- The cards of `YANK$$$` that are live now. Each is decided by the counts of the live ones after it, which are younger.
 abbrev pub live_now : (CountedCardView → Bool) → (CountedCardView → Bool) → (Target → ℕ) → List CountedCardView → List CardView
 live_now touched was before [] = []
 live_now touched was before (y ∷ ys) =
     if status_now touched was before (count_on (live_now touched was before ys)) y then y.view ∷ live_now touched was before ys
     else live_now touched was before ys
 
--- what is found of a card that is looked at
+-- what is found of a card that is due
 abbrev pub found_of : (Target → ℕ) → CountedCardView → CardRef × Bool
 found_of now k = (k.card, is_active_by now k.deck k.view)
 
--- what is found of the cards of `YANK$$$` that are looked at, from the youngest down
+-- what is found of the cards of `YANK$$$` that are due, the youngest first
 abbrev pub found_yanks : (CountedCardView → Bool) → (CountedCardView → Bool) → (Target → ℕ) → List CountedCardView → List (CardRef × Bool)
 found_yanks touched was before [] = []
 found_yanks touched was before (y ∷ ys) =
@@ -49,29 +49,29 @@ found_yanks touched was before (y ∷ ys) =
     found_here : (CountedCardView → Bool) → (Target → ℕ) → (Target → ℕ) → CountedCardView → List (CardRef × Bool)
     found_here touched before now y = if is_due touched before now y then found_of now y ∷ [] else []
 
--- what is found of the other cards that are looked at, once the counts are settled
+-- what is found of the other cards that are due, by the final counts
 abbrev pub found_others : (CountedCardView → Bool) → (Target → ℕ) → (Target → ℕ) → List CountedCardView → List (CardRef × Bool)
 found_others touched before now cards = map (found_of now) (filter (is_due touched before now) cards)
 
--- what is found of all cards that are looked at
+-- what is found of all cards that are due
 abbrev pub found_of_all : (CountedCardView → Bool) → (CountedCardView → Bool) → (Target → ℕ) → LibraryView → List (CardRef × Bool)
 found_of_all touched was before l =
     found_yanks touched was before (yanks_of l) ++ found_others touched before (count_on (live_now touched was before (yanks_of l))) (others_of l)
 
--- the statuses of these cards, as they were known, put to others
+-- the known statuses of these cards, added to others
 abbrev pub stay : (CardRef → Option Bool) → List CountedCardView → (CardRef → Option Bool) → CardRef → Option Bool
 stay known ks had r = if list_any (λ k. same_ref k.card r) ks then option_or (known r) (had r) else had r
 
--- Statuses once what is found is put: to all that were known, where cards aren't loaded or else they are as many as these cards; or to those of
--- these cards alone, where each card is loaded.
+-- The statuses found are added to others: to all known statuses, where cards aren't loaded or the statuses are then as many as these cards; or
+-- to those of only these cards, where each card is loaded.
 abbrev pub ArePut : (CardRef → Option Bool) → ℕ → List CountedCardView → List CountedCardView → List (CardRef × Bool) → List (CardRef × Bool) → Type 0
 ArePut known rest ys os found statuses =
     ((rest ≡ 0 → length statuses ≡ length ys + length os) × ((r : CardRef) → lookup (same_ref r) statuses ≡ update_all same_ref known found r))
     ⊎ ((rest ≡ 0) × ((r : CardRef) → lookup (same_ref r) statuses ≡ update_all same_ref (stay known os (stay known ys (λ _. None))) found r))
 
--- ---- what the cascade stands on
+-- ---- what the cascade rests on
 
--- what is known of a card before: where it isn't touched, its kept status is that of its history by the counts before
+-- what is known of a card before: where it isn't touched, its stored status is that of its history by the counts before
 pub record IsRightBefore (touched was : CountedCardView → Bool) (before : Target → ℕ) (k : CountedCardView) : Type 0 where
   pub status : touched k ≡ false → was k ≡ is_active_by before k.deck k.view
 

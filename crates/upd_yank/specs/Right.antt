@@ -1,4 +1,4 @@
--- Kept statuses and counts, and when they are those of a library.
+-- Stored statuses and counts, and when they are those of a library.
 use Rattle.std.specs.Prelude.{◌≡◌, ℕ, ◌==◌, ◌<◌, ◌^◌, Bool, false, if◌then◌else◌, List, [], ◌∷◌, Option, Some, None, length, unwrap_or}
 use Rattle.std.specs.List.{filter, AllByRecursion}
 use Rattle.std.specs.Map.{lookup}
@@ -14,32 +14,32 @@ use Rattle.upd_core.specs.TargetCounts.{count_in, live_count}
 use Rattle.upd_apply.specs.Applying.{touched}
 use Rattle.upd_records.specs.Rows.{same_ref}
 
--- Kept statuses by card and counts by target, and how many cards the last settling looked at.
+-- Statuses by card, counts by target, and the number of cards that the last update examined.
 pub record CacheView : Type 0 where
   pub states : List (CardRef × Bool)
   pub counts : List (Target × ℕ)
   pub work : ℕ
 
--- the kept status of a card
+-- the stored status of a card
 abbrev pub kept_status : List (CardRef × Bool) → CardRef → Option Bool
 kept_status states card = lookup (same_ref card) states
 
--- whether a card was active, as it is kept: a card that isn't there was not
+-- whether the stored status of a card is active; false for a card without one
 abbrev pub was_active : List (CardRef × Bool) → CountedCardView → Bool
 was_active states k = unwrap_or (kept_status states k.card) false
 
--- a cache that has the status of each card of a library and no other, and the number of live yank cards for each target
+-- a cache has the status of each card of a library and no other, and the number of live yank cards for each target
 pub record IsRight (l : LibraryView) (cache : CacheView) : Type 0 where
   pub status : (card : CardRef) → kept_status cache.states card ≡ status_of card l
   pub count : (target : Target) → count_in cache.counts target ≡ live_count l target
 
--- yank cards whose counts fit: there are fewer than 2^32, and none has a target twice
+-- yank cards whose counts fit into 32 bits: there are fewer than 2^32, and none has a target twice
 pub record AreCountable (yanks : List CardView) : Type 0 where
   pub few : length yanks < 2 ^ 32
   pub apart : AllByRecursion (λ c. AreApart c.targets) yanks
 
--- What a settling stands on: a sound library before a run, a sound one after it whose directory goes on, a cache that was right before, and
--- the cards that the run touched.
+-- The premises of a status update: a sound library before a run, a sound one after it whose directory extends the one before, a cache that was
+-- right before, and the cards that the run touched.
 pub record IsRunBetween (old new : LibraryView) (cache : CacheView) (run : List CardRef) : Type 0 where
   pub before : IsSound old
   pub after : IsSound new
@@ -48,22 +48,22 @@ pub record IsRunBetween (old new : LibraryView) (cache : CacheView) (run : List 
   pub touched : run ≡ touched old new
   pub few : length new.yanks < 2 ^ 32
 
--- counts with these put to them, one after the other
+-- counts with these set, in order
 abbrev pub put_counts : List (Target × ℕ) → (Target → ℕ) → Target → ℕ
 put_counts [] counts = counts
 put_counts (p ∷ ps) counts = put_counts ps (λ t. if is_same p.0 t then p.1 else counts t)
 
--- the pair of a card that is there
+-- the pair of a card with a status; none without one
 abbrev pub status_pairs : CardRef → Option Bool → List (CardRef × Bool)
 status_pairs card None = []
 status_pairs card (Some active) = (card, active) ∷ []
 
--- the pair of a target that is counted
+-- the pair of a target; none for a count of 0
 abbrev pub count_pairs : Target → ℕ → List (Target × ℕ)
 count_pairs target n = if n == 0 then [] else (target, n) ∷ []
 
--- Rows that show the statuses of a library: each card is there once with its status, each target that a live yank card has is there once with
--- the number of these, and there are no others.
+-- Rows show the statuses of a library where each card has one pair, with its status; each target of a live yank card has one pair, with the
+-- number of live yank cards that have it; and there are no other pairs.
 pub record AreStatesOf (rows : States) (l : LibraryView) : Type 0 where
   pub states : (card : CardRef) → filter (λ p. same_ref card p.0) rows.states.items ≡ status_pairs card (status_of card l)
   pub counts : (target : Target) → filter (λ p. is_same target p.0) rows.counts.items ≡ count_pairs target (live_count l target)

@@ -1,4 +1,5 @@
--- The row changes by which a settling is told: statuses that are new or other ones, those of cards that are there again, and counts that differ.
+-- The row changes of a status update: statuses that are new or differ, those of cards that were deleted and inserted again, and counts that
+-- differ.
 use Rattle.std.specs.Prelude.{ℕ, ◌==◌, Bool, not, ◌&&◌, if◌then◌else◌, List, [], ◌∷◌, ◌++◌, Option, Some, None}
 use Rattle.std.specs.List.{flat_map}
 use Rattle.upd_text.specs.declared.card_ref.CardRef.{CardRef}
@@ -9,7 +10,7 @@ use Rattle.upd_core.specs.TargetCounts.{count_in}
 use Rattle.upd_yank.specs.Affected.{is_other}
 use Rattle.upd_yank.specs.Right.{kept_status}
 
--- a status that was found, where none was known or another one
+-- a status that was found, where it is new or differs from the known one
 abbrev pub status_change : (CardRef → Option Bool) → CardRef × Bool → List ChangeView
 status_change known p = if is_other p.1 (known p.0) then StatusNow p.0 p.1 ∷ [] else []
 
@@ -22,7 +23,7 @@ abbrev pub status_of_card : CardRef → Option Bool → List ChangeView
 status_of_card card None = []
 status_of_card card (Some active) = StatusNow card active ∷ []
 
--- the status of a card that a change took away and that is there
+-- the status of a card that a change deleted and that exists now
 abbrev pub repeated_statuses : (CardRef → Option Bool) → ChangeView → List ChangeView
 repeated_statuses now (CardGone card) = status_of_card card (now card)
 repeated_statuses now (IdentNew ident) = []
@@ -36,11 +37,11 @@ repeated_statuses now (TargetsGone card targets) = []
 repeated_statuses now (StatusNow card active) = []
 repeated_statuses now (CountNow target n) = []
 
--- the statuses of all cards that changes took away and that are there
+-- the statuses of all cards that changes deleted and that exist now
 abbrev pub all_repeated_statuses : (CardRef → Option Bool) → List ChangeView → List ChangeView
 all_repeated_statuses now changes = flat_map (repeated_statuses now) changes
 
--- the count of a target, where it is another one than before
+-- the count of a target, where it differs from before
 abbrev pub count_changes : (Target → ℕ) → (Target → ℕ) → Target × ℕ → List ChangeView
 count_changes before now p = if now p.0 == before p.0 then [] else CountNow p.0 (now p.0) ∷ []
 
@@ -52,7 +53,7 @@ zero_changes before now p = if (now p.0 == 0) && not (before p.0 == 0) then Coun
 abbrev pub all_count_changes : List (Target × ℕ) → List (Target × ℕ) → List ChangeView
 all_count_changes had has = flat_map (count_changes (count_in had) (count_in has)) has ++ flat_map (zero_changes (count_in had) (count_in has)) had
 
--- All that a settling tells: by the statuses that were known, what was found, and what is kept now; by the changes of the run; and by the counts
+-- All row changes of a status update: from the known statuses, those found and those kept now; from the changes of the run; and from the counts
 -- before and now.
 abbrev pub update_changes : List (CardRef × Bool) → List (CardRef × Bool) → List (CardRef × Bool) → List ChangeView → List (Target × ℕ) → List (Target × ℕ) →
     List ChangeView

@@ -1,4 +1,4 @@
-//! The cache: kept statuses and counts, from histories, from rows, or settled after a run.
+//! The cache of statuses and counts: built from histories or from rows, and updated after each run.
 
 ghost use Rattle.std.specs.Prelude.{◌≡◌, ◌<◌, ◌≤◌, ◌^◌, length, map, true, IfOk, OnErr, OnOk};
 ghost use Rattle.std.specs.List.{AllByRecursion};
@@ -19,16 +19,15 @@ ghost use Rattle.upd_yank.specs.Right.{IsRight, IsRunBetween, AreStatesOf, kept_
 
 use crate::cascade::{Before, settling};
 use crate::renewing::renewed_decks;
-use crate::statuses::Statuses;
 use crate::status_changes::tell;
+use crate::statuses::Statuses;
 use crate::touched::Touched;
 use std::alloc::{AllocError, Global};
 use std::marker::Model;
 use upd_apply::Applied;
 use upd_core::{Actives, CardRef, Change, Counted, Fault, Library, States, Target, TargetCounts};
 
-/// Statuses of cards and the counts of all targets: those of a whole library, or of the cards that were loaded for a
-/// run.
+/// Statuses of cards and counts of targets: those of a whole library, or of the cards that were loaded for a run.
 #[derive(Drop)]
 pub struct Cache {
     alloc: Global,
@@ -46,7 +45,7 @@ impl Model for Cache {
 }
 
 impl Cache {
-    /// The cache of a library, from its histories; memory alone can fail.
+    /// The cache of a library, from its histories.
     pub fn build(alloc: Global, library: &Library) -> Result<Cache, Fault>
         ensures right { IsSound library.now → length library.now.yanks < 2 ^ 32 → IfOk result (IsRight library.now) }
         ensures work { IfOk result (λ cache. cache.work ≡ 0) }
@@ -70,8 +69,7 @@ impl Cache {
         })
     }
 
-    /// The cache of rows as a store has them; where they show the statuses of a library, it is the cache of that
-    /// library. Memory alone can fail.
+    /// The cache that rows of a store hold. Where they show the statuses of a library, it is the cache of that library.
     pub fn of_rows(alloc: Global, rows: &States) -> Result<Cache, Fault>
         ensures right { (l : LibraryView) → AreStatesOf rows.now l → IfOk result (IsRight l) }
         ensures work { IfOk result (λ cache. cache.work ≡ 0) }
@@ -88,11 +86,14 @@ impl Cache {
         })
     }
 
-    /// Brings the cache from the library before a run to the one after it. `counted` is the library after the run, of
-    /// which no history has been read, or a part of it that is enough (`IsEnough`): then the statuses of cards that it
-    /// lacks stay. Answers the row changes that bring kept rows along, to be carried out behind those of the run:
-    /// statuses that are new or differ, those of cards that the run took away and brought again, and counts that
-    /// differ. Memory alone can fail, and leaves the cache as it was; some histories may have been counted then.
+    /// Updates the cache after a run. `counted` is the library after the run, with no history read, or a part of it
+    /// that is enough (`IsEnough`); statuses of cards that the part lacks stay.
+    ///
+    /// Returns row changes that update the stored statuses and counts, to be carried out after those of the run:
+    /// statuses that are new or differ, statuses of cards that the run deleted and inserted again, and counts that
+    /// differ.
+    ///
+    /// NoMemory leaves the cache unchanged; some histories may have been read then.
     pub fn settle(
         &mut self,
         counted: &mut Counted<'_>,
@@ -131,8 +132,8 @@ impl Cache {
         Ok(changes)
     }
 
-    /// The active cards of every held deck after a run: of a deck that `part` has by the kept statuses, of any other as
-    /// in `before`. Memory alone can fail.
+    /// The active cards of every held deck after a run: those of a deck in `part` by the cached statuses, those of any
+    /// other deck from `before`.
     pub fn renew(&self, part: &Library, before: &Actives) -> Result<Actives, Fault>
         ensures ok { IfOk result (λ actives. actives ≡ renewed self.now.states part.now before.now) }
         ensures err { IsOkUnless result (fault_at NoMemory 0) }
@@ -142,21 +143,21 @@ impl Cache {
         Ok(Actives { idents, decks })
     }
 
-    /// Whether a card is active, for a yank card live; none where there is no such card. The program doesn't call it.
+    /// Whether a card is active; for a yank card, whether it is live. None where there is no such card.
     pub fn active(&self, card: CardRef) -> Option<bool>
         ensures { result ≡ kept_status self.now.states card }
     {
         self.statuses.of(card)
     }
 
-    /// How many live yank cards have a target. The program doesn't call it.
+    /// The number of live yank cards that have a target.
     pub fn count(&self, target: Target) -> u32
         ensures { result ≡ count_in self.now.counts target }
     {
         self.counts.of(target)
     }
 
-    /// How many cards the last settling looked at, 0 before one.
+    /// The number of cards that the last update examined; 0 before one.
     pub fn work(&self) -> u64
         ensures { result ≡ self.now.work }
     {

@@ -1,5 +1,5 @@
-//! The cascade: `YANK$$$` from the youngest card to the oldest, then the other cards. No card is looked at twice, and
-//! none that is neither touched nor reached by what flipped.
+//! The cascade: `YANK$$$` from the youngest card to the oldest, then the other cards. No card is examined twice, and
+//! none is examined that is neither touched nor reached by a flipped target.
 
 ghost use Rattle.std.specs.Prelude.{◌≡◌, ◌↔◌, ℕ, ◌+◌, ◌<◌, ◌^◌, ◌==◌, [], ◌∷◌, ◌++◌, if◌then◌else◌, length, count_by};
 ghost use Rattle.std.specs.Prelude.{true, IfOk, None, OnOk, Some};
@@ -21,7 +21,7 @@ use crate::touched::Touched;
 use std::alloc::{AllocError, Global};
 use upd_core::{CardRef, Counted, CountedCard, Entry, Serial, Target, TargetCounts};
 
-/// What is known before the cascade.
+/// The input of the cascade: the touched cards, and the statuses and counts before the run.
 #[derive(Drop)]
 pub(crate) struct Before<'a> {
     pub(crate) touched: &'a Touched,
@@ -29,7 +29,7 @@ pub(crate) struct Before<'a> {
     pub(crate) counts: &'a TargetCounts,
 }
 
-/// What the cascade has found: the counts of the live yank cards, and the status of each card that was looked at.
+/// The results of the cascade so far: the counts of the live yank cards, and the status of each card examined.
 #[derive(Drop)]
 pub(crate) struct Found {
     pub(crate) counts: TargetCounts,
@@ -43,7 +43,7 @@ fn is_taken(counts: &TargetCounts, deck: Serial, ident: Serial) -> bool
     counts.of(Target::Set(ident)) != 0 || counts.of(Target::SetIn(ident, deck)) != 0
 }
 
-/// Whether a history stays on in a deck.
+/// Whether a history stays on in a deck: the last entry of an ident that isn't taken there decides.
 fn stays_on(counts: &TargetCounts, deck: Serial, history: &[Entry]) -> bool
     ensures { result ≡ stays_on (is_taken_by (count_in counts.now) deck) history.now }
 {
@@ -55,7 +55,7 @@ fn stays_on(counts: &TargetCounts, deck: Serial, history: &[Entry]) -> bool
     false
 }
 
-/// Reads the history of a card: whether it is active by these counts.
+/// Reads the history of a card, and returns whether it is active by these counts.
 fn judge<'a>(counted: &mut Counted<'a>, counts: &TargetCounts, card: &CountedCard<'a>) -> bool
     ensures active { result ≡ is_active_by (count_in counts.now) card.now.deck card.now.view }
     ensures reads { counted.new ≡ one_more counted.old }
@@ -64,7 +64,7 @@ fn judge<'a>(counted: &mut Counted<'a>, counts: &TargetCounts, card: &CountedCar
     stays_on(counts, card.deck(), history) && counts.of(Target::Deck(card.deck())) == 0
 }
 
-/// Whether a card is to be looked at: it is touched, or what flipped reaches it.
+/// Whether a card is due to be examined: it is touched, or a flipped target reaches it.
 fn is_due(before: &Before, now: &TargetCounts, card: &CountedCard) -> bool
     ensures { result ≡ is_due (is_touched before.now.touched.now) (count_in before.now.counts.now)
         (count_in now.now) card.now }
@@ -72,7 +72,7 @@ fn is_due(before: &Before, now: &TargetCounts, card: &CountedCard) -> bool
     before.touched.has(card.reference()) || card.is_reached(before.counts, now)
 }
 
-/// The status of a card anew if it is due, which is put to what is found.
+/// The new status of a card that is due, which is added to what is found; None where it isn't due.
 fn judge_if_due<'a>(
     counted: &mut Counted<'a>,
     before: &Before,
@@ -102,7 +102,7 @@ fn judge_if_due<'a>(
     }
 }
 
-/// The status of a card: anew if it is due, else as it was.
+/// The status of a card: the new one if it is due, else the one before.
 fn status_now<'a>(
     counted: &mut Counted<'a>,
     before: &Before,
@@ -128,7 +128,7 @@ fn status_now<'a>(
     }
 }
 
-/// Looks at a card of `YANK$$$`; its targets are counted if it is live.
+/// Updates a card of `YANK$$$`. Its targets are counted if it is live.
 fn settle_yank<'a>(
     counted: &mut Counted<'a>,
     before: &Before,
@@ -156,8 +156,8 @@ fn settle_yank<'a>(
     Ok(())
 }
 
-/// Goes through `YANK$$$` from the youngest card to the oldest: what can take an entry of a card is younger than the
-/// card, so it is settled before the card is looked at.
+/// Updates `YANK$$$` from the youngest card to the oldest: what can take an entry of a card is younger than the card,
+/// so its status is known before the card is examined.
 fn settle_yanks<'a>(
     alloc: Global,
     counted: &mut Counted<'a>,
@@ -183,7 +183,7 @@ fn settle_yanks<'a>(
     Ok(found)
 }
 
-/// Whether some count is 0 in one of these and not in the other; memory alone can fail.
+/// Whether some count is 0 in exactly one of the two.
 fn has_flipped(alloc: Global, before: &TargetCounts, now: &TargetCounts) -> Result<bool, AllocError>
     ensures { IfOk result (λ flipped. (flipped ≡ true)
         ↔ ((t : Target) × (is_flipped (count_in before.now) (count_in now.now) t ≡ true))) }
@@ -204,8 +204,7 @@ fn has_flipped_of(before: &TargetCounts, now: &TargetCounts, listed: &[(Target, 
     false
 }
 
-/// Looks at each of these cards that is due, by the counts that are settled. Where no count flipped, nothing reaches
-/// a card, so that only touched ones are due.
+/// Examines each of these cards that is due, by the final counts. Where no count flipped, only touched cards are due.
 fn judge_others<'a>(
     alloc: Global,
     counted: &mut Counted<'a>,
@@ -231,15 +230,15 @@ fn judge_others<'a>(
     Ok(())
 }
 
-/// What a settling leaves: statuses and counts, and what it found of the cards that it looked at.
+/// The results of a status update: statuses, counts, and what was found of the cards examined.
 #[derive(Drop)]
 pub(crate) struct AfterSettling {
     pub(crate) statuses: Statuses,
     pub(crate) found: Found,
 }
 
-/// The statuses of all cards and the counts of all targets, from what is known before. On a whole library a card that
-/// is gone has none.
+/// The statuses of all cards and the counts of all targets after a run. On a whole library a card that is gone has no
+/// status.
 pub(crate) fn settling<'a>(
     alloc: Global,
     counted: &mut Counted<'a>,
@@ -272,9 +271,9 @@ pub(crate) fn settling<'a>(
     Ok(AfterSettling { statuses, found })
 }
 
-/// The statuses once what was found is put to those that are known. Where some cards aren't loaded, every known status
-/// stays. Where all are loaded and there are then as many statuses as cards, no card is gone; else those of the cards
-/// alone are kept.
+/// The known statuses, updated by those found. Where some cards aren't loaded, every known status stays. Where all are
+/// loaded, and there are then as many statuses as cards, no card is gone; otherwise only the statuses of these cards
+/// are kept.
 fn put_found(
     alloc: Global,
     known: &Statuses,

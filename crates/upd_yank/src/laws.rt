@@ -1,4 +1,4 @@
-//! What the cascade rests on.
+//! Laws on which the cascade rests.
 
 ghost use Rattle.std.specs.Prelude.{◌≡◌, ◌≤◌, ◌↔◌, ℕ, Bool, true, false, Some, List, length};
 ghost use Rattle.std.specs.List.{AllByRecursion, Contains, filter};
@@ -18,7 +18,7 @@ ghost use Rattle.upd_yank.specs.Cascade.{is_active_by};
 ghost use Rattle.upd_yank.specs.Renewed.{IsAsBefore, renewed};
 ghost use Rattle.upd_yank.specs.Right.{CacheView, IsRight};
 
-/// A status is told by the counts of the live cards, and a card that nothing that flipped reaches keeps it.
+/// The counts of the live cards determine each status, and a card that no flipped target reaches keeps its status.
 pub fn counts_tell_statuses()
     ensures counts { (live : List CardView) (d : ℕ) (c : CardView) → is_active (targets_of live) d c
         ≡ is_active_by (count_on live) d c }
@@ -26,7 +26,7 @@ pub fn counts_tell_statuses()
         is_active_by before d c ≡ is_active_by now d c }
 {}
 
-/// A card that a run didn't touch was, before the run, what its history after the run says by the counts before it.
+/// A card that a run didn't touch had, before the run, the status that its history gives by the counts before it.
 pub fn untouched_cards_stood()
     ensures { (old new : LibraryView) (d : DeckView) (c : CardView) → IsSound old → Continues old.idents new.idents →
         Contains (all_decks new) d → Contains d.cards c → is_touched (touched old new)
@@ -34,20 +34,20 @@ pub fn untouched_cards_stood()
         status_of (ref_of new.idents c) old ≡ Some (is_active_by (live_count old) d.ident c) }
 {}
 
-/// No more cards are new or differ in status than a run affects.
+/// The cards that are new or differ in status are at most as many as the run affects.
 pub fn altered_cards_are_affected()
     ensures { (old new : LibraryView) → IsSound old → Continues old.idents new.idents →
         length (altered old new) ≤ length (affected (touched old new) old new) }
 {}
 
-/// A card is reached exactly where a target covers it whose count is 0 before or now, and not both.
+/// A card is reached exactly when a target covers it whose count is 0 in exactly one of before and now.
 pub fn what_flipped_covers_is_reached()
     ensures { (before now : Target → ℕ) (d : ℕ) (c : CardView) → (is_reached before now d c ≡ true)
         ↔ ((t : Target) × (is_flipped before now t ≡ true) × (covers d c t ≡ true)) }
 {}
 
-/// By a cache that is right for the library that a run has reached, the active cards renewed from a part of it and
-/// from those of the library before are those of the library reached, where the decks left out are as before.
+/// The active cards after a run can be made from a part of the library, a right cache and the active cards before the
+/// run, where the decks left out are as before.
 pub fn renewed_active_cards_are_those_reached()
     ensures { (out : Serial → Bool) (old new : LibraryView) (cache : CacheView) → IsSound old → IsSound new → IsWhole new
         → IsRight new cache → AllByRecursion (IsAsBefore old new) (filter (λ d. out d.ident) new.decks)

@@ -1,13 +1,15 @@
-//! Kept statuses of cards and counts of targets, led on after each run by looking anew only at the cards whose status it
-//! can have changed.
+//! Stored statuses of cards and counts of targets, updated after each run. An update reads only the histories of cards
+//! whose status the run may have changed.
+//!
+//! Each call that returns an `AllocError`, or a `Fault` (NoMemory at line 0), fails only when memory runs out.
 #![tactic(auto)]
 
 pub mod cache;
 mod cascade;
 pub mod laws;
 mod renewing;
-mod statuses;
 mod status_changes;
+mod statuses;
 mod touched;
 
 pub use cache::Cache;

@@ -1,4 +1,4 @@
-//! Active cards renewed after a run.
+//! The active cards after a run.
 
 ghost use Rattle.std.specs.Prelude.{◌≡◌, ◌++◌, map, IfOk, OnOk};
 ghost use Rattle.std.specs.List.{filter, find, flat_map};
@@ -14,7 +14,7 @@ use upd_core::card::card_ref;
 use upd_core::deck::deck_aged;
 use upd_core::{ActiveDeck, Actives, Card, Deck, Ident, Library, Serial};
 
-/// Each held deck of a directory: anew where a part has it, else as it was.
+/// The active cards of each held deck of a directory: from the part where it has the deck, else as before.
 pub(crate) fn renewed_decks(
     alloc: Global,
     statuses: &Statuses,
@@ -93,7 +93,7 @@ fn active_deck_aged(decks: &[ActiveDeck], age: Serial) -> Option<&ActiveDeck>
     None
 }
 
-/// The active cards of a deck, by kept statuses.
+/// The active cards of a deck, by the cached statuses.
 fn anew(
     alloc: Global,
     statuses: &Statuses,

@@ -1,5 +1,5 @@
-//! Tells a settling as row changes: the statuses that are new or other ones, those of cards that are there again, and
-//! the counts that differ.
+//! The row changes of a status update: statuses that are new or differ, statuses of cards that were deleted and
+//! inserted again, and counts that differ.
 
 ghost use Rattle.std.specs.Prelude.{◌≡◌, ◌++◌, Some, map, IfOk, OnOk};
 ghost use Rattle.std.specs.List.{flat_map};
@@ -15,7 +15,7 @@ use crate::statuses::Statuses;
 use std::alloc::{AllocError, Global};
 use upd_core::{CardRef, Change, Target, TargetCounts};
 
-/// What a settling tells, once the changes of its run are carried out.
+/// The row changes of a status update, to be carried out after those of its run.
 pub(crate) fn tell(
     alloc: Global,
     before: &Before,
@@ -33,7 +33,7 @@ pub(crate) fn tell(
     Ok(changes)
 }
 
-/// Tells each status that was found, where the kept one is another one or there is none.
+/// Adds each status found that is new or differs from the known one.
 fn add_status_changes(
     changes: &mut Vec<Change>,
     known: &Statuses,
@@ -50,7 +50,7 @@ fn add_status_changes(
     Ok(())
 }
 
-/// Whether a status is none or another one.
+/// Whether a status is new or differs.
 fn is_other(now: bool, was: Option<bool>) -> bool
     ensures { result ≡ is_other now was }
 {
@@ -71,9 +71,13 @@ fn push_status(changes: &mut Vec<Change>, card: &CardRef, active: bool) -> Resul
     Ok(())
 }
 
-/// Tells the status of each card that a run took away, and its status with it, and that is there nevertheless: its
-/// name was purged and came again, or it was told as gone and new.
-fn add_repeated_statuses(changes: &mut Vec<Change>, now: &Statuses, run: &[Change]) -> Result<(), AllocError>
+/// Adds the status of each card that the run deleted, with its status, and that exists after the run: its name was
+/// purged and introduced again, or its diff was gone and new.
+fn add_repeated_statuses(
+    changes: &mut Vec<Change>,
+    now: &Statuses,
+    run: &[Change],
+) -> Result<(), AllocError>
     ensures { OnOk result (map change_view changes.new.items ≡ map change_view changes.old.items
         ++ all_repeated_statuses (kept_status now.now) (map change_view run.now)) }
 {
@@ -96,7 +100,7 @@ fn push_kept(changes: &mut Vec<Change>, now: &Statuses, card: &CardRef) -> Resul
     Ok(())
 }
 
-/// Tells the count of each target that has another one than before.
+/// Adds the count of each target whose count differs from before.
 fn tell_counts(
     alloc: Global,
     changes: &mut Vec<Change>,

@@ -13,7 +13,7 @@ use std::collections::BTreeMap;
 use std::marker::Model;
 use upd_core::{CardRef, CountedCard};
 
-/// Whether each card that it knows is active, for a yank card live.
+/// The statuses of some cards: whether each is active; for a yank card, whether it is live.
 #[derive(Drop)]
 pub(crate) struct Statuses {
     statuses: BTreeMap<CardRef, bool>,
@@ -37,8 +37,7 @@ impl Statuses {
         }
     }
 
-    /// The statuses in these rows; of a card that has more than one row, that in the last one. Rows that come by card
-    /// need one comparison each. Memory alone can fail.
+    /// The statuses in these rows; the last row of a card counts. Rows in order of card need one comparison each.
     pub(crate) fn of_rows(alloc: Global, rows: &[(CardRef, bool)]) -> Result<Statuses, AllocError>
         ensures { IfOk result (λ statuses. (r : CardRef) → kept_status statuses r
             ≡ update_all same_ref (λ _. None) rows.now r) }
@@ -47,7 +46,7 @@ impl Statuses {
         Ok(Statuses { statuses })
     }
 
-    /// A copy; memory alone can fail.
+    /// A deep copy.
     pub(crate) fn copy(&self) -> Result<Statuses, AllocError>
         ensures { IfOk result (λ copy. copy ≡ self.now) }
     {
@@ -55,7 +54,7 @@ impl Statuses {
         Ok(Statuses { statuses })
     }
 
-    /// How many cards it knows.
+    /// The number of cards that have a status here.
     pub(crate) fn len(&self) -> usize
         ensures { result ≡ length self.now }
     {
@@ -69,7 +68,7 @@ impl Statuses {
         self.statuses.get(&card).copied()
     }
 
-    /// Sets the status of a card; memory alone can fail.
+    /// Sets the status of a card.
     pub(crate) fn put(&mut self, card: CardRef, active: bool) -> Result<(), AllocError>
         ensures { OnOk result ((r : CardRef) → kept_status self.new r
             ≡ (if same_ref card r then Some active else kept_status self.old r)) }
@@ -78,7 +77,7 @@ impl Statuses {
         Ok(())
     }
 
-    /// Sets these statuses, one after the other; memory alone can fail.
+    /// Sets these statuses, in order.
     pub(crate) fn put_all(&mut self, found: &[(CardRef, bool)]) -> Result<(), AllocError>
         ensures { OnOk result ((r : CardRef) → kept_status self.new r
             ≡ update_all same_ref (kept_status self.old) found.now r) }
@@ -89,7 +88,7 @@ impl Statuses {
         Ok(())
     }
 
-    /// Adds the statuses of these cards, as they are known elsewhere; memory alone can fail.
+    /// Adds the statuses that these cards have in `known`.
     pub(crate) fn keep(&mut self, known: &Statuses, cards: &[CountedCard]) -> Result<(), AllocError>
         ensures { OnOk result ((r : CardRef) → kept_status self.new r ≡ (if list_any (λ k. same_ref k.card r) cards.now
             then option_or (kept_status known.now r) (kept_status self.old r) else kept_status self.old r)) }

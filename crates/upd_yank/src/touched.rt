@@ -1,4 +1,4 @@
-//! The cards that a run touched, found fast.
+//! The cards that a run touched, as a set with fast look-ups.
 
 ghost use Rattle.std.specs.Prelude.{◌≡◌, ◌||◌, [], OnOk, IfOk};
 ghost use Rattle.std.specs.List.{list_any};
@@ -25,7 +25,7 @@ impl Model for Touched {
 }
 
 impl Touched {
-    /// These cards; memory alone can fail.
+    /// The set of these cards.
     pub(crate) fn of(alloc: Global, cards: &[CardRef]) -> Result<Touched, AllocError>
         ensures { IfOk result (λ touched. (card : CardRef) → list_any (same_ref card) touched
             ≡ list_any (same_ref card) cards.now) }
@@ -37,7 +37,7 @@ impl Touched {
         Ok(touched)
     }
 
-    /// No card.
+    /// The empty set. It does not allocate.
     pub(crate) fn new(alloc: Global) -> Touched
         ensures { result ≡ [] }
     {
@@ -46,7 +46,7 @@ impl Touched {
         }
     }
 
-    /// Adds these cards; memory alone can fail.
+    /// Adds these cards.
     pub(crate) fn add_all(&mut self, cards: &[CountedCard]) -> Result<(), AllocError>
         ensures { OnOk result ((r : CardRef) → list_any (same_ref r) self.new
             ≡ (list_any (same_ref r) self.old || list_any (λ k. same_ref r k.card) cards.now)) }
@@ -65,7 +65,7 @@ impl Touched {
         Ok(())
     }
 
-    /// Whether a card is among them.
+    /// Whether a card is in the set.
     pub(crate) fn has(&self, card: CardRef) -> bool
         ensures { result ≡ list_any (same_ref card) self.now }
     {

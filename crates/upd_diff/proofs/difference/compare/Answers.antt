@@ -6,7 +6,7 @@ use Rattle.upd_diff.proofs.LeadLemmas.{paired_lead}
 use Rattle.upd_diff.proofs.ShownRowsLemmas.{fit_row_changes, shown_by_row_changes, taken_by_row_changes}
 use Rattle.upd_diff.proofs.difference.compare.Goals as goal
 
--- what was compared is told
+-- the result is what was compared
 pub returns-clause-row_changes : goal.returns-clause-row_changes
 returns-clause-row_changes c =
     let old = c.args.before.now in
