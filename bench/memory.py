@@ -1,5 +1,5 @@
 #!/usr/bin/env python3
-"""Refuses one request for memory after the other: in the tests of crates/upd_hostile_tests, and in the lasting executable on a library in a file.
+"""Refuses one request for memory after the other: in the tests of crates/upd_wire_tests, and in the lasting executable on a library in a file.
 
     python3 bench/memory.py [--executable FILE] [--every N]
 
@@ -50,8 +50,8 @@ void *malloc(size_t size) { return is_refused() ? NULL : __libc_malloc(size); }
 void *realloc(void *old, size_t size) { return is_refused() ? NULL : __libc_realloc(old, size); }
 """
 
-NAMES = ["memory::one_run", "memory::yanks_of_yanks", "memory::purges", "memory::calls_of_a_common_deck", "memory::six_yanks_in_a_row",
-         "memory::settlements", "memory::runs_that_arrive_together", "wires::a_spool", "wires::requests"]
+NAMES = ["memory_of_desks::one_run", "memory_of_desks::yanks_of_yanks", "memory_of_desks::purges", "memory_of_desks::calls_of_a_common_deck", "memory_of_desks::six_yanks_in_a_row",
+         "memory_of_desks::settlements", "memory_of_desks::runs_that_arrive_together", "memory_of_streams::a_spool", "memory_of_streams::requests"]
 DECK = b"*DECK A\nONE\nTWO\nTHREE\n"
 FRAMES = [b"RUN LYON 1 full 22\n" + DECK + b"\n", b"RUN LYON 2 quick 0\n\n", b"RUN LYON 3 full 21\n*IDENT X\n*DELETE A.3\n\n"]
 RUNS = [
@@ -205,7 +205,7 @@ def main():
     words.add_argument("--every", metavar="N", type=int, default=1, help="refuse only every so many requests of a command (default: 1)")
     words = words.parse_args()
     tools("cc")
-    tests, upd = tests_of("upd_hostile_tests"), there(words.executable)
+    tests, upd = tests_of("upd_wire_tests"), there(words.executable)
     with tempfile.TemporaryDirectory(dir=QUICK) as folder:
         folder = Path(folder)
         refusing = Refusing(folder)
