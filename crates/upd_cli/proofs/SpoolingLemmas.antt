@@ -9,10 +9,10 @@ use Rattle.std.proofs.lemmas.List.Elements.{All-nil, All-pop}
 use Rattle.upd_text.specs.declared.fault.Fault.{Fault}
 use Rattle.upd_text.specs.declared.fault.FaultKind.{FaultKind}
 use Rattle.upd_text.specs.declared.fault.FaultKind.TheVariants.{NoMemory, Store, BadFrame, CutFrame, Read, Write}
-use Rattle.upd_records.specs.Rows.{Rows}
 use Rattle.upd_desk.specs.Answers.{is_answered}
 use Rattle.upd_desk.specs.Arrivals.{ArrivalView}
 use Rattle.upd_desk.specs.Outcomes.{ReplyView}
+use Rattle.upd_row_store.specs.declared.meaning.Meaning.{Ghosts}
 use Rattle.upd_row_store.specs.Keeping.IsLost.{OfMemory, OfStore}
 use Rattle.upd_store.specs.Faults.{IsUnopened}
 use Rattle.upd_spool.specs.Frames.{IsFrame, frame_text, frames_text}
@@ -48,11 +48,10 @@ lines_alone : (answers : List (Result ReplyView Fault)) (output output' : Option
     → Appends output output' (answer_lines answers ++ [])
 lines_alone answers output output' written = subst (Appends output output') (sym (append-nil (answer_lines answers))) written
 
-module _ {S : Type 0} {Image : Type 0} (is_honest is_open : S → Type 0) (image : S → Image) (shows : Image → Rows → Type 0)
-    (may_leave : S → Image → Type 0) (failures : S → ℕ) (old new : S) (input input' output output' : Option (List ℕ)) where
+module _ {S : Type 0} (meaning : Ghosts S) (old new : S) (input input' output output' : Option (List ℕ)) where
   -- frames that were answered, with what is taken behind them
   answered_so : (frames : List ArrivalView) (answers : List (Result ReplyView Fault)) (taken : List ℕ)
-      → Answered is_honest is_open image shows may_leave failures old new input input' output output' frames answers taken
+      → Answered meaning old new input input' output output' frames answers taken
       → AnswersFrames frames answers taken input input'
   answered_so frames answers taken went = record {
     are_frames = went.handled.are_frames;
@@ -63,7 +62,7 @@ module _ {S : Type 0} {Image : Type 0} (is_honest is_open : S → Type 0) (image
 
   -- frames that were answered, and a further one behind them
   answered_before : (frames : List ArrivalView) (answers : List (Result ReplyView Fault)) (frame : ArrivalView) (answer : Result ReplyView Fault) (out : List ℕ)
-      → Handled is_honest is_open image shows may_leave failures (frames ++ frame ∷ []) (answers ++ answer ∷ []) [] out old new input input' output output'
+      → Handled meaning (frames ++ frame ∷ []) (answers ++ answer ∷ []) [] out old new input input' output output'
       → All (λ answer. IsTrue (is_answered answer)) answers → AnswersFrames frames answers (frame_text frame) input input'
   answered_before frames answers frame answer out went told = record {
     are_frames = before_last IsFrame frames frame went.are_frames;
@@ -74,7 +73,7 @@ module _ {S : Type 0} {Image : Type 0} (is_honest is_open : S → Type 0) (image
 
   -- by what ended the spool
   lines_by : (kind : FaultKind) (frames : List ArrivalView) (answers : List (Result ReplyView Fault))
-      → EndsBy is_honest is_open image shows may_leave failures old new input input' output output' kind frames answers
+      → EndsBy meaning old new input input' output output' kind frames answers
       → LinesBefore kind frames answers input input' output output'
   lines_by Write frames answers ends =
       let answer = ends.1 in
@@ -97,7 +96,7 @@ module _ {S : Type 0} {Image : Type 0} (is_honest is_open : S → Type 0) (image
 
   -- the faults that may end it
   ends_by : (kind : FaultKind) (frames : List ArrivalView) (answers : List (Result ReplyView Fault))
-      → EndsBy is_honest is_open image shows may_leave failures old new input input' output output' kind frames answers → IsTrue (ends_spools kind)
+      → EndsBy meaning old new input input' output output' kind frames answers → IsTrue (ends_spools kind)
   ends_by NoMemory frames answers ends = refl
   ends_by Store frames answers ends = refl
   ends_by BadFrame frames answers ends = refl
@@ -107,13 +106,13 @@ module _ {S : Type 0} {Image : Type 0} (is_honest is_open : S → Type 0) (image
   ends_by _ frames answers ends = absurd ends.2
 
   -- the spool was read to its end
-  pub lines_of_all : (count : ℕ) → Ends is_honest is_open image shows may_leave failures old new input input' output output' (Ok count)
+  pub lines_of_all : (count : ℕ) → Ends meaning old new input input' output output' (Ok count)
       → TellsLines (Ok 0) input input' output output'
   lines_of_all count ends = (ends.0, ends.1, answered_so ends.0 ends.1 [] ends.2, ends.4, refl, ends.2.handled.written)
 
   -- the spool was ended by a fault
   pub lines_before : (fault : Fault)
-      → Ends is_honest is_open image shows may_leave failures old new input input' output output' (Err fault)
+      → Ends meaning old new input input' output output' (Err fault)
       → TellsLines (Err fault) input input' output output'
   lines_before fault ends =
       let lines = lines_by fault.kind ends.0 ends.1 ends.2 in

@@ -26,7 +26,7 @@ pub(crate) fn hand_in<S: RowStore, R: Read, W: Write>(
     input: &mut R,
     output: &mut W,
 ) -> Result<u8, Fault>
-    ensures tells { HandsIn S.is_honest S.is_open S.image S.shows S.may_leave S.failures_of site.now number mode.now
+    ensures tells { HandsIn S.Meaning site.now number mode.now
         (R.remaining input.old) result desk.old.store desk.new.store (W.contents output.old) (W.contents output.new) }
     ensures front { TakesFront (MAX_RUN_BYTES + 1) (R.remaining input.old) (R.remaining input.new) }
     ensures status { IfOk result (λ status. (status ≡ 0) ⊎ (status ≡ 1)) }
@@ -81,7 +81,7 @@ pub(crate) fn settle<S: RowStore, W: Write>(
     number: u64,
     output: &mut W,
 ) -> Result<u8, Fault>
-    ensures tells { SettlesSite S.is_honest S.is_open S.image S.shows S.may_leave S.failures_of site.now number
+    ensures tells { SettlesSite S.Meaning site.now number
         result desk.old.store desk.new.store (W.contents output.old) (W.contents output.new) }
     ensures status { IfOk result (λ status. status ≡ 0) }
     ensures silent { IfErr result (λ fault. exit_status fault.kind ≡ 1 → output.new ≡ output.old) }

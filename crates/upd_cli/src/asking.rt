@@ -30,7 +30,7 @@ pub(crate) fn inquire<S: RowStore, W: Write>(
     question: &Question,
     output: &mut W,
 ) -> Result<u8, Fault>
-    ensures asks { AsksQuestion S.is_honest S.is_open S.image S.shows S.may_leave S.failures_of question.now
+    ensures asks { AsksQuestion S.Meaning question.now
         result desk.old.store desk.new.store (W.contents output.old) (W.contents output.new) }
     ensures status { IfOk result (λ status. status ≡ 0) }
     ensures silent { IfErr result (λ fault. exit_status fault.kind ≡ 1 → output.new ≡ output.old) }
@@ -50,7 +50,7 @@ fn ask<S: RowStore>(
     desk: &mut Desk<S>,
     question: &Question,
 ) -> Result<Vec<u8>, Fault>
-    ensures { IsAnswered S.is_honest S.is_open S.image S.shows S.may_leave S.failures_of question.now
+    ensures { IsAnswered S.Meaning question.now
         (result_map_both (λ text. text.items) (λ fault. fault) result) desk.old.store desk.new.store }
 {
     match question {

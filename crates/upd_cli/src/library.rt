@@ -24,7 +24,8 @@ use upd_desk::Desk;
 use upd_http::serve_on;
 use upd_migrate::migrate;
 use upd_spool::spool;
-use upd_store::file::{FileLibrary, close, connect, create, open};
+use upd_store::SqlStore;
+use upd_store::file::{FileLibrary, close, connect, create};
 use upd_text::{Fault, FaultKind};
 
 /// A desk over the library in a file.
@@ -244,7 +245,7 @@ fn answer_on<W: Write>(
 fn open_desk(rt: &HostRuntime, file: &str) -> Result<FileDesk, Fault>
     ensures { IfErr result IsUnopened }
 {
-    match open(rt, file, Unknown) {
+    match SqlStore::open(rt, file, false, Unknown) {
         Ok(library) => Ok(Desk::open(library)),
         Err(fault) => Err(fault),
     }

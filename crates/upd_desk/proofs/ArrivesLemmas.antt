@@ -9,6 +9,7 @@ use Rattle.upd_text.specs.declared.fault.FaultKind.TheVariants as fault
 use Rattle.upd_core.specs.Library.{LibraryView, empty}
 use Rattle.upd_records.specs.Rows.{RunView, Rows, Shows, ShowsStates}
 use Rattle.upd_compile.specs.declared.mode.Mode.{Mode}
+use Rattle.upd_row_store.specs.declared.meaning.Meaning.{Ghosts}
 use Rattle.upd_row_store.specs.Keeping.{IsLost, Keeps, MoreFailures, OfMemory, OfStore}
 use Rattle.upd_row_store.specs.Tables.{mark_at, run_at}
 use Rattle.upd_row_store.proofs.StoreLemmas.{keeps_still}
@@ -68,23 +69,30 @@ module _ {Image : Type 0} (shows : Image → Rows → Type 0) where
 
 -- ---- answers
 
-module _ {S : Type 0} {Image : Type 0} (is_honest is_open : S → Type 0) (image : S → Image) (shows : Image → Rows → Type 0)
-    (may_leave : S → Image → Type 0) (failures : S → ℕ) where
+module _ {S : Type 0} (meaning : Ghosts S) where
+  open meaning use {shows, image, is_open}
+
+  -- What is known of an arrival that is looked up: it passed the door, its number is above the mark that the tables hold, and what is kept.
+  pub record IsAsked (mode : Mode) (a : ArrivalView) (kept : Option RunView) (s : S) : Type 0 where
+    pub passed : door a ≡ Ok mode
+    pub above : is_open s → (rows : Rows) → shows (image s) rows → nat_lt (mark_at a.site rows) a.number ≡ true
+    pub found : is_open s → (rows : Rows) → shows (image s) rows → run_at a.site a.number rows ≡ kept
+
+module _ {S : Type 0} {meaning : Ghosts S} where
+  open meaning use {Image, shows, image, is_open, is_honest, may_leave}
+
   -- what a journal is held in before a call is what its journals are asked of
   abbrev HeldAt : S → Journal → Type 0
   HeldAt s j = is_open s → HoldsIn shows j (image s)
 
-  abbrev Went : ArrivalView → Result ReplyView Fault → S → S → Type 0
-  Went = Arrives is_honest is_open image shows may_leave failures
-
-  held_after : (old new : S) → Keeps is_honest is_open image shows may_leave failures old new → is_honest new → (j k : Journal) → Alike j k
+  held_after : (old new : S) → Keeps meaning old new → is_honest new → (j k : Journal) → Alike j k
       → HeldAt old j → is_open new → HoldsIn shows k (image new)
   held_after old new keeps honest j k alike held is =
       subst (HoldsIn shows k) (sym (keeps.same honest is)) (holds_in_alike shows j k (image old) alike (held (keeps.was_open honest is)))
 
   -- A call that only read, and a refusal that isn't kept: nothing changed, and the journal goes on alike.
-  pub refuses : (a : ArrivalView) (f : Fault) (old new : S) → Keeps is_honest is_open image shows may_leave failures old new
-      → is_lost f.kind ≡ false → (is_honest new → (j : Journal) → HeldAt old j → answer j a ≡ Err f) → Went a (Err f) old new
+  pub refuses : (a : ArrivalView) (f : Fault) (old new : S) → Keeps meaning old new
+      → is_lost f.kind ≡ false → (is_honest new → (j : Journal) → HeldAt old j → answer j a ≡ Err f) → Arrives meaning a (Err f) old new
   refuses a f old new keeps stays answers = record {
     honest = keeps.honest;
     was_open = keeps.was_open;
@@ -100,8 +108,8 @@ module _ {S : Type 0} {Image : Type 0} (is_honest is_open : S → Type 0) (image
 
   -- A call that only read, and a kept reply: nothing changed, and nothing is in hand.
   pub tells : (settles : (s : S) (i : Image) → is_honest s → is_open s → may_leave s i → i ≡ image s) (a : ArrivalView) (reply : ReplyView)
-      (old new : S) → Keeps is_honest is_open image shows may_leave failures old new → (is_honest new → is_open new)
-      → (is_honest new → (j : Journal) → HeldAt old j → (answer j a ≡ Ok reply) × (distinct (Came a ∷ j) ≡ distinct j)) → Went a (Ok reply) old new
+      (old new : S) → Keeps meaning old new → (is_honest new → is_open new)
+      → (is_honest new → (j : Journal) → HeldAt old j → (answer j a ≡ Ok reply) × (distinct (Came a ∷ j) ≡ distinct j)) → Arrives meaning a (Ok reply) old new
   tells settles a reply old new keeps opens answers = record {
     honest = keeps.honest;
     was_open = keeps.was_open;
@@ -116,8 +124,8 @@ module _ {S : Type 0} {Image : Type 0} (is_honest is_open : S → Type 0) (image
       holds honest j held is = held_after old new keeps honest j (Came a ∷ j) (alike_unheard j a (answers honest j held).1) held is
 
   -- A call that failed and tried no write: nothing changed, and the arrival didn't happen.
-  pub loses : (a : ArrivalView) (f : Fault) (old new : S) → Keeps is_honest is_open image shows may_leave failures old new
-      → IsLost f → Went a (Err f) old new
+  pub loses : (a : ArrivalView) (f : Fault) (old new : S) → Keeps meaning old new
+      → IsLost f → Arrives meaning a (Err f) old new
   loses a f old new keeps lost = record {
     honest = keeps.honest;
     was_open = keeps.was_open;
@@ -127,13 +135,7 @@ module _ {S : Type 0} {Image : Type 0} (is_honest is_open : S → Type 0) (image
     leaves = λ honest j hand guards i may. rw (lost_kind f lost) (left_more shows j (Came a) hand i (guards.left i (keeps.crash honest i may)));
   }
 
-  -- What is known of an arrival that is looked up: it passed the door, its number is above the mark that the tables hold, and what is kept.
-  pub record IsAsked (mode : Mode) (a : ArrivalView) (kept : Option RunView) (s : S) : Type 0 where
-    pub passed : door a ≡ Ok mode
-    pub above : is_open s → (rows : Rows) → shows (image s) rows → nat_lt (mark_at a.site rows) a.number ≡ true
-    pub found : is_open s → (rows : Rows) → shows (image s) rows → run_at a.site a.number rows ≡ kept
-
-  becomes_held : (made : (j : Journal) → IsMade (library_after j)) (mode : Mode) (a : ArrivalView) (old : S) (i : Image) (j : Journal) → IsAsked mode a None old
+  becomes_held : (made : (j : Journal) → IsMade (library_after j)) (mode : Mode) (a : ArrivalView) (old : S) (i : Image) (j : Journal) → IsAsked meaning mode a None old
       → is_open old → HoldsIn shows j (image old) → Becomes shows mode a (image old) i → HoldsIn shows (Came a ∷ j) i
   becomes_held made mode a old i j new is (rows, shown, held) becomes =
       let later = becomes (library_after j) (made j) rows shown held.library held.states in
@@ -142,8 +144,8 @@ module _ {S : Type 0} {Image : Type 0} (is_honest is_open : S → Type 0) (image
 
   -- A call that failed and may have tried to keep a new run: it is in hand.
   pub loses_new : (made : (j : Journal) → IsMade (library_after j)) (mode : Mode) (a : ArrivalView) (f : Fault) (old new : S)
-      → TriesRun is_honest is_open image shows may_leave failures mode a old new → (is_honest old → IsAsked mode a None old) → IsLost f
-      → (is_honest new → is_open new → image new ≡ image old) → Went a (Err f) old new
+      → TriesRun meaning mode a old new → (is_honest old → IsAsked meaning mode a None old) → IsLost f
+      → (is_honest new → is_open new → image new ≡ image old) → Arrives meaning a (Err f) old new
   loses_new made mode a f old new tries is_new lost same = record {
     honest = tries.honest;
     was_open = tries.was_open;
@@ -153,7 +155,7 @@ module _ {S : Type 0} {Image : Type 0} (is_honest is_open : S → Type 0) (image
     leaves = λ honest j hand guards i may. rw (lost_kind f lost) (by honest j hand guards i (tries.crash honest i may));
   }
     where
-      by : is_honest new → (j : Journal) (hand : List Event) → Guards is_honest is_open image shows may_leave failures j hand old → (i : Image)
+      by : is_honest new → (j : Journal) (hand : List Event) → Guards meaning j hand old → (i : Image)
           → may_leave old i ⊎ (is_open old × Becomes shows mode a (image old) i) → IsLeft shows j (Came a ∷ hand) i
       by honest j hand guards i (inl may) = left_more shows j (Came a) hand i (guards.left i may)
       by honest j hand guards i (inr (is, becomes)) = left_here shows j (Came a) hand i
@@ -162,11 +164,11 @@ module _ {S : Type 0} {Image : Type 0} (is_honest is_open : S → Type 0) (image
   -- A new run was kept: the store holds the journal with it, and nothing is in hand.
   pub keeps_new : (made : (j : Journal) → IsMade (library_after j))
       (settles : (s : S) (i : Image) → is_honest s → is_open s → may_leave s i → i ≡ image s) (mode : Mode) (a : ArrivalView) (reply : ReplyView)
-      (old new : S) → TriesRun is_honest is_open image shows may_leave failures mode a old new → (is_honest old → IsAsked mode a None old)
+      (old new : S) → TriesRun meaning mode a old new → (is_honest old → IsAsked meaning mode a None old)
       → (is_honest new → is_open new) → (is_honest new → Becomes shows mode a (image old) (image new))
       → (is_honest new → (l : LibraryView) → IsMade l → (rows : Rows) → shows (image old) rows → Shows rows l → ShowsStates rows l
       → reply ≡ (outcome mode a l).reply)
-      → Went a (Ok reply) old new
+      → Arrives meaning a (Ok reply) old new
   keeps_new made settles mode a reply old new tries is_new opens becomes replies = record {
     honest = tries.honest;
     was_open = tries.was_open;
@@ -194,7 +196,7 @@ module _ {S : Type 0} {Image : Type 0} (is_honest is_open : S → Type 0) (image
 
   -- what an arrival does behind such calls it does with them
   pub keeps_arrives : (a : ArrivalView) (result : Result ReplyView Fault) (old mid new : S)
-      → Keeps is_honest is_open image shows may_leave failures old mid → Went a result mid new → Went a result old new
+      → Keeps meaning old mid → Arrives meaning a result mid new → Arrives meaning a result old new
   keeps_arrives a result old mid new keeps went = record {
     honest = λ honest. keeps.honest (went.honest honest);
     was_open = λ honest is. keeps.was_open (went.honest honest) (went.was_open honest is);
@@ -210,11 +212,11 @@ module _ {S : Type 0} {Image : Type 0} (is_honest is_open : S → Type 0) (image
 
   -- what is known once the mark and the kept run were read
   pub asked : (mode : Mode) (a : ArrivalView) (m : ℕ) (kept : Option RunView) (old mid new : S)
-      → Keeps is_honest is_open image shows may_leave failures old mid → Keeps is_honest is_open image shows may_leave failures mid new
+      → Keeps meaning old mid → Keeps meaning mid new
       → door a ≡ Ok mode → m < a.number
       → (is_honest mid → (rows : Rows) → shows (image old) rows → m ≡ mark_at a.site rows)
       → (is_honest new → (rows : Rows) → shows (image mid) rows → kept ≡ run_at a.site a.number rows)
-      → is_honest new → IsAsked mode a kept new
+      → is_honest new → IsAsked meaning mode a kept new
   asked mode a m kept old mid new first last passed above marks runs honest = record {
     passed = passed;
     above = λ is rows shown. higher (mark_at a.site rows) (marks before rows (there is rows shown));
@@ -232,14 +234,14 @@ module _ {S : Type 0} {Image : Type 0} (is_honest is_open : S → Type 0) (image
 
   -- ---- the answers behind them
 
-  pub refuses_at_door : (a : ArrivalView) (f : Fault) (s : S) → Err f ≡ door a → Went a (Err f) s s
-  refuses_at_door a f s refused = refuses a f s s (keeps_still is_honest is_open image shows may_leave failures s) (door_keeps a f (sym refused))
+  pub refuses_at_door : (a : ArrivalView) (f : Fault) (s : S) → Err f ≡ door a → Arrives meaning a (Err f) s s
+  refuses_at_door a f s refused = refuses a f s s (keeps_still s) (door_keeps a f (sym refused))
       (λ honest j held. answer_at_door j a f (sym refused))
 
   pub refuses_settled : (mode : Mode) (a : ArrivalView) (m : ℕ) (f : Fault) (old new : S)
-      → Keeps is_honest is_open image shows may_leave failures old new → (is_honest new → is_open new) → door a ≡ Ok mode → a.number ≤ m
+      → Keeps meaning old new → (is_honest new → is_open new) → door a ≡ Ok mode → a.number ≤ m
       → (is_honest new → (rows : Rows) → shows (image old) rows → m ≡ mark_at a.site rows) → f ≡ record { kind = fault.Settled; at = 0 }
-      → Went a (Err f) old new
+      → Arrives meaning a (Err f) old new
   refuses_settled mode a m f old new keeps opens passed below marks is = refuses a f old new keeps (ap (λ g. is_lost g.kind) is) owed
     where
       lower : (mark : ℕ) → m ≡ mark → nat_le a.number mark ≡ true
@@ -251,14 +253,14 @@ module _ {S : Type 0} {Image : Type 0} (is_honest is_open : S → Type 0) (image
       owed : is_honest new → (j : Journal) → HeldAt old j → answer j a ≡ Err f
       owed honest j held = by j honest (held (keeps.was_open honest (opens honest)))
 
-  known : (mode : Mode) (a : ArrivalView) (run : RunView) (s : S) (j : Journal) → is_open s → IsAsked mode a (Some run) s
+  known : (mode : Mode) (a : ArrivalView) (run : RunView) (s : S) (j : Journal) → is_open s → IsAsked meaning mode a (Some run) s
       → HoldsIn shows j (image s) → (answer j a ≡ reply_to mode a (library_after j) (Some run)) × (distinct (Came a ∷ j) ≡ distinct j)
   known mode a run s j is asks (rows, shown, held) = answer_again j a mode rows run held asks.passed (asks.above is rows shown) (asks.found is rows shown)
 
   pub tells_kept : (settles : (s : S) (i : Image) → is_honest s → is_open s → may_leave s i → i ≡ image s) (mode : Mode) (a : ArrivalView)
-      (run : RunView) (reply : ReplyView) (s : S) → (is_honest s → is_open s) → (is_honest s → IsAsked mode a (Some run) s)
-      → ((l : LibraryView) → Ok reply ≡ reply_to mode a l (Some run)) → Went a (Ok reply) s s
-  tells_kept settles mode a run reply s opens asks row_changes = tells settles a reply s s (keeps_still is_honest is_open image shows may_leave failures s) opens owed
+      (run : RunView) (reply : ReplyView) (s : S) → (is_honest s → is_open s) → (is_honest s → IsAsked meaning mode a (Some run) s)
+      → ((l : LibraryView) → Ok reply ≡ reply_to mode a l (Some run)) → Arrives meaning a (Ok reply) s s
+  tells_kept settles mode a run reply s opens asks row_changes = tells settles a reply s s (keeps_still s) opens owed
     where
       owed : is_honest s → (j : Journal) → HeldAt s j → (answer j a ≡ Ok reply) × (distinct (Came a ∷ j) ≡ distinct j)
       owed honest j held =
@@ -266,7 +268,7 @@ module _ {S : Type 0} {Image : Type 0} (is_honest is_open : S → Type 0) (image
           (both.0 ∙ sym (row_changes (library_after j)), both.1)
 
   pub refuses_changed : (mode : Mode) (a : ArrivalView) (run : RunView) (f : Fault) (s : S) → (is_honest s → is_open s)
-      → (is_honest s → IsAsked mode a (Some run) s) → ((l : LibraryView) → Err f ≡ reply_to mode a l (Some run)) → Went a (Err f) s s
-  refuses_changed mode a run f s opens asks row_changes = refuses a f s s (keeps_still is_honest is_open image shows may_leave failures s)
+      → (is_honest s → IsAsked meaning mode a (Some run) s) → ((l : LibraryView) → Err f ≡ reply_to mode a l (Some run)) → Arrives meaning a (Err f) s s
+  refuses_changed mode a run f s opens asks row_changes = refuses a f s s (keeps_still s)
       (changed_keeps mode a empty run f (row_changes empty))
       (λ honest j held. (known mode a run s j (opens honest) (asks honest) (held (opens honest))).0 ∙ sym (row_changes (library_after j)))

@@ -1,5 +1,5 @@
 -- What a query of a desk tells.
-use Rattle.std.proofs.Common.{◌≡◌, ℕ, nat_lt, Bool, true, false, ◌⊎◌, if◌then◌else◌, IsTrue, List, [], ◌∷◌, take, Option, Some, None, Result, Ok, Err}
+use Rattle.std.proofs.Common.{◌≡◌, ℕ, nat_lt, Bool, true, false, ◌⊎◌, if◌then◌else◌, List, [], ◌∷◌, take, Option, Some, None, Result, Ok, Err}
 use Rattle.std.proofs.Common.{inl, inr, refl, ap, sym, ◌∙◌, subst, rules}
 use Rattle.std.specs.Prelude.{count_by}
 use Rattle.std.specs.List.{enumerate_from, filter_map, flat_map}
@@ -15,6 +15,7 @@ use Rattle.upd_compile.specs.File.{FileView, event_fault, event_line, file_of, i
 use Rattle.upd_compile.specs.Walk.{WalkEvent, Line, Follow, Depth, Unknown, walk}
 use Rattle.upd_compile.specs.declared.mode.Mode.{Mode}
 use Rattle.upd_records.specs.Rows.{Rows, Shows, ShowsStates}
+use Rattle.upd_row_store.specs.declared.meaning.Meaning.{Ghosts}
 use Rattle.upd_row_store.specs.Keeping.{IsLost, Keeps, OfMemory}
 use Rattle.upd_desk.specs.Journal.{Journal, library_after}
 use Rattle.upd_desk.specs.Made.{IsMade}
@@ -42,13 +43,14 @@ of_held {P = P} shows image opened all j held = by (held opened)
     by : HoldsIn shows j image → P
     by (rows, shown, holds) = all (library_after j) (library_made j) rows shown holds.library
 
-module _ {S : Type 0} {Image : Type 0} (is_honest is_open : S → Type 0) (image : S → Image) (shows : Image → Rows → Type 0)
-    (may_leave : S → Image → Type 0) (failures : S → ℕ) where
+module _ {S : Type 0} {meaning : Ghosts S} where
+  open meaning use {shows, image, is_open, is_honest}
+
   -- what is owed of what was loaded is owed of the library after the journal, where the same is defined of both
   pub tells_same : (made : (j : Journal) → IsMade (library_after j)) {A : Type 0} (defined : LibraryView → Result A Fault) (owed result : Result A Fault)
-      (old new : S) → Keeps is_honest is_open image shows may_leave failures old new → (is_honest new → is_open new)
+      (old new : S) → Keeps meaning old new → (is_honest new → is_open new)
       → (is_honest new → (l : LibraryView) → IsMade l → (rows : Rows) → shows (image old) rows → Shows rows l → ShowsStates rows l → owed ≡ defined l)
-      → IsOwed owed result → Tells is_honest is_open image shows may_leave failures defined result old new
+      → IsOwed owed result → Tells meaning defined result old new
   tells_same made defined owed result old new keeps opens same meets honest j held = by (held (keeps.was_open honest (opens honest)))
     where
       by : HoldsIn shows j (image old) → IsOwed (defined (library_after j)) result
@@ -56,7 +58,7 @@ module _ {S : Type 0} {Image : Type 0} (is_honest is_open : S → Type 0) (image
           subst (λ o. IsOwed o result) (same honest (library_after j) (made j) rows shown holds.library holds.states) meets
 
   -- what tables showed before a call that only read them they show after it
-  pub shown_there : (old mid : S) → Keeps is_honest is_open image shows may_leave failures old mid → is_honest mid → is_open mid → (rows : Rows)
+  pub shown_there : (old mid : S) → Keeps meaning old mid → is_honest mid → is_open mid → (rows : Rows)
       → shows (image old) rows → shows (image mid) rows
   shown_there old mid keeps honest is rows shown = subst (λ i. shows i rows) (sym (keeps.same honest is)) shown
 

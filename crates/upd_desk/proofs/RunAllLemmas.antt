@@ -4,7 +4,7 @@ use Rattle.std.specs.List.{All}
 use Rattle.std.proofs.lemmas.List.Elements.{All-push}
 use Rattle.upd_text.specs.declared.fault.Fault.{Fault}
 use Rattle.upd_text.specs.declared.fault.FaultKind.TheVariants as fault
-use Rattle.upd_records.specs.Rows.{Rows}
+use Rattle.upd_row_store.specs.declared.meaning.Meaning.{Ghosts}
 use Rattle.upd_row_store.specs.Keeping.{MoreFailures}
 use Rattle.upd_desk.specs.Arrivals.{ArrivalView}
 use Rattle.upd_desk.specs.Journal.{Event, Journal}
@@ -45,10 +45,11 @@ answers_more j [] (r ∷ results) a result are is = grind rules
 answers_more j (b ∷ list) [] a result are is = grind rules
 answers_more j (b ∷ list) (r ∷ results) a result are is = (are.0, answers_more (after j b r) list results a result are.1 is)
 
-module _ {S : Type 0} {Image : Type 0} (is_honest is_open : S → Type 0) (image : S → Image) (shows : Image → Rows → Type 0)
-    (may_leave : S → Image → Type 0) (failures : S → ℕ) where
+module _ {S : Type 0} {meaning : Ghosts S} where
+  open meaning use {Image, shows, image, is_open, is_honest}
+
   -- no arrival does nothing
-  pub none_arrived : (s : S) → RunAll is_honest is_open image shows may_leave failures [] [] s s
+  pub none_arrived : (s : S) → RunAll meaning [] [] s s
   none_arrived s = record {
     honest = λ honest. honest;
     was_open = λ honest is. is;
@@ -60,9 +61,9 @@ module _ {S : Type 0} {Image : Type 0} (is_honest is_open : S → Type 0) (image
 
   -- one arrival more
   pub one_more : (list : List ArrivalView) (results : List (Result ReplyView Fault)) (a : ArrivalView) (result : Result ReplyView Fault)
-      (old mid new : S) → length list ≡ length results → RunAll is_honest is_open image shows may_leave failures list results old mid
-      → Arrives is_honest is_open image shows may_leave failures a result mid new
-      → RunAll is_honest is_open image shows may_leave failures (list ++ a ∷ []) (results ++ result ∷ []) old new
+      (old mid new : S) → length list ≡ length results → RunAll meaning list results old mid
+      → Arrives meaning a result mid new
+      → RunAll meaning (list ++ a ∷ []) (results ++ result ∷ []) old new
   one_more list results a result old mid new same all went = record {
     honest = λ honest. all.honest (went.honest honest);
     was_open = λ honest is. all.was_open (went.honest honest) (went.was_open honest is);
@@ -87,8 +88,8 @@ module _ {S : Type 0} {Image : Type 0} (is_honest is_open : S → Type 0) (image
   -- the cards that are looked at for one arrival more
   pub work_one_more : (list : List ArrivalView) (results : List (Result ReplyView Fault)) (a : ArrivalView) (result : Result ReplyView Fault)
       (old mid new : S) (work before later : ℕ) → length list ≡ length results
-      → RunAll is_honest is_open image shows may_leave failures list results old mid
-      → Arrives is_honest is_open image shows may_leave failures a result mid new
+      → RunAll meaning list results old mid
+      → Arrives meaning a result mid new
       → (is_honest mid → (j : Journal) → (is_open old → HoldsIn shows j (image old)) → before ≡ work_after_all work j list results)
       → (is_honest new → (j : Journal) → (is_open mid → HoldsIn shows j (image mid)) → IfOk result (λ reply. later ≡ work_of j a))
       → OnErr result (later ≡ before)

@@ -1,5 +1,5 @@
 -- What each answer to a settlement makes of a desk over a store.
-use Rattle.std.proofs.Common.{◌≡◌, ℕ, ◌≤◌, nat_le, max, Bool, true, false, not, ◌⊎◌, if◌then◌else◌, List, ◌∷◌, Result, Ok, Err}
+use Rattle.std.proofs.Common.{◌≡◌, ℕ, ◌≤◌, nat_le, max, Bool, true, false, not, ◌⊎◌, if◌then◌else◌, List, ◌∷◌, Ok, Err}
 use Rattle.std.proofs.Common.{inl, inr, refl, ap, sym, ◌∙◌, subst, rules, arith}
 use Rattle.std.specs.Str.{bytes_eq}
 use Rattle.std.proofs.lemmas.Bool.Decides.{nat_tests}
@@ -7,6 +7,7 @@ use Rattle.upd_text.specs.declared.fault.Fault.{Fault}
 use Rattle.upd_text.specs.declared.fault.FaultKind.TheVariants as fault
 use Rattle.upd_text.specs.Outcome.{◌>>=◌, at_line, refuse_if}
 use Rattle.upd_records.specs.Rows.{Rows}
+use Rattle.upd_row_store.specs.declared.meaning.Meaning.{Ghosts}
 use Rattle.upd_row_store.specs.Keeping.{IsLost, Keeps, Tries}
 use Rattle.upd_row_store.specs.Tables.{mark_at, settled_to}
 use Rattle.upd_row_store.proofs.TableLemmas.{max_right, same_bytes, shows_settled, states_settled}
@@ -49,17 +50,15 @@ holds_settled j s n rows held = record {
   marks = mark_settled j s n rows held.marks;
 }
 
-module _ {S : Type 0} {Image : Type 0} (is_honest is_open : S → Type 0) (image : S → Image) (shows : Image → Rows → Type 0)
-    (may_leave : S → Image → Type 0) (failures : S → ℕ) where
+module _ {S : Type 0} {meaning : Ghosts S} where
+  open meaning use {Image, shows, image, is_open, is_honest, may_leave}
+
   abbrev HeldAt : S → Journal → Type 0
   HeldAt s j = is_open s → HoldsIn shows j (image s)
 
-  abbrev Did : List ℕ → ℕ → Result ℕ Fault → S → S → Type 0
-  Did = Settles is_honest is_open image shows may_leave failures
-
   -- a refusal of the site or the number
-  pub refuses_key : (site : List ℕ) (n : ℕ) (f : Fault) (old new : S) → Keeps is_honest is_open image shows may_leave failures old new
-      → key_door site n ≡ Err f → Did site n (Err f) old new
+  pub refuses_key : (site : List ℕ) (n : ℕ) (f : Fault) (old new : S) → Keeps meaning old new
+      → key_door site n ≡ Err f → Settles meaning site n (Err f) old new
   refuses_key site n f old new keeps refused = record {
     honest = keeps.honest;
     was_open = keeps.was_open;
@@ -70,8 +69,8 @@ module _ {S : Type 0} {Image : Type 0} (is_honest is_open : S → Type 0) (image
   }
 
   -- a call that failed and tried no write
-  pub loses_key : (site : List ℕ) (n : ℕ) (f : Fault) (old new : S) → Keeps is_honest is_open image shows may_leave failures old new
-      → IsLost f → Did site n (Err f) old new
+  pub loses_key : (site : List ℕ) (n : ℕ) (f : Fault) (old new : S) → Keeps meaning old new
+      → IsLost f → Settles meaning site n (Err f) old new
   loses_key site n f old new keeps lost = record {
     honest = keeps.honest;
     was_open = keeps.was_open;
@@ -83,8 +82,8 @@ module _ {S : Type 0} {Image : Type 0} (is_honest is_open : S → Type 0) (image
 
   -- what is at or below the mark is settled already: the mark is the answer
   pub tells_mark : (settles : (s : S) (i : Image) → is_honest s → is_open s → may_leave s i → i ≡ image s) (site : List ℕ) (n m : ℕ) (old new : S)
-      → Keeps is_honest is_open image shows may_leave failures old new → (is_honest new → is_open new) → key_door site n ≡ Ok false
-      → (is_honest new → (rows : Rows) → shows (image old) rows → m ≡ mark_at site rows) → n ≤ m → Did site n (Ok m) old new
+      → Keeps meaning old new → (is_honest new → is_open new) → key_door site n ≡ Ok false
+      → (is_honest new → (rows : Rows) → shows (image old) rows → m ≡ mark_at site rows) → n ≤ m → Settles meaning site n (Ok m) old new
   tells_mark settles site n m old new keeps opens passed found below = record {
     honest = keeps.honest;
     was_open = keeps.was_open;
@@ -118,12 +117,12 @@ module _ {S : Type 0} {Image : Type 0} (is_honest is_open : S → Type 0) (image
 
   -- a settlement that was carried out behind a call that only read
   pub settles_after : (settles : (s : S) (i : Image) → is_honest s → is_open s → may_leave s i → i ≡ image s) (site : List ℕ) (n m : ℕ)
-      (old mid new : S) → Keeps is_honest is_open image shows may_leave failures old mid
-      → Tries is_honest is_open image shows may_leave failures (λ _. Unit {0}) (settled_to site n) mid new → (is_honest new → is_open new)
+      (old mid new : S) → Keeps meaning old mid
+      → Tries meaning (λ _. Unit {0}) (settled_to site n) mid new → (is_honest new → is_open new)
       → key_door site n ≡ Ok false
       → (is_honest new → (rows : Rows) → shows (image mid) rows
       → (m ≡ mark_at site (settled_to site n rows)) × shows (image new) (settled_to site n rows))
-      → Did site n (Ok m) old new
+      → Settles meaning site n (Ok m) old new
   settles_after settles site n m old mid new keeps tries opens passed done = record {
     honest = λ honest. keeps.honest (tries.honest honest);
     was_open = λ honest is. keeps.was_open (tries.honest honest) (tries.was_open honest is);
@@ -148,9 +147,9 @@ module _ {S : Type 0} {Image : Type 0} (is_honest is_open : S → Type 0) (image
       holds honest j (rows, shown, held) = (settled_to site n rows, (done honest rows shown).1, holds_settled j site n rows held)
 
   -- a settlement that failed behind such a call and may have been carried out: it is in hand
-  pub loses_settling : (site : List ℕ) (n : ℕ) (f : Fault) (old mid new : S) → Keeps is_honest is_open image shows may_leave failures old mid
-      → Tries is_honest is_open image shows may_leave failures (λ _. Unit {0}) (settled_to site n) mid new → IsLost f
-      → (is_honest new → is_open new → image new ≡ image mid) → Did site n (Err f) old new
+  pub loses_settling : (site : List ℕ) (n : ℕ) (f : Fault) (old mid new : S) → Keeps meaning old mid
+      → Tries meaning (λ _. Unit {0}) (settled_to site n) mid new → IsLost f
+      → (is_honest new → is_open new → image new ≡ image mid) → Settles meaning site n (Err f) old new
   loses_settling site n f old mid new keeps tries lost same = record {
     honest = λ honest. keeps.honest (tries.honest honest);
     was_open = λ honest is. keeps.was_open (tries.honest honest) (tries.was_open honest is);
@@ -168,7 +167,7 @@ module _ {S : Type 0} {Image : Type 0} (is_honest is_open : S → Type 0) (image
           → HoldsIn shows j (image mid) → HoldsIn shows (Settled site n ∷ j) i
       carried j i writes (rows, shown, held) = (settled_to site n rows, writes rows shown tt, holds_settled j site n rows held)
 
-      by : is_honest mid → (j : Journal) (hand : List Event) → Guards is_honest is_open image shows may_leave failures j hand old → (i : Image)
+      by : is_honest mid → (j : Journal) (hand : List Event) → Guards meaning j hand old → (i : Image)
           → may_leave mid i ⊎ (is_open mid × ((rows : Rows) → shows (image mid) rows → Unit {0} → shows i (settled_to site n rows)))
           → IsLeft shows j (Settled site n ∷ hand) i
       by honest j hand guards i (inl may) = left_more shows j (Settled site n) hand i (guards.left i (keeps.crash honest i may))

@@ -8,6 +8,7 @@ use Rattle.upd_records.specs.Changes.{ChangeView}
 use Rattle.upd_records.specs.Fits.{AllFit}
 use Rattle.upd_core.specs.Library.{LibraryView}
 use Rattle.upd_compile.specs.declared.mode.Mode.{Mode}
+use Rattle.upd_row_store.specs.declared.meaning.Meaning.{Ghosts}
 use Rattle.upd_row_store.specs.Keeping.{IsLost, Keeps, MoreFailures, OfMemory, Tries}
 use Rattle.upd_row_store.specs.Tables.{committed}
 use Rattle.upd_row_store.proofs.TableLemmas.{shows_committed, states_committed, runs_committed, marks_stay}
@@ -56,11 +57,12 @@ module _ {Image : Type 0} (shows : Image → Rows → Type 0) where
 
 -- ---- calls
 
-module _ {S : Type 0} {Image : Type 0} {is_honest is_open : S → Type 0} {image : S → Image} {shows : Image → Rows → Type 0}
-    {may_leave : S → Image → Type 0} {failures : S → ℕ} where
+module _ {S : Type 0} {meaning : Ghosts S} where
+  open meaning use {Image, shows, image, is_open, is_honest, may_leave}
+
   -- a call that only reads tries nothing
-  pub keeps_as_run : (mode : Mode) (a : ArrivalView) (old new : S) → Keeps is_honest is_open image shows may_leave failures old new
-      → TriesRun is_honest is_open image shows may_leave failures mode a old new
+  pub keeps_as_run : (mode : Mode) (a : ArrivalView) (old new : S) → Keeps meaning old new
+      → TriesRun meaning mode a old new
   keeps_as_run mode a old new keeps = record {
     honest = keeps.honest;
     was_open = keeps.was_open;
@@ -70,11 +72,11 @@ module _ {S : Type 0} {Image : Type 0} {is_honest is_open : S → Type 0} {image
 
   -- a commit behind calls that only read tries to keep a run, where the changes fit and lead to what the run makes of the tables
   pub commit_as_run : (mode : Mode) (a : ArrivalView) (cs : List ChangeView) (run : RunView) (old mid new : S)
-      → Keeps is_honest is_open image shows may_leave failures old mid
-      → Tries is_honest is_open image shows may_leave failures (AllFit cs) (committed cs run) mid new
+      → Keeps meaning old mid
+      → Tries meaning (AllFit cs) (committed cs run) mid new
       → (is_honest mid → is_open mid → (l : LibraryView) → IsMade l → (rows : Rows) → shows (image old) rows → Shows rows l → ShowsStates rows l
       → AllFit cs rows × AddsRun mode a l rows (committed cs run rows))
-      → TriesRun is_honest is_open image shows may_leave failures mode a old new
+      → TriesRun meaning mode a old new
   commit_as_run mode a cs run old mid new keeps tries makes = record {
     honest = λ honest. keeps.honest (tries.honest honest);
     was_open = λ honest is. keeps.was_open (tries.honest honest) (tries.was_open honest is);
@@ -93,8 +95,8 @@ module _ {S : Type 0} {Image : Type 0} {is_honest is_open : S → Type 0} {image
 
   -- the same of a commit that was carried out
   pub commit_becomes : (mode : Mode) (a : ArrivalView) (cs : List ChangeView) (run : RunView) (old mid new : S)
-      → Keeps is_honest is_open image shows may_leave failures old mid
-      → Tries is_honest is_open image shows may_leave failures (AllFit cs) (committed cs run) mid new → (is_honest new → is_open new)
+      → Keeps meaning old mid
+      → Tries meaning (AllFit cs) (committed cs run) mid new → (is_honest new → is_open new)
       → (is_honest new → (rows : Rows) → shows (image mid) rows → AllFit cs rows → shows (image new) (committed cs run rows))
       → (is_honest mid → (l : LibraryView) → IsMade l → (rows : Rows) → shows (image old) rows → Shows rows l → ShowsStates rows l
       → AllFit cs rows × AddsRun mode a l rows (committed cs run rows))

@@ -1,10 +1,11 @@
 -- How many cards are looked at for an arrival, by what the tables hold.
-use Rattle.std.proofs.Common.{◌≡◌, ℕ, ◌+◌, ◌≤◌, nat_lt, true, List, ◌∷◌, length, Option, Some, None, Ok}
+use Rattle.std.proofs.Common.{◌≡◌, ℕ, ◌+◌, ◌≤◌, nat_lt, true, List, ◌∷◌, length, Some, None, Ok}
 use Rattle.std.proofs.Common.{refl, ap, sym, ◌∙◌, subst, arith}
 use Rattle.upd_core.specs.Counted.{CountedCardView}
 use Rattle.upd_core.specs.Library.{LibraryView}
 use Rattle.upd_records.specs.Rows.{RunView, Rows, Shows, ShowsStates}
 use Rattle.upd_compile.specs.declared.mode.Mode.{Mode}
+use Rattle.upd_row_store.specs.declared.meaning.Meaning.{Ghosts}
 use Rattle.upd_row_store.specs.Keeping.{Keeps}
 use Rattle.upd_row_store.specs.Tables.{run_at}
 use Rattle.upd_yank.specs.Affected.{altered}
@@ -44,42 +45,37 @@ its_altered j a mode rows n held passed above none less =
     subst (λ runs. length (altered (library_after j) (made_by runs)) ≤ n)
     (sym (heard_new j a mode passed above (unheard_key j rows a.site a.number held above none))) less
 
-module _ {S : Type 0} {Image : Type 0} (is_honest is_open : S → Type 0) (image : S → Image) (shows : Image → Rows → Type 0)
-    (may_leave : S → Image → Type 0) (failures : S → ℕ) where
-  abbrev Asks : Mode → ArrivalView → Option RunView → S → Type 0
-  Asks = IsAsked is_honest is_open image shows may_leave failures
-
-  abbrev Stays : S → S → Type 0
-  Stays = Keeps is_honest is_open image shows may_leave failures
+module _ {S : Type 0} {meaning : Ghosts S} where
+  open meaning use {shows, image, is_open, is_honest}
 
   -- what was held before calls that only read is held after them
-  held_there : (old mid : S) → Stays old mid → is_honest mid → is_open mid → (j : Journal) → (is_open old → HoldsIn shows j (image old))
+  held_there : (old mid : S) → Keeps meaning old mid → is_honest mid → is_open mid → (j : Journal) → (is_open old → HoldsIn shows j (image old))
       → HoldsIn shows j (image mid)
   held_there old mid keeps honest is j held = subst (HoldsIn shows j) (sym (keeps.same honest is)) (held (keeps.was_open honest is))
 
   -- ---- a kept run
 
-  pub work_told : (mode : Mode) (a : ArrivalView) (run : RunView) (old mid : S) → Stays old mid → (is_honest mid → is_open mid)
-      → (is_honest mid → Asks mode a (Some run) mid) → is_honest mid → (j : Journal) → (is_open old → HoldsIn shows j (image old)) → 0 ≡ work_of j a
+  pub work_told : (mode : Mode) (a : ArrivalView) (run : RunView) (old mid : S) → Keeps meaning old mid → (is_honest mid → is_open mid)
+      → (is_honest mid → IsAsked meaning mode a (Some run) mid) → is_honest mid → (j : Journal) → (is_open old → HoldsIn shows j (image old)) → 0 ≡ work_of j a
   work_told mode a run old mid keeps opens asks honest j held = by (held_there old mid keeps honest (opens honest) j held)
     where
       by : HoldsIn shows j (image mid) → 0 ≡ work_of j a
       by (rows, shown, holds) = work_again j a run (sym (holds.runs a.site a.number) ∙ (asks honest).found (opens honest) rows shown)
 
-  pub least_told : (mode : Mode) (a : ArrivalView) (run : RunView) (old mid : S) → Stays old mid → (is_honest mid → is_open mid)
-      → (is_honest mid → Asks mode a (Some run) mid) → is_honest mid → (j : Journal) → (is_open old → HoldsIn shows j (image old))
+  pub least_told : (mode : Mode) (a : ArrivalView) (run : RunView) (old mid : S) → Keeps meaning old mid → (is_honest mid → is_open mid)
+      → (is_honest mid → IsAsked meaning mode a (Some run) mid) → is_honest mid → (j : Journal) → (is_open old → HoldsIn shows j (image old))
       → length (altered (library_after j) (library_after (Came a ∷ j))) ≤ 0
   least_told mode a run old mid keeps opens asks honest j held = by (asks honest) (held_there old mid keeps honest (opens honest) j held)
     where
-      by : Asks mode a (Some run) mid → HoldsIn shows j (image mid) → length (altered (library_after j) (library_after (Came a ∷ j))) ≤ 0
+      by : IsAsked meaning mode a (Some run) mid → HoldsIn shows j (image mid) → length (altered (library_after j) (library_after (Came a ∷ j))) ≤ 0
       by its (rows, shown, holds) = none_altered j a 0
           (answer_again j a mode rows run holds its.passed (its.above (opens honest) rows shown) (its.found (opens honest) rows shown)).1
 
   -- ---- a new run
 
-  pub work_kept : (mode : Mode) (a : ArrivalView) (work : ℕ) (old mid new : S) → Stays old mid
-      → TriesRun is_honest is_open image shows may_leave failures mode a mid new
-      → (is_honest mid → Asks mode a None mid) → (is_honest new → is_open new)
+  pub work_kept : (mode : Mode) (a : ArrivalView) (work : ℕ) (old mid new : S) → Keeps meaning old mid
+      → TriesRun meaning mode a mid new
+      → (is_honest mid → IsAsked meaning mode a None mid) → (is_honest new → is_open new)
       → (is_honest new → (l : LibraryView) → IsMade l → (rows : Rows) → shows (image mid) rows → Shows rows l → ShowsStates rows l
       → work ≡ looked_at l (compiled mode a.bytes l))
       → is_honest new → (j : Journal) → (is_open old → HoldsIn shows j (image old)) → work ≡ work_of j a
@@ -88,13 +84,13 @@ module _ {S : Type 0} {Image : Type 0} (is_honest is_open : S → Type 0) (image
       let is = tries.was_open honest (opens honest) in
       by is (asks before) (held_there old mid keeps before is j held)
     where
-      by : is_open mid → Asks mode a None mid → HoldsIn shows j (image mid) → work ≡ work_of j a
+      by : is_open mid → IsAsked meaning mode a None mid → HoldsIn shows j (image mid) → work ≡ work_of j a
       by is its (rows, shown, holds) = looks honest (library_after j) (library_made j) rows shown holds.library holds.states
           ∙ work_new j a mode its.passed (sym (holds.runs a.site a.number) ∙ its.found is rows shown)
 
-  pub least_kept : (mode : Mode) (a : ArrivalView) (work : ℕ) (old mid new : S) → Stays old mid
-      → TriesRun is_honest is_open image shows may_leave failures mode a mid new
-      → (is_honest mid → Asks mode a None mid) → (is_honest new → is_open new)
+  pub least_kept : (mode : Mode) (a : ArrivalView) (work : ℕ) (old mid new : S) → Keeps meaning old mid
+      → TriesRun meaning mode a mid new
+      → (is_honest mid → IsAsked meaning mode a None mid) → (is_honest new → is_open new)
       → (is_honest new → (l : LibraryView) → IsMade l → (rows : Rows) → shows (image mid) rows → Shows rows l → ShowsStates rows l
       → length (altered l (outcome mode a l).library) ≤ work)
       → is_honest new → (j : Journal) → (is_open old → HoldsIn shows j (image old)) → length (altered (library_after j) (library_after (Came a ∷ j))) ≤ work
@@ -103,16 +99,16 @@ module _ {S : Type 0} {Image : Type 0} (is_honest is_open : S → Type 0) (image
       let is = tries.was_open honest (opens honest) in
       by is (asks before) (held_there old mid keeps before is j held)
     where
-      by : is_open mid → Asks mode a None mid → HoldsIn shows j (image mid) → length (altered (library_after j) (library_after (Came a ∷ j))) ≤ work
+      by : is_open mid → IsAsked meaning mode a None mid → HoldsIn shows j (image mid) → length (altered (library_after j) (library_after (Came a ∷ j))) ≤ work
       by is its (rows, shown, holds) =
           let above : nat_lt (mark j a.site) a.number ≡ true = rw (← holds.marks a.site) (its.above is rows shown) in
           its_altered j a mode rows work holds its.passed above (its.found is rows shown)
           (least honest (library_after j) (library_made j) rows shown holds.library holds.states)
 
   -- no more decks are read than a new run needs
-  pub reads_kept : (mode : Mode) (a : ArrivalView) (first after next : ℕ) (old mid new : S) → Stays old mid
-      → TriesRun is_honest is_open image shows may_leave failures mode a mid new
-      → (is_honest mid → Asks mode a None mid) → (is_honest new → is_open new) → after ≡ first
+  pub reads_kept : (mode : Mode) (a : ArrivalView) (first after next : ℕ) (old mid new : S) → Keeps meaning old mid
+      → TriesRun meaning mode a mid new
+      → (is_honest mid → IsAsked meaning mode a None mid) → (is_honest new → is_open new) → after ≡ first
       → (is_honest new → (l : LibraryView) → IsMade l → (rows : Rows) → shows (image mid) rows → Shows rows l
       → next ≤ after + length (needed a.bytes l))
       → is_honest new → (j : Journal) → (is_open old → HoldsIn shows j (image old)) → next ≤ first + length (needed_by j a)
@@ -121,7 +117,7 @@ module _ {S : Type 0} {Image : Type 0} (is_honest is_open : S → Type 0) (image
       let is = tries.was_open honest (opens honest) in
       by is (asks before) (held_there old mid keeps before is j held)
     where
-      by : is_open mid → Asks mode a None mid → HoldsIn shows j (image mid) → next ≤ first + length (needed_by j a)
+      by : is_open mid → IsAsked meaning mode a None mid → HoldsIn shows j (image mid) → next ≤ first + length (needed_by j a)
       by is its (rows, shown, holds) =
           let unkept : kept j a.site a.number ≡ None = sym (holds.runs a.site a.number) ∙ its.found is rows shown in
           let same : needed_by j a ≡ needed a.bytes (library_after j) = rw unkept refl in

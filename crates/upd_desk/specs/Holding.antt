@@ -1,5 +1,5 @@
 -- When a store holds what a desk owes after a journal, and what a stop may have left of it.
-use Rattle.std.specs.Prelude.{◌≡◌, ℕ, ◌≤◌, Bool, true, false, ◌⊎◌, if◌then◌else◌, IsTrue, List, [], ◌∷◌, ◌++◌, None, Result, Ok, Err}
+use Rattle.std.specs.Prelude.{◌≡◌, ℕ, ◌≤◌, Bool, true, false, ◌⊎◌, if◌then◌else◌, List, [], ◌∷◌, ◌++◌, None, Result, Ok, Err}
 use Rattle.std.specs.List.{Any}
 use Rattle.upd_text.specs.declared.fault.Fault.{Fault}
 use Rattle.upd_text.specs.declared.fault.FaultKind.{FaultKind}
@@ -8,6 +8,7 @@ use Rattle.upd_text.specs.Outcome.{◌>>=◌}
 use Rattle.upd_core.specs.Library.{LibraryView}
 use Rattle.upd_records.specs.Rows.{Rows, Shows, ShowsStates}
 use Rattle.upd_compile.specs.declared.mode.Mode.{Mode}
+use Rattle.upd_row_store.specs.declared.meaning.Meaning.{Ghosts}
 use Rattle.upd_row_store.specs.Keeping.{IsLost}
 use Rattle.upd_row_store.specs.Tables.{mark_at, run_at}
 use Rattle.upd_desk.specs.Arrivals.{ArrivalView, key_door}
@@ -116,8 +117,17 @@ module _ {Image : Type 0} (shows : Image → Rows → Type 0) where
   abbrev pub IsLeft : Journal → List Event → Image → Type 0
   IsLeft journal in_hand image = HoldsIn journal image ⊎ Any (λ e. HoldsIn (e ∷ journal) image) in_hand
 
-module _ {S : Type 0} {Image : Type 0} (is_honest is_open : S → Type 0) (image : S → Image) (shows : Image → Rows → Type 0)
-    (may_leave : S → Image → Type 0) (failures : S → ℕ) where
+module _ {S : Type 0} (meaning : Ghosts S) where
+  open meaning use {Image, shows, image, is_open, is_honest, may_leave, failures_of}
+
+  -- the store holds what is expected after a journal, as far as it is open
+  abbrev pub IsHeld : Journal → S → Type 0
+  IsHeld journal s = is_open s → HoldsIn shows journal (image s)
+
+  -- so it is of each journal that the store held before the call
+  abbrev pub EachHeld : S → S → (Journal → Type 0) → Type 0
+  EachHeld old new claim = is_honest new → (journal : Journal) → IsHeld journal old → claim journal
+
   -- A store guards a journal: it shows what is owed, and a stop leaves no less.
   pub record Guards (journal : Journal) (in_hand : List Event) (store : S) : Type 0 where
     pub shown : is_open store → HoldsIn shows journal (image store)
@@ -128,18 +138,18 @@ module _ {S : Type 0} {Image : Type 0} (is_honest is_open : S → Type 0) (image
   pub record TriesRun (mode : Mode) (a : ArrivalView) (old new : S) : Type 0 where
     pub honest : is_honest new → is_honest old
     pub was_open : is_honest new → is_open new → is_open old
-    pub counts : failures old ≤ failures new
+    pub counts : failures_of old ≤ failures_of new
     pub crash : is_honest new → (i : Image) → may_leave new i → may_leave old i ⊎ (is_open old × Becomes shows mode a (image old) i)
 
   -- what an arrival does to a desk over a store
   pub record Arrives (a : ArrivalView) (result : Result ReplyView Fault) (old new : S) : Type 0 where
     pub honest : is_honest new → is_honest old
     pub was_open : is_honest new → is_open new → is_open old
-    pub counts : failures old ≤ failures new
+    pub counts : failures_of old ≤ failures_of new
     -- the answer is the one that is owed after any journal that the store holds
-    pub answers : is_honest new → (journal : Journal) → (is_open old → HoldsIn shows journal (image old)) → IsAnswer journal a result
+    pub answers : is_honest new → (journal : Journal) → IsHeld journal old → IsAnswer journal a result
     -- and then the store holds the journal with this arrival
-    pub holds : is_honest new → (journal : Journal) → (is_open old → HoldsIn shows journal (image old)) → is_open new
+    pub holds : is_honest new → (journal : Journal) → IsHeld journal old → is_open new
         → HoldsIn shows (after journal a result) (image new)
     -- a stop leaves what was answered, with or without what is in hand
     pub leaves : is_honest new → (journal : Journal) (in_hand : List Event) → Guards journal in_hand old → (i : Image) → may_leave new i
@@ -149,9 +159,9 @@ module _ {S : Type 0} {Image : Type 0} (is_honest is_open : S → Type 0) (image
   pub record Settles (site : List ℕ) (n : ℕ) (result : Result ℕ Fault) (old new : S) : Type 0 where
     pub honest : is_honest new → is_honest old
     pub was_open : is_honest new → is_open new → is_open old
-    pub counts : failures old ≤ failures new
-    pub answers : is_honest new → (journal : Journal) → (is_open old → HoldsIn shows journal (image old)) → IsOwed (mark_after journal site n) result
-    pub holds : is_honest new → (journal : Journal) → (is_open old → HoldsIn shows journal (image old)) → is_open new
+    pub counts : failures_of old ≤ failures_of new
+    pub answers : is_honest new → (journal : Journal) → IsHeld journal old → IsOwed (mark_after journal site n) result
+    pub holds : is_honest new → (journal : Journal) → IsHeld journal old → is_open new
         → HoldsIn shows (after_settling journal site n result) (image new)
     pub leaves : is_honest new → (journal : Journal) (in_hand : List Event) → Guards journal in_hand old → (i : Image) → may_leave new i
         → IsLeft shows (after_settling journal site n result) (in_hand_settling site n in_hand result) i
@@ -160,14 +170,14 @@ module _ {S : Type 0} {Image : Type 0} (is_honest is_open : S → Type 0) (image
   pub record RunAll (list : List ArrivalView) (results : List (Result ReplyView Fault)) (old new : S) : Type 0 where
     pub honest : is_honest new → is_honest old
     pub was_open : is_honest new → is_open new → is_open old
-    pub counts : failures old ≤ failures new
-    pub answers : is_honest new → (journal : Journal) → (is_open old → HoldsIn shows journal (image old)) → AreAnswers journal list results
-    pub holds : is_honest new → (journal : Journal) → (is_open old → HoldsIn shows journal (image old)) → is_open new
+    pub counts : failures_of old ≤ failures_of new
+    pub answers : is_honest new → (journal : Journal) → IsHeld journal old → AreAnswers journal list results
+    pub holds : is_honest new → (journal : Journal) → IsHeld journal old → is_open new
         → HoldsIn shows (after_all journal list results) (image new)
     pub leaves : is_honest new → (journal : Journal) (in_hand : List Event) → Guards journal in_hand old → (i : Image) → may_leave new i
         → IsLeft shows (after_all journal list results) (in_hand_after_all in_hand list results) i
 
   -- A query answers what is defined of the library after any journal that the store holds.
   abbrev pub Tells : {A : Type 0} → (LibraryView → Result A Fault) → Result A Fault → S → S → Type 0
-  Tells defined result old new = is_honest new → (journal : Journal) → (is_open old → HoldsIn shows journal (image old))
+  Tells defined result old new = is_honest new → (journal : Journal) → IsHeld journal old
       → IsOwed (defined (library_after journal)) result

@@ -5,12 +5,12 @@ ghost use Rattle.std.specs.Result.{result_map_both};
 ghost use Rattle.upd_records.specs.Rows.{Rows, Shows, ShowsStates};
 ghost use Rattle.upd_core.specs.Library.{LibraryView};
 ghost use Rattle.upd_desk.specs.Arrivals.{door};
-ghost use Rattle.upd_desk.specs.Holding.{Arrives, Becomes, HoldsIn, TriesRun, is_lost};
+ghost use Rattle.upd_desk.specs.Holding.{Arrives, Becomes, EachHeld, TriesRun, is_lost};
 ghost use Rattle.upd_desk.specs.Made.{IsMade, looked_at, work_of};
 ghost use Rattle.upd_desk.specs.Needed.{needed, needed_by};
-ghost use Rattle.upd_desk.specs.Journal.{Came, Journal, reply_to, run_of, library_after};
+ghost use Rattle.upd_desk.specs.Journal.{Came, library_after, reply_to, run_of};
 ghost use Rattle.upd_desk.specs.Outcomes.{compiled, outcome};
-ghost use Rattle.upd_row_store.specs.Keeping.{IsLost, MoreFailures};
+ghost use Rattle.upd_row_store.specs.Keeping.{FailsMore, IsLost, IsShown};
 ghost use Rattle.upd_row_store.specs.Tables.{run_at};
 ghost use Rattle.upd_text.specs.Faults.{fault_at};
 ghost use Rattle.upd_text.specs.declared.fault.FaultKind.TheVariants.{NoMemory, Store};
@@ -71,29 +71,29 @@ fn keep_new<S: RowStore>(
 ) -> Result<Answered, Fault>
     requires passed { door arrival.now ≡ Ok mode }
     requires new_key { S.is_honest store.old → S.is_open store.old → (rows : Rows)
-        → S.shows (S.image store.old) rows → run_at arrival.now.site arrival.now.number rows ≡ None }
-    ensures tries { TriesRun S.is_honest S.is_open S.image S.shows S.may_leave S.failures_of
+        → IsShown S.Meaning rows store.old → run_at arrival.now.site arrival.now.number rows ≡ None }
+    ensures tries { TriesRun S.Meaning
         mode arrival.now store.old store.new }
     ensures open { S.is_honest store.new → OnOk result (S.is_open store.new) }
     ensures becomes { S.is_honest store.new
         → OnOk result (Becomes S.shows mode arrival.now (S.image store.old) (S.image store.new)) }
     ensures reply { S.is_honest store.new → IfOk result (λ answered. (l : LibraryView) → IsMade l → (rows : Rows)
-        → S.shows (S.image store.old) rows → Shows rows l → ShowsStates rows l
+        → IsShown S.Meaning rows store.old → Shows rows l → ShowsStates rows l
         → answered.reply ≡ (outcome mode arrival.now l).reply) }
     ensures work { S.is_honest store.new → IfOk result (λ answered. (l : LibraryView) → IsMade l → (rows : Rows)
-        → S.shows (S.image store.old) rows → Shows rows l → ShowsStates rows l
+        → IsShown S.Meaning rows store.old → Shows rows l → ShowsStates rows l
         → answered.work ≡ looked_at l (compiled mode arrival.now.bytes l)) }
     ensures least { S.is_honest store.new → IfOk result (λ answered. (l : LibraryView) → IsMade l → (rows : Rows)
-        → S.shows (S.image store.old) rows → Shows rows l → ShowsStates rows l
+        → IsShown S.Meaning rows store.old → Shows rows l → ShowsStates rows l
         → length (altered l (outcome mode arrival.now l).library) ≤ answered.work) }
     ensures reads { S.is_honest store.new → OnOk result ((l : LibraryView) → IsMade l → (rows : Rows)
-        → S.shows (S.image store.old) rows → Shows rows l
+        → IsShown S.Meaning rows store.old → Shows rows l
         → S.decks_read_of store.new ≤ S.decks_read_of store.old + length (needed arrival.now.bytes l)) }
     ensures undone { S.is_honest store.new → S.is_open store.new
         → OnErr result (S.image store.new ≡ S.image store.old) }
     ensures lost { IfErr result IsLost }
     ensures failed { IfErr result (λ fault. fault.kind ≡ Store
-        → MoreFailures (S.failures_of store.old) (S.failures_of store.new)) }
+        → FailsMore S.Meaning store.old store.new) }
 {
     let outcome = match run_outcome(store, alloc, mode, arrival) {
         Ok(outcome) => outcome,
@@ -119,22 +119,19 @@ pub(crate) fn arrive_at<S: RowStore>(
     alloc: Global,
     arrival: &Arrival<'_>,
 ) -> Result<Answered, Fault>
-    ensures arrives { Arrives S.is_honest S.is_open S.image S.shows S.may_leave S.failures_of
+    ensures arrives { Arrives S.Meaning
         arrival.now (result_map_both (λ answered. answered.reply) (λ fault. fault) result) store.old store.new }
-    ensures work { S.is_honest store.new → (journal : Journal)
-        → (S.is_open store.old → HoldsIn S.shows journal (S.image store.old))
-        → IfOk result (λ answered. answered.work ≡ work_of journal arrival.now) }
-    ensures least { S.is_honest store.new → (journal : Journal)
-        → (S.is_open store.old → HoldsIn S.shows journal (S.image store.old))
-        → IfOk result (λ answered. length (altered (library_after journal) (library_after (Came arrival.now ∷ journal)))
-        ≤ answered.work) }
-    ensures reads { S.is_honest store.new → (journal : Journal)
-        → (S.is_open store.old → HoldsIn S.shows journal (S.image store.old))
-        → OnOk result (S.decks_read_of store.new ≤ S.decks_read_of store.old + length (needed_by journal arrival.now)) }
+    ensures work { EachHeld S.Meaning store.old store.new
+            (λ journal. IfOk result (λ answered. answered.work ≡ work_of journal arrival.now)) }
+    ensures least { EachHeld S.Meaning store.old store.new
+            (λ journal. IfOk result (λ answered. length (altered (library_after journal) (library_after (Came arrival.now ∷ journal)))
+        ≤ answered.work)) }
+    ensures reads { EachHeld S.Meaning store.old store.new
+            (λ journal. OnOk result (S.decks_read_of store.new ≤ S.decks_read_of store.old + length (needed_by journal arrival.now))) }
     ensures unread { IfErr result (λ fault. is_lost fault.kind ≡ false
         → S.decks_read_of store.new ≡ S.decks_read_of store.old) }
     ensures failed { IfErr result (λ fault. fault.kind ≡ Store
-        → MoreFailures (S.failures_of store.old) (S.failures_of store.new)) }
+        → FailsMore S.Meaning store.old store.new) }
 {
     let mode = match door(arrival) {
         Ok(mode) => mode,

@@ -6,11 +6,11 @@ ghost use Rattle.std.specs.Result.{result_map_both};
 ghost use Rattle.upd_compile.specs.File.{compile_file_of};
 ghost use Rattle.upd_compile.specs.Listings.{card_listing, deck_listing, ident_listing, yank_listing};
 ghost use Rattle.upd_compile.specs.declared.mode.Mode.TheVariants.{Full};
-ghost use Rattle.upd_desk.specs.Holding.{RunAll, Arrives, HoldsIn, Settles, Tells, is_lost, work_after_all};
-ghost use Rattle.upd_desk.specs.Journal.{Came, Journal, library_after};
+ghost use Rattle.upd_desk.specs.Holding.{Arrives, EachHeld, RunAll, Settles, Tells, is_lost, work_after_all};
+ghost use Rattle.upd_desk.specs.Journal.{Came, library_after};
 ghost use Rattle.upd_desk.specs.Made.{work_of};
 ghost use Rattle.upd_desk.specs.Needed.{needed_by};
-ghost use Rattle.upd_row_store.specs.Keeping.{Keeps, MoreFailures};
+ghost use Rattle.upd_row_store.specs.Keeping.{FailsMore, Keeps};
 ghost use Rattle.upd_text.specs.Faults.{fault_at};
 ghost use Rattle.upd_text.specs.declared.fault.FaultKind.TheVariants.{NoMemory, Store};
 ghost use Rattle.upd_yank.specs.Affected.{altered};
@@ -74,27 +74,24 @@ impl<S: RowStore> Desk<S> {
         mode: &str,
         bytes: &[u8],
     ) -> Result<Reply, Fault>
-        ensures arrives { Arrives S.is_honest S.is_open S.image S.shows S.may_leave S.failures_of
+        ensures arrives { Arrives S.Meaning
             (record { site = site.now; number = number; mode = mode.now; bytes = bytes.now })
             result self.old.store self.new.store }
-        ensures work { S.is_honest self.new.store → (journal : Journal)
-            → (S.is_open self.old.store → HoldsIn S.shows journal (S.image self.old.store))
-            → IfOk result (λ reply. self.new.work ≡ work_of journal
-            (record { site = site.now; number = number; mode = mode.now; bytes = bytes.now })) }
-        ensures least { S.is_honest self.new.store → (journal : Journal)
-            → (S.is_open self.old.store → HoldsIn S.shows journal (S.image self.old.store))
-            → IfOk result (λ reply. length (altered (library_after journal) (library_after (Came
-            (record { site = site.now; number = number; mode = mode.now; bytes = bytes.now }) ∷ journal)))
-            ≤ self.new.work) }
-        ensures reads { S.is_honest self.new.store → (journal : Journal)
-            → (S.is_open self.old.store → HoldsIn S.shows journal (S.image self.old.store))
-            → OnOk result (S.decks_read_of self.new.store ≤ S.decks_read_of self.old.store + length (needed_by journal
+        ensures work { EachHeld S.Meaning self.old.store self.new.store
+            (λ journal. IfOk result (λ reply. self.new.work ≡ work_of journal
             (record { site = site.now; number = number; mode = mode.now; bytes = bytes.now }))) }
+        ensures least { EachHeld S.Meaning self.old.store self.new.store
+            (λ journal. IfOk result (λ reply. length (altered (library_after journal) (library_after (Came
+            (record { site = site.now; number = number; mode = mode.now; bytes = bytes.now }) ∷ journal)))
+            ≤ self.new.work)) }
+        ensures reads { EachHeld S.Meaning self.old.store self.new.store
+            (λ journal. OnOk result (S.decks_read_of self.new.store ≤ S.decks_read_of self.old.store + length (needed_by journal
+            (record { site = site.now; number = number; mode = mode.now; bytes = bytes.now })))) }
         ensures unread { IfErr result (λ fault. is_lost fault.kind ≡ false
             → S.decks_read_of self.new.store ≡ S.decks_read_of self.old.store) }
         ensures idle { OnErr result (self.new.work ≡ self.old.work) }
         ensures failed { IfErr result (λ fault. fault.kind ≡ Store
-            → MoreFailures (S.failures_of self.old.store) (S.failures_of self.new.store)) }
+            → FailsMore S.Meaning self.old.store self.new.store) }
     {
         let arrival = Arrival {
             site,
@@ -106,24 +103,21 @@ impl<S: RowStore> Desk<S> {
     }
 
     fn arrive_one(&mut self, alloc: Global, arrival: &Arrival<'_>) -> Result<Reply, Fault>
-        ensures arrives { Arrives S.is_honest S.is_open S.image S.shows S.may_leave S.failures_of
+        ensures arrives { Arrives S.Meaning
             arrival.now result self.old.store self.new.store }
-        ensures work { S.is_honest self.new.store → (journal : Journal)
-            → (S.is_open self.old.store → HoldsIn S.shows journal (S.image self.old.store))
-            → IfOk result (λ reply. self.new.work ≡ work_of journal arrival.now) }
-        ensures least { S.is_honest self.new.store → (journal : Journal)
-            → (S.is_open self.old.store → HoldsIn S.shows journal (S.image self.old.store))
-            → IfOk result (λ reply. length (altered (library_after journal) (library_after (Came arrival.now ∷ journal)))
-            ≤ self.new.work) }
-        ensures reads { S.is_honest self.new.store → (journal : Journal)
-            → (S.is_open self.old.store → HoldsIn S.shows journal (S.image self.old.store))
-            → OnOk result (S.decks_read_of self.new.store ≤ S.decks_read_of self.old.store
-            + length (needed_by journal arrival.now)) }
+        ensures work { EachHeld S.Meaning self.old.store self.new.store
+            (λ journal. IfOk result (λ reply. self.new.work ≡ work_of journal arrival.now)) }
+        ensures least { EachHeld S.Meaning self.old.store self.new.store
+            (λ journal. IfOk result (λ reply. length (altered (library_after journal) (library_after (Came arrival.now ∷ journal)))
+            ≤ self.new.work)) }
+        ensures reads { EachHeld S.Meaning self.old.store self.new.store
+            (λ journal. OnOk result (S.decks_read_of self.new.store ≤ S.decks_read_of self.old.store
+            + length (needed_by journal arrival.now))) }
         ensures unread { IfErr result (λ fault. is_lost fault.kind ≡ false
             → S.decks_read_of self.new.store ≡ S.decks_read_of self.old.store) }
         ensures idle { OnErr result (self.new.work ≡ self.old.work) }
         ensures failed { IfErr result (λ fault. fault.kind ≡ Store
-            → MoreFailures (S.failures_of self.old.store) (S.failures_of self.new.store)) }
+            → FailsMore S.Meaning self.old.store self.new.store) }
     {
         match arrive_at(&mut self.store, alloc, arrival) {
             Ok(answered) => {
@@ -142,13 +136,11 @@ impl<S: RowStore> Desk<S> {
         alloc: Global,
         list: &[Arrival<'_>],
     ) -> Result<Vec<Result<Reply, Fault>>, Fault>
-        ensures arrives { IfOk result (λ answers. RunAll S.is_honest S.is_open S.image S.shows S.may_leave
-            S.failures_of list.now answers.items self.old.store self.new.store) }
-        ensures work { S.is_honest self.new.store → (journal : Journal)
-            → (S.is_open self.old.store → HoldsIn S.shows journal (S.image self.old.store))
-            → IfOk result (λ answers. self.new.work ≡ work_after_all self.old.work journal list.now answers.items) }
+        ensures arrives { IfOk result (λ answers. RunAll S.Meaning list.now answers.items self.old.store self.new.store) }
+        ensures work { EachHeld S.Meaning self.old.store self.new.store
+            (λ journal. IfOk result (λ answers. self.new.work ≡ work_after_all self.old.work journal list.now answers.items)) }
         ensures failed { IfOk result (λ answers. All (λ answer. IfErr answer (λ fault. fault.kind ≡ Store
-            → MoreFailures (S.failures_of self.old.store) (S.failures_of self.new.store))) answers.items) }
+            → FailsMore S.Meaning self.old.store self.new.store)) answers.items) }
         ensures none { OnErr result (self.new.store ≡ self.old.store) }
         ensures idle { OnErr result (self.new.work ≡ self.old.work) }
         ensures err { IfErr result (λ fault. fault ≡ fault_at NoMemory 0) }
@@ -167,12 +159,12 @@ impl<S: RowStore> Desk<S> {
     /// from then on. What is settled already stays so. BadSite or BadNumber, at 0, where it is no site or no run's
     /// number; after NoMemory or Store it can be asked again.
     pub fn settle_site(&mut self, alloc: Global, site: &str, number: u64) -> Result<u64, Fault>
-        ensures settles { Settles S.is_honest S.is_open S.image S.shows S.may_leave S.failures_of
+        ensures settles { Settles S.Meaning
             site.now number result self.old.store self.new.store }
         ensures unread { S.decks_read_of self.new.store ≡ S.decks_read_of self.old.store }
         ensures idle { self.new.work ≡ self.old.work }
         ensures failed { IfErr result (λ fault. fault.kind ≡ Store
-            → MoreFailures (S.failures_of self.old.store) (S.failures_of self.new.store)) }
+            → FailsMore S.Meaning self.old.store self.new.store) }
     {
         match settle_at(&mut self.store, alloc, site, number) {
             Ok(mark) => Ok(mark),
@@ -183,15 +175,15 @@ impl<S: RowStore> Desk<S> {
     /// The compile file of all decks that aren't common. CallUnknown, CallDepth or CompileLong, at 0, where the walk
     /// meets one; after NoMemory or Store, at 0, it can be asked again.
     pub fn full_compile(&mut self, alloc: Global) -> Result<CompileFile, Fault>
-        ensures text { Tells S.is_honest S.is_open S.image S.shows S.may_leave S.failures_of
+        ensures text { Tells S.Meaning
             (λ l. compile_file_of Full [] l l) (result_map_both (λ file. file) (λ fault. fault) result)
             self.old.store self.new.store }
-        ensures same { Keeps S.is_honest S.is_open S.image S.shows S.may_leave S.failures_of
+        ensures same { Keeps S.Meaning
             self.old.store self.new.store }
         ensures unread { S.decks_read_of self.new.store ≡ S.decks_read_of self.old.store }
         ensures idle { self.new.work ≡ self.old.work }
         ensures failed { IfErr result (λ fault. fault.kind ≡ Store
-            → MoreFailures (S.failures_of self.old.store) (S.failures_of self.new.store)) }
+            → FailsMore S.Meaning self.old.store self.new.store) }
     {
         let actives = match self.store.load_active(alloc) {
             Ok(actives) => actives,
@@ -206,17 +198,16 @@ impl<S: RowStore> Desk<S> {
     /// The cards of a deck, or of `YANK$$$`. DeckUnknown, at 0, where no held deck has the name; after NoMemory or
     /// Store, at 0, it can be asked again.
     pub fn deck_list(&mut self, alloc: Global, name: &Name) -> Result<Vec<u8>, Fault>
-        ensures text { Tells S.is_honest S.is_open S.image S.shows S.may_leave S.failures_of
+        ensures text { Tells S.Meaning
             (deck_listing name.now) (result_map_both (λ text. text.items) (λ fault. fault) result)
             self.old.store self.new.store }
-        ensures same { Keeps S.is_honest S.is_open S.image S.shows S.may_leave S.failures_of
+        ensures same { Keeps S.Meaning
             self.old.store self.new.store }
-        ensures reads { S.is_honest self.new.store → (journal : Journal)
-            → (S.is_open self.old.store → HoldsIn S.shows journal (S.image self.old.store))
-            → S.decks_read_of self.new.store ≤ S.decks_read_of self.old.store + 1 }
+        ensures reads { EachHeld S.Meaning self.old.store self.new.store
+            (λ journal. S.decks_read_of self.new.store ≤ S.decks_read_of self.old.store + 1) }
         ensures idle { self.new.work ≡ self.old.work }
         ensures failed { IfErr result (λ fault. fault.kind ≡ Store
-            → MoreFailures (S.failures_of self.old.store) (S.failures_of self.new.store)) }
+            → FailsMore S.Meaning self.old.store self.new.store) }
     {
         let library = match load_deck_named(&mut self.store, alloc, name) {
             Ok(library) => library,
@@ -231,17 +222,16 @@ impl<S: RowStore> Desk<S> {
     /// A card with its history. CardUnknown, at 0, where there is no such card; after NoMemory or Store, at 0, it can
     /// be asked again.
     pub fn card_list(&mut self, alloc: Global, card: CardRef) -> Result<Vec<u8>, Fault>
-        ensures text { Tells S.is_honest S.is_open S.image S.shows S.may_leave S.failures_of
+        ensures text { Tells S.Meaning
             (card_listing card) (result_map_both (λ text. text.items) (λ fault. fault) result)
             self.old.store self.new.store }
-        ensures same { Keeps S.is_honest S.is_open S.image S.shows S.may_leave S.failures_of
+        ensures same { Keeps S.Meaning
             self.old.store self.new.store }
-        ensures reads { S.is_honest self.new.store → (journal : Journal)
-            → (S.is_open self.old.store → HoldsIn S.shows journal (S.image self.old.store))
-            → S.decks_read_of self.new.store ≤ S.decks_read_of self.old.store + 1 }
+        ensures reads { EachHeld S.Meaning self.old.store self.new.store
+            (λ journal. S.decks_read_of self.new.store ≤ S.decks_read_of self.old.store + 1) }
         ensures idle { self.new.work ≡ self.old.work }
         ensures failed { IfErr result (λ fault. fault.kind ≡ Store
-            → MoreFailures (S.failures_of self.old.store) (S.failures_of self.new.store)) }
+            → FailsMore S.Meaning self.old.store self.new.store) }
     {
         let library = match load_deck_with(&mut self.store, alloc, &card) {
             Ok(library) => library,
@@ -255,17 +245,16 @@ impl<S: RowStore> Desk<S> {
 
     /// The directory. After NoMemory or Store, at 0, it can be asked again.
     pub fn ident_list(&mut self, alloc: Global) -> Result<Vec<u8>, Fault>
-        ensures text { Tells S.is_honest S.is_open S.image S.shows S.may_leave S.failures_of
+        ensures text { Tells S.Meaning
             (λ l. Ok (ident_listing l)) (result_map_both (λ text. text.items) (λ fault. fault) result)
             self.old.store self.new.store }
-        ensures same { Keeps S.is_honest S.is_open S.image S.shows S.may_leave S.failures_of
+        ensures same { Keeps S.Meaning
             self.old.store self.new.store }
-        ensures reads { S.is_honest self.new.store → (journal : Journal)
-            → (S.is_open self.old.store → HoldsIn S.shows journal (S.image self.old.store))
-            → S.decks_read_of self.new.store ≤ S.decks_read_of self.old.store }
+        ensures reads { EachHeld S.Meaning self.old.store self.new.store
+            (λ journal. S.decks_read_of self.new.store ≤ S.decks_read_of self.old.store) }
         ensures idle { self.new.work ≡ self.old.work }
         ensures failed { IfErr result (λ fault. fault.kind ≡ Store
-            → MoreFailures (S.failures_of self.old.store) (S.failures_of self.new.store)) }
+            → FailsMore S.Meaning self.old.store self.new.store) }
     {
         let head = match self.store.load_decks(alloc, &[]) {
             Ok(head) => head,
@@ -279,17 +268,16 @@ impl<S: RowStore> Desk<S> {
 
     /// The yank cards with their targets. After NoMemory or Store, at 0, they can be asked again.
     pub fn yank_list(&mut self, alloc: Global) -> Result<Vec<u8>, Fault>
-        ensures text { Tells S.is_honest S.is_open S.image S.shows S.may_leave S.failures_of
+        ensures text { Tells S.Meaning
             (λ l. Ok (yank_listing l)) (result_map_both (λ text. text.items) (λ fault. fault) result)
             self.old.store self.new.store }
-        ensures same { Keeps S.is_honest S.is_open S.image S.shows S.may_leave S.failures_of
+        ensures same { Keeps S.Meaning
             self.old.store self.new.store }
-        ensures reads { S.is_honest self.new.store → (journal : Journal)
-            → (S.is_open self.old.store → HoldsIn S.shows journal (S.image self.old.store))
-            → S.decks_read_of self.new.store ≤ S.decks_read_of self.old.store }
+        ensures reads { EachHeld S.Meaning self.old.store self.new.store
+            (λ journal. S.decks_read_of self.new.store ≤ S.decks_read_of self.old.store) }
         ensures idle { self.new.work ≡ self.old.work }
         ensures failed { IfErr result (λ fault. fault.kind ≡ Store
-            → MoreFailures (S.failures_of self.old.store) (S.failures_of self.new.store)) }
+            → FailsMore S.Meaning self.old.store self.new.store) }
     {
         let head = match self.store.load_decks(alloc, &[]) {
             Ok(head) => head,

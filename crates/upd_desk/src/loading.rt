@@ -7,14 +7,13 @@ ghost use Rattle.upd_compile.specs.Listings.{card_listing, deck_listing};
 ghost use Rattle.upd_core.specs.Library.{LibraryView};
 ghost use Rattle.upd_core.specs.Parts.{part_of};
 ghost use Rattle.upd_desk.specs.Compiling.{references_of};
-ghost use Rattle.upd_desk.specs.Holding.{HoldsIn};
-ghost use Rattle.upd_desk.specs.Journal.{Journal};
+ghost use Rattle.upd_desk.specs.Holding.{EachHeld};
 ghost use Rattle.upd_desk.specs.Made.{IsMade};
 ghost use Rattle.upd_desk.specs.Needed.{stands_in_deck};
 ghost use Rattle.upd_partial.specs.Needed.{cards_named, decks_needed};
 ghost use Rattle.upd_partial.specs.Needless.{is_plain};
 ghost use Rattle.upd_row_store.specs.Asked.{decks_with};
-ghost use Rattle.upd_row_store.specs.Keeping.{IsLost, Keeps, MoreFailures, reads_after};
+ghost use Rattle.upd_row_store.specs.Keeping.{FailsMore, IsLost, IsShown, Keeps, reads_after};
 ghost use Rattle.upd_text.specs.declared.fault.FaultKind.TheVariants.{Store};
 
 use std::alloc::{AllocError, Global};
@@ -31,15 +30,15 @@ pub(crate) fn load_needed<S: RowStore>(
     run: &Run<'_>,
 ) -> Result<Library, Fault>
     ensures found { S.is_honest store.new → IfOk result (λ found. (l : LibraryView) → IsMade l → (rows : Rows)
-        → S.shows (S.image store.old) rows → Shows rows l → found ≡ part_of (decks_needed run.now l) l) }
+        → IsShown S.Meaning rows store.old → Shows rows l → found ≡ part_of (decks_needed run.now l) l) }
     ensures reads { S.is_honest store.new → OnOk result ((l : LibraryView) → IsMade l → (rows : Rows)
-        → S.shows (S.image store.old) rows → Shows rows l
+        → IsShown S.Meaning rows store.old → Shows rows l
         → S.decks_read_of store.new ≤ S.decks_read_of store.old + length (decks_needed run.now l)) }
     ensures open { S.is_honest store.new → OnOk result (S.is_open store.new) }
-    ensures same { Keeps S.is_honest S.is_open S.image S.shows S.may_leave S.failures_of store.old store.new }
+    ensures same { Keeps S.Meaning store.old store.new }
     ensures lost { IfErr result IsLost }
     ensures failed { IfErr result (λ fault. fault.kind ≡ Store
-        → MoreFailures (S.failures_of store.old) (S.failures_of store.new)) }
+        → FailsMore S.Meaning store.old store.new) }
 {
     if is_plain(run) {
         match load_named(store, alloc, run) {
@@ -79,15 +78,15 @@ fn add_references(cards: &mut Vec<CardRef>, counted: &[CountedCard<'_>]) -> Resu
 fn load_named<S: RowStore>(store: &mut S, alloc: Global, run: &Run<'_>) -> Result<Library, Fault>
     requires plain { is_plain run.now ≡ true }
     ensures found { S.is_honest store.new → IfOk result (λ found. (l : LibraryView) → IsMade l → (rows : Rows)
-        → S.shows (S.image store.old) rows → Shows rows l → found ≡ part_of (decks_needed run.now l) l) }
+        → IsShown S.Meaning rows store.old → Shows rows l → found ≡ part_of (decks_needed run.now l) l) }
     ensures reads { S.is_honest store.new → OnOk result ((l : LibraryView) → IsMade l → (rows : Rows)
-        → S.shows (S.image store.old) rows → Shows rows l
+        → IsShown S.Meaning rows store.old → Shows rows l
         → S.decks_read_of store.new ≤ S.decks_read_of store.old + length (decks_needed run.now l)) }
     ensures open { S.is_honest store.new → OnOk result (S.is_open store.new) }
-    ensures same { Keeps S.is_honest S.is_open S.image S.shows S.may_leave S.failures_of store.old store.new }
+    ensures same { Keeps S.Meaning store.old store.new }
     ensures lost { IfErr result IsLost }
     ensures failed { IfErr result (λ fault. fault.kind ≡ Store
-        → MoreFailures (S.failures_of store.old) (S.failures_of store.new)) }
+        → FailsMore S.Meaning store.old store.new) }
 {
     let Ok(cards) = cards_named(alloc, run) else {
         return Err(FaultKind::NoMemory.without_line());
@@ -112,14 +111,14 @@ fn stand_in_decks<S: RowStore>(
     cards: &[CardRef],
 ) -> Result<bool, Fault>
     ensures found { S.is_honest store.new → IfOk result (λ stand. (l : LibraryView) → IsMade l → (rows : Rows)
-        → S.shows (S.image store.old) rows → Shows rows l → stand ≡ list_all (stands_in_deck l) cards.now) }
-    ensures there { S.is_honest store.new → OnOk result ((rows : Rows) → S.shows (S.image store.old) rows
-        → S.shows (S.image store.new) rows) }
+        → IsShown S.Meaning rows store.old → Shows rows l → stand ≡ list_all (stands_in_deck l) cards.now) }
+    ensures there { S.is_honest store.new → OnOk result ((rows : Rows) → IsShown S.Meaning rows store.old
+        → IsShown S.Meaning rows store.new) }
     ensures unread { S.decks_read_of store.new ≡ S.decks_read_of store.old }
-    ensures same { Keeps S.is_honest S.is_open S.image S.shows S.may_leave S.failures_of store.old store.new }
+    ensures same { Keeps S.Meaning store.old store.new }
     ensures lost { IfErr result IsLost }
     ensures failed { IfErr result (λ fault. fault.kind ≡ Store
-        → MoreFailures (S.failures_of store.old) (S.failures_of store.new)) }
+        → FailsMore S.Meaning store.old store.new) }
 {
     for card in cards {
         match stands_in_deck(store, alloc, *card) {
@@ -133,13 +132,13 @@ fn stand_in_decks<S: RowStore>(
 
 fn stands_in_deck<S: RowStore>(store: &mut S, alloc: Global, card: CardRef) -> Result<bool, Fault>
     ensures found { S.is_honest store.new → IfOk result (λ stands. (l : LibraryView) → IsMade l → (rows : Rows)
-        → S.shows (S.image store.old) rows → Shows rows l → stands ≡ stands_in_deck l card) }
+        → IsShown S.Meaning rows store.old → Shows rows l → stands ≡ stands_in_deck l card) }
     ensures unread { S.decks_read_of store.new ≡ S.decks_read_of store.old }
     ensures open { S.is_honest store.new → OnOk result (S.is_open store.new) }
-    ensures same { Keeps S.is_honest S.is_open S.image S.shows S.may_leave S.failures_of store.old store.new }
+    ensures same { Keeps S.Meaning store.old store.new }
     ensures lost { IfErr result IsLost }
     ensures failed { IfErr result (λ fault. fault.kind ≡ Store
-        → MoreFailures (S.failures_of store.old) (S.failures_of store.new)) }
+        → FailsMore S.Meaning store.old store.new) }
 {
     match store.decks_of(alloc, &[card]) {
         Ok(decks) => Ok(!decks.is_empty()),
@@ -158,15 +157,15 @@ fn load_head_first<S: RowStore>(
     requires plain { is_plain run.now ≡ true }
     requires named { cards.now ≡ cards_named run.now }
     ensures found { S.is_honest store.new → IfOk result (λ found. (l : LibraryView) → IsMade l → (rows : Rows)
-        → S.shows (S.image store.old) rows → Shows rows l → found ≡ part_of (decks_needed run.now l) l) }
+        → IsShown S.Meaning rows store.old → Shows rows l → found ≡ part_of (decks_needed run.now l) l) }
     ensures reads { S.is_honest store.new → OnOk result ((l : LibraryView) → IsMade l → (rows : Rows)
-        → S.shows (S.image store.old) rows → Shows rows l
+        → IsShown S.Meaning rows store.old → Shows rows l
         → S.decks_read_of store.new ≤ S.decks_read_of store.old + length (decks_needed run.now l)) }
     ensures open { S.is_honest store.new → OnOk result (S.is_open store.new) }
-    ensures same { Keeps S.is_honest S.is_open S.image S.shows S.may_leave S.failures_of store.old store.new }
+    ensures same { Keeps S.Meaning store.old store.new }
     ensures lost { IfErr result IsLost }
     ensures failed { IfErr result (λ fault. fault.kind ≡ Store
-        → MoreFailures (S.failures_of store.old) (S.failures_of store.new)) }
+        → FailsMore S.Meaning store.old store.new) }
 {
     let head = match store.load_decks(alloc, &[]) {
         Ok(head) => head,
@@ -192,13 +191,13 @@ pub(crate) fn load_holders<S: RowStore>(
     cards: &[CardRef],
 ) -> Result<Library, Fault>
     ensures found { S.is_honest store.new → IfOk result (λ found. (l : LibraryView) → IsMade l → (rows : Rows)
-        → S.shows (S.image store.old) rows → Shows rows l → found ≡ part_of (decks_with cards.now l) l) }
+        → IsShown S.Meaning rows store.old → Shows rows l → found ≡ part_of (decks_with cards.now l) l) }
     ensures reads { S.decks_read_of store.new ≡ reads_after result (S.decks_read_of store.old) }
     ensures open { S.is_honest store.new → OnOk result (S.is_open store.new) }
-    ensures same { Keeps S.is_honest S.is_open S.image S.shows S.may_leave S.failures_of store.old store.new }
+    ensures same { Keeps S.Meaning store.old store.new }
     ensures lost { IfErr result IsLost }
     ensures failed { IfErr result (λ fault. fault.kind ≡ Store
-        → MoreFailures (S.failures_of store.old) (S.failures_of store.new)) }
+        → FailsMore S.Meaning store.old store.new) }
 {
     let decks = match store.decks_of(alloc, cards) {
         Ok(decks) => decks,
@@ -217,16 +216,15 @@ pub(crate) fn load_deck_with<S: RowStore>(
     card: &CardRef,
 ) -> Result<Library, Fault>
     ensures found { S.is_honest store.new → IfOk result (λ found. (l : LibraryView) → IsMade l → (rows : Rows)
-        → S.shows (S.image store.old) rows → Shows rows l
+        → IsShown S.Meaning rows store.old → Shows rows l
         → card_listing card.now found ≡ card_listing card.now l) }
-    ensures reads { S.is_honest store.new → (journal : Journal)
-        → (S.is_open store.old → HoldsIn S.shows journal (S.image store.old))
-        → S.decks_read_of store.new ≤ S.decks_read_of store.old + 1 }
+    ensures reads { EachHeld S.Meaning store.old store.new
+            (λ journal. S.decks_read_of store.new ≤ S.decks_read_of store.old + 1) }
     ensures open { S.is_honest store.new → OnOk result (S.is_open store.new) }
-    ensures same { Keeps S.is_honest S.is_open S.image S.shows S.may_leave S.failures_of store.old store.new }
+    ensures same { Keeps S.Meaning store.old store.new }
     ensures lost { IfErr result IsLost }
     ensures failed { IfErr result (λ fault. fault.kind ≡ Store
-        → MoreFailures (S.failures_of store.old) (S.failures_of store.new)) }
+        → FailsMore S.Meaning store.old store.new) }
 {
     match load_holders(store, alloc, &[*card]) {
         Ok(part) => Ok(part),
@@ -241,15 +239,14 @@ pub(crate) fn load_deck_named<S: RowStore>(
     name: &Name,
 ) -> Result<Library, Fault>
     ensures found { S.is_honest store.new → IfOk result (λ found. (l : LibraryView) → IsMade l → (rows : Rows)
-        → S.shows (S.image store.old) rows → Shows rows l → deck_listing name.now found ≡ deck_listing name.now l) }
-    ensures reads { S.is_honest store.new → (journal : Journal)
-        → (S.is_open store.old → HoldsIn S.shows journal (S.image store.old))
-        → S.decks_read_of store.new ≤ S.decks_read_of store.old + 1 }
+        → IsShown S.Meaning rows store.old → Shows rows l → deck_listing name.now found ≡ deck_listing name.now l) }
+    ensures reads { EachHeld S.Meaning store.old store.new
+            (λ journal. S.decks_read_of store.new ≤ S.decks_read_of store.old + 1) }
     ensures open { S.is_honest store.new → OnOk result (S.is_open store.new) }
-    ensures same { Keeps S.is_honest S.is_open S.image S.shows S.may_leave S.failures_of store.old store.new }
+    ensures same { Keeps S.Meaning store.old store.new }
     ensures lost { IfErr result IsLost }
     ensures failed { IfErr result (λ fault. fault.kind ≡ Store
-        → MoreFailures (S.failures_of store.old) (S.failures_of store.new)) }
+        → FailsMore S.Meaning store.old store.new) }
 {
     let head = match store.load_decks(alloc, &[]) {
         Ok(head) => head,

@@ -15,7 +15,7 @@ ghost use Rattle.upd_apply.specs.Applying.{Reached, applied};
 ghost use Rattle.upd_compile.specs.File.{compile_file_of};
 ghost use Rattle.upd_compile.specs.declared.mode.Mode.{Mode};
 ghost use Rattle.upd_partial.specs.Needed.{decks_needed};
-ghost use Rattle.upd_row_store.specs.Keeping.{IsLost, Keeps, MoreFailures};
+ghost use Rattle.upd_row_store.specs.Keeping.{FailsMore, IsLost, IsShown, Keeps};
 ghost use Rattle.upd_yank.specs.Right.{IsRight, AreStatesOf};
 ghost use Rattle.upd_desk.specs.Arrivals.{door};
 ghost use Rattle.upd_desk.specs.Compiling.{AreActivesFor, IsOutcomeOf, IsRunOf, IsSeen, references_of};
@@ -64,15 +64,15 @@ pub(crate) fn run_outcome<S: RowStore>(
 ) -> Result<RunOutcome, Fault>
     requires passed { door arrival.now ≡ Ok mode }
     ensures found { S.is_honest store.new → IfOk result (λ o. (l : LibraryView) → IsMade l → (rows : Rows)
-        → S.shows (S.image store.old) rows → Shows rows l → ShowsStates rows l
+        → IsShown S.Meaning rows store.old → Shows rows l → ShowsStates rows l
         → IsOutcomeOf mode arrival.now l rows o) }
     ensures reads { S.is_honest store.new → OnOk result ((l : LibraryView) → IsMade l → (rows : Rows)
-        → S.shows (S.image store.old) rows → Shows rows l
+        → IsShown S.Meaning rows store.old → Shows rows l
         → S.decks_read_of store.new ≤ S.decks_read_of store.old + length (needed arrival.now.bytes l)) }
-    ensures same { Keeps S.is_honest S.is_open S.image S.shows S.may_leave S.failures_of store.old store.new }
+    ensures same { Keeps S.Meaning store.old store.new }
     ensures lost { IfErr result IsLost }
     ensures failed { IfErr result (λ fault. fault.kind ≡ Store
-        → MoreFailures (S.failures_of store.old) (S.failures_of store.new)) }
+        → FailsMore S.Meaning store.old store.new) }
 {
     match read_run(alloc, arrival.bytes) {
         Ok(run) => match read_outcome(store, alloc, mode, arrival, &run) {
@@ -97,15 +97,15 @@ fn read_outcome<S: RowStore>(
     requires passed { door arrival.now ≡ Ok mode }
     requires read { reading arrival.now.bytes ≡ Ok run.now }
     ensures found { S.is_honest store.new → IfOk result (λ o. (l : LibraryView) → IsMade l → (rows : Rows)
-        → S.shows (S.image store.old) rows → Shows rows l → ShowsStates rows l
+        → IsShown S.Meaning rows store.old → Shows rows l → ShowsStates rows l
         → IsOutcomeOf mode arrival.now l rows o) }
     ensures reads { S.is_honest store.new → OnOk result ((l : LibraryView) → IsMade l → (rows : Rows)
-        → S.shows (S.image store.old) rows → Shows rows l
+        → IsShown S.Meaning rows store.old → Shows rows l
         → S.decks_read_of store.new ≤ S.decks_read_of store.old + length (decks_needed run.now l)) }
-    ensures same { Keeps S.is_honest S.is_open S.image S.shows S.may_leave S.failures_of store.old store.new }
+    ensures same { Keeps S.Meaning store.old store.new }
     ensures lost { IfErr result IsLost }
     ensures failed { IfErr result (λ fault. fault.kind ≡ Store
-        → MoreFailures (S.failures_of store.old) (S.failures_of store.new)) }
+        → FailsMore S.Meaning store.old store.new) }
 {
     let part = match load_needed(store, alloc, run) {
         Ok(part) => part,
@@ -142,13 +142,13 @@ fn applied_outcome<S: RowStore>(
         → IfOk result (λ o. (lines : List LineView) (l loaded : LibraryView) (reached : Reached)
         → reading arrival.now.bytes ≡ Ok lines → IsMade l → IsRunOf lines l loaded reached run
         → cards.now ≡ references_of loaded → (rows : Rows)
-        → S.shows (S.image store.old) rows → Shows rows l → ShowsStates rows l
+        → IsShown S.Meaning rows store.old → Shows rows l → ShowsStates rows l
         → IsOutcomeOf mode arrival.now l rows o) }
     ensures unread { S.decks_read_of store.new ≡ S.decks_read_of store.old }
-    ensures same { Keeps S.is_honest S.is_open S.image S.shows S.may_leave S.failures_of store.old store.new }
+    ensures same { Keeps S.Meaning store.old store.new }
     ensures lost { IfErr result IsLost }
     ensures failed { IfErr result (λ fault. fault.kind ≡ Store
-        → MoreFailures (S.failures_of store.old) (S.failures_of store.new)) }
+        → FailsMore S.Meaning store.old store.new) }
 {
     let states = match store.states_of(alloc, cards) {
         Ok(states) => states,
@@ -172,13 +172,13 @@ fn active_before<S: RowStore>(
     run: &AppliedRun,
 ) -> Result<Option<Actives>, Fault>
     ensures found { S.is_honest store.new → IfOk result (λ before. (l : LibraryView) → IsMade l → (rows : Rows)
-        → S.shows (S.image store.old) rows → Shows rows l → ShowsStates rows l
+        → IsShown S.Meaning rows store.old → Shows rows l → ShowsStates rows l
         → AreActivesFor mode run.now.applied.compile.items l before) }
     ensures unread { S.decks_read_of store.new ≡ S.decks_read_of store.old }
-    ensures same { Keeps S.is_honest S.is_open S.image S.shows S.may_leave S.failures_of store.old store.new }
+    ensures same { Keeps S.Meaning store.old store.new }
     ensures lost { IfErr result IsLost }
     ensures failed { IfErr result (λ fault. fault.kind ≡ Store
-        → MoreFailures (S.failures_of store.old) (S.failures_of store.new)) }
+        → FailsMore S.Meaning store.old store.new) }
 {
     if mode == Mode::Quick && run.applied.compile.is_empty() {
         Ok(None)

@@ -2,7 +2,7 @@
 
 ghost use Rattle.std.specs.Prelude.{◌≡◌, IfErr};
 ghost use Rattle.upd_desk.specs.Holding.{Settles};
-ghost use Rattle.upd_row_store.specs.Keeping.{MoreFailures};
+ghost use Rattle.upd_row_store.specs.Keeping.{FailsMore};
 ghost use Rattle.upd_text.specs.declared.fault.FaultKind.TheVariants.{Store};
 
 use crate::arrival::key_door;
@@ -17,11 +17,11 @@ pub(crate) fn settle_at<S: RowStore>(
     site: &str,
     number: u64,
 ) -> Result<u64, Fault>
-    ensures settles { Settles S.is_honest S.is_open S.image S.shows S.may_leave S.failures_of
+    ensures settles { Settles S.Meaning
         site.now number result store.old store.new }
     ensures unread { S.decks_read_of store.new ≡ S.decks_read_of store.old }
     ensures failed { IfErr result (λ fault. fault.kind ≡ Store
-        → MoreFailures (S.failures_of store.old) (S.failures_of store.new)) }
+        → FailsMore S.Meaning store.old store.new) }
 {
     match key_door(site, number) {
         Ok(()) => {}

@@ -1,7 +1,7 @@
 -- What the desk told is what it owes.
 use Rattle.std.proofs.Common.{◌≡◌, inl, inr, ℕ, List, ◌∷◌, Bool, true, false, not, Result, Ok, Err, refl, sym, ap, ◌∙◌, subst}
 use Rattle.std.specs.Result.{result_map_both}
-use Rattle.upd_records.specs.Rows.{Rows}
+use Rattle.upd_row_store.specs.declared.meaning.Meaning.{Ghosts}
 use Rattle.upd_desk.specs.Arrivals.{is_run_number, is_site}
 use Rattle.upd_desk.specs.Holding.{HoldsIn, IsOwed, mark_after}
 use Rattle.upd_desk.specs.Journal.{Journal, Settled, mark}
@@ -49,9 +49,10 @@ mark_owed journal site n (Ok m) told is (body, same, text) =
     owed_as (mark_response site) (mark_after journal site n) (Ok m) told is whole
 mark_owed journal site n (Err fault) told is same = owed_as (mark_response site) (mark_after journal site n) (Err fault) told is same
 
-module _ {S : Type 0} {Image : Type 0} (is_honest is_open : S → Type 0) (image : S → Image) (shows : Image → Rows → Type 0)
-    (may_leave : S → Image → Type 0) (failures : S → ℕ) where
-  pub told_is_owed : (asked : Asked) (told : Result Response Fault) (old new : S) → DoesAsAsked is_honest is_open image shows may_leave failures asked told old new
+module _ {S : Type 0} (meaning : Ghosts S) where
+  open meaning use {shows, image, is_open, is_honest}
+
+  pub told_is_owed : (asked : Asked) (told : Result Response Fault) (old new : S) → DoesAsAsked meaning asked told old new
       → is_honest new → (journal : Journal) → (is_open old → HoldsIn shows journal (image old)) → IsOwed (owed journal asked) told
   told_is_owed (run site number mode bytes) told old new (result, arrives, fails, same) honest journal holds =
       owed_as reply_response _ result told (arrives.answers honest journal holds) same

@@ -2,7 +2,6 @@
 use Rattle.std.specs.Prelude.{◌≡◌, ◌⊎◌, ℕ, IsTrue, List, [], ◌∷◌, Option, Some, None, Result, Ok, Err, IsErr}
 use Rattle.std.specs.Io.KnownBytes.{Appends}
 use Rattle.std.specs.Result.{result_map_both}
-use Rattle.upd_records.specs.Rows.{Rows}
 use Rattle.upd_core.specs.Library.{LibraryView}
 use Rattle.upd_compile.specs.File.{compile_file_of}
 use Rattle.upd_compile.specs.Listings.{card_listing, deck_listing, ident_listing, yank_listing}
@@ -15,6 +14,7 @@ use Rattle.upd_reply.specs.Texts.{settled_text}
 use Rattle.upd_request.specs.Calls.{Asked, run, settle, compile, deck, card, idents, yanks}
 use Rattle.upd_request.specs.Requests.{Says}
 use Rattle.upd_request.specs.declared.call.Refusal.{Refusal}
+use Rattle.upd_row_store.specs.declared.meaning.Meaning.{Ghosts}
 use Rattle.upd_row_store.specs.Keeping.{Keeps}
 use Rattle.upd_io.specs.Fronts.{AppendsFront}
 use Rattle.upd_text.specs.Faults.{fault_at}
@@ -53,24 +53,25 @@ IsMarkResponse site (Ok mark) told = (body : List ℕ) × (told ≡ Ok (record (
     × (IsTrue (is_site site) → body ≡ settled_text site mark)
 IsMarkResponse site (Err fault) told = told ≡ Err fault
 
-module _ {S : Type 0} {Image : Type 0} (is_honest is_open : S → Type 0) (image : S → Image) (shows : Image → Rows → Type 0)
-    (may_leave : S → Image → Type 0) (failures : S → ℕ) where
+module _ {S : Type 0} (meaning : Ghosts S) where
+  open meaning use {failures_of}
+
   -- a query told what the desk answered, as a page of these bytes
   abbrev pub Queries : {A : Type 0} → (LibraryView → Result A Fault) → (A → List ℕ) → Result Response Fault → S → S → Type 0
   Queries {A} defined bytes told old new =
-      (result : Result A Fault) × Tells is_honest is_open image shows may_leave failures defined result old new
-      × Keeps is_honest is_open image shows may_leave failures old new × CountsFailure failures result old new
+      (result : Result A Fault) × Tells meaning defined result old new
+      × Keeps meaning old new × CountsFailure failures_of result old new
       × (told ≡ result_map_both (λ x. page (bytes x)) (λ fault. fault) result)
 
   -- The desk was asked this and told so, and its store went from the one to the other.
   abbrev pub DoesAsAsked : Asked → Result Response Fault → S → S → Type 0
   DoesAsAsked (run site number mode bytes) told old new =
       (result : Result ReplyView Fault)
-      × Arrives is_honest is_open image shows may_leave failures (record { site = site; number = number; mode = mode; bytes = bytes }) result old new
-      × CountsFailure failures result old new × (told ≡ result_map_both reply_response (λ fault. fault) result)
+      × Arrives meaning (record { site = site; number = number; mode = mode; bytes = bytes }) result old new
+      × CountsFailure failures_of result old new × (told ≡ result_map_both reply_response (λ fault. fault) result)
   DoesAsAsked (settle site number) told old new =
-      (result : Result ℕ Fault) × Settles is_honest is_open image shows may_leave failures site number result old new
-      × CountsFailure failures result old new × IsMarkResponse site result told
+      (result : Result ℕ Fault) × Settles meaning site number result old new
+      × CountsFailure failures_of result old new × IsMarkResponse site result told
   DoesAsAsked compile told old new = Queries (λ l. compile_file_of Full [] l l) (λ file. file.bytes) told old new
   DoesAsAsked (deck name) told old new = Queries (deck_listing name) (λ text. text) told old new
   DoesAsAsked (card c) told old new = Queries (card_listing c) (λ text. text) told old new

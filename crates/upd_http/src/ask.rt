@@ -24,7 +24,7 @@ pub(crate) fn ask<S: RowStore>(
     desk: &mut Desk<S>,
     call: &Call,
 ) -> Result<Answer, Fault>
-    ensures { Asks S.is_honest S.is_open S.image S.shows S.may_leave S.failures_of
+    ensures { Asks S.Meaning
         (asked call.now) (answer_seen result) desk.old.store desk.new.store }
 {
     match call {
@@ -51,7 +51,7 @@ fn arrive<S: RowStore>(
     mode: &str,
     body: &[u8],
 ) -> Result<Answer, Fault>
-    ensures { Asks S.is_honest S.is_open S.image S.shows S.may_leave S.failures_of
+    ensures { Asks S.Meaning
         (run site.now number mode.now body.now) (answer_seen result) desk.old.store desk.new.store }
 {
     match desk.arrive(alloc, site, number, mode, body) {
@@ -70,7 +70,7 @@ fn settle<S: RowStore>(
     site: &str,
     number: u64,
 ) -> Result<Answer, Fault>
-    ensures { Asks S.is_honest S.is_open S.image S.shows S.may_leave S.failures_of
+    ensures { Asks S.Meaning
         (settle site.now number) (answer_seen result) desk.old.store desk.new.store }
 {
     let mut body = match Vec::with_capacity(alloc, site.len() + MARK_ROOM) {
@@ -106,7 +106,7 @@ fn write_mark(out: &mut Vec<u8>, site: &str, mark: u64)
 }
 
 fn full_compile<S: RowStore>(alloc: Global, desk: &mut Desk<S>) -> Result<Answer, Fault>
-    ensures { Asks S.is_honest S.is_open S.image S.shows S.may_leave S.failures_of
+    ensures { Asks S.Meaning
         compile (answer_seen result) desk.old.store desk.new.store }
 {
     match desk.full_compile(alloc) {
@@ -116,7 +116,7 @@ fn full_compile<S: RowStore>(alloc: Global, desk: &mut Desk<S>) -> Result<Answer
 }
 
 fn deck_list<S: RowStore>(alloc: Global, desk: &mut Desk<S>, name: &Name) -> Result<Answer, Fault>
-    ensures { Asks S.is_honest S.is_open S.image S.shows S.may_leave S.failures_of
+    ensures { Asks S.Meaning
         (deck name.now) (answer_seen result) desk.old.store desk.new.store }
 {
     match desk.deck_list(alloc, name) {
@@ -130,7 +130,7 @@ fn card_list<S: RowStore>(
     desk: &mut Desk<S>,
     shown: CardRef,
 ) -> Result<Answer, Fault>
-    ensures { Asks S.is_honest S.is_open S.image S.shows S.may_leave S.failures_of
+    ensures { Asks S.Meaning
         (card shown) (answer_seen result) desk.old.store desk.new.store }
 {
     match desk.card_list(alloc, shown) {
@@ -140,7 +140,7 @@ fn card_list<S: RowStore>(
 }
 
 fn ident_list<S: RowStore>(alloc: Global, desk: &mut Desk<S>) -> Result<Answer, Fault>
-    ensures { Asks S.is_honest S.is_open S.image S.shows S.may_leave S.failures_of
+    ensures { Asks S.Meaning
         idents (answer_seen result) desk.old.store desk.new.store }
 {
     match desk.ident_list(alloc) {
@@ -150,7 +150,7 @@ fn ident_list<S: RowStore>(alloc: Global, desk: &mut Desk<S>) -> Result<Answer, 
 }
 
 fn yank_list<S: RowStore>(alloc: Global, desk: &mut Desk<S>) -> Result<Answer, Fault>
-    ensures { Asks S.is_honest S.is_open S.image S.shows S.may_leave S.failures_of
+    ensures { Asks S.Meaning
         yanks (answer_seen result) desk.old.store desk.new.store }
 {
     match desk.yank_list(alloc) {

@@ -36,7 +36,7 @@ pub fn serve_on<S: RowStore>(
     desk: &mut Desk<S>,
 ) -> Result<(), Fault>
     ensures leads { (made : List Made) × (length made ≤ count) × OnOk result (length made ≡ count)
-        × LeadsThrough S.is_honest S.is_open S.image S.shows S.may_leave S.failures_of made desk.old.store desk.new.store }
+        × LeadsThrough S.Meaning made desk.old.store desk.new.store }
     ensures err { IfErr result (λ fault. fault ≡ read_failed) }
 {
     'connections: for _ in 0..count {
@@ -55,7 +55,7 @@ fn serve_connection<'c, S: RowStore>(
     desk: &mut Desk<S>,
 )
     ensures { (made : Made)
-        × Leads S.is_honest S.is_open S.image S.shows S.may_leave S.failures_of made desk.old.store desk.new.store }
+        × Leads S.Meaning made desk.old.store desk.new.store }
 {
     let patience = Some(Duration::from_secs(PATIENCE));
     if stream.set_read_timeout(patience).is_err() || stream.set_write_timeout(patience).is_err() {

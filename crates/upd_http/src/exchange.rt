@@ -27,7 +27,7 @@ pub fn serve_one<R: Read, W: Write, S: RowStore>(
     desk: &mut Desk<S>,
 ) -> Result<(), Fault>
     ensures { (made : Made) × (answer : Result Response Fault)
-        × Leads S.is_honest S.is_open S.image S.shows S.may_leave S.failures_of made desk.old.store desk.new.store
+        × Leads S.Meaning made desk.old.store desk.new.store
         × Sends answer result (W.contents writer.old) (W.contents writer.new)
         × ((input : List ℕ) × IsInput (R.remaining reader.old) input × AnswersRequest input made answer) }
 {
@@ -51,7 +51,7 @@ fn answer_one<R: Read, S: RowStore>(
     desk: &mut Desk<S>,
 ) -> Result<Answer, Fault>
     ensures { (made : Made)
-        × Leads S.is_honest S.is_open S.image S.shows S.may_leave S.failures_of made desk.old.store desk.new.store
+        × Leads S.Meaning made desk.old.store desk.new.store
         × ((input : List ℕ) × IsInput (R.remaining reader.old) input × AnswersRequest input made (answer_seen result)) }
 {
     match read_call(alloc, reader) {

@@ -1,7 +1,7 @@
 //! Laws of answers.
 
 ghost use Rattle.std.specs.Prelude.{Result};
-ghost use Rattle.upd_desk.specs.Holding.{HoldsIn, IsOwed};
+ghost use Rattle.upd_desk.specs.Holding.{IsHeld, IsOwed};
 ghost use Rattle.upd_desk.specs.Journal.{Journal};
 ghost use Rattle.upd_request.specs.Calls.{Asked};
 ghost use Rattle.upd_text.specs.declared.fault.Fault.{Fault};
@@ -16,7 +16,7 @@ use upd_row_store::RowStore;
 /// the store.
 pub fn answers_are_owed<S: RowStore>()
     ensures { (asked : Asked) (told : Result Response Fault) (old new : S)
-        → DoesAsAsked S.is_honest S.is_open S.image S.shows S.may_leave S.failures_of asked told old new → S.is_honest new
-        → (journal : Journal) → (S.is_open old → HoldsIn S.shows journal (S.image old))
+        → DoesAsAsked S.Meaning asked told old new → S.is_honest new
+        → (journal : Journal) → IsHeld S.Meaning journal old
         → IsOwed (owed journal asked) told }
 {}

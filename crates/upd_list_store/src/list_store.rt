@@ -8,7 +8,7 @@ use crate::list_tables::ListTables;
 use std::alloc::Global;
 use upd_core::{Actives, CardRef, Change, Library, Serial, States};
 use upd_records::{RunRow, copy_run};
-use upd_row_store::{RowStore, reads_with};
+use upd_row_store::{Meaning, RowStore, reads_with};
 use upd_text::Fault;
 
 /// Tables that are lists. Nothing but want of memory fails here.
@@ -50,7 +50,7 @@ impl ListStore {
     }
 }
 
-impl RowStore for ListStore {
+impl Meaning for ListStore {
     ghost Image = { Rows };
 
     ghost shows = { λ image rows. image ≡ rows };
@@ -66,9 +66,9 @@ impl RowStore for ListStore {
     ghost failures_of = { λ _. 0 };
 
     ghost decks_read_of = { λ s. s.decks_read };
+}
 
-    ghost caused = { λ _ _. ⊥ };
-
+impl RowStore for ListStore {
     fn load(&mut self, alloc: Global) -> Result<Library, Fault> {
         let library = self.tables.library(alloc)?;
         self.decks_read = reads_with(self.decks_read, &library);

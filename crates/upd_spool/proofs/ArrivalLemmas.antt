@@ -1,7 +1,7 @@
 -- Arrivals one after the other, and further ones behind them.
-use Rattle.std.proofs.Common.{◌≡◌, ℕ, List, [], ◌∷◌, ◌++◌, length, Result, refl, sym, subst, arith}
+use Rattle.std.proofs.Common.{◌≡◌, List, [], ◌∷◌, ◌++◌, length, Result, refl, sym, subst, arith}
 use Rattle.upd_text.specs.declared.fault.Fault.{Fault}
-use Rattle.upd_records.specs.Rows.{Rows}
+use Rattle.upd_row_store.specs.declared.meaning.Meaning.{Ghosts}
 use Rattle.upd_desk.specs.Arrivals.{ArrivalView}
 use Rattle.upd_desk.specs.Journal.{Event, Journal}
 use Rattle.upd_desk.specs.Outcomes.{ReplyView}
@@ -28,10 +28,11 @@ answers_further j [] more (r ∷ results) further are then = absurd are
 answers_further j (a ∷ list) more [] further are then = absurd are
 answers_further j (a ∷ list) more (r ∷ results) further are then = (are.0, answers_further (after j a r) list more results further are.1 then)
 
-module _ {S : Type 0} {Image : Type 0} (is_honest is_open : S → Type 0) (image : S → Image) (shows : Image → Rows → Type 0)
-    (may_leave : S → Image → Type 0) (failures : S → ℕ) where
+module _ {S : Type 0} {meaning : Ghosts S} where
+  open meaning use {Image, shows, image}
+
   -- no arrival does nothing
-  pub none_arrived : (s : S) → RunAll is_honest is_open image shows may_leave failures [] [] s s
+  pub none_arrived : (s : S) → RunAll meaning [] [] s s
   none_arrived s = record {
     honest = λ honest. honest;
     was_open = λ honest is. is;
@@ -43,8 +44,8 @@ module _ {S : Type 0} {Image : Type 0} (is_honest is_open : S → Type 0) (image
 
   -- one arrival alone
   pub one_arrived : (a : ArrivalView) (result : Result ReplyView Fault) (old new : S)
-      → Arrives is_honest is_open image shows may_leave failures a result old new
-      → RunAll is_honest is_open image shows may_leave failures (a ∷ []) (result ∷ []) old new
+      → Arrives meaning a result old new
+      → RunAll meaning (a ∷ []) (result ∷ []) old new
   one_arrived a result old new went = record {
     honest = went.honest;
     was_open = went.was_open;
@@ -56,9 +57,9 @@ module _ {S : Type 0} {Image : Type 0} (is_honest is_open : S → Type 0) (image
 
   -- further arrivals
   pub further_arrived : (list more : List ArrivalView) (results further : List (Result ReplyView Fault)) (old mid new : S) → length results ≡ length list
-      → RunAll is_honest is_open image shows may_leave failures list results old mid
-      → RunAll is_honest is_open image shows may_leave failures more further mid new
-      → RunAll is_honest is_open image shows may_leave failures (list ++ more) (results ++ further) old new
+      → RunAll meaning list results old mid
+      → RunAll meaning more further mid new
+      → RunAll meaning (list ++ more) (results ++ further) old new
   further_arrived list more results further old mid new same all went = record {
     honest = λ honest. all.honest (went.honest honest);
     was_open = λ honest is. all.was_open (went.honest honest) (went.was_open honest is);

@@ -5,7 +5,7 @@ use Rattle.upd_io.specs.Fronts.{AppendsFront}
 use Rattle.upd_text.specs.declared.fault.Fault.{Fault}
 use Rattle.upd_text.specs.declared.fault.FaultKind.{FaultKind}
 use Rattle.upd_text.specs.declared.fault.FaultKind.TheVariants.{NoMemory, Store, BadFrame, CutFrame, Read, Write}
-use Rattle.upd_records.specs.Rows.{Rows}
+use Rattle.upd_row_store.specs.declared.meaning.Meaning.{Ghosts}
 use Rattle.upd_row_store.specs.Keeping.{MoreFailures}
 use Rattle.upd_desk.specs.Answers.{answer_line, is_answered}
 use Rattle.upd_desk.specs.Arrivals.{ArrivalView}
@@ -44,23 +44,24 @@ StopsNothing _ taken = ⊥
 
 -- ---- answering
 
-module _ {S : Type 0} {Image : Type 0} (is_honest is_open : S → Type 0) (image : S → Image) (shows : Image → Rows → Type 0)
-    (may_leave : S → Image → Type 0) (failures : S → ℕ) where
+module _ {S : Type 0} (meaning : Ghosts S) where
+  open meaning use {failures_of}
+
   -- The line of an arrival isn't out whole: a beginning of it is, or all of it and the flush failed; or nothing is, where the arrival was lost
   -- or there was no memory for the line.
   abbrev pub LeavesNoLine : FaultKind → ArrivalView → S → S → Option (List ℕ) → Option (List ℕ) → Type 0
   LeavesNoLine Write a old new output output' =
-      (result : Result ReplyView Fault) × Arrives is_honest is_open image shows may_leave failures a result old new × IsTrue (is_answered result)
+      (result : Result ReplyView Fault) × Arrives meaning a result old new × IsTrue (is_answered result)
       × AppendsFront output output' (answer_line result)
   LeavesNoLine kind a old new output output' =
-      (fault : Fault) × Arrives is_honest is_open image shows may_leave failures a (Err fault) old new × GetsNoLine kind fault
-      × (kind ≡ Store → MoreFailures (failures old) (failures new)) × Appends output output' []
+      (fault : Fault) × Arrives meaning a (Err fault) old new × GetsNoLine kind fault
+      × (kind ≡ Store → MoreFailures (failures_of old) (failures_of new)) × Appends output output' []
 
   module _ (old new : S) (input input' output output' : Option (List ℕ)) where
     -- How one frame goes: it was answered, or the input has ended before it, or it ends the spool.
     abbrev pub Exchanges : Result Bool FaultKind → Type 0
     Exchanges (Ok true) =
         (frame : ArrivalView) × (result : Result ReplyView Fault)
-        × Answered is_honest is_open image shows may_leave failures old new input input' output output' (frame ∷ []) (result ∷ []) []
-    Exchanges (Ok false) = Answered is_honest is_open image shows may_leave failures old new input input' output output' [] [] [] × IsAtEnd input'
-    Exchanges (Err kind) = EndsBy is_honest is_open image shows may_leave failures old new input input' output output' kind [] []
+        × Answered meaning old new input input' output output' (frame ∷ []) (result ∷ []) []
+    Exchanges (Ok false) = Answered meaning old new input input' output output' [] [] [] × IsAtEnd input'
+    Exchanges (Err kind) = EndsBy meaning old new input input' output output' kind [] []

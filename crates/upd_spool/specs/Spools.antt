@@ -5,7 +5,7 @@ use Rattle.std.specs.List.{All, flat_map}
 use Rattle.upd_text.specs.declared.fault.Fault.{Fault}
 use Rattle.upd_text.specs.declared.fault.FaultKind.{FaultKind}
 use Rattle.upd_text.specs.declared.fault.FaultKind.TheVariants.{NoMemory, Store, BadFrame, CutFrame, Read, Write}
-use Rattle.upd_records.specs.Rows.{Rows}
+use Rattle.upd_row_store.specs.declared.meaning.Meaning.{Ghosts}
 use Rattle.upd_row_store.specs.Keeping.{MoreFailures}
 use Rattle.upd_desk.specs.Answers.{answer_line, is_answered}
 use Rattle.upd_desk.specs.Arrivals.{ArrivalView}
@@ -48,8 +48,9 @@ Stops Read taken input' = frame_of taken ≡ None
 Stops NoMemory taken input' = frame_of taken ≡ None
 Stops _ taken input' = ⊥
 
-module _ {S : Type 0} {Image : Type 0} (is_honest is_open : S → Type 0) (image : S → Image) (shows : Image → Rows → Type 0)
-    (may_leave : S → Image → Type 0) (failures : S → ℕ) where
+module _ {S : Type 0} (meaning : Ghosts S) where
+  open meaning use {failures_of}
+
   -- At most so many frames were read one after the other and arrived, with these results. Of the input so much is taken beyond them, and these
   -- bytes are out.
   pub record Handled (frames : List ArrivalView) (results : List (Result ReplyView Fault)) (taken out : List ℕ) (old new : S)
@@ -57,7 +58,7 @@ module _ {S : Type 0} {Image : Type 0} (is_honest is_open : S → Type 0) (image
     pub are_frames : All IsFrame frames
     pub few : length frames ≤ MAX_FRAMES
     pub each : length results ≡ length frames
-    pub arrived : RunAll is_honest is_open image shows may_leave failures frames results old new
+    pub arrived : RunAll meaning frames results old new
     pub read : Consumes input input' (frames_text frames ++ taken)
     pub written : Appends output output' out
 
@@ -86,7 +87,7 @@ module _ {S : Type 0} {Image : Type 0} (is_honest is_open : S → Type 0) (image
     EndsBy Write frames results =
         (frame : ArrivalView) × (result : Result ReplyView Fault) × (front : List ℕ) × (rest : List ℕ) × WritesFront frames results frame result front rest
     EndsBy Store frames results =
-        (frame : ArrivalView) × (fault : Fault) × LosesOne Store frames results frame fault × MoreFailures (failures old) (failures new)
+        (frame : ArrivalView) × (fault : Fault) × LosesOne Store frames results frame fault × MoreFailures (failures_of old) (failures_of new)
     EndsBy NoMemory frames results =
         ((taken : List ℕ) × Answered frames results taken × Stops NoMemory taken input')
         ⊎ ((frame : ArrivalView) × (fault : Fault) × LosesOne NoMemory frames results frame fault)

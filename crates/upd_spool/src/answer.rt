@@ -4,7 +4,7 @@ ghost use Rattle.std.specs.Io.KnownBytes.{Appends};
 ghost use Rattle.upd_desk.specs.Answers.{answer_line, is_answered};
 ghost use Rattle.upd_desk.specs.Holding.{Arrives};
 ghost use Rattle.upd_desk.specs.Outcomes.{ReplyView};
-ghost use Rattle.upd_row_store.specs.Keeping.{MoreFailures};
+ghost use Rattle.upd_row_store.specs.Keeping.{FailsMore};
 ghost use Rattle.upd_spool.specs.Exchange.{LeavesNoLine};
 ghost use Rattle.upd_spool.specs.Frames.{arrival_of};
 ghost use Rattle.upd_spool.specs.Spools.{GetsNoLine};
@@ -30,10 +30,10 @@ pub(crate) fn answer<W: Write, S: RowStore>(
     run: &[u8],
 ) -> Result<(), FaultKind>
     ensures ok { OnOk result ((r : Result ReplyView Fault)
-        × Arrives S.is_honest S.is_open S.image S.shows S.may_leave S.failures_of (arrival_of header.now run.now) r
+        × Arrives S.Meaning (arrival_of header.now run.now) r
         desk.old.store desk.new.store
         × IsTrue (is_answered r) × Appends (W.contents writer.old) (W.contents writer.new) (answer_line r)) }
-    ensures err { IfErr result (λ kind. LeavesNoLine S.is_honest S.is_open S.image S.shows S.may_leave S.failures_of
+    ensures err { IfErr result (λ kind. LeavesNoLine S.Meaning
         kind (arrival_of header.now run.now) desk.old.store desk.new.store (W.contents writer.old)
         (W.contents writer.new)) }
 {
@@ -55,14 +55,14 @@ fn answer_text<S: RowStore>(
     run: &[u8],
 ) -> Result<Vec<u8>, FaultKind>
     ensures ok { IfOk result (λ text. (r : Result ReplyView Fault)
-        × Arrives S.is_honest S.is_open S.image S.shows S.may_leave S.failures_of (arrival_of header.now run.now) r
+        × Arrives S.Meaning (arrival_of header.now run.now) r
         desk.old.store desk.new.store
         × IsTrue (is_answered r) × (answer_line r ≡ text.items ++ 10 ∷ [])) }
     ensures err { IfErr result (λ kind. (fault : Fault)
-        × Arrives S.is_honest S.is_open S.image S.shows S.may_leave S.failures_of (arrival_of header.now run.now)
+        × Arrives S.Meaning (arrival_of header.now run.now)
         (Err fault) desk.old.store desk.new.store
         × GetsNoLine kind fault
-        × (kind ≡ Store → MoreFailures (S.failures_of desk.old.store) (S.failures_of desk.new.store))) }
+        × (kind ≡ Store → FailsMore S.Meaning desk.old.store desk.new.store)) }
 {
     let number = u64::from(header.number);
     match desk.arrive(alloc, header.site, number, header.mode, run) {

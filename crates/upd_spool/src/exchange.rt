@@ -17,7 +17,7 @@ pub(crate) fn exchange<R: Read, W: Write, S: RowStore>(
     writer: &mut W,
     desk: &mut Desk<S>,
 ) -> Result<bool, FaultKind>
-    ensures { Exchanges S.is_honest S.is_open S.image S.shows S.may_leave S.failures_of desk.old.store desk.new.store
+    ensures { Exchanges S.Meaning desk.old.store desk.new.store
         (R.remaining reader.old) (R.remaining reader.new) (W.contents writer.old) (W.contents writer.new) result }
 {
     let mut line = Vec::new(alloc);

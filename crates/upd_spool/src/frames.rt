@@ -24,7 +24,7 @@ pub fn spool<R: Read, W: Write, S: RowStore>(
     writer: &mut W,
     desk: &mut Desk<S>,
 ) -> Result<u32, Fault>
-    ensures { Ends S.is_honest S.is_open S.image S.shows S.may_leave S.failures_of desk.old.store desk.new.store
+    ensures { Ends S.Meaning desk.old.store desk.new.store
         (R.remaining reader.old) (R.remaining reader.new) (W.contents writer.old) (W.contents writer.new) result }
 {
     for count in 0..MAX_FRAMES {

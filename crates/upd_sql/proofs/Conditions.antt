@@ -101,7 +101,7 @@ one_of true false = refl
 one_of false true = refl
 one_of false false = refl
 
--- a card stands in `YANK$$$` or in a deck
+-- a card is in `YANK$$$` or in a deck
 pub in_deck : (deck : ℕ) (r : CardRow) → passes (num deck ∷ []) cards_of_deck_tests (card_row r) ≡ ((r.deck == 0) || (r.deck == deck))
 in_deck deck r = one_test (ap₂ (λ u v. is_true (binary Or u v)) (compared r.deck 0) (compared r.deck deck) ∙ one_of (r.deck == 0) (r.deck == deck))
 

@@ -14,7 +14,7 @@ use upd_desk::{Arrival, Desk};
 use upd_desk_tests::plain::Sent;
 use upd_list_store::ListStore;
 use upd_records::RunRow;
-use upd_row_store::RowStore;
+use upd_row_store::{Meaning, RowStore};
 use upd_text::{Fault, FaultKind};
 
 /// Lists of which one commit fails.
@@ -42,7 +42,7 @@ fn store_failed() -> Fault
     FaultKind::Store.without_line()
 }
 
-impl RowStore for Failing {
+impl Meaning for Failing {
     ghost Image = { Rows };
 
     ghost shows = { λ image rows. image ≡ rows };
@@ -58,9 +58,9 @@ impl RowStore for Failing {
     ghost failures_of = { λ s. s.failures };
 
     ghost decks_read_of = { λ s. s.lists.decks_read };
+}
 
-    ghost caused = { λ _ _. Unit {0} };
-
+impl RowStore for Failing {
     fn load(&mut self, alloc: Global) -> Result<Library, Fault> {
         self.lists.load(alloc)
     }

@@ -1,4 +1,4 @@
-//! The promises of a store of rows, kept by the tables.
+//! `SqlStore` as a `RowStore`.
 ghost use Rattle.std.specs.Prelude.{◌≡◌, false, IfErr, IfOk, IsTrue, OnOk};
 ghost use Rattle.sqlite.specs.Held.{state};
 ghost use Rattle.sqlite.specs.State.{HasCleanDisk};
@@ -11,33 +11,30 @@ use std::alloc::Global;
 use upd_core::{Actives, CardRef, Change, Library, Serial, States};
 use upd_records::RunRow;
 use upd_row_store::{
-    RowStore, assembled, assembled_active, assembled_with_rest, decks_by_age, reads_with,
+    Meaning, RowStore, assembled, assembled_active, assembled_with_rest, decks_by_age, reads_with,
 };
 use upd_sql::{
-    commit_changes, is_library_schema, kept_active, kept_decks_of, kept_library_rows, kept_mark,
-    kept_part, kept_run, kept_states, kept_states_of, settle_site, sizes_after,
+    commit_changes, is_library_schema, settle_site, sizes_after, stored_active, stored_decks_of,
+    stored_library_rows, stored_mark, stored_part, stored_run, stored_states, stored_states_of,
 };
-use upd_sqlite::Rising;
+use upd_sqlite::{Rising, committed_schema};
 use upd_text::Fault;
 
-/// Whether the schema is the library's, outside a transaction.
+/// Whether the last commit has the library's schema.
 fn is_ours<S: Rising>(conn: &Connection<S>) -> bool
     requires { conn.now.in_transaction ≡ false }
     ensures { IsTrue result → IsTrue (state S.Store conn.now).is_open
         → (state S.Store conn.now).committed.schema ≡ library_schema }
 {
-    // For its clause alone: outside a transaction the tables are those of the last commit.
-    let _outside = conn.is_autocommit();
-    is_library_schema(conn.schema())
+    is_library_schema(committed_schema(conn))
 }
 
-impl<S: Rising> RowStore for SqlStore<S> {
+impl<S: Rising> Meaning for SqlStore<S> {
     ghost use Rattle.std.specs.Prelude.{IsTrue};
     ghost use Rattle.sqlite_trees.specs.Tree.{Trees};
     ghost use Rattle.sqlite.specs.Held.{state};
     ghost use Rattle.sqlite.specs.State.{HasCleanDisk};
     ghost use Rattle.upd_sql.specs.Commits.{ShowsIn};
-    ghost use Rattle.upd_store.specs.One.{shows_one};
 
     ghost Image = { Trees };
 
@@ -54,14 +51,16 @@ impl<S: Rising> RowStore for SqlStore<S> {
     ghost failures_of = { λ s. s.failures };
 
     ghost decks_read_of = { λ s. s.decks_read };
+}
 
-    ghost caused = { λ _ _. Unit {0} };
+impl<S: Rising> RowStore for SqlStore<S> {
+    ghost use Rattle.upd_store.specs.One.{shows_one};
 
     fn load(&mut self, alloc: Global) -> Result<Library, Fault> {
         if !is_ours(&self.conn) {
             return Err(refused(&mut self.failures));
         }
-        match kept_library_rows(&mut self.conn, alloc) {
+        match stored_library_rows(&mut self.conn, alloc) {
             Ok(rows) => match assembled(alloc, rows) {
                 Ok(library) => {
                     self.decks_read = reads_with(self.decks_read, &library);
@@ -79,7 +78,7 @@ impl<S: Rising> RowStore for SqlStore<S> {
         }
         let known = self.sizes;
         self.sizes = None;
-        match kept_part(&mut self.conn, alloc, decks, known) {
+        match stored_part(&mut self.conn, alloc, decks, known) {
             Ok(part) => match assembled_with_rest(
                 alloc,
                 part.rows,
@@ -101,7 +100,7 @@ impl<S: Rising> RowStore for SqlStore<S> {
         if !is_ours(&self.conn) {
             return Err(refused(&mut self.failures));
         }
-        match kept_decks_of(&mut self.conn, alloc, cards) {
+        match stored_decks_of(&mut self.conn, alloc, cards) {
             Ok(ages) => Ok(decks_by_age(ages)),
             Err(error) => Err(counted(error, &mut self.failures)),
         }
@@ -111,7 +110,7 @@ impl<S: Rising> RowStore for SqlStore<S> {
         if !is_ours(&self.conn) {
             return Err(refused(&mut self.failures));
         }
-        match kept_states(&mut self.conn, alloc) {
+        match stored_states(&mut self.conn, alloc) {
             Ok(states) => Ok(states),
             Err(error) => Err(counted(error, &mut self.failures)),
         }
@@ -121,7 +120,7 @@ impl<S: Rising> RowStore for SqlStore<S> {
         if !is_ours(&self.conn) {
             return Err(refused(&mut self.failures));
         }
-        match kept_states_of(&mut self.conn, alloc, cards) {
+        match stored_states_of(&mut self.conn, alloc, cards) {
             Ok(states) => Ok(states),
             Err(error) => Err(counted(error, &mut self.failures)),
         }
@@ -131,7 +130,7 @@ impl<S: Rising> RowStore for SqlStore<S> {
         if !is_ours(&self.conn) {
             return Err(refused(&mut self.failures));
         }
-        match kept_active(&mut self.conn, alloc) {
+        match stored_active(&mut self.conn, alloc) {
             Ok(rows) => match assembled_active(alloc, rows.idents, rows.cards, rows.states) {
                 Ok(actives) => Ok(actives),
                 Err(_) => Err(no_memory()),
@@ -144,7 +143,7 @@ impl<S: Rising> RowStore for SqlStore<S> {
         if !is_ours(&self.conn) {
             return Err(refused(&mut self.failures));
         }
-        match kept_run(&mut self.conn, site, number) {
+        match stored_run(&mut self.conn, site, number) {
             Ok(run) => Ok(run),
             Err(error) => Err(counted(error, &mut self.failures)),
         }
@@ -154,7 +153,7 @@ impl<S: Rising> RowStore for SqlStore<S> {
         if !is_ours(&self.conn) {
             return Err(refused(&mut self.failures));
         }
-        match kept_mark(&mut self.conn, site) {
+        match stored_mark(&mut self.conn, site) {
             Ok(mark) => Ok(mark),
             Err(error) => Err(counted(error, &mut self.failures)),
         }

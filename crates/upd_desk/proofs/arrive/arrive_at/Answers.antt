@@ -12,15 +12,15 @@ use Rattle.upd_desk.proofs.WorkLemmas.{least_kept, least_told, reads_kept, work_
 use Rattle.upd_desk.proofs.arrive.arrive_at.Goals as goal
 
 pub returns-in-Err-clause-arrives : goal.returns-in-Err-clause-arrives
-returns-in-Err-clause-arrives g c = refuses_at_door _ _ _ _ _ _ c.args.arrival.now c.in-Err.fault c.args.store.now c.in-Err.ensures
+returns-in-Err-clause-arrives g c = refuses_at_door c.args.arrival.now c.in-Err.fault c.args.store.now c.in-Err.ensures
 
 pub returns-in-Err-mark-clause-arrives : goal.returns-in-Err-mark-clause-arrives
 returns-in-Err-mark-clause-arrives g c =
-    loses _ _ _ _ _ _ c.args.arrival.now c.in-Err-mark.fault c.args.store.now c.mark.new.self c.in-Err-mark.ensures.same c.in-Err-mark.ensures.lost
+    loses c.args.arrival.now c.in-Err-mark.fault c.args.store.now c.mark.new.self c.in-Err-mark.ensures.same c.in-Err-mark.ensures.lost
 
 pub returns-then-arrival-mark-clause-arrives : goal.returns-then-arrival-mark-clause-arrives
 returns-then-arrival-mark-clause-arrives g c =
-    refuses_settled _ _ _ _ _ _ c.in-Ok.mode c.args.arrival.now c.in-Ok-mark.mark c.without_line.result c.args.store.now c.mark.new.self
+    refuses_settled c.in-Ok.mode c.args.arrival.now c.in-Ok-mark.mark c.without_line.result c.args.store.now c.mark.new.self
     c.in-Ok-mark.ensures.same
     c.in-Ok-mark.ensures.open (sym c.in-Ok.ensures)
     (subst (λ a. a.number ≤ c.in-Ok-mark.mark) c.arrival.view_is c.if-arrival-mark.true)
@@ -28,16 +28,16 @@ returns-then-arrival-mark-clause-arrives g c =
 
 pub returns-in-Err-kept_run-clause-arrives : goal.returns-in-Err-kept_run-clause-arrives
 returns-in-Err-kept_run-clause-arrives g c =
-    loses _ _ _ _ _ _ c.args.arrival.now c.in-Err-kept_run.fault c.args.store.now c.kept_run.new.self
-    (keeps_keeps _ _ _ _ _ _ c.in-Ok-mark.ensures.same c.in-Err-kept_run.ensures.same) c.in-Err-kept_run.ensures.lost
+    loses c.args.arrival.now c.in-Err-kept_run.fault c.args.store.now c.kept_run.new.self
+    (keeps_keeps c.in-Ok-mark.ensures.same c.in-Err-kept_run.ensures.same) c.in-Err-kept_run.ensures.lost
 
 pub returns-in-Ok-told_again-clause-arrives : goal.returns-in-Ok-told_again-clause-arrives
 returns-in-Ok-told_again-clause-arrives g c =
-    keeps_arrives _ _ _ _ _ _ c.args.arrival.now (Ok c.in-Ok-told_again.reply) c.args.store.now c.kept_run.new.self c.kept_run.new.self
-    (keeps_keeps _ _ _ _ _ _ c.in-Ok-mark.ensures.same c.in-Ok-kept_run.ensures.same)
-    (tells_kept _ _ _ _ _ _ g.met.S.RowStore.leaves_image c.in-Ok.mode c.args.arrival.now c.in-Some.run' c.in-Ok-told_again.reply c.kept_run.new.self
+    keeps_arrives c.args.arrival.now (Ok c.in-Ok-told_again.reply) c.args.store.now c.kept_run.new.self c.kept_run.new.self
+    (keeps_keeps c.in-Ok-mark.ensures.same c.in-Ok-kept_run.ensures.same)
+    (tells_kept g.met.S.RowStore.leaves_image c.in-Ok.mode c.args.arrival.now c.in-Some.run' c.in-Ok-told_again.reply c.kept_run.new.self
     c.in-Ok-kept_run.ensures.open
-    (λ honest. asked _ _ _ _ _ _ c.in-Ok.mode c.args.arrival.now c.in-Ok-mark.mark (Some c.in-Some.run') c.args.store.now c.mark.new.self
+    (λ honest. asked c.in-Ok.mode c.args.arrival.now c.in-Ok-mark.mark (Some c.in-Some.run') c.args.store.now c.mark.new.self
     c.kept_run.new.self c.in-Ok-mark.ensures.same c.in-Ok-kept_run.ensures.same (sym c.in-Ok.ensures)
     (subst (λ a. c.in-Ok-mark.mark < a.number) c.arrival.view_is c.if-arrival-mark.false)
     (λ honest rows shown. c.in-Ok-mark.ensures.found honest rows shown ∙ ap (λ a. mark_at a.site rows) c.arrival.view_is)
@@ -47,11 +47,11 @@ returns-in-Ok-told_again-clause-arrives g c =
 
 pub returns-in-Err-told_again-clause-arrives : goal.returns-in-Err-told_again-clause-arrives
 returns-in-Err-told_again-clause-arrives g c =
-    keeps_arrives _ _ _ _ _ _ c.args.arrival.now (Err c.in-Err-told_again.fault) c.args.store.now c.kept_run.new.self c.kept_run.new.self
-    (keeps_keeps _ _ _ _ _ _ c.in-Ok-mark.ensures.same c.in-Ok-kept_run.ensures.same)
-    (refuses_changed _ _ _ _ _ _ c.in-Ok.mode c.args.arrival.now c.in-Some.run' c.in-Err-told_again.fault c.kept_run.new.self
+    keeps_arrives c.args.arrival.now (Err c.in-Err-told_again.fault) c.args.store.now c.kept_run.new.self c.kept_run.new.self
+    (keeps_keeps c.in-Ok-mark.ensures.same c.in-Ok-kept_run.ensures.same)
+    (refuses_changed c.in-Ok.mode c.args.arrival.now c.in-Some.run' c.in-Err-told_again.fault c.kept_run.new.self
     c.in-Ok-kept_run.ensures.open
-    (λ honest. asked _ _ _ _ _ _ c.in-Ok.mode c.args.arrival.now c.in-Ok-mark.mark (Some c.in-Some.run') c.args.store.now c.mark.new.self
+    (λ honest. asked c.in-Ok.mode c.args.arrival.now c.in-Ok-mark.mark (Some c.in-Some.run') c.args.store.now c.mark.new.self
     c.kept_run.new.self c.in-Ok-mark.ensures.same c.in-Ok-kept_run.ensures.same (sym c.in-Ok.ensures)
     (subst (λ a. c.in-Ok-mark.mark < a.number) c.arrival.view_is c.if-arrival-mark.false)
     (λ honest rows shown. c.in-Ok-mark.ensures.found honest rows shown ∙ ap (λ a. mark_at a.site rows) c.arrival.view_is)
@@ -66,11 +66,11 @@ returns-in-Err-told_again-clause-failed g c is =
 
 pub returns-in-Ok-keep_new-clause-arrives : goal.returns-in-Ok-keep_new-clause-arrives
 returns-in-Ok-keep_new-clause-arrives g c =
-    keeps_arrives _ _ _ _ _ _ c.args.arrival.now (Ok c.in-Ok-keep_new.answered.reply) c.args.store.now c.kept_run.new.self c.keep_new.new.store
-    (keeps_keeps _ _ _ _ _ _ c.in-Ok-mark.ensures.same c.in-Ok-kept_run.ensures.same)
-    (keeps_new _ _ _ _ _ _ library_made g.met.S.RowStore.leaves_image c.in-Ok.mode c.args.arrival.now c.in-Ok-keep_new.answered.reply c.kept_run.new.self
+    keeps_arrives c.args.arrival.now (Ok c.in-Ok-keep_new.answered.reply) c.args.store.now c.kept_run.new.self c.keep_new.new.store
+    (keeps_keeps c.in-Ok-mark.ensures.same c.in-Ok-kept_run.ensures.same)
+    (keeps_new library_made g.met.S.RowStore.leaves_image c.in-Ok.mode c.args.arrival.now c.in-Ok-keep_new.answered.reply c.kept_run.new.self
     c.keep_new.new.store c.in-Ok-keep_new.ensures.tries
-    (λ honest. asked _ _ _ _ _ _ c.in-Ok.mode c.args.arrival.now c.in-Ok-mark.mark None c.args.store.now c.mark.new.self
+    (λ honest. asked c.in-Ok.mode c.args.arrival.now c.in-Ok-mark.mark None c.args.store.now c.mark.new.self
     c.kept_run.new.self c.in-Ok-mark.ensures.same c.in-Ok-kept_run.ensures.same (sym c.in-Ok.ensures)
     (subst (λ a. c.in-Ok-mark.mark < a.number) c.arrival.view_is c.if-arrival-mark.false)
     (λ honest rows shown. c.in-Ok-mark.ensures.found honest rows shown ∙ ap (λ a. mark_at a.site rows) c.arrival.view_is)
@@ -80,11 +80,11 @@ returns-in-Ok-keep_new-clause-arrives g c =
 
 pub returns-in-Err-keep_new-clause-arrives : goal.returns-in-Err-keep_new-clause-arrives
 returns-in-Err-keep_new-clause-arrives g c =
-    keeps_arrives _ _ _ _ _ _ c.args.arrival.now (Err c.in-Err-keep_new.fault) c.args.store.now c.kept_run.new.self c.keep_new.new.store
-    (keeps_keeps _ _ _ _ _ _ c.in-Ok-mark.ensures.same c.in-Ok-kept_run.ensures.same)
-    (loses_new _ _ _ _ _ _ library_made c.in-Ok.mode c.args.arrival.now c.in-Err-keep_new.fault c.kept_run.new.self c.keep_new.new.store
+    keeps_arrives c.args.arrival.now (Err c.in-Err-keep_new.fault) c.args.store.now c.kept_run.new.self c.keep_new.new.store
+    (keeps_keeps c.in-Ok-mark.ensures.same c.in-Ok-kept_run.ensures.same)
+    (loses_new library_made c.in-Ok.mode c.args.arrival.now c.in-Err-keep_new.fault c.kept_run.new.self c.keep_new.new.store
     c.in-Err-keep_new.ensures.tries
-    (λ honest. asked _ _ _ _ _ _ c.in-Ok.mode c.args.arrival.now c.in-Ok-mark.mark None c.args.store.now c.mark.new.self
+    (λ honest. asked c.in-Ok.mode c.args.arrival.now c.in-Ok-mark.mark None c.args.store.now c.mark.new.self
     c.kept_run.new.self c.in-Ok-mark.ensures.same c.in-Ok-kept_run.ensures.same (sym c.in-Ok.ensures)
     (subst (λ a. c.in-Ok-mark.mark < a.number) c.arrival.view_is c.if-arrival-mark.false)
     (λ honest rows shown. c.in-Ok-mark.ensures.found honest rows shown ∙ ap (λ a. mark_at a.site rows) c.arrival.view_is)
@@ -94,10 +94,10 @@ returns-in-Err-keep_new-clause-arrives g c =
 
 pub returns-in-Ok-told_again-clause-work : goal.returns-in-Ok-told_again-clause-work
 returns-in-Ok-told_again-clause-work g c =
-    work_told _ _ _ _ _ _ c.in-Ok.mode c.args.arrival.now c.in-Some.run' c.args.store.now c.kept_run.new.self
-    (keeps_keeps _ _ _ _ _ _ c.in-Ok-mark.ensures.same c.in-Ok-kept_run.ensures.same)
+    work_told c.in-Ok.mode c.args.arrival.now c.in-Some.run' c.args.store.now c.kept_run.new.self
+    (keeps_keeps c.in-Ok-mark.ensures.same c.in-Ok-kept_run.ensures.same)
     c.in-Ok-kept_run.ensures.open
-    (λ honest. asked _ _ _ _ _ _ c.in-Ok.mode c.args.arrival.now c.in-Ok-mark.mark (Some c.in-Some.run') c.args.store.now c.mark.new.self
+    (λ honest. asked c.in-Ok.mode c.args.arrival.now c.in-Ok-mark.mark (Some c.in-Some.run') c.args.store.now c.mark.new.self
     c.kept_run.new.self c.in-Ok-mark.ensures.same c.in-Ok-kept_run.ensures.same (sym c.in-Ok.ensures)
     (subst (λ a. c.in-Ok-mark.mark < a.number) c.arrival.view_is c.if-arrival-mark.false)
     (λ honest rows shown. c.in-Ok-mark.ensures.found honest rows shown ∙ ap (λ a. mark_at a.site rows) c.arrival.view_is)
@@ -106,10 +106,10 @@ returns-in-Ok-told_again-clause-work g c =
 
 pub returns-in-Ok-told_again-clause-least : goal.returns-in-Ok-told_again-clause-least
 returns-in-Ok-told_again-clause-least g c =
-    least_told _ _ _ _ _ _ c.in-Ok.mode c.args.arrival.now c.in-Some.run' c.args.store.now c.kept_run.new.self
-    (keeps_keeps _ _ _ _ _ _ c.in-Ok-mark.ensures.same c.in-Ok-kept_run.ensures.same)
+    least_told c.in-Ok.mode c.args.arrival.now c.in-Some.run' c.args.store.now c.kept_run.new.self
+    (keeps_keeps c.in-Ok-mark.ensures.same c.in-Ok-kept_run.ensures.same)
     c.in-Ok-kept_run.ensures.open
-    (λ honest. asked _ _ _ _ _ _ c.in-Ok.mode c.args.arrival.now c.in-Ok-mark.mark (Some c.in-Some.run') c.args.store.now c.mark.new.self
+    (λ honest. asked c.in-Ok.mode c.args.arrival.now c.in-Ok-mark.mark (Some c.in-Some.run') c.args.store.now c.mark.new.self
     c.kept_run.new.self c.in-Ok-mark.ensures.same c.in-Ok-kept_run.ensures.same (sym c.in-Ok.ensures)
     (subst (λ a. c.in-Ok-mark.mark < a.number) c.arrival.view_is c.if-arrival-mark.false)
     (λ honest rows shown. c.in-Ok-mark.ensures.found honest rows shown ∙ ap (λ a. mark_at a.site rows) c.arrival.view_is)
@@ -118,10 +118,10 @@ returns-in-Ok-told_again-clause-least g c =
 
 pub returns-in-Ok-keep_new-clause-work : goal.returns-in-Ok-keep_new-clause-work
 returns-in-Ok-keep_new-clause-work g c =
-    work_kept _ _ _ _ _ _ c.in-Ok.mode c.args.arrival.now c.in-Ok-keep_new.answered.work c.args.store.now c.kept_run.new.self c.keep_new.new.store
-    (keeps_keeps _ _ _ _ _ _ c.in-Ok-mark.ensures.same c.in-Ok-kept_run.ensures.same)
+    work_kept c.in-Ok.mode c.args.arrival.now c.in-Ok-keep_new.answered.work c.args.store.now c.kept_run.new.self c.keep_new.new.store
+    (keeps_keeps c.in-Ok-mark.ensures.same c.in-Ok-kept_run.ensures.same)
     c.in-Ok-keep_new.ensures.tries
-    (λ honest. asked _ _ _ _ _ _ c.in-Ok.mode c.args.arrival.now c.in-Ok-mark.mark None c.args.store.now c.mark.new.self
+    (λ honest. asked c.in-Ok.mode c.args.arrival.now c.in-Ok-mark.mark None c.args.store.now c.mark.new.self
     c.kept_run.new.self c.in-Ok-mark.ensures.same c.in-Ok-kept_run.ensures.same (sym c.in-Ok.ensures)
     (subst (λ a. c.in-Ok-mark.mark < a.number) c.arrival.view_is c.if-arrival-mark.false)
     (λ honest rows shown. c.in-Ok-mark.ensures.found honest rows shown ∙ ap (λ a. mark_at a.site rows) c.arrival.view_is)
@@ -131,10 +131,10 @@ returns-in-Ok-keep_new-clause-work g c =
 
 pub returns-in-Ok-keep_new-clause-least : goal.returns-in-Ok-keep_new-clause-least
 returns-in-Ok-keep_new-clause-least g c =
-    least_kept _ _ _ _ _ _ c.in-Ok.mode c.args.arrival.now c.in-Ok-keep_new.answered.work c.args.store.now c.kept_run.new.self c.keep_new.new.store
-    (keeps_keeps _ _ _ _ _ _ c.in-Ok-mark.ensures.same c.in-Ok-kept_run.ensures.same)
+    least_kept c.in-Ok.mode c.args.arrival.now c.in-Ok-keep_new.answered.work c.args.store.now c.kept_run.new.self c.keep_new.new.store
+    (keeps_keeps c.in-Ok-mark.ensures.same c.in-Ok-kept_run.ensures.same)
     c.in-Ok-keep_new.ensures.tries
-    (λ honest. asked _ _ _ _ _ _ c.in-Ok.mode c.args.arrival.now c.in-Ok-mark.mark None c.args.store.now c.mark.new.self
+    (λ honest. asked c.in-Ok.mode c.args.arrival.now c.in-Ok-mark.mark None c.args.store.now c.mark.new.self
     c.kept_run.new.self c.in-Ok-mark.ensures.same c.in-Ok-kept_run.ensures.same (sym c.in-Ok.ensures)
     (subst (λ a. c.in-Ok-mark.mark < a.number) c.arrival.view_is c.if-arrival-mark.false)
     (λ honest rows shown. c.in-Ok-mark.ensures.found honest rows shown ∙ ap (λ a. mark_at a.site rows) c.arrival.view_is)
@@ -147,10 +147,10 @@ returns-in-Ok-told_again-clause-reads g c honest j held = none_read_again _ _ _ 
 
 pub returns-in-Ok-keep_new-clause-reads : goal.returns-in-Ok-keep_new-clause-reads
 returns-in-Ok-keep_new-clause-reads g c =
-    reads_kept _ _ _ _ _ _ c.in-Ok.mode c.args.arrival.now _ _ _ c.args.store.now c.kept_run.new.self c.keep_new.new.store
-    (keeps_keeps _ _ _ _ _ _ c.in-Ok-mark.ensures.same c.in-Ok-kept_run.ensures.same)
+    reads_kept c.in-Ok.mode c.args.arrival.now _ _ _ c.args.store.now c.kept_run.new.self c.keep_new.new.store
+    (keeps_keeps c.in-Ok-mark.ensures.same c.in-Ok-kept_run.ensures.same)
     c.in-Ok-keep_new.ensures.tries
-    (λ honest. asked _ _ _ _ _ _ c.in-Ok.mode c.args.arrival.now c.in-Ok-mark.mark None c.args.store.now c.mark.new.self
+    (λ honest. asked c.in-Ok.mode c.args.arrival.now c.in-Ok-mark.mark None c.args.store.now c.mark.new.self
     c.kept_run.new.self c.in-Ok-mark.ensures.same c.in-Ok-kept_run.ensures.same (sym c.in-Ok.ensures)
     (subst (λ a. c.in-Ok-mark.mark < a.number) c.arrival.view_is c.if-arrival-mark.false)
     (λ honest rows shown. c.in-Ok-mark.ensures.found honest rows shown ∙ ap (λ a. mark_at a.site rows) c.arrival.view_is)

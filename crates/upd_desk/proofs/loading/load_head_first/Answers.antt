@@ -7,7 +7,7 @@ use Rattle.upd_desk.proofs.loading.load_head_first.Goals as goal
 pub returns-in-Ok-load-clause-found : goal.returns-in-Ok-load-clause-found
 returns-in-Ok-load-clause-found g c honest l made rows shown shows =
     let before = c.in-Ok-load.ensures.same.honest honest in
-    let there = shown_there _ _ _ _ _ _ c.args.store.now c.load_decks.new.self c.in-Ok.ensures.same before
+    let there = shown_there c.args.store.now c.load_decks.new.self c.in-Ok.ensures.same before
     (c.in-Ok.ensures.open before) rows shown in
     all_loaded c.args.run.now l c.in-Ok-load.library (c.in-Ok-load.ensures.found honest l made.sound made.whole rows there shows)
     (needs_yanks c.args.run.now l c.in-Ok.head c.args.cards.now made.sound
@@ -24,7 +24,7 @@ returns-in-Ok-load-clause-reads g c honest l made rows shown shows =
 pub returns-in-Ok-load_holders-clause-found : goal.returns-in-Ok-load_holders-clause-found
 returns-in-Ok-load_holders-clause-found g c honest l made rows shown shows =
     let before = c.in-Ok-load_holders.ensures.same.honest honest in
-    let there = shown_there _ _ _ _ _ _ c.args.store.now c.load_decks.new.self c.in-Ok.ensures.same before
+    let there = shown_there c.args.store.now c.load_decks.new.self c.in-Ok.ensures.same before
     (c.in-Ok.ensures.open before) rows shown in
     named_loaded c.args.run.now l c.in-Ok-load_holders.part c.args.cards.now c.args.cards.now refl
     (c.in-Ok-load_holders.ensures.found honest l made rows there shows)

@@ -7,7 +7,7 @@ use Rattle.upd_desk.proofs.outcome.applied_outcome.Goals as goal
 pub returns-in-Ok-settled_outcome-clause-found : goal.returns-in-Ok-settled_outcome-clause-found
 returns-in-Ok-settled_outcome-clause-found g c honest lines l loaded reached read made of_run are rows shown shows states =
     let before = c.in-Ok-active_before.ensures.same.honest honest in
-    let there = shown_there _ _ _ _ _ _ c.args.store.now c.states_of.new.self c.in-Ok.ensures.same before (c.in-Ok.ensures.open before) rows shown in
+    let there = shown_there c.args.store.now c.states_of.new.self c.in-Ok.ensures.same before (c.in-Ok.ensures.open before) rows shown in
     c.in-Ok-settled_outcome.ensures.found lines l loaded reached read made of_run
     (c.in-Ok-active_before.ensures.found honest l made rows there shows states) rows shows states
     (read_states rows _ l loaded c.args.cards.now made.sound of_run.part are (c.in-Ok.ensures.found before rows shown) states)

@@ -11,7 +11,7 @@ use Rattle.upd_desk.proofs.outcome.read_outcome.Goals as goal
 pub returns-in-Ok-applied_outcome-clause-found : goal.returns-in-Ok-applied_outcome-clause-found
 returns-in-Ok-applied_outcome-clause-found g c honest l made rows shown shows states =
     let before = c.in-Ok-applied_outcome.ensures.same.honest honest in
-    let there = shown_there _ _ _ _ _ _ c.args.store.now c.load_needed.new.store c.in-Ok.ensures.same before (c.in-Ok.ensures.open before) rows shown in
+    let there = shown_there c.args.store.now c.load_needed.new.store c.in-Ok.ensures.same before (c.in-Ok.ensures.open before) rows shown in
     let run = c.in-Ok-apply_run.ensures.ok l made (c.in-Ok.ensures.found before l made rows shown shows) in
     c.in-Ok-applied_outcome.ensures.found honest c.args.run.now l c.in-Ok.part run.0 c.requires.read made run.1
     (c.deref.ensures.value ∙ c.in-Ok-references.ensures) rows there shows states

@@ -6,26 +6,26 @@ use Rattle.upd_desk.proofs.settle.settle_at.Goals as goal
 
 pub returns-in-Err-clause-settles : goal.returns-in-Err-clause-settles
 returns-in-Err-clause-settles g c =
-    refuses_key _ _ _ _ _ _ c.args.site.now c.args.number c.in-Err.fault c.args.store.now c.args.store.now
-    (keeps_still _ _ _ _ _ _ c.args.store.now) (sym c.in-Err.ensures)
+    refuses_key c.args.site.now c.args.number c.in-Err.fault c.args.store.now c.args.store.now
+    (keeps_still c.args.store.now) (sym c.in-Err.ensures)
 
 pub returns-in-Err-mark-clause-settles : goal.returns-in-Err-mark-clause-settles
 returns-in-Err-mark-clause-settles g c =
-    loses_key _ _ _ _ _ _ c.args.site.now c.args.number c.in-Err-mark.fault c.args.store.now c.mark.new.self
+    loses_key c.args.site.now c.args.number c.in-Err-mark.fault c.args.store.now c.mark.new.self
     c.in-Err-mark.ensures.same c.in-Err-mark.ensures.lost
 
 pub returns-then-number-mark-clause-settles : goal.returns-then-number-mark-clause-settles
 returns-then-number-mark-clause-settles g c =
-    tells_mark _ _ _ _ _ _ g.met.S.RowStore.leaves_image c.args.site.now c.args.number c.in-Ok-mark.mark c.args.store.now c.mark.new.self
+    tells_mark g.met.S.RowStore.leaves_image c.args.site.now c.args.number c.in-Ok-mark.mark c.args.store.now c.mark.new.self
     c.in-Ok-mark.ensures.same c.in-Ok-mark.ensures.open (sym c.in-Ok.ensures) c.in-Ok-mark.ensures.found c.if-number-mark.true
 
 pub returns-in-Ok-settle_to-clause-settles : goal.returns-in-Ok-settle_to-clause-settles
 returns-in-Ok-settle_to-clause-settles g c =
-    settles_after _ _ _ _ _ _ g.met.S.RowStore.leaves_image c.args.site.now c.args.number c.in-Ok-settle_to.mark c.args.store.now c.mark.new.self
+    settles_after g.met.S.RowStore.leaves_image c.args.site.now c.args.number c.in-Ok-settle_to.mark c.args.store.now c.mark.new.self
     c.settle_to.new.self c.in-Ok-mark.ensures.same c.in-Ok-settle_to.ensures.crash c.in-Ok-settle_to.ensures.open (sym c.in-Ok.ensures)
     c.in-Ok-settle_to.ensures.done
 
 pub returns-in-Err-settle_to-clause-settles : goal.returns-in-Err-settle_to-clause-settles
 returns-in-Err-settle_to-clause-settles g c =
-    loses_settling _ _ _ _ _ _ c.args.site.now c.args.number c.in-Err-settle_to.fault c.args.store.now c.mark.new.self c.settle_to.new.self
+    loses_settling c.args.site.now c.args.number c.in-Err-settle_to.fault c.args.store.now c.mark.new.self c.settle_to.new.self
     c.in-Ok-mark.ensures.same c.in-Err-settle_to.ensures.crash c.in-Err-settle_to.ensures.lost c.in-Err-settle_to.ensures.undone

@@ -4,5 +4,4 @@ use Rattle.upd_http.proofs.connections.serve_on.Given as goal
 
 abbrev pub invariant-connections : goal.invariant-connections
 invariant-connections g l =
-    (made : List Made) × (length made ≡ l.counter) × LeadsThrough g.S.RowStore.is_honest g.S.RowStore.is_open g.S.RowStore.image g.S.RowStore.shows
-    g.S.RowStore.may_leave g.S.RowStore.failures_of made l.initial.desk.store l.desk.store
+    (made : List Made) × (length made ≡ l.counter) × LeadsThrough g.S.Meaning made l.initial.desk.store l.desk.store

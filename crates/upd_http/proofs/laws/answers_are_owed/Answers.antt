@@ -3,4 +3,4 @@ use Rattle.upd_http.proofs.laws.answers_are_owed.Goals as goal
 
 pub returns : goal.returns
 returns g c =
-    told_is_owed g.S.RowStore.is_honest g.S.RowStore.is_open g.S.RowStore.image g.S.RowStore.shows g.S.RowStore.may_leave g.S.RowStore.failures_of
+    told_is_owed g.S.Meaning

@@ -11,18 +11,18 @@ returns-in-Ok-migrate_from-clause-done g c clean o =
     let mid = state g.S.Store c.known_version.new.conn in
     let new = state g.S.Store c.migrate_from.new.conn in
     let done = c.in-Ok-migrate_from.ensures.done clean in
-    migrates_any c.in-Ok.version old mid c.in-Ok.ensures.found c.in-Ok.ensures.same new
+    migrates_any c.in_ok-version.version old mid c.in_ok-version.ensures.found c.in_ok-version.ensures.same new
     (clean_before mid new _ c.in-Ok-migrate_from.ensures.crash clean) done.1 done.2
 
 pub returns-in-Ok-migrate_from-clause-crash : goal.returns-in-Ok-migrate_from-clause-crash
 returns-in-Ok-migrate_from-clause-crash g c =
-    any_leaves c.in-Ok.version (state g.S.Store c.args.conn.now) (state g.S.Store c.known_version.new.conn) c.in-Ok.ensures.found c.in-Ok.ensures.same
-    (state g.S.Store c.migrate_from.new.conn) c.in-Ok.ensures.was_open c.in-Ok.ensures.survives c.in-Ok-migrate_from.ensures.crash
+    any_leaves c.in_ok-version.version (state g.S.Store c.args.conn.now) (state g.S.Store c.known_version.new.conn) c.in_ok-version.ensures.found c.in_ok-version.ensures.same
+    (state g.S.Store c.migrate_from.new.conn) c.in_ok-version.ensures.was_open c.in_ok-version.ensures.survives c.in-Ok-migrate_from.ensures.crash
 
 pub returns-in-Err-migrate_from-clause-crash : goal.returns-in-Err-migrate_from-clause-crash
 returns-in-Err-migrate_from-clause-crash g c =
-    any_leaves c.in-Ok.version (state g.S.Store c.args.conn.now) (state g.S.Store c.known_version.new.conn) c.in-Ok.ensures.found c.in-Ok.ensures.same
-    (state g.S.Store c.migrate_from.new.conn) c.in-Ok.ensures.was_open c.in-Ok.ensures.survives c.in-Err-migrate_from.ensures.crash
+    any_leaves c.in_ok-version.version (state g.S.Store c.args.conn.now) (state g.S.Store c.known_version.new.conn) c.in_ok-version.ensures.found c.in_ok-version.ensures.same
+    (state g.S.Store c.migrate_from.new.conn) c.in_ok-version.ensures.was_open c.in_ok-version.ensures.survives c.in-Err-migrate_from.ensures.crash
 
 pub returns-in-Ok-migrate_from-clause-known : goal.returns-in-Ok-migrate_from-clause-known
 returns-in-Ok-migrate_from-clause-known g c clean o =
@@ -30,10 +30,10 @@ returns-in-Ok-migrate_from-clause-known g c clean o =
     let new = state g.S.Store c.migrate_from.new.conn in
     let early = clean_before mid new _ c.in-Ok-migrate_from.ensures.crash clean in
     let was_open = (c.in-Ok-migrate_from.ensures.done clean).1 in
-    let schema = ap (λ (d : Database). d.schema) (sym (c.in-Ok.ensures.same early was_open)) ∙ c.in-Ok.ensures.found was_open in
-    (c.in-Ok.version, schema, c.in-Ok.ensures.row_changes early)
+    let schema = ap (λ (d : Database). d.schema) (sym (c.in_ok-version.ensures.same early was_open)) ∙ c.in_ok-version.ensures.found was_open in
+    (c.in_ok-version.version, schema, c.in_ok-version.ensures.value early)
 
 pub returns-then-matches-clause-known : goal.returns-then-matches-clause-known
 returns-then-matches-clause-known g c clean o =
-    let schema = ap (λ (d : Database). d.schema) (sym (c.in-Ok.ensures.same clean o)) ∙ c.in-Ok.ensures.found o in
-    (c.in-Ok.version, schema, c.in-Ok.ensures.row_changes clean)
+    let schema = ap (λ (d : Database). d.schema) (sym (c.in_ok-version.ensures.same clean o)) ∙ c.in_ok-version.ensures.found o in
+    (c.in_ok-version.version, schema, c.in_ok-version.ensures.value clean)

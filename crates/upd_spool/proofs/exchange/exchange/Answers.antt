@@ -10,14 +10,14 @@ use Rattle.upd_spool.proofs.exchange.exchange.Goals as goal
 pub returns-in-Err : goal.returns-in-Err
 returns-in-Err g c =
     let (taken, consumed, stops) = c.in-Err.ensures.err in
-    stopped _ _ _ _ _ _ c.in-Err.kind _ _ _ _ taken consumed stops
+    stopped g.S.Meaning c.in-Err.kind _ _ _ _ taken consumed stops
 
 pub returns-in_default : goal.returns-in_default
 returns-in_default g c =
     let line = c.read_line.new.line.items in
     let read = rw c.in-Ok-true.field-0-test at c.in-Ok-true.ensures.ok in
     let none = ap header_of (sym c.deref.ensures.value) ∙ sym c.read_header.ensures ∙ c.in_default.is in
-    bad_stops _ _ _ _ _ _ _ _ _ _ (line ++ 10 ∷ []) read.0 (no_header line [] read.1 none refl)
+    bad_stops g.S.Meaning _ _ _ _ (line ++ 10 ∷ []) read.0 (no_header line [] read.1 none refl)
 
 pub returns-in-Err-read_run : goal.returns-in-Err-read_run
 returns-in-Err-read_run g c =
@@ -27,7 +27,7 @@ returns-in-Err-read_run g c =
     let found = header_found c.read_line.new.line.items _ h c.in-Some.ensures c.deref.ensures.value in
     let kind = c.in-Err-read_run.kind in
     let size = ap (λ (k : HeaderView). k.size) c.header.view_is in
-    stopped _ _ _ _ _ _ kind _ _ _ _ (header_text h ++ 10 ∷ taken) (behind_header _ _ _ _ taken h read.0 consumed found.1)
+    stopped g.S.Meaning kind _ _ _ _ (header_text h ++ 10 ∷ taken) (behind_header _ _ _ _ taken h read.0 consumed found.1)
     (run_stops kind h taken _ found.0 (subst (λ n. StopsRun kind n taken (g.R.Read.remaining c.read_run.new.reader)) size stops))
 
 pub returns-in-Ok-answer : goal.returns-in-Ok-answer
@@ -38,7 +38,7 @@ returns-in-Ok-answer g c =
     let size = c.in-Ok.ensures.size ∙ ap (λ (k : HeaderView). k.size) c.header.view_is in
     let taken = frame_taken _ _ _ _ _ c.deref-2.result.now h found read.0 c.in-Ok.ensures.ok size c.deref-2.ensures.value in
     let (result, went, told, appended) = c.in-Ok-answer.ensures.ok in
-    (arrival_of h c.deref-2.result.now, result, line_out _ _ _ _ _ _ _ result _ _ _ _ _ _ taken.0 went told taken.1 appended)
+    (arrival_of h c.deref-2.result.now, result, line_out _ result taken.0 went told taken.1 appended)
 
 pub returns : goal.returns
 returns g c =
@@ -47,4 +47,4 @@ returns g c =
     let found = header_found c.read_line.new.line.items _ h c.in-Some.ensures c.deref.ensures.value in
     let size = c.in-Ok.ensures.size ∙ ap (λ (k : HeaderView). k.size) c.header.view_is in
     let taken = frame_taken _ _ _ _ _ c.deref-2.result.now h found read.0 c.in-Ok.ensures.ok size c.deref-2.ensures.value in
-    line_missing _ _ _ _ _ _ c.in-Err-answer.kind (arrival_of h c.deref-2.result.now) _ _ _ _ _ _ c.in-Err-answer.ensures.err taken.0 taken.1
+    line_missing g.S.Meaning c.in-Err-answer.kind (arrival_of h c.deref-2.result.now) _ _ _ _ c.in-Err-answer.ensures.err taken.0 taken.1

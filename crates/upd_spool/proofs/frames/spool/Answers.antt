@@ -9,20 +9,20 @@ longer : (frames : List ArrivalView) (frame : ArrivalView) (n : ℕ) → length 
 longer frames frame n e = length-append frames (frame ∷ []) ∙ ap (λ n. n + 1) e
 
 pub loop-count-init : goal.loop-count-init
-loop-count-init g c = ([], [], refl, nothing_answered _ _ _ _ _ _ _ _ _ _ [] (Consumes-nil _))
+loop-count-init g c = ([], [], refl, nothing_answered _ _ _ _ [] (Consumes-nil _))
 
 pub returns-in-Ok-false : goal.returns-in-Ok-false
 returns-in-Ok-false g c =
     let (frames, results, count, so_far) = c.loop-count.invariant in
     let end = rw c.in-Ok-false.field-0-test at c.in-Ok-false.ensures in
-    (frames, results, bytes_more _ _ _ _ _ _ _ _ _ _ _ _ _ _ _ frames results [] so_far end.0, sym count, end.1)
+    (frames, results, bytes_more frames results [] so_far end.0, sym count, end.1)
 
 pub returns-in-Err : goal.returns-in-Err
 returns-in-Err g c =
     let (frames, results, count, so_far) = c.loop-count.invariant in (
       frames,
       results,
-      ends_further _ _ _ _ _ _ _ _ _ _ _ _ _ _ _ c.in-Err.kind frames results (omega (arith, count)) so_far c.in-Err.ensures,
+      ends_further _ _ _ c.in-Err.kind frames results (omega (arith, count)) so_far c.in-Err.ensures,
       ap (λ n. n + 1) (sym count),
     )
 
@@ -33,7 +33,7 @@ loop-count-preserved g c =
       frames ++ frame ∷ [],
       results ++ result ∷ [],
       longer frames frame _ count,
-      one_more _ _ _ _ _ _ _ _ _ _ _ _ _ _ _ frames results frame result (omega (arith, count)) so_far one,
+      one_more frames results frame result (omega (arith, count)) so_far one,
     )
 
 pub returns-in-Err-read_nothing : goal.returns-in-Err-read_nothing
@@ -43,7 +43,7 @@ returns-in-Err-read_nothing g c =
     let most : length frames ≡ MAX_FRAMES = omega (arith, count) in (
       frames,
       results,
-      ends_at_most _ _ _ _ _ _ _ _ _ _ _ _ _ _ _ c.in-Err-read_nothing.kind frames results taken most so_far
-          (nothing_answered _ _ _ _ _ _ _ _ _ _ taken consumed) stops,
+      ends_at_most c.in-Err-read_nothing.kind frames results taken most so_far
+          (nothing_answered _ _ _ _ taken consumed) stops,
       ap (λ n. n + 1) (sym most),
     )

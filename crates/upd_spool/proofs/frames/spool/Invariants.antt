@@ -8,6 +8,6 @@ use Rattle.upd_spool.proofs.frames.spool.Given as goal
 abbrev pub invariant-loop-count : goal.invariant-loop-count
 invariant-loop-count g l =
     (frames : List ArrivalView) × (results : List (Result ReplyView Fault)) × (length frames ≡ l.count)
-    × Answered g.S.RowStore.is_honest g.S.RowStore.is_open g.S.RowStore.image g.S.RowStore.shows g.S.RowStore.may_leave g.S.RowStore.failures_of
+    × Answered g.S.Meaning
     l.initial.desk.store l.desk.store (g.R.Read.remaining l.initial.reader) (g.R.Read.remaining l.reader) (g.W.Write.contents l.initial.writer)
     (g.W.Write.contents l.writer) frames results []

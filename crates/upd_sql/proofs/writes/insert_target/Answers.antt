@@ -6,7 +6,7 @@ use Rattle.upd_sqlite.specs.Steps.{Ran}
 use Rattle.upd_records.specs.Changes.{done, TargetNew}
 use Rattle.upd_records.specs.Rows.{TargetRow}
 use Rattle.upd_sql.specs.Encoded.{num, target_row}
-use Rattle.upd_sql.specs.Stands.{AnyTables}
+use Rattle.upd_sql.specs.LibraryTables.{AnyTables}
 use Rattle.upd_sql.proofs.Typed.{makes_from}
 use Rattle.upd_sql.proofs.Texts.{insert_target}
 use Rattle.upd_sql.proofs.Effects.{target_added}

@@ -7,13 +7,13 @@ use Rattle.upd_desk.proofs.desk.Desk.deck_list.Goals as goal
 
 pub returns-in-Ok-list_deck-clause-text : goal.returns-in-Ok-list_deck-clause-text
 returns-in-Ok-list_deck-clause-text g c =
-    tells_same _ _ _ _ _ _ library_made (deck_listing c.args.name.now) (deck_listing c.args.name.now c.in-Ok.library) (Ok c.in-Ok-list_deck.text.items)
+    tells_same library_made (deck_listing c.args.name.now) (deck_listing c.args.name.now c.in-Ok.library) (Ok c.in-Ok-list_deck.text.items)
     c.args.self.now.store c.load_deck_named.new.store c.in-Ok.ensures.same c.in-Ok.ensures.open
     (λ honest l made rows shown shows states. c.in-Ok.ensures.found honest l made rows shown shows) c.in-Ok-list_deck.ensures
 
 pub returns-clause-text : goal.returns-clause-text
 returns-clause-text g c =
-    tells_same _ _ _ _ _ _ library_made (deck_listing c.args.name.now) (deck_listing c.args.name.now c.in-Ok.library) (Err c.in-Err-list_deck.fault)
+    tells_same library_made (deck_listing c.args.name.now) (deck_listing c.args.name.now c.in-Ok.library) (Err c.in-Err-list_deck.fault)
     c.args.self.now.store c.load_deck_named.new.store c.in-Ok.ensures.same c.in-Ok.ensures.open
     (λ honest l made rows shown shows states. c.in-Ok.ensures.found honest l made rows shown shows)
     (fails_owed c.in-Err-list_deck.fault (deck_listing c.args.name.now c.in-Ok.library) c.in-Err-list_deck.ensures)

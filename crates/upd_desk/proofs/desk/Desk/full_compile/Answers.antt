@@ -9,14 +9,14 @@ use Rattle.upd_desk.proofs.desk.Desk.full_compile.Goals as goal
 
 pub returns-in-Ok-compile_active-clause-text : goal.returns-in-Ok-compile_active-clause-text
 returns-in-Ok-compile_active-clause-text g c =
-    tells_same _ _ _ _ _ _ library_made (λ l. compile_file_of Full [] l l) (file_of Full [] c.in-Ok.actives c.in-Ok.actives)
+    tells_same library_made (λ l. compile_file_of Full [] l l) (file_of Full [] c.in-Ok.actives c.in-Ok.actives)
     (Ok c.in-Ok-compile_active.text) c.args.self.now.store c.load_active.new.self c.in-Ok.ensures.same c.in-Ok.ensures.open
     (λ honest l made rows shown shows states.
     ap (λ a. file_of Full [] a a) (c.in-Ok.ensures.found honest l made.sound made.whole rows shown shows states)) c.in-Ok-compile_active.ensures
 
 pub returns-clause-text : goal.returns-clause-text
 returns-clause-text g c =
-    tells_same _ _ _ _ _ _ library_made (λ l. compile_file_of Full [] l l) (file_of Full [] c.in-Ok.actives c.in-Ok.actives)
+    tells_same library_made (λ l. compile_file_of Full [] l l) (file_of Full [] c.in-Ok.actives c.in-Ok.actives)
     (Err c.in-Err-compile_active.fault) c.args.self.now.store c.load_active.new.self c.in-Ok.ensures.same c.in-Ok.ensures.open
     (λ honest l made rows shown shows states.
     ap (λ a. file_of Full [] a a) (c.in-Ok.ensures.found honest l made.sound made.whole rows shown shows states))

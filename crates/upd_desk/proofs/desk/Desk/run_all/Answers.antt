@@ -12,7 +12,7 @@ loop-arrival-init g c =
       ap length empty,
       c.in_ok-answers.ensures.len,
       (let room = c.in_ok-answers.ensures.capacity in grind (arith, rules)),
-      rw empty (none_arrived _ _ _ _ _ _ c.args.self.now.store),
+      rw empty (none_arrived c.args.self.now.store),
       rw empty (All-nil _),
       λ honest journal held. refl,
     )
@@ -42,11 +42,11 @@ loop-arrival-preserved g c =
       ap length items ∙ length_push before c.arrive_one-answer.result ∙ ap (λ n. n + 1) c.loop-arrival.invariant.0,
       longer ∙ ap (λ n. n + 1) c.loop-arrival.invariant.1,
       (let room = c.loop-arrival.invariant.2 in let kept = c.push.ensures.capacity in grind (arith, rules)),
-      rw (more, items) (one_more _ _ _ _ _ _ (take i list) before c.arrival-item.result c.arrive_one-answer.result c.args.self.now.store
+      rw (more, items) (one_more (take i list) before c.arrival-item.result c.arrive_one-answer.result c.args.self.now.store
           c.loop-arrival.self.store c.arrive_one-answer.new.self.store same all went),
       rw items (counted_more _ _ _ before c.arrive_one-answer.result all.counts went.counts c.loop-arrival.invariant.4
           c.arrive_one-answer.ensures.failed),
-      rw (more, items) (work_one_more _ _ _ _ _ _ (take i list) before c.arrival-item.result c.arrive_one-answer.result c.args.self.now.store
+      rw (more, items) (work_one_more (take i list) before c.arrival-item.result c.arrive_one-answer.result c.args.self.now.store
           c.loop-arrival.self.store c.arrive_one-answer.new.self.store c.args.self.now.work c.loop-arrival.self.work
           c.arrive_one-answer.new.self.work same all went c.loop-arrival.invariant.5 c.arrive_one-answer.ensures.work
           c.arrive_one-answer.ensures.idle),

@@ -11,9 +11,8 @@ invariant-loop-arrival g l =
     (length l.answers.items ≡ l.arrival-index)
     × (vec_len l.answers ≡ l.arrival-index)
     × (length l.list ≤ vec_capacity l.answers)
-    × RunAll g.S.RowStore.is_honest g.S.RowStore.is_open g.S.RowStore.image g.S.RowStore.shows g.S.RowStore.may_leave
-    g.S.RowStore.failures_of (take l.arrival-index l.list) l.answers.items l.initial.self.store l.self.store
-    × All (IsCounted (g.S.RowStore.failures_of l.initial.self.store) (g.S.RowStore.failures_of l.self.store)) l.answers.items
-    × (g.S.RowStore.is_honest l.self.store → (journal : Journal)
-    → (g.S.RowStore.is_open l.initial.self.store → HoldsIn g.S.RowStore.shows journal (g.S.RowStore.image l.initial.self.store))
+    × RunAll g.S.Meaning (take l.arrival-index l.list) l.answers.items l.initial.self.store l.self.store
+    × All (IsCounted (g.S.Meaning.failures_of l.initial.self.store) (g.S.Meaning.failures_of l.self.store)) l.answers.items
+    × (g.S.Meaning.is_honest l.self.store → (journal : Journal)
+    → (g.S.Meaning.is_open l.initial.self.store → HoldsIn g.S.Meaning.shows journal (g.S.Meaning.image l.initial.self.store))
     → l.self.work ≡ work_after_all l.initial.self.work journal (take l.arrival-index l.list) l.answers.items)
