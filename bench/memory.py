@@ -50,15 +50,25 @@ void *malloc(size_t size) { return is_refused() ? NULL : __libc_malloc(size); }
 void *realloc(void *old, size_t size) { return is_refused() ? NULL : __libc_realloc(old, size); }
 """
 
-NAMES = ["memory_of_desks::one_run", "memory_of_desks::yanks_of_yanks", "memory_of_desks::purges", "memory_of_desks::calls_of_a_common_deck", "memory_of_desks::six_yanks_in_a_row",
-         "memory_of_desks::settlements", "memory_of_desks::runs_that_arrive_together", "memory_of_streams::a_spool", "memory_of_streams::requests"]
+NAMES = [
+    "memory_of_desks::one_run_survives_a_refusal",
+    "memory_of_desks::yanks_of_yanks_survive_a_refusal",
+    "memory_of_desks::purges_survive_a_refusal",
+    "memory_of_desks::calls_of_a_common_deck_survive_a_refusal",
+    "memory_of_desks::six_yanks_in_a_row_survive_a_refusal",
+    "memory_of_desks::settlements_survive_a_refusal",
+    "memory_of_desks::runs_that_arrive_together_survive_a_refusal",
+    "memory_of_streams::a_spool_survives_a_refusal",
+    "memory_of_streams::requests_survive_a_refusal",
+]
 DECK = b"*DECK A\nONE\nTWO\nTHREE\n"
 FRAMES = [b"RUN LYON 1 full 22\n" + DECK + b"\n", b"RUN LYON 2 quick 0\n\n", b"RUN LYON 3 full 21\n*IDENT X\n*DELETE A.3\n\n"]
 RUNS = [
     ("full", DECK), ("full", b"*IDENT X\n*DELETE A.2\nNEW\n"), ("full", b"*IDENT Y\n*YANK X\n"), ("normal", b"*IDENT Z\n*YANK Y\n*DECK B\nBEE\n"),
     ("full", b"*IDENT W\n*DELETE Z.1\n"), ("quick", b"*PURGE X,*\n"), ("full", b"*IDENT V\n*DELETE A.9\n"),
 ]
-OWN = re.compile(rb"memory|alloc", re.IGNORECASE)
+# What a test says that was itself refused memory: an error, and not a check that failed, whose text begins with what it checks.
+OWN = re.compile(rb"^ *error: .*(memory|alloc)", re.IGNORECASE | re.MULTILINE)
 NO_MEMORY = re.compile(rb"(upd: NoMemory \(28\) at [0-9]+\n)?")
 TABLES = ["meta", "idents", "cards", "entries", "targets", "runs", "states", "counts", "settled"]
 
