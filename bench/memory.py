@@ -4,9 +4,9 @@
     python3 bench/memory.py [--executable FILE] [--every N]
 
 `rt test` in that crate makes the executable of its tests, `rt run` in crates/upd the lasting one. The first allocation is refused, then the second, and
-so on until a run meets no refusal; with --every only each Nth allocation of a command. A test then holds, or was itself refused what it needs. A command answers as with
-ample memory, or says NoMemory. Its library is then as before, or as after the frames that are answered. Given again, it ends as it does from the start.
-The exit status is 1 where that isn't so. It needs `cc`, for a library that is loaded before the C library's allocator.
+so on until a run meets no refusal; with --every only each Nth allocation of a command. A test then holds, or was itself refused what it needs. A command
+answers as with ample memory, or says NoMemory. Its library is then as before, or as after the frames that are answered. Given again, it ends as it does
+from the start. The exit status is 1 where that isn't so. It needs `cc`, for a library that is loaded before the C library's allocator.
 """
 
 import argparse
