@@ -73,7 +73,11 @@ fn push_status(changes: &mut Vec<Change>, card: &CardRef, active: bool) -> Resul
 
 /// Tells the status of each card that a run took away, and its status with it, and that is there nevertheless: its
 /// name was purged and came again, or it was told as gone and new.
-fn add_repeated_statuses(changes: &mut Vec<Change>, now: &Statuses, run: &[Change]) -> Result<(), AllocError>
+fn add_repeated_statuses(
+    changes: &mut Vec<Change>,
+    now: &Statuses,
+    run: &[Change],
+) -> Result<(), AllocError>
     ensures { OnOk result (map change_view changes.new.items ≡ map change_view changes.old.items
         ++ all_repeated_statuses (kept_status now.now) (map change_view run.now)) }
 {
