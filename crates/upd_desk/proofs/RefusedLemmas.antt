@@ -18,7 +18,7 @@ use Rattle.upd_yank.proofs.StateLemmas.{all_counted}
 use Rattle.upd_desk.specs.Arrivals.{ArrivalView}
 use Rattle.upd_desk.specs.Outcomes.{compiled, outcome, outcome_by}
 
--- a fault is want of memory, at no line, or the defined one
+-- a fault is out of memory, at no line, or the defined one
 pub fails_by : {A : Type 0} (fault : Fault) (defined : Result A Fault) → FailsAt fault defined
     → ((fault.kind ≡ kinds.NoMemory) × (fault.at ≡ 0)) ⊎ (defined ≡ Err fault)
 fails_by fault defined fails = go fault.kind fails
@@ -65,7 +65,7 @@ fails_is fault defined other fails = by (fails_by fault defined fails)
     by (inl lost) = absurd (other lost.0)
     by (inr met) = met
 
--- a refusal that can't be kept is want of memory
+-- a refusal that can't be kept is out of memory
 pub refused_lost : {A : Type 0} (f e : Fault) (defined : Result A Fault) → FailsAt f defined
     → (e ≡ fault_at kinds.NoMemory 0) ⊎ ((e ≡ f) × (f.kind ≡ kinds.NoMemory)) → IsLost e
 refused_lost f e defined fails (inl is) = OfMemory e (ap (λ g. g.kind) is) (ap (λ g. g.at) is)

@@ -6,7 +6,6 @@ use Rattle.upd_core.specs.Library.{LibraryView}
 use Rattle.upd_compile.specs.File.{compile_file_of}
 use Rattle.upd_compile.specs.Listings.{card_listing, deck_listing, ident_listing, yank_listing}
 use Rattle.upd_compile.specs.declared.mode.Mode.TheVariants.{Full}
-use Rattle.upd_desk.specs.Answers.{CountsFailure}
 use Rattle.upd_desk.specs.Arrivals.{is_site}
 use Rattle.upd_desk.specs.Holding.{Arrives, Settles, Tells}
 use Rattle.upd_desk.specs.Outcomes.{ReplyView}
@@ -15,7 +14,7 @@ use Rattle.upd_request.specs.Calls.{Asked, run, settle, compile, deck, card, ide
 use Rattle.upd_request.specs.Requests.{Says}
 use Rattle.upd_request.specs.declared.call.Refusal.{Refusal}
 use Rattle.upd_row_store.specs.declared.meaning.Meaning.{Ghosts}
-use Rattle.upd_row_store.specs.Keeping.{Keeps}
+use Rattle.upd_row_store.specs.Keeping.{CountsFailure, Keeps}
 use Rattle.upd_io.specs.Fronts.{AppendsFront}
 use Rattle.upd_text.specs.Faults.{fault_at}
 use Rattle.upd_text.specs.declared.fault.Fault.{Fault}
@@ -54,13 +53,11 @@ IsMarkResponse site (Ok mark) told = (body : List ℕ) × (told ≡ Ok (record (
 IsMarkResponse site (Err fault) told = told ≡ Err fault
 
 module _ {S : Type 0} (meaning : Ghosts S) where
-  open meaning use {failures_of}
-
-  -- a query told what the desk answered, as a page of these bytes
+    -- a query told what the desk answered, as a page of these bytes
   abbrev pub Queries : {A : Type 0} → (LibraryView → Result A Fault) → (A → List ℕ) → Result Response Fault → S → S → Type 0
   Queries {A} defined bytes told old new =
       (result : Result A Fault) × Tells meaning defined result old new
-      × Keeps meaning old new × CountsFailure failures_of result old new
+      × Keeps meaning old new × CountsFailure meaning result old new
       × (told ≡ result_map_both (λ x. page (bytes x)) (λ fault. fault) result)
 
   -- The desk was asked this and told so, and its store went from the one to the other.
@@ -68,10 +65,10 @@ module _ {S : Type 0} (meaning : Ghosts S) where
   DoesAsAsked (run site number mode bytes) told old new =
       (result : Result ReplyView Fault)
       × Arrives meaning (record { site = site; number = number; mode = mode; bytes = bytes }) result old new
-      × CountsFailure failures_of result old new × (told ≡ result_map_both reply_response (λ fault. fault) result)
+      × CountsFailure meaning result old new × (told ≡ result_map_both reply_response (λ fault. fault) result)
   DoesAsAsked (settle site number) told old new =
       (result : Result ℕ Fault) × Settles meaning site number result old new
-      × CountsFailure failures_of result old new × IsMarkResponse site result told
+      × CountsFailure meaning result old new × IsMarkResponse site result told
   DoesAsAsked compile told old new = Queries (λ l. compile_file_of Full [] l l) (λ file. file.bytes) told old new
   DoesAsAsked (deck name) told old new = Queries (deck_listing name) (λ text. text) told old new
   DoesAsAsked (card c) told old new = Queries (card_listing c) (λ text. text) told old new

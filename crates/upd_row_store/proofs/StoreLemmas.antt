@@ -1,12 +1,13 @@
 -- What a store keeps, and what a crash leaves of it, over several calls.
-use Rattle.std.proofs.Common.{◌≡◌, ◌⊎◌, Result, Ok, Err, IfErr, OnOk, inl, inr, refl, sym, ap, ◌∙◌, subst, rules, arith}
+use Rattle.std.proofs.Common.{◌≡◌, ◌⊎◌, Result, Ok, Err, IfErr, OnErr, OnOk, inl, inr, refl, sym, ap, ◌∙◌, subst, rules, arith}
 use Rattle.std.specs.Result.{IsErrAnd}
 use Rattle.upd_text.specs.declared.fault.Fault.{Fault}
 use Rattle.upd_text.specs.declared.fault.FaultKind.TheVariants.{NoMemory, Store}
 use Rattle.upd_text.specs.Faults.{fault_at}
+use Rattle.upd_core.specs.Library.{LibraryView}
 use Rattle.upd_records.specs.Rows.{Rows}
 use Rattle.upd_row_store.specs.declared.meaning.Meaning.{Ghosts}
-use Rattle.upd_row_store.specs.Keeping.{Keeps, LeavesRead, Tries}
+use Rattle.upd_row_store.specs.Keeping.{Keeps, LeavesLoad, LeavesRead, LeavesWrite, Tries, reads_after}
 use Rattle.upd_row_store.proofs.KeepingLemmas.{lost_for_memory}
 
 -- out of memory is no failure of a store, and no answer
@@ -98,3 +99,34 @@ module _ {S : Type 0} {meaning : Ghosts S} where
     failed = memory_counts _ r is;
     unread = unread;
   }
+
+  -- a load
+  pub load_lost : (r : Result LibraryView Fault) (old new : S) → IsErrAnd r (λ e. e ≡ fault_at NoMemory 0) → Keeps meaning old new
+      → decks_read_of new ≡ decks_read_of old → LeavesLoad meaning r old new
+  load_lost r old new is same unread = record {
+    opens = λ honest. opens_none _ r is;
+    same = same;
+    lost = lost_for_memory r is;
+    failed = memory_counts _ r is;
+    reads = by r is;
+  }
+    where
+      by : (r : Result LibraryView Fault) → IsErrAnd r (λ e. e ≡ fault_at NoMemory 0) → decks_read_of new ≡ reads_after r (decks_read_of old)
+      by (Ok x) is = search rules
+      by (Err e) is = unread
+
+  -- a write that was not carried out
+  pub write_lost : {A : Type 0} (fits : Rows → Type 0) (write : Rows → Rows) (r : Result A Fault) (old new : S)
+      → IsErrAnd r (λ e. e ≡ fault_at NoMemory 0) → old ≡ new → LeavesWrite meaning fits write r old new
+  write_lost fits write r old new is still = subst (λ s. LeavesWrite meaning fits write r old s) still (record {
+    opens = λ honest. opens_none _ r is;
+    undone = λ honest opened. by r;
+    crash = keeps_as_tries (keeps_still old);
+    lost = lost_for_memory r is;
+    failed = memory_counts _ r is;
+    unread = refl;
+  })
+    where
+      by : {A : Type 0} (r : Result A Fault) → OnErr r (image old ≡ image old)
+      by (Ok x) = tt
+      by (Err e) = refl
