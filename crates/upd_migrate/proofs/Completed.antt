@@ -58,8 +58,10 @@ set_version_plain = (refl, refl)
 version_becomes : (version : Version) → (if list_all (holds ([] ∷ (Null ∷ version_row (number_of version)) ∷ [])) set_tests
     then cast_all meta_columns (eval_all set_news ([] ∷ (Null ∷ version_row (number_of version)) ∷ [])) else version_row (number_of version)) ≡ version_row 3
 version_becomes version =
-    let named : list_all (holds ([] ∷ (Null ∷ version_row (number_of version)) ∷ [])) set_tests ≡ true = one_test (eq_text (codes "version") (codes "version")) in
-    ap (λ b. if b then cast_all meta_columns (Text (codes "version") ∷ Int (pos 3) ∷ []) else version_row (number_of version)) named ∙ (rw (cast_int (pos 3)) refl)
+    let named : list_all (holds ([] ∷ (Null ∷ version_row (number_of version)) ∷ [])) set_tests ≡ true = one_test (eq_text (codes "version") (codes "version"))
+    in
+    ap (λ b. if b then cast_all meta_columns (Text (codes "version") ∷ Int (pos 3) ∷ []) else version_row (number_of version)) named ∙
+    (rw (cast_int (pos 3)) refl)
 
 -- the version is set
 pub version_set : (version : Version) (it : Rows) (old new : State) (count : ℕ) → Executes set_version [] old new (Ok count) → HasTables version it old.now

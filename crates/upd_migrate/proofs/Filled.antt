@@ -53,7 +53,8 @@ pub first_filled : (l : LibraryView) (it : Rows) (old mid new : State) {X Y : Ty
     → Transforms (HoldsTables (completed First it)) (HoldsAfter (IsFilled l (completed First it))) mid new r
     → Transforms (HoldsAllRows (schema_of First) (stored_in First it)) (HoldsAfter (IsMigrated First l it)) old new r
 first_filled l it old mid new x r complete fill =
-    transforms_then (HoldsAllRows (schema_of First) (stored_in First it)) (HoldsTables (completed First it)) (HoldsAfter (IsMigrated First l it)) old mid new x r complete fill
+    transforms_then (HoldsAllRows (schema_of First) (stored_in First it)) (HoldsTables (completed First it)) (HoldsAfter (IsMigrated First l it))
+    old mid new x r complete fill
 
 -- rows of a library, without statuses, counts and settled marks
 pub bare_rows : (l : LibraryView) (it : Rows) → AreLibraryRows l it → AreLibraryRows l (completed First it)

@@ -31,7 +31,8 @@ begun_holds version it old rise settled o shown =
 
 pub read_rows : (version : Version) (it : Rows) (old mid last : State) {X : Type 0} (x : X) (rows : LibraryRows) → (IsTrue old.is_open → TablesRise old.now)
     → (IsTrue old.is_open → old.now ≡ old.committed)
-    → Transforms {X = X} (HoldsAllRows (schema_of version) (stored_in version it)) (HoldsTables (completed version it)) (record old { in_transaction = true }) mid (Ok x)
+    → Transforms {X = X} (HoldsAllRows (schema_of version) (stored_in version it)) (HoldsTables (completed version it)) (record old { in_transaction = true })
+    mid (Ok x)
     → Looks AreRowsOf mid last (Ok rows) → HasCleanDisk last → ShowsAs version it old.committed → AreRowsOf it rows
 read_rows version it old mid last x rows rise settled transforms looks clean shown =
     let early = clean_before mid last _ looks.steps.survives clean in

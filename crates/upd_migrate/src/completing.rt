@@ -23,9 +23,9 @@ const SET_VERSION: &str = "UPDATE meta SET v = 3 WHERE k = 'version'";
 /// Makes the next table, whatever rows the others have.
 fn create<S: Alter>(tx: &mut Transaction<'_, S>, sql: &str) -> Result<(), Error>
     ensures same_reference { tx.new.conn.ghost_name ≡ tx.old.conn.ghost_name }
-    ensures transforms { (n : ℕ) (all : List (List Row)) → MakesNext n sql.now → Transforms (HoldsAllRows (schema_up_to n) all)
-        (HoldsAllRows (schema_up_to (n + 1)) (all ++ [] ∷ [])) (state S.Store tx.old.conn.now)
-        (state S.Store tx.new.conn.now) result }
+    ensures transforms { (n : ℕ) (all : List (List Row)) → MakesNext n sql.now
+        → Transforms (HoldsAllRows (schema_up_to n) all) (HoldsAllRows (schema_up_to (n + 1)) (all ++ [] ∷ []))
+        (state S.Store tx.old.conn.now) (state S.Store tx.new.conn.now) result }
 {
     run(tx, sql, &[])
 }

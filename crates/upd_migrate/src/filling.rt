@@ -45,8 +45,8 @@ pub(crate) fn fill<S: Alter>(
     ensures same_reference { tx.new.conn.ghost_name ≡ tx.old.conn.ghost_name }
     ensures steps { Steps (state S.Store tx.old.conn.now) (state S.Store tx.new.conn.now) result }
     ensures transforms { (l : LibraryView) (rows : Rows) → AreLibraryRows l rows
-        → Transforms (HoldsAllRows (schema_of version) (stored_in version rows)) (HoldsAfter (IsMigrated version l rows))
-        (state S.Store tx.old.conn.now) (state S.Store tx.new.conn.now) result }
+        → Transforms (HoldsAllRows (schema_of version) (stored_in version rows))
+        (HoldsAfter (IsMigrated version l rows)) (state S.Store tx.old.conn.now) (state S.Store tx.new.conn.now) result }
     ensures was_open { WasOpen (state S.Store tx.old.conn.now) (state S.Store tx.new.conn.now) result }
 {
     complete(tx, version)?;

@@ -16,8 +16,8 @@ use upd_diff::compare;
 use upd_text::{Fault, FaultKind};
 use upd_yank::Cache;
 
-/// The changes that set the status of each card of a library and the count of each target: those of a status update after
-/// one run that added everything. The only fault is NoMemory, also where there are 2^32 yank cards or more.
+/// The changes that set the status of each card of a library and the count of each target: those of a status update
+/// after one run that added everything. The only fault is NoMemory, also where there are 2^32 yank cards or more.
 pub(crate) fn initial_states(alloc: Global, library: &Library) -> Result<Vec<Change>, Fault>
     ensures states { IsSound library.now → (rows : Rows) → rows.states ≡ [] → rows.counts ≡ [] → IfOk result
         (λ changes. ShowsStates (done_all (map change_view changes.items) rows) library.now) }

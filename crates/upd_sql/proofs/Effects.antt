@@ -24,7 +24,7 @@ use Rattle.sqlite_rules.specs.Cast.{cast_all}
 use Rattle.upd_records.specs.Changes.{purged_row, moved_row}
 use Rattle.upd_sqlite.proofs.Tests.{eq_nat, ge_nat, add_nat, sub_nat, one_test, two_tests}
 use Rattle.upd_sql.proofs.Conditions.{passes, card_params, card_named, entry_named, target_named, state_named, count_named, mark_named, run_settled}
-use Rattle.upd_sql.proofs.Texts as text
+use Rattle.upd_sql.proofs.WriteTexts as text
 
 module _ (old new : State) (count : ℕ) (it : Rows) (h : HoldsTables it old.now) where
   pub ident_added : (r : Ident) → Executes text.insert_ident (ident_row r) old new (Ok count) → HoldsTables (record it { idents = it.idents ++ r ∷ [] }) new.now

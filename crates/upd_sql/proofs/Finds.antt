@@ -17,7 +17,7 @@ use Rattle.upd_sql.specs.Encoded.{num, run_row, mark_row, stored}
 use Rattle.upd_sql.specs.LibraryTables.{HoldsTables}
 use Rattle.upd_sql.proofs.Typed.{reads_exactly}
 use Rattle.upd_sql.proofs.Conditions.{run_found, mark_found}
-use Rattle.upd_sql.proofs.QueryTexts as query
+use Rattle.upd_sql.proofs.ReadTexts as query
 
 -- a plain query leaves the tables
 pub untouched : {X : Type 0} (items : X → List Row) (sql : List ℕ) (params : Row) (old new : State) (r : Result X Error)

@@ -19,7 +19,7 @@ use Rattle.upd_sql.specs.Schema.{meta, idents, cards, entries, targets, runs, st
 use Rattle.upd_sql.specs.Encoded.{version_row}
 use Rattle.upd_sql.specs.Making.{schema_up_to, no_rows_in, no_rows, HasEmptyTables, MakesNext, Transforms}
 use Rattle.upd_sql.specs.LibraryTables.{HoldsTables}
-use Rattle.upd_sql.proofs.Texts as text
+use Rattle.upd_sql.proofs.WriteTexts as text
 
 abbrev pub create_meta : List ℕ
 create_meta = CREATE_META.now

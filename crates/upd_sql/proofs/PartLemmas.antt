@@ -35,8 +35,8 @@ use Rattle.upd_sql.proofs.Conditions.{card_named, card_params, entry_of, in_deck
 use Rattle.upd_sql.proofs.Listed.{lists, ordered_as}
 use Rattle.upd_sql.proofs.Typed.{own}
 use Rattle.upd_sql.proofs.WholeLemmas.{cards_order}
-use Rattle.upd_sql.proofs.Texts as text
-use Rattle.upd_sql.proofs.QueryTexts as query
+use Rattle.upd_sql.proofs.WriteTexts as text
+use Rattle.upd_sql.proofs.ReadTexts as query
 
 -- ---- what each text answers
 

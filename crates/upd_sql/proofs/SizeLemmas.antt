@@ -37,8 +37,8 @@ use Rattle.upd_sql.specs.LibraryTables.{ShowsTables}
 use Rattle.upd_sql.specs.declared.sizes.Sizes.{Sizes}
 use Rattle.upd_sql.proofs.Bare.{is_bare, bare_tests, bare_values}
 use Rattle.upd_sql.proofs.Typed.{own, survives_itself}
-use Rattle.upd_sql.proofs.Texts as text
-use Rattle.upd_sql.proofs.QueryTexts as query
+use Rattle.upd_sql.proofs.WriteTexts as text
+use Rattle.upd_sql.proofs.ReadTexts as query
 
 -- ---- the rows of a table where others, or its own, were put
 

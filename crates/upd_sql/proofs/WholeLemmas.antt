@@ -30,7 +30,7 @@ use Rattle.upd_sql.specs.Commits.{Looks, WasOpen, LeavesTables}
 use Rattle.upd_sql.specs.Encoded.{num, ident_row, card_row, entry_row, target_row, state_row, kept_state, kept_count, stored}
 use Rattle.upd_sql.specs.LibraryTables.{HoldsTables}
 use Rattle.upd_sql.proofs.Listed.{lists, ordered_as}
-use Rattle.upd_sql.proofs.QueryTexts as query
+use Rattle.upd_sql.proofs.ReadTexts as query
 
 -- ---- rows one after another
 

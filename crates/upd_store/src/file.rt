@@ -35,9 +35,9 @@ impl<S: Start> SqlStore<FileStore<FileFrom<S>>> {
     /// Opens the library in a file. `new_has_sums` says whether an empty file would get checksums, as in
     /// `Connection::open_from`; a library's file is never empty.
     ///
-    /// Where the file holds no library the fault is Store, at the version in the file, 0 where it has none; no byte of it
-    /// is changed, and a file that does not exist is not made. The fault is Store at 0, too, where the file may not be
-    /// read and written, where another program has it open, and where it is damaged. Out of memory is NoMemory at 0.
+    /// Where the file holds no library the fault is Store, at the version in the file, 0 where it has none. No byte of
+    /// it is changed then, and a file that does not exist is not made. The fault is Store at 0, too, where the file may not
+    /// be read and written, where another program has it open, and where it is damaged. Out of memory is NoMemory at 0.
     pub fn open(
         rt: &HostRuntime,
         path: &str,
@@ -91,8 +91,8 @@ pub fn close<D: Disk + Drop>(library: SqlStore<FileStore<D>>) -> Result<Files<D>
     }
 }
 
-/// A connection to a file of SQLite, whatever its tables are. Where it is not such a file the fault is Store at 0. A file
-/// that does not exist is not made.
+/// A connection to a file of SQLite, whatever its tables are. Where it is not such a file the fault is Store at 0. A
+/// file that does not exist is not made.
 pub fn connect<S: Start>(
     rt: &HostRuntime,
     path: &str,

@@ -5,31 +5,33 @@ use Rattle.upd_sqlite.proofs.Chains.{clean_before}
 use Rattle.upd_migrate.proofs.Migrates.{any_leaves, migrates_any}
 use Rattle.upd_migrate.proofs.migrating.migrate.Goals as goal
 
-pub returns-in-Ok-migrate_from-clause-done : goal.returns-in-Ok-migrate_from-clause-done
-returns-in-Ok-migrate_from-clause-done g c clean o =
+pub returns-in-Ok-clause-done : goal.returns-in-Ok-clause-done
+returns-in-Ok-clause-done g c clean o =
     let old = state g.S.Store c.args.conn.now in
     let mid = state g.S.Store c.known_version.new.conn in
     let new = state g.S.Store c.migrate_from.new.conn in
-    let done = c.in-Ok-migrate_from.ensures.done clean in
+    let done = c.in-Ok.ensures.done clean in
     migrates_any c.in_ok-version.version old mid c.in_ok-version.ensures.found c.in_ok-version.ensures.same new
-    (clean_before mid new _ c.in-Ok-migrate_from.ensures.crash clean) done.1 done.2
+    (clean_before mid new _ c.in-Ok.ensures.crash clean) done.1 done.2
 
-pub returns-in-Ok-migrate_from-clause-crash : goal.returns-in-Ok-migrate_from-clause-crash
-returns-in-Ok-migrate_from-clause-crash g c =
-    any_leaves c.in_ok-version.version (state g.S.Store c.args.conn.now) (state g.S.Store c.known_version.new.conn) c.in_ok-version.ensures.found c.in_ok-version.ensures.same
-    (state g.S.Store c.migrate_from.new.conn) c.in_ok-version.ensures.was_open c.in_ok-version.ensures.survives c.in-Ok-migrate_from.ensures.crash
+pub returns-in-Ok-clause-crash : goal.returns-in-Ok-clause-crash
+returns-in-Ok-clause-crash g c =
+    let known = c.in_ok-version.ensures in
+    any_leaves c.in_ok-version.version (state g.S.Store c.args.conn.now) (state g.S.Store c.known_version.new.conn) known.found known.same
+    (state g.S.Store c.migrate_from.new.conn) known.was_open known.survives c.in-Ok.ensures.crash
 
-pub returns-in-Err-migrate_from-clause-crash : goal.returns-in-Err-migrate_from-clause-crash
-returns-in-Err-migrate_from-clause-crash g c =
-    any_leaves c.in_ok-version.version (state g.S.Store c.args.conn.now) (state g.S.Store c.known_version.new.conn) c.in_ok-version.ensures.found c.in_ok-version.ensures.same
-    (state g.S.Store c.migrate_from.new.conn) c.in_ok-version.ensures.was_open c.in_ok-version.ensures.survives c.in-Err-migrate_from.ensures.crash
+pub returns-in-Err-clause-crash : goal.returns-in-Err-clause-crash
+returns-in-Err-clause-crash g c =
+    let known = c.in_ok-version.ensures in
+    any_leaves c.in_ok-version.version (state g.S.Store c.args.conn.now) (state g.S.Store c.known_version.new.conn) known.found known.same
+    (state g.S.Store c.migrate_from.new.conn) known.was_open known.survives c.in-Err.ensures.crash
 
-pub returns-in-Ok-migrate_from-clause-known : goal.returns-in-Ok-migrate_from-clause-known
-returns-in-Ok-migrate_from-clause-known g c clean o =
+pub returns-in-Ok-clause-known : goal.returns-in-Ok-clause-known
+returns-in-Ok-clause-known g c clean o =
     let mid = state g.S.Store c.known_version.new.conn in
     let new = state g.S.Store c.migrate_from.new.conn in
-    let early = clean_before mid new _ c.in-Ok-migrate_from.ensures.crash clean in
-    let was_open = (c.in-Ok-migrate_from.ensures.done clean).1 in
+    let early = clean_before mid new _ c.in-Ok.ensures.crash clean in
+    let was_open = (c.in-Ok.ensures.done clean).1 in
     let schema = ap (λ (d : Database). d.schema) (sym (c.in_ok-version.ensures.same early was_open)) ∙ c.in_ok-version.ensures.found was_open in
     (c.in_ok-version.version, schema, c.in_ok-version.ensures.value early)
 

@@ -1,7 +1,7 @@
 use Rattle.sqlite.specs.Held.{state}
 use Rattle.upd_sql.specs.Making.{HasEmptyTables, no_rows}
 use Rattle.upd_sql.specs.LibraryTables.{HoldsTables}
-use Rattle.upd_sql.proofs.Texts.{insert_version}
+use Rattle.upd_sql.proofs.WriteTexts.{insert_version}
 use Rattle.upd_sql.proofs.MakingLemmas.{transforms_from, version_written}
 use Rattle.upd_sql.proofs.make.insert_version.Goals as goal
 

@@ -1,6 +1,6 @@
 use Rattle.std.proofs.Common.{length}
 use Rattle.sqlite.specs.Held.{state}
-use Rattle.upd_sql.proofs.QueryTexts as query
+use Rattle.upd_sql.proofs.ReadTexts as query
 use Rattle.upd_sql.proofs.PartLemmas.{cards_counted}
 use Rattle.upd_sql.specs.Sizes.{card_tree}
 use Rattle.upd_sql.proofs.SizeLemmas.{card_rows_counted}

@@ -1,7 +1,7 @@
 use Rattle.std.proofs.Common.{◌==◌, ◌||◌, filter}
 use Rattle.sqlite.specs.Held.{state}
 use Rattle.upd_sql.specs.Listed.{by_place}
-use Rattle.upd_sql.proofs.QueryTexts as query
+use Rattle.upd_sql.proofs.ReadTexts as query
 use Rattle.upd_sql.proofs.PartLemmas.{deck_listed}
 use Rattle.upd_sql.proofs.part.cards_of_deck.Goals as goal
 

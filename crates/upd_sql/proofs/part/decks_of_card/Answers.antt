@@ -2,7 +2,7 @@ use Rattle.std.proofs.Common.{map, filter}
 use Rattle.sqlite.specs.Held.{state}
 use Rattle.upd_records.specs.Rows.{CardRow, same_ref}
 use Rattle.upd_sql.specs.Listed.{in_any_order}
-use Rattle.upd_sql.proofs.QueryTexts as query
+use Rattle.upd_sql.proofs.ReadTexts as query
 use Rattle.upd_sql.proofs.PartLemmas.{decks_listed}
 use Rattle.upd_sql.proofs.part.decks_of_card.Goals as goal
 

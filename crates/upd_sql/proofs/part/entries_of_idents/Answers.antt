@@ -1,4 +1,4 @@
-use Rattle.upd_sql.proofs.QueryTexts as query
+use Rattle.upd_sql.proofs.ReadTexts as query
 use Rattle.upd_sql.proofs.PartLemmas.{ident_entries_listed}
 use Rattle.sqlite.specs.Held.{state}
 use Rattle.upd_sql.proofs.part.entries_of_idents.Goals as goal

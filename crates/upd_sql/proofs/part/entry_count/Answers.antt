@@ -1,6 +1,6 @@
 use Rattle.std.proofs.Common.{length}
 use Rattle.sqlite.specs.Held.{state}
-use Rattle.upd_sql.proofs.QueryTexts as query
+use Rattle.upd_sql.proofs.ReadTexts as query
 use Rattle.upd_sql.proofs.PartLemmas.{entries_counted}
 use Rattle.upd_sql.specs.Sizes.{entry_tree}
 use Rattle.upd_sql.proofs.SizeLemmas.{entry_rows_counted}

@@ -10,7 +10,7 @@ use Rattle.upd_sql.specs.Encoded.{mark_row}
 use Rattle.upd_sql.specs.LibraryTables.{HoldsTables}
 use Rattle.upd_sql.proofs.Finds.{marks_found, untouched}
 use Rattle.upd_sql.proofs.Typed.{was_open_from}
-use Rattle.upd_sql.proofs.QueryTexts as query
+use Rattle.upd_sql.proofs.ReadTexts as query
 use Rattle.upd_sql.proofs.reads.marks_of_site.Goals as goal
 
 found : {X : Type 0} (items : X → List Row) (site : List ℕ) (old new : State) (r : Result X Error)

@@ -1,7 +1,7 @@
 use Rattle.std.proofs.Common.{map}
 use Rattle.sqlite.specs.Held.{state}
 use Rattle.upd_row_store.specs.Tables.{state_pair}
-use Rattle.upd_sql.proofs.QueryTexts as query
+use Rattle.upd_sql.proofs.ReadTexts as query
 use Rattle.upd_sql.proofs.PartLemmas.{ident_states_listed}
 use Rattle.upd_sql.proofs.statuses.states_of_idents.Goals as goal
 

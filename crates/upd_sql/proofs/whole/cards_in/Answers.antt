@@ -1,6 +1,6 @@
 use Rattle.sqlite.specs.Held.{state}
 use Rattle.upd_sql.specs.Listed.{by_place}
-use Rattle.upd_sql.proofs.QueryTexts as query
+use Rattle.upd_sql.proofs.ReadTexts as query
 use Rattle.upd_sql.proofs.WholeLemmas.{cards_listed}
 use Rattle.upd_sql.proofs.whole.cards_in.Goals as goal
 

@@ -3,7 +3,7 @@ use Rattle.upd_records.specs.Changes.{done, EntriesGone}
 use Rattle.upd_sql.specs.LibraryTables.{AnyTables, HoldsTables}
 use Rattle.upd_sql.proofs.Conditions.{card_params}
 use Rattle.upd_sql.proofs.Typed.{makes_from}
-use Rattle.upd_sql.proofs.Texts.{delete_entries}
+use Rattle.upd_sql.proofs.WriteTexts.{delete_entries}
 use Rattle.upd_sql.proofs.Effects.{entries_gone}
 use Rattle.upd_sql.proofs.SizeLemmas.{sizes_lost}
 use Rattle.upd_sql.proofs.writes.delete_entries.Goals as goal

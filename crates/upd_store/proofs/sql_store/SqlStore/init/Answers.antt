@@ -13,5 +13,6 @@ named Has (Err e) at value is v h = inr is
 
 pub returns-then-not-is_no_schema-clause-version : goal.returns-then-not-is_no_schema-clause-version
 returns-then-not-is_no_schema-clause-version g c clean =
-    named (λ v. HasVersion v (state g.S.Store c.args.conn).committed) c.version_of-found.result c.version_fault.result.at (c.version_of-found.ensures.value clean)
+    named (λ v. HasVersion v (state g.S.Store c.args.conn).committed) c.version_of-found.result c.version_fault.result.at
+    (c.version_of-found.ensures.value clean)
     c.version_fault.ensures.at

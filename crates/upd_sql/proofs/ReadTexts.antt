@@ -14,7 +14,7 @@ use Rattle.sqlite.proofs.Callers.{IsPlain, command_of}
 use Rattle.upd_sqlite.specs.Keyed.{plain_query, row_count}
 use Rattle.upd_sql.specs.declared.texts.TheConstants as sql
 use Rattle.upd_sql.specs.Schema.{library_schema}
-use Rattle.upd_sql.proofs.Texts.{delete_card_tests}
+use Rattle.upd_sql.proofs.WriteTexts.{delete_card_tests}
 
 -- ---- rows read
 
