@@ -1,7 +1,8 @@
 //! A crash at each call of the disk: what is opened again holds the answered arrivals, with or without the one in hand.
+use crate::fused_files::{ALL, Bytes, Calls, Fused, closed, opened};
 use crate::sqlite_rows::stored_tables;
-use sqlite::{Connection, FileStore, Options};
-use sqlite_disk::{Crash, Disk, Files, Fuse, Memory};
+use sqlite::{Connection, FileStore};
+use sqlite_disk::Files;
 use std::alloc::Global;
 use std::test::Fail;
 use upd_store::SqlStore;
@@ -12,68 +13,13 @@ use upd_testkit::reference_rows::reference_tables;
 use upd_testkit::session::Session;
 use upd_text::{Fault, FaultKind};
 
-/// A file in memory that fails after a number of calls.
-type Fused = Fuse<Memory>;
-
 type FileStored = SqlStore<FileStore<Fused>>;
 
 const SITES: [&str; 1] = ["LYON"];
 
-/// The number of calls of the log and of the database file that pass.
-#[derive(Clone, Copy, Debug)]
-struct Calls {
-    log: u64,
-    db: u64,
-}
-
-fn new_files(alloc: Global, calls: Calls) -> Files<Fused> {
-    Files {
-        log: Fuse::new(Memory::new(alloc), calls.log),
-        db: Fuse::new(Memory::new(alloc), calls.db),
-    }
-}
-
-/// What another process finds after a kill: all bytes that were written.
-fn copied(alloc: Global, file: &Fused) -> Result<Fused, Fail> {
-    let mut copy = Memory::new(alloc);
-    copy.write_at(0, file.inner().bytes())?;
-    Ok(Fuse::new(copy, u64::MAX))
-}
-
-fn killed(alloc: Global, files: &Files<Fused>) -> Result<Files<Fused>, Fail> {
-    Ok(Files {
-        log: copied(alloc, &files.log)?,
-        db: copied(alloc, &files.db)?,
-    })
-}
-
-/// What the machine finds after it went down: the bytes that were synced.
-fn crashed(mut files: Files<Fused>) -> Files<Fused> {
-    files.log.crash();
-    files.db.crash();
-    files
-}
-
-fn connected(
-    alloc: Global,
-    files: Files<Fused>,
-) -> Result<Connection<FileStore<Fused>>, Files<Fused>> {
-    if !files.may_be_used() {
-        return Err(files);
-    }
-    match Connection::open_files(alloc, files, Options::new(1)) {
-        Ok(conn) => Ok(conn),
-        Err((_, left)) => Err(left.into_files()),
-    }
-}
-
-fn files_of(conn: Connection<FileStore<Fused>>) -> Files<Fused> {
-    conn.into_store().close()
-}
-
-/// The library in the files; where there is none, a new one.
+/// The library in the files; a new one if there is none.
 fn library_in(alloc: Global, files: Files<Fused>) -> Result<FileStored, Files<Fused>> {
-    let conn = connected(alloc, files)?;
+    let conn = opened(alloc, files)?;
     match SqlStore::adopt(conn) {
         Ok(store) => Ok(store),
         Err((_, conn)) => new_library(conn),
@@ -83,25 +29,25 @@ fn library_in(alloc: Global, files: Files<Fused>) -> Result<FileStored, Files<Fu
 fn new_library(conn: Connection<FileStore<Fused>>) -> Result<FileStored, Files<Fused>> {
     match SqlStore::init(conn) {
         Ok(store) => Ok(store),
-        Err((_, conn)) => Err(files_of(conn)),
+        Err((_, conn)) => Err(closed(conn)),
     }
 }
 
-/// The tables in the files, nothing where they hold no library.
+/// The tables in the files; no text if they hold no library.
 fn tables_in(alloc: Global, files: Files<Fused>) -> Result<(String, Files<Fused>), Fail> {
-    let Ok(conn) = connected(alloc, files) else {
+    let Ok(conn) = opened(alloc, files) else {
         return Err("the files can't be opened".into());
     };
     match SqlStore::adopt(conn) {
         Ok(store) => tables_of(alloc, store),
-        Err((_, conn)) => Ok((String::new(alloc), files_of(conn))),
+        Err((_, conn)) => Ok((String::new(alloc), closed(conn))),
     }
 }
 
 fn tables_of(alloc: Global, store: FileStored) -> Result<(String, Files<Fused>), Fail> {
     let mut conn = store.into_connection();
     let text = stored_tables(alloc, &mut conn);
-    let files = files_of(conn);
+    let files = closed(conn);
     Ok((text?, files))
 }
 
@@ -112,7 +58,6 @@ struct Sending {
     opened: bool,
     /// The answers up to the first failure.
     answers: Vec<String>,
-    files: Files<Fused>,
 }
 
 fn is_lost(fault: Fault) -> bool {
@@ -139,25 +84,28 @@ fn answers(session: &mut Session<FileStored>, list: &[Ask<'_>]) -> Result<Vec<St
     Ok(answers)
 }
 
-/// Asks until a call fails.
-fn send(alloc: Global, files: Files<Fused>, list: &[Ask<'_>]) -> Result<Sending, Fail> {
+/// Asks until a call fails: what came of it, and the files.
+fn send(
+    alloc: Global,
+    files: Files<Fused>,
+    list: &[Ask<'_>],
+) -> Result<(Sending, Files<Fused>), Fail> {
     match library_in(alloc, files) {
         Ok(store) => send_to(Session::new(alloc, store), list),
-        Err(files) => Ok(Sending {
-            opened: false,
-            answers: Vec::new(alloc),
-            files,
-        }),
+        Err(files) => {
+            let (opened, answers) = (false, Vec::new(alloc));
+            Ok((Sending { opened, answers }, files))
+        }
     }
 }
 
-fn send_to(mut session: Session<FileStored>, list: &[Ask<'_>]) -> Result<Sending, Fail> {
-    let answers = answers(&mut session, list)?;
-    Ok(Sending {
-        opened: true,
-        answers,
-        files: files_of(session.desk.close().into_connection()),
-    })
+fn send_to(
+    mut session: Session<FileStored>,
+    list: &[Ask<'_>],
+) -> Result<(Sending, Files<Fused>), Fail> {
+    let (opened, answers) = (true, answers(&mut session, list)?);
+    let files = closed(session.desk.close().into_connection());
+    Ok((Sending { opened, answers }, files))
 }
 
 /// The reference desk after the first `count` of a list.
@@ -244,26 +192,27 @@ fn left_holds(
     alloc: Global,
     list: &[Ask<'_>],
     sending: &Sending,
-    files: Files<Fused>,
+    left: &Bytes,
 ) -> Result<(), Fail> {
     let answered = sending.answers.len();
-    let (found, files) = tables_in(alloc, files)?;
+    let (found, files) = tables_in(alloc, left.files(alloc, ALL)?)?;
     let mut reference = left_by(alloc, list, sending, found.as_str())?;
-    let again = send(alloc, files, list)?;
+    let (again, files) = send(alloc, files, list)?;
     are_answered(&mut reference, list, &again.answers, answered)?;
-    has_tables(&reference, again.files, answered)
+    has_tables(&reference, files, answered)
 }
 
 /// A kill of the process and a crash of the machine after these calls: whether a call failed.
 fn crashes(alloc: Global, list: &[Ask<'_>], calls: Calls) -> Result<bool, Fail> {
-    let mut sending = send(alloc, new_files(alloc, calls), list)?;
+    let files = Bytes::none(alloc).files(alloc, calls)?;
+    let (sending, files) = send(alloc, files, list)?;
     if sending.answers.len() == list.len() {
         return Ok(false);
     }
-    let files = killed(alloc, &sending.files)?;
-    left_holds(alloc, list, &sending, files)?;
-    let files = crashed(std::mem::replace(&mut sending.files, new_files(alloc, calls)));
-    left_holds(alloc, list, &sending, files)?;
+    let killed = Bytes::written(alloc, &files)?;
+    left_holds(alloc, list, &sending, &killed)?;
+    let crashed = Bytes::synced(alloc, files)?;
+    left_holds(alloc, list, &sending, &crashed)?;
     Ok(true)
 }
 

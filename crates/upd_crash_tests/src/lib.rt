@@ -11,6 +11,8 @@ mod desk_crashes;
 #[cfg(test)]
 mod failed_commits;
 #[cfg(test)]
+mod fused_files;
+#[cfg(test)]
 mod migrated;
 #[cfg(test)]
 mod migration_crashes;

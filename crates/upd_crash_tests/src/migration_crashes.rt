@@ -1,93 +1,26 @@
 //! A crash at each call of the disk: the file opened again is the old one or the migrated one, and can be migrated.
+use crate::fused_files::{ALL, Bytes, Calls, Fused, closed, opened};
 use crate::older_files::Older;
-use sqlite::{Connection, FileStore, Options};
-use sqlite_disk::{Crash, Disk, Files, Fuse, Memory};
+use sqlite::{Connection, FileStore};
+use sqlite_disk::Files;
 use std::alloc::Global;
 use std::test::Fail;
 use upd_migrate::migrate;
 use upd_testkit::check::{holds, same};
 use upd_text::FaultKind;
 
-/// A file in memory that fails after a number of calls.
-type Fused = Fuse<Memory>;
-
-/// The bytes of the database file and of its log.
-#[derive(Drop)]
-struct Bytes {
-    log: Vec<u8>,
-    db: Vec<u8>,
-}
-
-/// The number of calls of the log and of the database file that pass.
-#[derive(Clone, Copy, Debug)]
-struct Calls {
-    log: u64,
-    db: u64,
-}
-
-const ALL: Calls = Calls {
-    log: u64::MAX,
-    db: u64::MAX,
-};
-
-fn file_of(alloc: Global, bytes: &[u8], calls: u64) -> Result<Fused, Fail> {
-    let mut file = Memory::new(alloc);
-    file.write_at(0, bytes)?;
-    file.sync()?;
-    Ok(Fuse::new(file, calls))
-}
-
-fn files_of(alloc: Global, bytes: &Bytes, calls: Calls) -> Result<Files<Fused>, Fail> {
-    Ok(Files {
-        log: file_of(alloc, &bytes.log, calls.log)?,
-        db: file_of(alloc, &bytes.db, calls.db)?,
-    })
-}
-
-/// All bytes that were written: what another process finds after a kill.
-fn bytes_of(alloc: Global, files: &Files<Fused>) -> Result<Bytes, Fail> {
-    Ok(Bytes {
-        log: Vec::from_slice(alloc, files.log.inner().bytes())?,
-        db: Vec::from_slice(alloc, files.db.inner().bytes())?,
-    })
-}
-
-/// The bytes that were synced: what the machine finds after it went down.
-fn synced_of(alloc: Global, mut files: Files<Fused>) -> Result<Bytes, Fail> {
-    files.log.crash();
-    files.db.crash();
-    bytes_of(alloc, &files)
-}
-
-fn opened(
-    alloc: Global,
-    files: Files<Fused>,
-) -> Result<Connection<FileStore<Fused>>, Files<Fused>> {
-    if !files.may_be_used() {
-        return Err(files);
-    }
-    match Connection::open_files(alloc, files, Options::new(1)) {
-        Ok(conn) => Ok(conn),
-        Err((_, left)) => Err(left.into_files()),
-    }
-}
-
 /// The database in files that don't fail.
 fn opened_whole(alloc: Global, bytes: &Bytes) -> Result<Connection<FileStore<Fused>>, Fail> {
-    match opened(alloc, files_of(alloc, bytes, ALL)?) {
+    match opened(alloc, bytes.files(alloc, ALL)?) {
         Ok(conn) => Ok(conn),
         Err(_) => Err("the files can't be opened".into()),
     }
 }
 
 fn made(alloc: Global, file: Older) -> Result<Bytes, Fail> {
-    let none = Bytes {
-        log: Vec::new(alloc),
-        db: Vec::new(alloc),
-    };
-    let mut conn = opened_whole(alloc, &none)?;
+    let mut conn = opened_whole(alloc, &Bytes::none(alloc))?;
     file.make(&mut conn)?;
-    bytes_of(alloc, &conn.into_store().close())
+    Bytes::written(alloc, &closed(conn))
 }
 
 /// Whether a migration ends. One that doesn't has met a failed call, which is its fault.
@@ -106,7 +39,7 @@ fn migrated(alloc: Global, files: Files<Fused>) -> Result<(bool, Files<Fused>), 
     match opened(alloc, files) {
         Ok(mut conn) => {
             let is_migrated = ends(alloc, &mut conn);
-            let files = conn.into_store().close();
+            let files = closed(conn);
             Ok((is_migrated?, files))
         }
         Err(files) => Ok((false, files)),
@@ -123,13 +56,13 @@ fn left_holds(alloc: Global, file: Older, left: &Bytes) -> Result<(), Fail> {
 
 /// What is found after a kill holds, and what is found after a crash.
 fn both_hold(alloc: Global, file: Older, files: Files<Fused>) -> Result<(), Fail> {
-    left_holds(alloc, file, &bytes_of(alloc, &files)?)?;
-    left_holds(alloc, file, &synced_of(alloc, files)?)
+    left_holds(alloc, file, &Bytes::written(alloc, &files)?)?;
+    left_holds(alloc, file, &Bytes::synced(alloc, files)?)
 }
 
 /// A kill of the process and a crash of the machine after these calls: whether a call failed.
 fn crashes(alloc: Global, file: Older, bytes: &Bytes, calls: Calls) -> Result<bool, Fail> {
-    let (is_migrated, files) = migrated(alloc, files_of(alloc, bytes, calls)?)?;
+    let (is_migrated, files) = migrated(alloc, bytes.files(alloc, calls)?)?;
     if is_migrated {
         return Ok(false);
     }

@@ -17,6 +17,8 @@ mod random_arrivals;
 #[cfg(test)]
 mod status_updates;
 #[cfg(test)]
+mod steps;
+#[cfg(test)]
 mod store_loads;
 #[cfg(test)]
 mod worked_lists;

@@ -8,6 +8,7 @@ use upd_core::ident::name_at;
 use upd_core::{Card, CardRef, Counted, Deck, Library};
 use upd_deck::read_run;
 use upd_testkit::check::same;
+use upd_testkit::yank_chains::yanks_in_a_row;
 use upd_yank::Cache;
 
 fn applied(library: &mut Library, text: &str) -> Result<Applied, Fail> {
@@ -144,21 +145,12 @@ fn first_line(cache: &Cache) -> Result<Option<bool>, Fail> {
     Ok(cache.active(card))
 }
 
-/// A run of 900 sets, each of which yanks the one before it; the first yanks X.
-fn yanks_in_a_row(alloc: Global) -> Result<String, Fail> {
-    let mut text = String::from_str(alloc, "*IDENT Y1\n*YANK X\n")?;
-    for n in 1..900_u32 {
-        write!(text, "*IDENT Y{}\n*YANK Y{n}\n", n.saturating_add(1))?;
-    }
-    Ok(text)
-}
-
 /// Deck A, whose first line is deleted, and then 900 yanks in a row.
 fn yanked(alloc: Global) -> Result<Library, Fail> {
     let mut library = Library::new(alloc);
     applied(&mut library, "*DECK A\nONE\nTWO\nTHREE\n")?;
     applied(&mut library, "*IDENT X\n*DELETE A.2\n")?;
-    applied(&mut library, yanks_in_a_row(alloc)?.as_str())?;
+    applied(&mut library, yanks_in_a_row(alloc, 900)?.as_str())?;
     Ok(library)
 }
 

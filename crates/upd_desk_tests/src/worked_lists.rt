@@ -1,34 +1,19 @@
 //! Worked lists of runs, over both stores. A run in full mode shows all active cards in its reply.
 use crate::empty_stores::Fresh;
+use crate::steps::Step::{self, Accepts, Compiles, Fails, Paris, Refuses, Says};
+use crate::steps::{take, take_all, take_list};
+use Step::{Accepts, Compiles, Fails, Paris, Refuses, Says};
 use sqlite::MemStore;
 use std::alloc::Global;
 use std::test::Fail;
 use upd_list_store::ListStore;
 use upd_row_store::RowStore;
 use upd_store::SqlStore;
-use upd_testkit::asks::{Ask, Sent, lyon};
+use upd_testkit::asks::{Ask, lyon};
+use upd_testkit::check::{holds, same};
 use upd_testkit::replies::Line;
 use upd_testkit::session::Session;
-
-/// What is asked of a desk, and its answer.
-#[derive(Clone, Copy, Debug)]
-enum Step {
-    /// A run of LYON, by number, mode and text, is accepted: the idents that it introduces, and its compile lines.
-    Accepts(u64, &'static str, &'static str, &'static [&'static str], &'static [Line<'static>]),
-    /// A run of LYON, by number, mode and text, is refused, and that is stored.
-    Refuses(u64, &'static str, &'static str, &'static str),
-    /// The empty run 1 of PARIS in full mode is accepted: its compile lines.
-    Paris(&'static [Line<'static>]),
-    /// A run of LYON, by number, mode and text, has no reply.
-    Fails(u64, &'static str, &'static str, &'static str),
-    /// A settlement, a listing, or what has none.
-    Says(Ask<'static>, &'static str),
-    /// The full compile file.
-    Compiles(&'static [Line<'static>]),
-}
-
-use Step::{Accepts, Compiles, Fails, Paris, Refuses, Says};
-use upd_testkit::check::{holds, same};
+use upd_testkit::yank_chains::yanks_in_a_row;
 
 const DECK_A: &str = "*DECK A\nONE\nTWO\nTHREE\n";
 
@@ -321,58 +306,11 @@ const LISTS: [&[Step]; 17] = [
     A_SETTLED_RUN_NEVER_ACTS_AGAIN,
 ];
 
-/// The empty run 1 of PARIS in full mode.
-fn paris() -> Sent<'static> {
-    let mut run = lyon(1, "full", "");
-    run.site = "PARIS";
-    run
-}
-
-fn take<S: RowStore>(session: &mut Session<S>, step: Step) -> Result<(), Fail> {
-    match step {
-        Accepts(number, mode, text, idents, lines) => {
-            session.accepts(lyon(number, mode, text), idents, lines)
-        }
-        Refuses(number, mode, text, fault) => session.refuses(lyon(number, mode, text), fault),
-        Paris(lines) => session.accepts(paris(), &[], lines),
-        Fails(number, mode, text, fault) => {
-            session.says(Ask::Run(lyon(number, mode, text)), fault)
-        }
-        Says(ask, text) => session.says(ask, text),
-        Compiles(lines) => session.compiles(lines),
-    }
-}
-
-/// Takes each list on an empty library of its own.
-fn take_all<S: Fresh>(alloc: Global, lists: &[&[Step]]) -> Result<(), Fail> {
-    for list in lists {
-        let mut session = Session::new(alloc, S::fresh(alloc)?);
-        take_list(&mut session, list)?;
-    }
-    Ok(())
-}
-
-fn take_list<S: RowStore>(session: &mut Session<S>, list: &[Step]) -> Result<(), Fail> {
-    for step in list {
-        take(session, *step)?;
-    }
-    Ok(())
-}
-
-/// 900 sets, each of which yanks the one before it, the first of them X.
-fn chain(alloc: Global) -> Result<String, Fail> {
-    let mut text = String::from_str(alloc, "*IDENT Y1\n*YANK X\n")?;
-    for n in 1..900_u32 {
-        write!(text, "*IDENT Y{}\n*YANK Y{n}\n", n.saturating_add(1))?;
-    }
-    Ok(text)
-}
-
 const TAKEN_BACK: Step = Accepts(4, "full", "*IDENT W\n*DELETE Y900.1\n", &["W"], ALL);
 
 /// The chain is accepted, with two compile lines.
 fn take_yanks<S: RowStore>(session: &mut Session<S>) -> Result<(), Fail> {
-    let chain = chain(session.alloc)?;
+    let chain = yanks_in_a_row(session.alloc, 900)?;
     let reply = session.ask(Ask::Run(lyon(3, "full", chain.as_str())))?;
     let end = "\"lines\":2,\"mode\":\"full\",\"run\":3,\"site\":\"LYON\",\"state\":\"accepted\"}";
     holds(reply.as_str(), reply.ends_with(end))

@@ -15,3 +15,4 @@ pub mod reference_rows;
 pub mod replies;
 pub mod session;
 pub mod worked_spool;
+pub mod yank_chains;

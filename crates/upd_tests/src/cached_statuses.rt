@@ -8,6 +8,7 @@ use upd_core::{Card, CardRef, Counted, Library, Serial, Target};
 use upd_deck::read_run;
 use upd_testkit::check::{holds, same};
 use upd_testkit::random_runs::{DECKS, Dice, random_run};
+use upd_testkit::yank_chains::yanks_in_a_row;
 use upd_yank::Cache;
 
 const REPLACED: &str = "*IDENT X\n*DELETE A.2\nNEW\n";
@@ -207,15 +208,6 @@ fn a_yank_of_a_yank_is_followed(rt: HostRuntime) -> Result<(), Fail> {
     covers_two_cards(&followed.library)
 }
 
-/// A run of `sets` sets, each of which yanks the one before it; the first yanks X.
-fn chain(alloc: Global, sets: u32) -> Result<String, Fail> {
-    let mut text = format!(in alloc; "*IDENT Y1\n*YANK X\n")?;
-    for n in 1..sets {
-        write!(text, "*IDENT Y{}\n*YANK Y{n}\n", n.saturating_add(1))?;
-    }
-    Ok(text)
-}
-
 #[test]
 fn follows_900_yanks_in_a_row(rt: HostRuntime) -> Result<(), Fail> {
     const BEFORE: &[Ask] = &[Ask::Run(DECK_A), Ask::Run("*IDENT X\n*DELETE A.2\n")];
@@ -230,7 +222,7 @@ fn follows_900_yanks_in_a_row(rt: HostRuntime) -> Result<(), Fail> {
     ];
     let mut followed = Followed::new(rt.alloc())?;
     followed.check(BEFORE)?;
-    followed.is_accepted(chain(rt.alloc(), 900)?.as_str())?;
+    followed.is_accepted(yanks_in_a_row(rt.alloc(), 900)?.as_str())?;
     followed.check(AFTER)
 }
 

@@ -1,5 +1,5 @@
 //! Tests of names and lines, of whole runs from their bytes to compile files and listings, of the edits of a library,
-//! statuses and limits, and of command lines over memory.
+//! statuses and limits, of command lines over memory, and of each public call once by its path (`surface`).
 //!
 //! Expected values are worked by hand from `docs/rules.md`, or come from a second implementation, as the files of
 //! `upd_examples` do. Tests stand in crates of their own, since a crate with tests is proved once more with them.
@@ -24,6 +24,12 @@ mod long_runs;
 #[cfg(test)]
 mod purge_runs;
 #[cfg(test)]
+mod surface;
+#[cfg(test)]
+mod surface_desk;
+#[cfg(test)]
 mod texts_read;
+#[cfg(test)]
+mod written_store;
 #[cfg(test)]
 mod yank_runs;

@@ -1,5 +1,5 @@
 //! Each edit of a library and each look at it, called directly.
-use crate::asked_library::{Ask, Asked, Shelf};
+use crate::asked_library::{Ask, Asked, AskedLibrary};
 use std::alloc::Global;
 use std::test::Fail;
 use upd_compile::{Mode, compile_active};
@@ -94,7 +94,7 @@ fn decks_get_cards_and_entries(rt: HostRuntime) -> Result<(), Fail> {
             "CARD A.2\nDECK A\nTEXT ONE\nSTATUS active\nENTRY A on\nENTRY X off taken\n",
         ),
     ];
-    Shelf::new(library).check(ASKED)
+    AskedLibrary::new(library).check(ASKED)
 }
 
 #[test]
@@ -104,7 +104,7 @@ fn copies_are_the_same(rt: HostRuntime) -> Result<(), Fail> {
         (Ask::Deck("A"), BEFORE),
         (Ask::Yanks, "live Y.1 *YANK X\n set X\n"),
     ];
-    Shelf::new(library.copy()?).check(ASKED)
+    AskedLibrary::new(library.copy()?).check(ASKED)
 }
 
 #[test]
@@ -122,7 +122,7 @@ fn purges_take_idents(rt: HostRuntime) -> Result<(), Fail> {
             "1 A deck held\n2 X set purged\n3 Y set held\n4 B deck held\n",
         ),
     ];
-    Shelf::new(library).check(ASKED)
+    AskedLibrary::new(library).check(ASKED)
 }
 
 #[test]
@@ -141,7 +141,7 @@ fn purges_in_one_deck_and_purges_back(rt: HostRuntime) -> Result<(), Fail> {
             "1 A deck held\n2 X set held\n3 Y set purged\n4 B deck purged\n",
         ),
     ];
-    Shelf::new(library).check(ASKED)
+    AskedLibrary::new(library).check(ASKED)
 }
 
 /// A name is that of a held ident, and of a deck or not.

@@ -23,3 +23,5 @@ mod memory_of_streams;
 mod spool_frames;
 #[cfg(test)]
 mod spool_streams;
+#[cfg(test)]
+mod twin_desks;
