@@ -1,6 +1,6 @@
 use Rattle.std.proofs.Common.{◌≡◌, List, length}
 use Rattle.upd_http.specs.Serving.{LeadsThrough, Made}
-use Rattle.upd_http.proofs.connections.serve_on.Given as goal
+use Rattle.upd_http.proofs.connections.serve_each.Given as goal
 
 abbrev pub invariant-connections : goal.invariant-connections
 invariant-connections g l =

@@ -1,5 +1,5 @@
 use Rattle.std.proofs.Common.{◌∷◌, arith}
-use Rattle.upd_http.proofs.connections.serve_on.Goals as goal
+use Rattle.upd_http.proofs.connections.serve_each.Goals as goal
 
 pub connections-preserved : goal.connections-preserved
 connections-preserved g c =
