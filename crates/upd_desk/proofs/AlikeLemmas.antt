@@ -8,7 +8,8 @@ use Rattle.upd_records.specs.Rows.{Rows, Shows, ShowsStates}
 use Rattle.upd_compile.specs.declared.mode.Mode.{Mode}
 use Rattle.upd_row_store.specs.Tables.{is_run, run_at, is_mark_of}
 use Rattle.upd_desk.specs.Arrivals.{ArrivalView, check_arrival}
-use Rattle.upd_desk.specs.Journal.{Alike, Event, Came, Carried, Settled, Heard, Journal, mark, has_key, with_arrival, distinct, made_by, library_after, answered, kept}
+use Rattle.upd_desk.specs.Journal.{Alike, Event, Came, Carried, Settled, Heard, Journal, mark, has_key, with_arrival, distinct}
+use Rattle.upd_desk.specs.Journal.{made_by, library_after, answered, kept}
 use Rattle.upd_desk.specs.Outcomes.{outcome}
 use Rattle.upd_desk.specs.Holding.{Holds, AddsRun}
 use Rattle.upd_desk.proofs.JournalLemmas.{answered_any, heard_new}

@@ -135,7 +135,8 @@ module _ {S : Type 0} {meaning : Ghosts S} where
     leaves = λ honest j hand guards i may. rw (lost_kind f lost) (left_more shows j (Came a) hand i (guards.left i (keeps.crash honest i may)));
   }
 
-  becomes_held : (made : (j : Journal) → IsMade (library_after j)) (mode : Mode) (a : ArrivalView) (old : S) (i : Image) (j : Journal) → IsAsked meaning mode a None old
+  becomes_held : (made : (j : Journal) → IsMade (library_after j)) (mode : Mode) (a : ArrivalView) (old : S) (i : Image) (j : Journal)
+      → IsAsked meaning mode a None old
       → is_open old → HoldsIn shows j (image old) → Becomes shows mode a (image old) i → HoldsIn shows (Came a ∷ j) i
   becomes_held made mode a old i j new is (rows, shown, held) becomes =
       let later = becomes (library_after j) (made j) rows shown held.library held.states in

@@ -77,7 +77,8 @@ takes lines m run sound at =
     (run_goes lines m (here_of run) at.is) at.tells
 
 -- of the whole library
-on_all : (lines : List LineView) (l : LibraryView) (run : AppliedRun) → IsMade l → IsAppliedTo lines l run → (reached : Reached) × IsAppliedRun lines l l reached run
+on_all : (lines : List LineView) (l : LibraryView) (run : AppliedRun) → IsMade l → IsAppliedTo lines l run
+    → (reached : Reached) × IsAppliedRun lines l l reached run
 on_all lines l run made at = (
   here_of run,
   record {

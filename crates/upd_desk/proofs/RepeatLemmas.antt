@@ -12,7 +12,8 @@ use Rattle.upd_compile.specs.declared.mode.Mode.{Mode}
 use Rattle.upd_row_store.specs.Tables.{is_run}
 use Rattle.upd_row_store.proofs.TableLemmas.{is_same_bytes, same_key}
 use Rattle.upd_desk.specs.Arrivals.{ArrivalView, check_arrival, mode_number}
-use Rattle.upd_desk.specs.Journal.{Came, Carried, Settled, Heard, Journal, mark, has_key, with_arrival, distinct, outcome_of, made_by, library_after, run_of, answered}
+use Rattle.upd_desk.specs.Journal.{Came, Carried, Settled, Heard, Journal, mark, has_key, with_arrival, distinct}
+use Rattle.upd_desk.specs.Journal.{outcome_of, made_by, library_after, run_of, answered}
 use Rattle.upd_desk.specs.Journal.{kept, reply_to, answer}
 use Rattle.upd_desk.specs.Outcomes.{ReplyView, outcome}
 use Rattle.upd_desk.proofs.JournalLemmas.{unheard_unadmitted, unheard_settled, unheard_known, heard_new, answered_any}

@@ -32,7 +32,8 @@ work_new : (j : Journal) (a : ArrivalView) (mode : Mode) → check_arrival a ≡
 work_new j a mode passed is = rw (is, passed) refl
 
 -- where no run is heard no card has another status
-none_altered : (j : Journal) (a : ArrivalView) (n : ℕ) → distinct (Came a ∷ j) ≡ distinct j → length (altered (library_after j) (library_after (Came a ∷ j))) ≤ n
+none_altered : (j : Journal) (a : ArrivalView) (n : ℕ) → distinct (Came a ∷ j) ≡ distinct j
+    → length (altered (library_after j) (library_after (Came a ∷ j))) ≤ n
 none_altered j a n same =
     subst (λ (l : LibraryView). length (altered (library_after j) l) ≤ n) (ap made_by (sym same))
     (subst (λ (ks : List CountedCardView). length ks ≤ n) (sym (unaltered (library_after j) (library_made j).sound)) (omega arith))

@@ -1,4 +1,4 @@
--- Each way out of the desk is what is expected to the arrival.
+-- Each way out of the desk is what is expected for the arrival.
 use Rattle.std.proofs.Common.{◌<◌, ◌≤◌, None, Some, Ok, Err, ap, sym, ◌∙◌, subst}
 use Rattle.std.proofs.lemmas.Bool.{false≢true}
 use Rattle.upd_core.specs.Library.{empty}

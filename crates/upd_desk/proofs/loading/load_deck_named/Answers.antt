@@ -27,13 +27,15 @@ returns-in-Ok-load_decks-clause-reads g c honest =
 pub returns-in-Some-clause-reads : goal.returns-in-Some-clause-reads
 returns-in-Some-clause-reads g c honest =
     let before = c.in-Err-load_decks.ensures.leaves.same.honest honest in
-    of_held g.S.Meaning.shows (g.S.Meaning.image c.args.store.now) (c.in-Ok.ensures.leaves.same.was_open before (c.in-Ok.ensures.leaves.opens before)) (λ l made rows shown shows.
+    of_held g.S.Meaning.shows (g.S.Meaning.image c.args.store.now) (c.in-Ok.ensures.leaves.same.was_open before (c.in-Ok.ensures.leaves.opens before))
+    (λ l made rows shown shows.
     let none = none_read _ _ l c.in-Ok.head made.sound (c.in-Ok.ensures.found before l made.sound made.whole rows shown shows) c.in-Ok.ensures.leaves.reads in
     let same = c.in-Err-load_decks.ensures.leaves.reads in
     omega (arith, none, same))
 
 pub returns-clause-reads : goal.returns-clause-reads
 returns-clause-reads g c honest =
-    of_held g.S.Meaning.shows (g.S.Meaning.image c.args.store.now) (c.in-Ok.ensures.leaves.same.was_open honest (c.in-Ok.ensures.leaves.opens honest)) (λ l made rows shown shows.
+    of_held g.S.Meaning.shows (g.S.Meaning.image c.args.store.now) (c.in-Ok.ensures.leaves.same.was_open honest (c.in-Ok.ensures.leaves.opens honest))
+    (λ l made rows shown shows.
     let none = none_read _ _ l c.in-Ok.head made.sound (c.in-Ok.ensures.found honest l made.sound made.whole rows shown shows) c.in-Ok.ensures.leaves.reads in
     omega (arith, none))

@@ -1,4 +1,4 @@
--- Each way out of a settlement is what is expected to it.
+-- Each way out of a settlement is what is expected for it.
 use Rattle.std.proofs.Common.{sym}
 use Rattle.upd_row_store.proofs.StoreLemmas.{keeps_still}
 use Rattle.upd_desk.proofs.SettlesLemmas.{loses_key, loses_settlement, refuses_key, settles_after, tells_mark}

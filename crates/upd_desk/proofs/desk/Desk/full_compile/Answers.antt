@@ -1,4 +1,4 @@
--- What is owed of the active cards that were loaded is owed of the library after each journal that the store holds.
+-- What is expected of the active cards that were loaded is expected of the library after each journal that the store holds.
 use Rattle.std.proofs.Common.{[], Ok, Err, ap, inl}
 use Rattle.upd_compile.specs.File.{compile_file_of, file_of}
 use Rattle.upd_compile.specs.declared.mode.Mode.TheVariants.{Full}

@@ -19,10 +19,12 @@ returns-clause-text g c honest journal held = inl (lost_memory c.in-Err-list_yan
 
 pub returns-in-Ok-list_yanks-clause-reads : goal.returns-in-Ok-list_yanks-clause-reads
 returns-in-Ok-list_yanks-clause-reads g c honest =
-    of_held g.S.Meaning.shows (g.S.Meaning.image c.args.self.now.store) (c.in-Ok.ensures.leaves.same.was_open honest (c.in-Ok.ensures.leaves.opens honest)) (λ l made rows shown shows.
+    of_held g.S.Meaning.shows (g.S.Meaning.image c.args.self.now.store) (c.in-Ok.ensures.leaves.same.was_open honest (c.in-Ok.ensures.leaves.opens honest))
+    (λ l made rows shown shows.
     none_read _ _ l c.in-Ok.head made.sound (c.in-Ok.ensures.found honest l made.sound made.whole rows shown shows) c.in-Ok.ensures.leaves.reads)
 
 pub returns-clause-reads : goal.returns-clause-reads
 returns-clause-reads g c honest =
-    of_held g.S.Meaning.shows (g.S.Meaning.image c.args.self.now.store) (c.in-Ok.ensures.leaves.same.was_open honest (c.in-Ok.ensures.leaves.opens honest)) (λ l made rows shown shows.
+    of_held g.S.Meaning.shows (g.S.Meaning.image c.args.self.now.store) (c.in-Ok.ensures.leaves.same.was_open honest (c.in-Ok.ensures.leaves.opens honest))
+    (λ l made rows shown shows.
     none_read _ _ l c.in-Ok.head made.sound (c.in-Ok.ensures.found honest l made.sound made.whole rows shown shows) c.in-Ok.ensures.leaves.reads)
