@@ -1,11 +1,12 @@
 //! Whole command lines over readers and writers in memory.
+use crate::long_runs::text;
 use std::alloc::Global;
 use std::io;
 use std::io::{ErrorKind, Read};
 use std::test::Fail;
 use upd_cli::{report_words, run_command, trial};
 use upd_compile::Mode;
-use upd_testkit::check::same;
+use upd_testkit::check::{same, same_text};
 use upd_testkit::fake_streams::{Endless, Narrow, Pieces};
 
 /// What a command line answered: its exit status, its output, and what it said on the fault stream.
@@ -33,8 +34,8 @@ fn run_words(rt: &HostRuntime, words: &[&str], mut run: &[u8]) -> Answer {
 /// A command line has this status, output and text on the fault stream.
 fn has_answer(found: &Answer, status: u8, output: &[u8], faults: &[u8]) -> Result<(), Fail> {
     same("the status", &found.status, &status)?;
-    same("the output", found.output.as_slice(), output)?;
-    same("the faults", found.faults.as_slice(), faults)
+    same_text("the output", text(&found.output)?, text(output)?)?;
+    same_text("the faults", text(&found.faults)?, text(faults)?)
 }
 
 const INSERTION: &str = "*DECK A\nONE\nTWO\nTHREE\n*IDENT X\n*INSERT A.2\nNEW\n";
@@ -197,10 +198,10 @@ Arguments:
 Options:
   -h, --help  Print help
 
-Reads a run of at most 65536 bytes, and writes the compile file in lines of 97 bytes. Keeps nothing.
+Reads a run of at most 65536 bytes and writes the compile file, in lines of 97 bytes. Stores nothing.
 
-Exit status: 0 done, 1 the run is refused, 2 no command line, 3 want of memory or a failed read or
-write. What is refused or failed is one line on standard error.
+Exit status: 0 done; 1 the run is refused; 2 the command line can't be read; 3 out of memory, or a
+read or a write failed. The fault is one line on standard error.
 
 Example:
   printf '*DECK A\\nONE\\n' | upd trial full
@@ -221,17 +222,18 @@ fn words_that_ask_for_a_text_get_it_on_the_output(rt: HostRuntime) -> Result<(),
         (&["upd", "trial", "--help"], "", 0, TRIAL_HELP, ""),
     ];
     check(&rt, CASES)?;
-    let front = "The desk of a program library\n\nUsage: upd <COMMAND>\n";
+    let front =
+        "Keeps a library of program source in a file, and changes it by runs from many sites\n";
     writes(&rt, &["upd", "--help"], front)
 }
 
 /// The words of each command that ask for its help, and how that begins.
 const ABOUT: &[(&[&str], &str)] = &[
     (&["upd", "init", "--help"], "Makes an empty library"),
-    (&["upd", "run", "--help"], "Hands in the run on standard"),
+    (&["upd", "run", "--help"], "Sends the run on standard input"),
     (&["upd", "settle", "--help"], "Settles a site's runs"),
-    (&["upd", "spool", "--help"], "Hands in the runs of a spool"),
-    (&["upd", "serve", "--help"], "Serves so many HTTP"),
+    (&["upd", "spool", "--help"], "Sends the runs of a spool"),
+    (&["upd", "serve", "--help"], "Serves COUNT HTTP connections"),
     (&["upd", "compile", "--help"], "Writes the compile file"),
     (&["upd", "list", "--help"], "Lists the cards of a deck"),
     (
@@ -240,7 +242,10 @@ const ABOUT: &[(&[&str], &str)] = &[
     ),
     (&["upd", "idents", "--help"], "Lists all decks and"),
     (&["upd", "yanks", "--help"], "Lists the yank cards"),
-    (&["upd", "migrate", "--help"], "Brings the file of an older"),
+    (
+        &["upd", "migrate", "--help"],
+        "Migrates the file of an older",
+    ),
 ];
 
 #[test]
