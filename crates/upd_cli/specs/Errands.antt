@@ -1,4 +1,4 @@
--- What commands do at a desk: what they ask, what the desk answers, and how that is told.
+-- What commands do at a desk: what they ask, what the desk answers, and how that is reported.
 use Rattle.std.specs.Prelude.{◌≡◌, ◌⊎◌, ℕ, List, [], Option, Result, Ok, IsErrAnd}
 use Rattle.std.specs.Io.KnownBytes.{Appends}
 use Rattle.std.specs.Result.{result_map_both}

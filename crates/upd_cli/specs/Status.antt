@@ -22,7 +22,7 @@ fault_line fault =
 abbrev pub no_words_line : List ℕ
 no_words_line = codes "error: the words of the command line can't be read as text\n"
 
--- want of memory, and reads and writes that failed
+-- out of memory, and reads and writes that failed
 abbrev pub no_memory : Fault
 no_memory = record { kind = NoMemory; at = 0 }
 

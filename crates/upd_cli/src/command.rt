@@ -43,7 +43,7 @@ pub fn run_command<S: AsStr, R: Read, W: Write, E: Write>(
     ensures told { CarriesOut (map S.text words.entry.now) result (R.remaining input.old) (R.remaining input.new)
         (W.contents output.old) (W.contents output.new) (E.contents faults.old) (E.contents faults.new) }
     ensures unread { word_faults (map S.text words.entry.now) ≢ [] → IsToldOf (map S.text words.entry.now) result }
-    // Of a run that is too long, no more is read than tells so.
+    // Of a run that is too long, only one byte over the limit is read.
     ensures front { command_word (map S.text words.entry.now) ≢ codes "spool"
         → TakesFront (MAX_RUN_BYTES + 1) (R.remaining input.old) (R.remaining input.new) }
     ensures waits { ¬ ReadsInput (map S.text words.entry.now) → input.new ≡ input.old }
@@ -74,7 +74,7 @@ pub fn run_command<S: AsStr, R: Read, W: Write, E: Write>(
     }
 }
 
-/// The exit status where the words of the command line could not be had: 3 for want of memory, and else 2. A line on
+/// The exit status where the words of the command line could not be read: 3 if out of memory, else 2. A line on
 /// `faults` says so.
 pub fn report_words<E: Write>(error: &io::Error, faults: &mut E) -> u8
     ensures memory { error_kind error.now ≡ ErrorKind.OutOfMemory
@@ -126,7 +126,7 @@ fn carry_out_library<R: Read, W: Write, E: Write>(
     }
 }
 
-/// `serve`: an address or a count that is none is a command line that isn't read.
+/// `serve`: an address or a count that is not valid is a mistake in the command line.
 fn carry_out_serving<E: Write>(
     rt: &HostRuntime,
     file: &str,

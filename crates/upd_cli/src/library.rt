@@ -138,7 +138,7 @@ fn spool_on<R: Read, W: Write>(
     }
 }
 
-/// Serves so many connections at an address, which is bound once the file is open. Read, at 0, where it can't be bound.
+/// Serves `count` connections at an address, which is bound once the file is open. Read, at 0, where it can't be bound.
 pub(crate) fn serve(
     rt: &HostRuntime,
     file: &str,

@@ -139,7 +139,7 @@ fn operand<'a>(alloc: Global, name: &'a str, help: &'a str) -> Arg<'a>
         .help(help)
 }
 
-/// Reads the words of a command line, the program's own name first. Its one error is want of memory.
+/// Reads the words of a command line, the program's own name first. Its only error is out of memory.
 pub(crate) fn read_words<'a, S: AsStr>(alloc: Global, words: &'a [S]) -> Result<Request<'a>, Fault>
     ensures ok { IfOk result (IsAskedFor (map S.text words.entry.now)) }
     ensures err { IfErr result (λ fault. fault ≡ no_memory) }

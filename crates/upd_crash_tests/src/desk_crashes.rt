@@ -17,7 +17,7 @@ type FileStored = SqlStore<FileStore<Fused>>;
 
 const SITES: [&str; 1] = ["LYON"];
 
-/// The library in the files; a new one if there is none.
+/// The library in the files; a new one if there is no library in them.
 fn library_in(alloc: Global, files: Files<Fused>) -> Result<FileStored, Files<Fused>> {
     let conn = opened(alloc, files)?;
     match SqlStore::adopt(conn) {

@@ -1,4 +1,4 @@
--- How an answer of the desk is told: by a line, or by nothing where the arrival was lost.
+-- How an answer of the desk is written: as a line, or by nothing where the arrival was lost.
 use Rattle.std.specs.Prelude.{◌≡◌, ◌⊎◌, ℕ, Bool, true, false, not, List, [], ◌∷◌, ◌++◌, Result, Ok, Err}
 use Rattle.upd_text.specs.Faults.{fault_at}
 use Rattle.upd_text.specs.declared.fault.Fault.{Fault}

@@ -74,7 +74,7 @@ after_all journal [] results = journal
 after_all journal (a ∷ later) [] = journal
 after_all journal (a ∷ later) (result ∷ results) = after_all (after journal a result) later results
 
--- how many cards the last arrival that got a reply has looked at, where it was so many before
+-- the number of cards that the last arrival with a reply examined, given that number before
 abbrev pub work_after : ℕ → Journal → ArrivalView → Result ReplyView Fault → ℕ
 work_after work journal a (Ok reply) = work_of journal a
 work_after work journal a (Err fault) = work

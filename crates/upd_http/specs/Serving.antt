@@ -95,7 +95,7 @@ module _ {S : Type 0} (meaning : Ghosts S) where
 abbrev pub IsFailed : Result Response Fault → Type 0
 IsFailed answer = (answer ≡ Ok (fault_response no_memory)) ⊎ ((answer ≡ Err no_memory) ⊎ (answer ≡ Err read_failed))
 
--- The answer to a request, or the fault that says why there is none: a refused request asks nothing of the desk, and another one asks what
+-- The answer to a request, or the fault that says why there is no answer: a refused request asks nothing of the desk, and another one asks what
 -- it says and is answered what the desk returned.
 abbrev pub AnswersRequest : List ℕ → Made → Result Response Fault → Type 0
 AnswersRequest input made answer =

@@ -56,7 +56,7 @@ impl Model for ListTables {
 }
 
 impl ListTables {
-    /// Tables with no rows: they show the empty library, and keep no run. It takes no memory.
+    /// Tables with no rows: they show the empty library, and keep no run. It does not allocate.
     pub fn new(alloc: Global) -> ListTables
         ensures { result ≡ record {
           idents = [];

@@ -1,6 +1,6 @@
 //! Tests of whole command lines on a library in a file, which is made in the folder of temporary files.
 //!
-//! Expected values are worked by hand from `docs/rules.md`.
+//! Expected values are worked by hand from `docs/protocol.md`.
 #![tactic(auto)]
 
 #[cfg(test)]

@@ -58,7 +58,7 @@ impl<S: Start> SqlStore<FileStore<FileFrom<S>>> {
     }
 }
 
-/// Makes an empty library in a file, and the file where there is none. Where the file has any table the fault is Store,
+/// Makes an empty library in a file, and the file where it doesn't exist. Where the file has any table the fault is Store,
 /// at the version in the file, 0 where it has none, and no byte of it is changed. An empty file, or one in which this
 /// call was cut off, counts as no file. Out of memory is NoMemory at 0.
 pub fn create<S: Start>(rt: &HostRuntime, path: &str, start: S) -> Result<FileLibrary<S>, Fault>

@@ -2,7 +2,7 @@
 //! connections, and desks that are refused memory.
 //!
 //! Those of `memory_of_desks` and `memory_of_streams` hold wherever one request for memory is refused: `bench/memory.py`
-//! refuses each in turn. Expected values are worked by hand from `docs/rules.md`.
+//! refuses each in turn. Expected values are worked by hand from `docs/protocol.md`.
 #![tactic(auto)]
 
 #[cfg(test)]
