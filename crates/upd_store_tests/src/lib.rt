@@ -2,7 +2,8 @@
 //! rows are read again by another connection. Those of `times` make libraries as large as one may be, and
 //! `bench/store.py` times them.
 //!
-//! Expected values are worked by hand from `docs/rules.md` and `docs/protocol.md`, or come from the library that the store follows.
+//! Expected values are worked by hand from `docs/rules.md` and `docs/protocol.md`, or come from the library that the
+//! store follows.
 #![tactic(auto)]
 
 #[cfg(test)]
