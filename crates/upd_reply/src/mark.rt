@@ -11,6 +11,7 @@ pub const SETTLED_ROOM: usize = 64;
 /// The text of a site's mark in parts, so that it can be written without allocating. The site is in it as it is.
 pub fn settled_parts<'a>(site: &'a str, mark: u64, digits: &'a mut Buffer) -> [&'a [u8]; 5]
     ensures text { flat_map (λ part. part.now) result ≡ settled_bytes site.entry.now mark }
+    ensures count { length result ≡ 5 }
     ensures short { length (settled_bytes site.entry.now mark) ≤ length site.entry.now + SETTLED_ROOM }
 {
     [
