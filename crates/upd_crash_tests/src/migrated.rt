@@ -138,7 +138,8 @@ fn a_file_of_the_first_schema_is_migrated(rt: HostRuntime) -> Result<(), Fail> {
     let mut desk = desk_over(alloc, Older::First)?;
     let run = (7, "quick", "*IDENT V\n*DELETE Y.1\n");
     let reply =
-        "{\"compile\":\"\",\"idents\":[\"V\"],\"lines\":0,\"mode\":\"quick\",\"run\":7,\"site\":\"LYON\",\"state\":\"accepted\"}";
+        "{\"compile\":\"\",\"idents\":[\"V\"],\"lines\":0,\"mode\":\"quick\",\"run\":7,\"site\":\"LYON\",\
+\"state\":\"accepted\"}";
     arrives(alloc, &mut desk, run, reply)?;
     let yanks = "dead Y.1 *YANK X\n set X\ndead Z.1 *YANK Y\n set Y\n";
     lists_yanks(alloc, &mut desk, yanks)?;

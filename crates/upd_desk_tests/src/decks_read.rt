@@ -79,8 +79,8 @@ fn reads_the_decks_that_random_runs_need(rt: HostRuntime) -> Result<(), Fail> {
     holds(("decks read", read), read > 1_000)
 }
 
-/// Runs of LYON on decks A and B, and the number of decks that are read for each: those of the cards that it names, both
-/// if it yanks, purges or names a yank card, and none if it isn't read.
+/// Runs of LYON on decks A and B, and the number of decks that are read for each: those of the cards that it names,
+/// both if it yanks, purges or names a yank card, and none if it isn't read.
 const NEEDS: [(u64, &str, u64); 13] = [
     (1, DECK_A, 0),
     (2, "*DECK B\nBEE\n*IDENT X\n*INSERT A.2\nNEW\n", 1),
@@ -129,8 +129,8 @@ fn a_listing_of_a_deck_or_a_card_reads_one_deck(rt: HostRuntime) -> Result<(), F
     Ok(())
 }
 
-/// Deck A has three lines and deck B one. Set X is refused four times, and then inserts a card after the first one of A.
-/// The number of decks that are read for each.
+/// Deck A has three lines and deck B one. Set X is refused four times, and then inserts a card after the first one of
+/// A. The number of decks that are read for each.
 const RANGES: [(u64, &str, u64); 7] = [
     (1, DECK_A, 0),
     (2, "*DECK B\nBEE\n", 0),

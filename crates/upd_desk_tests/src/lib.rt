@@ -1,5 +1,5 @@
-//! Tests of the desk over lists and over SQLite: worked lists of runs, random lists beside the reference desk, the decks
-//! that it reads, row changes, and status updates at the limits of a library.
+//! Tests of the desk over lists and over SQLite: worked lists of runs, random lists beside the reference desk, the
+//! decks that it reads, row changes, and status updates at the limits of a library.
 //!
 //! Expected values are worked by hand from `docs/rules.md` and `docs/protocol.md`, or come from the reference desk.
 #![tactic(auto)]

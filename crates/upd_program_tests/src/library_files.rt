@@ -18,37 +18,40 @@ fn without_log(rt: &HostRuntime, file: &str) -> Result<(), Fail> {
 }
 
 /// The listing of the idents once the log is removed.
-fn lists_alone(rt: &HostRuntime, file: &str, idents: &str) -> Result<(), Fail> {
+fn lists_without_log(rt: &HostRuntime, file: &str, idents: &str) -> Result<(), Fail> {
     without_log(rt, file)?;
     answers(rt, &["idents", file], b"", (0, idents, ""))
 }
 
 #[test]
-fn the_file_alone_is_the_library(rt: HostRuntime) -> Result<(), Fail> {
+fn the_file_without_its_log_is_the_library(rt: HostRuntime) -> Result<(), Fail> {
     let file = library(&rt, "alone")?;
-    lists_alone(&rt, &file, "")?;
+    lists_without_log(&rt, &file, "")?;
     accepts(&rt, &file, "1", "full", b"*DECK A\nONE\n")?;
-    lists_alone(&rt, &file, ONE_DECK)?;
+    lists_without_log(&rt, &file, ONE_DECK)?;
     make_second(&rt, &file)?;
     answers(&rt, &["migrate", &file], b"", (0, "", ""))?;
-    lists_alone(&rt, &file, ONE_DECK)?;
+    lists_without_log(&rt, &file, ONE_DECK)?;
     remove(&rt, &file)
 }
 
 const REPLY: &str =
-    "{\"compile\":\"\",\"idents\":[\"A\"],\"lines\":0,\"mode\":\"quick\",\"run\":1,\"site\":\"LYON\",\"state\":\"accepted\"}\n";
+    "{\"compile\":\"\",\"idents\":[\"A\"],\"lines\":0,\"mode\":\"quick\",\"run\":1,\"site\":\"LYON\",\
+\"state\":\"accepted\"}\n";
 
 #[test]
-fn the_file_alone_has_the_runs_of_a_spool(rt: HostRuntime) -> Result<(), Fail> {
+fn the_file_without_its_log_has_the_runs_of_a_spool(rt: HostRuntime) -> Result<(), Fail> {
     let file = library(&rt, "spooled")?;
     let frame = b"RUN LYON 1 quick 12\n*DECK A\nONE\n\n";
     answers(&rt, &["spool", &file], frame, (0, REPLY, ""))?;
-    lists_alone(&rt, &file, ONE_DECK)?;
+    lists_without_log(&rt, &file, ONE_DECK)?;
     remove(&rt, &file)
 }
 
 #[test]
-fn the_file_alone_has_the_runs_before_the_cut_of_a_spool(rt: HostRuntime) -> Result<(), Fail> {
+fn the_file_without_its_log_has_the_runs_before_the_cut_of_a_spool(
+    rt: HostRuntime,
+) -> Result<(), Fail> {
     let file = library(&rt, "cut")?;
     let frames = b"RUN LYON 1 quick 12\n*DECK A\nONE\n\nRUN";
     answers(
@@ -57,12 +60,12 @@ fn the_file_alone_has_the_runs_before_the_cut_of_a_spool(rt: HostRuntime) -> Res
         frames,
         (1, REPLY, "upd: CutFrame (31) at 2\n"),
     )?;
-    lists_alone(&rt, &file, ONE_DECK)?;
+    lists_without_log(&rt, &file, ONE_DECK)?;
     remove(&rt, &file)
 }
 
 #[test]
-fn the_file_alone_has_a_mark(rt: HostRuntime) -> Result<(), Fail> {
+fn the_file_without_its_log_has_a_mark(rt: HostRuntime) -> Result<(), Fail> {
     let file = library(&rt, "mark")?;
     let mark = "{\"settled\":1,\"site\":\"LYON\"}\n";
     answers(&rt, &["settle", &file, "LYON", "1"], b"", (0, mark, ""))?;

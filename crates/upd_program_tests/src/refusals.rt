@@ -178,11 +178,13 @@ fn a_query_of_an_unknown_name_is_refused(rt: HostRuntime) -> Result<(), Fail> {
 const UNREAD: &[(&[&str], &str)] = &[
     (
         &["localhost", "1"],
-        "error: invalid value 'localhost' for '<ADDRESS>': no IP address and port\n\nFor more information, try '--help'.\n",
+        "error: invalid value 'localhost' for '<ADDRESS>': no IP address and port\n\n\
+For more information, try '--help'.\n",
     ),
     (
         &["localhost", "0"],
-        "error: invalid value 'localhost' for '<ADDRESS>': no IP address and port\n\nFor more information, try '--help'.\n",
+        "error: invalid value 'localhost' for '<ADDRESS>': no IP address and port\n\n\
+For more information, try '--help'.\n",
     ),
     (
         &["127.0.0.1:0", "0"],

@@ -7,7 +7,8 @@ use upd_store::file::connect;
 const DECK: &[u8] = b"*DECK A\nONE\nTWO\nTHREE\n";
 
 const EMPTY_REPLY: &str =
-    "{\"compile\":\"\",\"idents\":[],\"lines\":0,\"mode\":\"quick\",\"run\":1,\"site\":\"LYON\",\"state\":\"accepted\"}\n";
+    "{\"compile\":\"\",\"idents\":[],\"lines\":0,\"mode\":\"quick\",\"run\":1,\"site\":\"LYON\",\
+\"state\":\"accepted\"}\n";
 
 #[test]
 fn a_library_is_made_once(rt: HostRuntime) -> Result<(), Fail> {
@@ -47,7 +48,8 @@ fn a_run_acts_once(rt: HostRuntime) -> Result<(), Fail> {
 fn a_refusal_is_repeated(rt: HostRuntime) -> Result<(), Fail> {
     let file = library(&rt, "refused")?;
     let wanted =
-        "{\"at\":1,\"fault\":9,\"mode\":\"full\",\"name\":\"TextNowhere\",\"run\":2,\"site\":\"LYON\",\"state\":\"refused\"}\n";
+        "{\"at\":1,\"fault\":9,\"mode\":\"full\",\"name\":\"TextNowhere\",\"run\":2,\"site\":\"LYON\",\
+\"state\":\"refused\"}\n";
     for _ in 0..2 {
         answers(
             &rt,

@@ -34,7 +34,7 @@ impl Follower {
         })
     }
 
-    /// Applies a run, and commits its changes where it is accepted: whether it was.
+    /// Applies a run, and commits its changes if it is accepted: whether it was.
     pub fn run<S: RowStore>(&mut self, store: &mut S, text: &str) -> Result<bool, Fail> {
         let alloc = self.alloc;
         let run = read_run(alloc, text.as_bytes())?;

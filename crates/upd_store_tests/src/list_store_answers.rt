@@ -25,7 +25,8 @@ fn followed<S: RowStore>(alloc: Global, store: &mut S, runs: &[&str]) -> Result<
     Ok(follower)
 }
 
-/// The numbers of idents, decks, cards of deck 1 and of deck 2 of a load of decks, and of the cards and entries of the rest.
+/// The numbers of idents, decks, cards of deck 1 and of deck 2 that a load of decks has, and of cards and entries of
+/// the rest.
 fn sizes<S: RowStore>(alloc: Global, store: &mut S, decks: &[u32]) -> Result<[usize; 6], Fail> {
     let part = store.load_decks(alloc, decks)?;
     let rest = part.rest();

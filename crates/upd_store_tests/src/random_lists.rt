@@ -6,7 +6,8 @@ use upd_list_store::ListStore;
 use upd_testkit::check::holds;
 use upd_testkit::random_runs::{DECKS, Dice, random_run};
 
-/// A list of runs, followed by a store of its own: the number of accepted runs. Some purge a deck and introduce it again.
+/// A list of runs, followed by a store of its own: the number of accepted runs. Some purge a deck and introduce it
+/// again.
 fn random_runs(alloc: Global, dice: &mut Dice) -> Result<u32, Fail> {
     let mut store = ListStore::new(alloc);
     let mut follower = Follower::new(alloc)?;

@@ -141,7 +141,7 @@ fn is_unsettled(alloc: Global, store: &mut Library) -> Result<(), Fail> {
 }
 
 /// The run of this number is stored.
-fn keeps(alloc: Global, store: &mut Library, number: u64) -> Result<(), Fail> {
+fn stores(alloc: Global, store: &mut Library, number: u64) -> Result<(), Fail> {
     let run = store.kept_run(alloc, "LYON", number)?;
     holds(number, run.is_some())
 }
@@ -152,7 +152,7 @@ fn keeps_50000_cards(rt: HostRuntime) -> Result<(), Fail> {
     let alloc = rt.alloc();
     let mut store = with_50000_cards(alloc)?;
     is_unsettled(alloc, &mut store)?;
-    keeps(alloc, &mut store, 25)
+    stores(alloc, &mut store, 25)
 }
 
 /// The numbers of decks and of their cards.
@@ -211,7 +211,7 @@ fn with_500_cards(alloc: Global) -> Result<Library, Fail> {
 fn keeps_500_cards(rt: HostRuntime) -> Result<(), Fail> {
     let alloc = rt.alloc();
     let mut store = with_500_cards(alloc)?;
-    keeps(alloc, &mut store, 1)
+    stores(alloc, &mut store, 1)
 }
 
 /// Commits 50 changes, as the run of this number.
@@ -228,7 +228,7 @@ fn commits_50_changes_200_times(rt: HostRuntime) -> Result<(), Fail> {
     for age in 2..202 {
         commit_50(alloc, &mut store, age)?;
     }
-    keeps(alloc, &mut store, 201)
+    stores(alloc, &mut store, 201)
 }
 
 /// Opens files, asks the library in them for a mark and closes it.
@@ -274,7 +274,7 @@ fn with_100000_runs(alloc: Global) -> Result<Library, Fail> {
 fn keeps_100000_runs(rt: HostRuntime) -> Result<(), Fail> {
     let alloc = rt.alloc();
     let mut store = with_100000_runs(alloc)?;
-    keeps(alloc, &mut store, 100_000)
+    stores(alloc, &mut store, 100_000)
 }
 
 #[test]
@@ -282,7 +282,7 @@ fn finds_each_of_100000_runs(rt: HostRuntime) -> Result<(), Fail> {
     let alloc = rt.alloc();
     let mut store = with_100000_runs(alloc)?;
     for number in 1..100_001 {
-        keeps(alloc, &mut store, number)?;
+        stores(alloc, &mut store, number)?;
     }
     Ok(())
 }

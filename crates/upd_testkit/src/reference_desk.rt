@@ -286,7 +286,7 @@ fn add_escaped(text: &mut String, bytes: &[u8]) -> Result<(), Fault> {
     Ok(())
 }
 
-/// The escape of a byte in a text of JSON, where it has one.
+/// The escape of a byte in a text of JSON, if it has one.
 fn escape(byte: u8) -> Option<&'static str> {
     match byte {
         b'"' => Some("\\\""),
@@ -305,7 +305,8 @@ fn refused_text(alloc: Global, sent: Sent<'_>, fault: Fault) -> Result<String, F
         ..
     } = sent;
     Ok(format!(in alloc;
-        "{{\"at\":{},\"fault\":{},\"mode\":\"{mode}\",\"name\":\"{}\",\"run\":{number},\"site\":\"{site}\",\"state\":\"refused\"}}",
+        "{{\"at\":{},\"fault\":{},\"mode\":\"{mode}\",\"name\":\"{}\",\"run\":{number},\"site\":\"{site}\",\
+\"state\":\"refused\"}}",
         fault.at,
         fault.kind.number(),
         fault.kind.name()

@@ -13,7 +13,8 @@ pub fn refused(alloc: Global, sent: Sent<'_>, fault: &str) -> Result<String, Fai
     let Sent { site, mode, .. } = sent;
     let run = sent.number;
     Ok(format!(in alloc;
-        "{{\"at\":{at},\"fault\":{number},\"mode\":\"{mode}\",\"name\":\"{name}\",\"run\":{run},\"site\":\"{site}\",\"state\":\"refused\"}}"
+        "{{\"at\":{at},\"fault\":{number},\"mode\":\"{mode}\",\"name\":\"{name}\",\"run\":{run},\
+\"site\":\"{site}\",\"state\":\"refused\"}}"
     )?)
 }
 

@@ -61,7 +61,7 @@ impl AskedLibrary {
         AskedLibrary { library }
     }
 
-    /// Asks one after the other, and compares each answer with the one that is wanted.
+    /// Asks one after the other, and compares each answer with the expected one.
     pub fn check(&mut self, asked: &[(Ask<'_>, &str)]) -> Result<(), Fail> {
         for (ask, wanted) in asked {
             let answer = self.answer(*ask)?;

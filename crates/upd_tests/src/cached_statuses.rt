@@ -47,7 +47,7 @@ impl Followed {
         self.library.allocator()
     }
 
-    /// Asks one after the other, and compares each answer with the one that is wanted.
+    /// Asks one after the other, and compares each answer with the expected one.
     fn check(&mut self, asked: &[Ask]) -> Result<(), Fail> {
         for ask in asked {
             self.answers(*ask)?;

@@ -2,7 +2,7 @@
 //! statuses and limits, of command lines over memory, and of each public call once by its path (`surface`).
 //!
 //! Expected values are worked by hand from `docs/rules.md`, or come from a second implementation, as the files of
-//! `upd_examples` do. Tests stand in crates of their own, since a crate with tests is proved once more with them.
+//! `upd_examples` do. Tests are in crates of their own, since a crate with tests is proved once more with them.
 #![tactic(auto)]
 
 #[cfg(test)]

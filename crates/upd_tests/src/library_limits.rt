@@ -40,7 +40,7 @@ fn take_2000_cards(asked: &mut AskedLibrary, deck: &str) -> Result<(), Fail> {
     asked.check(&[(Ask::Long(&parts), "accepted")])
 }
 
-/// Brings 50,000 cards in the decks DECK0 to DECK24.
+/// 50,000 cards in the decks DECK0 to DECK24.
 fn with_50000_cards(alloc: Global) -> Result<AskedLibrary, Fail> {
     let mut asked = AskedLibrary::new(Library::new(alloc));
     for n in 0..25 {

@@ -127,7 +127,7 @@ fn free_path(rt: &HostRuntime) -> Result<String, Fail> {
     Ok(String::from_str(rt.alloc(), path.as_str())?)
 }
 
-/// No library is opened where there is no file, and none is made.
+/// No library is opened at a path without a file, and none is made.
 #[test]
 fn a_missing_file_is_not_opened(rt: HostRuntime) -> Result<(), Fail> {
     let path = free_path(&rt)?;

@@ -8,7 +8,7 @@ use upd_core::{Actives, CardRef, Change, Fault, Library, Serial, States};
 use upd_row_store::Meaning;
 use upd_rows::{ListStore, RowStore, RunRow};
 
-/// Lists behind the calls of a store.
+/// A store whose calls pass on to lists.
 #[derive(Drop)]
 pub struct WrittenStore {
     lists: ListStore,

@@ -1,8 +1,8 @@
-//! Tests of spools and of HTTP: worked input and its answers, input that is cut or garbled, readers and writers that fail,
-//! connections, and desks that are refused memory.
+//! Tests of spools and of HTTP: worked input and its answers, input that is cut or garbled, readers and writers that
+//! fail, connections, and desks that are refused memory.
 //!
-//! Those of `memory_of_desks` and `memory_of_streams` hold wherever one request for memory is refused: `bench/memory.py`
-//! refuses each in turn. Expected values are worked by hand from `docs/protocol.md`.
+//! Those of `memory_of_desks` and `memory_of_streams` hold wherever one request for memory is refused:
+//! `bench/memory.py` refuses each in turn. Expected values are worked by hand from `docs/rules.md`.
 #![tactic(auto)]
 
 #[cfg(test)]

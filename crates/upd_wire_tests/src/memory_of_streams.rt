@@ -131,7 +131,7 @@ fn answered(alloc: Global, store: ListStore, request: &str) -> Result<(ListStore
     Ok((desk.close(), output.taken))
 }
 
-/// What is written for a request. Where it is refused memory, the run of number 1 is known as before, and the request
+/// What is written for a request. If it is refused memory, the run of number 1 is known as before, and the request
 /// comes again.
 fn answered_again(
     alloc: Global,
