@@ -1,5 +1,5 @@
 -- What holds of every library that runs can reach, and of every state on the way.
-use Rattle.std.specs.Prelude.{◌≡◌, ℕ, ◌+◌, ◌<◌, ◌≤◌, ◌==◌, ◌⊎◌, IsTrue, List, [], ◌∷◌, length, count_by, Option, Some, None, Result, Ok, Err}
+use Rattle.std.specs.Prelude.{◌≡◌, ℕ, ◌+◌, ◌<◌, ◌≤◌, ◌==◌, ◌⊎◌, IsTrue, List, [], ◌∷◌, length, count_by, Option, Some, None, is_some, Result, Ok, Err}
 use Rattle.std.specs.Option.{IfSome}
 use Rattle.std.specs.List.{AllByRecursion}
 use Rattle.upd_text.specs.declared.fault.Fault.{Fault}
@@ -41,11 +41,16 @@ pub record IsAtEnd (d n : ℕ) (current_set : Option CurrentSet) (l : LibraryVie
   pub next : IsNext d n l
   pub other : IfSome current_set (λ h. h.ident ≡ d → ⊥)
 
--- Text inside a deck never goes before its first card.
+-- Text inside a deck never goes before its first card, and has a set in hand that it is added by.
+pub record IsInside (d after : ℕ) (current_set : Option CurrentSet) (l : LibraryView) : Type 0 where
+  pub in_hand : IsTrue (is_some current_set)
+  pub within : (d ≡ 0) ⊎ (after < length (cards_of d l))
+
+-- the place of text, if there is one
 abbrev pub IsSpotSound : InsertPoint → Option CurrentSet → LibraryView → Type 0
 IsSpotSound Nowhere current_set l = Unit {0}
 IsSpotSound (End d next) current_set l = IsAtEnd d next current_set l
-IsSpotSound (Inside d behind) current_set l = (d ≡ 0) ⊎ (behind < length (cards_of d l))
+IsSpotSound (Inside d after) current_set l = IsInside d after current_set l
 
 -- what holds of a state on the way of a run
 pub record IsSoundState (s : State) : Type 0 where
