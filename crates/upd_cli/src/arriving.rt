@@ -16,8 +16,8 @@ use upd_reply::settled_parts;
 use upd_row_store::RowStore;
 use upd_text::Fault;
 
-/// The run on the input arrives, and its reply goes to the output as a line. So does the text of a fault, except NoMemory
-/// and Store. Nothing is allocated between the reply and its output.
+/// The run on the input arrives, and its reply goes to the output as a line. So does the text of a fault, except
+/// NoMemory and Store. Nothing is allocated between the reply and its output.
 pub(crate) fn hand_in<S: RowStore, R: Read, W: Write>(
     alloc: Global,
     desk: &mut Desk<S>,
@@ -73,8 +73,8 @@ fn write_line<W: Write>(output: &mut W, text: &[u8], status: u8) -> Result<u8, F
     }
 }
 
-/// Settles a site's runs up to a number, and the site's mark goes to the output as a line. Nothing is allocated after the
-/// settlement.
+/// Settles a site's runs up to a number, and the site's mark goes to the output as a line. Nothing is allocated after
+/// the settlement.
 pub(crate) fn settle<S: RowStore, W: Write>(
     alloc: Global,
     desk: &mut Desk<S>,

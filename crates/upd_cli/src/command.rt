@@ -74,8 +74,8 @@ pub fn run_command<S: AsStr, R: Read, W: Write, E: Write>(
     }
 }
 
-/// The exit status where the words of the command line are not available: 3 out of memory, and else 2. A line on `faults`
-/// says so.
+/// The exit status where the words of the command line are not available: 3 out of memory, and else 2. A line on
+/// `faults` says so.
 pub fn report_words<E: Write>(error: &io::Error, faults: &mut E) -> u8
     ensures memory { error_kind error.now ≡ ErrorKind.OutOfMemory
         → IsTold 3 (fault_line no_memory) result (E.contents faults.old) (E.contents faults.new) }

@@ -226,8 +226,8 @@ fn told<'a>(alloc: Global, error: &Error) -> Result<Request<'a>, Fault>
     }
 }
 
-/// `trial` and a word that does not begin with a hyphen are a command line, whatever the program is called, and the word
-/// is the mode.
+/// `trial` and a word that does not begin with a hyphen are a command line, whatever the program is called, and the
+/// word is the mode.
 pub fn trial_is_read()
     ensures read { (name mode : Text) → IsPlain mode → word_faults (name ∷ codes "trial" ∷ mode ∷ []) ≡ [] }
     ensures asks { (name mode : Text) → IsPlain mode → command_word (name ∷ codes "trial" ∷ mode ∷ []) ≡ codes "trial" }

@@ -1,6 +1,7 @@
 //! Answers, and the bytes of their heads.
 
-ghost use Rattle.std.specs.Prelude.{◌≡◌, ◌≤◌, ◌⊎◌, ◌+◌, ◌++◌, [], Err, IfErr, IfOk, Ok, length, option_map, vec_capacity, vec_len};
+ghost use Rattle.std.specs.Prelude.{◌≡◌, ◌≤◌, ◌⊎◌, ◌+◌, ◌++◌, [], Err, IfErr, IfOk, Ok, length};
+ghost use Rattle.std.specs.Prelude.{option_map, vec_capacity, vec_len};
 ghost use Rattle.std.specs.List.{flat_map};
 ghost use Rattle.upd_desk.specs.Outcomes.{ReplyView};
 ghost use Rattle.upd_request.specs.Routes.{method_of};

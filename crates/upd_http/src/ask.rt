@@ -19,8 +19,8 @@ use upd_request::DeskCall;
 use upd_row_store::RowStore;
 use upd_text::Fault;
 
-/// Asks the desk, and makes its answer. The only error is NoMemory: for the text of a fault, or for that of a mark. In the
-/// second case the desk was not asked.
+/// Asks the desk, and makes its answer. The only error is NoMemory: for the text of a fault, or for that of a mark. In
+/// the second case the desk was not asked.
 pub(crate) fn ask<S: RowStore>(
     alloc: Global,
     desk: &mut Desk<S>,

@@ -1,5 +1,5 @@
-//! What the spool, HTTP and the command line share: reading up to a size, writing parts until a write fails, and reading
-//! numbers from digits.
+//! What the spool, HTTP and the command line share: reading up to a size, writing parts until a write fails, and
+//! reading numbers from digits.
 #![tactic(auto)]
 
 pub mod numbers;

@@ -64,8 +64,8 @@ fn is_named(word: &[u8], name: &[u8]) -> bool
     name.eq_ignore_ascii_case(word)
 }
 
-/// The length that digits spell: Long as soon as it passes the limit, however many digits follow, and Bad where the text is
-/// empty or has other bytes.
+/// The length that digits spell: Long as soon as it passes the limit, however many digits follow, and Bad where the
+/// text is empty or has other bytes.
 fn read_length(text: &[u8]) -> BodyLength
     ensures { result ≡ length_said text.now }
 {
