@@ -28,6 +28,8 @@ mod surface;
 #[cfg(test)]
 mod surface_desk;
 #[cfg(test)]
+mod surface_wire;
+#[cfg(test)]
 mod texts_read;
 #[cfg(test)]
 mod written_store;

@@ -7,7 +7,7 @@ use std::io::{ErrorKind, Read, Write};
 use std::net::{Shutdown, SocketAddr, TcpListener, TcpStream};
 use std::test::Fail;
 use std::time::{Clock, Duration, Instant};
-use upd_http::serve_on;
+use upd_http::serve_on_within;
 use upd_testkit::check::{holds, same};
 use upd_text::FaultKind;
 
@@ -34,7 +34,7 @@ fn connections_are_served(rt: HostRuntime) -> Result<(), Fail> {
     let address = listener.local_addr()?;
     let gone = client_with(&rt, address, &QUICK.as_bytes()[..30])?;
     let client = client_with(&rt, address, QUICK.as_bytes())?;
-    serve_on(rt.alloc(), &rt, &listener, 2, &mut empty_desk(rt.alloc()))?;
+    serve_on_within(rt.alloc(), &rt, &listener, 2, &mut empty_desk(rt.alloc()))?;
     reads(rt.alloc(), gone, "")?;
     reads(rt.alloc(), client, QUICK_ANSWER)
 }
@@ -53,7 +53,7 @@ fn a_long_body_is_answered(rt: HostRuntime) -> Result<(), Fail> {
     let listener = TcpListener::bind(&rt, "127.0.0.1:0")?;
     let request = long_request(rt.alloc())?;
     let client = client_with(&rt, listener.local_addr()?, &request)?;
-    serve_on(rt.alloc(), &rt, &listener, 1, &mut empty_desk(rt.alloc()))?;
+    serve_on_within(rt.alloc(), &rt, &listener, 1, &mut empty_desk(rt.alloc()))?;
     let wanted =
         "HTTP/1.1 413 Payload Too Large\r\nContent-Type: application/json\r\nContent-Length: 35\r\n\
 Connection: close\r\n\r\n{\"at\":0,\"fault\":1,\"name\":\"RunLong\"}";
@@ -66,14 +66,14 @@ fn an_accept_that_fails_is_reported(rt: HostRuntime) -> Result<(), Fail> {
     let alloc = rt.alloc();
     let listener = TcpListener::bind(&rt, "127.0.0.1:0")?;
     listener.set_nonblocking(true)?;
-    let served = serve_on(alloc, &rt, &listener, 2, &mut empty_desk(alloc));
+    let served = serve_on_within(alloc, &rt, &listener, 2, &mut empty_desk(alloc));
     same("the end", &served, &Err(FaultKind::Read.without_line()))
 }
 
 /// How many seconds a connection at a listener is served.
 fn seconds_served(rt: &HostRuntime, listener: &TcpListener) -> Result<u64, Fail> {
     let start = Instant::now(rt)?;
-    serve_on(rt.alloc(), rt, listener, 1, &mut empty_desk(rt.alloc()))?;
+    serve_on_within(rt.alloc(), rt, listener, 1, &mut empty_desk(rt.alloc()))?;
     Ok(start.elapsed(rt)?.as_secs())
 }
 
@@ -135,7 +135,7 @@ fn a_slow_client_is_given_up(rt: HostRuntime) -> Result<(), Fail> {
     let listener = TcpListener::bind(&rt, "127.0.0.1:0")?;
     let mut client = TcpStream::connect(&rt, listener.local_addr()?)?;
     client.write_all(QUICK.as_bytes())?;
-    serve_on(rt.alloc(), &Ticking::new(0, 120), &listener, 1, &mut desk)?;
+    serve_on_within(rt.alloc(), &Ticking::new(0, 120), &listener, 1, &mut desk)?;
     reads_nothing(rt.alloc(), client)?;
     desk.arrive(rt.alloc(), "LYON", 1, "full", b"")?;
     Ok(())
@@ -147,7 +147,7 @@ fn a_client_that_takes_its_answer_late_is_given_up(rt: HostRuntime) -> Result<()
     let mut desk = empty_desk(rt.alloc());
     let listener = TcpListener::bind(&rt, "127.0.0.1:0")?;
     let client = client_with(&rt, listener.local_addr()?, QUICK.as_bytes())?;
-    serve_on(rt.alloc(), &Ticking::new(2, 120), &listener, 1, &mut desk)?;
+    serve_on_within(rt.alloc(), &Ticking::new(2, 120), &listener, 1, &mut desk)?;
     reads_nothing(rt.alloc(), client)?;
     let answer = desk.arrive(rt.alloc(), "LYON", 1, "full", b"");
     let found = answer.map(|reply| reply.accepted);
@@ -174,7 +174,7 @@ fn each_connection_has_its_own_time(rt: HostRuntime) -> Result<(), Fail> {
     let listener = TcpListener::bind(&rt, "127.0.0.1:0")?;
     let clients = clients_with(&rt, listener.local_addr()?, 4)?;
     let mut desk = empty_desk(rt.alloc());
-    serve_on(rt.alloc(), &Ticking::new(0, 20), &listener, 4, &mut desk)?;
+    serve_on_within(rt.alloc(), &Ticking::new(0, 20), &listener, 4, &mut desk)?;
     for client in clients {
         reads(rt.alloc(), client, QUICK_ANSWER)?;
     }
