@@ -10,7 +10,7 @@ use Rattle.upd_cli.specs.Errands.{IsAnswered, answer_text}
 use Rattle.upd_cli.specs.declared.asking.Question.{Question}
 
 module _ {S : Type 0} {meaning : Ghosts S} where
-    -- what was asked is this question
+  -- what was asked is this question
   pub answered_as : {V : Type 0} (items : V → List ℕ) (result : Result V Fault) (question asked : Question) (old new : S) → question ≡ asked
       → Tells meaning (answer_text asked) (result_map_both items (λ fault. fault) result) old new
       → Keeps meaning old new → CountsFailure meaning result old new

@@ -30,7 +30,7 @@ abbrev pub IsUnread : Result ℕ Fault → Type 0
 IsUnread result = IsErrAnd result (λ fault. (fault ≡ no_memory) ⊎ (fault ≡ read_failed))
 
 module _ {S : Type 0} (meaning : Ghosts S) where
-    -- The run on the input arrived, and its answer was told; or the input wasn't read, and nothing was asked or told.
+  -- The run on the input arrived, and its answer was told; or the input wasn't read, and nothing was asked or told.
   abbrev pub HandsIn : List ℕ → ℕ → List ℕ → Option (List ℕ) → Result ℕ Fault → S → S → Option (List ℕ) → Option (List ℕ) → Type 0
   HandsIn site number mode input result old new output output' =
       ((bytes : List ℕ) × (answer : Result ReplyView Fault) × IsRunOn input bytes

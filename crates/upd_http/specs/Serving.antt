@@ -53,7 +53,7 @@ IsMarkResponse site (Ok mark) told = (body : List ℕ) × (told ≡ Ok (record (
 IsMarkResponse site (Err fault) told = told ≡ Err fault
 
 module _ {S : Type 0} (meaning : Ghosts S) where
-    -- a query told what the desk answered, as a page of these bytes
+  -- a query told what the desk answered, as a page of these bytes
   abbrev pub Queries : {A : Type 0} → (LibraryView → Result A Fault) → (A → List ℕ) → Result Response Fault → S → S → Type 0
   Queries {A} defined bytes told old new =
       (result : Result A Fault) × Tells meaning defined result old new

@@ -5,7 +5,7 @@ ghost use Rattle.upd_records.specs.Rows.{Rows};
 ghost use Rattle.upd_row_store.specs.Keeping.{IsLost};
 
 use crate::check::{same_number, same_text};
-use crate::talk::{Ask, Talk, accepted, lyon, refused, same_answer, row_changes};
+use crate::talk::{Ask, Talk, accepted, lyon, refused, row_changes, same_answer};
 use std::alloc::Global;
 use std::process::Abort;
 use std::test::Fail;
