@@ -1,8 +1,11 @@
-use Rattle.std.proofs.Common.{sym, ap, ◌∙◌}
+use Rattle.std.proofs.Common.{◌≡◌, ◌⊎◌, ℕ, sym, ap, ◌∙◌}
 use Rattle.sqlite.specs.Held.{state}
 use Rattle.sqlite.specs.Effect.{Database}
+use Rattle.sqlite.specs.State.{HasCleanDisk}
 use Rattle.upd_sqlite.proofs.Chains.{clean_before}
+use Rattle.upd_store.specs.Version.{HasVersion}
 use Rattle.upd_migrate.proofs.Migrates.{any_leaves, migrates_any}
+use Rattle.upd_migrate.proofs.PassedFaults.{passed_on}
 use Rattle.upd_migrate.proofs.migrating.migrate.Goals as goal
 
 pub returns-in-Ok-clause-done : goal.returns-in-Ok-clause-done
@@ -39,3 +42,10 @@ pub returns-then-matches-clause-known : goal.returns-then-matches-clause-known
 returns-then-matches-clause-known g c clean o =
     let schema = ap (λ (d : Database). d.schema) (sym (c.in_ok-version.ensures.same clean o)) ∙ c.in_ok-version.ensures.found o in
     (c.in_ok-version.version, schema, c.in_ok-version.ensures.value clean)
+
+pub returns-in_err-version-clause-version : goal.returns-in_err-version-clause-version
+returns-in_err-version-clause-version g c =
+    passed_on
+    (λ e. HasCleanDisk (state g.S.Store c.known_version.new.conn) → (v : ℕ) → HasVersion v (state g.S.Store c.args.conn.now).committed
+    → (e.at ≡ v) ⊎ (e.at ≡ 0))
+    c.from_residual.result c.in_err-version.field-0.0 c.from_residual.ensures.1 c.in_err-version.ensures.fault
