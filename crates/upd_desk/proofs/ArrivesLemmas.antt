@@ -17,7 +17,7 @@ use Rattle.upd_desk.specs.Arrivals.{ArrivalView, check_arrival, mode_number}
 use Rattle.upd_desk.specs.Journal.{Alike, Event, Came, Journal, answer, distinct, mark, reply_to, library_after}
 use Rattle.upd_desk.specs.Made.{IsMade}
 use Rattle.upd_desk.specs.Outcomes.{ReplyView, outcome}
-use Rattle.upd_desk.specs.Holding.{Arrives, Becomes, Guards, HoldsIn, IsLeft, TriesRun, is_lost}
+use Rattle.upd_desk.specs.Holding.{Arrives, Becomes, Guards, HoldsIn, IsHeld, IsLeft, TriesRun, is_lost}
 use Rattle.upd_desk.proofs.AlikeLemmas.{alike_more, alike_unheard, holds_alike, holds_new}
 use Rattle.upd_desk.proofs.AnswerLemmas.{answer_again, answer_unadmitted, answer_new, answer_settled, admission_not_lost}
 use Rattle.upd_desk.proofs.RepeatLemmas.{refused_unheard}
@@ -81,18 +81,14 @@ module _ {S : Type 0} (meaning : Ghosts S) where
 module _ {S : Type 0} {meaning : Ghosts S} where
   open meaning use {Image, shows, image, is_open, is_honest, may_leave}
 
-  -- what a journal is held in before a call is what its journals are asked of
-  abbrev HeldAt : S → Journal → Type 0
-  HeldAt s j = is_open s → HoldsIn shows j (image s)
-
   held_after : (old new : S) → Keeps meaning old new → is_honest new → (j k : Journal) → Alike j k
-      → HeldAt old j → is_open new → HoldsIn shows k (image new)
+      → IsHeld meaning j old → is_open new → HoldsIn shows k (image new)
   held_after old new keeps honest j k alike held is =
       subst (HoldsIn shows k) (sym (keeps.same honest is)) (holds_in_alike shows j k (image old) alike (held (keeps.was_open honest is)))
 
   -- A call that only read, and a refusal that isn't kept: nothing changed, and the journal is continued alike.
   pub refuses : (a : ArrivalView) (f : Fault) (old new : S) → Keeps meaning old new
-      → is_lost f.kind ≡ false → (is_honest new → (j : Journal) → HeldAt old j → answer j a ≡ Err f) → Arrives meaning a (Err f) old new
+      → is_lost f.kind ≡ false → (is_honest new → (j : Journal) → IsHeld meaning j old → answer j a ≡ Err f) → Arrives meaning a (Err f) old new
   refuses a f old new keeps stays answers = record {
     honest = keeps.honest;
     was_open = keeps.was_open;
@@ -103,13 +99,13 @@ module _ {S : Type 0} {meaning : Ghosts S} where
         rw stays (left_alike shows j (Came a ∷ j) hand i (alike honest j guards.shown) (guards.left i (keeps.crash honest i may)));
   }
     where
-      alike : is_honest new → (j : Journal) → HeldAt old j → Alike j (Came a ∷ j)
+      alike : is_honest new → (j : Journal) → IsHeld meaning j old → Alike j (Came a ∷ j)
       alike honest j held = alike_unheard j a (refused_unheard j a f (answers honest j held))
 
   -- A call that only read, and a stored reply: nothing changed, and nothing is in hand.
   pub tells : (settles : (s : S) (i : Image) → is_honest s → is_open s → may_leave s i → i ≡ image s) (a : ArrivalView) (reply : ReplyView)
       (old new : S) → Keeps meaning old new → (is_honest new → is_open new)
-      → (is_honest new → (j : Journal) → HeldAt old j → (answer j a ≡ Ok reply) × (distinct (Came a ∷ j) ≡ distinct j)) → Arrives meaning a (Ok reply) old new
+      → (is_honest new → (j : Journal) → IsHeld meaning j old → (answer j a ≡ Ok reply) × (distinct (Came a ∷ j) ≡ distinct j)) → Arrives meaning a (Ok reply) old new
   tells settles a reply old new keeps opens answers = record {
     honest = keeps.honest;
     was_open = keeps.was_open;
@@ -120,7 +116,7 @@ module _ {S : Type 0} {meaning : Ghosts S} where
         inl (subst (HoldsIn shows (Came a ∷ j)) (sym (settles new i honest (opens honest) may)) (holds honest j guards.shown (opens honest)));
   }
     where
-      holds : is_honest new → (j : Journal) → HeldAt old j → is_open new → HoldsIn shows (Came a ∷ j) (image new)
+      holds : is_honest new → (j : Journal) → IsHeld meaning j old → is_open new → HoldsIn shows (Came a ∷ j) (image new)
       holds honest j held is = held_after old new keeps honest j (Came a ∷ j) (alike_unheard j a (answers honest j held).1) held is
 
   -- A call that failed and tried no write: nothing changed, and the arrival didn't happen.
@@ -183,7 +179,7 @@ module _ {S : Type 0} {meaning : Ghosts S} where
       was_open : is_honest new → is_open old
       was_open honest = tries.was_open honest (opens honest)
 
-      holds : is_honest new → (j : Journal) → HeldAt old j → is_open new → HoldsIn shows (Came a ∷ j) (image new)
+      holds : is_honest new → (j : Journal) → IsHeld meaning j old → is_open new → HoldsIn shows (Came a ∷ j) (image new)
       holds honest j held is =
           becomes_held made mode a old (image new) j (is_new (tries.honest honest)) (was_open honest) (held (was_open honest)) (becomes honest)
 
@@ -208,7 +204,7 @@ module _ {S : Type 0} {meaning : Ghosts S} where
         (record { shown = later (went.honest honest) j guards.shown; left = λ i may. guards.left i (keeps.crash (went.honest honest) i may) }) i may;
   }
     where
-      later : is_honest mid → (j : Journal) → HeldAt old j → HeldAt mid j
+      later : is_honest mid → (j : Journal) → IsHeld meaning j old → IsHeld meaning j mid
       later honest j held is = subst (HoldsIn shows j) (sym (keeps.same honest is)) (held (keeps.was_open honest is))
 
   -- what is known once the mark and the stored run were read
@@ -251,7 +247,7 @@ module _ {S : Type 0} {meaning : Ghosts S} where
       by : (j : Journal) → is_honest new → HoldsIn shows j (image old) → answer j a ≡ Err f
       by j honest (rows, shown, held) = answer_settled j a mode rows held passed (lower (mark_at a.site rows) (marks honest rows shown)) ∙ ap Err (sym is)
 
-      owed : is_honest new → (j : Journal) → HeldAt old j → answer j a ≡ Err f
+      owed : is_honest new → (j : Journal) → IsHeld meaning j old → answer j a ≡ Err f
       owed honest j held = by j honest (held (keeps.was_open honest (opens honest)))
 
   known : (mode : Mode) (a : ArrivalView) (run : RunView) (s : S) (j : Journal) → is_open s → IsAsked meaning mode a (Some run) s
@@ -263,7 +259,7 @@ module _ {S : Type 0} {meaning : Ghosts S} where
       → ((l : LibraryView) → Ok reply ≡ reply_to mode a l (Some run)) → Arrives meaning a (Ok reply) s s
   tells_kept settles mode a run reply s opens asks row_changes = tells settles a reply s s (keeps_still s) opens owed
     where
-      owed : is_honest s → (j : Journal) → HeldAt s j → (answer j a ≡ Ok reply) × (distinct (Came a ∷ j) ≡ distinct j)
+      owed : is_honest s → (j : Journal) → IsHeld meaning j s → (answer j a ≡ Ok reply) × (distinct (Came a ∷ j) ≡ distinct j)
       owed honest j held =
           let both = known mode a run s j (opens honest) (asks honest) (held (opens honest)) in
           (both.0 ∙ sym (row_changes (library_after j)), both.1)

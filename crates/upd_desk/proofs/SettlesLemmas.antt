@@ -13,7 +13,7 @@ use Rattle.upd_row_store.specs.Tables.{mark_at, settled_to}
 use Rattle.upd_row_store.proofs.TableLemmas.{max_right, same_bytes, shows_settled, states_settled}
 use Rattle.upd_desk.specs.Arrivals.{is_run_number, is_site, check_key}
 use Rattle.upd_desk.specs.Journal.{Alike, Event, Settled, Journal, mark, library_after}
-use Rattle.upd_desk.specs.Holding.{Guards, Holds, HoldsIn, IsLeft, Settles, is_lost, mark_after}
+use Rattle.upd_desk.specs.Holding.{Guards, Holds, HoldsIn, IsHeld, IsLeft, Settles, is_lost, mark_after}
 use Rattle.upd_desk.proofs.ArrivesLemmas.{holds_in_alike, left_here, left_more, lost_kind}
 use Rattle.upd_desk.proofs.KeptLemmas.{kept_settled, mark_settled}
 
@@ -52,9 +52,6 @@ holds_settled j s n rows held = record {
 
 module _ {S : Type 0} {meaning : Ghosts S} where
   open meaning use {Image, shows, image, is_open, is_honest, may_leave}
-
-  abbrev HeldAt : S → Journal → Type 0
-  HeldAt s j = is_open s → HoldsIn shows j (image s)
 
   -- a refusal of the site or the number
   pub refuses_key : (site : List ℕ) (n : ℕ) (f : Fault) (old new : S) → Keeps meaning old new
@@ -109,7 +106,7 @@ module _ {S : Type 0} {meaning : Ghosts S} where
       owed : is_honest new → (j : Journal) → HoldsIn shows j (image old) → mark_after j site n ≡ Ok m
       owed honest j held = rw passed (ap Ok (sym ((alike honest j held).marks site) ∙ sym (is_mark honest j held)))
 
-      holds : is_honest new → (j : Journal) → HeldAt old j → is_open new → HoldsIn shows (Settled site n ∷ j) (image new)
+      holds : is_honest new → (j : Journal) → IsHeld meaning j old → is_open new → HoldsIn shows (Settled site n ∷ j) (image new)
       holds honest j held is =
           let before = held (was_open honest) in
           subst (HoldsIn shows (Settled site n ∷ j)) (sym (keeps.same honest is))
@@ -133,7 +130,7 @@ module _ {S : Type 0} {meaning : Ghosts S} where
         inl (subst (HoldsIn shows (Settled site n ∷ j)) (sym (settles new i honest (opens honest) may)) (holds honest j (there honest j guards.shown)));
   }
     where
-      there : is_honest new → (j : Journal) → HeldAt old j → HoldsIn shows j (image mid)
+      there : is_honest new → (j : Journal) → IsHeld meaning j old → HoldsIn shows j (image mid)
       there honest j held =
           let before = tries.honest honest in
           let is = tries.was_open honest (opens honest) in
@@ -160,7 +157,7 @@ module _ {S : Type 0} {meaning : Ghosts S} where
         rw (lost_kind f lost) (by (tries.honest honest) j hand guards i (tries.crash honest i may));
   }
     where
-      there : is_honest mid → (j : Journal) → HeldAt old j → is_open mid → HoldsIn shows j (image mid)
+      there : is_honest mid → (j : Journal) → IsHeld meaning j old → is_open mid → HoldsIn shows j (image mid)
       there honest j held is = subst (HoldsIn shows j) (sym (keeps.same honest is)) (held (keeps.was_open honest is))
 
       carried : (j : Journal) (i : Image) → ((rows : Rows) → shows (image mid) rows → Unit {0} → shows i (settled_to site n rows))
