@@ -3,10 +3,10 @@
 
     python3 bench/all.py [--executable FILE] [--times N] [--growth]
 
-Each line of the table is one command of the executable (crates/upd/out/upd where none is named) on one library: median processor time of N processes (9 where
-none is said), millions of instructions where `perf` or `valgrind` counts them, and peak memory where GNU time tells it. With --growth the table alone is made;
-else trial.py, apply.py, store.py and wire.py --times follow, each of which needs what its own first lines say. The exit status is 1 where one of these is past
-its budget.
+Each line of the table is one command of the executable (crates/upd/out/upd where none is named) on one library. It has the median processor time of N
+processes (9 where none is said), millions of instructions where `perf` or `valgrind` counts them, and peak memory where GNU time reports it. --growth makes
+only the table. Without it trial.py, apply.py, store.py and wire.py --times follow; each needs what its own first lines say. The exit status is 1 where one
+of these is past its budget.
 """
 
 import argparse
@@ -31,28 +31,28 @@ def text(lines):
 
 
 def decks(count, cards):
-    """Runs that bring decks of so many cards each, the first card among them."""
+    """Runs that add decks with this number of cards each, the first card among them."""
     for first in range(1, count + 1, max(1, 2000 // cards)):
         few = range(first, min(first + max(1, 2000 // cards), count + 1))
         yield text(line for deck in few for line in [f"*DECK D{deck}"] + ["      CONTINUE"] * (cards - 1))
 
 
 def sets(count):
-    """Runs that bring sets, a hundred in each, which each restore the first text."""
+    """Runs that add sets, a hundred in each, which each restore the first text."""
     for first in range(1, count + 1, 100):
         few = range(first, min(first + 100, count + 1))
         yield text(line for n in few for line in [f"*IDENT S{n}", "*RESTORE D1.2"])
 
 
 def yanks(count):
-    """Runs that bring a set, and sets that each yank the one before it."""
+    """Runs that add a set, and sets that each yank the one before it."""
     yield text(["*IDENT S1", "*DELETE D1.2"])
     for first in range(2, count + 2, 100):
         few = range(first, min(first + 100, count + 2))
         yield text(line for n in few for line in [f"*IDENT S{n}", f"*YANK S{n - 1}"])
 
 
-# the library's size as it is told, and its runs
+# the library's size in words, and its runs
 LIBRARIES = [
     ("500 cards", lambda: [*decks(1, 500), *sets(1)]),
     ("5,000 cards in 5 decks", lambda: [*decks(5, 1000), *sets(1)]),
@@ -66,7 +66,7 @@ LIBRARIES = [
     ("500 cards, 4,000 sets", lambda: [*decks(1, 500), *sets(4000)]),
 ]
 
-# the command as it is told, its words, and its input: that of the first run where it is None
+# the command in words, its arguments, and its input: that of the first run where it is None
 COMMANDS = [
     ("a quick run of three lines", ["run", "LYON", "99999", "quick"], THREE_LINES),
     ("a normal run of three lines", ["run", "LYON", "99999", "normal"], THREE_LINES),
@@ -126,17 +126,17 @@ def on_copies(upd, file, words, given, times):
     """Processor time, instructions and memory of a command, each time on a copy of the library."""
     copy = file.with_name("copy.db")
 
-    def anew(measure):
+    def on_copy(measure):
         shutil.copy(file, copy)
         Path(f"{copy}-wal").unlink(missing_ok=True)
         return measure(words_of(upd, copy, words), given)
 
-    return statistics.median(anew(processor) for _ in range(times)), anew(instructions), anew(memory)
+    return statistics.median(on_copy(processor) for _ in range(times)), on_copy(instructions), on_copy(memory)
 
 
 def growth(upd, times):
     print("| Library | Command | Processor | Instructions | Memory |\n|---|---|---|---|---|")
-    for told, make in LIBRARIES:
+    for size, make in LIBRARIES:
         runs = make()
         with tempfile.TemporaryDirectory() as folder:
             file = Path(folder) / "library.db"
@@ -145,16 +145,16 @@ def growth(upd, times):
             assert replies.count(b'"state":"accepted"') == len(runs), replies
             for what, words, given in COMMANDS:
                 spent, counted, peak = on_copies(upd, file, words, runs[0] if given is None else given, times)
-                told_count = "" if counted is None else f"{counted:.0f} M"
-                told_peak = "" if peak is None else f"{peak:.1f} MB"
-                print(f"| {told} | {what} | {spent:.1f} ms | {told_count} | {told_peak} |", flush=True)
+                shown_count = "" if counted is None else f"{counted:.0f} M"
+                shown_peak = "" if peak is None else f"{peak:.1f} MB"
+                print(f"| {size} | {what} | {spent:.1f} ms | {shown_count} | {shown_peak} |", flush=True)
 
 
 def main():
     words = argparse.ArgumentParser(description=__doc__.splitlines()[0])
     add_executable(words)
     words.add_argument("--times", metavar="N", type=int, default=9, help="processes of each command in the table (default: 9)")
-    words.add_argument("--growth", action="store_true", help="make the table alone")
+    words.add_argument("--growth", action="store_true", help="make only the table")
     words = words.parse_args()
     upd = there(words.executable)
     growth(upd, words.times)

@@ -164,13 +164,13 @@ def try_kills(upd, folder, dice, count):
                 killed += 1
             if not wanted.startswith(out):
                 bad += 1
-                print("BAD beginning of the answers", len(out))
+                print("BAD prefix of the answers", len(out))
         end = subprocess.run([upd, "spool", file], input=text, capture_output=True, check=False)
         lists = [[subprocess.run([upd, what, one], capture_output=True, check=False).stdout for what in ("idents", "yanks", "compile")] for one in (calm, file)]
         if end.stdout != wanted or lists[0] != lists[1]:
             bad += 1
             print("BAD end", end.returncode, end.stderr)
-    print(f"{killed} desks killed in a spool of 1,000 frames, on {libraries} libraries: each went on to the undisturbed end" if not bad else "BAD kills")
+    print(f"{killed} desks killed in a spool of 1,000 frames, on {libraries} libraries: each continued to the undisturbed end" if not bad else "BAD kills")
     return bad + sound(upd, file)
 
 
@@ -179,7 +179,7 @@ REPLY = b'{"compile":"","idents":[],"lines":0,"mode":"quick","run":%d,"site":"LY
 
 
 def numbered(dice, count, settles):
-    """The numbers of so many runs, in order; instead of every tenth one that isn't settled comes a second time."""
+    """The numbers of `count` runs, in order. In the place of every tenth one, one that isn't settled comes a second time."""
     new, settled = 0, 0
     for frame in range(1, count + 1):
         again = frame % 10 == 0
@@ -201,7 +201,7 @@ def feed(pipe, numbers):
 
 
 def spool_them(upd, file, numbers, before, marks):
-    """Lets one spool arrive: how many answers are wrong. At its first frame and at each mark the process's memory is told."""
+    """Sends one spool: how many answers are wrong. Prints the process's memory at its first frame and at each mark."""
     process = subprocess.Popen([upd, "spool", file], stdin=subprocess.PIPE, stdout=subprocess.PIPE)
     feeder = threading.Thread(target=feed, args=(process.stdin, numbers))
     feeder.start()
@@ -217,7 +217,7 @@ def spool_them(upd, file, numbers, before, marks):
 
 
 def try_frames(upd, folder, dice, count, settles):
-    """Lets so many frames arrive, in spools of the most that one may have; where the site settles, it does so after each."""
+    """Sends `count` frames, in spools of the most that one may have. Where the site settles, it does so after each."""
     file = folder / f"frames{settles:d}.db"
     subprocess.run([upd, "init", file], check=True)
     numbers, bad = list(numbered(dice, count, settles)), 0
@@ -227,8 +227,8 @@ def try_frames(upd, folder, dice, count, settles):
         bad += spool_them(upd, file, these, before, marks)
         if settles:
             bad += subprocess.run([upd, "settle", file, "LYON", str(max(these))], stdout=subprocess.DEVNULL).returncode != 0
-    told = ", settled after each spool" if settles else ""
-    print(f"{count} frames, a tenth of them repeats{told}: {bad} wrong answers")
+    how = ", settled after each spool" if settles else ""
+    print(f"{count} frames, a tenth of them repeats{how}: {bad} wrong answers")
     return bad + sound(upd, file)
 
 

@@ -1,12 +1,12 @@
 #!/usr/bin/env python3
-"""Refuses one request for memory after the other: in the tests of crates/upd_hostile_tests, and in the lasting executable on a library in a file.
+"""Refuses one allocation after the other: in tests of crates/upd_wire_tests, and in the lasting executable on a library in a file.
 
     python3 bench/memory.py [--executable FILE] [--every N]
 
-`rt test` in that crate makes the executable of its tests, `rt run` in crates/upd the lasting one. The Nth request is refused, N from 1 until a
-run meets no refusal; of a command's requests with --every only every so many. A test then holds, or was itself refused what it needs. A command answers as
-with ample memory, or says NoMemory, and its library is as before, or as after the frames that are answered; given again, it ends as it does from the start.
-The exit status is 1 where that isn't so. It wants `cc`, for a library that stands before the C library's allocator.
+`rt test` in that crate makes the executable of its tests, `rt run` in crates/upd the lasting one. The first allocation is refused, then the second, and
+so on until a run meets no refusal; with --every only each Nth allocation of a command. A test then holds, or was itself refused what it needs. A command
+answers as with ample memory, or says NoMemory. Its library is then as before, or as after the frames that are answered. Given again, it ends as it does
+from the start. The exit status is 1 where that isn't so. It needs `cc`, for a library that is loaded before the C library's allocator.
 """
 
 import argparse
@@ -25,7 +25,7 @@ from needs import add_executable, tests_of, there, tools  # noqa: E402
 # A disk in memory, since each command waits for the disk.
 QUICK = "/dev/shm" if Path("/dev/shm").is_dir() else None
 
-# Stands before the C library's: the request of the number in REFUSED is answered by nothing, and whether it came is told in the file TOLD.
+# Is loaded before the C library. It refuses the allocation of the number in REFUSED, and then makes the file MET.
 REFUSING = r"""
 #include <fcntl.h>
 #include <stdlib.h>
@@ -42,23 +42,33 @@ static int is_refused(void) {
     }
     if (left == 0 || --left > 0)
         return 0;
-    int told = open(getenv("TOLD"), O_WRONLY | O_CREAT, 0600);
-    return close(told) == 0;
+    int met = open(getenv("MET"), O_WRONLY | O_CREAT, 0600);
+    return close(met) == 0;
 }
 
 void *malloc(size_t size) { return is_refused() ? NULL : __libc_malloc(size); }
 void *realloc(void *old, size_t size) { return is_refused() ? NULL : __libc_realloc(old, size); }
 """
 
-NAMES = ["memory::one_run", "memory::yanks_of_yanks", "memory::purges", "memory::calls_of_a_common_deck", "memory::six_yanks_in_a_row",
-         "memory::settlements", "memory::runs_that_arrive_together", "wires::a_spool", "wires::requests"]
+NAMES = [
+    "memory_of_desks::one_run_survives_a_refusal",
+    "memory_of_desks::yanks_of_yanks_survive_a_refusal",
+    "memory_of_desks::purges_survive_a_refusal",
+    "memory_of_desks::calls_of_a_common_deck_survive_a_refusal",
+    "memory_of_desks::six_yanks_in_a_row_survive_a_refusal",
+    "memory_of_desks::settlements_survive_a_refusal",
+    "memory_of_desks::runs_that_arrive_together_survive_a_refusal",
+    "memory_of_streams::a_spool_survives_a_refusal",
+    "memory_of_streams::requests_survive_a_refusal",
+]
 DECK = b"*DECK A\nONE\nTWO\nTHREE\n"
 FRAMES = [b"RUN LYON 1 full 22\n" + DECK + b"\n", b"RUN LYON 2 quick 0\n\n", b"RUN LYON 3 full 21\n*IDENT X\n*DELETE A.3\n\n"]
 RUNS = [
     ("full", DECK), ("full", b"*IDENT X\n*DELETE A.2\nNEW\n"), ("full", b"*IDENT Y\n*YANK X\n"), ("normal", b"*IDENT Z\n*YANK Y\n*DECK B\nBEE\n"),
     ("full", b"*IDENT W\n*DELETE Z.1\n"), ("quick", b"*PURGE X,*\n"), ("full", b"*IDENT V\n*DELETE A.9\n"),
 ]
-OWN = re.compile(rb"memory|alloc", re.IGNORECASE)
+# What a test says that was itself refused memory: an error, and not a check that failed, whose text begins with what it checks.
+OWN = re.compile(rb"^ *error: .*(memory|alloc)", re.IGNORECASE | re.MULTILINE)
 NO_MEMORY = re.compile(rb"(upd: NoMemory \(28\) at [0-9]+\n)?")
 TABLES = ["meta", "idents", "cards", "entries", "targets", "runs", "states", "counts", "settled"]
 
@@ -67,17 +77,17 @@ class Refusing:
     """Runs a program with one refusal."""
 
     def __init__(self, folder):
-        self.told = folder / "told"
+        self.met = folder / "met"
         self.library = folder / "refusing.so"
         (folder / "refusing.c").write_text(REFUSING)
         subprocess.run(["cc", "-shared", "-fPIC", "-O1", "-o", self.library, folder / "refusing.c"], check=True)
 
     def run(self, number, words, text=b""):
-        """What came of a program whose request of that number is refused, and whether it made so many."""
-        self.told.unlink(missing_ok=True)
-        there = {**os.environ, "LD_PRELOAD": str(self.library), "REFUSED": str(number), "TOLD": str(self.told)}
+        """What came of a program whose allocation of that number is refused, and whether it made as many."""
+        self.met.unlink(missing_ok=True)
+        there = {**os.environ, "LD_PRELOAD": str(self.library), "REFUSED": str(number), "MET": str(self.met)}
         done = subprocess.run(words, input=text, capture_output=True, check=False, env=there, timeout=60)
-        return done, self.told.exists()
+        return done, self.met.exists()
 
 
 def try_test(refusing, tests, name):
@@ -94,7 +104,7 @@ def try_test(refusing, tests, name):
             right = False
         number += 1
     right = right and done.returncode == 0 and held > 0
-    print(f"{'ok ' if right else 'BAD'} {name}: {number - 1} requests refused, {held} of them in calls, the others the test's own")
+    print(f"{'ok ' if right else 'BAD'} {name}: {number - 1} allocations refused, {held} of them in calls, the others the test's own")
     return not right
 
 
@@ -165,7 +175,7 @@ class Command:
             number += every
         bad += not right
         restore(self.after, self.file)
-        print(f"{'BAD' if bad else 'ok '} upd {self.words[1]}: {tried} requests refused, NoMemory after {lost} of them", flush=True)
+        print(f"{'BAD' if bad else 'ok '} upd {self.words[1]}: {tried} allocations refused, NoMemory after {lost} of them", flush=True)
         return bad > 0
 
 
@@ -202,10 +212,10 @@ def try_commands(refusing, upd, folder, every):
 def main():
     words = argparse.ArgumentParser(description=__doc__.splitlines()[0])
     add_executable(words)
-    words.add_argument("--every", metavar="N", type=int, default=1, help="refuse only every so many requests of a command (default: 1)")
+    words.add_argument("--every", metavar="N", type=int, default=1, help="refuse only every Nth allocation of a command (default: 1)")
     words = words.parse_args()
     tools("cc")
-    tests, upd = tests_of("upd_hostile_tests"), there(words.executable)
+    tests, upd = tests_of("upd_wire_tests"), there(words.executable)
     with tempfile.TemporaryDirectory(dir=QUICK) as folder:
         folder = Path(folder)
         refusing = Refusing(folder)

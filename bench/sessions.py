@@ -102,7 +102,7 @@ def held(document, executables, write):
 def main():
     parser = argparse.ArgumentParser(description=__doc__.splitlines()[0])
     add_executable(parser)
-    parser.add_argument("--write", action="store_true", help="put what was answered in the place of what stands there")
+    parser.add_argument("--write", action="store_true", help="replace the answers in the document by those that were given")
     parser.add_argument("documents", nargs="+", metavar="DOCUMENT")
     given = parser.parse_args()
     with tempfile.TemporaryDirectory() as executables:

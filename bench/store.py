@@ -4,8 +4,8 @@
     python3 bench/store.py [--times N]
 
 `rt test` in that crate makes its executable. Each test is run N times (5 where none is said), in a process of its own, and the quickest counts.
-Beside each call stands what the C library of SQLite takes for the same statements on a file of its own, each prepared anew, called from
-Python; it makes no library of the rows. The exit status is 1 where a call is past its budget.
+Each call is printed with what the C library of SQLite takes, called from Python, for the same statements on a file of its own. It prepares each
+statement again, and makes no library of the rows. The exit status is 1 where a call is past its budget.
 """
 
 import argparse
@@ -20,12 +20,12 @@ from apply import measured  # noqa: E402
 
 CRATE = "upd_store_tests"
 
-# A call alone is a test less the one without it, by how often it comes; seconds of processor time.
+# A call takes the time of its test, less that of the test without it, by how often it comes; seconds of processor time.
 BUDGETS = [
     ("load of 50,000 cards with 200,000 entries", "loads_50000_cards_10_times", "keeps_50000_cards", 10, 0.35),
     ("a commit of 50 changes", "commits_50_changes_200_times", "keeps_500_cards", 200, 0.0006),
-    ("a kept run of 100,000", "finds_each_of_100000_runs", "keeps_100000_runs", 100_000, 0.00002),
-    ("an open of 500 cards, adopted and closed", "opens_500_cards_20_times", "keeps_500_cards", 20, 0.015),
+    ("a stored run of 100,000", "finds_each_of_100000_runs", "keeps_100000_runs", 100_000, 0.00002),
+    ("opening a file of 500 cards and closing it", "opens_500_cards_20_times", "keeps_500_cards", 20, 0.015),
 ]
 
 TABLES = """
@@ -33,7 +33,9 @@ CREATE TABLE meta (k TEXT NOT NULL, v INT NOT NULL, PRIMARY KEY (k)) STRICT;
 CREATE TABLE idents (age INT NOT NULL, name TEXT NOT NULL, kind INT NOT NULL, noprop INT NOT NULL, held INT NOT NULL, PRIMARY KEY (age)) STRICT;
 CREATE TABLE cards (ident TEXT NOT NULL, num INT NOT NULL, deck INT NOT NULL, pos INT NOT NULL, body TEXT NOT NULL, PRIMARY KEY (ident, num)) STRICT;
 CREATE TABLE entries (ident TEXT NOT NULL, num INT NOT NULL, ord INT NOT NULL, who INT NOT NULL, active INT NOT NULL, PRIMARY KEY (ident, num, ord)) STRICT;
-CREATE TABLE runs (site TEXT NOT NULL, num INT NOT NULL, mode INT NOT NULL, body BLOB NOT NULL, accepted INT NOT NULL, reply BLOB NOT NULL, PRIMARY KEY (site, num)) STRICT;
+CREATE TABLE runs (
+    site TEXT NOT NULL, num INT NOT NULL, mode INT NOT NULL, body BLOB NOT NULL, accepted INT NOT NULL, reply BLOB NOT NULL, PRIMARY KEY (site, num)
+) STRICT;
 CREATE TABLE states (ident TEXT NOT NULL, num INT NOT NULL, active INT NOT NULL, PRIMARY KEY (ident, num)) STRICT;
 """
 
@@ -43,7 +45,7 @@ LOADS = [
     "SELECT ident, num, ord, who, active FROM entries ORDER BY ident, num, ord",
 ]
 
-KEPT_RUN = "SELECT site, num, mode, body, accepted, reply FROM runs WHERE site = ?1 AND num = ?2 ORDER BY rowid"
+STORED_RUN = "SELECT site, num, mode, body, accepted, reply FROM runs WHERE site = ?1 AND num = ?2 ORDER BY rowid"
 
 
 def connected(path):
@@ -51,7 +53,7 @@ def connected(path):
 
 
 def commit_deck(db, age, cards):
-    """An ident, cards with a status and four entries each, and the run that brought them."""
+    """An ident, cards with a status and four entries each, and the run that added them."""
     name = f"DECK{age}"
     db.execute("BEGIN")
     db.execute("INSERT INTO idents (age, name, kind, noprop, held) VALUES (?1, ?2, ?3, ?4, ?5)", (age, name, 1, 0, 1))
@@ -93,7 +95,7 @@ def beside(folder):
     large.execute("BEGIN")
     large.executemany("INSERT INTO runs (site, num, mode, body, accepted, reply) VALUES ('PARIS', ?1, 0, ?2, 1, ?3)", runs)
     large.execute("COMMIT")
-    yield seconds(10_000, lambda turn: large.execute(KEPT_RUN, ("PARIS", turn * 9 + 1)).fetchall())
+    yield seconds(10_000, lambda turn: large.execute(STORED_RUN, ("PARIS", turn * 9 + 1)).fetchall())
     tiny = new_library(folder / "tiny.db")
     commit_deck(tiny, 1, 500)
     tiny.close()

@@ -32,7 +32,7 @@ def joined(lines):
 
 
 def filled(lines):
-    """The lines with comments behind them, so that the run has all the bytes and lines that a run may have."""
+    """The lines with comments after them, so that the run has all the bytes and lines that a run may have."""
     wanted = MAX_LINES - len(lines)
     room = MAX_BYTES - len(joined(lines))
     assert wanted > 0 and 3 * wanted <= room <= 81 * wanted, (wanted, room)

@@ -3,8 +3,9 @@
 
     python3 bench/wire.py [--executable FILE] [--times]
 
-Each line tells a request, what it got and whether that is what docs/protocol.md says. With --times the processor time of `upd` is told too: of the
-requests to a library of 500 cards, of spools of 10,000 runs, of a run on a full library, and of the start. The exit status is 1 where an answer differs or a budget is passed.
+Each line has a request, what it got, and whether that is what docs/protocol.md says. --times also prints the processor time of `upd`: of requests to a
+library of 500 cards, of spools of 10,000 runs, of a run on a full library, and of the start. The exit status is 1 where an answer differs or a budget is
+passed.
 """
 
 import argparse
@@ -34,7 +35,7 @@ RUN = b"*DECK A/B\nONE\nTWO\nTHREE\n"
 bad = 0
 
 
-def told(what, found, wanted):
+def check(what, found, wanted):
     global bad
     right = found == wanted
     bad += not right
@@ -42,7 +43,7 @@ def told(what, found, wanted):
 
 
 class Server:
-    """`upd serve` for so many connections, with the processor time that it took."""
+    """`upd serve` for `count` connections, with the processor time that it took."""
 
     def __init__(self, upd, file, count):
         self.process = subprocess.Popen([upd, "serve", file, f"127.0.0.1:{PORT}", str(count)], stderr=subprocess.PIPE)
@@ -70,8 +71,8 @@ class Server:
         except subprocess.TimeoutExpired:
             self.process.kill()
             said, status = self.process.communicate()[1], "still there"
-        told(f"upd serve ends after {self.count} connections with status", status, 0)
-        told("upd serve says", said.decode(), "")
+        check(f"upd serve ends after {self.count} connections with status", status, 0)
+        check("upd serve says", said.decode(), "")
         time.sleep(0.05)
 
 
@@ -89,7 +90,7 @@ def exchange(request, cut=False):
 
 
 def head(length):
-    """A whole head of so many bytes."""
+    """A whole head of `length` bytes."""
     start = b"GET /idents HTTP/1.1\r\nX: "
     return start + b"x" * (length - len(start) - 4) + b"\r\n\r\n"
 
@@ -120,19 +121,19 @@ def try_curl(upd, file):
         ("POST it again", ["--data-binary", run, f"{at}/sites/LYON/runs/1/full"], "200 OK"),
         ("POST it in another mode", ["--data-binary", run, f"{at}/sites/LYON/runs/1/quick"], "409 Conflict"),
         ("POST a refused run", ["--data-binary", other, f"{at}/sites/LYON/runs/2/full"], "422 Unprocessable Entity"),
-        ("POST a site that is none", ["--data-binary", run, f"{at}/sites/lyon/runs/1/full"], "400 Bad Request"),
-        ("POST a number that is none", ["--data-binary", run, f"{at}/sites/LYON/runs/01/full"], "400 Bad Request"),
+        ("POST a site that is not valid", ["--data-binary", run, f"{at}/sites/lyon/runs/1/full"], "400 Bad Request"),
+        ("POST a number that is not valid", ["--data-binary", run, f"{at}/sites/LYON/runs/01/full"], "400 Bad Request"),
         ("POST number 0", ["--data-binary", run, f"{at}/sites/LYON/runs/0/full"], "400 Bad Request"),
-        ("POST a mode that is none", ["--data-binary", run, f"{at}/sites/LYON/runs/3/slow"], "400 Bad Request"),
+        ("POST a mode that is not valid", ["--data-binary", run, f"{at}/sites/LYON/runs/3/slow"], "400 Bad Request"),
         ("POST 65,536 bytes", ["--data-binary", full, f"{at}/sites/LYON/runs/3/full"], "422 Unprocessable Entity"),
         ("POST 65,537 bytes", ["--data-binary", long, f"{at}/sites/LYON/runs/4/full"], "413 Payload Too Large"),
         ("GET the compile file", [f"{at}/compile"], "200 OK"),
         ("GET a deck", [f"{at}/decks/A%2FB"], "200 OK"),
         ("GET a deck that isn't there", [f"{at}/decks/NOPE"], "404 Not Found"),
-        ("GET a deck that is no name", [f"{at}/decks/nope"], "400 Bad Request"),
+        ("GET a deck whose name is not valid", [f"{at}/decks/nope"], "400 Bad Request"),
         ("GET a card", [f"{at}/cards/A%2FB/2"], "200 OK"),
         ("GET a card that isn't there", [f"{at}/cards/A%2FB/9"], "404 Not Found"),
-        ("GET a card that is none", [f"{at}/cards/A%2FB/x"], "400 Bad Request"),
+        ("GET a card that is not valid", [f"{at}/cards/A%2FB/x"], "400 Bad Request"),
         ("GET the idents", [f"{at}/idents"], "200 OK"),
         ("GET the idents by HTTP/1.0", ["-0", f"{at}/idents?x=1"], "200 OK"),
         ("GET the yanks", [f"{at}/yanks"], "200 OK"),
@@ -150,14 +151,14 @@ def try_curl(upd, file):
     with Server(upd, file, len(cases)):
         for what, words, wanted in cases:
             answers[what] = curl(*words)
-            told(what, status(answers[what]), f"HTTP/1.1 {wanted}")
-    told("the repeat is the first reply", answers["POST it again"] == answers["POST a run"], True)
-    told("the mark", body(answers["POST a settlement"]), '{"settled":1,"site":"LYON"}')
-    told("the settled run", body(answers["POST a settled run"]), '{"at":0,"fault":27,"name":"Settled"}')
-    told("the changed run", body(answers["POST it in another mode"]), '{"at":0,"fault":26,"name":"RunChanged"}')
-    told("the idents", body(answers["GET the idents"]), "1 A/B deck held\n")
-    told("the deck", body(answers["GET a deck"]), "DECK A/B\nA A/B.1 *DECK A/B\nA A/B.2 ONE\nA A/B.3 TWO\nA A/B.4 THREE\n")
-    told("what is allowed", "Allow: POST" in answers["GET a run's route"].decode(), True)
+            check(what, status(answers[what]), f"HTTP/1.1 {wanted}")
+    check("the repeat is the first reply", answers["POST it again"] == answers["POST a run"], True)
+    check("the mark", body(answers["POST a settlement"]), '{"settled":1,"site":"LYON"}')
+    check("the settled run", body(answers["POST a settled run"]), '{"at":0,"fault":27,"name":"Settled"}')
+    check("the changed run", body(answers["POST it in another mode"]), '{"at":0,"fault":26,"name":"RunChanged"}')
+    check("the idents", body(answers["GET the idents"]), "1 A/B deck held\n")
+    check("the deck", body(answers["GET a deck"]), "DECK A/B\nA A/B.1 *DECK A/B\nA A/B.2 ONE\nA A/B.3 TWO\nA A/B.4 THREE\n")
+    check("what is allowed", "Allow: POST" in answers["GET a run's route"].decode(), True)
 
 
 def try_sockets(upd, file):
@@ -170,35 +171,35 @@ def try_sockets(upd, file):
         ("33 headers", b"GET /idents HTTP/1.1\r\n" + b"X: y\r\n" * 33 + b"\r\n", "400 Bad Request"),
         ("two lengths", b"POST /sites/PARIS/runs/1/quick HTTP/1.1\r\nContent-Length: 0\r\ncontent-length: 0\r\n\r\n", "400 Bad Request"),
         ("a signed length", b"POST /sites/PARIS/runs/1/quick HTTP/1.1\r\nContent-Length: +0\r\n\r\n", "400 Bad Request"),
-        ("bytes behind the body", post % (1, 0, b"GET /idents HTTP/1.1\r\n\r\n"), "200 OK"),
+        ("bytes after the body", post % (1, 0, b"GET /idents HTTP/1.1\r\n\r\n"), "200 OK"),
         ("no head", b"hello\r\n\r\n", "400 Bad Request"),
         ("an expectation", b"GET /idents HTTP/1.1\r\nExpect: 100-continue\r\n\r\n", "200 OK"),
     ]
     with Server(upd, file, len(cases) + 4):
         for what, request, wanted in cases:
             answer = exchange(request)
-            told(what, status(answer), f"HTTP/1.1 {wanted}")
+            check(what, status(answer), f"HTTP/1.1 {wanted}")
             if wanted.startswith("400"):
-                told(f"{what}, its text", body(answer), bad_frame)
-        told("a body that is cut", exchange(post % (2, 30, b"*DECK")), b"")
-        told("nothing at all", exchange(b""), b"")
+                check(f"{what}, its text", body(answer), bad_frame)
+        check("a body that is cut", exchange(post % (2, 30, b"*DECK")), b"")
+        check("nothing at all", exchange(b""), b"")
         exchange(post % (3, len(RUN), RUN.replace(b"A/B", b"D/E")), cut=True)
-        told("a client that went away is answered when it comes again",
+        check("a client that went away is answered when it comes again",
              json.loads(body(exchange(post % (3, len(RUN), RUN.replace(b"A/B", b"D/E")))))["idents"], ["D/E"])
 
 
 def try_file_alone(upd, file):
-    """Once `serve` has ended, its file alone is the library: a copy without the log has all that was answered."""
+    """Once `serve` has ended, its file without the log is the library: a copy has all that was answered."""
     copy = file.parent / "alone.db"
     shutil.copyfile(file, copy)
     found = subprocess.run([upd, "idents", copy], capture_output=True, check=False, text=True).stdout
-    told("the file alone, behind serve, has the idents", found.splitlines(), ["1 A/B deck held", "2 C deck held", "3 D/E deck held"])
+    check("the file without its log, after serve, has the idents", found.splitlines(), ["1 A/B deck held", "2 C deck held", "3 D/E deck held"])
 
 
 def try_sqlite3(file):
     shell = subprocess.run(["sqlite3", file, "SELECT site, num, mode, accepted FROM runs ORDER BY site, num; PRAGMA integrity_check;"],
                            capture_output=True, check=False, text=True)
-    told("sqlite3 on the runs", shell.stdout.split(), ["LYON|2|0|0", "LYON|3|0|0", "LYON|6|1|1", "PARIS|1|1|1", "PARIS|3|1|1", "ok"])
+    check("sqlite3 on the runs", shell.stdout.split(), ["LYON|2|0|0", "LYON|3|0|0", "LYON|6|1|1", "PARIS|1|1|1", "PARIS|3|1|1", "ok"])
 
 
 def spent(words, data=b""):
@@ -220,12 +221,12 @@ def try_times(upd, folder):
     file = folder / "timed.db"
     subprocess.run([upd, "init", file], check=True)
     decks = b"".join(b"*DECK D%d\n" % n + b"".join(b"LINE %d\n" % k for k in range(49)) for n in range(10))
-    told("500 cards", json.loads(spent([upd, "run", file, "A", "1", "quick"], decks)[1].stdout)["state"], "accepted")
+    check("500 cards", json.loads(spent([upd, "run", file, "A", "1", "quick"], decks)[1].stdout)["state"], "accepted")
     helped = [spent([upd, "--help"]) for _ in range(20)]
-    told("upd --help, its statuses", {done.returncode for _, done in helped}, {0})
+    check("upd --help, its statuses", {done.returncode for _, done in helped}, {0})
     within("upd --help", min(seconds for seconds, _ in helped), 0.002)
     handed = [spent([upd, "run", file, "B", str(n), "quick"], b"*IDENT R%d\n*INSERT D1.2\nX\n" % n) for n in range(1, 11)]
-    told("upd run, its statuses", {done.returncode for _, done in handed}, {0})
+    check("upd run, its statuses", {done.returncode for _, done in handed}, {0})
     within("upd run, three lines on 500 cards", min(seconds for seconds, _ in handed), 0.03)
     count = 400
     cases = [
@@ -245,7 +246,7 @@ def try_times(upd, folder):
                     request = f"POST {target} HTTP/1.1\r\nContent-Length: {len(bodies[n])}\r\n\r\n".encode() + bodies[n]
                 answers.add(status(exchange(request)))
             each = (server.seconds() - before) / count
-            told(f"{what}, its statuses", answers, {"HTTP/1.1 200 OK"})
+            check(f"{what}, its statuses", answers, {"HTTP/1.1 200 OK"})
             if budget is None:
                 print(f"    {what}: {1000 * each:.3f} ms of processor time")
             else:
@@ -258,7 +259,7 @@ def try_times(upd, folder):
         start = time.monotonic()
         taken, done = spent([upd, "spool", file], frames)
         wall = time.monotonic() - start
-        told(f"accepted runs in a spool of 10,000 frames on {what}", done.stdout.count(b'"state":"accepted"}\n'), 10_000)
+        check(f"accepted runs in a spool of 10,000 frames on {what}", done.stdout.count(b'"state":"accepted"}\n'), 10_000)
         print(f"    {10_000 / wall:.0f} frames a second")
         if budget is None:
             print(f"    a frame on {what}: {taken / 10:.3f} ms of processor time")
@@ -272,7 +273,7 @@ def spooled(upd, file, site, runs):
     """Processor seconds of a spool of quick runs, each accepted."""
     frames = b"".join(b"RUN %s %d quick %d\n%s\n" % (site, n, len(run), run) for n, run in enumerate(runs, 1))
     taken, done = spent([upd, "spool", file], frames)
-    told(f"accepted runs of {site.decode()}", done.stdout.count(b'"state":"accepted"}\n'), len(runs))
+    check(f"accepted runs of {site.decode()}", done.stdout.count(b'"state":"accepted"}\n'), len(runs))
     return taken
 
 
@@ -290,7 +291,7 @@ def small_library(upd, file):
     spooled(upd, file, b"DECKS", [b"*DECK D%d\n" % k + b"".join(b"LINE %d\n" % n for n in range(49)) for k in range(10)])
 
 
-# a run as it is told, its mode, its text with a number of its own, and its budget on the large library
+# a run in words, its mode, its text with a number of its own, and its budget on the large library
 RUNS = [
     ("a plain quick run on one deck", "quick", "*IDENT Q%d\n*DELETE D2.3\nX\n", 0.06),
     ("a plain quick run that names the deck to compile", "quick", "*IDENT C%d\n*DELETE D2.3\nX\n*COMPILE D2\n", None),
@@ -325,7 +326,7 @@ def try_large(upd, folder, times=9):
                 if case == 0:
                     print(f"    the first run on an open file, {size} library: {1000 * each[0]:.2f} ms of processor time")
                 taken[size, what] = statistics.median(each)
-                told(f"{what}, {size} library", {status(answer) for answer in answers}, {"HTTP/1.1 200 OK"})
+                check(f"{what}, {size} library", {status(answer) for answer in answers}, {"HTTP/1.1 200 OK"})
             taken[size, "idents"] = statistics.median(spent_each(server, [b"GET /idents HTTP/1.1\r\n\r\n"] * times)[0])
     for what, _, _, budget in RUNS + [("idents", None, None, None)]:
         beside = f"{what}, large library (on 500 cards {1000 * taken['small', what]:.2f} ms)"

@@ -1,5 +1,5 @@
 #!/usr/bin/env python3
-"""Holds the completions and the man page against what the executable says of itself.
+"""Compares the completions and the man page with what the executable says of itself.
 
     python3 completions/check.py [--executable FILE]
 
@@ -41,7 +41,8 @@ def completed(folder, shell, line):
 
 def asked(shell, commands):
     """Lines that a shell completes wrongly."""
-    wanted = {"upd ": sorted(commands), "upd ser": ["serve"], "upd trial ": MODES, "upd run library.db LYON 1 ": MODES, "upd run library.db LYON ": []}
+    wanted = {"upd ": sorted(commands), "upd ser": ["serve"], "upd trial ": MODES, "upd run library.db LYON 1 ": MODES,
+              "upd run library.db LYON ": []}
     wanted |= {f"upd {command} ": ["library.db"] for command in commands if command != "trial"}
     with tempfile.TemporaryDirectory() as folder:
         (Path(folder) / "library.db").touch()
@@ -58,7 +59,8 @@ def groff_says():
 
 def main():
     words = argparse.ArgumentParser(description=__doc__.splitlines()[0])
-    words.add_argument("--executable", metavar="FILE", type=Path, default=ROOT / "crates/upd/out/upd", help="the executable of upd (default: crates/upd/out/upd)")
+    words.add_argument("--executable", metavar="FILE", type=Path, default=ROOT / "crates/upd/out/upd",
+                       help="the executable of upd (default: crates/upd/out/upd)")
     upd = words.parse_args().executable
     if not upd.is_file():
         sys.exit(f"{upd} isn't there: `rt run` in crates/upd makes it")

@@ -4,118 +4,189 @@
 #     site.sh FOLDER SITE FILE     runs go to the library in FILE, by the program UPD (`upd` unless it is set)
 #     site.sh FOLDER SITE URL      runs go to a server, as http://127.0.0.1:8080, by curl
 #
-# Put a run into FOLDER/outbox under a name that ends in its mode, as fix-12.full. Use a rename, so that the file is complete
-# when it appears. In the order of names each gets the next number, and moves to FOLDER/sent/NUMBER.MODE. Its reply comes to
-# FOLDER/replies/NUMBER.json. A run keeps its number and its bytes until it is answered, so it acts once, however often it
-# is sent. When all that was sent is answered, the site settles: the library forgets replies that the site has.
+#     FOLDER/outbox/fix.full       a run that you put here; the name ends in the mode, .full, .quick or .normal
+#     FOLDER/sent/7.fix.full       the same run, once it has its number
+#     FOLDER/replies/7.json        its reply
 #
-# Files with other suffixes stay in the outbox. A refused run has a reply too: look for "state":"refused" in FOLDER/replies.
-# Start the script only once at a time for a folder, as with `flock FOLDER sh site.sh ..`.
+# Write a run under a name that begins with a dot, and rename it when it is complete. In the order of names each run gets the
+# next number and moves to FOLDER/sent. It keeps its number and its bytes, and is sent until it is answered. So it acts once.
+# Each answer is a line on standard output, a refused one on standard error. When all runs in FOLDER/sent are answered, the
+# site settles up to the greatest number, and the library forgets the replies. Keep FOLDER/sent until a backup of the library
+# has these runs.
 #
-# Exit status: 0 all is answered and settled; 1 a run was refused without a reply, for its site or its length, say, or because
-# its number is settled or was used for another run: rename FOLDER/sent/NUMBER.MODE to NUMBER.refused, put the corrected run
-# into the outbox, and start the script again; 2 not three words; 3 no answer after TRIES tries, PAUSE seconds apart (10 and
-# 5 unless they are set), or a file can't be moved, or the settlement failed: start the script again.
+# A site that has sent runs in another way begins after its greatest number, 41, say: touch FOLDER/sent/41.used
+#
+# Exit status:
+#   0  all runs are answered and settled, and none was refused
+#   1  the same, but a run was refused now, or a file in the outbox can't be sent; each is named on standard error
+#   2  the words are not FOLDER SITE FILE or FOLDER SITE URL
+#   3  start the script again: no answer after TRIES tries, PAUSE seconds apart (10 and 5 unless they are set); or a file
+#      can't be moved, the settlement failed, another site.sh is at work in FOLDER, or a program is missing
+#   4  a run was answered without a reply, and nothing is sent after it. It is named with that answer. RunChanged and Settled
+#      mean that something else has sent runs of this site. Rename FOLDER/sent/7.fix.full to 7.fix.refused, put the run into
+#      the outbox again, and start the script again.
 set -u
+export LC_ALL=C # names are in the order of their bytes
 
-if [ $# -ne 3 ]; then
-    echo "usage: site.sh FOLDER SITE FILE-OR-URL" >&2
+say() {
+    printf 'site.sh: %s\n' "$*" >&2
+}
+
+usage() {
+    say "usage: site.sh FOLDER SITE FILE-OR-URL; a site is 1 to 8 of A-Z and 0-9"
     exit 2
-fi
+}
+
+[ $# -eq 3 ] || usage
+case $2 in
+'' | *[!A-Z0-9]* | ?????????*) usage ;;
+esac
 folder=$1 site=$2 desk=$3
 upd=${UPD:-upd} tries=${TRIES:-10} pause=${PAUSE:-5}
+newline='
+'
+case $desk in
+http://* | https://*) desk=${desk%/} program=curl ;;
+*) program=$upd ;;
+esac
+for needed in "$program" flock; do
+    command -v "$needed" >/dev/null || {
+        say "$needed is not on the path"
+        exit 3
+    }
+done
 mkdir -p "$folder/outbox" "$folder/sent" "$folder/replies" || exit 3
 
-# The greatest number that was given to a run, 0 without one.
-last_number() {
+# Only one script at a time works in a folder. What sends for it has the lock too, and ends before another script begins.
+exec 9>"$folder/lock" || exit 3
+flock -n 9 || {
+    say "another site.sh is at work in $folder"
+    exit 3
+}
+
+# The numbers that were given, in order.
+numbers() {
     for run in "$folder/sent"/*; do
-        echo "${run##*/}"
-    done | sed -n 's/^\([1-9][0-9]*\)\.[a-z]*$/\1/p' | sort -n | tail -n 1 | grep . || echo 0
+        name=${run##*/}
+        echo "${name%%.*}"
+    done | grep '^[1-9][0-9]*$' | sort -n
+}
+
+# Why a file in the outbox can't be sent; nothing where it can.
+obstacle() {
+    case $1 in
+    *"$newline"*) echo "has a line end in its name" ;;
+    *.full | *.quick | *.normal)
+        if [ ! -f "$1" ] || [ ! -r "$1" ]; then
+            echo "is not a file that can be read"
+        elif [ "$(wc -c <"$1")" -gt 65536 ]; then
+            echo "has more than 65,536 bytes: cut it in two"
+        fi
+        ;;
+    *) echo "has another suffix than .full, .quick and .normal" ;;
+    esac
 }
 
 # Gives each run in the outbox its number. A rename happens wholly or not at all.
 number_runs() {
-    number=$(last_number)
-    for run in "$folder/outbox"/*.full "$folder/outbox"/*.quick "$folder/outbox"/*.normal; do
-        if [ -e "$run" ]; then
-            echo "${run##*/}"
+    number=$(numbers | tail -n 1)
+    number=${number:-0}
+    for run in "$folder/outbox"/*; do
+        [ -e "$run" ] || continue # the outbox is empty
+        why=$(obstacle "$run")
+        if [ -n "$why" ]; then
+            say "$run $why; it stays there"
+            result=1
+        else
+            number=$((number + 1))
+            mv "$run" "$folder/sent/$number.${run##*/}" || exit 3
         fi
-    done | LC_ALL=C sort | while IFS= read -r name; do
-        number=$((number + 1))
-        mv "$folder/outbox/$name" "$folder/sent/$number.${name##*.}" || exit 3
     done
 }
 
-# Sends a run once: 0 answered, with the answer in FOLDER/replies/part; 1 refused for good; 3 no answer.
+# Sends a run once: 0 answered, with the reply in FOLDER/replies/part; 3 no answer; 4 an answer that is not a reply.
 send() {
-    number=$1 mode=$2 run="$folder/sent/$1.$2" part="$folder/replies/part"
-    case $desk in
-    http://* | https://*)
-        status=$(curl --silent --max-time 60 --output "$part" --write-out '%{http_code}' \
+    number=$1 mode=$2 run=$3
+    rm -f "$part"
+    case $program in
+    curl)
+        status=$(curl --silent --max-time 60 --header Expect: --output "$part" --write-out '%{http_code}' \
             --data-binary "@$run" "$desk/sites/$site/runs/$number/$mode") || return 3 # a truncated answer does not count
         case $status in
-        200 | 422) return 0 ;;
+        200 | 422) ;;
         000 | 5??) return 3 ;;
-        *) return 1 ;;
+        *) return 4 ;;
         esac
         ;;
     *)
         "$upd" run "$desk" "$site" "$number" "$mode" <"$run" >"$part"
         case $? in
-        0) return 0 ;;
-        1) grep -q '"state":"refused"' "$part" ;; # a refused run has a reply; without one it is refused for good
+        0 | 1) ;;
+        2) return 4 ;;
         *) return 3 ;;
         esac
         ;;
     esac
+    grep -q "\"run\":$number,\"site\":\"$site\",\"state\":\"[a-z]*\"}\$" "$part" || return 4
 }
 
-# Sends a run until it is answered, and stores the answer.
+# Sends a run until it is answered, stores the answer, and says what it is.
 send_until_answered() {
-    left=$tries
-    while [ "$left" -gt 0 ]; do
-        send "$1" "$2"
+    number=$1 mode=$2 run=$3 left=$tries part="$folder/replies/part"
+    while :; do
+        send "$number" "$mode" "$run"
         case $? in
-        0)
-            mv "$folder/replies/part" "$folder/replies/$1.json" || exit 3
-            return
-            ;;
-        1)
-            echo "run $1 is refused: $(cat "$folder/replies/part")" >&2
-            exit 1
+        0) break ;;
+        4)
+            say "${run##*/} has no reply, but this answer: $(head -c 500 "$part" 2>/dev/null)"
+            say "nothing is sent after it; the first lines of $0 say what to do"
+            exit 4
             ;;
         esac
         left=$((left - 1))
-        sleep "$pause"
+        if [ "$left" -le 0 ]; then
+            say "${run##*/} has no answer yet"
+            exit 3
+        fi
+        sleep "$pause" 9>&-
     done
-    echo "run $1 has no answer yet" >&2
-    exit 3
+    if grep -q '"state":"refused"}$' "$part"; then
+        say "${run##*/} is refused: $(cat "$part")"
+        result=1
+    else
+        echo "${run##*/} is accepted"
+    fi
+    mv "$part" "$folder/replies/$number.json" || exit 3
 }
 
 # Settles up to a number. A settlement that is lost can be made again at any time.
 settle() {
-    case $desk in
-    http://* | https://*)
-        curl --silent --fail --max-time 60 --data '' "$desk/sites/$site/settled/$1"
-        ;;
-    *) "$upd" settle "$desk" "$site" "$1" ;;
-    esac
+    answer="$folder/settled.json"
+    if grep -qs "\"settled\":$1," "$answer"; then
+        return
+    fi
+    sync # the replies are on the disk before the library forgets them
+    case $program in
+    curl) curl --silent --fail --max-time 60 --output "$answer.part" --data '' "$desk/sites/$site/settled/$1" ;;
+    *) "$upd" settle "$desk" "$site" "$1" >"$answer.part" ;;
+    esac && grep -q '"settled":' "$answer.part" && mv "$answer.part" "$answer"
 }
 
-number_runs || exit 3
-last=$(last_number)
-number=1
-while [ "$number" -le "$last" ]; do
+result=0
+number_runs
+for number in $(numbers); do
     set -- "$folder/sent/$number".*
     case $1 in
-    *.full | *.quick | *.normal) # a number without such a file is not used
+    *.full | *.quick | *.normal) # a number without such a file is passed over
         if [ ! -e "$folder/replies/$number.json" ]; then
-            send_until_answered "$number" "${1##*.}"
+            send_until_answered "$number" "${1##*.}" "$1"
         fi
         ;;
     esac
-    number=$((number + 1))
 done
-if [ "$last" -gt 0 ]; then
-    settle "$last" || exit 3
+last=$(numbers | tail -n 1)
+if [ -n "$last" ] && ! settle "$last"; then
+    say "the settlement up to $last failed"
+    exit 3
 fi
+exit "$result"

@@ -10,12 +10,19 @@ use Rattle.upd_core.specs.Library.{LibraryView}
 use Rattle.upd_core.specs.Targets.{is_same}
 use Rattle.upd_deck.specs.declared.item.NameRange.{NameRange}
 use Rattle.upd_deck.specs.declared.item.IdentIn.{IdentIn}
-use Rattle.upd_apply.specs.Names.{ages_by, idents_in, known_deck, known_ident}
+use Rattle.upd_apply.specs.Names.{Ages, ages_by, idents_in, known_deck, known_ident}
 
 -- a list without repetitions: each element at its first position; the test says which elements are the same
 abbrev pub once : {A : Type 0} → (A → A → Bool) → List A → List A
 once same [] = []
 once same (x ∷ xs) = x ∷ filter (λ y. not (same x y)) (once same xs)
+
+-- the ages of a range of `*YANK`, all older than the set
+abbrev pub older_ages : ℕ → LibraryView → NameRange → Result Ages FaultKind
+older_ages z l range = do
+  ages ← ages_by known_ident range l
+  _ ← refuse_if (nat_le z ages.to) fault.YankSelf
+  Ok ages
 
 -- the targets of a range of `*YANK`: its idents, all older than the set
 abbrev pub range_targets : ℕ → LibraryView → NameRange → Result (List Target) FaultKind

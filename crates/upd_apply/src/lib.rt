@@ -14,3 +14,4 @@ mod yanks;
 
 pub use applying::{Applied, apply, purge_back};
 pub use state::{CurrentSet, InsertPoint, State};
+pub use step::numbers_rise_by_one;

@@ -1,12 +1,12 @@
 //! Purges: `*PURGE`, `*SELPURGE`, `*PURDECK`, and the idents that they name.
-ghost use Rattle.std.specs.Prelude.{◌≡◌, ◌&&◌, [], ◌++◌, map, OnOk};
+ghost use Rattle.std.specs.Prelude.{◌≡◌, ◌&&◌, [], ◌∷◌, ◌++◌, map, Ok, Err, MatchResult, OnOk};
 ghost use Rattle.std.specs.List.{filter};
 ghost use Rattle.upd_core.specs.Library.{is_deck_kind};
 ghost use Rattle.upd_text.specs.Outcome.{Does, Gives};
 ghost use Rattle.upd_deck.specs.Items.{PurDeck, Purge, PurgeFrom, SelPurge};
 ghost use Rattle.upd_apply.specs.Step.{ended, line_done, purged_in_all};
 ghost use Rattle.upd_apply.specs.Names.{is_in};
-ghost use Rattle.upd_apply.specs.Purges.{decks_purged, idents_purged, pairs_purged};
+ghost use Rattle.upd_apply.specs.Purges.{decks_purged, idents_purged, pair_ages, pairs_purged};
 
 use crate::names::{AgeRange, deck_ages, ident_ages, known_deck, known_ident};
 use crate::state::{InsertPoint, State};
@@ -47,7 +47,9 @@ impl State {
 
     /// `*PURGE` of an ident and all younger ones.
     pub(crate) fn purge_from(&mut self, name: &Name) -> Result<(), FaultKind>
-        ensures { Does result self.new (line_done (PurgeFrom name.now) [] self.old) }
+        ensures { MatchResult result
+            (λ _. line_done (PurgeFrom name.now) [] self.old ≡ Ok self.new)
+            (λ e. line_done (PurgeFrom name.now) [] self.old ≡ Err e) }
     {
         let age = known_ident(&self.library, name)?;
         self.library.purge_from(age);
@@ -129,14 +131,24 @@ pub(crate) fn pairs_purged(library: &Library, pairs: &[IdentIn]) -> Result<Vec<A
 {
     let mut found = Vec::new(library.allocator());
     for pair in pairs {
-        let deck = known_deck(library, &pair.deck)?;
-        let ident = known_ident(library, &pair.ident)?;
-        if ident == deck {
-            return Err(FaultKind::DeckCard);
-        }
-        found.push(AgePair { deck, ident })?;
+        let ages = pair_ages(library, pair)?;
+        found.push(ages)?;
     }
     Ok(found)
+}
+
+/// An ident in a deck, which isn't the deck's own; else Reserved, DeckUnknown, IdentUnknown or DeckCard.
+fn pair_ages(library: &Library, pair: &IdentIn) -> Result<AgePair, FaultKind>
+    ensures { MatchResult result
+        (λ ages. pair_ages library.now pair.now ≡ Ok (ages ∷ []))
+        (λ e. pair_ages library.now pair.now ≡ Err e) }
+{
+    let deck = known_deck(library, &pair.deck)?;
+    let ident = known_ident(library, &pair.ident)?;
+    if ident == deck {
+        return Err(FaultKind::DeckCard);
+    }
+    Ok(AgePair { deck, ident })
 }
 
 /// Adds the serials of the held idents in a range.

@@ -1,11 +1,11 @@
 //! The state of a run in progress, and the directives for idents, decks, corrections and text.
-ghost use Rattle.std.specs.Prelude.{◌≡◌, ◌+◌, ◌^◌, ◌<◌, ◌≤◌, [], length, Some, MatchResult};
+ghost use Rattle.std.specs.Prelude.{◌≡◌, ◌+◌, ◌^◌, ◌<◌, ◌≤◌, ◌==◌, ◌||◌, false, nat_lt, not, [], length, Some, Ok, Err, MatchResult};
 ghost use Rattle.upd_core.specs.Edits.{new_card, next_age};
 ghost use Rattle.upd_core.specs.Library.{place_of};
-ghost use Rattle.upd_text.specs.Outcome.{Does, need};
+ghost use Rattle.upd_text.specs.Outcome.{Does, need, refuse_if};
 ghost use Rattle.upd_text.specs.declared.fault.FaultKind.TheVariants as fault;
 ghost use Rattle.upd_apply.specs.Applying.{started};
-ghost use Rattle.upd_apply.specs.declared.state.InsertPoint.TheVariants.{End, Inside};
+ghost use Rattle.upd_apply.specs.declared.state.InsertPoint.TheVariants.{End, Inside, Nowhere};
 ghost use Rattle.upd_apply.specs.Numbers.{next_most};
 ghost use Rattle.upd_apply.specs.Step.{behind, deck_begun, is_deck_card, placed_after, placed_before, set_begun, within_limits};
 ghost use Rattle.upd_apply.specs.Step.{switched, text_put};
@@ -89,13 +89,13 @@ impl State {
 
     /// `*INSERT`: the next text follows a card.
     pub(crate) fn place_after(&mut self, card: &CardRef) -> Result<(), FaultKind>
-        ensures { Does result self.new (placed_after card.now self.old) }
+        ensures { MatchResult result
+            (λ _. placed_after card.now self.old ≡ Ok self.new)
+            (λ e. placed_after card.now self.old ≡ Err e) }
     {
-        self.current_set.ok_or(FaultKind::NoIdent)?;
+        self.known_set()?;
         let place = known_card(&self.library, card)?;
-        if place.deck == 0 {
-            return Err(FaultKind::YankText);
-        }
+        refuse_yanks(place.deck)?;
         self.insert_point = InsertPoint::Inside {
             deck: place.deck,
             behind: behind(&self.library, place),
@@ -105,16 +105,14 @@ impl State {
 
     /// `*BEFORE`: the next text precedes a card.
     pub(crate) fn place_before(&mut self, card: &CardRef) -> Result<(), FaultKind>
-        ensures { Does result self.new (placed_before card.now self.old) }
+        ensures { MatchResult result
+            (λ _. placed_before card.now self.old ≡ Ok self.new)
+            (λ e. placed_before card.now self.old ≡ Err e) }
     {
-        self.current_set.ok_or(FaultKind::NoIdent)?;
+        self.known_set()?;
         let place = known_card(&self.library, card)?;
-        if place.deck == 0 {
-            return Err(FaultKind::YankText);
-        }
-        if is_deck_card(place) {
-            return Err(FaultKind::DeckCard);
-        }
+        refuse_yanks(place.deck)?;
+        refuse_deck_card(place)?;
         self.insert_point = InsertPoint::Inside {
             deck: place.deck,
             behind: behind(&self.library, place) + 1,
@@ -131,15 +129,11 @@ impl State {
     ) -> Result<(), FaultKind>
         ensures { Does result self.new (switched active first.now last.now self.old) }
     {
-        let current_set = self.current_set.ok_or(FaultKind::NoIdent)?;
+        let current_set = self.known_set()?;
         let from = known_card(&self.library, first)?;
         let to = known_last(&self.library, first, from, last)?;
-        if from.deck != to.deck || to.index < from.index {
-            return Err(FaultKind::RangeOrder);
-        }
-        if is_deck_card(from) {
-            return Err(FaultKind::DeckCard);
-        }
+        refuse_disorder(from, to)?;
+        refuse_deck_card(from)?;
         let behind = behind(&self.library, to);
         let entry = Entry {
             ident: current_set.ident,
@@ -157,7 +151,8 @@ impl State {
     /// Text and calls: inserts a card at the insertion point.
     pub(crate) fn put_text(&mut self, text: &[u8]) -> Result<(), FaultKind>
         requires { next_most self.old + 1 < 2 ^ 32 }
-        ensures { Does result self.new (text_put text.now self.old.insert_point self.old) }
+        ensures done { Does result self.new (text_put text.now self.old.insert_point self.old) }
+        ensures nowhere { self.old.insert_point ≡ Nowhere → result ≡ Err fault.TextNowhere }
     {
         match self.insert_point {
             InsertPoint::Nowhere => Err(FaultKind::TextNowhere),
@@ -188,10 +183,8 @@ impl State {
         requires number { next_most self.old + 1 < 2 ^ 32 }
         ensures { Does result self.new (text_put text.now self.old.insert_point self.old) }
     {
-        let CurrentSet { ident, next } = self.current_set.ok_or(FaultKind::TextNowhere)?;
-        if deck == 0 {
-            return Err(FaultKind::YankText);
-        }
+        let CurrentSet { ident, next } = self.set_for_text()?;
+        refuse_yanks(deck)?;
         let card = new_card(&self.library, ident, next, text)?;
         self.library.insert_card(deck, behind, card)?;
         check_limits(&self.library)?;
@@ -201,6 +194,56 @@ impl State {
         });
         Ok(())
     }
+
+    /// The current set; else NoIdent.
+    pub(crate) fn known_set(&self) -> Result<CurrentSet, FaultKind>
+        ensures { result ≡ need fault.NoIdent self.now.current_set }
+    {
+        self.current_set.ok_or(FaultKind::NoIdent)
+    }
+
+    /// The current set, for text inside a deck; else TextNowhere.
+    fn set_for_text(&self) -> Result<CurrentSet, FaultKind>
+        ensures { result ≡ need fault.TextNowhere self.now.current_set }
+    {
+        self.current_set.ok_or(FaultKind::TextNowhere)
+    }
+}
+
+/// Refuses text in `YANK$$$`: YankText.
+fn refuse_yanks(deck: Serial) -> Result<(), FaultKind>
+    ensures { MatchResult result
+        (λ _. refuse_if (deck == 0) fault.YankText ≡ Ok false)
+        (λ e. refuse_if (deck == 0) fault.YankText ≡ Err e) }
+{
+    if deck == 0 {
+        return Err(FaultKind::YankText);
+    }
+    Ok(())
+}
+
+/// Refuses the place of a deck's first card: DeckCard.
+fn refuse_deck_card(place: Place) -> Result<(), FaultKind>
+    ensures { MatchResult result
+        (λ _. refuse_if (is_deck_card place) fault.DeckCard ≡ Ok false)
+        (λ e. refuse_if (is_deck_card place) fault.DeckCard ≡ Err e) }
+{
+    if is_deck_card(place) {
+        return Err(FaultKind::DeckCard);
+    }
+    Ok(())
+}
+
+/// Refuses a range over two decks, or one that ends before it begins: RangeOrder.
+fn refuse_disorder(from: Place, to: Place) -> Result<(), FaultKind>
+    ensures { MatchResult result
+        (λ _. refuse_if (not (from.deck == to.deck) || nat_lt to.index from.index) fault.RangeOrder ≡ Ok false)
+        (λ e. refuse_if (not (from.deck == to.deck) || nat_lt to.index from.index) fault.RangeOrder ≡ Err e) }
+{
+    if from.deck != to.deck || to.index < from.index {
+        return Err(FaultKind::RangeOrder);
+    }
+    Ok(())
 }
 
 /// Full where a library exceeds a limit.

@@ -1,5 +1,5 @@
 //! Yanks: `*YANK`, `*SELYANK`, `*YANKDECK`, and their targets.
-ghost use Rattle.std.specs.Prelude.{◌≡◌, ◌+◌, ◌^◌, ◌<◌, ◌&&◌, ◌||◌, ◌==◌, ℕ, [], ◌∷◌, ◌++◌, map, Ok, Some, OnOk};
+ghost use Rattle.std.specs.Prelude.{◌≡◌, ◌+◌, ◌^◌, ◌<◌, ◌&&◌, ◌||◌, ◌==◌, ℕ, [], ◌∷◌, ◌++◌, map, Ok, Err, Some, MatchResult, OnOk};
 ghost use Rattle.std.specs.List.{filter};
 ghost use Rattle.upd_text.specs.Outcome.{Does, Gives};
 ghost use Rattle.upd_core.specs.declared.target.Target.TheVariants.{Set};
@@ -8,7 +8,7 @@ ghost use Rattle.upd_apply.specs.Numbers.{next_most};
 ghost use Rattle.upd_apply.specs.Step.{yank_put};
 ghost use Rattle.upd_apply.specs.Names.{is_in};
 ghost use Rattle.upd_core.specs.Targets.{is_same};
-ghost use Rattle.upd_apply.specs.Yanks.{decks_yanked, once, pairs_yanked, sets_yanked};
+ghost use Rattle.upd_apply.specs.Yanks.{deck_targets, decks_yanked, older_ages, once, pair_targets, pairs_yanked, sets_yanked};
 
 use crate::names::{AgeRange, ident_ages, known_deck, known_ident};
 use crate::state::{CurrentSet, InsertPoint, State, check_limits};
@@ -23,7 +23,7 @@ impl State {
         requires { next_most self.old + 1 < 2 ^ 32 }
         ensures { Does result self.new (yank_put text.now (sets_yanked ranges.now) self.old) }
     {
-        let current_set = self.current_set.ok_or(FaultKind::NoIdent)?;
+        let current_set = self.known_set()?;
         let targets = sets_yanked(&self.library, current_set.ident, ranges)?;
         self.put_yank(current_set, text, targets)
     }
@@ -33,7 +33,7 @@ impl State {
         requires { next_most self.old + 1 < 2 ^ 32 }
         ensures { Does result self.new (yank_put text.now (pairs_yanked pairs.now) self.old) }
     {
-        let current_set = self.current_set.ok_or(FaultKind::NoIdent)?;
+        let current_set = self.known_set()?;
         let targets = pairs_yanked(&self.library, current_set.ident, pairs)?;
         self.put_yank(current_set, text, targets)
     }
@@ -43,7 +43,7 @@ impl State {
         requires { next_most self.old + 1 < 2 ^ 32 }
         ensures { Does result self.new (yank_put text.now (decks_yanked names.now) self.old) }
     {
-        let current_set = self.current_set.ok_or(FaultKind::NoIdent)?;
+        let current_set = self.known_set()?;
         let targets = decks_yanked(&self.library, current_set.ident, names)?;
         self.put_yank(current_set, text, targets)
     }
@@ -83,10 +83,7 @@ pub(crate) fn sets_yanked(
     let mut found = Vec::new(library.allocator());
     let mut marks = Vec::new(library.allocator());
     for range in ranges {
-        let ages = ident_ages(library, range)?;
-        if set <= ages.to {
-            return Err(FaultKind::YankSelf);
-        }
+        let ages = older_ages(library, set, range)?;
         add_sets(&mut found, &mut marks, library.idents(), ages)?;
     }
     Ok(found)
@@ -102,12 +99,8 @@ pub(crate) fn pairs_yanked(
 {
     let mut found = Vec::new(library.allocator());
     for pair in pairs {
-        let deck = known_deck(library, &pair.deck)?;
-        let ident = known_ident(library, &pair.ident)?;
-        if set <= deck || set <= ident {
-            return Err(FaultKind::YankSelf);
-        }
-        add_target(&mut found, Target::SetIn(ident, deck))?;
+        let target = pair_target(library, set, pair)?;
+        add_target(&mut found, target)?;
     }
     Ok(found)
 }
@@ -122,17 +115,52 @@ pub(crate) fn decks_yanked(
 {
     let mut found = Vec::new(library.allocator());
     for name in names {
-        let deck = known_deck(library, name)?;
-        if set <= deck {
-            return Err(FaultKind::YankSelf);
-        }
-        add_target(&mut found, Target::Deck(deck))?;
+        let target = deck_target(library, set, name)?;
+        add_target(&mut found, target)?;
     }
     Ok(found)
 }
 
+/// The ages of a range of idents, all older than a set; else Reserved, IdentUnknown, RangeOrder or YankSelf.
+fn older_ages(library: &Library, set: Serial, range: &NameRange) -> Result<AgeRange, FaultKind>
+    ensures { result ≡ older_ages set library.now range.now }
+{
+    let ages = ident_ages(library, range)?;
+    if set <= ages.to {
+        return Err(FaultKind::YankSelf);
+    }
+    Ok(ages)
+}
+
+/// An ident in a deck, both older than a set; else Reserved, DeckUnknown, IdentUnknown or YankSelf.
+fn pair_target(library: &Library, set: Serial, pair: &IdentIn) -> Result<Target, FaultKind>
+    ensures { MatchResult result
+        (λ target. pair_targets set library.now pair.now ≡ Ok (target ∷ []))
+        (λ e. pair_targets set library.now pair.now ≡ Err e) }
+{
+    let deck = known_deck(library, &pair.deck)?;
+    let ident = known_ident(library, &pair.ident)?;
+    if set <= deck || set <= ident {
+        return Err(FaultKind::YankSelf);
+    }
+    Ok(Target::SetIn(ident, deck))
+}
+
+/// A deck older than a set; else Reserved, DeckUnknown or YankSelf.
+fn deck_target(library: &Library, set: Serial, name: &Name) -> Result<Target, FaultKind>
+    ensures { MatchResult result
+        (λ target. deck_targets set library.now name.now ≡ Ok (target ∷ []))
+        (λ e. deck_targets set library.now name.now ≡ Err e) }
+{
+    let deck = known_deck(library, name)?;
+    if set <= deck {
+        return Err(FaultKind::YankSelf);
+    }
+    Ok(Target::Deck(deck))
+}
+
 /// Adds the idents of a range that aren't in `found` yet. The flags by serial avoid a search of `found` for each ident:
-/// a range may name all idents.
+/// for each would go over all that was found.
 fn add_sets(
     found: &mut Vec<Target>,
     marks: &mut Vec<bool>,

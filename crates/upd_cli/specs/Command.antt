@@ -58,7 +58,7 @@ EndsTrial (Err fault) output output' defined =
     ((defined ≡ Err fault) × Appends output output' [])
     ⊎ ((exit_status fault.kind ≡ 3) × LeavesOutput fault.kind output output' (answer_to defined).output)
 
--- How a command that ended so is told: a fault by its line, of which at most a beginning stands there where the write failed.
+-- How a command reports its end: a fault by its line, of which only a prefix is written where the write failed.
 abbrev pub IsEnd : {U : Type 0} → Result U Fault → ℕ → Option (List ℕ) → Option (List ℕ) → Type 0
 IsEnd (Ok u) status faults faults' = (status ≡ 0) × Appends faults faults' []
 IsEnd (Err fault) status faults faults' = IsTold (exit_status fault.kind) (fault_line fault) status faults faults'

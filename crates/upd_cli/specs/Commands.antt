@@ -18,7 +18,7 @@ use Rattle.upd_cli.specs.declared.words.Request.TheVariants.{Library, Serve, Unr
 use Rattle.upd_cli.specs.declared.words.Asked.{Asked}
 use Rattle.upd_cli.specs.declared.words.Asked.TheVariants as asks
 
--- the fault of a NUMBER that is none
+-- the fault of a NUMBER that is not valid
 abbrev pub no_number : Fault
 no_number = record { kind = BadNumber; at = 0 }
 
@@ -27,17 +27,17 @@ module _ (ended : Result ℕ Fault) (output output' : Option (List ℕ)) where
   abbrev pub TellsNothing : Type 0
   TellsNothing = IsErrAnd ended (λ fault. exit_status fault.kind ≡ 3) × Appends output output' []
 
-  -- a command that asks with a number was told so; a NUMBER that is none is refused, and nothing is asked
+  -- a command with a NUMBER reported this; a NUMBER that is not valid is refused, and nothing is asked
   abbrev pub TellsNumbered : Option ℕ → Type 0 → Type 0
   TellsNumbered (Some number) told = told ⊎ TellsNothing
   TellsNumbered None told = (ended ≡ Err no_number) × Appends output output' []
 
-  -- a command that asks with a word was told so; a word that is none is refused, and nothing is asked
+  -- a command with a DECK or CARD reported this; one that is not valid is refused, and nothing is asked
   abbrev pub TellsRead : {A : Type 0} → Result A Fault → Type 0
   TellsRead (Ok read) = (answer : Result (List ℕ) Fault) × TellsText answer ended output output'
   TellsRead (Err fault) = (ended ≡ Err fault) × Appends output output' []
 
-  -- a command that tells nothing: all was done, or memory, the store, a read or a write failed
+  -- a command without an answer: all was done, or memory, the store, a read or a write failed
   abbrev pub IsSilent : Type 0
   IsSilent = IfOk ended (λ status. status ≡ 0) × IfErr ended (λ fault. exit_status fault.kind ≡ 3) × Appends output output' []
 
@@ -54,7 +54,7 @@ Leaves asks.Init ended input input' output output' = IsSilent ended output outpu
 Leaves asks.Migrate ended input input' output output' = IsSilent ended output output'
 Leaves _ ended input input' output output' = (answer : Result (List ℕ) Fault) × TellsText answer ended output output'
 
--- a command that ended so has this exit status, and its fault, if any, is told by its line
+-- the exit status of a command that ended so; its fault, if any, is reported by its line
 abbrev pub IsEndOf : Result ℕ Fault → ℕ → Option (List ℕ) → Option (List ℕ) → Type 0
 IsEndOf (Ok meant) status faults faults' = (status ≡ meant) × Appends faults faults' []
 IsEndOf (Err fault) status faults faults' = IsTold (exit_status fault.kind) (fault_line fault) status faults faults'
@@ -64,7 +64,7 @@ abbrev pub IsCarriedOut : Asked → ℕ → Option (List ℕ) → Option (List �
 IsCarriedOut asked status input input' output output' faults faults' =
     (ended : Result ℕ Fault) × Leaves asked ended input input' output output' × IsEndOf ended status faults faults'
 
--- how `serve` ended: an ADDRESS or a COUNT that is none is no command line; else connections were served, or what failed is told by its line
+-- how `serve` ended: an ADDRESS or a COUNT that is not valid is a mistake in the command line; else connections were served, or the failure is reported by its line
 abbrev pub IsServed : List ℕ → List ℕ → ℕ → Option (List ℕ) → Option (List ℕ) → Type 0
 IsServed address count status faults faults' =
     ((IsNoAddress address ⊎ IsNoCount count) × ((status ≡ 2) ⊎ (status ≡ 3)))
@@ -80,7 +80,7 @@ IsDone (Serve file address count) status input input' output output' faults faul
 IsDone (Unread text) status input input' output output' faults faults' = Appends output output' []
 IsDone _ status input input' output output' faults faults' = Unit {0}
 
--- What the words ask for was carried out; or there was no memory to read them, and that is told.
+-- What the words ask for was carried out; or there was no memory to read them, and that is reported.
 abbrev pub CarriesOut : List Text → ℕ → Option (List ℕ) → Option (List ℕ) → Option (List ℕ) → Option (List ℕ) → Option (List ℕ) → Option (List ℕ) → Type 0
 CarriesOut words status input input' output output' faults faults' =
     ((request : Request) × IsAskedFor words request × IsDone request status input input' output output' faults faults')

@@ -1,15 +1,14 @@
--- What commands do at a desk: what they ask, what the desk answers, and how that is told.
+-- What commands do at a desk: what they ask, what the desk answers, and how that is reported.
 use Rattle.std.specs.Prelude.{◌≡◌, ◌⊎◌, ℕ, List, [], Option, Result, Ok, IsErrAnd}
 use Rattle.std.specs.Io.KnownBytes.{Appends}
 use Rattle.std.specs.Result.{result_map_both}
 use Rattle.upd_text.specs.declared.fault.Fault.{Fault}
 use Rattle.upd_core.specs.Library.{LibraryView}
 use Rattle.upd_row_store.specs.declared.meaning.Meaning.{Ghosts}
-use Rattle.upd_row_store.specs.Keeping.{Keeps}
+use Rattle.upd_row_store.specs.Keeping.{CountsFailure, Keeps}
 use Rattle.upd_compile.specs.File.{compile_file_of}
 use Rattle.upd_compile.specs.Listings.{card_listing, deck_listing, ident_listing, yank_listing}
 use Rattle.upd_compile.specs.declared.mode.Mode.TheVariants as mode
-use Rattle.upd_desk.specs.Answers.{CountsFailure}
 use Rattle.upd_desk.specs.Holding.{Arrives, Settles, Tells}
 use Rattle.upd_desk.specs.Outcomes.{ReplyView}
 use Rattle.upd_cli.specs.Status.{no_memory, read_failed}
@@ -31,27 +30,25 @@ abbrev pub IsUnread : Result ℕ Fault → Type 0
 IsUnread result = IsErrAnd result (λ fault. (fault ≡ no_memory) ⊎ (fault ≡ read_failed))
 
 module _ {S : Type 0} (meaning : Ghosts S) where
-  open meaning use {failures_of}
-
   -- The run on the input arrived, and its answer was told; or the input wasn't read, and nothing was asked or told.
   abbrev pub HandsIn : List ℕ → ℕ → List ℕ → Option (List ℕ) → Result ℕ Fault → S → S → Option (List ℕ) → Option (List ℕ) → Type 0
   HandsIn site number mode input result old new output output' =
       ((bytes : List ℕ) × (answer : Result ReplyView Fault) × IsRunOn input bytes
       × Arrives meaning (record { site = site; number = number; mode = mode; bytes = bytes }) answer old new
-      × CountsFailure failures_of answer old new × TellsRun answer result output output')
+      × CountsFailure meaning answer old new × TellsRun answer result output output')
       ⊎ ((new ≡ old) × IsUnread result × Appends output output' [])
 
   -- a site was settled, and its mark was told
   abbrev pub SettlesSite : List ℕ → ℕ → Result ℕ Fault → S → S → Option (List ℕ) → Option (List ℕ) → Type 0
   SettlesSite site number result old new output output' =
       (answer : Result ℕ Fault) × Settles meaning site number answer old new
-      × CountsFailure failures_of answer old new × TellsMark site answer result output output'
+      × CountsFailure meaning answer old new × TellsMark site answer result output output'
 
   -- a question was answered, and nothing is changed
   pub record IsAnswered (question : Question) (answer : Result (List ℕ) Fault) (old new : S) : Type 0 where
     pub tells : Tells meaning (answer_text question) answer old new
     pub same : Keeps meaning old new
-    pub counts : CountsFailure failures_of answer old new
+    pub counts : CountsFailure meaning answer old new
 
   -- a question was answered, and the answer was told
   abbrev pub AsksQuestion : Question → Result ℕ Fault → S → S → Option (List ℕ) → Option (List ℕ) → Type 0

@@ -18,11 +18,11 @@ abbrev pub fault_line : Fault → List ℕ
 fault_line fault =
     codes "upd: " ++ fault_name fault.kind ++ codes " (" ++ decimal (fault_number fault.kind) ++ codes ") at " ++ decimal fault.at ++ 10 ∷ []
 
--- the line where the words of the command line could not be had
+-- the line where the words of the command line are not available
 abbrev pub no_words_line : List ℕ
 no_words_line = codes "error: the words of the command line can't be read as text\n"
 
--- want of memory, and reads and writes that failed
+-- out of memory, and reads and writes that failed
 abbrev pub no_memory : Fault
 no_memory = record { kind = NoMemory; at = 0 }
 

@@ -4,10 +4,10 @@ use Rattle.std.specs.Io.KnownBytes.{Consumes}
 use Rattle.upd_io.specs.Inputs.{IsInput}
 use Rattle.upd_text.specs.declared.limits.TheConstants.{MAX_RUN_BYTES}
 
--- at most so many bytes were read, and those behind them are left
+-- at most this number of bytes was read, and those after them are left
 abbrev pub TakesFront : ℕ → Option (List ℕ) → Option (List ℕ) → Type 0
 TakesFront most old new = (front : List ℕ) × (length front ≤ most) × Consumes old new front
 
--- the run on an input: all its bytes, or so many that they tell that the run is too long
+-- the run on an input: all its bytes, or enough of them to show that the run is too long
 abbrev pub IsRunOn : Option (List ℕ) → List ℕ → Type 0
 IsRunOn known run = (all : List ℕ) × IsInput known all × (run ≡ take (MAX_RUN_BYTES + 1) all)

@@ -1,4 +1,4 @@
--- How an answer of the desk is told: by its bytes on the output and an exit status, or by a fault that the caller puts on the fault stream.
+-- How an answer of the desk is reported: by its bytes on the output and an exit status, or by a fault that the caller puts on the fault stream.
 use Rattle.std.specs.Prelude.{◌≡◌, ◌⊎◌, ℕ, ◌+◌, if◌then◌else◌, Bool, true, false, IsTrue, List, [], ◌∷◌, ◌++◌, length, Option, Result, Ok, Err, IsErrAnd}
 use Rattle.std.specs.Io.KnownBytes.{Appends, Consumes, IsAtEnd}
 use Rattle.std.specs.List.{All}
@@ -25,19 +25,19 @@ abbrev pub run_status : Result ReplyView Fault → ℕ
 run_status (Ok reply) = if reply.accepted then 0 else 1
 run_status (Err fault) = 1
 
--- a run's reply, or the fault that refused it without one, is told by its line; or nothing is told
+-- a run's reply, or the fault that refused it without one, is reported by its line; or nothing is reported
 abbrev pub TellsRun : Result ReplyView Fault → Result ℕ Fault → Option (List ℕ) → Option (List ℕ) → Type 0
 TellsRun answer result output output' =
     (IsTrue (is_answered answer) × Writes (run_status answer) (answer_line answer) result output output')
     ⊎ (IsErrAnd result (IsUntold answer) × Appends output output' [])
 
--- a site's mark is told by its line, as far as the site is one: of another the desk has no mark
+-- a site's mark is reported by its line, for a valid site: of another the desk has no mark
 abbrev pub TellsMark : List ℕ → Result ℕ Fault → Result ℕ Fault → Option (List ℕ) → Option (List ℕ) → Type 0
 TellsMark site (Ok mark) result output output' =
     (line : List ℕ) × (IsTrue (is_site site) → line ≡ settled_text site mark ++ 10 ∷ []) × Writes 0 line result output output'
 TellsMark site (Err fault) result output output' = (result ≡ Err fault) × Appends output output' []
 
--- a compile file or a listing is told as it is
+-- a compile file or a listing is written as it is
 abbrev pub TellsText : Result (List ℕ) Fault → Result ℕ Fault → Option (List ℕ) → Option (List ℕ) → Type 0
 TellsText (Ok text) result output output' = Writes 0 text result output output'
 TellsText (Err fault) result output output' = (result ≡ Err fault) × Appends output output' []
@@ -68,7 +68,7 @@ pub record AnswersFrames (frames : List ArrivalView) (answers : List (Result Rep
   pub each : length answers ≡ length frames
   pub answered : All (λ answer. IsTrue (is_answered answer)) answers
 
--- the answers to the frames of an input are told by their lines, one after the other; what ended them by a fault may have left a beginning of one more
+-- the answers to the frames of an input are reported by their lines, one after the other; a fault that ended them may have left a prefix of one more
 abbrev pub TellsLines : Result ℕ Fault → Option (List ℕ) → Option (List ℕ) → Option (List ℕ) → Option (List ℕ) → Type 0
 TellsLines (Ok status) input input' output output' =
     (frames : List ArrivalView) × (answers : List (Result ReplyView Fault)) × AnswersFrames frames answers [] input input' × IsAtEnd input'

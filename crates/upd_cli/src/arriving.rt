@@ -12,11 +12,12 @@ use itoa::Buffer;
 use std::alloc::Global;
 use std::io::{Read, Write};
 use upd_desk::{Desk, Reply, fault_answer};
+use upd_reply::settled_parts;
 use upd_row_store::RowStore;
 use upd_text::Fault;
 
-/// The run on the input arrives, and its reply goes to the output as a line; so does the text of a fault, but for want
-/// of memory and a failure of the store. Between the reply and its output no memory is taken.
+/// The run on the input arrives, and its reply goes to the output as a line. So does the text of a fault, except
+/// NoMemory and Store. Nothing is allocated between the reply and its output.
 pub(crate) fn hand_in<S: RowStore, R: Read, W: Write>(
     alloc: Global,
     desk: &mut Desk<S>,
@@ -62,7 +63,7 @@ fn tell_fault<W: Write>(alloc: Global, fault: Fault, output: &mut W) -> Result<u
     }
 }
 
-/// Writes a text and LF, and answers the exit status that is given.
+/// Writes a text and LF, and returns the exit status that is given.
 fn write_line<W: Write>(output: &mut W, text: &[u8], status: u8) -> Result<u8, Fault>
     ensures { Writes status (text.now ++ 10 ∷ []) result (W.contents output.old) (W.contents output.new) }
 {
@@ -72,8 +73,8 @@ fn write_line<W: Write>(output: &mut W, text: &[u8], status: u8) -> Result<u8, F
     }
 }
 
-/// Settles a site's runs up to a number, and the site's mark goes to the output as a line. After the settlement no
-/// memory is taken.
+/// Settles a site's runs up to a number, and the site's mark goes to the output as a line. Nothing is allocated after
+/// the settlement.
 pub(crate) fn settle<S: RowStore, W: Write>(
     alloc: Global,
     desk: &mut Desk<S>,
@@ -92,21 +93,15 @@ pub(crate) fn settle<S: RowStore, W: Write>(
     }
 }
 
-/// Writes the text of a mark, and LF. A site stands in it as it is: it is of A-Z and 0-9.
+/// Writes the text of a mark, and LF.
 fn write_mark<W: Write>(output: &mut W, site: &str, mark: u64) -> Result<u8, Fault>
     ensures tells { TellsMark site.now (Ok mark) result (W.contents output.old) (W.contents output.new) }
     ensures status { IfOk result (λ status. status ≡ 0) }
     ensures silent { IfErr result (λ fault. exit_status fault.kind ≡ 1 → output.new ≡ output.old) }
 {
     let mut digits = Buffer::new();
-    let parts: [&[u8]; 5] = [
-        b"{\"settled\":",
-        digits.format(mark).as_bytes(),
-        b",\"site\":\"",
-        site.as_bytes(),
-        b"\"}\n",
-    ];
-    match write_parts_out(output, &parts) {
+    let [start, number, key, name, end] = settled_parts(site, mark, &mut digits);
+    match write_parts_out(output, &[start, number, key, name, end, b"\n"]) {
         Ok(()) => Ok(DONE),
         Err(fault) => Err(fault),
     }

@@ -23,7 +23,7 @@ pub(crate) enum Question {
     Yanks,
 }
 
-/// The text that answers a question goes to the output. Nothing is changed.
+/// The text that answers a question goes to the output. Nothing changes.
 pub(crate) fn inquire<S: RowStore, W: Write>(
     alloc: Global,
     desk: &mut Desk<S>,
@@ -44,7 +44,7 @@ pub(crate) fn inquire<S: RowStore, W: Write>(
     }
 }
 
-/// The text that answers a question. Nothing is changed.
+/// The text that answers a question. Nothing changes.
 fn ask<S: RowStore>(
     alloc: Global,
     desk: &mut Desk<S>,

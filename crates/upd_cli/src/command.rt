@@ -26,9 +26,9 @@ use upd_compile::CompileFile;
 use upd_io::write_parts;
 use upd_text::Fault;
 
-/// Carries out the command line `words`, the program's own name first, and answers the exit status: 0 where all is
+/// Carries out the command line `words`, the program's own name first, and returns the exit status: 0 where all is
 /// done; 1 for a refusal, whose line goes to `faults`, or to the output where the desk refuses the run of `run`; 2
-/// where the words are no command line, and why goes to `faults`; 3 where memory, the store, a read or a write failed.
+/// where the words are not a command line, and `faults` says why; 3 where memory, the store, a read or a write failed.
 pub fn run_command<S: AsStr, R: Read, W: Write, E: Write>(
     rt: &HostRuntime,
     words: &[S],
@@ -43,7 +43,7 @@ pub fn run_command<S: AsStr, R: Read, W: Write, E: Write>(
     ensures told { CarriesOut (map S.text words.entry.now) result (R.remaining input.old) (R.remaining input.new)
         (W.contents output.old) (W.contents output.new) (E.contents faults.old) (E.contents faults.new) }
     ensures unread { word_faults (map S.text words.entry.now) ≢ [] → IsToldOf (map S.text words.entry.now) result }
-    // Of a run that is too long, no more is read than tells so.
+    // Of a run that is too long, no more is read than shows it.
     ensures front { command_word (map S.text words.entry.now) ≢ codes "spool"
         → TakesFront (MAX_RUN_BYTES + 1) (R.remaining input.old) (R.remaining input.new) }
     ensures waits { ¬ ReadsInput (map S.text words.entry.now) → input.new ≡ input.old }
@@ -74,7 +74,7 @@ pub fn run_command<S: AsStr, R: Read, W: Write, E: Write>(
     }
 }
 
-/// The exit status where the words of the command line could not be had: 3 for want of memory, and else 2. A line on
+/// The exit status where the words of the command line are not available: 3 out of memory, and else 2. A line on
 /// `faults` says so.
 pub fn report_words<E: Write>(error: &io::Error, faults: &mut E) -> u8
     ensures memory { error_kind error.now ≡ ErrorKind.OutOfMemory
@@ -94,7 +94,7 @@ pub fn report_words<E: Write>(error: &io::Error, faults: &mut E) -> u8
     }
 }
 
-/// The exit status where the words are no command line; a text says why.
+/// The exit status where the words are not a command line. A text says why.
 fn tell_unread<E: Write>(text: &[&[u8]], faults: &mut E) -> u8
     ensures { (result ≡ 2) ⊎ (result ≡ 3) }
 {
@@ -126,7 +126,7 @@ fn carry_out_library<R: Read, W: Write, E: Write>(
     }
 }
 
-/// `serve`: an address or a count that is none is a command line that isn't read.
+/// `serve`: an address or a count that is not valid is a usage error.
 fn carry_out_serving<E: Write>(
     rt: &HostRuntime,
     file: &str,

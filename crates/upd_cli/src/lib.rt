@@ -1,7 +1,7 @@
 //! The commands of the program: what is read, what is written, and the exit status.
 //!
 //! Where clauses speak of both outcomes of a call, it stands in a `match` of two arms, so that each is a path of its
-//! own (docs/DECISIONS.md, Form).
+//! own (docs/decisions.md, D-56).
 #![tactic(auto)]
 
 mod arriving;

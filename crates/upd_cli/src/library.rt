@@ -21,16 +21,17 @@ use sqlite_disk::Unknown;
 use std::io::{Read, Write};
 use std::net::{SocketAddr, TcpListener};
 use upd_desk::Desk;
-use upd_http::serve_on;
+use upd_http::serve_on_within;
 use upd_migrate::migrate;
 use upd_spool::spool;
-use upd_store::file::{FileLibrary, close, connect, create, open};
+use upd_store::SqlStore;
+use upd_store::file::{FileLibrary, close, connect, create};
 use upd_text::{Fault, FaultKind};
 
 /// A desk over the library in a file.
 type FileDesk = Desk<FileLibrary<Unknown>>;
 
-/// Carries out a command on the library in a file, and answers the exit status. Operands are read before the file is
+/// Carries out a command on the library in a file, and returns the exit status. Operands are read before the file is
 /// opened, and the file is opened before the input is read.
 pub(crate) fn carry_out<R: Read, W: Write>(
     rt: &HostRuntime,
@@ -137,7 +138,7 @@ fn spool_on<R: Read, W: Write>(
     }
 }
 
-/// Serves so many connections at an address, which is bound once the file is open. Read, at 0, where it can't be bound.
+/// Serves `count` connections at an address, which is bound once the file is open. Read, at 0, where it can't be bound.
 pub(crate) fn serve(
     rt: &HostRuntime,
     file: &str,
@@ -152,7 +153,7 @@ pub(crate) fn serve(
         Err(fault) => return Err(fault),
     };
     let ended = match TcpListener::bind(rt, address) {
-        Ok(listener) => serve_on(rt.alloc(), rt, &listener, count, &mut desk),
+        Ok(listener) => serve_on_within(rt.alloc(), rt, &listener, count, &mut desk),
         Err(_) => Err(FaultKind::Read.without_line()),
     };
     close_desk(desk);
@@ -175,7 +176,7 @@ fn init_file(rt: &HostRuntime, file: &str) -> Result<u8, Fault>
     }
 }
 
-/// Brings the file to the present schema.
+/// Migrates the file to the current schema.
 fn migrate_file(rt: &HostRuntime, file: &str) -> Result<u8, Fault>
     ensures status { IfOk result (λ status. status ≡ 0) }
     ensures failed { IfErr result (λ fault. exit_status fault.kind ≡ 3) }
@@ -244,14 +245,13 @@ fn answer_on<W: Write>(
 fn open_desk(rt: &HostRuntime, file: &str) -> Result<FileDesk, Fault>
     ensures { IfErr result IsUnopened }
 {
-    match open(rt, file, Unknown) {
+    match SqlStore::open(rt, file, false, Unknown) {
         Ok(library) => Ok(Desk::open(library)),
         Err(fault) => Err(fault),
     }
 }
 
-/// Closes the library. Where that fails nothing is lost, since the log then holds what it held: so the command's own
-/// end is told, and not this one.
+/// Closes the library. If that fails, nothing is lost, since the log still has every commit: so the error is ignored.
 fn close_desk(desk: FileDesk) {
     let _ = close(desk.close());
 }

@@ -33,7 +33,7 @@ pub(crate) fn read_deck(word: &str) -> Result<Name, Fault>
     }
 }
 
-/// A card. A word that refers to none is BadCard, at 0.
+/// A card. Another word is BadCard, at 0.
 pub(crate) fn read_card(word: &str) -> Result<CardRef, Fault>
     ensures { result ≡ card_read word.now }
 {

@@ -16,10 +16,10 @@ pub const DONE: u8 = 0;
 /// A refusal.
 pub const REFUSED: u8 = 1;
 
-/// The words are no command line.
+/// The words are not a command line.
 pub const UNREAD: u8 = 2;
 
-/// Memory, the store, a read or a write failed.
+/// Out of memory, or the store, a read or a write failed.
 pub const FAILED: u8 = 3;
 
 /// The exit status for a fault.
@@ -32,8 +32,8 @@ pub(crate) fn exit_status(kind: FaultKind) -> u8
     }
 }
 
-/// Writes the line of a fault, its `Display` behind the program's name, and flushes. It takes no memory, which may just
-/// have been wanting.
+/// Writes the line of a fault, its `Display` after the program's name, and flushes. Does not allocate, since memory may
+/// just have run out.
 pub(crate) fn write_fault<E: Write>(faults: &mut E, fault: Fault) -> io::Result<()>
     ensures ok { OnOk result (Appends (E.contents faults.old) (E.contents faults.new) (fault_line fault)) }
     ensures front { AppendsFront (E.contents faults.old) (E.contents faults.new) (fault_line fault) }

@@ -12,7 +12,7 @@ use upd_core::Library;
 use upd_deck::read_run;
 use upd_text::{Fault, FaultKind};
 
-/// The compile file of a run that is applied to an empty library, or the run's first refusal. Keeps nothing.
+/// The compile file of a run that is applied to an empty library, or the run's first refusal. Nothing is stored.
 pub fn trial(alloc: Global, mode: Mode, run: &[u8]) -> Result<CompileFile, Fault>
     ensures { GivesAt (λ file. file) result (trial_of mode run.now) }
 {

@@ -139,7 +139,7 @@ fn operand<'a>(alloc: Global, name: &'a str, help: &'a str) -> Arg<'a>
         .help(help)
 }
 
-/// Reads the words of a command line, the program's own name first. Its one error is want of memory.
+/// Reads the words of a command line, the program's own name first. The only error is NoMemory.
 pub(crate) fn read_words<'a, S: AsStr>(alloc: Global, words: &'a [S]) -> Result<Request<'a>, Fault>
     ensures ok { IfOk result (IsAskedFor (map S.text words.entry.now)) }
     ensures err { IfErr result (λ fault. fault ≡ no_memory) }
@@ -203,7 +203,7 @@ fn read_asked<'a>(name: &str, operands: &ArgMatches<'a>) -> Asked<'a>
     }
 }
 
-/// The word that stands for an operand, which is required.
+/// The word of an operand, which is required.
 fn word<'a>(operands: &ArgMatches<'a>, name: &str) -> &'a str
     ensures { result.now ≡ operand_in name.now (rows_of (found_of operands.now)) }
 {
@@ -226,8 +226,8 @@ fn told<'a>(alloc: Global, error: &Error) -> Result<Request<'a>, Fault>
     }
 }
 
-/// `trial` and a word that does not begin with a hyphen are read, whatever the program is called, and the word is the
-/// mode.
+/// `trial` and a word that does not begin with a hyphen are a command line, whatever the program is called, and the
+/// word is the mode.
 pub fn trial_is_read()
     ensures read { (name mode : Text) → IsPlain mode → word_faults (name ∷ codes "trial" ∷ mode ∷ []) ≡ [] }
     ensures asks { (name mode : Text) → IsPlain mode → command_word (name ∷ codes "trial" ∷ mode ∷ []) ≡ codes "trial" }

@@ -1,6 +1,6 @@
 //! Reading a run: its limits, then its lines in order.
 
-ghost use Rattle.std.specs.Prelude.{◌≡◌, ℕ, ◌≤◌, List, length, IfOk};
+ghost use Rattle.std.specs.Prelude.{◌≡◌, ℕ, ◌≤◌, List, length, Ok, Err, IfOk, MatchResult};
 ghost use Rattle.std.specs.List.{AllByRecursion, list_all};
 ghost use Rattle.std.specs.Option.{option_to_list};
 ghost use Rattle.upd_text.specs.declared.limits.TheConstants.{MAX_RUN_BYTES, MAX_RUN_LINES};
@@ -78,7 +78,7 @@ fn said<'a>(alloc: Global, line: &CutLine<'a>) -> Result<Option<Line<'a>>, Fault
 
 /// The text of a line. BadByte is checked first, then LineLong, with trailing blanks not counted.
 fn text_of(line: &[u8]) -> Result<&[u8], FaultKind>
-    ensures text { Gives (λ text. text.now) result (text_of line.now) }
+    ensures text { MatchResult result (λ text. text_of line.now ≡ Ok text.now) (λ e. text_of line.now ≡ Err e) }
     ensures within { IfOk result (λ text. length text.now ≤ length line.now) }
 {
     if !all_allowed(line) {

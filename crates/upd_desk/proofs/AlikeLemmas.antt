@@ -1,4 +1,4 @@
--- Journals that go on alike, and what tables hold after one more event.
+-- Journals that are continued alike, and what tables hold after one more event.
 use Rattle.std.proofs.Common.{◌≡◌, ℕ, nat_lt, true, false, List, ◌∷◌, Option, Some, None}
 use Rattle.std.proofs.Common.{Result, Ok, Err, refl, ap, sym, ◌∙◌, subst}
 use Rattle.std.specs.List.{list_any, find}
@@ -7,8 +7,9 @@ use Rattle.upd_text.specs.declared.fault.Fault.{Fault}
 use Rattle.upd_records.specs.Rows.{Rows, Shows, ShowsStates}
 use Rattle.upd_compile.specs.declared.mode.Mode.{Mode}
 use Rattle.upd_row_store.specs.Tables.{is_run, run_at, is_mark_of}
-use Rattle.upd_desk.specs.Arrivals.{ArrivalView, door}
-use Rattle.upd_desk.specs.Journal.{Alike, Event, Came, Carried, Settled, Heard, Journal, mark, has_key, with_arrival, distinct, made_by, library_after, answered, kept}
+use Rattle.upd_desk.specs.Arrivals.{ArrivalView, check_arrival}
+use Rattle.upd_desk.specs.Journal.{Alike, Event, Came, Carried, Settled, Heard, Journal, mark, has_key, with_arrival, distinct}
+use Rattle.upd_desk.specs.Journal.{made_by, library_after, answered, kept}
 use Rattle.upd_desk.specs.Outcomes.{outcome}
 use Rattle.upd_desk.specs.Holding.{Holds, AddsRun}
 use Rattle.upd_desk.proofs.JournalLemmas.{answered_any, heard_new}
@@ -24,13 +25,13 @@ with_alike : (a b : Journal) (x : ArrivalView) (carried : Option (List ℕ)) (d 
 with_alike a b x carried (Ok mode) same = rw (same.runs, same.marks x.site) refl
 with_alike a b x carried (Err fault) same = same.runs
 
--- journals that go on alike do so after one more event
+-- journals that are continued alike do so after one more event
 pub alike_more : (a b : Journal) (e : Event) → Alike a b → Alike (e ∷ a) (e ∷ b)
-alike_more a b (Came x) same = record { runs = with_alike a b x None (door x) same; marks = same.marks }
-alike_more a b (Carried x reply) same = record { runs = with_alike a b x (Some reply) (door x) same; marks = same.marks }
+alike_more a b (Came x) same = record { runs = with_alike a b x None (check_arrival x) same; marks = same.marks }
+alike_more a b (Carried x reply) same = record { runs = with_alike a b x (Some reply) (check_arrival x) same; marks = same.marks }
 alike_more a b (Settled s n) same = record { runs = same.runs; marks = λ site. rw (same.marks site) refl }
 
--- tables that hold what is owed after a journal do so after one that goes on alike
+-- tables that hold what is expected after a journal do so after one that is continued alike
 pub holds_alike : (a b : Journal) (rows : Rows) → Alike a b → Holds a rows → Holds b rows
 holds_alike a b rows same held = record {
   library = subst (λ runs. Shows rows (made_by runs)) same.runs held.library;
@@ -50,8 +51,8 @@ pub unheard_key : (j : Journal) (rows : Rows) (site : List ℕ) (n : ℕ) → Ho
     → run_at site n rows ≡ None → list_any (has_key site n) (distinct j) ≡ false
 unheard_key j rows site n held above none = unkept_key j site n above (sym (held.runs site n) ∙ none)
 
--- tables that a new run was added to hold what is owed after its arrival
-pub holds_new : (j : Journal) (a : ArrivalView) (mode : Mode) (rows new : Rows) → Holds j rows → door a ≡ Ok mode
+-- tables that a new run was added to hold what is expected after its arrival
+pub holds_new : (j : Journal) (a : ArrivalView) (mode : Mode) (rows new : Rows) → Holds j rows → check_arrival a ≡ Ok mode
     → nat_lt (mark j a.site) a.number ≡ true → run_at a.site a.number rows ≡ None → AddsRun mode a (library_after j) rows new → Holds (Came a ∷ j) new
 holds_new j a mode rows new held passed above none adds =
     let fresh = unheard_key j rows a.site a.number held above none in

@@ -9,7 +9,7 @@ use Rattle.upd_records.specs.Rows.{RunView, Rows}
 use Rattle.upd_compile.specs.declared.mode.Mode.{Mode}
 use Rattle.upd_compile.specs.Modes.{mode_named}
 use Rattle.upd_row_store.specs.Tables.{run_at, mark_at}
-use Rattle.upd_desk.specs.Arrivals.{ArrivalView, is_site, is_run_number, door}
+use Rattle.upd_desk.specs.Arrivals.{ArrivalView, is_site, is_run_number, check_arrival}
 use Rattle.upd_desk.specs.Journal.{Came, Journal, mark, distinct, library_after, kept, reply_to, answer}
 use Rattle.upd_desk.specs.Outcomes.{ReplyView, outcome}
 use Rattle.upd_desk.specs.Holding.{Holds, is_lost}
@@ -17,13 +17,13 @@ use Rattle.upd_desk.proofs.JournalLemmas.{unheard_known}
 use Rattle.upd_desk.proofs.KeptLemmas.{not_below}
 use Rattle.upd_desk.proofs.RepeatLemmas.{known_where_kept}
 
--- a refusal at the door is the answer
-pub answer_at_door : (j : Journal) (a : ArrivalView) (fault : Fault) → door a ≡ Err fault → answer j a ≡ Err fault
-answer_at_door j a fault refused = rw refused refl
+-- a refusal by the admission checks is the answer
+pub answer_unadmitted : (j : Journal) (a : ArrivalView) (fault : Fault) → check_arrival a ≡ Err fault → answer j a ≡ Err fault
+answer_unadmitted j a fault refused = rw refused refl
 
--- the door neither wants memory nor fails as a store does
-pub door_keeps : (a : ArrivalView) (f : Fault) → door a ≡ Err f → is_lost f.kind ≡ false
-door_keeps a f refused = by_site (is_site a.site) refused
+-- a refusal by the admission checks is no lost call
+pub admission_not_lost : (a : ArrivalView) (f : Fault) → check_arrival a ≡ Err f → is_lost f.kind ≡ false
+admission_not_lost a f refused = by_site (is_site a.site) refused
   where
     after_mode : Mode → Bool → Result Mode Fault
     after_mode mode long = at_line 0 (refuse_if long fault.RunLong) >>= λ _. Ok mode
@@ -54,14 +54,14 @@ door_keeps a f refused = by_site (is_site a.site) refused
     by_site true is = by_number (is_run_number a.number) is
 
 -- a number at or below the mark that the tables hold is settled
-pub answer_settled : (j : Journal) (a : ArrivalView) (mode : Mode) (rows : Rows) → Holds j rows → door a ≡ Ok mode
+pub answer_settled : (j : Journal) (a : ArrivalView) (mode : Mode) (rows : Rows) → Holds j rows → check_arrival a ≡ Ok mode
     → nat_le a.number (mark_at a.site rows) ≡ true → answer j a ≡ Err (record { kind = fault.Settled; at = 0 })
 answer_settled j a mode rows held passed below =
     let settled : nat_le a.number (mark j a.site) ≡ true = rw (← held.marks a.site) below in
     rw (passed, settled) refl
 
 -- above it the answer goes by what is kept under the key
-answer_above : (j : Journal) (a : ArrivalView) (mode : Mode) (rows : Rows) (run : Option RunView) → Holds j rows → door a ≡ Ok mode
+answer_above : (j : Journal) (a : ArrivalView) (mode : Mode) (rows : Rows) (run : Option RunView) → Holds j rows → check_arrival a ≡ Ok mode
     → nat_lt (mark_at a.site rows) a.number ≡ true → run_at a.site a.number rows ≡ run → answer j a ≡ reply_to mode a (library_after j) run
 answer_above j a mode rows run held passed above is =
     let higher : nat_lt (mark j a.site) a.number ≡ true = rw (← held.marks a.site) above in
@@ -76,7 +76,7 @@ answer_above j a mode rows run held passed above is =
         go d settled k = d >>= λ mode. at_line 0 (refuse_if settled fault.Settled) >>= λ _. reply_to mode a (library_after j) k
 
 -- a key that is kept gets what is kept, and isn't heard again
-pub answer_again : (j : Journal) (a : ArrivalView) (mode : Mode) (rows : Rows) (run : RunView) → Holds j rows → door a ≡ Ok mode
+pub answer_again : (j : Journal) (a : ArrivalView) (mode : Mode) (rows : Rows) (run : RunView) → Holds j rows → check_arrival a ≡ Ok mode
     → nat_lt (mark_at a.site rows) a.number ≡ true → run_at a.site a.number rows ≡ Some run
     → (answer j a ≡ reply_to mode a (library_after j) (Some run)) × (distinct (Came a ∷ j) ≡ distinct j)
 answer_again j a mode rows run held passed above is = (
@@ -85,6 +85,6 @@ answer_again j a mode rows run held passed above is = (
 )
 
 -- a new key gets the reply of its own outcome
-pub answer_new : (j : Journal) (a : ArrivalView) (mode : Mode) (rows : Rows) → Holds j rows → door a ≡ Ok mode
+pub answer_new : (j : Journal) (a : ArrivalView) (mode : Mode) (rows : Rows) → Holds j rows → check_arrival a ≡ Ok mode
     → nat_lt (mark_at a.site rows) a.number ≡ true → run_at a.site a.number rows ≡ None → answer j a ≡ Ok (outcome mode a (library_after j)).reply
 answer_new j a mode rows held passed above is = answer_above j a mode rows None held passed above is

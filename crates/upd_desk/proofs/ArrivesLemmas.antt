@@ -13,13 +13,13 @@ use Rattle.upd_row_store.specs.declared.meaning.Meaning.{Ghosts}
 use Rattle.upd_row_store.specs.Keeping.{IsLost, Keeps, MoreFailures, OfMemory, OfStore}
 use Rattle.upd_row_store.specs.Tables.{mark_at, run_at}
 use Rattle.upd_row_store.proofs.StoreLemmas.{keeps_still}
-use Rattle.upd_desk.specs.Arrivals.{ArrivalView, door, mode_number}
+use Rattle.upd_desk.specs.Arrivals.{ArrivalView, check_arrival, mode_number}
 use Rattle.upd_desk.specs.Journal.{Alike, Event, Came, Journal, answer, distinct, mark, reply_to, library_after}
 use Rattle.upd_desk.specs.Made.{IsMade}
 use Rattle.upd_desk.specs.Outcomes.{ReplyView, outcome}
-use Rattle.upd_desk.specs.Holding.{Arrives, Becomes, Guards, HoldsIn, IsLeft, TriesRun, is_lost}
+use Rattle.upd_desk.specs.Holding.{Arrives, Becomes, Guards, HoldsIn, IsHeld, IsLeft, TriesRun, is_lost}
 use Rattle.upd_desk.proofs.AlikeLemmas.{alike_more, alike_unheard, holds_alike, holds_new}
-use Rattle.upd_desk.proofs.AnswerLemmas.{answer_again, answer_at_door, answer_new, answer_settled, door_keeps}
+use Rattle.upd_desk.proofs.AnswerLemmas.{answer_again, answer_unadmitted, answer_new, answer_settled, admission_not_lost}
 use Rattle.upd_desk.proofs.RepeatLemmas.{refused_unheard}
 
 -- a fault that is lost is one by its kind
@@ -31,7 +31,7 @@ lost_kind f (OfStore g is at) = rw is refl
 pub unstored : (old new : ℕ) (f : Fault) → is_lost f.kind ≡ false → f.kind ≡ fault.Store → MoreFailures old new
 unstored old new f stays is = let clash : true ≡ false = sym (ap is_lost is) ∙ stays in grind rules
 
--- another run under a kept key neither wants memory nor fails as a store does
+-- another run under a kept key neither runs out of memory nor fails as a store does
 pub changed_keeps : (mode : Mode) (a : ArrivalView) (l : LibraryView) (run : RunView) (f : Fault) → Err f ≡ reply_to mode a l (Some run)
     → is_lost f.kind ≡ false
 changed_keeps mode a l run f is = go ((run.mode == mode_number mode) && bytes_eq run.bytes a.bytes) is
@@ -52,7 +52,7 @@ module _ {Image : Type 0} (shows : Image → Rows → Type 0) where
   pub holds_in_alike : (a b : Journal) (i : Image) → Alike a b → HoldsIn shows a i → HoldsIn shows b i
   holds_in_alike a b i alike held = (held.0, held.1, holds_alike a b held.0 alike held.2)
 
-  -- what is left after a journal is left after one that goes on alike
+  -- what is left after a journal is left after one that is continued alike
   pub left_alike : (a b : Journal) (hand : List Event) (i : Image) → Alike a b → IsLeft shows a hand i → IsLeft shows b hand i
   left_alike a b hand i alike (inl held) = inl (holds_in_alike a b i alike held)
   left_alike a b hand i alike (inr some) =
@@ -72,27 +72,23 @@ module _ {Image : Type 0} (shows : Image → Rows → Type 0) where
 module _ {S : Type 0} (meaning : Ghosts S) where
   open meaning use {shows, image, is_open}
 
-  -- What is known of an arrival that is looked up: it passed the door, its number is above the mark that the tables hold, and what is kept.
+  -- What is known of an arrival that is looked up: it passed the admission checks, its number is above the mark that the tables hold, and what is kept.
   pub record IsAsked (mode : Mode) (a : ArrivalView) (kept : Option RunView) (s : S) : Type 0 where
-    pub passed : door a ≡ Ok mode
+    pub passed : check_arrival a ≡ Ok mode
     pub above : is_open s → (rows : Rows) → shows (image s) rows → nat_lt (mark_at a.site rows) a.number ≡ true
     pub found : is_open s → (rows : Rows) → shows (image s) rows → run_at a.site a.number rows ≡ kept
 
 module _ {S : Type 0} {meaning : Ghosts S} where
   open meaning use {Image, shows, image, is_open, is_honest, may_leave}
 
-  -- what a journal is held in before a call is what its journals are asked of
-  abbrev HeldAt : S → Journal → Type 0
-  HeldAt s j = is_open s → HoldsIn shows j (image s)
-
   held_after : (old new : S) → Keeps meaning old new → is_honest new → (j k : Journal) → Alike j k
-      → HeldAt old j → is_open new → HoldsIn shows k (image new)
+      → IsHeld meaning j old → is_open new → HoldsIn shows k (image new)
   held_after old new keeps honest j k alike held is =
       subst (HoldsIn shows k) (sym (keeps.same honest is)) (holds_in_alike shows j k (image old) alike (held (keeps.was_open honest is)))
 
-  -- A call that only read, and a refusal that isn't kept: nothing changed, and the journal goes on alike.
+  -- A call that only read, and a refusal that isn't kept: nothing changed, and the journal is continued alike.
   pub refuses : (a : ArrivalView) (f : Fault) (old new : S) → Keeps meaning old new
-      → is_lost f.kind ≡ false → (is_honest new → (j : Journal) → HeldAt old j → answer j a ≡ Err f) → Arrives meaning a (Err f) old new
+      → is_lost f.kind ≡ false → (is_honest new → (j : Journal) → IsHeld meaning j old → answer j a ≡ Err f) → Arrives meaning a (Err f) old new
   refuses a f old new keeps stays answers = record {
     honest = keeps.honest;
     was_open = keeps.was_open;
@@ -103,13 +99,13 @@ module _ {S : Type 0} {meaning : Ghosts S} where
         rw stays (left_alike shows j (Came a ∷ j) hand i (alike honest j guards.shown) (guards.left i (keeps.crash honest i may)));
   }
     where
-      alike : is_honest new → (j : Journal) → HeldAt old j → Alike j (Came a ∷ j)
+      alike : is_honest new → (j : Journal) → IsHeld meaning j old → Alike j (Came a ∷ j)
       alike honest j held = alike_unheard j a (refused_unheard j a f (answers honest j held))
 
-  -- A call that only read, and a kept reply: nothing changed, and nothing is in hand.
+  -- A call that only read, and a stored reply: nothing changed, and nothing is in hand.
   pub tells : (settles : (s : S) (i : Image) → is_honest s → is_open s → may_leave s i → i ≡ image s) (a : ArrivalView) (reply : ReplyView)
       (old new : S) → Keeps meaning old new → (is_honest new → is_open new)
-      → (is_honest new → (j : Journal) → HeldAt old j → (answer j a ≡ Ok reply) × (distinct (Came a ∷ j) ≡ distinct j)) → Arrives meaning a (Ok reply) old new
+      → (is_honest new → (j : Journal) → IsHeld meaning j old → (answer j a ≡ Ok reply) × (distinct (Came a ∷ j) ≡ distinct j)) → Arrives meaning a (Ok reply) old new
   tells settles a reply old new keeps opens answers = record {
     honest = keeps.honest;
     was_open = keeps.was_open;
@@ -120,7 +116,7 @@ module _ {S : Type 0} {meaning : Ghosts S} where
         inl (subst (HoldsIn shows (Came a ∷ j)) (sym (settles new i honest (opens honest) may)) (holds honest j guards.shown (opens honest)));
   }
     where
-      holds : is_honest new → (j : Journal) → HeldAt old j → is_open new → HoldsIn shows (Came a ∷ j) (image new)
+      holds : is_honest new → (j : Journal) → IsHeld meaning j old → is_open new → HoldsIn shows (Came a ∷ j) (image new)
       holds honest j held is = held_after old new keeps honest j (Came a ∷ j) (alike_unheard j a (answers honest j held).1) held is
 
   -- A call that failed and tried no write: nothing changed, and the arrival didn't happen.
@@ -135,7 +131,8 @@ module _ {S : Type 0} {meaning : Ghosts S} where
     leaves = λ honest j hand guards i may. rw (lost_kind f lost) (left_more shows j (Came a) hand i (guards.left i (keeps.crash honest i may)));
   }
 
-  becomes_held : (made : (j : Journal) → IsMade (library_after j)) (mode : Mode) (a : ArrivalView) (old : S) (i : Image) (j : Journal) → IsAsked meaning mode a None old
+  becomes_held : (made : (j : Journal) → IsMade (library_after j)) (mode : Mode) (a : ArrivalView) (old : S) (i : Image) (j : Journal)
+      → IsAsked meaning mode a None old
       → is_open old → HoldsIn shows j (image old) → Becomes shows mode a (image old) i → HoldsIn shows (Came a ∷ j) i
   becomes_held made mode a old i j new is (rows, shown, held) becomes =
       let later = becomes (library_after j) (made j) rows shown held.library held.states in
@@ -182,7 +179,7 @@ module _ {S : Type 0} {meaning : Ghosts S} where
       was_open : is_honest new → is_open old
       was_open honest = tries.was_open honest (opens honest)
 
-      holds : is_honest new → (j : Journal) → HeldAt old j → is_open new → HoldsIn shows (Came a ∷ j) (image new)
+      holds : is_honest new → (j : Journal) → IsHeld meaning j old → is_open new → HoldsIn shows (Came a ∷ j) (image new)
       holds honest j held is =
           becomes_held made mode a old (image new) j (is_new (tries.honest honest)) (was_open honest) (held (was_open honest)) (becomes honest)
 
@@ -194,7 +191,7 @@ module _ {S : Type 0} {meaning : Ghosts S} where
 
   -- ---- calls before that only read
 
-  -- what an arrival does behind such calls it does with them
+  -- what an arrival does after such calls it does with them
   pub keeps_arrives : (a : ArrivalView) (result : Result ReplyView Fault) (old mid new : S)
       → Keeps meaning old mid → Arrives meaning a result mid new → Arrives meaning a result old new
   keeps_arrives a result old mid new keeps went = record {
@@ -207,13 +204,13 @@ module _ {S : Type 0} {meaning : Ghosts S} where
         (record { shown = later (went.honest honest) j guards.shown; left = λ i may. guards.left i (keeps.crash (went.honest honest) i may) }) i may;
   }
     where
-      later : is_honest mid → (j : Journal) → HeldAt old j → HeldAt mid j
+      later : is_honest mid → (j : Journal) → IsHeld meaning j old → IsHeld meaning j mid
       later honest j held is = subst (HoldsIn shows j) (sym (keeps.same honest is)) (held (keeps.was_open honest is))
 
-  -- what is known once the mark and the kept run were read
+  -- what is known once the mark and the stored run were read
   pub asked : (mode : Mode) (a : ArrivalView) (m : ℕ) (kept : Option RunView) (old mid new : S)
       → Keeps meaning old mid → Keeps meaning mid new
-      → door a ≡ Ok mode → m < a.number
+      → check_arrival a ≡ Ok mode → m < a.number
       → (is_honest mid → (rows : Rows) → shows (image old) rows → m ≡ mark_at a.site rows)
       → (is_honest new → (rows : Rows) → shows (image mid) rows → kept ≡ run_at a.site a.number rows)
       → is_honest new → IsAsked meaning mode a kept new
@@ -232,14 +229,14 @@ module _ {S : Type 0} {meaning : Ghosts S} where
       higher : (mark : ℕ) → m ≡ mark → nat_lt mark a.number ≡ true
       higher mark is = let over = above in grind (arith, nat_tests)
 
-  -- ---- the answers behind them
+  -- ---- the answers after them
 
-  pub refuses_at_door : (a : ArrivalView) (f : Fault) (s : S) → Err f ≡ door a → Arrives meaning a (Err f) s s
-  refuses_at_door a f s refused = refuses a f s s (keeps_still s) (door_keeps a f (sym refused))
-      (λ honest j held. answer_at_door j a f (sym refused))
+  pub refuses_unadmitted : (a : ArrivalView) (f : Fault) (s : S) → Err f ≡ check_arrival a → Arrives meaning a (Err f) s s
+  refuses_unadmitted a f s refused = refuses a f s s (keeps_still s) (admission_not_lost a f (sym refused))
+      (λ honest j held. answer_unadmitted j a f (sym refused))
 
   pub refuses_settled : (mode : Mode) (a : ArrivalView) (m : ℕ) (f : Fault) (old new : S)
-      → Keeps meaning old new → (is_honest new → is_open new) → door a ≡ Ok mode → a.number ≤ m
+      → Keeps meaning old new → (is_honest new → is_open new) → check_arrival a ≡ Ok mode → a.number ≤ m
       → (is_honest new → (rows : Rows) → shows (image old) rows → m ≡ mark_at a.site rows) → f ≡ record { kind = fault.Settled; at = 0 }
       → Arrives meaning a (Err f) old new
   refuses_settled mode a m f old new keeps opens passed below marks is = refuses a f old new keeps (ap (λ g. is_lost g.kind) is) owed
@@ -250,7 +247,7 @@ module _ {S : Type 0} {meaning : Ghosts S} where
       by : (j : Journal) → is_honest new → HoldsIn shows j (image old) → answer j a ≡ Err f
       by j honest (rows, shown, held) = answer_settled j a mode rows held passed (lower (mark_at a.site rows) (marks honest rows shown)) ∙ ap Err (sym is)
 
-      owed : is_honest new → (j : Journal) → HeldAt old j → answer j a ≡ Err f
+      owed : is_honest new → (j : Journal) → IsHeld meaning j old → answer j a ≡ Err f
       owed honest j held = by j honest (held (keeps.was_open honest (opens honest)))
 
   known : (mode : Mode) (a : ArrivalView) (run : RunView) (s : S) (j : Journal) → is_open s → IsAsked meaning mode a (Some run) s
@@ -262,7 +259,7 @@ module _ {S : Type 0} {meaning : Ghosts S} where
       → ((l : LibraryView) → Ok reply ≡ reply_to mode a l (Some run)) → Arrives meaning a (Ok reply) s s
   tells_kept settles mode a run reply s opens asks row_changes = tells settles a reply s s (keeps_still s) opens owed
     where
-      owed : is_honest s → (j : Journal) → HeldAt s j → (answer j a ≡ Ok reply) × (distinct (Came a ∷ j) ≡ distinct j)
+      owed : is_honest s → (j : Journal) → IsHeld meaning j s → (answer j a ≡ Ok reply) × (distinct (Came a ∷ j) ≡ distinct j)
       owed honest j held =
           let both = known mode a run s j (opens honest) (asks honest) (held (opens honest)) in
           (both.0 ∙ sym (row_changes (library_after j)), both.1)

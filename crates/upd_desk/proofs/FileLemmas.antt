@@ -13,7 +13,7 @@ use Rattle.upd_compile.specs.Walk.{walk}
 use Rattle.upd_compile.specs.declared.mode.Mode.{Mode}
 use Rattle.upd_compile.specs.declared.mode.Mode.TheVariants.{Quick}
 use Rattle.upd_desk.specs.declared.outcome.AppliedRun.{AppliedRun}
-use Rattle.upd_desk.specs.Compiling.{IsRunOf}
+use Rattle.upd_desk.specs.Compiling.{IsAppliedRun}
 
 none_named : (common : ActiveDeckView → Bool) (ds : List ActiveDeckView) → filter (λ d. not (common d) && is_among [] d.ident) ds ≡ []
 none_named common [] = refl
@@ -26,7 +26,7 @@ none_named common (d ∷ ds) = go (common d) (none_named common ds)
     go true none = none
     go false none = none
 
-module _ (lines : List LineView) (l loaded : LibraryView) (reached : Reached) (run : AppliedRun) (of_run : IsRunOf lines l loaded reached run) where
+module _ (lines : List LineView) (l loaded : LibraryView) (reached : Reached) (run : AppliedRun) (of_run : IsAppliedRun lines l loaded reached run) where
   -- a quick file of no decks is empty
   pub empty_file : (mode : Mode) → mode ≡ Quick → run.applied.compile.items ≡ []
       → compile_file_of mode reached.compile l reached.library ≡ Ok (record { bytes = []; lines = 0 })

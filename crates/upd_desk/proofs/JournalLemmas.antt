@@ -4,15 +4,15 @@ use Rattle.std.specs.List.{list_any}
 use Rattle.upd_text.specs.declared.fault.Fault.{Fault}
 use Rattle.upd_compile.specs.declared.mode.Mode.{Mode}
 use Rattle.upd_row_store.specs.Tables.{is_run}
-use Rattle.upd_desk.specs.Arrivals.{ArrivalView, door}
+use Rattle.upd_desk.specs.Arrivals.{ArrivalView, check_arrival}
 use Rattle.upd_desk.specs.Journal.{Came, Heard, Journal, mark, has_key, distinct, answered}
 
--- an arrival that is refused at the door changes nothing
-pub unheard_door : (j : Journal) (a : ArrivalView) (fault : Fault) → door a ≡ Err fault → distinct (Came a ∷ j) ≡ distinct j
-unheard_door j a fault refused = rw refused refl
+-- an arrival that is refused by the admission checks changes nothing
+pub unheard_unadmitted : (j : Journal) (a : ArrivalView) (fault : Fault) → check_arrival a ≡ Err fault → distinct (Came a ∷ j) ≡ distinct j
+unheard_unadmitted j a fault refused = rw refused refl
 
 -- one at or below the mark changes nothing
-pub unheard_settled : (j : Journal) (a : ArrivalView) (mode : Mode) → door a ≡ Ok mode → nat_lt (mark j a.site) a.number ≡ false
+pub unheard_settled : (j : Journal) (a : ArrivalView) (mode : Mode) → check_arrival a ≡ Ok mode → nat_lt (mark j a.site) a.number ≡ false
     → distinct (Came a ∷ j) ≡ distinct j
 unheard_settled j a mode passed below = rw (passed, below) refl
 
@@ -22,7 +22,7 @@ answered_any site n [] = refl
 answered_any site n (h ∷ hs) = rw (answered_any site n hs) refl
 
 -- one of a key that is there changes nothing
-pub unheard_known : (j : Journal) (a : ArrivalView) (mode : Mode) → door a ≡ Ok mode → list_any (has_key a.site a.number) (distinct j) ≡ true
+pub unheard_known : (j : Journal) (a : ArrivalView) (mode : Mode) → check_arrival a ≡ Ok mode → list_any (has_key a.site a.number) (distinct j) ≡ true
     → distinct (Came a ∷ j) ≡ distinct j
 unheard_known j a mode passed known = rw passed (go (nat_lt (mark j a.site) a.number))
   where
@@ -32,6 +32,6 @@ unheard_known j a mode passed known = rw passed (go (nat_lt (mark j a.site) a.nu
     go true = rw known refl
 
 -- one of a new key above the mark is the latest of the distinct runs
-pub heard_new : (j : Journal) (a : ArrivalView) (mode : Mode) → door a ≡ Ok mode → nat_lt (mark j a.site) a.number ≡ true
+pub heard_new : (j : Journal) (a : ArrivalView) (mode : Mode) → check_arrival a ≡ Ok mode → nat_lt (mark j a.site) a.number ≡ true
     → list_any (has_key a.site a.number) (distinct j) ≡ false → distinct (Came a ∷ j) ≡ record { arrival = a; mode = mode; carried = None } ∷ distinct j
 heard_new j a mode passed above fresh = rw (passed, above, fresh) refl

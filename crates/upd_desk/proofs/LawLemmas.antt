@@ -14,12 +14,12 @@ use Rattle.upd_deck.proofs.GrammarNames.{ok_same}
 use Rattle.upd_laws.proofs.SoundListLemmas.{find_passes}
 use Rattle.upd_row_store.specs.Tables.{is_run}
 use Rattle.upd_row_store.proofs.TableLemmas.{is_same_bytes, max_left, max_right, same_bytes, same_key}
-use Rattle.upd_desk.specs.Arrivals.{ArrivalView, door, mode_number}
+use Rattle.upd_desk.specs.Arrivals.{ArrivalView, check_arrival, mode_number}
 use Rattle.upd_desk.specs.Journal.{Alike, Event, Came, Carried, Settled, Heard, Journal, answer, answered, distinct, first_arrivals, has_key, heard}
 use Rattle.upd_desk.specs.Journal.{heard_one, kept, made_by, mark, reply_to, run_of, with_arrival, library_after}
 use Rattle.upd_desk.specs.Outcomes.{Compiled, ReplyView, compiled, outcome, outcome_by}
 use Rattle.upd_desk.proofs.AlikeLemmas.{alike_more, unkept_key}
-use Rattle.upd_desk.proofs.AnswerLemmas.{answer_at_door}
+use Rattle.upd_desk.proofs.AnswerLemmas.{answer_unadmitted}
 use Rattle.upd_desk.proofs.JournalLemmas.{heard_new, unheard_known}
 use Rattle.upd_desk.proofs.KeptLemmas.{not_below}
 use Rattle.upd_desk.proofs.RepeatLemmas.{found_own, known_where_kept, mark_rises}
@@ -61,8 +61,8 @@ heard_more before a carried (Ok mode) same = go (nat_lt (mark before a.site) a.n
 
 pub distinct_first : (journal : Journal) → distinct journal ≡ first_arrivals (heard journal)
 distinct_first [] = refl
-distinct_first (Came a ∷ before) = heard_more before a None (door a) (distinct_first before)
-distinct_first (Carried a reply ∷ before) = heard_more before a (Some reply) (door a) (distinct_first before)
+distinct_first (Came a ∷ before) = heard_more before a None (check_arrival a) (distinct_first before)
+distinct_first (Carried a reply ∷ before) = heard_more before a (Some reply) (check_arrival a) (distinct_first before)
 distinct_first (Settled s n ∷ before) = distinct_first before
 
 -- ---- marks
@@ -127,10 +127,10 @@ answer_alike a b x same = rw (same.marks x.site, same.runs) refl
 
 -- ---- what an arrival keeps
 
--- An answer that is a reply: the arrival passed the door above its site's mark, and the reply is by what is kept under its key.
+-- An answer that is a reply: the arrival passed the admission checks above its site's mark, and the reply is by what is kept under its key.
 pub record IsReplied (j : Journal) (a : ArrivalView) (reply : ReplyView) : Type 0 where
   pub mode : Mode
-  pub passed : door a ≡ Ok mode
+  pub passed : check_arrival a ≡ Ok mode
   pub above : nat_lt (mark j a.site) a.number ≡ true
   pub row_changes : reply_to mode a (library_after j) (kept j a.site a.number) ≡ Ok reply
 
@@ -139,12 +139,12 @@ no_reply : {P : Type 0} (f : Fault) (reply : ReplyView) → ◌≡◌ {A = Resul
 no_reply f reply clash = absurd (cc)
 
 replied : (j : Journal) (a : ArrivalView) (reply : ReplyView) → answer j a ≡ Ok reply → IsReplied j a reply
-replied j a reply is = by_door (door a) refl
+replied j a reply is = by_admission (check_arrival a) refl
   where
     higher : nat_le a.number (mark j a.site) ≡ false → nat_lt (mark j a.site) a.number ≡ true
     higher above = grind (arith, nat_tests)
 
-    by_mark : (mode : Mode) → door a ≡ Ok mode → (settled : Bool) → nat_le a.number (mark j a.site) ≡ settled → IsReplied j a reply
+    by_mark : (mode : Mode) → check_arrival a ≡ Ok mode → (settled : Bool) → nat_le a.number (mark j a.site) ≡ settled → IsReplied j a reply
     by_mark mode passed true settled =
         let refused : answer j a ≡ Err (record { kind = fault.Settled; at = 0 }) = rw (passed, settled) refl in
         no_reply (record { kind = fault.Settled; at = 0 }) reply (sym refused ∙ is)
@@ -152,9 +152,9 @@ replied j a reply is = by_door (door a) refl
         let row_changes : answer j a ≡ reply_to mode a (library_after j) (kept j a.site a.number) = rw (passed, above) refl in
         record { mode = mode; passed = passed; above = higher above; row_changes = sym row_changes ∙ is }
 
-    by_door : (d : Result Mode Fault) → door a ≡ d → IsReplied j a reply
-    by_door (Err f) refused = no_reply f reply (sym (answer_at_door j a f refused) ∙ is)
-    by_door (Ok mode) passed = by_mark mode passed (nat_le a.number (mark j a.site)) refl
+    by_admission : (d : Result Mode Fault) → check_arrival a ≡ d → IsReplied j a reply
+    by_admission (Err f) refused = no_reply f reply (sym (answer_unadmitted j a f refused) ∙ is)
+    by_admission (Ok mode) passed = by_mark mode passed (nat_le a.number (mark j a.site)) refl
 
 -- a refused run leaves the library
 refused_outcome : (mode : Mode) (a : ArrivalView) (l : LibraryView) → (outcome mode a l).reply.accepted ≡ false → (outcome mode a l).library ≡ l
@@ -168,7 +168,7 @@ pub refused_leaves : (j : Journal) (a : ArrivalView) (reply : ReplyView) → ans
     → library_after (Came a ∷ j) ≡ library_after j
 refused_leaves j a reply is refused = by (replied j a reply is)
   where
-    by_kept : (mode : Mode) → door a ≡ Ok mode → nat_lt (mark j a.site) a.number ≡ true → (k : Option RunView) → kept j a.site a.number ≡ k
+    by_kept : (mode : Mode) → check_arrival a ≡ Ok mode → nat_lt (mark j a.site) a.number ≡ true → (k : Option RunView) → kept j a.site a.number ≡ k
         → reply_to mode a (library_after j) k ≡ Ok reply → library_after (Came a ∷ j) ≡ library_after j
     by_kept mode passed above (Some run) there row_changes = ap made_by (unheard_known j a mode passed (known_where_kept j a.site a.number run there))
     by_kept mode passed above None none row_changes =
@@ -205,7 +205,7 @@ told_run mode a l run reply own row_changes = go (run.mode == mode_number mode) 
     go true false modes bytes same = absurd (cc)
     go false bytes modes other same = absurd (cc)
 
-pub reply_kept : (j : Journal) (a : ArrivalView) (mode : Mode) (reply : ReplyView) → door a ≡ Ok mode → answer j a ≡ Ok reply
+pub reply_kept : (j : Journal) (a : ArrivalView) (mode : Mode) (reply : ReplyView) → check_arrival a ≡ Ok mode → answer j a ≡ Ok reply
     → kept (Came a ∷ j) a.site a.number ≡ Some (run_of (record { arrival = a; mode = mode; carried = None }) reply)
 reply_kept j a mode reply passed is = by (replied j a reply is)
   where
@@ -233,7 +233,7 @@ reply_kept j a mode reply passed is = by (replied j a reply is)
 
 pub others_kept : (j : Journal) (a : ArrivalView) (site : List ℕ) (n : ℕ) → ((a.site ≡ site) × (a.number ≡ n) → ⊥)
     → kept (Came a ∷ j) site n ≡ kept j site n
-others_kept j a site n other = ap (λ k. if nat_le n (mark j site) then None else k) (found (door a))
+others_kept j a site n other = ap (λ k. if nat_le n (mark j site) then None else k) (found (check_arrival a))
   where
     miss : (own : Bool) → (bytes_eq a.site site && (a.number == n)) ≡ own → own ≡ false
     miss false is = refl

@@ -1,4 +1,4 @@
--- The row changes of a run, and those of its settling behind them, lead tables to the library that it leaves.
+-- The row changes of a run, and those of its settling after them, lead tables to the library that it leaves.
 use Rattle.std.proofs.Common.{◌≡◌, ℕ, ◌+◌, ◌<◌, ◌≤◌, ◌^◌, nat_le, true, ◌&&◌, List, [], ◌∷◌, ◌++◌, length, map, sum_by, None, Ok, Err, refl, ap, sym, ◌∙◌}
 use Rattle.std.proofs.Common.{subst, arith}
 use Rattle.std.specs.List.{AllByRecursion}
@@ -30,7 +30,7 @@ use Rattle.upd_yank.proofs.RightLemmas.{least_affected}
 use Rattle.upd_desk.specs.declared.outcome.AppliedRun.{AppliedRun}
 use Rattle.upd_desk.specs.declared.outcome.RunOutcome.{RunOutcome}
 use Rattle.upd_desk.specs.Arrivals.{ArrivalView}
-use Rattle.upd_desk.specs.Compiling.{IsOutcomeOf, IsRunOf}
+use Rattle.upd_desk.specs.Compiling.{IsOutcomeOf, IsAppliedRun}
 use Rattle.upd_desk.specs.Holding.{AddsRun}
 use Rattle.upd_desk.specs.Journal.{Heard, run_of}
 use Rattle.upd_desk.specs.Made.{IsMade, LeadTo, looked_at}
@@ -107,7 +107,7 @@ pub compiled_is : (mode : Mode) (bytes : List ℕ) (l : LibraryView) (lines : Li
 compiled_is mode bytes l lines reached file read is written = rw read (rw is (rw written refl))
 
 module _ (lines : List LineView) (l loaded : LibraryView) (reached : Reached) (run : AppliedRun) (made : IsMade l)
-    (of_run : IsRunOf lines l loaded reached run) where
+    (of_run : IsAppliedRun lines l loaded reached run) where
   -- no more cards have another status than are affected
   pub least : length (altered l reached.library) ≤ length (affected (touched l reached.library) l reached.library)
   least =

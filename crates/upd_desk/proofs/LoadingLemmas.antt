@@ -143,7 +143,7 @@ still_read old mid same = grind (arith, same)
 pub read_no_more : (old mid new n : ℕ) → new ≡ mid → mid ≤ old + n → new ≤ old + n
 read_no_more old mid new n same less = grind (arith, same, less)
 
--- for a kept run none is read
+-- for a stored run none is read
 pub none_read_again : (old mid new n : ℕ) → mid ≡ old → new ≡ mid → new ≤ old + n
 none_read_again old mid new n first second = grind (arith, first, second)
 

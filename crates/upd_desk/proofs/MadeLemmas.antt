@@ -1,4 +1,4 @@
--- The library after each journal is as runs make it, and what is accepted goes through the door and three steps.
+-- The library after each journal is as runs make it, and what is accepted goes through the admission checks and three steps.
 use Rattle.std.proofs.Common.{◌≡◌, ℕ, Bool, true, false, not, List, [], ◌∷◌, Option, Some, None, Result, Ok, Err, refl}
 use Rattle.upd_text.specs.declared.fault.Fault.{Fault}
 use Rattle.upd_text.specs.declared.fault.FaultKind.{FaultKind}
@@ -14,7 +14,7 @@ use Rattle.upd_compile.specs.Modes.{mode_named}
 use Rattle.upd_laws.proofs.ReadRunLemmas.{empty_made, run_made}
 use Rattle.upd_laws.proofs.SoundOutcomeLemmas.{holds_of, through}
 use Rattle.upd_laws.proofs.SoundRunLemmas.{empty_sound, run_sound, run_whole, run_within}
-use Rattle.upd_desk.specs.Arrivals.{ArrivalView, door, is_run_number, is_site, key_door}
+use Rattle.upd_desk.specs.Arrivals.{ArrivalView, check_arrival, is_run_number, is_site, check_key}
 use Rattle.upd_desk.specs.Journal.{Heard, Journal, distinct, made_by, outcome_of, library_after}
 use Rattle.upd_desk.specs.Made.{IsMade}
 use Rattle.upd_desk.specs.Outcomes.{Compiled, compiled, outcome, outcome_by}
@@ -71,9 +71,9 @@ runs_made (h ∷ earlier) = go h.carried (runs_made earlier)
 pub library_made : (journal : Journal) → IsMade (library_after journal)
 library_made journal = runs_made (distinct journal)
 
--- ---- the door
+-- ---- the admission checks
 
--- What has passed the door: a site, a number, and a word for the mode.
+-- What has passed the admission checks: a site, a number, and a word for the mode.
 pub record HasPassed (a : ArrivalView) (mode : Mode) : Type 0 where
   pub site : is_site a.site ≡ true
   pub number : is_run_number a.number ≡ true
@@ -87,9 +87,9 @@ named : (o : Option Mode) (mode : Mode) → at_line 0 (need fault.BadMode o) ≡
 named (Some m) mode h = holds_of {E = Fault} (λ x. Some m ≡ Some x) m mode h refl
 named None mode h = absurd (cc)
 
-pub passed : (a : ArrivalView) (mode : Mode) → door a ≡ Ok mode → HasPassed a mode
+pub passed : (a : ArrivalView) (mode : Mode) → check_arrival a ≡ Ok mode → HasPassed a mode
 passed a mode h =
-    through (key_door a.site a.number) _ mode (HasPassed a mode) h (λ number e h1.
+    through (check_key a.site a.number) _ mode (HasPassed a mode) h (λ number e h1.
     through (at_line 0 (refuse_if (not (is_site a.site)) fault.BadSite)) _ number (HasPassed a mode) e (λ site f e1.
     through (at_line 0 (need fault.BadMode (mode_named a.mode))) _ mode (HasPassed a mode) h1 (λ word g h2.
     through (at_line 0 (refuse_if _ fault.RunLong)) _ mode (HasPassed a mode) h2 (λ long k h3.

@@ -37,7 +37,7 @@ use Rattle.upd_partial.proofs.PartSoundLemmas.{part_sound}
 use Rattle.upd_partial.proofs.RenewLemmas.{renewed_alone}
 use Rattle.upd_partial.proofs.WholeLemmas.{on_whole}
 use Rattle.upd_desk.specs.declared.outcome.AppliedRun.{AppliedRun}
-use Rattle.upd_desk.specs.Compiling.{IsRunOf}
+use Rattle.upd_desk.specs.Compiling.{IsAppliedRun}
 use Rattle.upd_desk.specs.Made.{IsMade}
 use Rattle.upd_desk.proofs.LeadLemmas.{few_yanks}
 
@@ -77,7 +77,8 @@ takes lines m run sound at =
     (run_goes lines m (here_of run) at.is) at.tells
 
 -- of the whole library
-on_all : (lines : List LineView) (l : LibraryView) (run : AppliedRun) → IsMade l → IsAppliedTo lines l run → (reached : Reached) × IsRunOf lines l l reached run
+on_all : (lines : List LineView) (l : LibraryView) (run : AppliedRun) → IsMade l → IsAppliedTo lines l run
+    → (reached : Reached) × IsAppliedRun lines l l reached run
 on_all lines l run made at = (
   here_of run,
   record {
@@ -87,7 +88,7 @@ on_all lines l run made at = (
     directory = refl;
     row_changes = at.tells;
     part = (λ _. false, refl, part_of_none l);
-    settling = record {
+    status_update = record {
       between = between lines l run made.sound (few_yanks run.library (run_within lines l (here_of run) made.within at.is)) at;
       enough = inl (refl, whole);
       takes = takes lines l run made.sound at;
@@ -104,7 +105,7 @@ on_all lines l run made at = (
 -- of the decks that hold the cards which it names
 on_named : (lines : List LineView) (l : LibraryView) (run : AppliedRun) → IsMade l → is_plain lines ≡ true
     → list_any (is_yank_card l) (cards_named lines) ≡ false → IsAppliedTo lines (part_of (decks_with (cards_named lines) l) l) run
-    → (reached : Reached) × IsRunOf lines l (part_of (decks_with (cards_named lines) l) l) reached run
+    → (reached : Reached) × IsAppliedRun lines l (part_of (decks_with (cards_named lines) l) l) reached run
 on_named lines l run made plain none at = by (on_whole ages lines l (here_of run) changes made.sound made.within plain
     (others_unnamed lines l made.sound) at.is at.tells)
   where
@@ -132,17 +133,17 @@ on_named lines l run made plain none at = by (on_whole ages lines l (here_of run
     named : NamesNone (λ d. d == 0) lines l
     named = no_yank_named lines l none
 
-    by : IsOnWhole out lines l (here_of run) changes → (reached : Reached) × IsRunOf lines l (part_of ages l) reached run
+    by : IsOnWhole out lines l (here_of run) changes → (reached : Reached) × IsAppliedRun lines l (part_of ages l) reached run
     by on = (
       on.there,
-      subst (λ m. IsRunOf lines l m on.there run) (sym same) (record {
+      subst (λ m. IsAppliedRun lines l m on.there run) (sym same) (record {
         applied = on.reached;
         idents = ap (λ (r : Reached). r.idents) on.parted;
         compile = ap (λ (r : Reached). r.compile) on.parted;
         directory = ap (λ (r : Reached). r.library.idents) on.parted;
         row_changes = on.row_changes;
         part = (out, refl, refl);
-        settling = record {
+        status_update = record {
           between = between lines (part out l) run sound few here;
           enough = subst (λ cards. IsEnough cards (part out l) run.library run.library) (sym (here.touches sound.keys))
               (subst (λ m. IsEnough (touched (part out l) m) (part out l) m m) (sym library)
@@ -172,7 +173,7 @@ on_named lines l run made plain none at = by (on_whole ages lines l (here_of run
 pub run_needed : (lines : List LineView) (l found : LibraryView) (run : AppliedRun) → IsMade l → found ≡ part_of (decks_needed lines l) l
     → applied lines found ≡ Ok (record { library = run.library; idents = run.applied.idents.items; compile = run.applied.compile.items })
     → (AreApart (map key_of (all_cards found)) → run.applied.touched.items ≡ touched found run.library)
-    → RowChanges found run.library (map change_view run.applied.changes.items) → (reached : Reached) × IsRunOf lines l found reached run
+    → RowChanges found run.library (map change_view run.applied.changes.items) → (reached : Reached) × IsAppliedRun lines l found reached run
 run_needed lines l found run made loaded is touches tells = subst (Ran l) (sym loaded)
     (go (is_plain lines) refl (list_any (is_yank_card l) (cards_named lines)) refl
     (subst (λ m. IsAppliedTo lines m run) loaded (record { is = is; touches = touches; tells = tells })))
@@ -181,7 +182,7 @@ run_needed lines l found run made loaded is touches tells = subst (Ran l) (sym l
     needed plain yanks = if plain && not yanks then decks_with (cards_named lines) l else map (λ d. d.ident) l.decks
 
     Ran : LibraryView → LibraryView → Type 0
-    Ran l m = (reached : Reached) × IsRunOf lines l m reached run
+    Ran l m = (reached : Reached) × IsAppliedRun lines l m reached run
 
     all : (ages : List ℕ) → ages ≡ map (λ d. d.ident) l.decks → IsAppliedTo lines (part_of ages l) run → Ran l (part_of ages l)
     all ages e at =

@@ -23,7 +23,7 @@ use Rattle.upd_desk.specs.Holding.{HoldsIn, IsOwed, Tells, is_lost}
 use Rattle.upd_desk.proofs.MadeLemmas.{library_made}
 use Rattle.upd_desk.proofs.RefusedLemmas.{fails_by}
 
--- a call that failed as defined, but for want of memory, met what is owed or was lost
+-- a call that failed as defined, but for out of memory, met what is expected or was lost
 pub fails_owed : {A : Type 0} (f : Fault) (defined : Result A Fault) → FailsAt f defined → IsLost f ⊎ (defined ≡ Err f)
 fails_owed f defined fails = by (fails_by f defined fails)
   where
@@ -46,7 +46,7 @@ of_held {P = P} shows image opened all j held = by (held opened)
 module _ {S : Type 0} {meaning : Ghosts S} where
   open meaning use {shows, image, is_open, is_honest}
 
-  -- what is owed of what was loaded is owed of the library after the journal, where the same is defined of both
+  -- what is expected of what was loaded is expected of the library after the journal, where the same is defined of both
   pub tells_same : (made : (j : Journal) → IsMade (library_after j)) {A : Type 0} (defined : LibraryView → Result A Fault) (owed result : Result A Fault)
       (old new : S) → Keeps meaning old new → (is_honest new → is_open new)
       → (is_honest new → (l : LibraryView) → IsMade l → (rows : Rows) → shows (image old) rows → Shows rows l → ShowsStates rows l → owed ≡ defined l)

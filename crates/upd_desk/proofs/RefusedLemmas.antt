@@ -9,16 +9,16 @@ use Rattle.upd_text.specs.Outcome.{FailsAt, FailsOf}
 use Rattle.upd_core.specs.Counted.{CountedCardView, counted_cards}
 use Rattle.upd_core.specs.Library.{LibraryView}
 use Rattle.upd_core.specs.Sound.{IsSound}
-use Rattle.upd_core.specs.Status.{is_active, live_targets, status_of}
-use Rattle.upd_core.proofs.FoundLemmas.{status_at}
+use Rattle.upd_core.specs.Status.{is_active, live_targets}
 use Rattle.upd_compile.specs.declared.mode.Mode.{Mode}
 use Rattle.upd_row_store.specs.Keeping.{IsLost, OfMemory}
-use Rattle.upd_yank.specs.Affected.{altered, is_other}
+use Rattle.upd_yank.specs.Affected.{altered, is_other, status_before}
+use Rattle.upd_yank.proofs.KeptLemmas.{before_at}
 use Rattle.upd_yank.proofs.StateLemmas.{all_counted}
 use Rattle.upd_desk.specs.Arrivals.{ArrivalView}
 use Rattle.upd_desk.specs.Outcomes.{compiled, outcome, outcome_by}
 
--- a fault is want of memory, at no line, or the defined one
+-- a fault is out of memory, at no line, or the defined one
 pub fails_by : {A : Type 0} (fault : Fault) (defined : Result A Fault) → FailsAt fault defined
     → ((fault.kind ≡ kinds.NoMemory) × (fault.at ≡ 0)) ⊎ (defined ≡ Err fault)
 fails_by fault defined fails = go fault.kind fails
@@ -65,7 +65,7 @@ fails_is fault defined other fails = by (fails_by fault defined fails)
     by (inl lost) = absurd (other lost.0)
     by (inr met) = met
 
--- a refusal that can't be kept is want of memory
+-- a refusal that can't be kept is out of memory
 pub refused_lost : {A : Type 0} (f e : Fault) (defined : Result A Fault) → FailsAt f defined
     → (e ≡ fault_at kinds.NoMemory 0) ⊎ ((e ≡ f) × (f.kind ≡ kinds.NoMemory)) → IsLost e
 refused_lost f e defined fails (inl is) = OfMemory e (ap (λ g. g.kind) is) (ap (λ g. g.at) is)
@@ -82,10 +82,10 @@ none_pass test (x ∷ xs) none = rw none.0 (none_pass test xs none.1)
 pub unaltered : (l : LibraryView) → IsSound l → altered l l ≡ []
 unaltered l sound = none_pass is_altered (counted_cards l)
     (all_counted (λ k. is_altered k ≡ false) l (λ d c in_decks in_cards.
-    ap (is_other (is_active (live_targets l) d.ident c)) (status_at l d c sound in_decks in_cards) ∙ own (is_active (live_targets l) d.ident c)))
+    ap (is_other (is_active (live_targets l) d.ident c)) (before_at l d c sound in_decks in_cards) ∙ own (is_active (live_targets l) d.ident c)))
   where
     is_altered : CountedCardView → Bool
-    is_altered k = is_other (is_active (live_targets l) k.deck k.view) (status_of k.card l)
+    is_altered k = is_other (is_active (live_targets l) k.deck k.view) (status_before l k.view)
 
     own : (b : Bool) → is_other b (Some b) ≡ false
     own true = refl

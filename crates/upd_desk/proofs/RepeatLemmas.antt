@@ -11,11 +11,12 @@ use Rattle.upd_records.specs.Rows.{RunView}
 use Rattle.upd_compile.specs.declared.mode.Mode.{Mode}
 use Rattle.upd_row_store.specs.Tables.{is_run}
 use Rattle.upd_row_store.proofs.TableLemmas.{is_same_bytes, same_key}
-use Rattle.upd_desk.specs.Arrivals.{ArrivalView, door, mode_number}
-use Rattle.upd_desk.specs.Journal.{Came, Carried, Settled, Heard, Journal, mark, has_key, with_arrival, distinct, outcome_of, made_by, library_after, run_of, answered}
+use Rattle.upd_desk.specs.Arrivals.{ArrivalView, check_arrival, mode_number}
+use Rattle.upd_desk.specs.Journal.{Came, Carried, Settled, Heard, Journal, mark, has_key, with_arrival, distinct}
+use Rattle.upd_desk.specs.Journal.{outcome_of, made_by, library_after, run_of, answered}
 use Rattle.upd_desk.specs.Journal.{kept, reply_to, answer}
 use Rattle.upd_desk.specs.Outcomes.{ReplyView, outcome}
-use Rattle.upd_desk.proofs.JournalLemmas.{unheard_door, unheard_settled, unheard_known, heard_new, answered_any}
+use Rattle.upd_desk.proofs.JournalLemmas.{unheard_unadmitted, unheard_settled, unheard_known, heard_new, answered_any}
 use Rattle.upd_desk.proofs.KeptLemmas.{none_found, not_below}
 
 pub missed : {A : Type 0} (test : A → Bool) (xs : List A) → find test xs ≡ None → list_any test xs ≡ false
@@ -28,7 +29,7 @@ missed {A} test (x ∷ xs) is = go (test x) is (missed test xs)
 
 -- ---- a refusal leaves the journal's runs as they were
 
--- a kept run is one of the distinct runs
+-- a stored run is one of the distinct runs
 pub known_where_kept : (j : Journal) (site : List ℕ) (n : ℕ) (run : RunView) → kept j site n ≡ Some run → list_any (has_key site n) (distinct j) ≡ true
 known_where_kept j site n run is = go (list_any (has_key site n) (distinct j)) refl
   where
@@ -42,9 +43,9 @@ known_where_kept j site n run is = go (list_any (has_key site n) (distinct j)) r
     go false miss = let clash : None ≡ Some run = sym (none miss (nat_le n (mark j site))) ∙ is in grind rules
 
 pub refused_unheard : (j : Journal) (a : ArrivalView) (fault : Fault) → answer j a ≡ Err fault → distinct (Came a ∷ j) ≡ distinct j
-refused_unheard j a fault refused = by_door (door a) refl refused
+refused_unheard j a fault refused = by_admission (check_arrival a) refl refused
   where
-    by_kept : (mode : Mode) → door a ≡ Ok mode → (k : Option RunView) → kept j a.site a.number ≡ k → reply_to mode a (library_after j) k ≡ Err fault
+    by_kept : (mode : Mode) → check_arrival a ≡ Ok mode → (k : Option RunView) → kept j a.site a.number ≡ k → reply_to mode a (library_after j) k ≡ Err fault
         → distinct (Came a ∷ j) ≡ distinct j
     by_kept mode passed None is answers = grind rules
     by_kept mode passed (Some run) is answers = unheard_known j a mode passed (known_where_kept j a.site a.number run is)
@@ -52,16 +53,16 @@ refused_unheard j a fault refused = by_door (door a) refl refused
     below_mark : nat_le a.number (mark j a.site) ≡ true → nat_lt (mark j a.site) a.number ≡ false
     below_mark settled = grind (arith, nat_tests)
 
-    by_mark : (mode : Mode) → door a ≡ Ok mode → (settled : Bool) → nat_le a.number (mark j a.site) ≡ settled → answer j a ≡ Err fault
+    by_mark : (mode : Mode) → check_arrival a ≡ Ok mode → (settled : Bool) → nat_le a.number (mark j a.site) ≡ settled → answer j a ≡ Err fault
         → distinct (Came a ∷ j) ≡ distinct j
     by_mark mode passed true settled answers = unheard_settled j a mode passed (below_mark settled)
     by_mark mode passed false above answers =
         let answered_by : answer j a ≡ reply_to mode a (library_after j) (kept j a.site a.number) = rw (passed, above) refl in
         by_kept mode passed (kept j a.site a.number) refl (sym answered_by ∙ answers)
 
-    by_door : (d : Result Mode Fault) → door a ≡ d → answer j a ≡ Err fault → distinct (Came a ∷ j) ≡ distinct j
-    by_door (Err f) is answers = unheard_door j a f is
-    by_door (Ok mode) is answers = by_mark mode is (nat_le a.number (mark j a.site)) refl answers
+    by_admission : (d : Result Mode Fault) → check_arrival a ≡ d → answer j a ≡ Err fault → distinct (Came a ∷ j) ≡ distinct j
+    by_admission (Err f) is answers = unheard_unadmitted j a f is
+    by_admission (Ok mode) is answers = by_mark mode is (nat_le a.number (mark j a.site)) refl answers
 
 -- ---- marks never fall
 
@@ -106,14 +107,14 @@ found_with k a carried (Ok mode) site n run is = by (nat_lt (mark k a.site) a.nu
 found_later : (between k : Journal) (site : List ℕ) (n : ℕ) (run : RunView)
     → find (is_run site n) (answered (distinct k)) ≡ Some run → find (is_run site n) (answered (distinct (between ++ k))) ≡ Some run
 found_later [] k site n run is = is
-found_later (Came a ∷ es) k site n run is = found_with (es ++ k) a None (door a) site n run (found_later es k site n run is)
-found_later (Carried a reply ∷ es) k site n run is = found_with (es ++ k) a (Some reply) (door a) site n run (found_later es k site n run is)
+found_later (Came a ∷ es) k site n run is = found_with (es ++ k) a None (check_arrival a) site n run (found_later es k site n run is)
+found_later (Carried a reply ∷ es) k site n run is = found_with (es ++ k) a (Some reply) (check_arrival a) site n run (found_later es k site n run is)
 found_later (Settled s m ∷ es) k site n run is = found_later es k site n run is
 
 -- ---- repeats
 
--- the answer to an arrival that passes the door and isn't settled goes by what was answered under its key
-answer_is : (j : Journal) (a : ArrivalView) (mode : Mode) → door a ≡ Ok mode → nat_lt (mark j a.site) a.number ≡ true
+-- the answer to an arrival that passes the admission checks and isn't settled goes by what was answered under its key
+answer_is : (j : Journal) (a : ArrivalView) (mode : Mode) → check_arrival a ≡ Ok mode → nat_lt (mark j a.site) a.number ≡ true
     → answer j a ≡ reply_to mode a (library_after j) (find (is_run a.site a.number) (answered (distinct j)))
 answer_is j a mode passed above = rw (passed, not_below (mark j a.site) a.number above) refl
 
@@ -126,7 +127,7 @@ own_reply mode a l reply = rw (is_same_bytes a.bytes, same_number (mode_number m
     same_number n = grind (arith, nat_tests)
 
 -- what an arrival finds under its key once it was answered
-pub found_own : (before : Journal) (a : ArrivalView) (mode : Mode) → door a ≡ Ok mode → nat_lt (mark before a.site) a.number ≡ true
+pub found_own : (before : Journal) (a : ArrivalView) (mode : Mode) → check_arrival a ≡ Ok mode → nat_lt (mark before a.site) a.number ≡ true
     → list_any (has_key a.site a.number) (distinct before) ≡ false
     → find (is_run a.site a.number) (answered (distinct (Came a ∷ before)))
     ≡ Some (run_of (record { arrival = a; mode = mode; carried = None }) (outcome mode a (library_after before)).reply)
@@ -135,7 +136,7 @@ found_own before a mode passed above fresh = rw (heard_new before a mode passed 
     same_number : (n : ℕ) → (n == n) ≡ true
     same_number n = grind (arith, nat_tests)
 
-pub repeated : (between before : Journal) (a : ArrivalView) (mode : Mode) → door a ≡ Ok mode
+pub repeated : (between before : Journal) (a : ArrivalView) (mode : Mode) → check_arrival a ≡ Ok mode
     → nat_lt (mark (between ++ Came a ∷ before) a.site) a.number ≡ true → answer (between ++ Came a ∷ before) a ≡ answer before a
 repeated between before a mode passed above = by_known (list_any (has_key a.site a.number) (distinct before)) refl
   where
@@ -155,7 +156,7 @@ repeated between before a mode passed above = by_known (list_any (has_key a.site
         let clash : true ≡ false = sym known ∙ sym (answered_any a.site a.number (distinct before)) ∙ missed key (answered (distinct before)) is in
         grind rules
     by_found (Some run) is known =
-        let with_it = found_with before a None (door a) a.site a.number run is in
+        let with_it = found_with before a None (check_arrival a) a.site a.number run is in
         let still = found_later between (Came a ∷ before) a.site a.number run with_it in
         let again : answer (between ++ Came a ∷ before) a ≡ reply_to mode a (library_after before) (Some run) = later ∙ rw still refl in
         let first : answer before a ≡ reply_to mode a (library_after before) (Some run) = answer_is before a mode passed earlier ∙ rw is refl in

@@ -11,15 +11,15 @@ use Rattle.upd_row_store.specs.declared.meaning.Meaning.{Ghosts}
 use Rattle.upd_row_store.specs.Keeping.{IsLost, Keeps, Tries}
 use Rattle.upd_row_store.specs.Tables.{mark_at, settled_to}
 use Rattle.upd_row_store.proofs.TableLemmas.{max_right, same_bytes, shows_settled, states_settled}
-use Rattle.upd_desk.specs.Arrivals.{is_run_number, is_site, key_door}
+use Rattle.upd_desk.specs.Arrivals.{is_run_number, is_site, check_key}
 use Rattle.upd_desk.specs.Journal.{Alike, Event, Settled, Journal, mark, library_after}
-use Rattle.upd_desk.specs.Holding.{Guards, Holds, HoldsIn, IsLeft, Settles, is_lost, mark_after}
+use Rattle.upd_desk.specs.Holding.{Guards, Holds, HoldsIn, IsHeld, IsLeft, Settles, is_lost, mark_after}
 use Rattle.upd_desk.proofs.ArrivesLemmas.{holds_in_alike, left_here, left_more, lost_kind}
 use Rattle.upd_desk.proofs.KeptLemmas.{kept_settled, mark_settled}
 
--- the door of a key neither wants memory nor fails as a store does
-pub key_keeps : (site : List ℕ) (n : ℕ) (f : Fault) → key_door site n ≡ Err f → is_lost f.kind ≡ false
-key_keeps site n f refused = by_site (is_site site) refused
+-- a refusal of a key is no lost call
+pub key_not_lost : (site : List ℕ) (n : ℕ) (f : Fault) → check_key site n ≡ Err f → is_lost f.kind ≡ false
+key_not_lost site n f refused = by_site (is_site site) refused
   where
     by_number : (number : Bool) → at_line 0 (refuse_if (not number) fault.BadNumber) ≡ Err f → is_lost f.kind ≡ false
     by_number true is = grind rules
@@ -41,7 +41,7 @@ alike_settled j s n below = record { runs = refl; marks = λ site. go site (byte
         let here : nat_le n (mark j site) ≡ true = rw (← same_bytes s site is) below in
         sym (max_right n (mark j site) here)
 
--- tables that a settlement has changed hold what is owed after it
+-- tables that a settlement has changed hold what is expected after it
 pub holds_settled : (j : Journal) (s : List ℕ) (n : ℕ) (rows : Rows) → Holds j rows → Holds (Settled s n ∷ j) (settled_to s n rows)
 holds_settled j s n rows held = record {
   library = shows_settled s n rows (library_after j) held.library;
@@ -53,19 +53,16 @@ holds_settled j s n rows held = record {
 module _ {S : Type 0} {meaning : Ghosts S} where
   open meaning use {Image, shows, image, is_open, is_honest, may_leave}
 
-  abbrev HeldAt : S → Journal → Type 0
-  HeldAt s j = is_open s → HoldsIn shows j (image s)
-
   -- a refusal of the site or the number
   pub refuses_key : (site : List ℕ) (n : ℕ) (f : Fault) (old new : S) → Keeps meaning old new
-      → key_door site n ≡ Err f → Settles meaning site n (Err f) old new
+      → check_key site n ≡ Err f → Settles meaning site n (Err f) old new
   refuses_key site n f old new keeps refused = record {
     honest = keeps.honest;
     was_open = keeps.was_open;
     counts = keeps.counts;
     answers = λ honest j held. inr (rw refused refl);
     holds = λ honest j held is. subst (HoldsIn shows j) (sym (keeps.same honest is)) (held (keeps.was_open honest is));
-    leaves = λ honest j hand guards i may. rw (key_keeps site n f refused) (guards.left i (keeps.crash honest i may));
+    leaves = λ honest j hand guards i may. rw (key_not_lost site n f refused) (guards.left i (keeps.crash honest i may));
   }
 
   -- a call that failed and tried no write
@@ -82,7 +79,7 @@ module _ {S : Type 0} {meaning : Ghosts S} where
 
   -- what is at or below the mark is settled already: the mark is the answer
   pub tells_mark : (settles : (s : S) (i : Image) → is_honest s → is_open s → may_leave s i → i ≡ image s) (site : List ℕ) (n m : ℕ) (old new : S)
-      → Keeps meaning old new → (is_honest new → is_open new) → key_door site n ≡ Ok false
+      → Keeps meaning old new → (is_honest new → is_open new) → check_key site n ≡ Ok false
       → (is_honest new → (rows : Rows) → shows (image old) rows → m ≡ mark_at site rows) → n ≤ m → Settles meaning site n (Ok m) old new
   tells_mark settles site n m old new keeps opens passed found below = record {
     honest = keeps.honest;
@@ -109,17 +106,17 @@ module _ {S : Type 0} {meaning : Ghosts S} where
       owed : is_honest new → (j : Journal) → HoldsIn shows j (image old) → mark_after j site n ≡ Ok m
       owed honest j held = rw passed (ap Ok (sym ((alike honest j held).marks site) ∙ sym (is_mark honest j held)))
 
-      holds : is_honest new → (j : Journal) → HeldAt old j → is_open new → HoldsIn shows (Settled site n ∷ j) (image new)
+      holds : is_honest new → (j : Journal) → IsHeld meaning j old → is_open new → HoldsIn shows (Settled site n ∷ j) (image new)
       holds honest j held is =
           let before = held (was_open honest) in
           subst (HoldsIn shows (Settled site n ∷ j)) (sym (keeps.same honest is))
           (holds_in_alike shows j (Settled site n ∷ j) (image old) (alike honest j before) before)
 
-  -- a settlement that was carried out behind a call that only read
+  -- a settlement that was carried out after a call that only read
   pub settles_after : (settles : (s : S) (i : Image) → is_honest s → is_open s → may_leave s i → i ≡ image s) (site : List ℕ) (n m : ℕ)
       (old mid new : S) → Keeps meaning old mid
       → Tries meaning (λ _. Unit {0}) (settled_to site n) mid new → (is_honest new → is_open new)
-      → key_door site n ≡ Ok false
+      → check_key site n ≡ Ok false
       → (is_honest new → (rows : Rows) → shows (image mid) rows
       → (m ≡ mark_at site (settled_to site n rows)) × shows (image new) (settled_to site n rows))
       → Settles meaning site n (Ok m) old new
@@ -133,7 +130,7 @@ module _ {S : Type 0} {meaning : Ghosts S} where
         inl (subst (HoldsIn shows (Settled site n ∷ j)) (sym (settles new i honest (opens honest) may)) (holds honest j (there honest j guards.shown)));
   }
     where
-      there : is_honest new → (j : Journal) → HeldAt old j → HoldsIn shows j (image mid)
+      there : is_honest new → (j : Journal) → IsHeld meaning j old → HoldsIn shows j (image mid)
       there honest j held =
           let before = tries.honest honest in
           let is = tries.was_open honest (opens honest) in
@@ -146,11 +143,11 @@ module _ {S : Type 0} {meaning : Ghosts S} where
       holds : is_honest new → (j : Journal) → HoldsIn shows j (image mid) → HoldsIn shows (Settled site n ∷ j) (image new)
       holds honest j (rows, shown, held) = (settled_to site n rows, (done honest rows shown).1, holds_settled j site n rows held)
 
-  -- a settlement that failed behind such a call and may have been carried out: it is in hand
-  pub loses_settling : (site : List ℕ) (n : ℕ) (f : Fault) (old mid new : S) → Keeps meaning old mid
+  -- a settlement that failed after such a call and may have been carried out: it is in hand
+  pub loses_settlement : (site : List ℕ) (n : ℕ) (f : Fault) (old mid new : S) → Keeps meaning old mid
       → Tries meaning (λ _. Unit {0}) (settled_to site n) mid new → IsLost f
       → (is_honest new → is_open new → image new ≡ image mid) → Settles meaning site n (Err f) old new
-  loses_settling site n f old mid new keeps tries lost same = record {
+  loses_settlement site n f old mid new keeps tries lost same = record {
     honest = λ honest. keeps.honest (tries.honest honest);
     was_open = λ honest is. keeps.was_open (tries.honest honest) (tries.was_open honest is);
     counts = (let less = keeps.counts in let more = tries.counts in grind arith);
@@ -160,7 +157,7 @@ module _ {S : Type 0} {meaning : Ghosts S} where
         rw (lost_kind f lost) (by (tries.honest honest) j hand guards i (tries.crash honest i may));
   }
     where
-      there : is_honest mid → (j : Journal) → HeldAt old j → is_open mid → HoldsIn shows j (image mid)
+      there : is_honest mid → (j : Journal) → IsHeld meaning j old → is_open mid → HoldsIn shows j (image mid)
       there honest j held is = subst (HoldsIn shows j) (sym (keeps.same honest is)) (held (keeps.was_open honest is))
 
       carried : (j : Journal) (i : Image) → ((rows : Rows) → shows (image mid) rows → Unit {0} → shows i (settled_to site n rows))

@@ -16,7 +16,7 @@ use Rattle.upd_laws.specs.ReadRuns.{HasLineTexts}
 use Rattle.upd_laws.proofs.CompileLineLemmas.{file_plain, name_of_plain}
 use Rattle.upd_laws.proofs.SoundListLemmas.{and_right, all_weaker}
 use Rattle.upd_reply.specs.Texts.{AreShown, accepted_text, is_shown}
-use Rattle.upd_desk.specs.Arrivals.{ArrivalView, door, is_site, is_site_byte}
+use Rattle.upd_desk.specs.Arrivals.{ArrivalView, check_arrival, is_site, is_site_byte}
 use Rattle.upd_desk.specs.Made.{IsMade}
 use Rattle.upd_desk.specs.Outcomes.{Compiled, compiled}
 use Rattle.upd_row_store.proofs.TableLemmas.{same_bytes}
@@ -72,7 +72,7 @@ pub record AreAllShown (a : ArrivalView) (done : Compiled) : Type 0 where
   pub idents : AllByRecursion AreShown (map (name_of done.reached.library.idents) done.reached.idents)
   pub file : AreShown done.file.bytes
 
-pub all_shown : (mode : Mode) (a : ArrivalView) (l : LibraryView) (done : Compiled) → IsMade l → door a ≡ Ok mode → compiled mode a.bytes l ≡ Ok done
+pub all_shown : (mode : Mode) (a : ArrivalView) (l : LibraryView) (done : Compiled) → IsMade l → check_arrival a ≡ Ok mode → compiled mode a.bytes l ≡ Ok done
     → AreAllShown a done
 all_shown mode a l done made entered h =
     let through = passed a mode entered in

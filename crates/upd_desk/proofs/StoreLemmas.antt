@@ -32,7 +32,7 @@ commits_run mode a l cs rows leads = record {
     run : RunView
     run = run_of (record { arrival = a; mode = mode; carried = None }) (outcome mode a l).reply
 
--- want of memory leaves an arrival unanswered
+-- out of memory leaves an arrival unanswered
 pub lost_memory : (f : Fault) → f ≡ fault_at NoMemory 0 → IsLost f
 lost_memory f is = OfMemory f (ap (λ g. g.kind) is) (ap (λ g. g.at) is)
 
@@ -70,7 +70,7 @@ module _ {S : Type 0} {meaning : Ghosts S} where
     crash = λ honest i may. inl (keeps.crash honest i may);
   }
 
-  -- a commit behind calls that only read tries to keep a run, where the changes fit and lead to what the run makes of the tables
+  -- a commit after calls that only read tries to keep a run, where the changes fit and lead to what the run makes of the tables
   pub commit_as_run : (mode : Mode) (a : ArrivalView) (cs : List ChangeView) (run : RunView) (old mid new : S)
       → Keeps meaning old mid
       → Tries meaning (AllFit cs) (committed cs run) mid new

@@ -9,7 +9,7 @@ use Rattle.upd_row_store.specs.declared.meaning.Meaning.{Ghosts}
 use Rattle.upd_row_store.specs.Keeping.{Keeps}
 use Rattle.upd_row_store.specs.Tables.{run_at}
 use Rattle.upd_yank.specs.Affected.{altered}
-use Rattle.upd_desk.specs.Arrivals.{ArrivalView, door}
+use Rattle.upd_desk.specs.Arrivals.{ArrivalView, check_arrival}
 use Rattle.upd_desk.specs.Journal.{Came, Journal, distinct, kept, made_by, mark, library_after}
 use Rattle.upd_desk.specs.Made.{IsMade, looked_at, work_of}
 use Rattle.upd_desk.specs.Needed.{needed, needed_by}
@@ -27,18 +27,19 @@ work_again : (j : Journal) (a : ArrivalView) (run : RunView) → kept j a.site a
 work_again j a run is = rw is refl
 
 -- for a new key those are looked at that its run can have changed
-work_new : (j : Journal) (a : ArrivalView) (mode : Mode) → door a ≡ Ok mode → kept j a.site a.number ≡ None
+work_new : (j : Journal) (a : ArrivalView) (mode : Mode) → check_arrival a ≡ Ok mode → kept j a.site a.number ≡ None
     → looked_at (library_after j) (compiled mode a.bytes (library_after j)) ≡ work_of j a
 work_new j a mode passed is = rw (is, passed) refl
 
 -- where no run is heard no card has another status
-none_altered : (j : Journal) (a : ArrivalView) (n : ℕ) → distinct (Came a ∷ j) ≡ distinct j → length (altered (library_after j) (library_after (Came a ∷ j))) ≤ n
+none_altered : (j : Journal) (a : ArrivalView) (n : ℕ) → distinct (Came a ∷ j) ≡ distinct j
+    → length (altered (library_after j) (library_after (Came a ∷ j))) ≤ n
 none_altered j a n same =
     subst (λ (l : LibraryView). length (altered (library_after j) l) ≤ n) (ap made_by (sym same))
     (subst (λ (ks : List CountedCardView). length ks ≤ n) (sym (unaltered (library_after j) (library_made j).sound)) (omega arith))
 
 -- where a run is heard those cards have that its outcome gives another status
-its_altered : (j : Journal) (a : ArrivalView) (mode : Mode) (rows : Rows) (n : ℕ) → Holds j rows → door a ≡ Ok mode
+its_altered : (j : Journal) (a : ArrivalView) (mode : Mode) (rows : Rows) (n : ℕ) → Holds j rows → check_arrival a ≡ Ok mode
     → nat_lt (mark j a.site) a.number ≡ true → run_at a.site a.number rows ≡ None
     → length (altered (library_after j) (outcome mode a (library_after j)).library) ≤ n → length (altered (library_after j) (library_after (Came a ∷ j))) ≤ n
 its_altered j a mode rows n held passed above none less =
@@ -53,7 +54,7 @@ module _ {S : Type 0} {meaning : Ghosts S} where
       → HoldsIn shows j (image mid)
   held_there old mid keeps honest is j held = subst (HoldsIn shows j) (sym (keeps.same honest is)) (held (keeps.was_open honest is))
 
-  -- ---- a kept run
+  -- ---- a stored run
 
   pub work_told : (mode : Mode) (a : ArrivalView) (run : RunView) (old mid : S) → Keeps meaning old mid → (is_honest mid → is_open mid)
       → (is_honest mid → IsAsked meaning mode a (Some run) mid) → is_honest mid → (j : Journal) → (is_open old → HoldsIn shows j (image old)) → 0 ≡ work_of j a

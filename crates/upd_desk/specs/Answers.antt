@@ -1,10 +1,9 @@
--- How an answer of the desk is told: by a line, or by nothing where the arrival was lost.
-use Rattle.std.specs.Prelude.{◌≡◌, ◌⊎◌, ℕ, Bool, true, false, not, List, [], ◌∷◌, ◌++◌, Result, Ok, Err, IfErr}
+-- How an answer of the desk is written: as a line, or by nothing where the arrival was lost.
+use Rattle.std.specs.Prelude.{◌≡◌, ◌⊎◌, ℕ, Bool, true, false, not, List, [], ◌∷◌, ◌++◌, Result, Ok, Err}
 use Rattle.upd_text.specs.Faults.{fault_at}
 use Rattle.upd_text.specs.declared.fault.Fault.{Fault}
 use Rattle.upd_text.specs.declared.fault.FaultKind.TheVariants.{NoMemory, Store}
 use Rattle.upd_reply.specs.Texts.{fault_text}
-use Rattle.upd_row_store.specs.Keeping.{MoreFailures}
 use Rattle.upd_desk.specs.Outcomes.{ReplyView}
 use Rattle.upd_desk.specs.Holding.{is_lost}
 
@@ -21,8 +20,4 @@ answer_line (Err fault) = fault_text fault ++ 10 ∷ []
 -- why an arrival gets no line: it was lost, or there was no memory for the text of its fault
 abbrev pub IsUntold : Result ReplyView Fault → Fault → Type 0
 IsUntold (Ok reply) fault = ⊥
-IsUntold (Err row_changes) fault = ((is_lost row_changes.kind ≡ true) × (fault ≡ row_changes)) ⊎ ((is_lost row_changes.kind ≡ false) × (fault ≡ fault_at NoMemory 0))
-
--- a store is said to have failed only where it counted a failure
-abbrev pub CountsFailure : {S A : Type 0} → (S → ℕ) → Result A Fault → S → S → Type 0
-CountsFailure failures result old new = IfErr result (λ fault. fault.kind ≡ Store → MoreFailures (failures old) (failures new))
+IsUntold (Err met) fault = ((is_lost met.kind ≡ true) × (fault ≡ met)) ⊎ ((is_lost met.kind ≡ false) × (fault ≡ fault_at NoMemory 0))

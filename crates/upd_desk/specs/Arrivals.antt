@@ -1,4 +1,4 @@
--- What arrives at the desk, and what is asked of it at the door.
+-- What arrives at the desk, and the admission checks.
 use Rattle.std.specs.Prelude.{ℕ, nat_lt, nat_le, Bool, not, ◌&&◌, ◌||◌, List, length, Result, Ok}
 use Rattle.std.specs.List.{list_all}
 use Rattle.upd_text.specs.declared.fault.Fault.{Fault}
@@ -16,6 +16,10 @@ pub record ArrivalView : Type 0 where
   pub mode : List ℕ
   pub bytes : List ℕ
 
+-- an arrival with these parts
+abbrev pub arrival_view : List ℕ → ℕ → List ℕ → List ℕ → ArrivalView
+arrival_view site number mode bytes = record { site = site; number = number; mode = mode; bytes = bytes }
+
 -- whether a byte may stand in a site: `A-Z` and `0-9`
 abbrev pub is_site_byte : ℕ → Bool
 is_site_byte b = (nat_le 65 b && nat_le b 90) || (nat_le 48 b && nat_le b 57)
@@ -28,16 +32,16 @@ is_site text = nat_le 1 (length text) && nat_le (length text) 8 && list_all is_s
 abbrev pub is_run_number : ℕ → Bool
 is_run_number n = nat_le 1 n && nat_le n 999999999
 
--- site and number are judged first
-abbrev pub key_door : List ℕ → ℕ → Result Bool Fault
-key_door site number = do
+-- site and number are checked first
+abbrev pub check_key : List ℕ → ℕ → Result Bool Fault
+check_key site number = do
   _ ← at_line 0 (refuse_if (not (is_site site)) fault.BadSite)
   at_line 0 (refuse_if (not (is_run_number number)) fault.BadNumber)
 
--- The door: the mode of an arrival, or its first refusal, which keeps nothing.
-abbrev pub door : ArrivalView → Result Mode Fault
-door a = do
-  _ ← key_door a.site a.number
+-- The admission checks: the mode of an arrival, or its first refusal, which stores nothing.
+abbrev pub check_arrival : ArrivalView → Result Mode Fault
+check_arrival a = do
+  _ ← check_key a.site a.number
   mode ← at_line 0 (need fault.BadMode (mode_named a.mode))
   _ ← at_line 0 (refuse_if (nat_lt MAX_RUN_BYTES (length a.bytes)) fault.RunLong)
   Ok mode

@@ -34,31 +34,35 @@ IsPartOf l loaded = (out : Serial → Bool) × (out 0 ≡ false) × (loaded ≡ 
 abbrev pub references_of : LibraryView → List CardRef
 references_of l = map (λ k. k.card) (counted_cards l)
 
--- What is known of the settling of a run on the part of a library to which it was applied: what it stands on there, that as many cards are looked
--- at as are affected in the whole library, that what leads the statuses of the part leads those of the whole, and that the active cards of the
--- whole are renewed from it.
-pub record IsSettledAlone (l loaded : LibraryView) (reached : Reached) (run : AppliedRun) : Type 0 where
+-- The status update of a run, made on the loaded part of a library, is right for the whole library.
+pub record UpdatesAsWhole (l loaded : LibraryView) (reached : Reached) (run : AppliedRun) : Type 0 where
+  -- a cache that was right for the part is right for the update of this run
   pub between : (cache : CacheView) → IsRight loaded cache → IsRunBetween loaded run.library cache run.applied.touched.items
+  -- the part has all cards that the update looks at
   pub enough : IsEnough run.applied.touched.items loaded run.library run.library
+  -- the row changes of the run take away the statuses of cards that are gone
   pub takes : TakeGone loaded run.library (map change_view run.applied.changes.items)
+  -- as many cards are looked at as are affected in the whole library
   pub looks : length (affected run.applied.touched.items loaded run.library) ≡ length (affected (touched l reached.library) l reached.library)
+  -- status changes that are right for the rows of the part are right for the rows of the whole
   pub leads : (settled : List ChangeView) → AllByRecursion (λ c. row_changes_state c ≡ true) settled
       → ((rows : Rows) → ShowsStates rows loaded → ShowsStates (done_all settled (done_all (map change_view run.applied.changes.items) rows)) run.library)
       → (rows : Rows) → ShowsStates rows l → ShowsStates (done_all settled (done_all (map change_view run.applied.changes.items) rows)) reached.library
+  -- the active cards of the whole library follow from the statuses of the part
   pub renews : (cache : CacheView) → IsRight run.library cache → renewed cache.states run.library (actives_of l) ≡ actives_of reached.library
 
--- What is known of a run that was applied to a part of a library: what it reaches from the whole, that its row changes lead there, and that it is
--- settled on that part alone.
-pub record IsRunOf (lines : List LineView) (l loaded : LibraryView) (reached : Reached) (run : AppliedRun) : Type 0 where
+-- A run was applied to the loaded part of a library, and this is what it reaches from the whole library: the same idents, compile names and
+-- directory, row changes that make the one of the other, and a status update that is right for the whole.
+pub record IsAppliedRun (lines : List LineView) (l loaded : LibraryView) (reached : Reached) (run : AppliedRun) : Type 0 where
   pub applied : applied lines l ≡ Ok reached
   pub idents : run.applied.idents.items ≡ reached.idents
   pub compile : run.applied.compile.items ≡ reached.compile
   pub directory : run.library.idents ≡ reached.library.idents
   pub row_changes : RowChanges l reached.library (map change_view run.applied.changes.items)
   pub part : IsPartOf l loaded
-  pub settling : IsSettledAlone l loaded reached run
+  pub status_update : UpdatesAsWhole l loaded reached run
 
--- an accepted run is seen in what it left and in its file
+-- the library after an accepted run and its compile file are those of its outcome
 pub record IsSeen (done : Compiled) (run : AppliedRun) (file : FileView) : Type 0 where
   pub directory : run.library.idents ≡ done.reached.library.idents
   pub idents : run.applied.idents.items ≡ done.reached.idents

@@ -1,5 +1,5 @@
--- When a store holds what a desk owes after a journal, and what a stop may have left of it.
-use Rattle.std.specs.Prelude.{◌≡◌, ℕ, ◌≤◌, Bool, true, false, ◌⊎◌, if◌then◌else◌, List, [], ◌∷◌, ◌++◌, None, Result, Ok, Err}
+-- When a store holds what a desk owes after a journal, and what a crash may have left of it.
+use Rattle.std.specs.Prelude.{◌≡◌, ℕ, ◌≤◌, Bool, true, false, ◌⊎◌, if◌then◌else◌, List, [], ◌∷◌, ◌++◌, None, Result, Ok, Err, ◌+◌, length, IfErr, IfOk, OnOk}
 use Rattle.std.specs.List.{Any}
 use Rattle.upd_text.specs.declared.fault.Fault.{Fault}
 use Rattle.upd_text.specs.declared.fault.FaultKind.{FaultKind}
@@ -8,22 +8,24 @@ use Rattle.upd_text.specs.Outcome.{◌>>=◌}
 use Rattle.upd_core.specs.Library.{LibraryView}
 use Rattle.upd_records.specs.Rows.{Rows, Shows, ShowsStates}
 use Rattle.upd_compile.specs.declared.mode.Mode.{Mode}
+use Rattle.upd_yank.specs.Affected.{altered}
 use Rattle.upd_row_store.specs.declared.meaning.Meaning.{Ghosts}
-use Rattle.upd_row_store.specs.Keeping.{IsLost}
+use Rattle.upd_row_store.specs.Keeping.{IsLost, IsShown}
 use Rattle.upd_row_store.specs.Tables.{mark_at, run_at}
-use Rattle.upd_desk.specs.Arrivals.{ArrivalView, key_door}
+use Rattle.upd_desk.specs.Arrivals.{ArrivalView, check_key}
 use Rattle.upd_desk.specs.Journal.{Event, Came, Settled, Journal, answer, kept, mark, run_of, library_after}
 use Rattle.upd_desk.specs.Made.{IsMade, work_of}
+use Rattle.upd_desk.specs.Needed.{needed_by}
 use Rattle.upd_desk.specs.Outcomes.{ReplyView, outcome}
 
--- Tables hold what is owed after a journal: the library with its statuses and counts, the kept replies, and the marks.
+-- Tables hold what is expected after a journal: the library with its statuses and counts, the stored replies, and the marks.
 pub record Holds (journal : Journal) (rows : Rows) : Type 0 where
   pub library : Shows rows (library_after journal)
   pub states : ShowsStates rows (library_after journal)
   pub runs : (site : List ℕ) (number : ℕ) → run_at site number rows ≡ kept journal site number
   pub marks : (site : List ℕ) → mark_at site rows ≡ mark journal site
 
--- whether an arrival counts as lost after a fault: want of memory, or a failure of the store
+-- whether an arrival counts as lost after a fault: out of memory, or a failure of the store
 abbrev pub is_lost : FaultKind → Bool
 is_lost NoMemory = true
 is_lost Store = true
@@ -34,12 +36,12 @@ abbrev pub after : Journal → ArrivalView → Result ReplyView Fault → Journa
 after journal a (Ok reply) = Came a ∷ journal
 after journal a (Err fault) = if is_lost fault.kind then journal else Came a ∷ journal
 
--- a call answered what is owed, or it was lost
+-- a call answered what is expected, or it was lost
 abbrev pub IsOwed : {A : Type 0} → Result A Fault → Result A Fault → Type 0
 IsOwed owed (Ok x) = owed ≡ Ok x
 IsOwed owed (Err fault) = IsLost fault ⊎ (owed ≡ Err fault)
 
--- the answer is the one that is owed, or the arrival was lost
+-- the answer is the one that is expected, or the arrival was lost
 abbrev pub IsAnswer : Journal → ArrivalView → Result ReplyView Fault → Type 0
 IsAnswer journal a result = IsOwed (answer journal a) result
 
@@ -51,18 +53,18 @@ in_hand_after a in_hand (Err fault) = if is_lost fault.kind then Came a ∷ in_h
 -- what a settlement is answered: the first refusal of its site and its number, or the site's mark afterwards
 abbrev pub mark_after : Journal → List ℕ → ℕ → Result ℕ Fault
 mark_after journal site n = do
-  _ ← key_door site n
+  _ ← check_key site n
   Ok (mark (Settled site n ∷ journal) site)
 
 -- the journal after a settlement was answered so
-abbrev pub after_settling : Journal → List ℕ → ℕ → Result ℕ Fault → Journal
-after_settling journal site n (Ok mark) = Settled site n ∷ journal
-after_settling journal site n (Err fault) = journal
+abbrev pub after_settlement : Journal → List ℕ → ℕ → Result ℕ Fault → Journal
+after_settlement journal site n (Ok mark) = Settled site n ∷ journal
+after_settlement journal site n (Err fault) = journal
 
 -- what is in hand after a settlement: nothing after a mark, one more where it was lost, and the same after a refusal
-abbrev pub in_hand_settling : List ℕ → ℕ → List Event → Result ℕ Fault → List Event
-in_hand_settling site n in_hand (Ok mark) = []
-in_hand_settling site n in_hand (Err fault) = if is_lost fault.kind then Settled site n ∷ in_hand else in_hand
+abbrev pub in_hand_after_settlement : List ℕ → ℕ → List Event → Result ℕ Fault → List Event
+in_hand_after_settlement site n in_hand (Ok mark) = []
+in_hand_after_settlement site n in_hand (Err fault) = if is_lost fault.kind then Settled site n ∷ in_hand else in_hand
 
 -- ---- arrivals one after the other
 
@@ -72,7 +74,7 @@ after_all journal [] results = journal
 after_all journal (a ∷ later) [] = journal
 after_all journal (a ∷ later) (result ∷ results) = after_all (after journal a result) later results
 
--- how many cards the last arrival that got a reply has looked at, where it was so many before
+-- the number of cards that the last arrival with a reply examined, given that number before
 abbrev pub work_after : ℕ → Journal → ArrivalView → Result ReplyView Fault → ℕ
 work_after work journal a (Ok reply) = work_of journal a
 work_after work journal a (Err fault) = work
@@ -83,7 +85,7 @@ work_after_all work journal [] results = work
 work_after_all work journal (a ∷ later) [] = work
 work_after_all work journal (a ∷ later) (result ∷ results) = work_after_all (work_after work journal a result) (after journal a result) later results
 
--- each has its answer, and it is the one that is owed after those before it
+-- each has its answer, and it is the one that is expected after those before it
 abbrev pub AreAnswers : Journal → List ArrivalView → List (Result ReplyView Fault) → Type 0
 AreAnswers journal [] [] = Unit {0}
 AreAnswers journal [] (result ∷ results) = ⊥
@@ -109,16 +111,16 @@ module _ {Image : Type 0} (shows : Image → Rows → Type 0) where
   Becomes mode a before later = (l : LibraryView) → IsMade l → (rows : Rows) → shows before rows → Shows rows l → ShowsStates rows l
       → (new : Rows) × shows later new × AddsRun mode a l rows new
 
-  -- an image holds what is owed after a journal
+  -- an image holds what is expected after a journal
   abbrev pub HoldsIn : Journal → Image → Type 0
   HoldsIn journal image = (rows : Rows) × shows image rows × Holds journal rows
 
-  -- what a stop may have left: all that was answered, with or without one of the events in hand
+  -- what a crash may have left: all that was answered, with or without one of the events in hand
   abbrev pub IsLeft : Journal → List Event → Image → Type 0
   IsLeft journal in_hand image = HoldsIn journal image ⊎ Any (λ e. HoldsIn (e ∷ journal) image) in_hand
 
 module _ {S : Type 0} (meaning : Ghosts S) where
-  open meaning use {Image, shows, image, is_open, is_honest, may_leave, failures_of}
+  open meaning use {Image, shows, image, is_open, is_honest, may_leave, failures_of, decks_read_of}
 
   -- the store holds what is expected after a journal, as far as it is open
   abbrev pub IsHeld : Journal → S → Type 0
@@ -128,7 +130,39 @@ module _ {S : Type 0} (meaning : Ghosts S) where
   abbrev pub EachHeld : S → S → (Journal → Type 0) → Type 0
   EachHeld old new claim = is_honest new → (journal : Journal) → IsHeld journal old → claim journal
 
-  -- A store guards a journal: it shows what is owed, and a stop leaves no less.
+  -- an answer is right of a library that runs have made, which the store showed
+  abbrev pub FindsMade : {A : Type 0} → Result A Fault → S → S → (LibraryView → Rows → A → Type 0) → Type 0
+  FindsMade result old new right = is_honest new
+      → IfOk result (λ found. (l : LibraryView) → IsMade l → (rows : Rows) → IsShown meaning rows old → Shows rows l → right l rows found)
+
+  -- no more decks are read than this number for the library that the store showed
+  abbrev pub ReadsAtMost : {A : Type 0} → Result A Fault → S → S → (LibraryView → ℕ) → Type 0
+  ReadsAtMost result old new most = is_honest new → OnOk result ((l : LibraryView) → IsMade l → (rows : Rows)
+      → IsShown meaning rows old → Shows rows l → decks_read_of new ≤ decks_read_of old + most l)
+
+  -- ---- what an arrival costs
+
+  -- an arrival that gets a reply looks at as many cards as its run can have changed
+  abbrev pub LooksAt : {A : Type 0} → ArrivalView → Result A Fault → (A → ℕ) → S → S → Type 0
+  LooksAt a result work old new = EachHeld old new (λ journal. IfOk result (λ reply. work reply ≡ work_of journal a))
+
+  -- those whose status it changes are among them
+  abbrev pub LooksAtAltered : {A : Type 0} → ArrivalView → Result A Fault → (A → ℕ) → S → S → Type 0
+  LooksAtAltered a result work old new =
+      EachHeld old new (λ journal. IfOk result (λ reply. length (altered (library_after journal) (library_after (Came a ∷ journal))) ≤ work reply))
+
+  -- it reads no more decks than its run needs
+  abbrev pub ReadsNeeded : {A : Type 0} → ArrivalView → Result A Fault → S → S → Type 0
+  ReadsNeeded a result old new =
+      EachHeld old new (λ journal. OnOk result (decks_read_of new ≤ decks_read_of old + length (needed_by journal a)))
+
+  -- one that is refused reads none
+  abbrev pub ReadsNoneRefused : {A : Type 0} → Result A Fault → S → S → Type 0
+  ReadsNoneRefused result old new = IfErr result (λ fault. is_lost fault.kind ≡ false → decks_read_of new ≡ decks_read_of old)
+
+  -- ---- what calls do
+
+  -- A store guards a journal: it shows what is expected, and a crash leaves no less.
   pub record Guards (journal : Journal) (in_hand : List Event) (store : S) : Type 0 where
     pub shown : is_open store → HoldsIn shows journal (image store)
     pub left : (i : Image) → may_leave store i → IsLeft shows journal in_hand i
@@ -146,12 +180,12 @@ module _ {S : Type 0} (meaning : Ghosts S) where
     pub honest : is_honest new → is_honest old
     pub was_open : is_honest new → is_open new → is_open old
     pub counts : failures_of old ≤ failures_of new
-    -- the answer is the one that is owed after any journal that the store holds
+    -- the answer is the one that is expected after any journal that the store holds
     pub answers : is_honest new → (journal : Journal) → IsHeld journal old → IsAnswer journal a result
     -- and then the store holds the journal with this arrival
     pub holds : is_honest new → (journal : Journal) → IsHeld journal old → is_open new
         → HoldsIn shows (after journal a result) (image new)
-    -- a stop leaves what was answered, with or without what is in hand
+    -- a crash leaves what was answered, with or without what is in hand
     pub leaves : is_honest new → (journal : Journal) (in_hand : List Event) → Guards journal in_hand old → (i : Image) → may_leave new i
         → IsLeft shows (after journal a result) (in_hand_after a in_hand result) i
 
@@ -162,9 +196,9 @@ module _ {S : Type 0} (meaning : Ghosts S) where
     pub counts : failures_of old ≤ failures_of new
     pub answers : is_honest new → (journal : Journal) → IsHeld journal old → IsOwed (mark_after journal site n) result
     pub holds : is_honest new → (journal : Journal) → IsHeld journal old → is_open new
-        → HoldsIn shows (after_settling journal site n result) (image new)
+        → HoldsIn shows (after_settlement journal site n result) (image new)
     pub leaves : is_honest new → (journal : Journal) (in_hand : List Event) → Guards journal in_hand old → (i : Image) → may_leave new i
-        → IsLeft shows (after_settling journal site n result) (in_hand_settling site n in_hand result) i
+        → IsLeft shows (after_settlement journal site n result) (in_hand_after_settlement site n in_hand result) i
 
   -- what arrivals one after the other do to a desk over a store
   pub record RunAll (list : List ArrivalView) (results : List (Result ReplyView Fault)) (old new : S) : Type 0 where

@@ -1,4 +1,4 @@
--- The journal of a desk, and what the desk owes after it: the library, the kept replies, the marks, and the answer to what comes next.
+-- The journal of a desk, and what the desk owes after it: the library, the stored replies, the marks, and the answer to what comes next.
 use Rattle.std.specs.Prelude.{◌≡◌, ℕ, ◌==◌, nat_lt, nat_le, max, Bool, false, not, ◌&&◌, if◌then◌else◌, List, [], ◌∷◌, ◌++◌, Option, Some, None}
 use Rattle.std.specs.Prelude.{Result, Ok, Err}
 use Rattle.std.specs.Str.{bytes_eq}
@@ -10,10 +10,10 @@ use Rattle.upd_core.specs.Library.{LibraryView, empty}
 use Rattle.upd_records.specs.Rows.{RunView}
 use Rattle.upd_compile.specs.declared.mode.Mode.{Mode}
 use Rattle.upd_row_store.specs.Tables.{is_run}
-use Rattle.upd_desk.specs.Arrivals.{ArrivalView, door, mode_number}
+use Rattle.upd_desk.specs.Arrivals.{ArrivalView, check_arrival, mode_number}
 use Rattle.upd_desk.specs.Outcomes.{Outcome, ReplyView, outcome}
 
--- What happened at a desk. An arrival that was lost, to want of memory or a failure of the store, didn't happen.
+-- What happened at a desk. An arrival that was lost, to out of memory or a failure of the store, didn't happen.
 pub data Event : Type 0 where
   -- an arrival was answered
   Came : ArrivalView → Event
@@ -47,7 +47,7 @@ pub record Heard : Type 0 where
 abbrev pub has_key : List ℕ → ℕ → Heard → Bool
 has_key site number h = bytes_eq h.arrival.site site && (h.arrival.number == number)
 
--- The distinct runs with one more arrival: it is added where it passed the door, its number isn't settled, and none of them has its key.
+-- The distinct runs with one more arrival: it is added where it passed the admission checks, its number isn't settled, and none of them has its key.
 abbrev pub with_arrival : Journal → List Heard → ArrivalView → Option (List ℕ) → Result Mode Fault → List Heard
 with_arrival before runs a carried (Ok mode) =
     if nat_lt (mark before a.site) a.number && not (list_any (has_key a.site a.number) runs)
@@ -58,13 +58,13 @@ with_arrival before runs a carried (Err fault) = runs
 -- the distinct runs of a journal: the first arrival of each key, the latest first
 abbrev pub distinct : Journal → List Heard
 distinct [] = []
-distinct (Came a ∷ before) = with_arrival before (distinct before) a None (door a)
-distinct (Carried a reply ∷ before) = with_arrival before (distinct before) a (Some reply) (door a)
+distinct (Came a ∷ before) = with_arrival before (distinct before) a None (check_arrival a)
+distinct (Carried a reply ∷ before) = with_arrival before (distinct before) a (Some reply) (check_arrival a)
 distinct (Settled s n ∷ before) = distinct before
 
 -- ---- the distinct runs, once more: those whose key isn't heard earlier
 
--- An arrival is heard where it passed the door in a mode and its number isn't settled.
+-- An arrival is heard where it passed the admission checks in a mode and its number isn't settled.
 abbrev pub heard_one : Journal → ArrivalView → Option (List ℕ) → Result Mode Fault → List Heard
 heard_one before a carried (Ok mode) =
     if nat_lt (mark before a.site) a.number then record { arrival = a; mode = mode; carried = carried } ∷ [] else []
@@ -73,8 +73,8 @@ heard_one before a carried (Err fault) = []
 -- all arrivals of a journal that are heard, repeats too, the latest first
 abbrev pub heard : Journal → List Heard
 heard [] = []
-heard (Came a ∷ before) = heard_one before a None (door a) ++ heard before
-heard (Carried a reply ∷ before) = heard_one before a (Some reply) (door a) ++ heard before
+heard (Came a ∷ before) = heard_one before a None (check_arrival a) ++ heard before
+heard (Carried a reply ∷ before) = heard_one before a (Some reply) (check_arrival a) ++ heard before
 heard (Settled s n ∷ before) = heard before
 
 -- those whose key isn't heard earlier
@@ -83,7 +83,7 @@ first_arrivals [] = []
 first_arrivals (h ∷ earlier) =
     if list_any (has_key h.arrival.site h.arrival.number) earlier then first_arrivals earlier else h ∷ first_arrivals earlier
 
--- ---- the library and the kept replies
+-- ---- the library and the stored replies
 
 -- what a distinct run makes of the library: what its lines say, or nothing where it carries a refusal
 abbrev pub outcome_of : Heard → LibraryView → Outcome
@@ -136,11 +136,11 @@ reply_to mode a l (Some run) =
 -- the answer to an arrival after a journal
 abbrev pub answer : Journal → ArrivalView → Result ReplyView Fault
 answer journal a = do
-  mode ← door a
+  mode ← check_arrival a
   _ ← at_line 0 (refuse_if (nat_le a.number (mark journal a.site)) fault.Settled)
   reply_to mode a (library_after journal) (kept journal a.site a.number)
 
--- ---- journals that go on alike
+-- ---- journals that are continued alike
 
 -- Two journals are alike where they have the same distinct runs, in the same order, and the same marks.
 pub record Alike (a b : Journal) : Type 0 where

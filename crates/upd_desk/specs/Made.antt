@@ -11,7 +11,7 @@ use Rattle.upd_records.specs.Rows.{Rows, RunView, Shows, ShowsStates}
 use Rattle.upd_compile.specs.declared.mode.Mode.{Mode}
 use Rattle.upd_laws.specs.ReadRuns.{HasLineTexts}
 use Rattle.upd_yank.specs.Affected.{affected}
-use Rattle.upd_desk.specs.Arrivals.{ArrivalView, door}
+use Rattle.upd_desk.specs.Arrivals.{ArrivalView, check_arrival}
 use Rattle.upd_desk.specs.Journal.{Journal, kept, library_after}
 use Rattle.upd_desk.specs.Outcomes.{Compiled, compiled}
 
@@ -35,7 +35,7 @@ looked_at l (Err fault) = 0
 
 -- how many cards are looked at for an arrival after a journal: none where its key is kept, otherwise those for its own run
 abbrev pub work_of : Journal → ArrivalView → ℕ
-work_of journal a = by (kept journal a.site a.number) (door a)
+work_of journal a = by (kept journal a.site a.number) (check_arrival a)
   where
     by : Option RunView → Result Mode Fault → ℕ
     by (Some run) mode = 0

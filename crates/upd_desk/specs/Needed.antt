@@ -29,6 +29,6 @@ needed_by journal a = by (kept journal a.site a.number)
     by (Some run) = []
     by None = needed a.bytes (library_after journal)
 
--- whether a card stands in a deck other than `YANK$$$`
+-- whether a card is in a deck other than `YANK$$$`
 abbrev pub stands_in_deck : LibraryView → CardRef → Bool
 stands_in_deck l card = list_any (holds_one (card ∷ []) l.idents) l.decks

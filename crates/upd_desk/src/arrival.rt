@@ -1,21 +1,21 @@
-//! What arrives at the desk, and the door.
+//! What arrives at the desk, and the admission checks.
 
 ghost use Rattle.std.specs.Prelude.{◌≡◌, false};
 ghost use Rattle.std.specs.List.{list_all};
 ghost use Rattle.std.specs.Result.{result_map_both};
-ghost use Rattle.upd_desk.specs.Arrivals.{door, is_run_number, is_site, is_site_byte, key_door, mode_number};
+ghost use Rattle.upd_desk.specs.Arrivals.{check_arrival, is_run_number, is_site, is_site_byte, check_key, mode_number};
 
 use std::marker::Model;
 use upd_compile::Mode;
 use upd_text::limits::MAX_RUN_BYTES;
 use upd_text::{Fault, FaultKind};
 
-/// A run that arrives, as it was sent: nothing of it is judged yet. Its key is the site and the number.
+/// A run that arrives, as it was sent: nothing of it is checked yet. Its key is the site and the number.
 #[derive(Debug, Drop)]
 pub struct Arrival<'a> {
     pub site: &'a str,
     pub number: u64,
-    /// A word; the door takes `full`, `quick` and `normal` alone.
+    /// A word: the admission checks take only `full`, `quick` and `normal`.
     pub mode: &'a str,
     pub bytes: &'a [u8],
 }
@@ -28,11 +28,11 @@ impl<'a> Model for Arrival<'a> {
     ghost view = { λ a. record { site = a.site.now; number = a.number; mode = a.mode.now; bytes = a.bytes.now } };
 }
 
-/// What is asked of an arrival before the store is. The first refusal keeps nothing.
-pub(crate) fn door(arrival: &Arrival<'_>) -> Result<Mode, Fault>
-    ensures { result ≡ door arrival.now }
+/// The admission checks, before the store is called: the mode, or the first refusal, which stores nothing.
+pub(crate) fn check_arrival(arrival: &Arrival<'_>) -> Result<Mode, Fault>
+    ensures { result ≡ check_arrival arrival.now }
 {
-    if let Err(fault) = key_door(arrival.site, arrival.number) {
+    if let Err(fault) = check_key(arrival.site, arrival.number) {
         return Err(fault);
     }
     let Some(mode) = Mode::read(arrival.mode) else {
@@ -44,9 +44,9 @@ pub(crate) fn door(arrival: &Arrival<'_>) -> Result<Mode, Fault>
     Ok(mode)
 }
 
-/// What is asked of a site and a number.
-pub(crate) fn key_door(site: &str, number: u64) -> Result<(), Fault>
-    ensures { result_map_both (λ _. false) (λ fault. fault) result ≡ key_door site.now number }
+/// The checks of a site and a number.
+pub(crate) fn check_key(site: &str, number: u64) -> Result<(), Fault>
+    ensures { result_map_both (λ _. false) (λ fault. fault) result ≡ check_key site.now number }
 {
     if !is_site(site.as_bytes()) {
         return Err(FaultKind::BadSite.without_line());

@@ -5,7 +5,7 @@ ghost use Rattle.upd_text.specs.declared.fault.Fault.{Fault};
 ghost use Rattle.upd_core.specs.Library.{LibraryView};
 ghost use Rattle.upd_records.specs.Rows.{Rows};
 ghost use Rattle.upd_compile.specs.declared.mode.Mode.{Mode};
-ghost use Rattle.upd_desk.specs.Arrivals.{ArrivalView, door};
+ghost use Rattle.upd_desk.specs.Arrivals.{ArrivalView, check_arrival};
 ghost use Rattle.upd_desk.specs.Holding.{Holds};
 ghost use Rattle.upd_desk.specs.Journal.{Alike, Came, Journal, Settled, answer, distinct, first_arrivals, heard, kept};
 ghost use Rattle.upd_desk.specs.Journal.{mark, run_of, library_after};
@@ -26,8 +26,9 @@ pub fn marks_are_the_greatest_settled()
         ⊎ Contains journal (Settled site (mark journal site)) }
 {}
 
-/// Journals with the same distinct runs in the same order and the same marks leave the same library; tables that hold
-/// one, with its statuses and its kept replies, hold the other; both owe each arrival the same answer, and go on alike.
+/// Journals with the same distinct runs in the same order and the same marks leave the same library. Tables that hold
+/// one, with its statuses and its stored replies, hold the other. After both the same answer is expected to each
+/// arrival, and they are continued alike.
 pub fn alike_journals_owe_the_same()
     ensures library { (a b : Journal) → Alike a b → library_after a ≡ library_after b }
     ensures kept { (a b : Journal) → Alike a b → (site : List ℕ) (n : ℕ) → kept a site n ≡ kept b site n }
@@ -38,7 +39,7 @@ pub fn alike_journals_owe_the_same()
 
 /// An arrival that gets a reply is kept with it under its key, and under the other keys the same is kept as before.
 pub fn replies_are_kept()
-    ensures own { (journal : Journal) (a : ArrivalView) (mode : Mode) (reply : ReplyView) → door a ≡ Ok mode
+    ensures own { (journal : Journal) (a : ArrivalView) (mode : Mode) (reply : ReplyView) → check_arrival a ≡ Ok mode
         → answer journal a ≡ Ok reply → kept (Came a ∷ journal) a.site a.number
         ≡ Some (run_of (record { arrival = a; mode = mode; carried = None }) reply) }
     ensures others { (journal : Journal) (a : ArrivalView) (site : List ℕ) (n : ℕ)
@@ -53,7 +54,7 @@ pub fn refused_runs_leave_the_library()
 {}
 
 /// An arrival that is refused without being kept leaves the distinct runs as they were, and with them the library and
-/// all kept replies.
+/// all stored replies.
 #[tactic(auto, using(crate::proofs::RepeatLemmas::refused_unheard))]
 pub fn refusals_change_nothing()
     ensures { (journal : Journal) (a : ArrivalView) (fault : Fault) → answer journal a ≡ Err fault
@@ -64,7 +65,7 @@ pub fn refusals_change_nothing()
 /// then.
 #[tactic(auto, using(crate::proofs::RepeatLemmas::repeated))]
 pub fn repeats_get_first_answers()
-    ensures { (between before : Journal) (a : ArrivalView) (mode : Mode) → door a ≡ Ok mode
+    ensures { (between before : Journal) (a : ArrivalView) (mode : Mode) → check_arrival a ≡ Ok mode
         → nat_lt (mark (between ++ Came a ∷ before) a.site) a.number ≡ true
         → answer (between ++ Came a ∷ before) a ≡ answer before a }
 {}

@@ -1,20 +1,17 @@
 //! What of a library is loaded for what is asked of it.
 
-ghost use Rattle.std.specs.Prelude.{◌≡◌, ◌+◌, ◌≤◌, [], ◌∷◌, ◌++◌, length, map, true, IfErr, IfOk, OnOk};
+ghost use Rattle.std.specs.Prelude.{◌≡◌, ◌+◌, ◌≤◌, [], ◌++◌, length, map, true, IfErr, IfOk, OnOk};
 ghost use Rattle.std.specs.List.{list_all};
-ghost use Rattle.upd_records.specs.Rows.{Rows, Shows};
+ghost use Rattle.upd_records.specs.Rows.{Rows};
 ghost use Rattle.upd_compile.specs.Listings.{card_listing, deck_listing};
-ghost use Rattle.upd_core.specs.Library.{LibraryView};
 ghost use Rattle.upd_core.specs.Parts.{part_of};
 ghost use Rattle.upd_desk.specs.Compiling.{references_of};
-ghost use Rattle.upd_desk.specs.Holding.{EachHeld};
-ghost use Rattle.upd_desk.specs.Made.{IsMade};
+ghost use Rattle.upd_desk.specs.Holding.{EachHeld, FindsMade, ReadsAtMost};
 ghost use Rattle.upd_desk.specs.Needed.{stands_in_deck};
 ghost use Rattle.upd_partial.specs.Needed.{cards_named, decks_needed};
 ghost use Rattle.upd_partial.specs.Needless.{is_plain};
 ghost use Rattle.upd_row_store.specs.Asked.{decks_with};
-ghost use Rattle.upd_row_store.specs.Keeping.{FailsMore, IsLost, IsShown, Keeps, reads_after};
-ghost use Rattle.upd_text.specs.declared.fault.FaultKind.TheVariants.{Store};
+ghost use Rattle.upd_row_store.specs.Keeping.{CountsFailure, IsLost, IsShown, Keeps, reads_after};
 
 use std::alloc::{AllocError, Global};
 use upd_core::{CardRef, Counted, CountedCard, Library, Name};
@@ -29,16 +26,13 @@ pub(crate) fn load_needed<S: RowStore>(
     alloc: Global,
     run: &Run<'_>,
 ) -> Result<Library, Fault>
-    ensures found { S.is_honest store.new → IfOk result (λ found. (l : LibraryView) → IsMade l → (rows : Rows)
-        → IsShown S.Meaning rows store.old → Shows rows l → found ≡ part_of (decks_needed run.now l) l) }
-    ensures reads { S.is_honest store.new → OnOk result ((l : LibraryView) → IsMade l → (rows : Rows)
-        → IsShown S.Meaning rows store.old → Shows rows l
-        → S.decks_read_of store.new ≤ S.decks_read_of store.old + length (decks_needed run.now l)) }
+    ensures found { FindsMade S.Meaning result store.old store.new
+        (λ l rows found. found ≡ part_of (decks_needed run.now l) l) }
+    ensures reads { ReadsAtMost S.Meaning result store.old store.new (λ l. length (decks_needed run.now l)) }
     ensures open { S.is_honest store.new → OnOk result (S.is_open store.new) }
     ensures same { Keeps S.Meaning store.old store.new }
     ensures lost { IfErr result IsLost }
-    ensures failed { IfErr result (λ fault. fault.kind ≡ Store
-        → FailsMore S.Meaning store.old store.new) }
+    ensures failed { CountsFailure S.Meaning result store.old store.new }
 {
     if is_plain(run) {
         match load_named(store, alloc, run) {
@@ -73,20 +67,17 @@ fn add_references(cards: &mut Vec<CardRef>, counted: &[CountedCard<'_>]) -> Resu
     Ok(())
 }
 
-/// What a run that neither yanks nor purges is applied to. Where each card that it names stands in a deck, none of them is a
+/// What a run that neither yanks nor purges is applied to. If each card that it names is in a deck, none of them is a
 /// yank card.
 fn load_named<S: RowStore>(store: &mut S, alloc: Global, run: &Run<'_>) -> Result<Library, Fault>
     requires plain { is_plain run.now ≡ true }
-    ensures found { S.is_honest store.new → IfOk result (λ found. (l : LibraryView) → IsMade l → (rows : Rows)
-        → IsShown S.Meaning rows store.old → Shows rows l → found ≡ part_of (decks_needed run.now l) l) }
-    ensures reads { S.is_honest store.new → OnOk result ((l : LibraryView) → IsMade l → (rows : Rows)
-        → IsShown S.Meaning rows store.old → Shows rows l
-        → S.decks_read_of store.new ≤ S.decks_read_of store.old + length (decks_needed run.now l)) }
+    ensures found { FindsMade S.Meaning result store.old store.new
+        (λ l rows found. found ≡ part_of (decks_needed run.now l) l) }
+    ensures reads { ReadsAtMost S.Meaning result store.old store.new (λ l. length (decks_needed run.now l)) }
     ensures open { S.is_honest store.new → OnOk result (S.is_open store.new) }
     ensures same { Keeps S.Meaning store.old store.new }
     ensures lost { IfErr result IsLost }
-    ensures failed { IfErr result (λ fault. fault.kind ≡ Store
-        → FailsMore S.Meaning store.old store.new) }
+    ensures failed { CountsFailure S.Meaning result store.old store.new }
 {
     let Ok(cards) = cards_named(alloc, run) else {
         return Err(FaultKind::NoMemory.without_line());
@@ -104,21 +95,20 @@ fn load_named<S: RowStore>(store: &mut S, alloc: Global, run: &Run<'_>) -> Resul
     }
 }
 
-/// Whether each of these cards stands in a deck other than `YANK$$$`.
+/// Whether each of these cards is in a deck other than `YANK$$$`.
 fn stand_in_decks<S: RowStore>(
     store: &mut S,
     alloc: Global,
     cards: &[CardRef],
 ) -> Result<bool, Fault>
-    ensures found { S.is_honest store.new → IfOk result (λ stand. (l : LibraryView) → IsMade l → (rows : Rows)
-        → IsShown S.Meaning rows store.old → Shows rows l → stand ≡ list_all (stands_in_deck l) cards.now) }
-    ensures there { S.is_honest store.new → OnOk result ((rows : Rows) → IsShown S.Meaning rows store.old
-        → IsShown S.Meaning rows store.new) }
+    ensures found { FindsMade S.Meaning result store.old store.new
+        (λ l rows stand. stand ≡ list_all (stands_in_deck l) cards.now) }
+    ensures there { S.is_honest store.new → OnOk
+        result ((rows : Rows) → IsShown S.Meaning rows store.old → IsShown S.Meaning rows store.new) }
     ensures unread { S.decks_read_of store.new ≡ S.decks_read_of store.old }
     ensures same { Keeps S.Meaning store.old store.new }
     ensures lost { IfErr result IsLost }
-    ensures failed { IfErr result (λ fault. fault.kind ≡ Store
-        → FailsMore S.Meaning store.old store.new) }
+    ensures failed { CountsFailure S.Meaning result store.old store.new }
 {
     for card in cards {
         match stands_in_deck(store, alloc, *card) {
@@ -131,14 +121,12 @@ fn stand_in_decks<S: RowStore>(
 }
 
 fn stands_in_deck<S: RowStore>(store: &mut S, alloc: Global, card: CardRef) -> Result<bool, Fault>
-    ensures found { S.is_honest store.new → IfOk result (λ stands. (l : LibraryView) → IsMade l → (rows : Rows)
-        → IsShown S.Meaning rows store.old → Shows rows l → stands ≡ stands_in_deck l card) }
+    ensures found { FindsMade S.Meaning result store.old store.new (λ l rows stands. stands ≡ stands_in_deck l card) }
     ensures unread { S.decks_read_of store.new ≡ S.decks_read_of store.old }
     ensures open { S.is_honest store.new → OnOk result (S.is_open store.new) }
     ensures same { Keeps S.Meaning store.old store.new }
     ensures lost { IfErr result IsLost }
-    ensures failed { IfErr result (λ fault. fault.kind ≡ Store
-        → FailsMore S.Meaning store.old store.new) }
+    ensures failed { CountsFailure S.Meaning result store.old store.new }
 {
     match store.decks_of(alloc, &[card]) {
         Ok(decks) => Ok(!decks.is_empty()),
@@ -146,7 +134,7 @@ fn stands_in_deck<S: RowStore>(store: &mut S, alloc: Global, card: CardRef) -> R
     }
 }
 
-/// What a run that neither yanks nor purges is applied to where it names a card which stands in no deck. Whether it
+/// What a run that neither yanks nor purges is applied to where it names a card which is in no deck. Whether it
 /// names a yank card is seen before any deck is read.
 fn load_head_first<S: RowStore>(
     store: &mut S,
@@ -156,16 +144,13 @@ fn load_head_first<S: RowStore>(
 ) -> Result<Library, Fault>
     requires plain { is_plain run.now ≡ true }
     requires named { cards.now ≡ cards_named run.now }
-    ensures found { S.is_honest store.new → IfOk result (λ found. (l : LibraryView) → IsMade l → (rows : Rows)
-        → IsShown S.Meaning rows store.old → Shows rows l → found ≡ part_of (decks_needed run.now l) l) }
-    ensures reads { S.is_honest store.new → OnOk result ((l : LibraryView) → IsMade l → (rows : Rows)
-        → IsShown S.Meaning rows store.old → Shows rows l
-        → S.decks_read_of store.new ≤ S.decks_read_of store.old + length (decks_needed run.now l)) }
+    ensures found { FindsMade S.Meaning result store.old store.new
+        (λ l rows found. found ≡ part_of (decks_needed run.now l) l) }
+    ensures reads { ReadsAtMost S.Meaning result store.old store.new (λ l. length (decks_needed run.now l)) }
     ensures open { S.is_honest store.new → OnOk result (S.is_open store.new) }
     ensures same { Keeps S.Meaning store.old store.new }
     ensures lost { IfErr result IsLost }
-    ensures failed { IfErr result (λ fault. fault.kind ≡ Store
-        → FailsMore S.Meaning store.old store.new) }
+    ensures failed { CountsFailure S.Meaning result store.old store.new }
 {
     let head = match store.load_decks(alloc, &[]) {
         Ok(head) => head,
@@ -190,14 +175,13 @@ pub(crate) fn load_holders<S: RowStore>(
     alloc: Global,
     cards: &[CardRef],
 ) -> Result<Library, Fault>
-    ensures found { S.is_honest store.new → IfOk result (λ found. (l : LibraryView) → IsMade l → (rows : Rows)
-        → IsShown S.Meaning rows store.old → Shows rows l → found ≡ part_of (decks_with cards.now l) l) }
+    ensures found { FindsMade S.Meaning result store.old store.new
+        (λ l rows found. found ≡ part_of (decks_with cards.now l) l) }
     ensures reads { S.decks_read_of store.new ≡ reads_after result (S.decks_read_of store.old) }
     ensures open { S.is_honest store.new → OnOk result (S.is_open store.new) }
     ensures same { Keeps S.Meaning store.old store.new }
     ensures lost { IfErr result IsLost }
-    ensures failed { IfErr result (λ fault. fault.kind ≡ Store
-        → FailsMore S.Meaning store.old store.new) }
+    ensures failed { CountsFailure S.Meaning result store.old store.new }
 {
     let decks = match store.decks_of(alloc, cards) {
         Ok(decks) => decks,
@@ -215,16 +199,14 @@ pub(crate) fn load_deck_with<S: RowStore>(
     alloc: Global,
     card: &CardRef,
 ) -> Result<Library, Fault>
-    ensures found { S.is_honest store.new → IfOk result (λ found. (l : LibraryView) → IsMade l → (rows : Rows)
-        → IsShown S.Meaning rows store.old → Shows rows l
-        → card_listing card.now found ≡ card_listing card.now l) }
+    ensures found { FindsMade S.Meaning result store.old store.new
+        (λ l rows found. card_listing card.now found ≡ card_listing card.now l) }
     ensures reads { EachHeld S.Meaning store.old store.new
-            (λ journal. S.decks_read_of store.new ≤ S.decks_read_of store.old + 1) }
+        (λ journal. S.decks_read_of store.new ≤ S.decks_read_of store.old + 1) }
     ensures open { S.is_honest store.new → OnOk result (S.is_open store.new) }
     ensures same { Keeps S.Meaning store.old store.new }
     ensures lost { IfErr result IsLost }
-    ensures failed { IfErr result (λ fault. fault.kind ≡ Store
-        → FailsMore S.Meaning store.old store.new) }
+    ensures failed { CountsFailure S.Meaning result store.old store.new }
 {
     match load_holders(store, alloc, &[*card]) {
         Ok(part) => Ok(part),
@@ -238,15 +220,14 @@ pub(crate) fn load_deck_named<S: RowStore>(
     alloc: Global,
     name: &Name,
 ) -> Result<Library, Fault>
-    ensures found { S.is_honest store.new → IfOk result (λ found. (l : LibraryView) → IsMade l → (rows : Rows)
-        → IsShown S.Meaning rows store.old → Shows rows l → deck_listing name.now found ≡ deck_listing name.now l) }
+    ensures found { FindsMade S.Meaning result store.old store.new
+        (λ l rows found. deck_listing name.now found ≡ deck_listing name.now l) }
     ensures reads { EachHeld S.Meaning store.old store.new
-            (λ journal. S.decks_read_of store.new ≤ S.decks_read_of store.old + 1) }
+        (λ journal. S.decks_read_of store.new ≤ S.decks_read_of store.old + 1) }
     ensures open { S.is_honest store.new → OnOk result (S.is_open store.new) }
     ensures same { Keeps S.Meaning store.old store.new }
     ensures lost { IfErr result IsLost }
-    ensures failed { IfErr result (λ fault. fault.kind ≡ Store
-        → FailsMore S.Meaning store.old store.new) }
+    ensures failed { CountsFailure S.Meaning result store.old store.new }
 {
     let head = match store.load_decks(alloc, &[]) {
         Ok(head) => head,

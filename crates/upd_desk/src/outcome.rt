@@ -1,11 +1,12 @@
 //! What a new run makes of the library that a store keeps.
 
-ghost use Rattle.std.specs.Prelude.{◌≡◌, ◌+◌, ◌≤◌, ◌⊎◌, List, [], ◌++◌};
+ghost use Rattle.std.specs.Prelude.{◌≡◌, ◌+◌, ◌⊎◌, List, [], ◌++◌};
 ghost use Rattle.std.specs.Prelude.{length, map, Ok, Err, Option, IfErr, IfOk, OnOk};
 ghost use Rattle.std.specs.Result.{IsOkUnless};
+ghost use Rattle.upd_desk.specs.Holding.{FindsMade, ReadsAtMost};
 ghost use Rattle.upd_text.specs.Faults.{fault_at};
 ghost use Rattle.upd_text.specs.Outcome.{FailsAt};
-ghost use Rattle.upd_text.specs.declared.fault.FaultKind.TheVariants.{NoMemory, Store};
+ghost use Rattle.upd_text.specs.declared.fault.FaultKind.TheVariants.{NoMemory};
 ghost use Rattle.upd_core.specs.Library.{LibraryView, name_of};
 ghost use Rattle.upd_core.specs.Parts.{part_of};
 ghost use Rattle.upd_records.specs.Rows.{Rows, Shows, ShowsStates};
@@ -15,10 +16,10 @@ ghost use Rattle.upd_apply.specs.Applying.{Reached, applied};
 ghost use Rattle.upd_compile.specs.File.{compile_file_of};
 ghost use Rattle.upd_compile.specs.declared.mode.Mode.{Mode};
 ghost use Rattle.upd_partial.specs.Needed.{decks_needed};
-ghost use Rattle.upd_row_store.specs.Keeping.{FailsMore, IsLost, IsShown, Keeps};
+ghost use Rattle.upd_row_store.specs.Keeping.{CountsFailure, IsLost, IsShown, Keeps};
 ghost use Rattle.upd_yank.specs.Right.{IsRight, AreStatesOf};
-ghost use Rattle.upd_desk.specs.Arrivals.{door};
-ghost use Rattle.upd_desk.specs.Compiling.{AreActivesFor, IsOutcomeOf, IsRunOf, IsSeen, references_of};
+ghost use Rattle.upd_desk.specs.Arrivals.{check_arrival};
+ghost use Rattle.upd_desk.specs.Compiling.{AreActivesFor, IsOutcomeOf, IsAppliedRun, IsSeen, references_of};
 ghost use Rattle.upd_desk.specs.Made.{IsMade};
 ghost use Rattle.upd_desk.specs.Needed.{needed};
 ghost use Rattle.upd_desk.specs.Outcomes.{Compiled, compiled, outcome_by};
@@ -36,17 +37,17 @@ use upd_row_store::RowStore;
 use upd_text::{Fault, FaultKind, Name};
 use upd_yank::Cache;
 
-/// What a new run makes of the library.
+/// What a new run makes of the library: row changes and a reply.
 #[derive(Debug, Drop)]
 pub(crate) struct RunOutcome {
-    /// The row changes by which a store follows it, in the order in which they are carried out.
+    /// The row changes for the store, in the order in which it carries them out.
     pub(crate) changes: Vec<Change>,
     pub(crate) reply: Reply,
-    /// How many cards were looked at.
+    /// The number of cards that were looked at.
     pub(crate) work: u64,
 }
 
-/// What a run has left, and what applying it has told.
+/// A library after a run was applied, and what `apply` reports.
 #[derive(Debug, Drop)]
 pub(crate) struct AppliedRun {
     /// The part with the decks that the run needed, and with its own.
@@ -54,25 +55,31 @@ pub(crate) struct AppliedRun {
     applied: Applied,
 }
 
-/// What a run that has passed the door in a mode makes of the library that a store keeps. A refused run has a reply and
-/// changes nothing; one that isn't read loads nothing.
+// A new run, step by step:
+// 1. read: `read_run` makes lines of the bytes (`run_outcome`);
+// 2. load: `load_needed` brings the directory, `YANK$$$` and the decks that the run needs (`read_outcome`);
+// 3. apply: `apply_run` applies the lines to them, and reports row changes;
+// 4. update statuses: `Cache::settle` gives the changed statuses of cards (`compiled_outcome`);
+// 5. compile: `file_of` writes the compile file from the active cards before and after;
+// 6. reply: `accepted`, or `refused` with the first fault of steps 1, 3 and 5;
+// 7. commit: `arrive::keep_new` stores the row changes and the reply in one transaction.
+// A refused run has a reply as well, and no row changes. Out of memory, and a failure of the store, end it unanswered.
+
+/// What a run that has passed the admission checks makes of the library of a store. A run that can't be read loads
+/// nothing.
 pub(crate) fn run_outcome<S: RowStore>(
     store: &mut S,
     alloc: Global,
     mode: Mode,
     arrival: &Arrival<'_>,
 ) -> Result<RunOutcome, Fault>
-    requires passed { door arrival.now ≡ Ok mode }
-    ensures found { S.is_honest store.new → IfOk result (λ o. (l : LibraryView) → IsMade l → (rows : Rows)
-        → IsShown S.Meaning rows store.old → Shows rows l → ShowsStates rows l
-        → IsOutcomeOf mode arrival.now l rows o) }
-    ensures reads { S.is_honest store.new → OnOk result ((l : LibraryView) → IsMade l → (rows : Rows)
-        → IsShown S.Meaning rows store.old → Shows rows l
-        → S.decks_read_of store.new ≤ S.decks_read_of store.old + length (needed arrival.now.bytes l)) }
+    requires passed { check_arrival arrival.now ≡ Ok mode }
+    ensures found { FindsMade S.Meaning result store.old store.new
+        (λ l rows o. ShowsStates rows l → IsOutcomeOf mode arrival.now l rows o) }
+    ensures reads { ReadsAtMost S.Meaning result store.old store.new (λ l. length (needed arrival.now.bytes l)) }
     ensures same { Keeps S.Meaning store.old store.new }
     ensures lost { IfErr result IsLost }
-    ensures failed { IfErr result (λ fault. fault.kind ≡ Store
-        → FailsMore S.Meaning store.old store.new) }
+    ensures failed { CountsFailure S.Meaning result store.old store.new }
 {
     match read_run(alloc, arrival.bytes) {
         Ok(run) => match read_outcome(store, alloc, mode, arrival, &run) {
@@ -94,18 +101,14 @@ fn read_outcome<S: RowStore>(
     arrival: &Arrival<'_>,
     run: &Run<'_>,
 ) -> Result<RunOutcome, Fault>
-    requires passed { door arrival.now ≡ Ok mode }
+    requires passed { check_arrival arrival.now ≡ Ok mode }
     requires read { reading arrival.now.bytes ≡ Ok run.now }
-    ensures found { S.is_honest store.new → IfOk result (λ o. (l : LibraryView) → IsMade l → (rows : Rows)
-        → IsShown S.Meaning rows store.old → Shows rows l → ShowsStates rows l
-        → IsOutcomeOf mode arrival.now l rows o) }
-    ensures reads { S.is_honest store.new → OnOk result ((l : LibraryView) → IsMade l → (rows : Rows)
-        → IsShown S.Meaning rows store.old → Shows rows l
-        → S.decks_read_of store.new ≤ S.decks_read_of store.old + length (decks_needed run.now l)) }
+    ensures found { FindsMade S.Meaning result store.old store.new
+        (λ l rows o. ShowsStates rows l → IsOutcomeOf mode arrival.now l rows o) }
+    ensures reads { ReadsAtMost S.Meaning result store.old store.new (λ l. length (decks_needed run.now l)) }
     ensures same { Keeps S.Meaning store.old store.new }
     ensures lost { IfErr result IsLost }
-    ensures failed { IfErr result (λ fault. fault.kind ≡ Store
-        → FailsMore S.Meaning store.old store.new) }
+    ensures failed { CountsFailure S.Meaning result store.old store.new }
 {
     let part = match load_needed(store, alloc, run) {
         Ok(part) => part,
@@ -137,18 +140,17 @@ fn applied_outcome<S: RowStore>(
     cards: &[CardRef],
     run: AppliedRun,
 ) -> Result<RunOutcome, Fault>
-    requires passed { door arrival.now ≡ Ok mode }
+    requires passed { check_arrival arrival.now ≡ Ok mode }
     ensures found { S.is_honest store.new
         → IfOk result (λ o. (lines : List LineView) (l loaded : LibraryView) (reached : Reached)
-        → reading arrival.now.bytes ≡ Ok lines → IsMade l → IsRunOf lines l loaded reached run
+        → reading arrival.now.bytes ≡ Ok lines → IsMade l → IsAppliedRun lines l loaded reached run
         → cards.now ≡ references_of loaded → (rows : Rows)
         → IsShown S.Meaning rows store.old → Shows rows l → ShowsStates rows l
         → IsOutcomeOf mode arrival.now l rows o) }
     ensures unread { S.decks_read_of store.new ≡ S.decks_read_of store.old }
     ensures same { Keeps S.Meaning store.old store.new }
     ensures lost { IfErr result IsLost }
-    ensures failed { IfErr result (λ fault. fault.kind ≡ Store
-        → FailsMore S.Meaning store.old store.new) }
+    ensures failed { CountsFailure S.Meaning result store.old store.new }
 {
     let states = match store.states_of(alloc, cards) {
         Ok(states) => states,
@@ -158,7 +160,7 @@ fn applied_outcome<S: RowStore>(
         Ok(before) => before,
         Err(fault) => return Err(fault),
     };
-    match settled_outcome(alloc, mode, arrival, &states, before, run) {
+    match compiled_outcome(alloc, mode, arrival, &states, before, run) {
         Ok(outcome) => Ok(outcome),
         Err(fault) => Err(fault),
     }
@@ -171,14 +173,12 @@ fn active_before<S: RowStore>(
     mode: Mode,
     run: &AppliedRun,
 ) -> Result<Option<Actives>, Fault>
-    ensures found { S.is_honest store.new → IfOk result (λ before. (l : LibraryView) → IsMade l → (rows : Rows)
-        → IsShown S.Meaning rows store.old → Shows rows l → ShowsStates rows l
-        → AreActivesFor mode run.now.applied.compile.items l before) }
+    ensures found { FindsMade S.Meaning result store.old store.new
+        (λ l rows before. ShowsStates rows l → AreActivesFor mode run.now.applied.compile.items l before) }
     ensures unread { S.decks_read_of store.new ≡ S.decks_read_of store.old }
     ensures same { Keeps S.Meaning store.old store.new }
     ensures lost { IfErr result IsLost }
-    ensures failed { IfErr result (λ fault. fault.kind ≡ Store
-        → FailsMore S.Meaning store.old store.new) }
+    ensures failed { CountsFailure S.Meaning result store.old store.new }
 {
     if mode == Mode::Quick && run.applied.compile.is_empty() {
         Ok(None)
@@ -193,7 +193,7 @@ fn active_before<S: RowStore>(
 /// Applies a run to the decks that it needs.
 fn apply_run(alloc: Global, part: Library, run: &Run<'_>) -> Result<AppliedRun, Fault>
     ensures ok { (l : LibraryView) → IsMade l → part ≡ part_of (decks_needed run.now l) l
-        → IfOk result (λ applied. (reached : Reached) × IsRunOf run.now l part reached applied) }
+        → IfOk result (λ applied. (reached : Reached) × IsAppliedRun run.now l part reached applied) }
     ensures refused { IfErr result (λ fault. FailsAt fault (applied run.now part)) }
 {
     let mut library = part;
@@ -201,8 +201,8 @@ fn apply_run(alloc: Global, part: Library, run: &Run<'_>) -> Result<AppliedRun, 
     Ok(AppliedRun { library, applied })
 }
 
-/// What a run that was applied makes of the statuses and the compile file.
-fn settled_outcome(
+/// What a run that was applied makes of the statuses, and its compile file and reply.
+fn compiled_outcome(
     alloc: Global,
     mode: Mode,
     arrival: &Arrival<'_>,
@@ -210,9 +210,9 @@ fn settled_outcome(
     before: Option<Actives>,
     run: AppliedRun,
 ) -> Result<RunOutcome, Fault>
-    requires passed { door arrival.now ≡ Ok mode }
+    requires passed { check_arrival arrival.now ≡ Ok mode }
     ensures found { IfOk result (λ o. (lines : List LineView) (l loaded : LibraryView) (reached : Reached)
-        → reading arrival.now.bytes ≡ Ok lines → IsMade l → IsRunOf lines l loaded reached run
+        → reading arrival.now.bytes ≡ Ok lines → IsMade l → IsAppliedRun lines l loaded reached run
         → AreActivesFor mode run.applied.compile.items l before → (rows : Rows) → Shows rows l → ShowsStates rows l
         → AreStatesOf states.now loaded → IsOutcomeOf mode arrival.now l rows o) }
     ensures lost { IsOkUnless result (fault_at NoMemory 0) }
@@ -240,11 +240,11 @@ fn file_of(
     run: &AppliedRun,
 ) -> Result<CompileFile, Fault>
     ensures ok { (lines : List LineView) (l loaded : LibraryView) (reached : Reached) → IsMade l
-        → IsRunOf lines l loaded reached run.now
+        → IsAppliedRun lines l loaded reached run.now
         → AreActivesFor mode run.now.applied.compile.items l before.now → IsRight run.now.library cache.now
         → IfOk result (λ file. compile_file_of mode reached.compile l reached.library ≡ Ok file) }
     ensures refused { (lines : List LineView) (l loaded : LibraryView) (reached : Reached) → IsMade l
-        → IsRunOf lines l loaded reached run.now
+        → IsAppliedRun lines l loaded reached run.now
         → AreActivesFor mode run.now.applied.compile.items l before.now → IsRight run.now.library cache.now
         → IfErr result (λ fault. FailsAt fault (compile_file_of mode reached.compile l reached.library)) }
     ensures lost { IfErr result (λ fault. fault.kind ≡ NoMemory → fault.at ≡ 0) }
@@ -264,7 +264,7 @@ fn file_of(
     }
 }
 
-/// What an accepted run has left, settled as these changes tell.
+/// What an accepted run leaves, with the changes of its status update.
 fn accepted(
     alloc: Global,
     arrival: &Arrival<'_>,
@@ -273,7 +273,7 @@ fn accepted(
     file: &CompileFile,
     work: u64,
 ) -> Result<RunOutcome, Fault>
-    ensures reply { (mode : Mode) (l : LibraryView) (done : Compiled) → IsMade l → door arrival.now ≡ Ok mode
+    ensures reply { (mode : Mode) (l : LibraryView) (done : Compiled) → IsMade l → check_arrival arrival.now ≡ Ok mode
         → compiled mode arrival.now.bytes l ≡ Ok done → IsSeen done run file.now
         → IfOk result (λ o. o.reply ≡ (outcome_by arrival.now l (Ok done)).reply) }
     ensures changes { IfOk result (λ o. o.changes.items ≡ run.applied.changes.items ++ settled.items) }
@@ -299,7 +299,7 @@ fn accepted_reply(
     run: &AppliedRun,
     file: &CompileFile,
 ) -> Result<Reply, AllocError>
-    ensures { (mode : Mode) (l : LibraryView) (done : Compiled) → IsMade l → door arrival.now ≡ Ok mode
+    ensures { (mode : Mode) (l : LibraryView) (done : Compiled) → IsMade l → check_arrival arrival.now ≡ Ok mode
         → compiled mode arrival.now.bytes l ≡ Ok done → IsSeen done run.now file.now
         → IfOk result (λ reply. reply ≡ (outcome_by arrival.now l (Ok done)).reply) }
 {
@@ -330,9 +330,9 @@ fn names(alloc: Global, idents: &[Ident], ages: &[Serial]) -> Result<Vec<Name>, 
     Ok(names)
 }
 
-/// A refused run has a reply and changes nothing. Want of memory is no refusal.
+/// A refused run has a reply and changes nothing. Out of memory is no refusal.
 fn refused(alloc: Global, arrival: &Arrival<'_>, fault: Fault) -> Result<RunOutcome, Fault>
-    ensures reply { (mode : Mode) (l : LibraryView) → door arrival.now ≡ Ok mode
+    ensures reply { (mode : Mode) (l : LibraryView) → check_arrival arrival.now ≡ Ok mode
         → IfOk result (λ o. o.reply ≡ (outcome_by arrival.now l (Err fault)).reply) }
     ensures changes { IfOk result (λ o. o.changes.items ≡ []) }
     ensures work { IfOk result (λ o. o.work ≡ 0) }

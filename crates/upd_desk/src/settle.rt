@@ -1,11 +1,10 @@
 //! The way of a settlement, over any store.
 
-ghost use Rattle.std.specs.Prelude.{◌≡◌, IfErr};
+ghost use Rattle.std.specs.Prelude.{◌≡◌};
 ghost use Rattle.upd_desk.specs.Holding.{Settles};
-ghost use Rattle.upd_row_store.specs.Keeping.{FailsMore};
-ghost use Rattle.upd_text.specs.declared.fault.FaultKind.TheVariants.{Store};
+ghost use Rattle.upd_row_store.specs.Keeping.{CountsFailure};
 
-use crate::arrival::key_door;
+use crate::arrival::check_key;
 use std::alloc::Global;
 use upd_row_store::RowStore;
 use upd_text::Fault;
@@ -17,13 +16,11 @@ pub(crate) fn settle_at<S: RowStore>(
     site: &str,
     number: u64,
 ) -> Result<u64, Fault>
-    ensures settles { Settles S.Meaning
-        site.now number result store.old store.new }
+    ensures settles { Settles S.Meaning site.now number result store.old store.new }
     ensures unread { S.decks_read_of store.new ≡ S.decks_read_of store.old }
-    ensures failed { IfErr result (λ fault. fault.kind ≡ Store
-        → FailsMore S.Meaning store.old store.new) }
+    ensures failed { CountsFailure S.Meaning result store.old store.new }
 {
-    match key_door(site, number) {
+    match check_key(site, number) {
         Ok(()) => {}
         Err(fault) => return Err(fault),
     }

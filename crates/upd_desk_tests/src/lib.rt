@@ -1,21 +1,24 @@
-//! Tests of row changes, of settlings at the limits of a library, and of the desk beside a plain program. Expected
-//! values are worked by hand from `docs/rules.md`, or come from that program.
+//! Tests of the desk over lists and over SQLite: worked lists of runs, random lists beside the reference desk, the
+//! decks that it reads, row changes, and status updates at the limits of a library.
 //!
-//! They stand in a crate of their own, since a crate with tests is proved once more with them.
+//! Expected values are worked by hand from `docs/rules.md` and `docs/protocol.md`, or come from the reference desk.
 #![tactic(auto)]
 
 #[cfg(test)]
-mod arrivals;
+mod changes_of_runs;
 #[cfg(test)]
-mod changes;
+mod decks_read;
 #[cfg(test)]
-mod check;
-pub mod dice;
+mod desk_times;
 #[cfg(test)]
-mod keeping;
-pub mod need;
-pub mod plain;
+mod empty_stores;
 #[cfg(test)]
-mod reads;
+mod random_arrivals;
 #[cfg(test)]
-mod settling;
+mod status_updates;
+#[cfg(test)]
+mod steps;
+#[cfg(test)]
+mod store_loads;
+#[cfg(test)]
+mod worked_lists;

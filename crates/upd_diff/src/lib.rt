@@ -4,9 +4,9 @@
 //! which is far above the limits of a library.
 #![tactic(auto)]
 
+mod card_diffs;
 mod decks;
 pub mod difference;
-mod card_diffs;
 mod row_changes;
 mod touched;
 

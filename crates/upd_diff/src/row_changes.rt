@@ -8,7 +8,7 @@ ghost use Rattle.upd_diff.specs.RowChanges.{begins, brought, card_new, entries_n
 ghost use Rattle.upd_diff.specs.RowChanges.{moves};
 ghost use Rattle.upd_diff.specs.RowChanges.{targets_new, row_changes};
 
-use crate::card_diffs::{DeckDiff, CardDiff};
+use crate::card_diffs::{CardDiff, DeckDiff};
 use std::alloc::{AllocError, Global};
 use upd_core::card::card_ref;
 use upd_core::{Card, CardRef, Change, Entry, Ident, Serial, Target};
@@ -72,7 +72,11 @@ fn add_all_gone(
     Ok(())
 }
 
-fn add_gone(changes: &mut Vec<Change>, idents: &[Ident], card_diffs: &[CardDiff]) -> Result<(), AllocError>
+fn add_gone(
+    changes: &mut Vec<Change>,
+    idents: &[Ident],
+    card_diffs: &[CardDiff],
+) -> Result<(), AllocError>
     ensures { OnOk result (map change_view changes.new.items
         ≡ map change_view changes.old.items ++ flat_map (gone_of idents.now) (map card_diff_view card_diffs.now)) }
 {
@@ -146,7 +150,11 @@ fn add_all_moves(changes: &mut Vec<Change>, decks: &[DeckDiff]) -> Result<(), Al
 
 /// Moves each kept card that is not at its new position, with all cards after it: insertions and deletions at one place
 /// make one move.
-fn add_moves(changes: &mut Vec<Change>, deck: Serial, card_diffs: &[CardDiff]) -> Result<(), AllocError>
+fn add_moves(
+    changes: &mut Vec<Change>,
+    deck: Serial,
+    card_diffs: &[CardDiff],
+) -> Result<(), AllocError>
     requires { length card_diffs.now < 2 ^ 32 }
     ensures { OnOk result (map change_view changes.new.items
         ≡ map change_view changes.old.items ++ moves deck 0 0 (map card_diff_view card_diffs.now)) }

@@ -7,7 +7,7 @@ ghost use Rattle.upd_core.specs.Sound.{AreApart, AreRising, all_cards, key_of};
 ghost use Rattle.upd_diff.specs.CardDiffs.{Lead, card_after, card_diff_view};
 ghost use Rattle.upd_diff.specs.Touched.{IsOf, same_history, stood_in, touched_in};
 
-use crate::card_diffs::{DeckDiff, CardDiff};
+use crate::card_diffs::{CardDiff, DeckDiff};
 use std::alloc::{AllocError, Global};
 use upd_core::card::card_ref;
 use upd_core::{Card, Deck, Entry, Ident, Library, Serial};

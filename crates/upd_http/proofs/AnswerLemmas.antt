@@ -1,5 +1,5 @@
 -- A request and its answer.
-use Rattle.std.proofs.Common.{◌≡◌, ◌⊎◌, inl, inr, ℕ, List, None, Result, Ok, Err, IfOk, IfErr, refl, sym, ap, ◌∙◌}
+use Rattle.std.proofs.Common.{◌≡◌, ◌⊎◌, inl, inr, ℕ, List, None, Result, Ok, Err, IfOk, IfErr, IsErrAnd, refl, sym, ap, ◌∙◌}
 use Rattle.upd_request.specs.Calls.{Asked}
 use Rattle.upd_request.specs.Requests.{IsFailure, Says}
 use Rattle.upd_request.specs.declared.call.Refusal.{Refusal}
@@ -9,13 +9,18 @@ use Rattle.upd_http.specs.Serving.{AnswersRequest, IsAsked, Made, no_memory}
 use Rattle.upd_http.specs.Views.{answer_seen, response}
 use Rattle.upd_http.specs.declared.answer.Answer.{Answer}
 
+-- a result that is this fault
+pub fault_is : {T : Type 0} (result : Result T Fault) (fault : Fault) → IsErrAnd result (λ e. e ≡ fault) → result ≡ Err fault
+fault_is (Ok x) fault is = absurd is
+fault_is (Err e) fault is = ap Err is
+
 -- the desk was asked what the input says
 pub answers_call : (input : List ℕ) (call : Asked) (made : Made) (answer : Result Response Fault) → Says input (Ok call) → IsAsked call made answer
     → AnswersRequest input made answer
 answers_call input call made answer says (inl (told, is, answered)) = inr (inl (call, told, says, is, answered))
 answers_call input call made answer says (inr (none, is)) = inr (inr (none, inr (inl is)))
 
--- the input is refused, or reading it failed
+-- the input is refused, or can't be read
 refused : (input : List ℕ) (refusal : Refusal) (answer : Result Response Fault) → IsFailure refusal ⊎ Says input (Err refusal) → answer ≡ refusal_answer refusal
     → AnswersRequest input None answer
 refused input refusal answer (inl (inl is)) same = inr (inr (refl, inl (same ∙ ap refusal_answer is)))

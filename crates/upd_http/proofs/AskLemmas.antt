@@ -11,13 +11,13 @@ use Rattle.upd_http.specs.declared.answer.Answer.{Answer}
 ok_is_no_err : {A : Type 0} {x : A} {e : Fault} → Ok x ≡ Err e → ⊥
 ok_is_no_err is = cc
 
--- an answer that was told
+-- an answer that the desk returned
 pub answered_told : {A : Type 0} (f : A → Response) (result : Result A Fault) (x : A) (answer : Response) → result ≡ Ok x → answer ≡ f x
     → AnswersTold (result_map_both f (λ fault. fault) result) (Ok answer)
 answered_told f result x answer is same =
     inl (ap Ok (same ∙ sym (ap (λ r. response_of (result_map_both f (λ fault. fault) r)) is)))
 
--- a fault that was told, or want of memory for its text
+-- a fault that the desk returned, or no memory for its text
 pub answered_fault : {A : Type 0} (f : A → Response) (result : Result A Fault) (fault : Fault) (answer : Result Answer Fault) → result ≡ Err fault
     → IfOk answer (λ a. response a ≡ fault_response fault) → IfErr answer (λ e. e ≡ no_memory)
     → AnswersTold (result_map_both f (λ e. e) result) (answer_seen answer)

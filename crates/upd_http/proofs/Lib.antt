@@ -1,4 +1,5 @@
 pub mod AskLemmas
 pub mod HeadLemmas
+pub mod ReasonLemmas
 pub mod AnswerLemmas
 pub mod OwedLemmas

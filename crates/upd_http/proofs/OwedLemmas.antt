@@ -1,4 +1,4 @@
--- What the desk told is what it owes.
+-- What the desk returns is what is required.
 use Rattle.std.proofs.Common.{◌≡◌, inl, inr, ℕ, List, ◌∷◌, Bool, true, false, not, Result, Ok, Err, refl, sym, ap, ◌∙◌, subst}
 use Rattle.std.specs.Result.{result_map_both}
 use Rattle.upd_row_store.specs.declared.meaning.Meaning.{Ghosts}
@@ -13,7 +13,7 @@ use Rattle.upd_http.specs.Owed.{owed}
 use Rattle.upd_http.specs.Responses.{Response, mark_response, page, reply_response}
 use Rattle.upd_http.specs.Serving.{DoesAsAsked, IsMarkResponse}
 
--- what is owed, seen another way
+-- what is required, seen another way
 owed_as : {A : Type 0} (f : A → Response) (due result : Result A Fault) (told : Result Response Fault) → IsOwed due result
     → told ≡ result_map_both f (λ fault. fault) result → IsOwed (result_map_both f (λ fault. fault) due) told
 owed_as f due (Ok x) told is same =
@@ -29,7 +29,7 @@ owed_as f due (Err fault) told (inr is) same =
 err_is_ok : {A : Type 0} {e : Fault} {x : A} → Err e ≡ Ok x → ⊥
 err_is_ok is = cc
 
--- a mark is owed to a site alone
+-- a mark is required only for a valid site
 site_of : (journal : Journal) (site : List ℕ) (n m : ℕ) → mark_after journal site n ≡ Ok m → is_site site ≡ true
 site_of journal site n m is = by (is_site site) refl is
   where

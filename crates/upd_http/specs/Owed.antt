@@ -1,4 +1,4 @@
--- What is owed to a question after a journal, as an answer.
+-- The answer that a call of the desk requires after a journal.
 use Rattle.std.specs.Prelude.{[], Result, Ok}
 use Rattle.std.specs.Result.{result_map_both}
 use Rattle.upd_compile.specs.File.{compile_file_of}
@@ -10,7 +10,7 @@ use Rattle.upd_request.specs.Calls.{Asked, run, settle, compile, deck, card, ide
 use Rattle.upd_text.specs.declared.fault.Fault.{Fault}
 use Rattle.upd_http.specs.Responses.{Response, mark_response, page, reply_response}
 
--- a run is owed its reply, a settlement the mark afterwards, and a query what is defined of the library after the journal
+-- the reply to a run, the mark after a settlement, and for a query what is defined of the library after the journal
 abbrev pub owed : Journal → Asked → Result Response Fault
 owed journal (run site number mode bytes) =
     result_map_both reply_response (λ fault. fault) (answer journal (record { site = site; number = number; mode = mode; bytes = bytes }))

@@ -6,29 +6,26 @@ use Rattle.upd_text.specs.declared.fault.Fault.{Fault}
 use Rattle.upd_text.specs.declared.fault.FaultKind.TheVariants.{BadFrame}
 use Rattle.upd_reply.specs.Texts.{fault_text, settled_text}
 use Rattle.upd_desk.specs.Outcomes.{ReplyView}
-use Rattle.upd_request.specs.Methods.{method_text}
+use Rattle.upd_request.specs.Routes.{method_of}
 use Rattle.upd_request.specs.declared.call.Refusal.{Refusal}
-use Rattle.upd_request.specs.declared.call.Refusal.TheVariants.{Silent, Told, NoRoute, OtherMethod}
-use Rattle.upd_request.specs.declared.call.Method.{Method}
+use Rattle.upd_request.specs.declared.call.Refusal.TheVariants.{Silent, Answered, NoRoute, OtherMethod}
 use Rattle.upd_http.specs.Statuses.{fault_status, media_text, status_line}
 use Rattle.upd_http.specs.declared.status.Media.{Media}
 use Rattle.upd_http.specs.declared.status.Media.TheVariants.{Json, Plain}
-use Rattle.upd_http.specs.declared.status.Status.{Status}
-use Rattle.upd_http.specs.declared.status.Status.TheVariants.{Done, Unprocessable, NotFound, MethodNotAllowed}
 
--- An answer: its status, what its body is, the method that its path has where another was asked, and the body.
+-- An answer: its status, the type of its body, the method of its path where the request has another one, and the body.
 pub record Response : Type 0 where
-  pub status : Status
+  pub status : ℕ
   pub media : Media
-  pub allow : Option Method
+  pub allow : Option (List ℕ)
   pub body : List ℕ
 
 -- ---- bytes
 
--- the line that names the method of a path
-abbrev pub allow_line : Option Method → List ℕ
+-- the line with the method of a path
+abbrev pub allow_line : Option (List ℕ) → List ℕ
 allow_line None = []
-allow_line (Some method) = codes "\r\nAllow: " ++ method_text method
+allow_line (Some method) = codes "\r\nAllow: " ++ method
 
 -- the head of an answer: its lines, each with CR LF, and an empty line
 abbrev pub head_text : Response → List ℕ
@@ -43,9 +40,9 @@ response_text r = head_text r ++ r.body
 -- ---- what is answered
 
 -- the status of a reply: 200 where the run is accepted, 422 where it is refused
-abbrev pub reply_status : Bool → Status
-reply_status true = Done
-reply_status false = Unprocessable
+abbrev pub reply_status : Bool → ℕ
+reply_status true = 200
+reply_status false = 422
 
 -- a reply to a run
 abbrev pub reply_response : ReplyView → Response
@@ -53,24 +50,24 @@ reply_response reply = record { status = reply_status reply.accepted; media = Js
 
 -- the mark of a site that has settled
 abbrev pub mark_response : List ℕ → ℕ → Response
-mark_response site mark = record { status = Done; media = Json; allow = None; body = settled_text site mark }
+mark_response site mark = record { status = 200; media = Json; allow = None; body = settled_text site mark }
 
 -- a compile file or a listing
 abbrev pub page : List ℕ → Response
-page bytes = record { status = Done; media = Plain; allow = None; body = bytes }
+page bytes = record { status = 200; media = Plain; allow = None; body = bytes }
 
--- a fault, by its own status
+-- a fault, with its own status
 abbrev pub fault_response : Fault → Response
 fault_response fault = record { status = fault_status fault.kind; media = Json; allow = None; body = fault_text fault }
 
--- what is told, or the fault that is told in its place
+-- a response, or that of the fault in its place
 abbrev pub response_of : Result Response Fault → Response
 response_of (Ok response) = response
 response_of (Err fault) = fault_response fault
 
--- how a refused request is answered; nothing is said where it was cut or couldn't be read
+-- the answer to a refused request; nothing is answered where it was cut or a read failed
 abbrev pub refusal_answer : Refusal → Result Response Fault
 refusal_answer (Silent fault) = Err fault
-refusal_answer (Told fault) = Ok (fault_response fault)
-refusal_answer NoRoute = Ok (record (fault_response (fault_at BadFrame 0)) { status = NotFound })
-refusal_answer (OtherMethod method) = Ok (record (fault_response (fault_at BadFrame 0)) { status = MethodNotAllowed; allow = Some method })
+refusal_answer (Answered fault) = Ok (fault_response fault)
+refusal_answer NoRoute = Ok (record (fault_response (fault_at BadFrame 0)) { status = 404 })
+refusal_answer (OtherMethod route) = Ok (record (fault_response (fault_at BadFrame 0)) { status = 405; allow = Some (method_of route) })

@@ -1,28 +1,33 @@
 //! Answers, and the bytes of their heads.
 
-ghost use Rattle.std.specs.Prelude.{◌≡◌, ◌≤◌, ◌⊎◌, ◌+◌, ◌++◌, [], Err, IfErr, IfOk, Ok, length, vec_capacity, vec_len};
+ghost use Rattle.std.specs.Prelude.{◌≡◌, ◌≤◌, ◌⊎◌, ◌+◌, ◌++◌, [], Err, IfErr, IfOk, Ok, length};
+ghost use Rattle.std.specs.Prelude.{option_map, vec_capacity, vec_len};
+ghost use Rattle.std.specs.List.{flat_map};
 ghost use Rattle.upd_desk.specs.Outcomes.{ReplyView};
+ghost use Rattle.upd_request.specs.Routes.{method_of};
 ghost use Rattle.upd_http.specs.Responses.{allow_line, fault_response, head_text, page, refusal_answer, reply_response};
 ghost use Rattle.upd_http.specs.Serving.{no_memory};
+ghost use Rattle.upd_http.specs.Statuses.{status_line};
 ghost use Rattle.upd_http.specs.Views.{answer_seen, response};
 
-use crate::status::{Media, Status};
+use crate::status::{Media, reason, status_of};
+use http::StatusCode;
 use itoa::Buffer;
 use std::alloc::Global;
 use upd_desk::Reply;
-use upd_request::{Method, Refusal};
+use upd_request::{Refusal, Route};
 use upd_text::{Fault, FaultKind};
 
-/// The room that any head of an answer has enough of, in bytes.
+/// Enough room for any head of an answer, in bytes.
 pub const HEAD_ROOM: usize = 256;
 
 /// An answer.
 #[derive(Debug, Drop)]
 pub struct Answer {
-    pub(crate) status: Status,
+    pub(crate) status: StatusCode,
     pub(crate) media: Media,
-    /// The method of the path, where another one was asked.
-    pub(crate) allow: Option<Method>,
+    /// The route of the path, where the request has another method.
+    pub(crate) allow: Option<Route>,
     pub(crate) body: Vec<u8>,
 }
 
@@ -32,9 +37,9 @@ impl Answer {
         ensures { response result ≡ reply_response reply }
     {
         let status = if reply.accepted {
-            Status::Done
+            StatusCode::OK
         } else {
-            Status::Unprocessable
+            StatusCode::UNPROCESSABLE_ENTITY
         };
         Answer {
             status,
@@ -49,21 +54,21 @@ impl Answer {
         ensures { response result ≡ page body.items }
     {
         Answer {
-            status: Status::Done,
+            status: StatusCode::OK,
             media: Media::Plain,
             allow: None,
             body,
         }
     }
 
-    /// A fault, with its own status. Its one error is want of memory.
+    /// A fault, with its own status. The only error is NoMemory.
     pub(crate) fn fault(alloc: Global, fault: Fault) -> Result<Answer, Fault>
         ensures ok { IfOk result (λ answer. response answer ≡ fault_response fault) }
         ensures err { IfErr result (λ e. e ≡ no_memory) }
     {
         let body = upd_reply::fault(alloc, fault)?;
         Ok(Answer {
-            status: Status::of(fault.kind),
+            status: status_of(fault.kind),
             media: Media::Json,
             allow: None,
             body,
@@ -77,26 +82,26 @@ impl Answer {
     {
         match refusal {
             Refusal::Silent(fault) => Err(fault),
-            Refusal::Told(fault) => Answer::fault(alloc, fault),
+            Refusal::Answered(fault) => Answer::fault(alloc, fault),
             Refusal::NoRoute => {
                 let answer = Answer::fault(alloc, FaultKind::BadFrame.without_line())?;
                 Ok(Answer {
-                    status: Status::NotFound,
+                    status: StatusCode::NOT_FOUND,
                     ..answer
                 })
             }
-            Refusal::OtherMethod(method) => {
+            Refusal::OtherMethod(route) => {
                 let answer = Answer::fault(alloc, FaultKind::BadFrame.without_line())?;
                 Ok(Answer {
-                    status: Status::MethodNotAllowed,
-                    allow: Some(method),
+                    status: StatusCode::METHOD_NOT_ALLOWED,
+                    allow: Some(route),
                     ..answer
                 })
             }
         }
     }
 
-    /// Writes its head where there is room.
+    /// Writes its head, for which there is room.
     pub(crate) fn write_head(&self, out: &mut Vec<u8>)
         requires empty { out.old.items ≡ [] }
         requires room { HEAD_ROOM ≤ vec_capacity out.old }
@@ -104,25 +109,57 @@ impl Answer {
     {
         let mut number = Buffer::new();
         put(out, b"HTTP/1.1 ");
-        put(out, self.status.text().as_bytes());
+        put_status(out, self.status);
         put(out, b"\r\nContent-Type: ");
         put(out, self.media.text().as_bytes());
         put(out, b"\r\nContent-Length: ");
         put(out, number.format(self.body.len()).as_bytes());
-        put(out, allow_line(self.allow).as_bytes());
+        put_allow(out, self.allow);
         put(out, b"\r\nConnection: close\r\n\r\n");
     }
 }
 
-/// The line that names the method of a path, where another one was asked.
-fn allow_line(allow: Option<Method>) -> &'static str
-    ensures value { result.now ≡ allow_line allow }
-    ensures short { length result.now ≤ 16 }
+/// Adds a status: its digits, a blank and its reason.
+fn put_status(out: &mut Vec<u8>, status: StatusCode)
+    requires { vec_len out.old + 40 ≤ vec_capacity out.old }
+    ensures items { out.new.items ≡ out.old.items ++ status_line status }
+    ensures len { vec_len out.new ≤ vec_len out.old + 40 }
+    ensures room { vec_capacity out.old ≤ vec_capacity out.new }
 {
-    match allow {
-        None => "",
-        Some(Method::Get) => "\r\nAllow: GET",
-        Some(Method::Post) => "\r\nAllow: POST",
+    put(out, status.as_str().as_bytes());
+    put(out, b" ");
+    put(out, reason(status).as_bytes());
+}
+
+/// Adds the line with the method of a route, where the request has another method.
+fn put_allow(out: &mut Vec<u8>, allow: Option<Route>)
+    requires { vec_len out.old + 16 ≤ vec_capacity out.old }
+    ensures items { out.new.items ≡ out.old.items ++ allow_line (option_map method_of allow) }
+    ensures len { vec_len out.new ≤ vec_len out.old + 16 }
+    ensures room { vec_capacity out.old ≤ vec_capacity out.new }
+{
+    if let Some(route) = allow {
+        put(out, b"\r\nAllow: ");
+        put_method(out, route);
+    }
+}
+
+fn put_method(out: &mut Vec<u8>, route: Route)
+    requires { vec_len out.old + 4 ≤ vec_capacity out.old }
+    ensures items { out.new.items ≡ out.old.items ++ method_of route }
+    ensures len { vec_len out.new ≤ vec_len out.old + 4 }
+    ensures room { vec_capacity out.old ≤ vec_capacity out.new }
+{
+    put(out, route.method().as_str().as_bytes());
+}
+
+/// Adds parts for which there is room, one after the other.
+pub(crate) fn put_all(out: &mut Vec<u8>, parts: &[&[u8]])
+    requires { vec_len out.old + length (flat_map (λ part. part.now) parts.now) ≤ vec_capacity out.old }
+    ensures { out.new.items ≡ out.old.items ++ flat_map (λ part. part.now) parts.now }
+{
+    for part in parts {
+        put(out, part);
     }
 }
 

@@ -1,4 +1,4 @@
-//! What a request asks of the desk, asked.
+//! Asks the desk what a request asks.
 
 ghost use Rattle.std.specs.Prelude.{◌≡◌, ◌≤◌, ◌+◌, [], IsTrue, length, vec_capacity};
 ghost use Rattle.upd_request.specs.Calls.{asked, card, compile, deck, idents, run, settle, yanks};
@@ -7,39 +7,41 @@ ghost use Rattle.upd_reply.specs.Texts.{settled_text};
 ghost use Rattle.upd_http.specs.Serving.{Asks};
 ghost use Rattle.upd_http.specs.Views.{answer_seen};
 
-use crate::answer::{Answer, put};
-use crate::status::{Media, Status};
+use crate::answer::{Answer, put_all};
+use crate::status::Media;
+use http::StatusCode;
 use itoa::Buffer;
 use std::alloc::Global;
 use upd_core::{CardRef, Name};
 use upd_desk::Desk;
-use upd_request::Call;
+use upd_reply::{SETTLED_ROOM, settled_parts};
+use upd_request::DeskCall;
 use upd_row_store::RowStore;
-use upd_text::{Fault, FaultKind};
+use upd_text::Fault;
 
-/// Asks the desk, and answers what it tells. The one error is want of memory: for the text of a fault, or for that of a
-/// mark; in the second case the desk wasn't asked.
+/// Asks the desk, and makes its answer. The only error is NoMemory: for the text of a fault, or for that of a mark. In
+/// the second case the desk was not asked.
 pub(crate) fn ask<S: RowStore>(
     alloc: Global,
     desk: &mut Desk<S>,
-    call: &Call,
+    call: &DeskCall,
 ) -> Result<Answer, Fault>
     ensures { Asks S.Meaning
         (asked call.now) (answer_seen result) desk.old.store desk.new.store }
 {
     match call {
-        Call::Run {
+        DeskCall::Run {
             site,
             number,
             mode,
             body,
         } => arrive(alloc, desk, site, *number, mode, body),
-        Call::Settle { site, number } => settle(alloc, desk, site, *number),
-        Call::Compile => full_compile(alloc, desk),
-        Call::Deck(name) => deck_list(alloc, desk, name),
-        Call::Card(card) => card_list(alloc, desk, *card),
-        Call::Idents => ident_list(alloc, desk),
-        Call::Yanks => yank_list(alloc, desk),
+        DeskCall::Settle { site, number } => settle(alloc, desk, site, *number),
+        DeskCall::Compile => full_compile(alloc, desk),
+        DeskCall::Deck(name) => deck_list(alloc, desk, name),
+        DeskCall::Card(card) => card_list(alloc, desk, *card),
+        DeskCall::Idents => ident_list(alloc, desk),
+        DeskCall::Yanks => yank_list(alloc, desk),
     }
 }
 
@@ -60,10 +62,7 @@ fn arrive<S: RowStore>(
     }
 }
 
-/// The room that the text of a mark needs beside its site, in bytes.
-pub const MARK_ROOM: usize = 64;
-
-/// All memory for the text is taken before the desk is asked, so that none can be wanting once a mark is kept.
+/// All memory for the text is allocated before the desk is asked, so that a mark that is stored is also answered.
 fn settle<S: RowStore>(
     alloc: Global,
     desk: &mut Desk<S>,
@@ -73,15 +72,12 @@ fn settle<S: RowStore>(
     ensures { Asks S.Meaning
         (settle site.now number) (answer_seen result) desk.old.store desk.new.store }
 {
-    let mut body = match Vec::with_capacity(alloc, site.len() + MARK_ROOM) {
-        Ok(body) => body,
-        Err(_) => return Err(FaultKind::NoMemory.without_line()),
-    };
+    let mut body = Vec::with_capacity(alloc, site.len() + SETTLED_ROOM)?;
     match desk.settle_site(alloc, site, number) {
         Ok(mark) => {
             write_mark(&mut body, site, mark);
             Ok(Answer {
-                status: Status::Done,
+                status: StatusCode::OK,
                 media: Media::Json,
                 allow: None,
                 body,
@@ -91,18 +87,14 @@ fn settle<S: RowStore>(
     }
 }
 
-/// The text of a mark, where there is room. A site stands in it as it is.
+/// Writes the text of a mark, for which there is room.
 fn write_mark(out: &mut Vec<u8>, site: &str, mark: u64)
     requires empty { out.old.items ≡ [] }
-    requires room { length site.now + MARK_ROOM ≤ vec_capacity out.old }
+    requires room { length site.now + SETTLED_ROOM ≤ vec_capacity out.old }
     ensures { IsTrue (is_site site.now) → out.new.items ≡ settled_text site.now mark }
 {
-    let mut number = Buffer::new();
-    put(out, b"{\"settled\":");
-    put(out, number.format(mark).as_bytes());
-    put(out, b",\"site\":\"");
-    put(out, site.as_bytes());
-    put(out, b"\"}");
+    let mut digits = Buffer::new();
+    put_all(out, &settled_parts(site, mark, &mut digits));
 }
 
 fn full_compile<S: RowStore>(alloc: Global, desk: &mut Desk<S>) -> Result<Answer, Fault>

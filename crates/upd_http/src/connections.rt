@@ -3,34 +3,33 @@
 ghost use Rattle.std.specs.Prelude.{◌≡◌, ◌≤◌, List, length, IfErr, OnOk};
 ghost use Rattle.upd_http.specs.Serving.{Leads, LeadsThrough, Made, read_failed};
 
-use crate::exchange::serve_one;
+use crate::exchange::serve_request;
 use std::alloc::Global;
 use std::io;
 use std::io::{ErrorKind, Read, Write};
 use std::net::{Shutdown, TcpListener, TcpStream};
 use std::time::{Clock, Duration, Instant};
 use upd_desk::Desk;
+use upd_request::RouteTable;
 use upd_row_store::RowStore;
 use upd_text::{Fault, FaultKind};
 
 /// How long a read or a write of a connection may take, in seconds.
 const PATIENCE: u64 = 10;
 
-/// How long a connection may take in all, in seconds, but for the read or the write that it is in by then.
+/// How long a connection may take by the clock, in seconds. A read or a write that has begun by then may go beyond it.
 const LIFETIME: u64 = 120;
 
-/// How many reads of what a client still sends are thrown away behind an answer.
+/// How many reads of what a client still sends are discarded after an answer.
 const SURPLUS_READS: u32 = 64;
 
-/// Serves so many connections, one request each. A fault of one ends that one alone. Read where no connection can be
+/// Serves `count` connections, one request each. A fault of one ends only that one. Read where no connection can be
 /// accepted.
 ///
-/// A client that says or takes nothing for 10 seconds gets no answer, nor does one that isn't done after two minutes by
-/// the clock. Behind that, and behind an answer, what it still sends is thrown away until it closes the connection or
-/// says nothing for 10 seconds.
+/// A client that sends or takes nothing for 10 seconds gets no answer. After that, and after an answer, what it still
+/// sends is discarded until it closes the connection or sends nothing for 10 seconds.
 pub fn serve_on<S: RowStore>(
     alloc: Global,
-    clock: &impl Clock,
     listener: &TcpListener,
     count: u32,
     desk: &mut Desk<S>,
@@ -39,62 +38,106 @@ pub fn serve_on<S: RowStore>(
         × LeadsThrough S.Meaning made desk.old.store desk.new.store }
     ensures err { IfErr result (λ fault. fault ≡ read_failed) }
 {
+    serve_each::<HostRuntime, S>(alloc, None, listener, count, desk)
+}
+
+/// Serves as `serve_on` does, and no connection for longer than two minutes by the clock.
+pub fn serve_on_within<C: Clock, S: RowStore>(
+    alloc: Global,
+    clock: &C,
+    listener: &TcpListener,
+    count: u32,
+    desk: &mut Desk<S>,
+) -> Result<(), Fault>
+    ensures leads { (made : List Made) × (length made ≤ count) × OnOk result (length made ≡ count)
+        × LeadsThrough S.Meaning made desk.old.store desk.new.store }
+    ensures err { IfErr result (λ fault. fault ≡ read_failed) }
+{
+    serve_each(alloc, Some(clock), listener, count, desk)
+}
+
+/// Serves `count` connections. One that finds no memory for the routes gets no answer, and the next one makes them.
+fn serve_each<C: Clock, S: RowStore>(
+    alloc: Global,
+    clock: Option<&C>,
+    listener: &TcpListener,
+    count: u32,
+    desk: &mut Desk<S>,
+) -> Result<(), Fault>
+    ensures leads { (made : List Made) × (length made ≤ count) × OnOk result (length made ≡ count)
+        × LeadsThrough S.Meaning made desk.old.store desk.new.store }
+    ensures err { IfErr result (λ fault. fault ≡ read_failed) }
+{
+    let mut routes = None;
     'connections: for _ in 0..count {
         match listener.accept() {
-            Ok((stream, _)) => serve_connection(alloc, clock, &stream, desk),
+            Ok((stream, _)) => serve_connection(alloc, clock, &mut routes, &stream, desk),
             Err(_) => return Err(FaultKind::Read.without_line()),
         }
     }
     Ok(())
 }
 
-fn serve_connection<'c, S: RowStore>(
+fn serve_connection<'c, C: Clock, S: RowStore>(
     alloc: Global,
-    clock: &'c impl Clock,
+    clock: Option<&'c C>,
+    routes: &mut Option<RouteTable>,
     stream: &'c TcpStream,
     desk: &mut Desk<S>,
 )
     ensures { (made : Made)
         × Leads S.Meaning made desk.old.store desk.new.store }
 {
-    let patience = Some(Duration::from_secs(PATIENCE));
-    if stream.set_read_timeout(patience).is_err() || stream.set_write_timeout(patience).is_err() {
-        return;
+    if routes.is_none() {
+        *routes = RouteTable::new(alloc).ok();
     }
-    let Ok(start) = Instant::now(clock) else {
+    let Some(routes) = routes else {
         return;
     };
-    let mut reader = Client::new(stream, clock, start);
-    let mut writer = Client::new(stream, clock, start);
-    let _ = serve_one(alloc, &mut reader, &mut writer, desk);
+    let Ok(since) = begin(stream, clock) else {
+        return;
+    };
+    let mut reader = Client { stream, since };
+    let mut writer = Client { stream, since };
+    let _ = serve_request(alloc, routes, &mut reader, &mut writer, desk);
     let _ = stream.shutdown(Shutdown::Write);
     read_surplus(&mut reader);
+}
+
+/// Limits how long each read and write of a connection may take, and reads the clock.
+fn begin<'c, C: Clock>(
+    stream: &TcpStream,
+    clock: Option<&'c C>,
+) -> io::Result<Option<(&'c C, Instant)>> {
+    let patience = Some(Duration::from_secs(PATIENCE));
+    stream.set_read_timeout(patience)?;
+    stream.set_write_timeout(patience)?;
+    match clock {
+        Some(clock) => {
+            let start = Instant::now(clock)?;
+            Ok(Some((clock, start)))
+        }
+        None => Ok(None),
+    }
 }
 
 /// A client until its time is up: from then on each read and write fails.
 #[derive(Drop)]
 struct Client<'a, C: Clock> {
     stream: &'a TcpStream,
-    clock: &'a C,
-    start: Instant,
+    /// The clock, and the time at which the connection was accepted. None: without a limit.
+    since: Option<(&'a C, Instant)>,
 }
 
-impl<'a, C: Clock> Client<'a, C> {
-    fn new(stream: &'a TcpStream, clock: &'a C, start: Instant) -> Client<'a, C> {
-        Client {
-            stream,
-            clock,
-            start,
-        }
-    }
-
+impl<C: Clock> Client<'_, C> {
     /// TimedOut once the client's time is up.
     fn check_time(&self) -> io::Result<()> {
-        if self.start.elapsed(self.clock)? < Duration::from_secs(LIFETIME) {
-            Ok(())
-        } else {
-            Err(io::Error::from(ErrorKind::TimedOut))
+        if let Some((clock, start)) = self.since {
+            if start.elapsed(clock)? >= Duration::from_secs(LIFETIME) {
+                return Err(io::Error::from(ErrorKind::TimedOut));
+            }
         }
+        Ok(())
     }
 }
 
@@ -116,8 +159,8 @@ impl<C: Clock> Write for Client<'_, C> {
     }
 }
 
-/// Throws away what a client still sends, up to a bound: were it left unread, closing the connection could take the
-/// answer back.
+/// Discards what a client still sends, up to a bound. If it stayed unread, closing the connection could discard the
+/// answer.
 fn read_surplus(client: &mut impl Read) {
     let mut chunk = [0u8; 4096];
     for _ in 0..SURPLUS_READS {

@@ -13,13 +13,13 @@ use crate::write::send;
 use std::alloc::Global;
 use std::io::{Read, Write};
 use upd_desk::Desk;
-use upd_request::read_call;
+use upd_request::{RouteTable, read_call};
 use upd_row_store::RowStore;
-use upd_text::{Fault, FaultKind};
+use upd_text::Fault;
 
 /// Reads one request, asks the desk what it asks, and writes the answer. CutFrame, Read and NoMemory leave the output
-/// as it was, Write leaves a beginning of the answer. All memory that the head needs is taken before the request is
-/// read.
+/// as it was, Write leaves a prefix of the answer. All memory that the head and the routes need is allocated before the
+/// request is read.
 pub fn serve_one<R: Read, W: Write, S: RowStore>(
     alloc: Global,
     reader: &mut R,
@@ -31,22 +31,33 @@ pub fn serve_one<R: Read, W: Write, S: RowStore>(
         × Sends answer result (W.contents writer.old) (W.contents writer.new)
         × ((input : List ℕ) × IsInput (R.remaining reader.old) input × AnswersRequest input made answer) }
 {
-    let mut head = match Vec::with_capacity(alloc, HEAD_ROOM) {
-        Ok(head) => head,
-        Err(_) => return Err(FaultKind::NoMemory.without_line()),
-    };
-    match answer_one(alloc, reader, desk) {
-        Ok(answer) => {
-            answer.write_head(&mut head);
-            send(writer, &head, &answer.body)
-        }
-        Err(fault) => Err(fault),
-    }
+    let routes = RouteTable::new(alloc)?;
+    serve_request(alloc, &routes, reader, writer, desk)
+}
+
+/// The same, with routes that were made before.
+pub(crate) fn serve_request<R: Read, W: Write, S: RowStore>(
+    alloc: Global,
+    routes: &RouteTable,
+    reader: &mut R,
+    writer: &mut W,
+    desk: &mut Desk<S>,
+) -> Result<(), Fault>
+    ensures { (made : Made) × (answer : Result Response Fault)
+        × Leads S.Meaning made desk.old.store desk.new.store
+        × Sends answer result (W.contents writer.old) (W.contents writer.new)
+        × ((input : List ℕ) × IsInput (R.remaining reader.old) input × AnswersRequest input made answer) }
+{
+    let mut head = Vec::with_capacity(alloc, HEAD_ROOM)?;
+    let answer = answer_one(alloc, routes, reader, desk)?;
+    answer.write_head(&mut head);
+    send(writer, &head, &answer.body)
 }
 
 /// The answer to one request, or the fault of one that has none.
 fn answer_one<R: Read, S: RowStore>(
     alloc: Global,
+    routes: &RouteTable,
     reader: &mut R,
     desk: &mut Desk<S>,
 ) -> Result<Answer, Fault>
@@ -54,7 +65,7 @@ fn answer_one<R: Read, S: RowStore>(
         × Leads S.Meaning made desk.old.store desk.new.store
         × ((input : List ℕ) × IsInput (R.remaining reader.old) input × AnswersRequest input made (answer_seen result)) }
 {
-    match read_call(alloc, reader) {
+    match read_call(alloc, routes, reader) {
         Ok(call) => ask(alloc, desk, &call),
         Err(refusal) => Answer::refusal(alloc, refusal),
     }

@@ -11,9 +11,9 @@ ghost use Rattle.upd_http.specs.Serving.{DoesAsAsked};
 
 use upd_row_store::RowStore;
 
-/// What the desk told, and an answer says, is what is owed after every journal that its store held: the reply, the
-/// mark, the compile file or the listing, or the refusal; or the question was lost to want of memory or a failure of
-/// the store.
+/// What the desk returned, and an answer says, is what the specification requires after every journal that its store
+/// held: the reply, the mark, the compile file or the listing, or the refusal. Or the call was lost: out of memory, or
+/// the store failed.
 pub fn answers_are_owed<S: RowStore>()
     ensures { (asked : Asked) (told : Result Response Fault) (old new : S)
         → DoesAsAsked S.Meaning asked told old new → S.is_honest new

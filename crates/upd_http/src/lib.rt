@@ -9,6 +9,6 @@ mod laws;
 mod status;
 mod write;
 
-pub use connections::serve_on;
+pub use connections::{serve_on, serve_on_within};
 pub use exchange::serve_one;
 pub use laws::answers_are_owed;

@@ -8,7 +8,7 @@ use Rattle.std.specs.Io.KnownBytes.{Appends}
 use Rattle.std.proofs.KnownBytes.{Appends-trans}
 use Rattle.upd_io.specs.Fronts.{AppendsFront}
 
--- what was done goes on by what was taken of the rest
+-- what was written is extended by what was taken of the rest
 pub front_further : (all done rest : List ℕ) (n : ℕ) → all ≡ done ++ rest → all ≡ (done ++ take n rest) ++ take (length rest - n) (drop n rest)
 front_further all done rest n e =
     e ∙ ap (λ l. done ++ l) (sym (take-append-drop n rest)) ∙ sym (append_assoc done (take n rest) (drop n rest))
@@ -20,7 +20,7 @@ front_all old new bytes appended = (bytes, [], sym (append-nil bytes), appended)
 pub front_same : (old new : Option (List ℕ)) (bytes same : List ℕ) → bytes ≡ same → AppendsFront old new bytes → AppendsFront old new same
 front_same old new bytes same is (front, rest, split, appended) = (front, rest, sym is ∙ split, appended)
 
--- a beginning of one part, behind the parts before it
+-- a prefix of one part, after the parts before it
 pub front_of_parts : (old mid new : Option (List ℕ)) (parts : List (Bor (List ℕ))) (i : ℕ) (d : Bor (List ℕ)) → i < length parts
     → Appends old mid (flat_map (λ part. part.now) (take i parts)) → AppendsFront mid new (get_or parts i d).now
     → AppendsFront old new (flat_map (λ part. part.now) parts)

@@ -4,7 +4,7 @@ use Rattle.std.specs.List.{list_all}
 use Rattle.upd_text.specs.Names.{is_between, is_digit, number_behind}
 use Rattle.upd_io.specs.declared.numbers.TheConstants.{MAX_DIGITS}
 
--- 1 to 9 digits without a leading zero, or `0`
+-- `0`, or 1 to 9 digits without a leading zero
 abbrev pub is_number : List ℕ → Bool
 is_number digits =
     is_between 1 MAX_DIGITS (length digits) && list_all is_digit digits && (not (slice_index digits 0 == 48) || (length digits == 1))

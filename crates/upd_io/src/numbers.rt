@@ -1,4 +1,4 @@
-//! Numbers as sites and clients write them: 1 to 9 digits without a leading zero, or `0` alone.
+//! Numbers as sites and clients write them: `0`, or 1 to 9 digits without a leading zero.
 ghost use Rattle.std.specs.Prelude.{◌≡◌, ◌≤◌, length, true};
 ghost use Rattle.std.specs.List.{list_all};
 ghost use Rattle.upd_io.specs.Numbers.{is_number, number_of};
@@ -9,7 +9,7 @@ use upd_text::all_digits;
 /// The most digits of a number.
 pub const MAX_DIGITS: usize = 9;
 
-/// The number that digits spell, if they are one to nine, without a 0 in front of others.
+/// The number that digits spell, if there are one to nine and no 0 precedes others.
 pub fn read_number(digits: &[u8]) -> Option<u32>
     ensures { result ≡ number_of digits.now }
 {
@@ -29,7 +29,7 @@ fn is_number(digits: &[u8]) -> bool
         && (digits[0] != b'0' || digits.len() == 1)
 }
 
-/// The number that digits spell. It fits: there are 9 of them at most.
+/// The number that digits spell. It fits, since there are at most 9 of them.
 fn value_of(digits: &[u8]) -> u32
     requires short { length digits.now ≤ MAX_DIGITS }
     requires digits { list_all is_digit digits.now ≡ true }

@@ -7,7 +7,7 @@ ghost use Rattle.upd_io.specs.Fronts.{AppendsFront};
 use std::io;
 use std::io::{ErrorKind, Write};
 
-/// Writes all parts, one after the other, and flushes. An error leaves at most a beginning of them.
+/// Writes all parts, one after the other, and flushes. After an error the output has at most a prefix of them.
 pub fn write_parts<W: Write>(writer: &mut W, parts: &[&[u8]]) -> io::Result<()>
     ensures ok { OnOk result (Appends (W.contents writer.old) (W.contents writer.new)
         (flat_map (λ part. part.now) parts.now)) }
@@ -20,8 +20,8 @@ pub fn write_parts<W: Write>(writer: &mut W, parts: &[&[u8]]) -> io::Result<()>
     writer.flush()
 }
 
-/// Writes all bytes. An error leaves at most a beginning of them. Unlike std's `write_all` it doesn't try again after
-/// Interrupted: that call says nothing of what an error leaves.
+/// Writes all bytes. After an error the output has at most a prefix of them. Unlike std's `write_all` it does not retry
+/// after Interrupted.
 fn write_part<W: Write>(writer: &mut W, bytes: &[u8]) -> io::Result<()>
     ensures ok { OnOk result (Appends (W.contents writer.old) (W.contents writer.new) bytes.now) }
     ensures front { AppendsFront (W.contents writer.old) (W.contents writer.new) bytes.now }

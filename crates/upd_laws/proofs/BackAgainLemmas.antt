@@ -9,7 +9,7 @@ use Rattle.upd_core.specs.declared.ident.Ident.{Ident}
 use Rattle.upd_core.specs.Edits.{next_age, purged_back, unheld}
 use Rattle.upd_core.specs.Library.{CardView, DeckView, LibraryView, held_named}
 use Rattle.upd_core.specs.Status.{status_of}
-use Rattle.upd_laws.specs.PurgingBack.{GoesOn, AreAmong, Ended, Kept, Come, DecksGoOn, IsAgain}
+use Rattle.upd_laws.specs.PurgingBack.{GoesOn, AreAmong, Ended, Kept, Come, DecksGoOn, IsNewDeck, IsAgain}
 use Rattle.upd_laws.proofs.BackGrowthLemmas.{all_weaker}
 use Rattle.upd_laws.proofs.BackLibraryLemmas.{Within, Grows}
 use Rattle.upd_laws.proofs.BackOldLemmas.{IsOld, ages_below}
@@ -64,7 +64,7 @@ same_deck : (d e : DeckView) → e.ident ≡ d.ident → e.cards ≡ d.cards →
 same_deck d e p q = λ t. record { ident = p t; cards = q t }
 
 same_decks : (P : ℕ → Type 0) → ((z : ℕ) → P z → ⊥) → (ds es : List DeckView) → DecksGoOn P ds es → es ≡ ds
-same_decks P none [] es g = nothing _ (λ d. none d.ident) es g
+same_decks P none [] es g = nothing (IsNewDeck P) (λ d new. none d.ident new.0) es g
 same_decks P none (d ∷ ds) [] g = absurd g
 same_decks P none (d ∷ ds) (e ∷ es) g = cc (same_deck d e g.0 (same_cards P none g.1), same_decks P none ds es g.2)
 

@@ -10,7 +10,7 @@ use Rattle.upd_core.specs.First.{at_first}
 use Rattle.upd_core.specs.Library.{CardView, DeckView, is_deck}
 use Rattle.upd_core.specs.Sound.{AreAgedFrom}
 use Rattle.upd_laws.proofs.SoundListLemmas.{all_append}
-use Rattle.upd_laws.specs.PurgingBack.{GoesOn, AreAmong, Ended, Kept, Come, DecksGoOn}
+use Rattle.upd_laws.specs.PurgingBack.{GoesOn, AreAmong, Ended, Kept, Come, DecksGoOn, IsNewDeck}
 
 -- ---- what holds of all elements
 
@@ -85,7 +85,7 @@ among_twice P Q w r (Come m b s) = Come m b (among_twice P Q w r s)
 
 -- ---- decks
 
-pub decks_on : (P : ℕ → Type 0) (ds more : List DeckView) → AllByRecursion (λ d. P d.ident) more → DecksGoOn P ds (ds ++ more)
+pub decks_on : (P : ℕ → Type 0) (ds more : List DeckView) → AllByRecursion (IsNewDeck P) more → DecksGoOn P ds (ds ++ more)
 decks_on P [] more a = a
 decks_on P (d ∷ ds) more a = (refl, among P d.cards, decks_on P ds more a)
 
@@ -106,11 +106,18 @@ decks_at_first P change r k (d ∷ ds) = here_or (decks_at_first P change r k ds
     here_or later true = (refl, r d.cards, decks P ds)
     here_or later false = (refl, among P d.cards, later)
 
-decks_newer : (P Q : ℕ → Type 0) → ((z : ℕ) → P z → Q z) → (ds es : List DeckView) → AllByRecursion (λ d. P d.ident) ds → DecksGoOn Q ds es
-    → AllByRecursion (λ d. Q d.ident) es
+-- cards among new ones are new where they were new before
+cards_newer : (P Q : ℕ → Type 0) → ((z : ℕ) → P z → Q z) → {cs ds : List CardView} → AllByRecursion (λ c. P c.ident) cs → AreAmong Q cs ds
+    → AllByRecursion (λ c. Q c.ident) ds
+cards_newer P Q w a Ended = tt
+cards_newer P Q w a (Kept h r) = (rw h.2 (w _ a.0), cards_newer P Q w a.1 r)
+cards_newer P Q w a (Come n b r) = (n, cards_newer P Q w a r)
+
+decks_newer : (P Q : ℕ → Type 0) → ((z : ℕ) → P z → Q z) → (ds es : List DeckView) → AllByRecursion (IsNewDeck P) ds → DecksGoOn Q ds es
+    → AllByRecursion (IsNewDeck Q) es
 decks_newer P Q w [] es a g = g
 decks_newer P Q w (d ∷ ds) [] a g = absurd g
-decks_newer P Q w (d ∷ ds) (e ∷ es) a g = (rw g.0 (w _ a.0), decks_newer P Q w ds es a.1 g.2)
+decks_newer P Q w (d ∷ ds) (e ∷ es) a g = ((rw g.0 (w _ a.0.0), cards_newer P Q w a.0.1 g.1), decks_newer P Q w ds es a.1 g.2)
 
 pub decks_twice : (P Q : ℕ → Type 0) → ((z : ℕ) → P z → Q z) → (cs ds es : List DeckView) → DecksGoOn P cs ds → DecksGoOn Q ds es → DecksGoOn Q cs es
 decks_twice P Q w [] ds es g h = decks_newer P Q w ds es g h

@@ -10,7 +10,7 @@ use Rattle.upd_core.specs.Edits.{introduced, next_age, new_card, with_deck, with
 use Rattle.upd_core.specs.First.{at_first}
 use Rattle.upd_core.specs.Library.{CardView, DeckView, LibraryView, with_cards, is_deck}
 use Rattle.upd_core.specs.Sound.{AreAgedFrom}
-use Rattle.upd_laws.specs.PurgingBack.{AreAmong, DecksGoOn, Ended, Come}
+use Rattle.upd_laws.specs.PurgingBack.{AreAmong, DecksGoOn, IsNewDeck, Ended, Come}
 use Rattle.upd_laws.proofs.BackGrowthLemmas.{aged_append, among, among_append, among_twice, among_insert, among_range, decks, decks_on, decks_at_first}
 use Rattle.upd_laws.proofs.BackGrowthLemmas.{decks_twice}
 
@@ -109,5 +109,5 @@ grows_ident x l name sort noprop = record {
 }
 
 -- a deck
-pub grows_deck : (x : ℕ) (l : LibraryView) (d : DeckView) → Within x (length l.idents) d.ident → Grows x l (with_deck d l)
+pub grows_deck : (x : ℕ) (l : LibraryView) (d : DeckView) → IsNewDeck (Within x (length l.idents)) d → Grows x l (with_deck d l)
 grows_deck x l d w = grows_by x l _ l.yanks (decks_on _ l.decks (d ∷ []) (w, tt)) (among _ l.yanks)

@@ -8,7 +8,7 @@ use Rattle.upd_core.specs.declared.card.Entry.{Entry}
 use Rattle.upd_core.specs.declared.ident.Ident.{Ident}
 use Rattle.upd_core.specs.Edits.{without_entries, without_idents, decks_without, unheld}
 use Rattle.upd_core.specs.Library.{CardView, DeckView}
-use Rattle.upd_laws.specs.PurgingBack.{GoesOn, AreAmong, Ended, Kept, Come, DecksGoOn}
+use Rattle.upd_laws.specs.PurgingBack.{GoesOn, AreAmong, Ended, Kept, Come, DecksGoOn, IsNewDeck}
 use Rattle.upd_laws.proofs.BackLibraryLemmas.{Within}
 
 -- ---- what is older than x
@@ -50,9 +50,9 @@ cards_back x n old (Come {d = d} new all r) = rw (le-leb x d.ident new.0) (cards
 deck_is : (i : ℕ) (cs : List CardView) (d : DeckView) → i ≡ d.ident → cs ≡ d.cards → ◌≡◌ {A = DeckView} (record { ident = i; cards = cs }) d
 deck_is i cs d p q = λ t. record { ident = p t; cards = q t }
 
-decks_gone : (x n : ℕ) (es : List DeckView) → AllByRecursion (λ d. Within x n d.ident) es → decks_without (nat_le x) es ≡ []
+decks_gone : (x n : ℕ) (es : List DeckView) → AllByRecursion (IsNewDeck (Within x n)) es → decks_without (nat_le x) es ≡ []
 decks_gone x n [] a = refl
-decks_gone x n (e ∷ es) a = rw (le-leb x e.ident a.0.0) (decks_gone x n es a.1)
+decks_gone x n (e ∷ es) a = rw (le-leb x e.ident a.0.0.0) (decks_gone x n es a.1)
 
 pub decks_back : (x n : ℕ) (ds es : List DeckView) → AllByRecursion (IsOldDeck x) ds → DecksGoOn (Within x n) ds es → decks_without (nat_le x) es ≡ ds
 decks_back x n [] es old g = decks_gone x n es g

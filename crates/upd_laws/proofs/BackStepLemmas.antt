@@ -77,7 +77,7 @@ deck_begun_next x name sort noprop text s r =
     let more : length l.idents ≡ z = length-introduced s.library name sort noprop in
     let new : Within x (length l.idents) z = (r.from, omega arith) in
     after_any _ (new_name name s.library) _ (λ _. after_grown _ (with_deck d l) _ (record {
-      library = grows_twice x s.library l (with_deck d l) (grows_ident x s.library name sort noprop) (grows_deck x l d new);
+      library = grows_twice x s.library l (with_deck d l) (grows_ident x s.library name sort noprop) (grows_deck x l d (new, (new, tt)));
       ready = record { from = omega (arith, r.from); current_set = hand_later x _ _ (omega arith) s.current_set r.current_set; insert_point = new };
     }))
 
@@ -138,7 +138,7 @@ yank_put_next x text targets s r =
 
 -- ---- lines
 
-done_next : (x : ℕ) (item : ItemView) (text : List ℕ) (s : State) → Ready x s → is_purge item ≡ false → IfOk (line_done item text s) (Next x s)
+pub done_next : (x : ℕ) (item : ItemView) (text : List ℕ) (s : State) → Ready x s → is_purge item ≡ false → IfOk (line_done item text s) (Next x s)
 done_next x Text text s r no_purge = text_put_next x text s r s.insert_point r.insert_point
 done_next x (Call name) text s r no_purge = text_put_next x text s r s.insert_point r.insert_point
 done_next x (Ident name) text s r no_purge = set_begun_next x name s r

@@ -15,6 +15,7 @@ pub mod SoundOutcomeLemmas
 pub mod SoundRunLemmas
 pub mod SoundStepLemmas
 pub mod SoundYankLemmas
+pub mod KeptCardLemmas
 pub mod ReadLineLemmas
 pub mod ReadRunLemmas
 pub mod CompileLineLemmas

@@ -5,7 +5,7 @@ use Rattle.std.proofs.lemmas.Bool.{ne_eqb, or_cases, or_left, or_right}
 use Rattle.std.proofs.lemmas.List.{take-append-drop}
 use Rattle.std.specs.Prelude.{Some, ◌==◌, ◌⊎◌, insert, IsTrue}
 use Rattle.std.specs.Option.{option_map_or}
-use Rattle.std.specs.List.{list_any, find, filter, flat_map, AllByRecursion, AllZip}
+use Rattle.std.specs.List.{list_any, find, filter, AllByRecursion, AllZip}
 use Rattle.upd_core.specs.declared.card.Entry.{Entry}
 use Rattle.upd_core.specs.declared.ident.Ident.{Ident}
 use Rattle.upd_core.specs.Edits.{unheld, entered, without_entries, without_idents, deck_without, decks_without, purged, with_card, with_deck, with_yank}

@@ -1,26 +1,28 @@
 -- Lines and runs keep what is sound, extend the directory, and stay within the limits.
 use Rattle.std.proofs.Common.{◌≡◌, ℕ, ◌+◌, true, false, List, [], ◌∷◌, refl, ◌∙◌, subst}
-use Rattle.std.specs.Prelude.{Some, Result, Ok, Err, nat_le}
+use Rattle.std.specs.Prelude.{◌==◌, Bool, Option, Some, None, is_some, if◌then◌else◌, Result, Ok, Err, nat_le}
 use Rattle.upd_text.specs.declared.fault.Fault.{Fault}
 use Rattle.upd_text.specs.declared.fault.FaultKind.{FaultKind}
+use Rattle.upd_text.specs.declared.fault.FaultKind.TheVariants as fault
 use Rattle.upd_core.specs.declared.ident.Kind.TheVariants as kind
-use Rattle.upd_core.specs.Edits.{purged, purged_back, is_among}
+use Rattle.upd_core.specs.Edits.{purged, purged_back, is_among, new_card, with_card}
 use Rattle.upd_core.specs.Library.{LibraryView, empty}
 use Rattle.upd_core.specs.Limits.{is_within_limits}
-use Rattle.upd_text.specs.Outcome.{at_line}
+use Rattle.upd_text.specs.Outcome.{◌>>=◌, at_line, need, refuse_if}
 use Rattle.upd_core.specs.Sound.{IsSound, IsWhole, Continues}
 use Rattle.upd_deck.specs.Items.{ItemView, LineView, Text, Call, Ident, Deck, CommonDeck, Insert, Before, Delete, Restore, Yank, SelYank, YankDeck, Purge}
 use Rattle.upd_deck.specs.Items.{PurgeFrom, SelPurge, PurDeck, Compile}
 use Rattle.upd_apply.specs.declared.CurrentSet.{CurrentSet}
-use Rattle.upd_apply.specs.declared.state.InsertPoint.TheVariants.{End}
+use Rattle.upd_apply.specs.declared.state.InsertPoint.{InsertPoint}
+use Rattle.upd_apply.specs.declared.state.InsertPoint.TheVariants.{Nowhere, End, Inside}
 use Rattle.upd_apply.specs.declared.state.State.{State}
 use Rattle.upd_apply.specs.Applying.{Reached, applied, started, stepped}
 use Rattle.upd_apply.specs.Compile.{named_decks}
-use Rattle.upd_apply.specs.Step.{line_done, step, purged_in_all}
+use Rattle.upd_apply.specs.Step.{line_done, step, text_put, within_limits, purged_in_all}
 use Rattle.upd_apply.specs.Names.{known_ident}
 use Rattle.upd_apply.specs.Yanks.{sets_yanked, pairs_yanked, decks_yanked}
 use Rattle.upd_apply.specs.Purges.{idents_purged, decks_purged, pairs_purged}
-use Rattle.upd_laws.specs.Soundness.{count_of, IsCurrentSet, IsHandSound, IsAtEnd, IsSpotSound, IsSoundState, after_run, after_runs}
+use Rattle.upd_laws.specs.Soundness.{count_of, IsCurrentSet, IsHandSound, IsAtEnd, IsInside, IsSpotSound, IsSoundState, after_run, after_runs}
 use Rattle.upd_laws.proofs.SoundOutcomeLemmas.{through, holds_of}
 use Rattle.upd_laws.proofs.SoundIdentLemmas.{continues_same, continues_on}
 use Rattle.upd_laws.proofs.SoundYankLemmas.{sets_are, pairs_are, decks_are}
@@ -171,3 +173,55 @@ end_counted lines l s d n sound h e =
     let state = steps_sound lines (started l) s (started_sound l sound) h in
     let at : IsAtEnd d n s.current_set s.library = subst (λ insert_point. IsSpotSound insert_point s.current_set s.library) e state.insert_point in
     at.next.counted
+
+-- ---- the place of text
+
+some_there : {A : Type 0} (o : Option A) → is_some o ≡ true → (x : A) × (o ≡ Some x)
+some_there (Some x) e = (x, refl)
+some_there None e = absurd (cc)
+
+-- text that grows a library is refused for its size only
+not_placeless : (l : LibraryView) (f : LibraryView → State) → within_limits l >>= (λ m. Ok (f m)) ≡ Err fault.TextNowhere → ⊥
+not_placeless l f = go (is_within_limits l)
+  where
+    go : (b : Bool) → (if b then Ok l else Err fault.Full) >>= (λ m. Ok (f m)) ≡ Err fault.TextNowhere → ⊥
+    go true e = absurd (cc)
+    go false e = absurd (cc)
+
+-- inside a deck a set is in hand
+inside_in_hand : (s : State) (d after : ℕ) → IsSoundState s → s.insert_point ≡ Inside d after → (h : CurrentSet) × (s.current_set ≡ Some h)
+inside_in_hand s d after state e =
+    let at : IsInside d after s.current_set s.library = subst (λ point. IsSpotSound point s.current_set s.library) e state.insert_point in
+    some_there s.current_set at.in_hand
+
+pub place_in_hand : (lines : List LineView) (l : LibraryView) (s : State) (d after : ℕ) → IsSound l → stepped lines (started l) ≡ Ok s
+    → s.insert_point ≡ Inside d after → (h : CurrentSet) × (s.current_set ≡ Some h)
+place_in_hand lines l s d after sound h e = inside_in_hand s d after (steps_sound lines (started l) s (started_sound l sound) h) e
+
+-- text has no place only where there is none
+placeless : (text : List ℕ) (s : State) (point : InsertPoint) → s.insert_point ≡ point → IsSoundState s → text_put text point s ≡ Err fault.TextNowhere
+    → point ≡ Nowhere
+placeless text s Nowhere e sound refused = refl
+placeless text s (End d n) e sound refused =
+    absurd (not_placeless (with_card d 0 (new_card d n text []) s.library) (λ m. record s { library = m; insert_point = End d (n + 1) }) refused)
+placeless text s (Inside d after) e sound refused = absurd (by (inside_in_hand s d after sound e))
+  where
+    by : (h : CurrentSet) × (s.current_set ≡ Some h) → ⊥
+    by (h, hand) = no_yanks (d == 0) (subst (λ o. need fault.TextNowhere o >>= put ≡ Err fault.TextNowhere) hand refused)
+      where
+        grown : LibraryView
+        grown = with_card d after (new_card h.ident h.next text []) s.library
+
+        put : CurrentSet → Result State FaultKind
+        put h = refuse_if (d == 0) fault.YankText >>= (λ _. within_limits (with_card d after (new_card h.ident h.next text []) s.library)
+            >>= (λ m. Ok (record s { library = m; current_set = Some (record { ident = h.ident; next = h.next + 1 }) })))
+
+        no_yanks : (b : Bool) → refuse_if b fault.YankText >>= (λ _. within_limits grown
+            >>= (λ m. Ok (record s { library = m; current_set = Some (record { ident = h.ident; next = h.next + 1 }) }))) ≡ Err fault.TextNowhere → ⊥
+        no_yanks true e = absurd (cc)
+        no_yanks false e = not_placeless grown (λ m. record s { library = m; current_set = Some (record { ident = h.ident; next = h.next + 1 }) }) e
+
+pub refused_nowhere : (lines : List LineView) (l : LibraryView) (s : State) (text : List ℕ) → IsSound l → stepped lines (started l) ≡ Ok s
+    → text_put text s.insert_point s ≡ Err fault.TextNowhere → s.insert_point ≡ Nowhere
+refused_nowhere lines l s text sound h refused =
+    placeless text s s.insert_point refl (steps_sound lines (started l) s (started_sound l sound) h) refused

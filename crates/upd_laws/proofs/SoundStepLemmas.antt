@@ -29,7 +29,7 @@ use Rattle.upd_apply.specs.Step.{new_name, set_begun, deck_begun, behind, is_dec
 use Rattle.upd_apply.specs.Step.{purged_in_all}
 use Rattle.upd_apply.specs.Names.{is_reserved, known_deck, known_ident}
 use Rattle.upd_apply.specs.Purges.{AgesIn, pair_ages, pairs_purged}
-use Rattle.upd_laws.specs.Soundness.{IsNext, IsCurrentSet, IsHandSound, IsAtEnd, IsSpotSound, IsSoundState}
+use Rattle.upd_laws.specs.Soundness.{IsNext, IsCurrentSet, IsHandSound, IsAtEnd, IsInside, IsSpotSound, IsSoundState}
 use Rattle.upd_laws.proofs.SoundOutcomeLemmas.{each_all, through, through_need, through_refusal, through_grown, holds_of}
 use Rattle.upd_laws.proofs.SoundListLemmas.{same_number, is_same_number, other_number, any_last, all_append, all_weaker, HasMore, zip_all, zip_length}
 use Rattle.upd_laws.proofs.SoundIdentLemmas.{held_within, held_more, held_last, held_deck_last, held_deck_held, not_some}
@@ -167,7 +167,10 @@ after_sound card s t sound h =
     holds_of IsSoundState _ t h3 (record {
       library = sound.library;
       current_set = sound.current_set;
-      insert_point = inr (behind_within (length (cards_of p.deck s.library)) p.index (place_within card s.library p sound.library f));
+      insert_point = record {
+        in_hand = ap is_some e;
+        within = inr (behind_within (length (cards_of p.deck s.library)) p.index (place_within card s.library p sound.library f));
+      };
     }))))
 
 pub before_sound : (card : CardRef) (s t : State) → IsSoundState s → placed_before card s ≡ Ok t → IsSoundState t
@@ -180,7 +183,7 @@ before_sound card s t sound h =
     holds_of IsSoundState _ t h4 (record {
       library = sound.library;
       current_set = sound.current_set;
-      insert_point = inr (up (length (cards_of p.deck s.library)) p.index within (later p g k));
+      insert_point = record { in_hand = ap is_some e; within = inr (up (length (cards_of p.deck s.library)) p.index within (later p g k)) };
     })))))
   where
     later : (p : Place) → (p.deck == 0) ≡ false → is_deck_card p ≡ false → 0 < p.index
@@ -234,7 +237,7 @@ switched_sound active first last s t sound h =
                 (λ x y r h. rw (same_ident entry x y r) h) (some s.library.yanks) was.youngest) was.youngest;
             next = next_entered current_set.ident current_set.next entry s.library l (zip_with_entries p.deck p.index q.index entry s.library order) was.next;
           });
-          insert_point = inr (subst (λ d. behind q s.library < length (cards_of d l)) deck same_deck);
+          insert_point = record { in_hand = ap is_some e; within = inr (subst (λ d. behind q s.library < length (cards_of d l)) deck same_deck) };
         }
       where
         entry : Entry
@@ -336,7 +339,8 @@ inside_sound text d after s t sound insert_point place h =
         record {
           library = card_sound d after c l sound.library stands_there other (next_new current_set.ident current_set.next text [] l was.held was.next) refl (inr inside);
           current_set = hand_card d after c l current_set (current_set.next + 1) other was (next_own current_set.ident current_set.next c l m more refl refl was.next);
-          insert_point = subst (λ insert_point. IsSpotSound insert_point (Some (record { ident = current_set.ident; next = current_set.next + 1 })) m) (sym insert_point) (inr longer);
+          insert_point = subst (λ insert_point. IsSpotSound insert_point (Some (record { ident = current_set.ident; next = current_set.next + 1 })) m) (sym insert_point)
+              (record { in_hand = refl; within = inr longer });
         }
       where
         c : CardView
@@ -358,7 +362,9 @@ inside_sound text d after s t sound insert_point place h =
 text_sound : (text : List ℕ) (s t : State) (insert_point : InsertPoint) → s.insert_point ≡ insert_point → IsSoundState s → text_put text insert_point s ≡ Ok t → IsSoundState t
 text_sound text s t Nowhere e sound h = absurd (cc)
 text_sound text s t (End d n) e sound h = end_sound text d n s t sound (subst (λ insert_point. IsSpotSound insert_point s.current_set s.library) e sound.insert_point) h
-text_sound text s t (Inside d after) e sound h = inside_sound text d after s t sound e (subst (λ insert_point. IsSpotSound insert_point s.current_set s.library) e sound.insert_point) h
+text_sound text s t (Inside d after) e sound h =
+    let at : IsInside d after s.current_set s.library = subst (λ insert_point. IsSpotSound insert_point s.current_set s.library) e sound.insert_point in
+    inside_sound text d after s t sound e at.within h
 
 pub put_sound : (text : List ℕ) (s t : State) → IsSoundState s → text_put text s.insert_point s ≡ Ok t → IsSoundState t
 put_sound text s t sound h = text_sound text s t s.insert_point refl sound h

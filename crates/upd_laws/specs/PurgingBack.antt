@@ -53,9 +53,13 @@ pub data AreAmong (IsNew : ℕ → Type 0) : List CardView → List CardView →
   Come : {d : CardView} {cs ds : List CardView}
       → IsNew d.ident → AllByRecursion (λ e. IsNew e.ident) d.history → AreAmong IsNew cs ds → AreAmong IsNew cs (d ∷ ds)
 
+-- a new deck: it is of a new ident, and so are its cards
+abbrev pub IsNewDeck : (ℕ → Type 0) → DeckView → Type 0
+IsNewDeck IsNew d = IsNew d.ident × AllByRecursion (λ c. IsNew c.ident) d.cards
+
 -- decks are first, in order, each with its cards among the later ones; new decks follow
 abbrev pub DecksGoOn : (ℕ → Type 0) → List DeckView → List DeckView → Type 0
-DecksGoOn IsNew [] later = AllByRecursion (λ d. IsNew d.ident) later
+DecksGoOn IsNew [] later = AllByRecursion (IsNewDeck IsNew) later
 DecksGoOn IsNew (d ∷ decks) [] = ⊥
 DecksGoOn IsNew (d ∷ decks) (e ∷ later) = (e.ident ≡ d.ident) × AreAmong IsNew d.cards e.cards × DecksGoOn IsNew decks later
 

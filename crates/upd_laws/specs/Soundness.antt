@@ -1,5 +1,5 @@
 -- The invariant of the states within a run, and the libraries that runs reach.
-use Rattle.std.specs.Prelude.{◌≡◌, ℕ, ◌+◌, ◌<◌, ◌≤◌, ◌==◌, ◌⊎◌, IsTrue, List, [], ◌∷◌, length, count_by, Option, Some, None, Result, Ok, Err}
+use Rattle.std.specs.Prelude.{◌≡◌, ℕ, ◌+◌, ◌<◌, ◌≤◌, ◌==◌, ◌⊎◌, IsTrue, List, [], ◌∷◌, length, count_by, Option, Some, None, is_some, Result, Ok, Err}
 use Rattle.std.specs.Option.{IfSome}
 use Rattle.std.specs.List.{AllByRecursion}
 use Rattle.upd_text.specs.declared.fault.Fault.{Fault}
@@ -41,11 +41,16 @@ pub record IsAtEnd (d n : ℕ) (current_set : Option CurrentSet) (l : LibraryVie
   pub next : IsNext d n l
   pub other : IfSome current_set (λ h. h.ident ≡ d → ⊥)
 
--- The insertion point is sound: inside a deck it is never before the first card.
+-- An insertion point inside a deck: never before its first card, and there is a current set for the text.
+pub record IsInside (d after : ℕ) (current_set : Option CurrentSet) (l : LibraryView) : Type 0 where
+  pub in_hand : IsTrue (is_some current_set)
+  pub within : (d ≡ 0) ⊎ (after < length (cards_of d l))
+
+-- the insertion point is sound
 abbrev pub IsSpotSound : InsertPoint → Option CurrentSet → LibraryView → Type 0
 IsSpotSound Nowhere current_set l = Unit {0}
 IsSpotSound (End d next) current_set l = IsAtEnd d next current_set l
-IsSpotSound (Inside d behind) current_set l = (d ≡ 0) ⊎ (behind < length (cards_of d l))
+IsSpotSound (Inside d after) current_set l = IsInside d after current_set l
 
 -- the invariant of a state within a run
 pub record IsSoundState (s : State) : Type 0 where

@@ -1,14 +1,18 @@
 //! The invariant of libraries, and of the states within a run.
-ghost use Rattle.std.specs.Prelude.{◌≡◌, ℕ, Bool, IsTrue, List, Ok};
+ghost use Rattle.std.specs.Prelude.{◌≡◌, ℕ, Bool, IsTrue, List, Some, Ok, Err};
 ghost use Rattle.upd_core.specs.Edits.{purged};
 ghost use Rattle.upd_core.specs.Library.{LibraryView, empty};
 ghost use Rattle.upd_core.specs.Limits.{is_within_limits};
 ghost use Rattle.upd_core.specs.Sound.{Continues, IsSound, IsWhole};
 ghost use Rattle.upd_core.specs.Status.{IsAged};
 ghost use Rattle.upd_deck.specs.Items.{LineView};
+ghost use Rattle.upd_text.specs.declared.fault.FaultKind.TheVariants as fault;
+ghost use Rattle.upd_apply.specs.declared.CurrentSet.{CurrentSet};
+ghost use Rattle.upd_apply.specs.declared.state.InsertPoint.TheVariants.{Nowhere, Inside};
 ghost use Rattle.upd_apply.specs.declared.state.State.{State};
 ghost use Rattle.upd_apply.specs.Applying.{Reached, applied, started, stepped};
-ghost use Rattle.upd_apply.specs.Step.{step};
+ghost use Rattle.upd_apply.specs.Step.{step, text_put};
+ghost use Rattle.upd_laws.specs.KeptCards.{KeepsCards};
 ghost use Rattle.upd_laws.specs.Soundness.{after_runs, IsSoundState};
 
 /// Each line keeps a state sound. The state before the first line is sound where its library is.
@@ -18,6 +22,16 @@ pub fn lines_keep_states_sound()
     ensures all { (lines : List LineView) (s t : State) → IsSoundState s → stepped lines s ≡ Ok t → IsSoundState t }
 {}
 
+/// In a run, text inside a deck has a set in hand, and is refused as TextNowhere only where there is no insert point.
+pub fn text_inside_has_a_set_in_hand()
+    ensures in_hand { (lines : List LineView) (l : LibraryView) (s : State) (d after : ℕ) → IsSound l
+        → stepped lines (started l) ≡ Ok s
+        → s.insert_point ≡ Inside d after → (h : CurrentSet) × (s.current_set ≡ Some h) }
+    ensures nowhere { (lines : List LineView) (l : LibraryView) (s : State) (text : List ℕ) → IsSound l
+        → stepped lines (started l) ≡ Ok s
+        → text_put text s.insert_point s ≡ Err fault.TextNowhere → s.insert_point ≡ Nowhere }
+{}
+
 /// A run keeps a sound library sound, and so does a purge of any idents. A whole library stays whole.
 pub fn runs_keep_libraries_sound()
     ensures run { (lines : List LineView) (l : LibraryView) (r : Reached) → IsSound l → applied lines l ≡ Ok r
@@ -25,6 +39,13 @@ pub fn runs_keep_libraries_sound()
     ensures whole { (lines : List LineView) (l : LibraryView) (r : Reached) → IsWhole l → applied lines l ≡ Ok r
         → IsWhole r.library }
     ensures purge { (gone : ℕ → Bool) (l : LibraryView) → IsSound l → IsSound (purged gone l) }
+{}
+
+/// In each deck a run leaves the cards that it had, in their order and with their texts and targets, but for all cards of
+/// some idents, those that it purged there; every other card of the deck is of a new ident.
+pub fn old_cards_keep_their_order()
+    ensures { (lines : List LineView) (l : LibraryView) (r : Reached) (d : ℕ) → applied lines l ≡ Ok r
+        → KeepsCards l r.library d }
 {}
 
 /// Each library that runs can reach is sound, so its yank cards are in order of serial.

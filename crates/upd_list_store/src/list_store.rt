@@ -11,7 +11,7 @@ use upd_records::{RunRow, copy_run};
 use upd_row_store::{Meaning, RowStore, reads_with};
 use upd_text::Fault;
 
-/// Tables that are lists. Nothing but want of memory fails here.
+/// Tables that are lists. Only out of memory can occur.
 #[derive(Debug, Drop)]
 pub struct ListStore {
     pub(crate) tables: ListTables,
@@ -20,7 +20,7 @@ pub struct ListStore {
 }
 
 impl ListStore {
-    /// Tables with no rows: they show the empty library, and keep no run. It takes no memory.
+    /// Tables with no rows: they show the empty library, and keep no run. It does not allocate.
     pub fn new(alloc: Global) -> ListStore
         ensures { result ≡ record {
           tables = record {

@@ -23,8 +23,8 @@ use upd_records::{
     CardRow, CountRow, EntryRow, LibraryRows, MarkRow, RunRow, StateRow, TargetRow, copy_run,
 };
 use upd_row_store::{
-    ages_of_decks, assembled, assembled_active, assembled_part, card_set, decks_by_age,
-    keep_states, states_by_key,
+    ages_of_decks, assembled, assembled_active, assembled_part, decks_by_age, states_among,
+    states_by_key,
 };
 
 /// The tables as lists.
@@ -56,7 +56,7 @@ impl Model for ListTables {
 }
 
 impl ListTables {
-    /// Tables with no rows: they show the empty library, and keep no run. It takes no memory.
+    /// Tables with no rows: they show the empty library, and keep no run. It does not allocate.
     pub fn new(alloc: Global) -> ListTables
         ensures { result ≡ record {
           idents = [];
@@ -174,15 +174,13 @@ impl ListTables {
         Ok(states_by_key(States { states, counts }))
     }
 
-    /// The statuses of those of these cards that have one, and all counts, by their keys; memory alone can fail.
+    /// The statuses of those of these cards that have one, and all counts, by their keys; only memory can run out.
     pub(crate) fn states_of(&self, alloc: Global, cards: &[CardRef]) -> Result<States, AllocError>
         ensures read { IfOk result (λ found. AreReadOf cards.now self.now found) }
         ensures order { IfOk result AreByKey }
     {
-        let mut states = state_pairs(alloc, &self.states)?;
-        keep_states(&mut states, &card_set(alloc, cards)?);
-        let counts = count_pairs(alloc, &self.counts)?;
-        Ok(states_by_key(States { states, counts }))
+        let states = self.all_states(alloc)?;
+        states_among(alloc, states, cards)
     }
 
     /// The decks other than `YANK$$$` that hold one of these cards; memory alone can fail.

@@ -22,8 +22,9 @@ use Rattle.upd_sqlite.proofs.Tests.{eq_text, one_test}
 use Rattle.upd_sql.specs.Encoded.{stored, version_row}
 use Rattle.upd_sql.specs.Making.{schema_up_to, MakesNext}
 use Rattle.upd_sql.specs.Schema.{library_schema, meta_columns}
-use Rattle.upd_sql.specs.Stands.{Stands}
+use Rattle.upd_sql.specs.LibraryTables.{HoldsTables}
 use Rattle.upd_sql.proofs.Typed.{changes}
+use Rattle.upd_migrate.specs.declared.completing.TheConstants.{SET_VERSION}
 use Rattle.upd_migrate.specs.declared.version.Version.{Version}
 use Rattle.upd_migrate.specs.Older.{HasTables, number_of}
 
@@ -36,7 +37,7 @@ next_made n sql m all old new count ran h =
     subst (λ s. HoldsAllRows s (all ++ [] ∷ []) new.now) m.next (creates (schema_up_to n) m.table old new all _ [] count m.defined m.lacks h w)
 
 abbrev pub set_version : List ℕ
-set_version = codes "UPDATE meta SET v = 3 WHERE k = 'version'"
+set_version = SET_VERSION.now
 
 abbrev set_tests : List Term
 set_tests = op2 (Compare Eq Binary) (col 1 1) (lit (Text (codes "version"))) ∷ []
@@ -53,16 +54,18 @@ set_version_plain : IsPlain (understood library_schema set_version)
 unfolding understood everything
 set_version_plain = (refl, refl)
 
--- the row that tells a version passes the test, whatever the version, and becomes that of the present schema
+-- the row of the version passes the test, whatever the version, and becomes that of the present schema
 version_becomes : (version : Version) → (if list_all (holds ([] ∷ (Null ∷ version_row (number_of version)) ∷ [])) set_tests
     then cast_all meta_columns (eval_all set_news ([] ∷ (Null ∷ version_row (number_of version)) ∷ [])) else version_row (number_of version)) ≡ version_row 3
 version_becomes version =
-    let named : list_all (holds ([] ∷ (Null ∷ version_row (number_of version)) ∷ [])) set_tests ≡ true = one_test (eq_text (codes "version") (codes "version")) in
-    ap (λ b. if b then cast_all meta_columns (Text (codes "version") ∷ Int (pos 3) ∷ []) else version_row (number_of version)) named ∙ (rw (cast_int (pos 3)) refl)
+    let named : list_all (holds ([] ∷ (Null ∷ version_row (number_of version)) ∷ [])) set_tests ≡ true = one_test (eq_text (codes "version") (codes "version"))
+    in
+    ap (λ b. if b then cast_all meta_columns (Text (codes "version") ∷ Int (pos 3) ∷ []) else version_row (number_of version)) named ∙
+    (rw (cast_int (pos 3)) refl)
 
 -- the version is set
 pub version_set : (version : Version) (it : Rows) (old new : State) (count : ℕ) → Executes set_version [] old new (Ok count) → HasTables version it old.now
-    → Stands it new.now
+    → HoldsTables it new.now
 version_set version it old new count ran h =
     changes 0 0 (codes "meta") meta_columns (1 ∷ []) refl refl (λ _ _. refl) (λ v. v) ((version_row (number_of version) ∷ []) ∷ drop 1 (stored it))
     (version_row (number_of version) ∷ []) refl set_version [] set_version_plain old new count ran h set_tests set_news set_version_is refl refl

@@ -16,44 +16,45 @@ use Rattle.upd_sqlite.specs.Stored.{HoldsAllRows}
 use Rattle.upd_sqlite.specs.Steps.{Makes}
 use Rattle.upd_sqlite.proofs.Chains.{clean_before, steps_then}
 use Rattle.upd_sql.specs.Commits.{Looks}
-use Rattle.upd_sql.specs.Making.{Leads}
-use Rattle.upd_sql.specs.Stands.{Stands}
-use Rattle.upd_sql.proofs.MakingLemmas.{leads_then}
+use Rattle.upd_sql.specs.Making.{Transforms}
+use Rattle.upd_sql.specs.LibraryTables.{HoldsTables}
+use Rattle.upd_sql.proofs.MakingLemmas.{transforms_then}
 use Rattle.upd_migrate.specs.declared.version.Version.TheVariants.{First}
-use Rattle.upd_migrate.specs.Migrated.{AreLibraryRows, IsFilled, IsMigrated, StandsAfter, completed}
+use Rattle.upd_migrate.specs.Migrated.{AreLibraryRows, IsFilled, IsMigrated, HoldsAfter, completed}
 use Rattle.upd_migrate.specs.Older.{schema_of, stored_in}
 use Rattle.upd_migrate.proofs.RowChanges.{all_else_stays}
 
--- what is read is told, and what is told is carried out
+-- changes are made from what is read, and carried out
 pub states_filled : (l library : LibraryView) (it : Rows) (cs : List ChangeView) (old mid new : State) (rows : LibraryRows) {X : Type 0} (r : Result X Error)
     → AreLibraryRows l it → Looks AreRowsOf old mid (Ok rows)
     → ((tables : Rows) (m : LibraryView) → IsSound m → IsWhole m → Shows tables m → AreRowsOf tables rows → library ≡ m)
     → (IsSound library → ShowsStates (done_all cs it) library) → AllByRecursion (λ c. row_changes_state c ≡ true) cs
-    → Makes Stands (AllFit cs) (done_all cs) mid new r → Leads (Stands it) (StandsAfter (IsFilled l it)) old new r
-states_filled l library it cs old mid new rows (Ok x) lib looks assembles tells only makes = record {
+    → Makes HoldsTables (AllFit cs) (done_all cs) mid new r → Transforms (HoldsTables it) (HoldsAfter (IsFilled l it)) old new r
+states_filled l library it cs old mid new rows (Ok x) lib looks assembles shows only makes = record {
   steps = steps_then old mid new rows (Ok x) looks.steps makes.steps;
-  led = λ clean inside h.
+  transformed = λ clean inside h.
       let early = clean_before mid new _ makes.steps.survives clean in
       let still = looks.same early h.schema_is in
       let is = assembles it l lib.sound lib.whole lib.shows (looks.found early it h) in
-      let shown = subst (ShowsStates (done_all cs it)) is (tells (subst IsSound (sym is) lib.sound)) in (
+      let shown = subst (ShowsStates (done_all cs it)) is (shows (subst IsSound (sym is) lib.sound)) in (
         done_all cs it,
         record { same = all_else_stays cs it only; states = shown },
-        makes.made clean (looks.steps.going early inside) it (states_fit cs it only) (subst (Stands it) (sym still) h),
+        makes.made clean (looks.steps.going early inside) it (states_fit cs it only) (subst (HoldsTables it) (sym still) h),
       );
 }
-states_filled l library it cs old mid new rows (Err e) lib looks assembles tells only makes = record {
+states_filled l library it cs old mid new rows (Err e) lib looks assembles shows only makes = record {
   steps = steps_then old mid new rows (Err e) looks.steps makes.steps;
-  led = λ clean. tt;
+  transformed = λ clean. tt;
 }
 
 -- a file of the first version is filled once it is completed
 pub first_filled : (l : LibraryView) (it : Rows) (old mid new : State) {X Y : Type 0} (x : X) (r : Result Y Error)
-    → Leads {X = X} (HoldsAllRows (schema_of First) (stored_in First it)) (Stands (completed First it)) old mid (Ok x)
-    → Leads (Stands (completed First it)) (StandsAfter (IsFilled l (completed First it))) mid new r
-    → Leads (HoldsAllRows (schema_of First) (stored_in First it)) (StandsAfter (IsMigrated First l it)) old new r
+    → Transforms {X = X} (HoldsAllRows (schema_of First) (stored_in First it)) (HoldsTables (completed First it)) old mid (Ok x)
+    → Transforms (HoldsTables (completed First it)) (HoldsAfter (IsFilled l (completed First it))) mid new r
+    → Transforms (HoldsAllRows (schema_of First) (stored_in First it)) (HoldsAfter (IsMigrated First l it)) old new r
 first_filled l it old mid new x r complete fill =
-    leads_then (HoldsAllRows (schema_of First) (stored_in First it)) (Stands (completed First it)) (StandsAfter (IsMigrated First l it)) old mid new x r complete fill
+    transforms_then (HoldsAllRows (schema_of First) (stored_in First it)) (HoldsTables (completed First it)) (HoldsAfter (IsMigrated First l it))
+    old mid new x r complete fill
 
 -- rows of a library, without statuses, counts and settled marks
 pub bare_rows : (l : LibraryView) (it : Rows) → AreLibraryRows l it → AreLibraryRows l (completed First it)

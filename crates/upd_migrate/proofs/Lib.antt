@@ -4,3 +4,4 @@ pub mod Loaded
 pub mod RowChanges
 pub mod Filled
 pub mod Migrates
+pub mod PassedFaults

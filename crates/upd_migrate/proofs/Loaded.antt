@@ -9,8 +9,8 @@ use Rattle.upd_sqlite.specs.Stored.{HoldsAllRows}
 use Rattle.upd_sqlite.proofs.Chains.{clean_before}
 use Rattle.upd_sqlite.proofs.Frames.{held}
 use Rattle.upd_sql.specs.Commits.{Looks}
-use Rattle.upd_sql.specs.Making.{Leads}
-use Rattle.upd_sql.specs.Stands.{Stands}
+use Rattle.upd_sql.specs.Making.{Transforms}
+use Rattle.upd_sql.specs.LibraryTables.{HoldsTables}
 use Rattle.upd_migrate.specs.declared.version.Version.{Version}
 use Rattle.upd_migrate.specs.declared.version.Version.TheVariants.{First, Second, Third}
 use Rattle.upd_migrate.specs.Migrated.{completed}
@@ -22,7 +22,7 @@ as_they_were First it rows h = record { idents = h.idents; cards = h.cards; entr
 as_they_were Second it rows h = record { idents = h.idents; cards = h.cards; entries = h.entries; targets = h.targets }
 as_they_were Third it rows h = h
 
--- tables of the last commit stand in a transaction that has begun
+-- a transaction that has begun holds the tables of the last commit
 pub begun_holds : (version : Version) (it : Rows) (old : State) → (IsTrue old.is_open → TablesRise old.now)
     → (IsTrue old.is_open → old.now ≡ old.committed) → IsTrue old.is_open → ShowsAs version it old.committed
     → HoldsAllRows (schema_of version) (stored_in version it) old.now
@@ -31,10 +31,11 @@ begun_holds version it old rise settled o shown =
 
 pub read_rows : (version : Version) (it : Rows) (old mid last : State) {X : Type 0} (x : X) (rows : LibraryRows) → (IsTrue old.is_open → TablesRise old.now)
     → (IsTrue old.is_open → old.now ≡ old.committed)
-    → Leads {X = X} (HoldsAllRows (schema_of version) (stored_in version it)) (Stands (completed version it)) (record old { in_transaction = true }) mid (Ok x)
+    → Transforms {X = X} (HoldsAllRows (schema_of version) (stored_in version it)) (HoldsTables (completed version it)) (record old { in_transaction = true })
+    mid (Ok x)
     → Looks AreRowsOf mid last (Ok rows) → HasCleanDisk last → ShowsAs version it old.committed → AreRowsOf it rows
-read_rows version it old mid last x rows rise settled leads looks clean shown =
+read_rows version it old mid last x rows rise settled transforms looks clean shown =
     let early = clean_before mid last _ looks.steps.survives clean in
-    let o = (leads.steps.kept early refl).was_open (looks.was_open clean (leads.steps.going early refl)) in
-    let stands = leads.led early refl (begun_holds version it old rise settled o shown) in
+    let o = (transforms.steps.kept early refl).was_open (looks.was_open clean (transforms.steps.going early refl)) in
+    let stands = transforms.transformed early refl (begun_holds version it old rise settled o shown) in
     as_they_were version it rows (looks.found clean (completed version it) stands)

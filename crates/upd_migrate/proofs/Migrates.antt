@@ -11,22 +11,22 @@ use Rattle.upd_sqlite.proofs.Chains.{clean_before}
 use Rattle.upd_sqlite.proofs.Frames.{showing}
 use Rattle.upd_sql.specs.Commits.{ShowsIn, WasOpen}
 use Rattle.upd_sql.specs.Encoded.{stored}
-use Rattle.upd_sql.specs.Making.{Leads}
+use Rattle.upd_sql.specs.Making.{Transforms}
 use Rattle.upd_sql.specs.Schema.{library_schema}
-use Rattle.upd_sql.specs.Stands.{ShowsTables}
+use Rattle.upd_sql.specs.LibraryTables.{ShowsTables}
 use Rattle.upd_migrate.specs.declared.version.Version.{Version}
-use Rattle.upd_migrate.specs.Migrated.{AreLibraryRows, HasMigrated, IsMigrated, MayMigrate, MayMigrateFrom, Migrates, MigratesFrom, StandsAfter}
+use Rattle.upd_migrate.specs.Migrated.{AreLibraryRows, HasMigrated, IsMigrated, MayMigrate, MayMigrateFrom, Migrates, MigratesFrom, HoldsAfter}
 use Rattle.upd_migrate.specs.Older.{ShowsAs, schema_of, stored_in}
 use Rattle.upd_migrate.proofs.Loaded.{begun_holds}
 use Rattle.upd_migrate.proofs.Versions.{one_version}
 
 module _ (version : Version) (old last end : State) {X : Type 0} (x : X) (rise : IsTrue old.is_open → TablesRise old.now)
     (settled : IsTrue old.is_open → old.now ≡ old.committed) (steps : Steps {X = X} (record old { in_transaction = true }) last (Ok x))
-    (leads : (l : LibraryView) (rows : Rows) → AreLibraryRows l rows → Leads {X = X} (HoldsAllRows (schema_of version) (stored_in version rows))
-    (StandsAfter (IsMigrated version l rows)) (record old { in_transaction = true }) last (Ok x)) where
-  led : HasCleanDisk last → IsTrue old.is_open → (l : LibraryView) (rows : Rows) → AreLibraryRows l rows → ShowsAs version rows old.committed
-      → StandsAfter (IsMigrated version l rows) last.now
-  led clean o l rows lib shown = (leads l rows lib).led clean refl (begun_holds version rows old rise settled o shown)
+    (transforms : (l : LibraryView) (rows : Rows) → AreLibraryRows l rows → Transforms {X = X} (HoldsAllRows (schema_of version) (stored_in version rows))
+    (HoldsAfter (IsMigrated version l rows)) (record old { in_transaction = true }) last (Ok x)) where
+  transformed : HasCleanDisk last → IsTrue old.is_open → (l : LibraryView) (rows : Rows) → AreLibraryRows l rows → ShowsAs version rows old.committed
+      → HoldsAfter (IsMigrated version l rows) last.now
+  transformed clean o l rows lib shown = (transforms l rows lib).transformed clean refl (begun_holds version rows old rise settled o shown)
 
   pub committed_whole : HasCleanDisk last → Shows last end last.now last.now false → IsTrue end.is_open × IsTrue old.is_open × MigratesFrom version old end
   committed_whole clean ended =
@@ -34,7 +34,7 @@ module _ (version : Version) (old last end : State) {X : Type 0} (x : X) (rise :
         ended.is_open,
         o,
         λ l rows lib shown.
-            let after = led clean o l rows lib shown in
+            let after = transformed clean o l rows lib shown in
             (after.0, after.1, subst (ShowsTables after.0) (sym ended.committed_is) (showing library_schema (stored after.0) last.now after.2)),
       )
 
@@ -48,7 +48,7 @@ module _ (version : Version) (old last end : State) {X : Type 0} (x : X) (rise :
       let o = was_open early refl in (
         o,
         λ l rows lib shown.
-            let after = led early o l rows lib shown in
+            let after = transformed early o l rows lib shown in
             (after.0, after.1, subst (λ t. ShowsIn t after.0) (sym is) (showing library_schema (stored after.0) last.now after.2).rows_are),
       ))
       steps.survives s

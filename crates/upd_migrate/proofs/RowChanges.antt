@@ -1,4 +1,4 @@
--- Statuses and counts that are told of a library as if one run had brought it all.
+-- The statuses and counts of a library, as if one run had added everything.
 use Rattle.std.proofs.Common.{◌≡◌, ◌<◌, ◌^◌, List, [], ◌∷◌, length, true, false, inr, refl, ap, ◌∙◌}
 use Rattle.std.specs.List.{filter, AllByRecursion}
 use Rattle.upd_text.specs.declared.card_ref.CardRef.{CardRef}
@@ -21,7 +21,7 @@ pub between : (l : LibraryView) (cache : CacheView) (run : List CardRef) → IsS
     → IsRunBetween empty l cache run
 between l cache run sound few right is = record { before = empty_sound; after = sound; goes_on = tt; right = right; touched = is; few = few }
 
--- nothing was there before, so that a library of which decks aren't loaded is enough as well
+-- nothing was there before, so that a library with decks that are not loaded is enough as well
 pub enough : (l counted : LibraryView) (run : List CardRef) → counted ≡ l → IsEnough run empty l counted
 enough l counted run same = inr (λ _. false, same ∙ part_of_none l, record { unaffected = all (affected run empty l); staying = λ card none. refl })
   where
@@ -43,7 +43,7 @@ shows_nothing rows states counts = record {
 abbrev stays : Rows → Rows → Type 0
 stays before after = after ≡ record before { states = after.states; counts = after.counts }
 
--- changes of statuses and counts leave all else as it was
+-- changes of statuses and counts leave everything else
 pub all_else_stays : (cs : List ChangeView) (rows : Rows) → AllByRecursion (λ c. row_changes_state c ≡ true) cs → stays rows (done_all cs rows)
 all_else_stays [] rows only = refl
 all_else_stays (c ∷ cs) rows only = one c only.0 (all_else_stays cs (done c rows) only.1)

@@ -1,4 +1,4 @@
--- What a migration makes of the tables.
+-- What a migration does to the tables.
 use Rattle.std.specs.Prelude.{◌≡◌, ℕ, [], IsTrue}
 use Rattle.sqlite_trees.specs.Tree.{Trees}
 use Rattle.sqlite.specs.Effect.{Database}
@@ -7,8 +7,8 @@ use Rattle.upd_core.specs.Library.{LibraryView}
 use Rattle.upd_core.specs.Sound.{IsSound, IsWhole}
 use Rattle.upd_records.specs.Rows.{Rows, Shows, ShowsStates}
 use Rattle.upd_sql.specs.Commits.{ShowsIn}
-use Rattle.upd_sql.specs.Stands.{ShowsTables, Stands}
-use Rattle.upd_store.specs.Version.{TellsVersion}
+use Rattle.upd_sql.specs.LibraryTables.{ShowsTables, HoldsTables}
+use Rattle.upd_store.specs.Version.{HasVersion}
 use Rattle.upd_migrate.specs.declared.version.Version.{Version}
 use Rattle.upd_migrate.specs.declared.version.Version.TheVariants.{First, Second, Third}
 use Rattle.upd_migrate.specs.Older.{ShowsAs, number_of, schema_of}
@@ -19,12 +19,12 @@ completed First rows = record rows { states = []; counts = []; settled = [] }
 completed Second rows = record rows { settled = [] }
 completed Third rows = rows
 
--- Tables that got the statuses and counts of a library: all other rows are the same.
+-- Tables with the statuses and counts of a library, and all other rows as before.
 pub record IsFilled (l : LibraryView) (rows after : Rows) : Type 0 where
   pub same : after ≡ record rows { states = after.states; counts = after.counts }
   pub states : ShowsStates after l
 
--- The tables of a version after a migration: no row goes or changes; statuses and counts come where the version has none.
+-- The tables of a version after a migration: no row is removed or changed; statuses and counts are added where the version has none.
 abbrev pub IsMigrated : Version → LibraryView → Rows → Rows → Type 0
 IsMigrated First l rows after = IsFilled l (completed First rows) after
 IsMigrated Second l rows after = after ≡ completed Second rows
@@ -40,9 +40,9 @@ pub record AreLibraryRows (l : LibraryView) (rows : Rows) : Type 0 where
 abbrev pub HasMigrated : Version → LibraryView → Rows → Database → Type 0
 HasMigrated version l rows db = (after : Rows) × IsMigrated version l rows after × ShowsTables after db
 
--- the database stands with some tables of which this is so
-abbrev pub StandsAfter : (Rows → Type 0) → Database → Type 0
-StandsAfter P db = (after : Rows) × P after × Stands after db
+-- the database holds some tables of which this is so
+abbrev pub HoldsAfter : (Rows → Type 0) → Database → Type 0
+HoldsAfter P db = (after : Rows) × P after × HoldsTables after db
 
 -- A file of a version was migrated: the tables of a library are.
 abbrev pub MigratesFrom : Version → State → State → Type 0
@@ -64,6 +64,6 @@ MayMigrate old trees = IsTrue old.is_open × ((version : Version) (l : LibraryVi
     → ShowsAs version rows old.committed
     → (after : Rows) × IsMigrated version l rows after × ShowsIn trees after)
 
--- The database has the schema of some version, and where it tells a version it tells that one.
+-- The database has the schema of some version, and no other version in `meta`.
 abbrev pub HasKnown : Database → Type 0
-HasKnown db = (version : Version) × (db.schema ≡ schema_of version) × ((n : ℕ) → TellsVersion n db → n ≡ number_of version)
+HasKnown db = (version : Version) × (db.schema ≡ schema_of version) × ((n : ℕ) → HasVersion n db → n ≡ number_of version)

@@ -11,13 +11,13 @@ use Rattle.upd_sql.specs.Schema.{library_schema}
 use Rattle.upd_migrate.specs.declared.version.Version.{Version}
 use Rattle.upd_migrate.specs.declared.version.Version.TheVariants.{First, Second, Third}
 
--- the number that the file tells
+-- the number in the file
 abbrev pub number_of : Version → ℕ
 number_of First = 1
 number_of Second = 2
 number_of Third = 3
 
--- How many of the library's tables a version has: the first has none of statuses, counts and settled marks, the second none of marks.
+-- The number of the library's tables that a version has: the first has none of statuses, counts and settled marks, the second none of marks.
 abbrev pub tables_of : Version → ℕ
 tables_of First = 6
 tables_of Second = 8
@@ -30,10 +30,10 @@ schema_of version = schema_up_to (tables_of version)
 abbrev pub stored_in : Version → Rows → List (List Row)
 stored_in version rows = take (tables_of version) ((version_row (number_of version) ∷ []) ∷ drop 1 (stored rows))
 
--- the database has a version's schema, and these rows in its tables; what the rows say of other tables is left aside
+-- the database has a version's schema, and these rows in its tables; rows of other tables are ignored
 abbrev pub ShowsAs : Version → Rows → Database → Type 0
 ShowsAs version rows = HasAllRows (schema_of version) (stored_in version rows)
 
--- The database has all tables with these rows, and tells a version: rowids rise, as in every table.
+-- The database has all tables with these rows, and a version: rowids rise in every table.
 abbrev pub HasTables : Version → Rows → Database → Type 0
 HasTables version rows = HoldsAllRows library_schema ((version_row (number_of version) ∷ []) ∷ drop 1 (stored rows))

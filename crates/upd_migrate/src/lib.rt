@@ -1,18 +1,15 @@
-//! Files of older schemas: read as they stand, or led to the present schema.
+//! Files of older schemas: read as they are, or migrated to the present schema.
 //!
-//! A version of the schema has the first so many of the library's tables. In a transaction a file gets the tables that
-//! it lacks, and is then read and filled by the statements of the present schema. To read, that transaction is given
-//! up at its end; to migrate, it is committed.
-//!
-//! Where clauses speak of both outcomes of a call, it stands in a `match` of two arms, so that each is a path of its
-//! own (docs/DECISIONS.md, Form).
+//! A version of the schema has the first six, eight or nine of the library's tables. In a transaction a file gets the
+//! tables that it lacks, and is then read and filled by the statements of the present schema. A read rolls this
+//! transaction back, a migration commits it.
 #![tactic(auto)]
 
 mod completing;
 mod filling;
+mod initial_states;
 mod loading;
 mod migrating;
-mod telling;
 mod version;
 
 pub use loading::load_rows;

@@ -1,4 +1,4 @@
-//! The library that the tables of a file show, whichever schema it has.
+//! The library in the tables of a file, whichever schema it has.
 ghost use Rattle.std.specs.Prelude.{◌≡◌, ◌⊎◌, ℕ, false, IfErr, IfOk, IsTrue};
 ghost use Rattle.sqlite.specs.Held.{state};
 ghost use Rattle.sqlite.specs.State.{HasCleanDisk, Survives};
@@ -6,7 +6,7 @@ ghost use Rattle.upd_core.specs.Library.{LibraryView};
 ghost use Rattle.upd_records.specs.Rows.{Rows};
 ghost use Rattle.upd_row_store.specs.Assembling.{AreRowsOf};
 ghost use Rattle.upd_store.specs.Faults.{IsUnopened};
-ghost use Rattle.upd_store.specs.Version.{TellsVersion};
+ghost use Rattle.upd_store.specs.Version.{HasVersion};
 ghost use Rattle.upd_migrate.specs.Migrated.{AreLibraryRows};
 ghost use Rattle.upd_migrate.specs.Older.{ShowsAs};
 ghost use Rattle.upd_migrate.specs.declared.version.Version.{Version};
@@ -19,11 +19,11 @@ use upd_core::Library;
 use upd_records::LibraryRows;
 use upd_row_store::assembled;
 use upd_sql::library_rows_in;
-use upd_sqlite::{Rising, note_order_outside};
+use upd_sqlite::{Rising, begin};
 use upd_store::{fault_of, store_at};
 use upd_text::{Fault, FaultKind};
 
-/// The rows of the four tables that a library is made of, read in a transaction that is given up.
+/// The rows of the four tables that a library is made of, read in a transaction that is rolled back.
 fn rows_of<S: Rising>(
     conn: &mut Connection<S>,
     alloc: Global,
@@ -39,18 +39,15 @@ fn rows_of<S: Rising>(
     ensures found { HasCleanDisk (state S.Store conn.new) → IfOk result (λ found. (it : Rows)
         → ShowsAs version it (state S.Store conn.old).committed → AreRowsOf it found) }
 {
-    note_order_outside(conn);
-    // For its clause alone: outside a transaction the tables are those of the last commit.
-    let _outside = conn.is_autocommit();
-    let mut tx = conn.transaction();
+    let mut tx = begin(conn);
     complete(&mut tx, version)?;
     let found = library_rows_in(&mut tx, alloc)?;
     tx.rollback();
     Ok(found)
 }
 
-/// The library that the tables of a file show, of the present schema or an older one. No row is changed. Where the
-/// file has no schema of the library's the fault is Store, at the version that the file tells, 0 where there is none.
+/// The library in the tables of a file, of the present schema or an older one. No row is changed. Where the file has no
+/// schema of the library's the fault is Store, at the version in the file, 0 where it has none.
 pub fn load_rows<S: Rising>(alloc: Global, conn: &mut Connection<S>) -> Result<Library, Fault>
     ensures shown { HasCleanDisk (state S.Store conn.new) → IsTrue (state S.Store conn.new).is_open → IfOk result
         (λ library. (version : Version) (l : LibraryView) (rows : Rows) → AreLibraryRows l rows
@@ -58,7 +55,7 @@ pub fn load_rows<S: Rising>(alloc: Global, conn: &mut Connection<S>) -> Result<L
     ensures same { HasCleanDisk (state S.Store conn.new) → IsTrue (state S.Store conn.new).is_open
         → (state S.Store conn.new).committed ≡ (state S.Store conn.old).committed }
     ensures version { IfErr result (λ e. HasCleanDisk (state S.Store conn.new) → (v : ℕ)
-        → TellsVersion v (state S.Store conn.old).committed → (e.at ≡ v) ⊎ (e.at ≡ 0)) }
+        → HasVersion v (state S.Store conn.old).committed → (e.at ≡ v) ⊎ (e.at ≡ 0)) }
     ensures mode { conn.new.in_transaction ≡ conn.old.in_transaction }
     ensures survives { Survives (state S.Store conn.old) (state S.Store conn.new) (λ _. ⊥) }
     ensures unopened { IfErr result IsUnopened }
@@ -66,10 +63,7 @@ pub fn load_rows<S: Rising>(alloc: Global, conn: &mut Connection<S>) -> Result<L
     if !conn.is_autocommit() {
         return Err(store_at(0));
     }
-    let version = match known_version(conn) {
-        Ok(version) => version,
-        Err(fault) => return Err(fault),
-    };
+    let version = known_version(conn)?;
     match rows_of(conn, alloc, version) {
         Ok(rows) => match assembled(alloc, rows) {
             Ok(library) => Ok(library),

@@ -1,21 +1,21 @@
-//! Leading a file to the present schema.
+//! Migration of a file to the present schema.
 ghost use Rattle.std.specs.Prelude.{◌≡◌, ◌⊎◌, ℕ, false, IfErr, IsTrue, OnErr, OnOk};
 ghost use Rattle.sqlite.specs.Held.{state};
 ghost use Rattle.sqlite.specs.State.{HasCleanDisk, Survives};
 ghost use Rattle.upd_sql.specs.Schema.{library_schema};
 ghost use Rattle.upd_store.specs.Faults.{IsUnopened};
-ghost use Rattle.upd_store.specs.Version.{TellsVersion};
+ghost use Rattle.upd_store.specs.Version.{HasVersion};
 ghost use Rattle.upd_migrate.specs.Migrated.{HasKnown, MayMigrate, MayMigrateFrom, Migrates, MigratesFrom};
 
 use crate::filling::fill;
 use crate::version::{Version, known_version};
 use sqlite::{Connection, Error};
 use std::alloc::Global;
-use upd_sqlite::{Rising, note_order_outside};
+use upd_sqlite::{Rising, begin};
 use upd_store::{fault_of, store_at};
 use upd_text::Fault;
 
-/// Leads a file of a version to the present schema, in one transaction.
+/// Migrates a file of a version to the present schema, in one transaction.
 fn migrate_from<S: Rising>(
     conn: &mut Connection<S>,
     alloc: Global,
@@ -32,20 +32,17 @@ fn migrate_from<S: Rising>(
     ensures crash { Survives (state S.Store conn.old) (state S.Store conn.new)
         (MayMigrateFrom version (state S.Store conn.old)) }
 {
-    note_order_outside(conn);
-    // For its clause alone: outside a transaction the tables are those of the last commit.
-    let _outside = conn.is_autocommit();
-    let mut tx = conn.transaction();
+    let mut tx = begin(conn);
     fill(&mut tx, alloc, version)?;
     tx.commit()
 }
 
-/// Leads a file of an older schema to the present one, in one transaction. The tables that are missing are made;
-/// statuses and counts are those of the library that the file shows, and nothing is settled. No other row is
-/// written. A file of the present schema stays as it is.
+/// Migrates a file of an older schema to the present one, in one transaction. The missing tables are made; statuses and
+/// counts are those of the library in the file, and nothing is settled. No other row is written. A file of the present
+/// schema is not changed.
 ///
-/// Where the file has no schema of the library's the fault is Store, at the version that the file tells, 0 where
-/// there is none. After a fault the connection shows the file as it was.
+/// Where the file has no schema of the library's the fault is Store, at the version in the file, 0 where it has none.
+/// After a fault the connection shows the file as before.
 pub fn migrate<S: Rising>(alloc: Global, conn: &mut Connection<S>) -> Result<(), Fault>
     ensures done { HasCleanDisk (state S.Store conn.new) → IsTrue (state S.Store conn.new).is_open
         → OnOk result (Migrates (state S.Store conn.old) (state S.Store conn.new)) }
@@ -57,7 +54,7 @@ pub fn migrate<S: Rising>(alloc: Global, conn: &mut Connection<S>) -> Result<(),
     ensures undone { HasCleanDisk (state S.Store conn.new) → IsTrue (state S.Store conn.new).is_open → OnErr result
         ((state S.Store conn.new).committed ≡ (state S.Store conn.old).committed) }
     ensures version { IfErr result (λ e. HasCleanDisk (state S.Store conn.new) → (v : ℕ)
-        → TellsVersion v (state S.Store conn.old).committed → (e.at ≡ v) ⊎ (e.at ≡ 0)) }
+        → HasVersion v (state S.Store conn.old).committed → (e.at ≡ v) ⊎ (e.at ≡ 0)) }
     ensures mode { conn.new.in_transaction ≡ conn.old.in_transaction }
     ensures crash { Survives (state S.Store conn.old) (state S.Store conn.new) (MayMigrate (state S.Store conn.old)) }
     ensures unopened { IfErr result IsUnopened }
@@ -65,10 +62,7 @@ pub fn migrate<S: Rising>(alloc: Global, conn: &mut Connection<S>) -> Result<(),
     if !conn.is_autocommit() {
         return Err(store_at(0));
     }
-    let version = match known_version(conn) {
-        Ok(version) => version,
-        Err(fault) => return Err(fault),
-    };
+    let version = known_version(conn)?;
     if matches!(version, Version::Third) {
         return Ok(());
     }

@@ -3,13 +3,13 @@ ghost use Rattle.std.specs.Prelude.{◌≡◌, ◌≤◌, ◌⊎◌, ℕ, false,
 ghost use Rattle.sqlite.specs.Held.{state};
 ghost use Rattle.sqlite.specs.State.{HasCleanDisk, Survives};
 ghost use Rattle.upd_store.specs.Faults.{IsUnopened};
-ghost use Rattle.upd_store.specs.Version.{TellsVersion};
+ghost use Rattle.upd_store.specs.Version.{HasVersion};
 ghost use Rattle.upd_migrate.specs.Older.{number_of, schema_of, tables_of};
 
 use sqlite::Connection;
 use sqlite_schema::schema::Schema;
 use upd_sql::has_first_tables;
-use upd_sqlite::Rising;
+use upd_sqlite::{Rising, committed_schema};
 use upd_store::{fault_of, store_at, version_of};
 use upd_text::Fault;
 
@@ -21,7 +21,7 @@ pub enum Version {
     Third,
 }
 
-/// How many tables a version has.
+/// The number of tables of a version.
 fn table_count(version: Version) -> usize
     ensures value { result ≡ tables_of version }
     ensures few { result ≤ 9 }
@@ -51,17 +51,17 @@ fn version_with(number: u32, schema: &Schema) -> Option<Version>
     }
 }
 
-/// The version that a file tells and whose tables it has. Else the fault is Store, at the version that the file
-/// tells, 0 where there is none. Nothing is written.
+/// The version in a file that also has the tables of this version. Else the fault is Store, at the version in the file,
+/// 0 where it has none. Nothing is written.
 pub(crate) fn known_version<S: Rising>(conn: &mut Connection<S>) -> Result<Version, Fault>
     requires { conn.old.in_transaction ≡ false }
     ensures outside { conn.new.in_transaction ≡ false }
     ensures found { IfOk result (λ version. IsTrue (state S.Store conn.new).is_open
         → (state S.Store conn.new).committed.schema ≡ schema_of version) }
-    ensures row_changes { IfOk result (λ version. HasCleanDisk (state S.Store conn.new) → (v : ℕ)
-        → TellsVersion v (state S.Store conn.old).committed → v ≡ number_of version) }
+    ensures value { IfOk result (λ version. HasCleanDisk (state S.Store conn.new) → (v : ℕ)
+        → HasVersion v (state S.Store conn.old).committed → v ≡ number_of version) }
     ensures fault { IfErr result (λ e. HasCleanDisk (state S.Store conn.new) → (v : ℕ)
-        → TellsVersion v (state S.Store conn.old).committed → (e.at ≡ v) ⊎ (e.at ≡ 0)) }
+        → HasVersion v (state S.Store conn.old).committed → (e.at ≡ v) ⊎ (e.at ≡ 0)) }
     ensures was_open { HasCleanDisk (state S.Store conn.new) → IsTrue (state S.Store conn.new).is_open
         → IsTrue (state S.Store conn.old).is_open }
     ensures same { HasCleanDisk (state S.Store conn.new) → IsTrue (state S.Store conn.new).is_open
@@ -73,9 +73,7 @@ pub(crate) fn known_version<S: Rising>(conn: &mut Connection<S>) -> Result<Versi
         Ok(number) => number,
         Err(error) => return Err(fault_of(error)),
     };
-    // For its clause alone: outside a transaction the tables are those of the last commit.
-    let _outside = conn.is_autocommit();
-    match version_with(number, conn.schema()) {
+    match version_with(number, committed_schema(conn)) {
         Some(version) => Ok(version),
         None => Err(store_at(number)),
     }

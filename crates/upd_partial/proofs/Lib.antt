@@ -15,3 +15,4 @@ pub mod RenewLemmas
 pub mod PartStatusLemmas
 pub mod AloneLemmas
 pub mod PartLeadLemmas
+pub mod PartListingLemmas

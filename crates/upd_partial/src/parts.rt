@@ -1,8 +1,12 @@
 //! Laws: a plain run changes no deck of which it names no card.
-ghost use Rattle.std.specs.Prelude.{◌≡◌, ◌==◌, Bool, true, false, List, IsTrue, Ok};
+ghost use Rattle.std.specs.Prelude.{◌≡◌, ◌==◌, Bool, true, false, List, IsTrue, Some, Ok};
 ghost use Rattle.std.specs.List.{Contains, list_any};
 ghost use Rattle.upd_core.specs.Serials.{Serial};
-ghost use Rattle.upd_core.specs.Library.{CardView, DeckView, LibraryView, all_decks, ref_of};
+ghost use Rattle.upd_text.specs.declared.card_ref.CardRef.{CardRef};
+ghost use Rattle.upd_text.specs.Units.{Bytes};
+ghost use Rattle.upd_core.specs.declared.library.Place.{Place};
+ghost use Rattle.upd_core.specs.Library.{CardView, DeckView, LibraryView, all_decks, deck_of, place_of, ref_of};
+ghost use Rattle.upd_compile.specs.Listings.{card_listing, deck_listing, ident_listing, yank_listing};
 ghost use Rattle.upd_core.specs.Limits.{is_within_limits};
 ghost use Rattle.upd_core.specs.Sound.{IsSound};
 ghost use Rattle.upd_core.specs.Status.{status_of};
@@ -100,4 +104,27 @@ pub fn cards_left_out_keep_their_statuses()
         → applied lines l ≡ Ok reached
         → (d : DeckView) (c : CardView) → Contains (left_out out l) d → Contains d.cards c
         → status_of (ref_of l.idents c) reached.library ≡ status_of (ref_of l.idents c) l }
+{}
+
+/// The row changes of a run on the decks that hold the cards which it names can be carried out on tables that show the
+/// whole library, and then these show what the run reaches from the whole.
+pub fn changes_of_a_part_lead_the_whole()
+    ensures { (ages : List Serial) (lines : List LineView) (l : LibraryView) (here : Reached)
+        → (changes : List ChangeView) (rows : Rows) → IsSound l → IsTrue (is_within_limits l) → IsTrue (is_plain lines)
+        → NamesNone (is_left_out ages l) lines l → applied lines (part_of ages l) ≡ Ok here
+        → RowChanges (part_of ages l) here.library changes → Shows rows l
+        → (there : Reached) × (applied lines l ≡ Ok there) × AllFit changes rows
+        × Shows (done_all changes rows) there.library }
+{}
+
+/// A listing of a part is that of the whole, where the part has the deck or the card that is asked for, or neither has.
+pub fn listings_of_a_part_are_those_of_the_whole()
+    ensures deck { (out : Serial → Bool) (l : LibraryView) (name : Bytes)
+        → ((d : Serial) → deck_of name l ≡ Some d → out d ≡ false)
+        → deck_listing name (part out l) ≡ deck_listing name l }
+    ensures card { (out : Serial → Bool) (l : LibraryView) (card : CardRef) → IsSound l → out 0 ≡ false
+        → ((p : Place) → place_of card l ≡ Some p → out p.deck ≡ false)
+        → card_listing card (part out l) ≡ card_listing card l }
+    ensures idents { (out : Serial → Bool) (l : LibraryView) → ident_listing (part out l) ≡ ident_listing l }
+    ensures yanks { (out : Serial → Bool) (l : LibraryView) → yank_listing (part out l) ≡ yank_listing l }
 {}

@@ -1,9 +1,9 @@
 //! A command line, what it reads, and what it answers.
-use std::alloc::Global;
 use std::io::Read;
 use std::test::Fail;
 use std::{env, fs, process};
 use upd_cli::run_command;
+use upd_testkit::check::{same, same_text};
 
 /// A path for a library of this test and process, where no file is.
 pub fn fresh(rt: &HostRuntime, name: &str) -> Result<String, Fail> {
@@ -14,7 +14,7 @@ pub fn fresh(rt: &HostRuntime, name: &str) -> Result<String, Fail> {
     Ok(path)
 }
 
-/// Takes away a library with its log.
+/// Removes a library with its log.
 pub fn remove(rt: &HostRuntime, path: &str) -> Result<(), Fail> {
     let _ = fs::remove_file(rt, path);
     let _ = fs::remove_file(rt, format!(in rt.alloc(); "{path}-wal")?.as_str());
@@ -29,7 +29,7 @@ pub struct Answer {
     pub faults: Vec<u8>,
 }
 
-/// The answer to the words of a command line behind the program's name, over this input.
+/// The answer to the words of a command line after the program's name, over this input.
 pub fn ask<R: Read>(rt: &HostRuntime, words: &[&str], input: &mut R) -> Result<Answer, Fail> {
     let mut line = Vec::new(rt.alloc());
     line.push("upd")?;
@@ -43,47 +43,37 @@ pub fn ask<R: Read>(rt: &HostRuntime, words: &[&str], input: &mut R) -> Result<A
     })
 }
 
-/// Whether an answer has this exit status, this output and these words on the fault stream. Another one is the error.
-pub fn is_told(
-    alloc: Global,
-    found: &Answer,
-    (status, output, faults): (u8, &str, &str),
-) -> Result<(), Fail> {
-    let is_output = found.output.as_slice() == output.as_bytes();
-    let is_fault = found.faults.as_slice() == faults.as_bytes();
-    if found.status == status && is_output && is_fault {
-        return Ok(());
-    }
-    let output = std::str::from_utf8(&found.output)?;
-    let faults = std::str::from_utf8(&found.faults)?;
-    let told = format!(in alloc; "{}, {output:?}, {faults:?}", found.status)?;
-    Err(Fail::new(told))
+/// An answer has this exit status, this output and this text on the fault stream.
+pub fn is_answer(found: &Answer, (status, output, faults): (u8, &str, &str)) -> Result<(), Fail> {
+    same("the status", found.status, status)?;
+    same_text("the output", std::str::from_utf8(&found.output)?, output)?;
+    same_text("the faults", std::str::from_utf8(&found.faults)?, faults)
 }
 
-/// Whether a command line over this input answers just this.
+/// A command line over this input has this answer.
 pub fn answers(
     rt: &HostRuntime,
     words: &[&str],
     mut input: &[u8],
-    told: (u8, &str, &str),
+    wanted: (u8, &str, &str),
 ) -> Result<(), Fail> {
     let found = ask(rt, words, &mut input)?;
-    is_told(rt.alloc(), &found, told)
+    is_answer(&found, wanted)
 }
 
-/// Whether a command on the library in a file answers just this over no input: its name, and its words behind the file.
+/// A command on the library in a file has this answer over no input: its name, and its words after the file.
 pub fn answers_of<'a>(
     rt: &HostRuntime,
     file: &'a str,
     name: &'a str,
     words: &[&'a str],
-    told: (u8, &str, &str),
+    wanted: (u8, &str, &str),
 ) -> Result<(), Fail> {
     let mut line = Vec::new(rt.alloc());
     line.push(name)?;
     line.push(file)?;
     line.extend_from_slice(words)?;
-    answers(rt, &line, b"", told)
+    answers(rt, &line, b"", wanted)
 }
 
 /// A path of a new library without decks.
@@ -93,7 +83,7 @@ pub fn library(rt: &HostRuntime, name: &str) -> Result<String, Fail> {
     Ok(file)
 }
 
-/// A run of site LYON is handed in and accepted.
+/// A run of site LYON arrives and is accepted.
 pub fn accepts(
     rt: &HostRuntime,
     file: &str,
@@ -102,9 +92,5 @@ pub fn accepts(
     mut run: &[u8],
 ) -> Result<(), Fail> {
     let found = ask(rt, &["run", file, "LYON", number, mode], &mut run)?;
-    if found.status == 0 {
-        Ok(())
-    } else {
-        Err("the run isn't accepted".into())
-    }
+    same("the status of a run", found.status, 0)
 }

@@ -1,13 +1,13 @@
 //! Tests of whole command lines on a library in a file, which is made in the folder of temporary files.
 //!
-//! Expected values are worked by hand from `docs/rules.md`.
+//! Expected values are worked by hand from `docs/protocol.md`.
 #![tactic(auto)]
 
 #[cfg(test)]
 mod console;
 #[cfg(test)]
-mod files;
-#[cfg(test)]
-mod library;
+mod library_files;
 #[cfg(test)]
 mod refusals;
+#[cfg(test)]
+mod site_commands;

@@ -1,13 +1,14 @@
-//! What is refused, in which order, and where it is told.
-use crate::console::{answers, answers_of, ask, fresh, is_told, library, remove};
+//! What is refused, in which order, and on which stream.
+use crate::console::{Answer, answers, answers_of, ask, fresh, is_answer, library, remove};
 use sqlite_disk::Unknown;
-use std::io::{ErrorKind, Read};
-use std::process::Abort;
+use std::fs;
+use std::io::ErrorKind;
 use std::test::Fail;
-use std::{fs, io};
 use upd_store::file::connect;
+use upd_testkit::check::{holds, same};
+use upd_testkit::fake_streams::Pieces;
 
-/// The words of a command line behind its name and file, and the line on the fault stream, with status 1.
+/// The words of a command line after its name and file, and the line on the fault stream, with status 1.
 const OPERANDS: &[(&str, &[&str], &str)] = &[
     ("run", &["LYON", "01", "full"], "upd: BadNumber (24) at 0\n"),
     ("run", &["LYON", "+1", "full"], "upd: BadNumber (24) at 0\n"),
@@ -21,17 +22,21 @@ const OPERANDS: &[(&str, &[&str], &str)] = &[
     ("history", &["A"], "upd: BadCard (6) at 0\n"),
 ];
 
-#[test]
-fn operands_are_judged_before_the_file(rt: HostRuntime) -> Result<(), Fail> {
-    let file = fresh(&rt, "operands")?;
-    for (name, words, told) in OPERANDS {
-        answers_of(&rt, &file, name, words, (1, "", told))?;
-    }
-    assert!(rt; !fs::exists(&rt, file.as_str())?);
-    Ok(())
+/// No file is at this path.
+fn is_not_there(rt: &HostRuntime, path: &str) -> Result<(), Fail> {
+    holds(path, !fs::exists(rt, path)?)
 }
 
-/// The commands that need a library, with the words behind their file.
+#[test]
+fn operands_are_checked_before_the_file(rt: HostRuntime) -> Result<(), Fail> {
+    let file = fresh(&rt, "operands")?;
+    for (name, words, wanted) in OPERANDS {
+        answers_of(&rt, &file, name, words, (1, "", wanted))?;
+    }
+    is_not_there(&rt, file.as_str())
+}
+
+/// The commands that need a library, with the words after their file.
 pub const COMMANDS: &[(&str, &[&str])] = &[
     ("run", &["LYON", "1", "full"]),
     ("settle", &["LYON", "1"]),
@@ -45,65 +50,59 @@ pub const COMMANDS: &[(&str, &[&str])] = &[
     ("migrate", &[]),
 ];
 
-/// Each of these commands on a file answers just this.
-pub fn all_answer(rt: &HostRuntime, file: &str, told: (u8, &str, &str)) -> Result<(), Fail> {
+/// Each of these commands on a file has this answer.
+pub fn all_answer(rt: &HostRuntime, file: &str, wanted: (u8, &str, &str)) -> Result<(), Fail> {
     for (name, words) in COMMANDS {
-        answers_of(rt, file, name, words, told)?;
+        answers_of(rt, file, name, words, wanted)?;
     }
     Ok(())
 }
 
 #[test]
-fn a_missing_file_is_no_library_and_is_not_made(rt: HostRuntime) -> Result<(), Fail> {
+fn a_missing_file_is_refused_and_not_made(rt: HostRuntime) -> Result<(), Fail> {
     let file = fresh(&rt, "missing")?;
     all_answer(&rt, &file, (3, "", "upd: Store (29) at 0\n"))?;
-    assert!(rt; !fs::exists(&rt, file.as_str())?);
-    Ok(())
+    is_not_there(&rt, file.as_str())
 }
 
-/// A reader that can't be read.
-#[derive(Drop)]
-struct Unreadable;
-
-impl Read for Unreadable {
-    fn read(&mut self, _buf: &mut [u8]) -> io::Result<usize> {
-        Err(io::Error::from(ErrorKind::Other))
-    }
+/// The answer to a command line whose input can't be read.
+fn ask_unreadable(rt: &HostRuntime, words: &[&str]) -> Result<Answer, Fail> {
+    ask(rt, words, &mut Pieces::failing(b"", 1, 1, ErrorKind::Other))
 }
 
 #[test]
-fn a_missing_file_is_told_before_the_run_is_read(rt: HostRuntime) -> Result<(), Fail> {
+fn a_missing_file_is_reported_before_the_run_is_read(rt: HostRuntime) -> Result<(), Fail> {
     let file = fresh(&rt, "unheard")?;
     let words = ["run", &file, "LYON", "1", "full"];
-    let found = ask(&rt, &words, &mut Unreadable)?;
-    is_told(rt.alloc(), &found, (3, "", "upd: Store (29) at 0\n"))?;
+    let found = ask_unreadable(&rt, &words)?;
+    is_answer(&found, (3, "", "upd: Store (29) at 0\n"))?;
     answers(&rt, &["init", &file], b"", (0, "", ""))?;
-    let found = ask(&rt, &words, &mut Unreadable)?;
-    is_told(rt.alloc(), &found, (3, "", "upd: Read (32) at 0\n"))?;
+    let found = ask_unreadable(&rt, &words)?;
+    is_answer(&found, (3, "", "upd: Read (32) at 0\n"))?;
     remove(&rt, &file)
 }
 
 #[test]
-fn another_file_is_no_library_and_stays(rt: HostRuntime) -> Result<(), Fail> {
-    const TEXT: &[u8] = b"SQLite format 2\0 is how this text begins, which is no library\n";
+fn another_file_is_refused_and_stays(rt: HostRuntime) -> Result<(), Fail> {
+    const TEXT: &[u8] = b"SQLite format 2\0 is how this text begins, which is not a library\n";
     let file = fresh(&rt, "text")?;
     fs::write(&rt, file.as_str(), TEXT)?;
     all_answer(&rt, &file, (3, "", "upd: Store (29) at 0\n"))?;
     let log = format!(in rt.alloc(); "{file}-wal")?;
-    assert!(rt; !fs::exists(&rt, log.as_str())?);
+    is_not_there(&rt, log.as_str())?;
     answers(
         &rt,
         &["init", &file],
         b"",
         (3, "", "upd: Store (29) at 0\n"),
     )?;
-    assert!(rt; fs::read(&rt, file.as_str())?.as_slice() == TEXT);
+    same("the file", fs::read(&rt, file.as_str())?.as_slice(), TEXT)?;
     remove(&rt, &file)
 }
 
-/// A file that tells another version is refused at that version, whatever is asked of it.
+/// A file of another version is refused at that version, whatever is asked of it.
 #[test]
-fn a_file_of_another_schema_is_told_by_its_version(rt: HostRuntime) -> Result<(), Fail> {
+fn a_file_of_another_schema_is_refused_at_its_version(rt: HostRuntime) -> Result<(), Fail> {
     let file = library(&rt, "older")?;
     let mut conn = connect(&rt, &file, Unknown)?;
     conn.execute("UPDATE meta SET v = 2", &[])?;
@@ -118,8 +117,8 @@ fn a_file_of_another_schema_is_told_by_its_version(rt: HostRuntime) -> Result<()
     remove(&rt, &file)
 }
 
-/// What a run is refused by at the door: its words behind the file, and the text on the output.
-const DOOR: &[(&[&str], &str)] = &[
+/// Runs that admission checks refuse: their words after the file, and the text on the output.
+const ADMISSION: &[(&[&str], &str)] = &[
     (
         &["lyon", "1", "full"],
         "{\"at\":0,\"fault\":23,\"name\":\"BadSite\"}\n",
@@ -135,24 +134,24 @@ const DOOR: &[(&[&str], &str)] = &[
 ];
 
 #[test]
-fn a_run_is_refused_at_the_door_on_the_output(rt: HostRuntime) -> Result<(), Fail> {
-    let file = library(&rt, "door")?;
-    for (words, told) in DOOR {
-        answers_of(&rt, &file, "run", words, (1, told, ""))?;
+fn a_run_is_refused_on_admission_on_the_output(rt: HostRuntime) -> Result<(), Fail> {
+    let file = library(&rt, "admission")?;
+    for (words, wanted) in ADMISSION {
+        answers_of(&rt, &file, "run", words, (1, wanted, ""))?;
     }
     let long = vec![in rt.alloc(); b'T'; 65_537]?;
-    let told = "{\"at\":0,\"fault\":1,\"name\":\"RunLong\"}\n";
+    let wanted = "{\"at\":0,\"fault\":1,\"name\":\"RunLong\"}\n";
     answers(
         &rt,
         &["run", &file, "LYON", "1", "full"],
         &long,
-        (1, told, ""),
+        (1, wanted, ""),
     )?;
     remove(&rt, &file)
 }
 
 #[test]
-fn a_question_about_nothing_is_refused(rt: HostRuntime) -> Result<(), Fail> {
+fn a_query_of_an_unknown_name_is_refused(rt: HostRuntime) -> Result<(), Fail> {
     let file = library(&rt, "nothing")?;
     answers(
         &rt,
@@ -175,15 +174,17 @@ fn a_question_about_nothing_is_refused(rt: HostRuntime) -> Result<(), Fail> {
     remove(&rt, &file)
 }
 
-/// The words behind `serve FILE`, and what is said of them.
+/// The words after `serve FILE`, and the text on the fault stream.
 const UNREAD: &[(&[&str], &str)] = &[
     (
         &["localhost", "1"],
-        "error: invalid value 'localhost' for '<ADDRESS>': no IP address and port\n\nFor more information, try '--help'.\n",
+        "error: invalid value 'localhost' for '<ADDRESS>': no IP address and port\n\n\
+For more information, try '--help'.\n",
     ),
     (
         &["localhost", "0"],
-        "error: invalid value 'localhost' for '<ADDRESS>': no IP address and port\n\nFor more information, try '--help'.\n",
+        "error: invalid value 'localhost' for '<ADDRESS>': no IP address and port\n\n\
+For more information, try '--help'.\n",
     ),
     (
         &["127.0.0.1:0", "0"],
@@ -196,11 +197,10 @@ const UNREAD: &[(&[&str], &str)] = &[
 ];
 
 #[test]
-fn an_address_or_a_count_that_is_none_is_no_command_line(rt: HostRuntime) -> Result<(), Fail> {
+fn an_address_or_a_count_that_is_not_valid_is_a_mistake(rt: HostRuntime) -> Result<(), Fail> {
     let file = fresh(&rt, "unread")?;
-    for (words, told) in UNREAD {
-        answers_of(&rt, &file, "serve", words, (2, "", told))?;
+    for (words, wanted) in UNREAD {
+        answers_of(&rt, &file, "serve", words, (2, "", wanted))?;
     }
-    assert!(rt; !fs::exists(&rt, file.as_str())?);
-    Ok(())
+    is_not_there(&rt, file.as_str())
 }

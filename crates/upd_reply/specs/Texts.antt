@@ -4,7 +4,7 @@ use Rattle.std.specs.List.{concat, flat_map, AllByRecursion}
 use Rattle.upd_text.specs.Faults.{fault_number, fault_name}
 use Rattle.upd_text.specs.declared.fault.Fault.{Fault}
 
--- whether a byte can stand in a text of a reply: those of lines, and the LF between them
+-- whether a byte can be in a text of a reply: those of lines, and the LF between them
 abbrev pub is_shown : ℕ → Bool
 is_shown b = (nat_le 32 b && nat_le b 126) || (b == 9) || (b == 10)
 
@@ -12,7 +12,7 @@ is_shown b = (nat_le 32 b && nat_le b 126) || (b == 9) || (b == 10)
 abbrev pub AreShown : List ℕ → Type 0
 AreShown text = AllByRecursion (λ b. IsTrue (is_shown b)) text
 
--- what stands in a text for a byte: a quotation mark, a backslash, LF and tab are escaped, and nothing else
+-- a byte as a text has it: a quotation mark, a backslash, LF and tab are escaped, and nothing else
 abbrev pub escaped : ℕ → List ℕ
 escaped b =
     if b == 34
@@ -42,7 +42,7 @@ refused_text site number mode fault =
     ∷ codes ",\"name\":" ∷ quoted (fault_name fault.kind) ∷ codes ",\"run\":" ∷ decimal number ∷ codes ",\"site\":" ∷ quoted site
     ∷ codes ",\"state\":\"refused\"}" ∷ [])
 
--- what tells a fault that is no reply
+-- the text of a fault where there is no reply
 abbrev pub fault_text : Fault → List ℕ
 fault_text fault =
     concat (codes "{\"at\":" ∷ decimal fault.at ∷ codes ",\"fault\":" ∷ decimal (fault_number fault.kind)
@@ -51,3 +51,7 @@ fault_text fault =
 -- the answer to a settlement: the site's mark
 abbrev pub settled_text : List ℕ → ℕ → List ℕ
 settled_text site mark = concat (codes "{\"settled\":" ∷ decimal mark ∷ codes ",\"site\":" ∷ quoted site ∷ codes "}" ∷ [])
+
+-- the same with the site as it is
+abbrev pub settled_bytes : List ℕ → ℕ → List ℕ
+settled_bytes site mark = codes "{\"settled\":" ++ (decimal mark ++ (codes ",\"site\":\"" ++ (site ++ codes "\"}")))

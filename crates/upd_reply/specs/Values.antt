@@ -27,7 +27,7 @@ refused_value site n mode fault =
     (member (codes "name") (string (fault_name fault.kind)) (member (codes "run") (whole n) (member (codes "site") (string site)
     (member (codes "state") (string (codes "refused")) no_members)))))))
 
--- what tells a fault that is no reply
+-- a fault where there is no reply
 abbrev pub fault_value : Fault → Data
 fault_value fault =
     object (member (codes "at") (whole fault.at) (member (codes "fault") (whole (fault_number fault.kind))

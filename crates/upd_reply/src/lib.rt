@@ -1,15 +1,17 @@
 //! Replies and fault texts, as compact JSON.
 //!
-//! Texts in them are lines of runs, names, sites and modes: printable ASCII, tabs and LF. What else a text may hold is
-//! replaced as `String::from_utf8_lossy` does it, or escaped as JSON asks; no clause says more of such a text.
+//! Texts in them are lines of runs, names, sites and modes: printable ASCII, tabs and LF. Other bytes are replaced as
+//! `String::from_utf8_lossy` does it, or escaped as JSON requires. No clause says more about a text with such bytes.
 #![tactic(auto)]
 
+mod mark;
 mod values;
 
 ghost use Rattle.std.specs.Prelude.{◌≡◌, IfOk};
 ghost use Rattle.std.specs.List.{AllByRecursion};
 ghost use Rattle.upd_reply.specs.Texts.{AreShown, accepted_text, fault_text, refused_text};
 
+pub use mark::{SETTLED_ROOM, settled_parts};
 use std::alloc::{AllocError, Global};
 use upd_text::{Fault, Name};
 
@@ -48,7 +50,7 @@ pub fn refused(
     Ok(text)
 }
 
-/// What tells a fault where there is no reply.
+/// The text of a fault where there is no reply.
 pub fn fault(alloc: Global, fault: Fault) -> Result<Vec<u8>, AllocError>
     ensures { IfOk result (λ text. text.items ≡ fault_text fault) }
 {

@@ -1,5 +1,5 @@
 -- What was read of a request is what its input says.
-use Rattle.std.proofs.Common.{◌≡◌, ◌≤◌, ◌⊎◌, ◌<◌, inl, inr, ℕ, min, if◌then◌else◌, List, ◌++◌, length, take, drop, append-nil, append_assoc, Result, Ok, Err, sym, ap, ◌∙◌, arith}
+use Rattle.std.proofs.Common.{◌≡◌, ◌≤◌, ◌⊎◌, ◌<◌, inl, inr, ℕ, min, if◌then◌else◌, List, ◌++◌, length, take, drop, append-nil, append_assoc, Result, Ok, Err, IsErrAnd, sym, ap, ◌∙◌, arith}
 use Rattle.std.proofs.Math.Seq.{take-append_seam, take-length}
 use Rattle.std.proofs.lemmas.Bool.{cases_lt, le-leb}
 use Rattle.std.proofs.lemmas.List.{length-append, length-map, length-take-le, nil_from_length, take-append-le}
@@ -11,17 +11,22 @@ use Rattle.httparse.proofs.GrammarLemmas.{ReadsRequest-append}
 use Rattle.upd_text.specs.Outcome.{◌>>=◌}
 use Rattle.upd_request.specs.Calls.{Asked, Gives, cut_frame}
 use Rattle.upd_request.specs.Parameters.{segments_of}
-use Rattle.upd_request.specs.Requests.{GivesUnlessFailed, IsRead, IsSmall, RefusesHead, Says, Wanted, body_of, judged, wanted}
+use Rattle.upd_request.specs.Requests.{GivesUnlessFailed, IsRead, IsSmall, RefusesHead, Says, HeadView, body_of, judged, checked_head}
 use Rattle.upd_request.specs.Routes.{call_of}
 use Rattle.upd_request.specs.declared.call.Refusal.{Refusal}
 use Rattle.upd_request.specs.declared.head.TheConstants.{MAX_HEAD_BYTES, MAX_HEADERS}
+
+-- a result that is this refusal
+pub error_is : {T : Type 0} (result : Result T Refusal) (refusal : Refusal) → IsErrAnd result (λ e. e ≡ refusal) → result ≡ Err refusal
+error_is (Ok x) refusal is = absurd is
+error_is (Err e) refusal is = ap Err is
 
 pub head_refused : {X : Type 0} (view : X → Asked) (input : List ℕ) (refusal : Refusal) → RefusesHead input refusal → IsRead view input (Err refusal)
 head_refused view input refusal (inl failed) = inl failed
 head_refused view input refusal (inr (inl (bad, is))) = inr (inr (inl (bad, ap Err is)))
 head_refused view input refusal (inr (inr (cut, is))) = inr (inr (inr (cut, ap Err is)))
 
--- A head that was read, with what stands behind it so far.
+-- A head that was read, with the bytes after it so far.
 pub record HasRead (buf : List ℕ) (headers : List HeaderSpan) (spans : RequestSpans) (h : RequestHead) : Type 0 where
   pub head : IsRequestAt buf headers spans h
   pub within : IsRequestWithin buf headers spans
@@ -50,27 +55,27 @@ says later buf headers spans h r outcome is =
       is,
     )
 
-pub wanted_refused : {X Y : Type 0} (view : X → Asked) (seen : Y → Wanted) (buf : List ℕ) (headers : List HeaderSpan) (spans : RequestSpans) (h : RequestHead)
-    → HasRead buf headers spans h → (refusal : Refusal) → Gives seen (Err refusal) (wanted h) → (later : List ℕ) → IsRead view (buf ++ later) (Err refusal)
-wanted_refused view seen buf headers spans h r refusal (inl wanting) later = inl (inl wanting)
-wanted_refused view seen buf headers spans h r refusal (inr is) later =
+pub checked_refused : {X Y : Type 0} (view : X → Asked) (seen : Y → HeadView) (buf : List ℕ) (headers : List HeaderSpan) (spans : RequestSpans) (h : RequestHead)
+    → HasRead buf headers spans h → (refusal : Refusal) → Gives seen (Err refusal) (checked_head h) → (later : List ℕ) → IsRead view (buf ++ later) (Err refusal)
+checked_refused view seen buf headers spans h r refusal (inl wanting) later = inl (inl wanting)
+checked_refused view seen buf headers spans h r refusal (inr is) later =
     let rest = drop spans.len buf ++ later in
-    let F : Result Wanted Refusal → Result Asked Refusal = λ x. x >>= (λ w. body_of w.count rest >>= (λ body. call_of w.route (segments_of w.path) body)) in
+    let F : Result HeadView Refusal → Result Asked Refusal = λ x. x >>= (λ w. body_of w.body_len rest >>= (λ body. call_of w.route (segments_of w.path) body)) in
     inr (says later buf headers spans h r (Err refusal) (sym (ap F is)))
 
 pub body_refused : {X Y : Type 0} (view : X → Asked) (items : Y → List ℕ) (buf : List ℕ) (headers : List HeaderSpan) (spans : RequestSpans) (h : RequestHead)
-    → HasRead buf headers spans h → (w : Wanted) → wanted h ≡ Ok w → (front : List ℕ) → front ≡ drop spans.len buf → (refusal : Refusal) → (later : List ℕ)
-    → GivesUnlessFailed items (Err refusal) (body_of w.count (front ++ later)) → IsRead view (buf ++ later) (Err refusal)
+    → HasRead buf headers spans h → (w : HeadView) → checked_head h ≡ Ok w → (front : List ℕ) → front ≡ drop spans.len buf → (refusal : Refusal) → (later : List ℕ)
+    → GivesUnlessFailed items (Err refusal) (body_of w.body_len (front ++ later)) → IsRead view (buf ++ later) (Err refusal)
 body_refused view items buf headers spans h r w is front same refusal later (inl failed) = inl failed
 body_refused view items buf headers spans h r w is front same refusal later (inr none) =
     let rest = drop spans.len buf ++ later in
-    let F : Result Wanted Refusal → Result Asked Refusal = λ x. x >>= (λ w. body_of w.count rest >>= (λ body. call_of w.route (segments_of w.path) body)) in
+    let F : Result HeadView Refusal → Result Asked Refusal = λ x. x >>= (λ w. body_of w.body_len rest >>= (λ body. call_of w.route (segments_of w.path) body)) in
     let G : Result (List ℕ) Refusal → Result Asked Refusal = λ x. x >>= (λ body. call_of w.route (segments_of w.path) body) in
-    inr (says later buf headers spans h r (Err refusal) (sym (ap F is ∙ ap G (ap (λ l. body_of w.count (l ++ later)) (sym same) ∙ none))))
+    inr (says later buf headers spans h r (Err refusal) (sym (ap F is ∙ ap G (ap (λ l. body_of w.body_len (l ++ later)) (sym same) ∙ none))))
 
 pub call_read : {X Y : Type 0} (view : X → Asked) (items : Y → List ℕ) (buf : List ℕ) (headers : List HeaderSpan) (spans : RequestSpans) (h : RequestHead)
-    → HasRead buf headers spans h → (w : Wanted) → wanted h ≡ Ok w → (front : List ℕ) → front ≡ drop spans.len buf → (body : Y) → (later : List ℕ)
-    → GivesUnlessFailed items (Ok body) (body_of w.count (front ++ later))
+    → HasRead buf headers spans h → (w : HeadView) → checked_head h ≡ Ok w → (front : List ℕ) → front ≡ drop spans.len buf → (body : Y) → (later : List ℕ)
+    → GivesUnlessFailed items (Ok body) (body_of w.body_len (front ++ later))
     → (result : Result X Refusal) → Gives view result (call_of w.route (segments_of w.path) (items body)) → IsRead view (buf ++ later) result
 call_read {X = X} view items buf headers spans h r w is front same body later whole result gives = by result gives
   where
@@ -79,9 +84,9 @@ call_read {X = X} view items buf headers spans h r w is front same body later wh
 
     judged_is : judged h rest ≡ call_of w.route (segments_of w.path) (items body)
     judged_is =
-        let F : Result Wanted Refusal → Result Asked Refusal = λ x. x >>= (λ w. body_of w.count rest >>= (λ body. call_of w.route (segments_of w.path) body)) in
+        let F : Result HeadView Refusal → Result Asked Refusal = λ x. x >>= (λ w. body_of w.body_len rest >>= (λ body. call_of w.route (segments_of w.path) body)) in
         let G : Result (List ℕ) Refusal → Result Asked Refusal = λ x. x >>= (λ body. call_of w.route (segments_of w.path) body) in
-        ap F is ∙ ap G (ap (λ l. body_of w.count (l ++ later)) (sym same) ∙ whole)
+        ap F is ∙ ap G (ap (λ l. body_of w.body_len (l ++ later)) (sym same) ∙ whole)
 
     by : (result : Result X Refusal) → Gives view result (call_of w.route (segments_of w.path) (items body)) → IsRead view (buf ++ later) result
     by (Ok call) gives = says later buf headers spans h r (Ok (view call)) (sym (judged_is ∙ gives))

@@ -5,10 +5,10 @@ use Rattle.upd_text.specs.declared.card_ref.CardRef.{CardRef}
 use Rattle.upd_text.specs.declared.fault.FaultKind.{FaultKind}
 use Rattle.upd_text.specs.declared.fault.FaultKind.TheVariants.{NoMemory, BadFrame, CutFrame, Read}
 use Rattle.upd_text.specs.Faults.{fault_at}
-use Rattle.upd_request.specs.declared.call.Call.{Call}
-use Rattle.upd_request.specs.declared.call.Call.TheVariants.{Run, Settle, Compile, Deck, Card, Idents, Yanks}
+use Rattle.upd_request.specs.declared.call.DeskCall.{DeskCall}
+use Rattle.upd_request.specs.declared.call.DeskCall.TheVariants.{Run, Settle, Compile, Deck, Card, Idents, Yanks}
 use Rattle.upd_request.specs.declared.call.Refusal.{Refusal}
-use Rattle.upd_request.specs.declared.call.Refusal.TheVariants.{Silent, Told}
+use Rattle.upd_request.specs.declared.call.Refusal.TheVariants.{Silent, Answered}
 
 -- What is asked of the desk.
 pub data Asked : Type 0 where
@@ -23,8 +23,8 @@ pub data Asked : Type 0 where
   idents : Asked
   yanks : Asked
 
--- a call as it is meant
-abbrev pub asked : Call → Asked
+-- a call, by the bytes of its texts
+abbrev pub asked : DeskCall → Asked
 asked (Run site number mode body) = run (string_bytes site) number (string_bytes mode) body.items
 asked (Settle site number) = settle (string_bytes site) number
 asked Compile = compile
@@ -33,17 +33,17 @@ asked (Card c) = card c
 asked Idents = idents
 asked Yanks = yanks
 
--- the refusals that are told by a fault, which has no line
-abbrev pub told_refusal : FaultKind → Refusal
-told_refusal kind = Told (fault_at kind 0)
+-- the refusal that answers a fault of this kind, which has no line
+abbrev pub fault_refusal : FaultKind → Refusal
+fault_refusal kind = Answered (fault_at kind 0)
 
--- want of memory
+-- out of memory
 abbrev pub no_memory_refusal : Refusal
-no_memory_refusal = told_refusal NoMemory
+no_memory_refusal = fault_refusal NoMemory
 
--- a request that is no request
+-- bytes that are not a request
 abbrev pub bad_frame : Refusal
-bad_frame = told_refusal BadFrame
+bad_frame = fault_refusal BadFrame
 
 -- a request that ends too early: nothing is answered
 abbrev pub cut_frame : Refusal
@@ -53,7 +53,7 @@ cut_frame = Silent (fault_at CutFrame 0)
 abbrev pub read_failed_refusal : Refusal
 read_failed_refusal = Silent (fault_at Read 0)
 
--- A call answered what is defined, as the view shows it, or met the defined refusal; or memory was wanting.
+-- A call returned what is defined, as the view shows it, or the defined refusal; or it ran out of memory.
 abbrev pub Gives : {X Y : Type 0} → (X → Y) → Result X Refusal → Result Y Refusal → Type 0
 Gives view (Ok x) defined = defined ≡ Ok (view x)
 Gives view (Err refusal) defined = (refusal ≡ no_memory_refusal) ⊎ (defined ≡ Err refusal)

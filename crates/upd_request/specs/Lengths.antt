@@ -8,7 +8,7 @@ use Rattle.upd_text.specs.declared.limits.TheConstants.{MAX_RUN_BYTES}
 use Rattle.upd_request.specs.declared.lengths.BodyLength.{BodyLength}
 use Rattle.upd_request.specs.declared.lengths.BodyLength.TheVariants.{Absent, Bytes, Long, Bad}
 
--- the number that these bytes spell in digits, unless it is none or above the limit
+-- the number that these bytes spell in digits, unless they are not a number or it is above the limit
 abbrev pub length_said : List ℕ → BodyLength
 length_said text =
     if nat_lt 0 (length text) && list_all is_digit text

@@ -1,6 +1,5 @@
 pub mod Calls
 pub mod Lengths
-pub mod Methods
 pub mod Parameters
 pub mod Routes
 pub mod Requests

@@ -5,25 +5,25 @@ use Rattle.std.specs.Str.{is_utf8}
 use Rattle.percent_encoding.specs.Percent.{percent_decode}
 use Rattle.upd_text.specs.declared.fault.FaultKind.{FaultKind}
 use Rattle.upd_text.specs.Names.{is_name}
-use Rattle.upd_request.specs.Calls.{told_refusal}
+use Rattle.upd_request.specs.Calls.{fault_refusal}
 use Rattle.upd_request.specs.declared.call.Refusal.{Refusal}
 
--- the path of a target: what stands before the first `?`
+-- the path of a target: what precedes the first `?`
 abbrev pub path_of : List ℕ → List ℕ
 path_of target = before_first (λ b. b == 63) target
 
--- the segments of a path: what stands between its slashes
+-- the segments of a path, which slashes separate
 abbrev pub segments_of : List ℕ → List (List ℕ)
 segments_of path = slice_split (λ b. b == 47) path
 
--- the parameter that stands at a place among the segments, decoded
+-- the parameter at a place among the segments, decoded
 abbrev pub parameter : List (List ℕ) → ℕ → List ℕ
 parameter segments n = percent_decode (get_or segments n [])
 
--- what is read, or else the refusal
-abbrev pub or_told : {A : Type 0} → FaultKind → Option A → Result A Refusal
-or_told kind (Some x) = Ok x
-or_told kind None = Err (told_refusal kind)
+-- what was read, or the refusal
+abbrev pub or_refuse : {A : Type 0} → FaultKind → Option A → Result A Refusal
+or_refuse kind (Some x) = Ok x
+or_refuse kind None = Err (fault_refusal kind)
 
 -- a text, if it is UTF-8
 abbrev pub text_of : List ℕ → Option (List ℕ)

@@ -6,12 +6,12 @@ use Rattle.upd_request.specs.Routes.{route_of}
 use Rattle.upd_request.specs.declared.routes.Route.{Route}
 use Rattle.upd_request.specs.declared.routes.Route.TheVariants as route
 
--- A part of a route: a word, or a parameter, which is any segment that isn't empty.
+-- A part of a route: a word, or a parameter, which takes any segment that is not empty.
 pub data Part : Type 0 where
   word : List ℕ → Part
   any : Part
 
--- the parts of a route, from the one in front of its first slash on
+-- the parts of a route, beginning with the empty one before its first slash
 abbrev pub parts_of : Route → List Part
 parts_of route.Run = word [] ∷ word (codes "sites") ∷ any ∷ word (codes "runs") ∷ any ∷ any ∷ []
 parts_of route.Settled = word [] ∷ word (codes "sites") ∷ any ∷ word (codes "settled") ∷ any ∷ []
@@ -27,7 +27,7 @@ part_fits (word w) segment = bytes_eq w segment
 part_fits any [] = false
 part_fits any (b ∷ rest) = true
 
--- whether segments fit parts, each its own
+-- whether each segment fits its part
 abbrev pub fits : List Part → List (List ℕ) → Bool
 fits [] [] = true
 fits [] (segment ∷ segments) = false

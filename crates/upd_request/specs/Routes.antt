@@ -11,10 +11,8 @@ use Rattle.upd_text.specs.declared.fault.FaultKind.TheVariants.{BadName, BadCard
 use Rattle.upd_text.specs.Names.{card_of}
 use Rattle.upd_text.specs.Outcome.{◌>>=◌}
 use Rattle.upd_request.specs.Calls.{Asked, run, settle, compile, deck, card, idents, yanks}
-use Rattle.upd_request.specs.Parameters.{name_of, or_told, parameter, text_of}
+use Rattle.upd_request.specs.Parameters.{name_of, or_refuse, parameter, text_of}
 use Rattle.upd_request.specs.declared.call.Refusal.{Refusal}
-use Rattle.upd_request.specs.declared.call.Method.{Method}
-use Rattle.upd_request.specs.declared.call.Method.TheVariants.{Get, Post}
 use Rattle.upd_request.specs.declared.routes.Route.{Route}
 use Rattle.upd_request.specs.declared.routes.Route.TheVariants as route
 
@@ -60,32 +58,32 @@ abbrev pub route_of : List ℕ → Option Route
 route_of path = option_map (λ found. found.value) (first routes path)
 
 -- the one method of a route
-abbrev pub method_of : Route → Method
-method_of route.Run = Post
-method_of route.Settled = Post
-method_of route.Compile = Get
-method_of route.Deck = Get
-method_of route.Card = Get
-method_of route.Idents = Get
-method_of route.Yanks = Get
+abbrev pub method_of : Route → List ℕ
+method_of route.Run = codes "POST"
+method_of route.Settled = codes "POST"
+method_of route.Compile = codes "GET"
+method_of route.Deck = codes "GET"
+method_of route.Card = codes "GET"
+method_of route.Idents = codes "GET"
+method_of route.Yanks = codes "GET"
 
--- What a route asks, by the segments of its path and the body: the leftmost parameter that can't be read is the refusal.
+-- What a route asks, by the segments of its path and the body. The leftmost parameter that is not valid gives the refusal.
 abbrev pub call_of : Route → List (List ℕ) → List ℕ → Result Asked Refusal
 call_of route.Run segments body = do
-  site ← or_told BadSite (text_of (parameter segments 2))
-  number ← or_told BadNumber (number_of (parameter segments 4))
-  mode ← or_told BadMode (text_of (parameter segments 5))
+  site ← or_refuse BadSite (text_of (parameter segments 2))
+  number ← or_refuse BadNumber (number_of (parameter segments 4))
+  mode ← or_refuse BadMode (text_of (parameter segments 5))
   Ok (run site number mode body)
 call_of route.Settled segments body = do
-  site ← or_told BadSite (text_of (parameter segments 2))
-  number ← or_told BadNumber (number_of (parameter segments 4))
+  site ← or_refuse BadSite (text_of (parameter segments 2))
+  number ← or_refuse BadNumber (number_of (parameter segments 4))
   Ok (settle site number)
 call_of route.Compile segments body = Ok compile
 call_of route.Deck segments body = do
-  name ← or_told BadName (name_of (parameter segments 2))
+  name ← or_refuse BadName (name_of (parameter segments 2))
   Ok (deck name)
 call_of route.Card segments body = do
-  c ← or_told BadCard (card_of (parameter segments 2 ++ (46 ∷ parameter segments 3)))
+  c ← or_refuse BadCard (card_of (parameter segments 2 ++ (46 ∷ parameter segments 3)))
   Ok (card c)
 call_of route.Idents segments body = Ok idents
 call_of route.Yanks segments body = Ok yanks

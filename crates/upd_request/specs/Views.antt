@@ -1,7 +1,7 @@
--- What a value of the code stands for.
-use Rattle.upd_request.specs.Requests.{Wanted}
-use Rattle.upd_request.specs.declared.request.Wanted as code
+-- What a value of the code means.
+use Rattle.upd_request.specs.Requests.{HeadView}
+use Rattle.upd_request.specs.declared.request.RequestHead as code
 
--- what a head says
-abbrev pub wanted_seen : code.Wanted → Wanted
-wanted_seen w = record { route = w.route; path = w.path.now; count = w.count }
+-- a head that was read
+abbrev pub head_view : code.RequestHead → HeadView
+head_view w = record { route = w.route; path = w.path.now; body_len = w.body_len }

@@ -1,18 +1,15 @@
 //! The head of a request, read as far as it goes.
 
-ghost use Rattle.std.specs.Prelude.{◌≡◌, ◌≢◌, ◌≤◌, ℕ, List, [], IfErr, IfOk, OnOk, length};
+ghost use Rattle.std.specs.Prelude.{◌≡◌, ◌≤◌, ℕ, List, [], IfErr, IfOk, OnOk, length};
 ghost use Rattle.std.specs.Io.KnownBytes.{Consumes};
-ghost use Rattle.std.specs.IoError.{error_kind};
 ghost use Rattle.httparse.specs.Spans.{IsRequestOf, IsRequestWithin};
 ghost use Rattle.upd_io.specs.Inputs.{IsInput};
-ghost use Rattle.upd_request.specs.Calls.{no_memory_refusal, read_failed_refusal};
-ghost use Rattle.upd_request.specs.Requests.{IsFailure, RefusesHead};
+ghost use Rattle.upd_request.specs.Requests.{RefusesHead};
 
 use crate::call::Refusal;
 use httparse::Status;
 use httparse::spans::{HeaderSpan, RequestSpans, parse_request};
-use std::io;
-use std::io::{ErrorKind, Read};
+use std::io::Read;
 use upd_text::FaultKind;
 
 /// The longest head, in bytes.
@@ -21,8 +18,8 @@ pub const MAX_HEAD_BYTES: usize = 8_192;
 /// The most headers of a head.
 pub const MAX_HEADERS: usize = 32;
 
-/// Reads until a whole head is there, into an empty buffer, and no more than a head may have. What stands behind the
-/// head in the buffer is the beginning of the body.
+/// Reads into an empty buffer until it has a whole head, and no more than a head may have. What follows the head in the
+/// buffer is a prefix of the body.
 pub(crate) fn read_head<R: Read>(
     reader: &mut R,
     buf: &mut Vec<u8>,
@@ -41,13 +38,13 @@ pub(crate) fn read_head<R: Read>(
         let room = (MAX_HEAD_BYTES - buf.len()).min(1024);
         let part = &mut chunk[..room];
         match reader.read(part) {
-            Ok(0) => return Err(Refusal::Silent(FaultKind::CutFrame.without_line())),
+            Ok(0) => return Err(Refusal::silent(FaultKind::CutFrame)),
             Ok(count) => {
                 if buf.extend_from_slice(&part[..count]).is_err() {
                     return Err(Refusal::of(FaultKind::NoMemory));
                 }
             }
-            Err(error) => return Err(read_refusal(&error)),
+            Err(_) => return Err(Refusal::silent(FaultKind::Read)),
         }
         match parse_request(buf, headers) {
             Ok(Status::Complete(spans)) => return Ok(spans),
@@ -56,16 +53,4 @@ pub(crate) fn read_head<R: Read>(
         }
     }
     Err(Refusal::of(FaultKind::BadFrame))
-}
-
-/// A failed read is Read, unless memory was wanting.
-pub(crate) fn read_refusal(error: &io::Error) -> Refusal
-    ensures failure { IsFailure result }
-    ensures memory { error_kind error.now ≡ ErrorKind.OutOfMemory → result ≡ no_memory_refusal }
-    ensures other { error_kind error.now ≢ ErrorKind.OutOfMemory → result ≡ read_failed_refusal }
-{
-    match error.kind() {
-        ErrorKind::OutOfMemory => Refusal::of(FaultKind::NoMemory),
-        _ => Refusal::Silent(FaultKind::Read.without_line()),
-    }
 }

@@ -1,9 +1,9 @@
-//! A law of requests. The function has an empty body, and each clause of it is a theorem about the definitions.
+//! A law of requests: a function with an empty body, whose clauses are theorems about the definitions.
 ghost use Rattle.std.specs.Prelude.{◌≡◌, List, ℕ};
 ghost use Rattle.upd_request.specs.Calls.{Asked};
 ghost use Rattle.upd_request.specs.Requests.{HasCutHead, Says};
 
-/// An input asks at most one thing of the desk, and one that asks something isn't cut in its head.
+/// An input asks at most one thing of the desk. One that asks something is not cut in its head.
 pub fn requests_ask_one_thing()
     ensures one { (input : List ℕ) (asked other : Asked) → Says input (Ok asked) → Says input (Ok other)
         → asked ≡ other }

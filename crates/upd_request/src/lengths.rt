@@ -1,4 +1,4 @@
-//! How long a body is.
+//! The length of a body.
 
 ghost use Rattle.std.specs.Prelude.{◌≡◌, ◌<◌, ◌≤◌, ◌+◌, ◌*◌, All, IsTrue, length, map};
 ghost use Rattle.httparse.specs.Spans.{IsHeaderWithin, header_bytes};
@@ -9,16 +9,16 @@ use httparse::spans::HeaderSpan;
 use upd_text::all_digits;
 use upd_text::limits::MAX_RUN_BYTES;
 
-/// What fields of a head say of the length of the body.
+/// What the fields of a head say about the length of the body.
 #[derive(Clone, Copy, Debug, PartialEq, Eq)]
 pub enum BodyLength {
     /// Nothing.
     Absent,
-    /// So many bytes: as many as a run may have, at most.
+    /// This number of bytes, at most that of the longest run.
     Bytes(usize),
-    /// More bytes than a run may have.
+    /// More bytes than the longest run has.
     Long,
-    /// A length that is empty or not of digits alone, two lengths, or any `Transfer-Encoding`.
+    /// A length that is empty or has other bytes than digits, two lengths, or any `Transfer-Encoding`.
     Bad,
 }
 
@@ -64,8 +64,8 @@ fn is_named(word: &[u8], name: &[u8]) -> bool
     name.eq_ignore_ascii_case(word)
 }
 
-/// The length that digits spell: Long once it passes the limit, however many follow; Bad where the text is empty or not
-/// of digits alone.
+/// The length that digits spell: Long as soon as it passes the limit, however many digits follow, and Bad where the
+/// text is empty or has other bytes.
 fn read_length(text: &[u8]) -> BodyLength
     ensures { result ≡ length_said text.now }
 {

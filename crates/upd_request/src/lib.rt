@@ -1,7 +1,7 @@
 //! Requests of HTTP: how a head and a body are read, and what they ask of the desk.
 //!
-//! What a request means stands in `specs/`: a head is what `httparse` reads, lengths and parameters are judged here,
-//! and routes are found by `matchit`.
+//! `specs/` defines what a request means. `httparse` reads the head, `matchit` finds the route, and this crate reads
+//! lengths and parameters.
 #![tactic(auto)]
 
 mod call;
@@ -11,8 +11,10 @@ mod lengths;
 mod parameters;
 mod request;
 mod routes;
+mod table;
 
-pub use call::{Call, Method, Refusal};
+pub use call::{DeskCall, Refusal};
 pub use laws::requests_ask_one_thing;
 pub use request::read_call;
-pub use routes::routes_are_plain;
+pub use routes::{Route, routes_are_plain};
+pub use table::RouteTable;

@@ -6,7 +6,7 @@ ghost use Rattle.upd_io.specs.Numbers.{number_of};
 ghost use Rattle.upd_text.specs.Names.{card_of};
 ghost use Rattle.upd_text.specs.declared.fault.FaultKind.TheVariants.{BadCard, BadName, BadNumber};
 ghost use Rattle.upd_request.specs.Calls.{Gives};
-ghost use Rattle.upd_request.specs.Parameters.{name_of, or_told, parameter, path_of};
+ghost use Rattle.upd_request.specs.Parameters.{name_of, or_refuse, parameter, path_of};
 ghost use Rattle.upd_request.specs.Parameters.{segments_of, text_of};
 
 use crate::call::Refusal;
@@ -15,7 +15,7 @@ use std::alloc::{AllocError, Global};
 use upd_io::read_number;
 use upd_text::{CardRef, FaultKind, Name};
 
-/// The path of a target: what stands before its query.
+/// The path of a target, without its query.
 pub(crate) fn path_of(target: &str) -> &str
     ensures { result.now ≡ path_of target.now }
 {
@@ -25,7 +25,7 @@ pub(crate) fn path_of(target: &str) -> &str
     }
 }
 
-/// The segment of a path at a place, or no text where there are fewer.
+/// The segment of a path at a place, or an empty text if there are fewer.
 fn segment(path: &str, place: usize) -> &str
     ensures { result.now ≡ get_or (segments_of path.now) place [] }
 {
@@ -41,14 +41,14 @@ fn parameter(alloc: Global, path: &str, place: usize) -> Result<Vec<u8>, AllocEr
     Ok(bytes)
 }
 
-/// A parameter as a text; `kind` where it isn't UTF-8.
+/// A parameter as a text. The fault is `kind` where it is not UTF-8.
 pub(crate) fn text_at(
     alloc: Global,
     path: &str,
     place: usize,
     kind: FaultKind,
 ) -> Result<String, Refusal>
-    ensures { Gives string_bytes result (or_told kind (text_of (parameter (segments_of path.now) place))) }
+    ensures { Gives string_bytes result (or_refuse kind (text_of (parameter (segments_of path.now) place))) }
 {
     match percent_decode_str(segment(path, place)).decode_utf8(alloc) {
         Ok(text) => {
@@ -60,9 +60,9 @@ pub(crate) fn text_at(
     }
 }
 
-/// A parameter as a number; BadNumber where it is none.
+/// A parameter as a number, or BadNumber.
 pub(crate) fn number_at(alloc: Global, path: &str, place: usize) -> Result<u64, Refusal>
-    ensures { Gives (λ n. n) result (or_told BadNumber (number_of (parameter (segments_of path.now) place))) }
+    ensures { Gives (λ n. n) result (or_refuse BadNumber (number_of (parameter (segments_of path.now) place))) }
 {
     let text = parameter(alloc, path, place)?;
     match read_number(&text) {
@@ -71,9 +71,9 @@ pub(crate) fn number_at(alloc: Global, path: &str, place: usize) -> Result<u64, 
     }
 }
 
-/// A parameter as a name; BadName where it is none.
+/// A parameter as a name, or BadName.
 pub(crate) fn name_at(alloc: Global, path: &str, place: usize) -> Result<Name, Refusal>
-    ensures { Gives (λ n. n) result (or_told BadName (name_of (parameter (segments_of path.now) place))) }
+    ensures { Gives (λ n. n) result (or_refuse BadName (name_of (parameter (segments_of path.now) place))) }
 {
     let text = parameter(alloc, path, place)?;
     match Name::read(&text) {
@@ -82,14 +82,14 @@ pub(crate) fn name_at(alloc: Global, path: &str, place: usize) -> Result<Name, R
     }
 }
 
-/// Two parameters as one card reference; BadCard where they are none.
+/// Two parameters as one card reference, or BadCard.
 pub(crate) fn card_at(
     alloc: Global,
     path: &str,
     ident: usize,
     number: usize,
 ) -> Result<CardRef, Refusal>
-    ensures { Gives (λ c. c) result (or_told BadCard (card_of (parameter (segments_of path.now) ident
+    ensures { Gives (λ c. c) result (or_refuse BadCard (card_of (parameter (segments_of path.now) ident
         ++ (46 ∷ parameter (segments_of path.now) number)))) }
 {
     let mut text = parameter(alloc, path, ident)?;

@@ -1,11 +1,26 @@
 -- What a store keeps, and what a crash leaves of it, over several calls.
-use Rattle.std.proofs.Common.{◌≡◌, ◌⊎◌, inl, inr, refl, ◌∙◌, subst, arith}
+use Rattle.std.proofs.Common.{◌≡◌, ◌⊎◌, Result, Ok, Err, IfErr, OnErr, OnOk, inl, inr, refl, sym, ap, ◌∙◌, subst, rules, arith}
+use Rattle.std.specs.Result.{IsErrAnd}
+use Rattle.upd_text.specs.declared.fault.Fault.{Fault}
+use Rattle.upd_text.specs.declared.fault.FaultKind.TheVariants.{NoMemory, Store}
+use Rattle.upd_text.specs.Faults.{fault_at}
+use Rattle.upd_core.specs.Library.{LibraryView}
 use Rattle.upd_records.specs.Rows.{Rows}
 use Rattle.upd_row_store.specs.declared.meaning.Meaning.{Ghosts}
-use Rattle.upd_row_store.specs.Keeping.{Keeps, Tries}
+use Rattle.upd_row_store.specs.Keeping.{Keeps, LeavesLoad, LeavesRead, LeavesWrite, Tries, reads_after}
+use Rattle.upd_row_store.proofs.KeepingLemmas.{lost_for_memory}
+
+-- out of memory is no failure of a store, and no answer
+memory_counts : {A : Type 0} (P : Type 0) (r : Result A Fault) → IsErrAnd r (λ e. e ≡ fault_at NoMemory 0) → IfErr r (λ e. e.kind ≡ Store → P)
+memory_counts P (Ok x) is = search rules
+memory_counts P (Err e) is = λ store. absurd (let clash : NoMemory ≡ Store = sym (ap (λ g. g.kind) is) ∙ store in cc)
+
+opens_none : {A : Type 0} (P : Type 0) (r : Result A Fault) → IsErrAnd r (λ e. e ≡ fault_at NoMemory 0) → OnOk r P
+opens_none P (Ok x) is = search rules
+opens_none P (Err e) is = tt
 
 module _ {S : Type 0} {meaning : Ghosts S} where
-  open meaning use {Image, shows, image, is_open, is_honest, may_leave}
+  open meaning use {Image, shows, image, is_open, is_honest, may_leave, decks_read_of}
 
   -- nothing was called
   pub keeps_still : (s : S) → Keeps meaning s s
@@ -71,3 +86,47 @@ module _ {S : Type 0} {meaning : Ghosts S} where
       from : (i : Image) → may_leave old i ⊎ Written fits write i → may_leave old i ⊎ Written fewer other i
       from i (inl may) = inl may
       from i (inr written) = inr (written.0, λ rows shown few. subst (λ r. shows i r) (same rows few) (written.1 rows shown (fit rows few)))
+
+  -- ---- out of memory
+
+  -- a read after which memory ran out
+  pub read_lost : {A : Type 0} (r : Result A Fault) (old new : S) → IsErrAnd r (λ e. e ≡ fault_at NoMemory 0) → Keeps meaning old new
+      → decks_read_of new ≡ decks_read_of old → LeavesRead meaning r old new
+  read_lost r old new is same unread = record {
+    opens = λ honest. opens_none _ r is;
+    same = same;
+    lost = lost_for_memory r is;
+    failed = memory_counts _ r is;
+    unread = unread;
+  }
+
+  -- a load
+  pub load_lost : (r : Result LibraryView Fault) (old new : S) → IsErrAnd r (λ e. e ≡ fault_at NoMemory 0) → Keeps meaning old new
+      → decks_read_of new ≡ decks_read_of old → LeavesLoad meaning r old new
+  load_lost r old new is same unread = record {
+    opens = λ honest. opens_none _ r is;
+    same = same;
+    lost = lost_for_memory r is;
+    failed = memory_counts _ r is;
+    reads = by r is;
+  }
+    where
+      by : (r : Result LibraryView Fault) → IsErrAnd r (λ e. e ≡ fault_at NoMemory 0) → decks_read_of new ≡ reads_after r (decks_read_of old)
+      by (Ok x) is = search rules
+      by (Err e) is = unread
+
+  -- a write that was not carried out
+  pub write_lost : {A : Type 0} (fits : Rows → Type 0) (write : Rows → Rows) (r : Result A Fault) (old new : S)
+      → IsErrAnd r (λ e. e ≡ fault_at NoMemory 0) → old ≡ new → LeavesWrite meaning fits write r old new
+  write_lost fits write r old new is still = subst (λ s. LeavesWrite meaning fits write r old s) still (record {
+    opens = λ honest. opens_none _ r is;
+    undone = λ honest opened. by r;
+    crash = keeps_as_tries (keeps_still old);
+    lost = lost_for_memory r is;
+    failed = memory_counts _ r is;
+    unread = refl;
+  })
+    where
+      by : {A : Type 0} (r : Result A Fault) → OnErr r (image old ≡ image old)
+      by (Ok x) = tt
+      by (Err e) = refl

@@ -39,7 +39,7 @@ AreEntriesByCard rows = IsSortedBy (λ a b. is_lt (ordering_then (card_order a.c
 abbrev pub AreTargetsByCard : List TargetRow → Type 0
 AreTargetsByCard rows = IsSortedBy (λ a b. is_lt (ordering_then (card_order a.card b.card) (nat_cmp a.ord b.ord))) rows
 
--- the age of the held ident of a name, 0 where there is none
+-- the serial of the held ident of a name, 0 where no ident has it
 abbrev pub age_named : List Ident → Bytes → ℕ
 age_named idents name = option_map_or (λ i. i.age) (held_named name idents) 0
 

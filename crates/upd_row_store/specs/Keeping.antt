@@ -1,9 +1,10 @@
 -- What a call of a store may do to what the store keeps, and to what a crash leaves of it.
-use Rattle.std.specs.Prelude.{◌≡◌, ℕ, ◌+◌, ◌-◌, ◌^◌, ◌≤◌, ◌⊎◌, min, length, Result, Ok, Err}
+use Rattle.std.specs.Prelude.{◌≡◌, ℕ, ◌+◌, ◌-◌, ◌^◌, ◌≤◌, ◌⊎◌, min, length, Result, Ok, Err, IfErr, IfOk, OnErr, OnOk}
 use Rattle.upd_text.specs.declared.fault.Fault.{Fault}
 use Rattle.upd_text.specs.declared.fault.FaultKind.TheVariants as fault
 use Rattle.upd_core.specs.Library.{LibraryView}
-use Rattle.upd_records.specs.Rows.{Rows}
+use Rattle.upd_core.specs.Sound.{IsSound, IsWhole}
+use Rattle.upd_records.specs.Rows.{Rows, Shows}
 use Rattle.upd_row_store.specs.declared.meaning.Meaning.{Ghosts}
 
 -- a count of failures rose, or stands at its last value
@@ -25,7 +26,7 @@ pub data IsLost : Fault → Type 0 where
   OfStore : (f : Fault) → f.kind ≡ fault.Store → f.at ≡ 0 → IsLost f
 
 module _ {S : Type 0} (meaning : Ghosts S) where
-  open meaning use {Image, shows, image, is_open, is_honest, may_leave, failures_of}
+  open meaning use {Image, shows, image, is_open, is_honest, may_leave, failures_of, decks_read_of}
 
   -- the store shows these tables
   abbrev pub IsShown : Rows → S → Type 0
@@ -34,6 +35,19 @@ module _ {S : Type 0} (meaning : Ghosts S) where
   -- it has failed once more
   abbrev pub FailsMore : S → S → Type 0
   FailsMore old new = MoreFailures (failures_of old) (failures_of new)
+
+  -- an answer is right of the tables that the store showed
+  abbrev pub FindsRows : {A : Type 0} → Result A Fault → S → S → (Rows → A → Type 0) → Type 0
+  FindsRows result old new right = is_honest new → IfOk result (λ found. (rows : Rows) → IsShown rows old → right rows found)
+
+  -- an answer is right of the library that these tables show
+  abbrev pub FindsLibrary : {A : Type 0} → Result A Fault → S → S → (LibraryView → Rows → A → Type 0) → Type 0
+  FindsLibrary result old new right = is_honest new
+      → IfOk result (λ found. (l : LibraryView) → IsSound l → IsWhole l → (rows : Rows) → IsShown rows old → Shows rows l → right l rows found)
+
+  -- a fault says that the store has failed only where it counts one failure more
+  abbrev pub CountsFailure : {A : Type 0} → Result A Fault → S → S → Type 0
+  CountsFailure result old new = IfErr result (λ e. e.kind ≡ fault.Store → FailsMore old new)
 
   -- A call that only reads: what the store keeps stays, and a crash leaves nothing that it could not leave before.
   pub record Keeps (old new : S) : Type 0 where
@@ -51,3 +65,28 @@ module _ {S : Type 0} (meaning : Ghosts S) where
     pub crash : is_honest new → (i : Image) → may_leave new i
         → may_leave old i ⊎ (is_open old × ((rows : Rows) → shows (image old) rows → fits rows → shows i (write rows)))
     pub counts : failures_of old ≤ failures_of new
+
+  -- What a read leaves: what the store kept, and no deck more is read. A fault is a lack of memory or a failure of the store.
+  pub record LeavesRead {A : Type 0} (result : Result A Fault) (old new : S) : Type 0 where
+    pub opens : is_honest new → OnOk result (is_open new)
+    pub same : Keeps old new
+    pub lost : IfErr result IsLost
+    pub failed : CountsFailure result old new
+    pub unread : decks_read_of new ≡ decks_read_of old
+
+  -- What a load leaves: the same, but that its decks count as read.
+  pub record LeavesLoad (result : Result LibraryView Fault) (old new : S) : Type 0 where
+    pub opens : is_honest new → OnOk result (is_open new)
+    pub same : Keeps old new
+    pub lost : IfErr result IsLost
+    pub failed : CountsFailure result old new
+    pub reads : decks_read_of new ≡ reads_after result (decks_read_of old)
+
+  -- What a write in one transaction leaves: after a fault what the store kept; a crash may leave it written.
+  pub record LeavesWrite {A : Type 0} (fits : Rows → Type 0) (write : Rows → Rows) (result : Result A Fault) (old new : S) : Type 0 where
+    pub opens : is_honest new → OnOk result (is_open new)
+    pub undone : is_honest new → is_open new → OnErr result (image new ≡ image old)
+    pub crash : Tries fits write old new
+    pub lost : IfErr result IsLost
+    pub failed : CountsFailure result old new
+    pub unread : decks_read_of new ≡ decks_read_of old

@@ -9,7 +9,7 @@ ghost use Rattle.upd_core.specs.Sound.{IsSound};
 ghost use Rattle.upd_records.specs.Rows.{Rows, Shows};
 ghost use Rattle.upd_row_store.specs.Asked.{AreDecksOf, decks_with, is_asked};
 ghost use Rattle.upd_row_store.specs.Keeping.{reads_with};
-ghost use Rattle.upd_row_store.specs.Tables.{AreByKey, AreRead};
+ghost use Rattle.upd_row_store.specs.Tables.{AreByKey, AreRead, AreReadOf};
 
 use std::alloc::{AllocError, Global};
 use std::collections::BTreeSet;
@@ -86,4 +86,15 @@ pub fn states_by_key(states: States) -> States
     states.states.sort_unstable_by_key(|pair| pair.0);
     states.counts.sort_unstable_by_key(|pair| pair.0);
     states
+}
+
+/// The statuses of these cards and all counts, in the order of their tables' keys; only memory can run out.
+pub fn states_among(alloc: Global, states: States, cards: &[CardRef]) -> Result<States, AllocError>
+    ensures read { IfOk result (λ found. (rows : Rows) → AreRead rows states → AreReadOf cards.now rows found) }
+    ensures order { IfOk result AreByKey }
+{
+    let set = card_set(alloc, cards)?;
+    let mut states = states;
+    keep_states(&mut states.states, &set);
+    Ok(states_by_key(states))
 }

@@ -116,7 +116,7 @@ pub(crate) fn held_ages(
     Ok(ages)
 }
 
-/// The age of the held ident of a name, 0 where there is none.
+/// The serial of the held ident of a name, 0 where no ident has it.
 pub(crate) fn age_of(ages: &BTreeMap<Name, Serial>, name: &Name) -> Serial
     ensures { (idents : List Ident) → AreAgesOf idents ages.now → result ≡ age_named idents name.now }
 {

@@ -9,7 +9,9 @@ mod parts;
 pub mod store;
 
 pub use active::assembled_active;
-pub use asked::{ages_of_decks, card_set, decks_by_age, keep_states, reads_with, states_by_key};
+pub use asked::{
+    ages_of_decks, card_set, decks_by_age, keep_states, reads_with, states_among, states_by_key,
+};
 pub use assemble::{assembled, assembled_part, assembled_with_rest};
 pub use meaning::Meaning;
 pub use store::RowStore;

@@ -5,16 +5,16 @@ ghost use Rattle.upd_records.specs.Rows.{Rows};
 
 /// The meaning of a store: what it keeps, and what a crash leaves of it. Clauses cite it as one record, `S.Meaning`.
 pub trait Meaning {
-    // What is in the file, or in what stands for one.
+    // What is in the file, or in what takes its place.
     ghost Image: { Type 0 };
 
-    // Which tables an image shows. An image that is no library of ours shows none.
+    // Which tables an image shows. An image that is not a library shows none.
     ghost shows: { Image → Rows → Type 0 };
 
     // What the last commit left. It says something only while the store is open.
     ghost image: { Self → Image };
 
-    // No failure has shut the store.
+    // No failure has closed the store.
     ghost is_open: { Self → Type 0 };
 
     // The premise: the disk has returned what was written to it.
@@ -26,6 +26,6 @@ pub trait Meaning {
     // How often it has failed.
     ghost failures_of: { Self → ℕ };
 
-    // How many decks loads have brought.
+    // How many decks loads have read.
     ghost decks_read_of: { Self → ℕ };
 }

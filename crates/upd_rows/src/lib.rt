@@ -4,5 +4,5 @@
 pub use upd_list_store::ListStore;
 pub use upd_migrate::load_rows;
 pub use upd_records::RunRow;
-pub use upd_row_store::RowStore;
+pub use upd_row_store::{Meaning, RowStore};
 pub use upd_store::SqlStore;

@@ -1,4 +1,4 @@
--- Frames of a spool: how a run is spelled as one, how one is read, and what is none.
+-- Frames of a spool: how a run is spelled as one, how one is read, and what is not a frame.
 use Rattle.std.specs.Prelude.{◌≡◌, ℕ, ◌+◌, ◌<◌, ◌≤◌, ◌≢◌, ◌==◌, nat_lt, Bool, false, ◌&&◌, List, [], ◌∷◌, ◌++◌, length, take, drop, slice_index}
 use Rattle.std.specs.Prelude.{Option, None}
 use Rattle.std.specs.List.{flat_map, list_any}

@@ -20,7 +20,7 @@ use Rattle.upd_spool.specs.Frames.{IsBad, IsCut, IsFrame, frame_of, frames_text}
 abbrev pub IsRest : List ArrivalView → List ℕ → Type 0
 IsRest frames rest = (rest ≡ []) ⊎ (IsBad rest ⊎ (IsCut rest ⊎ (length frames ≡ MAX_FRAMES)))
 
--- A text as a spool: at most so many frames, and a rest.
+-- A text as a spool: at most n frames, and a rest.
 pub record IsSpool (text : List ℕ) (frames : List ArrivalView) (rest : List ℕ) : Type 0 where
   pub whole : text ≡ frames_text frames ++ rest
   pub are_frames : All IsFrame frames
@@ -51,7 +51,7 @@ Stops _ taken input' = ⊥
 module _ {S : Type 0} (meaning : Ghosts S) where
   open meaning use {failures_of}
 
-  -- At most so many frames were read one after the other and arrived, with these results. Of the input so much is taken beyond them, and these
+  -- At most this number of frames were read one after the other and arrived, with these results. Of the input so much is taken beyond them, and these
   -- bytes are out.
   pub record Handled (frames : List ArrivalView) (results : List (Result ReplyView Fault)) (taken out : List ℕ) (old new : S)
       (input input' output output' : Option (List ℕ)) : Type 0 where
@@ -82,7 +82,7 @@ module _ {S : Type 0} (meaning : Ghosts S) where
       pub answered : All (λ result. IsTrue (is_answered result)) (results ++ result ∷ [])
       pub line : answer_line result ≡ front ++ rest
 
-    -- How the reading of a spool ends by a fault of some kind, behind so many answered frames.
+    -- How the reading of a spool ends by a fault of some kind, after this number of answered frames.
     abbrev pub EndsBy : FaultKind → List ArrivalView → List (Result ReplyView Fault) → Type 0
     EndsBy Write frames results =
         (frame : ArrivalView) × (result : Result ReplyView Fault) × (front : List ℕ) × (rest : List ℕ) × WritesFront frames results frame result front rest

@@ -58,7 +58,7 @@ pub(crate) fn read_run<R: Read>(
     }
 }
 
-/// Reads so many bytes into an empty vector.
+/// Reads this number of bytes into an empty vector.
 fn read_bytes<R: Read>(reader: &mut R, size: usize, run: &mut Vec<u8>) -> Result<(), FaultKind>
     requires { run.old.items ≡ [] }
     ensures ok { OnOk result (Consumes (R.remaining reader.old) (R.remaining reader.new) run.new.items) }

@@ -9,16 +9,16 @@ use Rattle.upd_sqlite.specs.Steps.{Makes, Steps}
 use Rattle.upd_sqlite.proofs.Chains.{clean_before}
 use Rattle.upd_sqlite.proofs.Frames.{held, showing}
 use Rattle.upd_sql.specs.Schema.{library_schema, no_schema}
-use Rattle.upd_sql.specs.Making.{no_rows, HasMade, Leads, MayMake}
+use Rattle.upd_sql.specs.Making.{no_rows, HasEmptyTables, Transforms, MayMake}
 use Rattle.upd_sql.specs.Encoded.{stored}
-use Rattle.upd_sql.specs.Stands.{Stands, ShowsTables}
+use Rattle.upd_sql.specs.LibraryTables.{HoldsTables, ShowsTables}
 use Rattle.upd_sql.specs.Commits.{ShowsIn, WasOpen, Commits, MayCommit, MayKeep, LeavesTables}
 
 module _ (F : Rows → Type 0) (f : Rows → Rows) (old last end : State) {X : Type 0} (x : X) (rise : IsTrue old.is_open → TablesRise old.now)
     (settled : IsTrue old.is_open → old.now ≡ old.committed)
-    (m : Makes {X = X} Stands F f (record old { in_transaction = true }) last (Ok x)) where
-  led : HasCleanDisk last → IsTrue old.is_open → (it : Rows) → ShowsTables it old.committed → F it → Stands (f it) last.now
-  led clean o it shown fits = m.made clean refl it fits (held library_schema (stored it) old.now (rise o) (subst (ShowsTables it) (sym (settled o)) shown))
+    (m : Makes {X = X} HoldsTables F f (record old { in_transaction = true }) last (Ok x)) where
+  transformed : HasCleanDisk last → IsTrue old.is_open → (it : Rows) → ShowsTables it old.committed → F it → HoldsTables (f it) last.now
+  transformed clean o it shown fits = m.made clean refl it fits (held library_schema (stored it) old.now (rise o) (subst (ShowsTables it) (sym (settled o)) shown))
 
   pub committed_whole : HasCleanDisk last → Shows last end last.now last.now false → Commits F f old end
   committed_whole clean ended =
@@ -27,7 +27,7 @@ module _ (F : Rows → Type 0) (f : Rows → Rows) (old last end : State) {X : T
         was_open = o;
         is_open = ended.is_open;
         shows = λ it shown fits. subst (ShowsTables (f it)) (sym ended.committed_is)
-            (showing library_schema (stored (f it)) last.now (led clean o it shown fits));
+            (showing library_schema (stored (f it)) last.now (transformed clean o it shown fits));
       }
 
   pub crash_leaves : (HasCleanDisk last → IsTrue old.is_open) → Survives last end (λ db. db ≡ last.now.trees)
@@ -37,7 +37,7 @@ module _ (F : Rows → Type 0) (f : Rows → Rows) (old last end : State) {X : T
       (λ clean db is.
       let early = clean_before last end _ s clean in
       let o = opened early in
-      (o, λ it shown fits. subst (λ t. ShowsIn t (f it)) (sym is) (showing library_schema (stored (f it)) last.now (led early o it shown fits)).rows_are))
+      (o, λ it shown fits. subst (λ t. ShowsIn t (f it)) (sym is) (showing library_schema (stored (f it)) last.now (transformed early o it shown fits)).rows_are))
       m.steps.survives s
 
 module _ (old last end : State) {X : Type 0} (x : X) (settled : IsTrue old.is_open → old.now ≡ old.committed)
@@ -60,14 +60,14 @@ module _ (old last end : State) {X : Type 0} (x : X) (settled : IsTrue old.is_op
       steps.survives s
 
 -- what a transaction finds in the tables as it sees them, it finds in those of the last commit
-pub stands_begun : (old : State) → (IsTrue old.is_open → TablesRise old.now) → (IsTrue old.is_open → old.now ≡ old.committed) → IsTrue old.is_open
-    → (it : Rows) → ShowsTables it old.committed → Stands it old.now
-stands_begun old rise settled o it shown = held library_schema (stored it) old.now (rise o) (subst (ShowsTables it) (sym (settled o)) shown)
+pub holds_begun : (old : State) → (IsTrue old.is_open → TablesRise old.now) → (IsTrue old.is_open → old.now ≡ old.committed) → IsTrue old.is_open
+    → (it : Rows) → ShowsTables it old.committed → HoldsTables it old.now
+holds_begun old rise settled o it shown = held library_schema (stored it) old.now (rise o) (subst (ShowsTables it) (sym (settled o)) shown)
 
 module _ (old last end : State) {X : Type 0} (x : X) (settled : IsTrue old.is_open → old.now ≡ old.committed)
-    (m : Leads {X = X} (HasMade 0) (Stands no_rows) (record old { in_transaction = true }) last (Ok x)) where
-  laid : HasCleanDisk last → IsTrue old.is_open → old.committed.schema ≡ no_schema → Stands no_rows last.now
-  laid clean o empty = m.led clean refl (record { schema_is = ap (λ (d : Database). d.schema) (settled o) ∙ empty; rows_are = tt })
+    (m : Transforms {X = X} (HasEmptyTables 0) (HoldsTables no_rows) (record old { in_transaction = true }) last (Ok x)) where
+  laid : HasCleanDisk last → IsTrue old.is_open → old.committed.schema ≡ no_schema → HoldsTables no_rows last.now
+  laid clean o empty = m.transformed clean refl (record { schema_is = ap (λ (d : Database). d.schema) (settled o) ∙ empty; rows_are = tt })
 
   pub made_whole : HasCleanDisk last → Shows last end last.now last.now false → old.committed.schema ≡ no_schema → ShowsTables no_rows end.committed
   made_whole clean ended empty =

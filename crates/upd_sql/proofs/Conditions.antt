@@ -19,8 +19,9 @@ use Rattle.upd_records.specs.Rows.{CardRow, EntryRow, TargetRow, RunView, StateR
 use Rattle.upd_row_store.specs.Tables.{is_run, is_settled, is_mark_of}
 use Rattle.upd_sqlite.proofs.Tests.{eq_text, eq_nat, le_nat, one_test, two_tests, three_tests}
 use Rattle.upd_sql.specs.Encoded.{num, target_code, card_row, entry_row, kept_state, target_row, run_row, state_row, count_row, mark_row}
-use Rattle.upd_sql.proofs.Texts.{delete_card_tests, delete_entries_tests, delete_targets_tests, delete_state_tests, delete_count_tests, delete_mark_tests}
-use Rattle.upd_sql.proofs.Texts.{cards_of_deck_tests, ident_tests, delete_runs_tests, run_of_key_tests, mark_of_site_tests}
+use Rattle.upd_sql.proofs.WriteTexts.{delete_card_tests, delete_entries_tests, delete_targets_tests, delete_state_tests, delete_count_tests}
+use Rattle.upd_sql.proofs.WriteTexts.{delete_mark_tests, delete_runs_tests}
+use Rattle.upd_sql.proofs.ReadTexts.{cards_of_deck_tests, ident_tests, run_of_key_tests, mark_of_site_tests}
 
 bytes_flip : (a b : List ℕ) → bytes_eq a b ≡ bytes_eq b a
 bytes_flip [] [] = refl
@@ -101,7 +102,7 @@ one_of true false = refl
 one_of false true = refl
 one_of false false = refl
 
--- a card stands in `YANK$$$` or in a deck
+-- a card is in `YANK$$$` or in a deck
 pub in_deck : (deck : ℕ) (r : CardRow) → passes (num deck ∷ []) cards_of_deck_tests (card_row r) ≡ ((r.deck == 0) || (r.deck == deck))
 in_deck deck r = one_test (ap₂ (λ u v. is_true (binary Or u v)) (compared r.deck 0) (compared r.deck deck) ∙ one_of (r.deck == 0) (r.deck == deck))
 

@@ -16,7 +16,7 @@ use Rattle.upd_records.specs.Rows.{CardRow, EntryRow, TargetRow, RunView, StateR
 use Rattle.upd_row_store.specs.Tables.{is_settled, is_mark_of}
 use Rattle.upd_sql.specs.Schema.{ident_columns, card_columns, entry_columns, target_columns, run_columns, state_columns, count_columns, mark_columns}
 use Rattle.upd_sql.specs.Encoded.{num, target_code, ident_row, card_row, entry_row, target_row, run_row, state_row, count_row, mark_row, stored}
-use Rattle.upd_sql.specs.Stands.{Stands}
+use Rattle.upd_sql.specs.LibraryTables.{HoldsTables}
 use Rattle.upd_sql.proofs.Typed.{adds, removes, changes}
 use Rattle.upd_sql.proofs.Casts.{cast_ident, cast_card, cast_entry, cast_target, cast_run, cast_state, cast_count, cast_mark}
 use Rattle.sqlite_keyed.proofs.ListLemmas.{all_of, all_weaker}
@@ -24,26 +24,26 @@ use Rattle.sqlite_rules.specs.Cast.{cast_all}
 use Rattle.upd_records.specs.Changes.{purged_row, moved_row}
 use Rattle.upd_sqlite.proofs.Tests.{eq_nat, ge_nat, add_nat, sub_nat, one_test, two_tests}
 use Rattle.upd_sql.proofs.Conditions.{passes, card_params, card_named, entry_named, target_named, state_named, count_named, mark_named, run_settled}
-use Rattle.upd_sql.proofs.Texts as text
+use Rattle.upd_sql.proofs.WriteTexts as text
 
-module _ (old new : State) (count : ℕ) (it : Rows) (h : Stands it old.now) where
-  pub ident_added : (r : Ident) → Executes text.insert_ident (ident_row r) old new (Ok count) → Stands (record it { idents = it.idents ++ r ∷ [] }) new.now
+module _ (old new : State) (count : ℕ) (it : Rows) (h : HoldsTables it old.now) where
+  pub ident_added : (r : Ident) → Executes text.insert_ident (ident_row r) old new (Ok count) → HoldsTables (record it { idents = it.idents ++ r ∷ [] }) new.now
   ident_added r ran = adds 1 2 (codes "idents") ident_columns (1 ∷ []) refl refl (λ _ _. refl) ident_row (stored it) it.idents refl text.insert_ident
       (ident_row r) text.insert_ident_plain old new count ran h (lit Null ∷ col 0 0 ∷ col 0 1 ∷ col 0 2 ∷ col 0 3 ∷ col 0 4 ∷ []) 6 text.insert_ident_is r
       refl (cast_ident r)
 
-  pub card_added : (r : CardRow) → Executes text.insert_card (card_row r) old new (Ok count) → Stands (record it { cards = it.cards ++ r ∷ [] }) new.now
+  pub card_added : (r : CardRow) → Executes text.insert_card (card_row r) old new (Ok count) → HoldsTables (record it { cards = it.cards ++ r ∷ [] }) new.now
   card_added r ran = adds 2 4 (codes "cards") card_columns (1 ∷ 2 ∷ []) refl refl (λ _ _. refl) card_row (stored it) it.cards refl text.insert_card
       (card_row r) text.insert_card_plain old new count ran h (lit Null ∷ col 0 0 ∷ col 0 1 ∷ col 0 2 ∷ col 0 3 ∷ col 0 4 ∷ []) 6 text.insert_card_is r refl
       (cast_card r)
 
-  pub entry_added : (r : EntryRow) → Executes text.insert_entry (entry_row r) old new (Ok count) → Stands (record it { entries = it.entries ++ r ∷ [] }) new.now
+  pub entry_added : (r : EntryRow) → Executes text.insert_entry (entry_row r) old new (Ok count) → HoldsTables (record it { entries = it.entries ++ r ∷ [] }) new.now
   entry_added r ran = adds 3 6 (codes "entries") entry_columns (1 ∷ 2 ∷ 3 ∷ []) refl refl (λ _ _. refl) entry_row
       (stored it) it.entries refl text.insert_entry (entry_row r) text.insert_entry_plain old new count ran h
       (lit Null ∷ col 0 0 ∷ col 0 1 ∷ col 0 2 ∷ col 0 3 ∷ col 0 4 ∷ []) 6 text.insert_entry_is r refl (cast_entry r)
 
   pub target_added : (r : TargetRow) → Executes text.insert_target (target_row r) old new (Ok count)
-      → Stands (record it { targets = it.targets ++ r ∷ [] }) new.now
+      → HoldsTables (record it { targets = it.targets ++ r ∷ [] }) new.now
   target_added r ran = adds 4 8 (codes "targets") target_columns (1 ∷ 2 ∷ 3 ∷ []) refl refl (λ _ _. refl) target_row
       (stored it) it.targets refl text.insert_target (target_row r) text.insert_target_plain old new count ran h
       (lit Null ∷ col 0 0 ∷ col 0 1 ∷ col 0 2 ∷ col 0 3 ∷ col 0 4 ∷ col 0 5 ∷ []) 7 text.insert_target_is r (source r.target) (cast_target r)
@@ -55,16 +55,16 @@ module _ (old new : State) (count : ℕ) (it : Rows) (h : Stands it old.now) whe
       source (SetIn z d) = refl
       source (Deck d) = refl
 
-  pub run_added : (r : RunView) → Executes text.insert_run (run_row r) old new (Ok count) → Stands (record it { runs = it.runs ++ r ∷ [] }) new.now
+  pub run_added : (r : RunView) → Executes text.insert_run (run_row r) old new (Ok count) → HoldsTables (record it { runs = it.runs ++ r ∷ [] }) new.now
   run_added r ran = adds 5 10 (codes "runs") run_columns (1 ∷ 2 ∷ []) refl refl (λ _ _. refl) run_row (stored it) it.runs refl text.insert_run
       (run_row r) text.insert_run_plain old new count ran h (lit Null ∷ col 0 0 ∷ col 0 1 ∷ col 0 2 ∷ col 0 3 ∷ col 0 4 ∷ col 0 5 ∷ []) 7 text.insert_run_is
       r refl (cast_run r)
 
-  pub state_added : (r : StateRow) → Executes text.insert_state (state_row r) old new (Ok count) → Stands (record it { states = it.states ++ r ∷ [] }) new.now
+  pub state_added : (r : StateRow) → Executes text.insert_state (state_row r) old new (Ok count) → HoldsTables (record it { states = it.states ++ r ∷ [] }) new.now
   state_added r ran = adds 6 12 (codes "states") state_columns (1 ∷ 2 ∷ []) refl refl (λ _ _. refl) state_row (stored it) it.states refl text.insert_state
       (state_row r) text.insert_state_plain old new count ran h (lit Null ∷ col 0 0 ∷ col 0 1 ∷ col 0 2 ∷ []) 4 text.insert_state_is r refl (cast_state r)
 
-  pub count_added : (r : CountRow) → Executes text.insert_count (count_row r) old new (Ok count) → Stands (record it { counts = it.counts ++ r ∷ [] }) new.now
+  pub count_added : (r : CountRow) → Executes text.insert_count (count_row r) old new (Ok count) → HoldsTables (record it { counts = it.counts ++ r ∷ [] }) new.now
   count_added r ran = adds 7 14 (codes "counts") count_columns (1 ∷ 2 ∷ 3 ∷ []) refl refl (λ _ _. refl) count_row
       (stored it) it.counts refl text.insert_count (count_row r) text.insert_count_plain old new count ran h
       (lit Null ∷ col 0 0 ∷ col 0 1 ∷ col 0 2 ∷ col 0 3 ∷ []) 5 text.insert_count_is r (source r.target) (cast_count r)
@@ -75,58 +75,58 @@ module _ (old new : State) (count : ℕ) (it : Rows) (h : Stands it old.now) whe
       source (SetIn z d) = refl
       source (Deck d) = refl
 
-  pub mark_added : (r : MarkRow) → Executes text.insert_mark (mark_row r) old new (Ok count) → Stands (record it { settled = it.settled ++ r ∷ [] }) new.now
+  pub mark_added : (r : MarkRow) → Executes text.insert_mark (mark_row r) old new (Ok count) → HoldsTables (record it { settled = it.settled ++ r ∷ [] }) new.now
   mark_added r ran = adds 8 16 (codes "settled") mark_columns (1 ∷ []) refl refl (λ _ _. refl) mark_row (stored it) it.settled refl text.insert_mark
       (mark_row r) text.insert_mark_plain old new count ran h (lit Null ∷ col 0 0 ∷ col 0 1 ∷ []) 3 text.insert_mark_is r refl (cast_mark r)
 
   pub card_gone : (c : CardRef) → Executes text.delete_card (card_params c) old new (Ok count)
-      → Stands (record it { cards = filter (λ r. not (same_ref c r.card)) it.cards }) new.now
+      → HoldsTables (record it { cards = filter (λ r. not (same_ref c r.card)) it.cards }) new.now
   card_gone c ran =
       removes 2 4 (codes "cards") card_columns (1 ∷ 2 ∷ []) refl refl (λ _ _. refl) card_row (stored it) it.cards refl text.delete_card
       (card_params c) text.delete_card_plain old new count ran h text.delete_card_tests text.delete_card_is refl (λ r. same_ref c r.card) (card_named c)
 
   pub entries_gone : (c : CardRef) → Executes text.delete_entries (card_params c) old new (Ok count)
-      → Stands (record it { entries = filter (λ r. not (same_ref c r.card)) it.entries }) new.now
+      → HoldsTables (record it { entries = filter (λ r. not (same_ref c r.card)) it.entries }) new.now
   entries_gone c ran =
       removes 3 6 (codes "entries") entry_columns (1 ∷ 2 ∷ 3 ∷ []) refl refl (λ _ _. refl) entry_row (stored it) it.entries refl text.delete_entries
       (card_params c) text.delete_entries_plain old new count ran h text.delete_entries_tests text.delete_entries_is refl (λ r. same_ref c r.card)
       (entry_named c)
 
   pub targets_gone : (c : CardRef) → Executes text.delete_targets (card_params c) old new (Ok count)
-      → Stands (record it { targets = filter (λ r. not (same_ref c r.card)) it.targets }) new.now
+      → HoldsTables (record it { targets = filter (λ r. not (same_ref c r.card)) it.targets }) new.now
   targets_gone c ran =
       removes 4 8 (codes "targets") target_columns (1 ∷ 2 ∷ 3 ∷ []) refl refl (λ _ _. refl) target_row (stored it) it.targets refl text.delete_targets
       (card_params c) text.delete_targets_plain old new count ran h text.delete_targets_tests text.delete_targets_is refl (λ r. same_ref c r.card)
       (target_named c)
 
   pub state_gone : (c : CardRef) → Executes text.delete_state (card_params c) old new (Ok count)
-      → Stands (record it { states = filter (λ r. not (same_ref c r.card)) it.states }) new.now
+      → HoldsTables (record it { states = filter (λ r. not (same_ref c r.card)) it.states }) new.now
   state_gone c ran =
       removes 6 12 (codes "states") state_columns (1 ∷ 2 ∷ []) refl refl (λ _ _. refl) state_row (stored it) it.states refl text.delete_state
       (card_params c) text.delete_state_plain old new count ran h text.delete_state_tests text.delete_state_is refl (λ r. same_ref c r.card) (state_named c)
 
   pub count_gone : (t : Target) → Executes text.delete_count (target_code t) old new (Ok count)
-      → Stands (record it { counts = filter (λ r. not (is_same t r.target)) it.counts }) new.now
+      → HoldsTables (record it { counts = filter (λ r. not (is_same t r.target)) it.counts }) new.now
   count_gone t ran =
       removes 7 14 (codes "counts") count_columns (1 ∷ 2 ∷ 3 ∷ []) refl refl (λ _ _. refl) count_row (stored it) it.counts refl text.delete_count
       (target_code t) text.delete_count_plain old new count ran h text.delete_count_tests text.delete_count_is refl (λ r. is_same t r.target)
       (count_named t)
 
   pub mark_gone : (site : List ℕ) → Executes text.delete_mark (Text site ∷ []) old new (Ok count)
-      → Stands (record it { settled = filter (λ r. not (is_mark_of site r)) it.settled }) new.now
+      → HoldsTables (record it { settled = filter (λ r. not (is_mark_of site r)) it.settled }) new.now
   mark_gone site ran =
       removes 8 16 (codes "settled") mark_columns (1 ∷ []) refl refl (λ _ _. refl) mark_row (stored it) it.settled refl text.delete_mark
       (Text site ∷ []) text.delete_mark_plain old new count ran h text.delete_mark_tests text.delete_mark_is refl (is_mark_of site) (mark_named site)
 
   pub runs_gone : (site : List ℕ) (number : ℕ) → Executes text.delete_runs (Text site ∷ num number ∷ []) old new (Ok count)
-      → Stands (record it { runs = filter (λ r. not (is_settled site number r)) it.runs }) new.now
+      → HoldsTables (record it { runs = filter (λ r. not (is_settled site number r)) it.runs }) new.now
   runs_gone site number ran =
       removes 5 10 (codes "runs") run_columns (1 ∷ 2 ∷ []) refl refl (λ _ _. refl) run_row (stored it) it.runs refl text.delete_runs
       (Text site ∷ num number ∷ []) text.delete_runs_plain old new count ran h text.delete_runs_tests text.delete_runs_is refl (is_settled site number)
       (run_settled site number)
 
   pub ident_purged : (age : ℕ) → Executes text.purge_ident (num age ∷ []) old new (Ok count)
-      → Stands (record it { idents = map (purged_row age) it.idents }) new.now
+      → HoldsTables (record it { idents = map (purged_row age) it.idents }) new.now
   ident_purged age ran =
       changes 1 2 (codes "idents") ident_columns (1 ∷ []) refl refl (λ _ _. refl) ident_row (stored it) it.idents refl text.purge_ident
       (num age ∷ []) text.purge_ident_plain old new count ran h
@@ -143,9 +143,9 @@ module _ (old new : State) (count : ℕ) (it : Rows) (h : Stands it old.now) whe
           ∙ as_written (i.age == age) i
 
   -- the tests of both texts that move cards
-  stands_there : (deck from : ℕ) (by : ℕ) (r : CardRow) → passes (num deck ∷ num from ∷ num by ∷ []) text.move_back_tests (card_row r)
+  holds_there : (deck from : ℕ) (by : ℕ) (r : CardRow) → passes (num deck ∷ num from ∷ num by ∷ []) text.move_back_tests (card_row r)
       ≡ ((r.deck == deck) && nat_le from r.pos)
-  stands_there deck from by r = two_tests (eq_nat r.deck deck) (ge_nat r.pos from)
+  holds_there deck from by r = two_tests (eq_nat r.deck deck) (ge_nat r.pos from)
 
   moves_to : (deck from : ℕ) (shift : ℕ → ℕ) (moved : Row → Row) (r : CardRow)
       → (IsTrue ((r.deck == deck) && nat_le from r.pos) → moved (card_row r) ≡ card_row (record r { pos = shift r.pos })) → (b : Bool)
@@ -156,7 +156,7 @@ module _ (old new : State) (count : ℕ) (it : Rows) (h : Stands it old.now) whe
 
   pub cards_moved_back : (deck from by : ℕ) → AllByRecursion (λ r. IsTrue ((r.deck == deck) && nat_le from r.pos) → r.pos + by < 2 ^ 32) it.cards
       → Executes text.move_back (num deck ∷ num from ∷ num by ∷ []) old new (Ok count)
-      → Stands (record it { cards = map (moved_row deck from (pos by)) it.cards }) new.now
+      → HoldsTables (record it { cards = map (moved_row deck from (pos by)) it.cards }) new.now
   cards_moved_back deck from by fits ran =
       changes 2 4 (codes "cards") card_columns (1 ∷ 2 ∷ []) refl refl (λ _ _. refl) card_row (stored it) it.cards refl text.move_back
       (num deck ∷ num from ∷ num by ∷ []) text.move_back_plain old new count ran h
@@ -170,13 +170,13 @@ module _ (old new : State) (count : ℕ) (it : Rows) (h : Stands it old.now) whe
           → (if passes (num deck ∷ num from ∷ num by ∷ []) text.move_back_tests (card_row r) then cast_all card_columns
           (eval_all text.move_back_news ((num deck ∷ num from ∷ num by ∷ []) ∷ (Null ∷ card_row r) ∷ [])) else card_row r)
           ≡ card_row (moved_row deck from (pos by) r)
-      each r fits = rw (stands_there deck from by r)
+      each r fits = rw (holds_there deck from by r)
           (moves_to deck from (λ p. p + by) (λ v. eval_all text.move_back_news ((num deck ∷ num from ∷ num by ∷ []) ∷ (Null ∷ v) ∷ [])) r
           (λ there. sums r (fits there)) _ refl)
 
   pub cards_moved_up : (deck from by : ℕ) → AllByRecursion (λ r. IsTrue ((r.deck == deck) && nat_le from r.pos) → (by + 1 ≤ r.pos) × (r.pos < 2 ^ 32)) it.cards
       → Executes text.move_up (num deck ∷ num from ∷ num (by + 1) ∷ []) old new (Ok count)
-      → Stands (record it { cards = map (moved_row deck from (negsuc by)) it.cards }) new.now
+      → HoldsTables (record it { cards = map (moved_row deck from (negsuc by)) it.cards }) new.now
   cards_moved_up deck from by fits ran =
       changes 2 4 (codes "cards") card_columns (1 ∷ 2 ∷ []) refl refl (λ _ _. refl) card_row (stored it) it.cards refl text.move_up
       (num deck ∷ num from ∷ num (by + 1) ∷ []) text.move_up_plain old new count ran h
@@ -190,6 +190,6 @@ module _ (old new : State) (count : ℕ) (it : Rows) (h : Stands it old.now) whe
           → (if passes (num deck ∷ num from ∷ num (by + 1) ∷ []) text.move_up_tests (card_row r) then cast_all card_columns
           (eval_all text.move_up_news ((num deck ∷ num from ∷ num (by + 1) ∷ []) ∷ (Null ∷ card_row r) ∷ [])) else card_row r)
           ≡ card_row (moved_row deck from (negsuc by) r)
-      each r fits = rw (stands_there deck from (by + 1) r)
+      each r fits = rw (holds_there deck from (by + 1) r)
           (moves_to deck from (λ p. p - (by + 1)) (λ v. eval_all text.move_up_news ((num deck ∷ num from ∷ num (by + 1) ∷ []) ∷ (Null ∷ v) ∷ [])) r
           (λ there. rests r (fits there).0 (fits there).1) _ refl)

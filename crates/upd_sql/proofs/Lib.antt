@@ -1,5 +1,6 @@
 pub mod MakingLemmas
-pub mod Texts
+pub mod WriteTexts
+pub mod ReadTexts
 pub mod Bare
 pub mod Typed
 pub mod Listed

@@ -1,4 +1,4 @@
--- What a query answers of records that are kept as rows: the rows of those that pass, in an order that ORDER BY allows.
+-- What a query returns of records that are stored as rows: the rows of those that pass, in an order that ORDER BY allows.
 use Rattle.std.proofs.Common.{◌≡◌, ℕ, ◌+◌, ◌<◌, Bool, true, false, List, [], ◌∷◌, map, filter, length, refl, sym, ap, ap₂, subst, ◌∙◌, arith}
 use Rattle.std.proofs.Common.{IsPermutation, IsSorted}
 use Rattle.std.specs.List.{list_all}

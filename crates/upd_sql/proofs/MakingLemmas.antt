@@ -11,106 +11,107 @@ use Rattle.sqlite.specs.State.{State, Executes}
 use Rattle.sqlite.proofs.Callers.{runs_as}
 use Rattle.upd_sqlite.specs.Stored.{HoldsAllRows}
 use Rattle.upd_sqlite.specs.Steps.{Ran, Steps}
+use Rattle.upd_sql.specs.declared.texts.TheConstants.{CREATE_META, CREATE_IDENTS, CREATE_CARDS, CREATE_ENTRIES, CREATE_TARGETS, CREATE_RUNS, CREATE_STATES, CREATE_COUNTS, CREATE_SETTLED}
 use Rattle.upd_sql.specs.Commits.{WasOpen}
 use Rattle.upd_sqlite.proofs.Chains.{steps_then, clean_before}
 use Rattle.upd_sqlite.proofs.Shapes.{creates, inserts, cast_int}
 use Rattle.upd_sql.specs.Schema.{meta, idents, cards, entries, targets, runs, states, counts, settled, meta_columns, library_schema}
 use Rattle.upd_sql.specs.Encoded.{version_row}
-use Rattle.upd_sql.specs.Making.{schema_up_to, no_rows_in, no_rows, HasMade, MakesNext, Leads}
-use Rattle.upd_sql.specs.Stands.{Stands}
-use Rattle.upd_sql.proofs.Texts as text
+use Rattle.upd_sql.specs.Making.{schema_up_to, no_rows_in, no_rows, HasEmptyTables, MakesNext, Transforms}
+use Rattle.upd_sql.specs.LibraryTables.{HoldsTables}
+use Rattle.upd_sql.proofs.WriteTexts as text
 
 abbrev pub create_meta : List ℕ
-create_meta = codes "CREATE TABLE meta (k TEXT NOT NULL, v INT NOT NULL, PRIMARY KEY (k)) STRICT"
+create_meta = CREATE_META.now
 
 pub makes_meta : MakesNext 0 create_meta
 unfolding understood everything
 makes_meta = record { is = refl; plain = (refl, refl); table = meta; defined = refl; lacks = refl; next = refl; rows = refl }
 
 abbrev pub create_idents : List ℕ
-create_idents = codes "CREATE TABLE idents (age INT NOT NULL, name TEXT NOT NULL, kind INT NOT NULL, noprop INT NOT NULL, held INT NOT NULL, PRIMARY KEY (age)) STRICT"
+create_idents = CREATE_IDENTS.now
 
 pub makes_idents : MakesNext 1 create_idents
 unfolding understood everything
 makes_idents = record { is = refl; plain = (refl, refl); table = idents; defined = refl; lacks = refl; next = refl; rows = refl }
 
 abbrev pub create_cards : List ℕ
-create_cards = codes "CREATE TABLE cards (ident TEXT NOT NULL, num INT NOT NULL, deck INT NOT NULL, pos INT NOT NULL, body TEXT NOT NULL, PRIMARY KEY (ident, num)) STRICT"
+create_cards = CREATE_CARDS.now
 
 pub makes_cards : MakesNext 2 create_cards
 unfolding understood everything
 makes_cards = record { is = refl; plain = (refl, refl); table = cards; defined = refl; lacks = refl; next = refl; rows = refl }
 
 abbrev pub create_entries : List ℕ
-create_entries = codes "CREATE TABLE entries (ident TEXT NOT NULL, num INT NOT NULL, ord INT NOT NULL, who INT NOT NULL, active INT NOT NULL, PRIMARY KEY (ident, num, ord)) STRICT"
+create_entries = CREATE_ENTRIES.now
 
 pub makes_entries : MakesNext 3 create_entries
 unfolding understood everything
 makes_entries = record { is = refl; plain = (refl, refl); table = entries; defined = refl; lacks = refl; next = refl; rows = refl }
 
 abbrev pub create_targets : List ℕ
-create_targets = codes "CREATE TABLE targets (ident TEXT NOT NULL, num INT NOT NULL, ord INT NOT NULL, kind INT NOT NULL, target INT NOT NULL, deck INT NOT NULL, PRIMARY KEY (ident, num, ord)) STRICT"
+create_targets = CREATE_TARGETS.now
 
 pub makes_targets : MakesNext 4 create_targets
 unfolding understood everything
 makes_targets = record { is = refl; plain = (refl, refl); table = targets; defined = refl; lacks = refl; next = refl; rows = refl }
 
 abbrev pub create_runs : List ℕ
-create_runs = codes "CREATE TABLE runs (site TEXT NOT NULL, num INT NOT NULL, mode INT NOT NULL, body BLOB NOT NULL, accepted INT NOT NULL, reply BLOB NOT NULL, PRIMARY KEY (site, num)) STRICT"
+create_runs = CREATE_RUNS.now
 
 pub makes_runs : MakesNext 5 create_runs
 unfolding understood everything
 makes_runs = record { is = refl; plain = (refl, refl); table = runs; defined = refl; lacks = refl; next = refl; rows = refl }
 
 abbrev pub create_states : List ℕ
-create_states = codes "CREATE TABLE states (ident TEXT NOT NULL, num INT NOT NULL, active INT NOT NULL, PRIMARY KEY (ident, num)) STRICT"
+create_states = CREATE_STATES.now
 
 pub makes_states : MakesNext 6 create_states
 unfolding understood everything
 makes_states = record { is = refl; plain = (refl, refl); table = states; defined = refl; lacks = refl; next = refl; rows = refl }
 
 abbrev pub create_counts : List ℕ
-create_counts = codes "CREATE TABLE counts (kind INT NOT NULL, target INT NOT NULL, deck INT NOT NULL, n INT NOT NULL, PRIMARY KEY (kind, target, deck)) STRICT"
+create_counts = CREATE_COUNTS.now
 
 pub makes_counts : MakesNext 7 create_counts
 unfolding understood everything
 makes_counts = record { is = refl; plain = (refl, refl); table = counts; defined = refl; lacks = refl; next = refl; rows = refl }
 
 abbrev pub create_settled : List ℕ
-create_settled = codes "CREATE TABLE settled (site TEXT NOT NULL, mark INT NOT NULL, PRIMARY KEY (site)) STRICT"
+create_settled = CREATE_SETTLED.now
 
 pub makes_settled : MakesNext 8 create_settled
 unfolding understood everything
 makes_settled = record { is = refl; plain = (refl, refl); table = settled; defined = refl; lacks = refl; next = refl; rows = refl }
 
 -- the next table is made
-pub next_made : (n : ℕ) (sql : List ℕ) → MakesNext n sql → (old new : State) (count : ℕ) → Executes sql [] old new (Ok count) → HasMade n old.now
-    → HasMade (n + 1) new.now
+pub next_made : (n : ℕ) (sql : List ℕ) → MakesNext n sql → (old new : State) (count : ℕ) → Executes sql [] old new (Ok count) → HasEmptyTables n old.now
+    → HasEmptyTables (n + 1) new.now
 next_made n sql m old new count ran h =
     let w = runs_as sql [] old new (schema_up_to n) h.schema_is CreateTable m.is m.plain count ran in
     subst₂ (λ s rs. HoldsAllRows s rs new.now) m.next m.rows (creates (schema_up_to n) m.table old new (no_rows_in n) _ [] count m.defined m.lacks h w)
 
--- the version is told
-pub version_told : (old new : State) (count : ℕ) → Executes text.insert_version [] old new (Ok count) → HasMade 9 old.now → Stands no_rows new.now
-version_told old new count ran h =
+-- the version is written
+pub version_written : (old new : State) (count : ℕ) → Executes text.insert_version [] old new (Ok count) → HasEmptyTables 9 old.now → HoldsTables no_rows new.now
+version_written old new count ran h =
     let w = runs_as text.insert_version [] old new library_schema h.schema_is _ text.insert_version_is text.insert_version_plain count ran in
     subst (λ row. HoldsAllRows library_schema ((row ∷ []) ∷ [] ∷ [] ∷ [] ∷ [] ∷ [] ∷ [] ∷ [] ∷ [] ∷ []) new.now) (rw (cast_int (pos 3)) refl)
     (inserts library_schema 0 0 (codes "meta") meta_columns (1 ∷ []) refl refl (λ _ _. refl) old new (no_rows_in 9) _ [] count h
     (lit Null ∷ lit (Text (codes "version")) ∷ lit (Int (pos 3)) ∷ []) 3 (version_row 3) refl w)
 
-pub leads_from : {X : Type 0} (P Q : Database → Type 0) (sql : List ℕ) (old new : State) (r : Result X Error) → Ran sql [] old new r
+pub transforms_from : {X : Type 0} (P Q : Database → Type 0) (sql : List ℕ) (old new : State) (r : Result X Error) → Ran sql [] old new r
     → ((count : ℕ) → Executes sql [] old new (Ok count) → P old.now → Q new.now)
-    → Leads P Q old new r
-leads_from P Q sql old new (Ok x) ran means = record { steps = ran.steps; led = λ clean inside h. let ex = ran.executed clean inside in means ex.0 ex.1 h }
-leads_from P Q sql old new (Err e) ran means = record { steps = ran.steps; led = λ clean. tt }
+    → Transforms P Q old new r
+transforms_from P Q sql old new (Ok x) ran means = record { steps = ran.steps; transformed = λ clean inside h. let ex = ran.executed clean inside in means ex.0 ex.1 h }
+transforms_from P Q sql old new (Err e) ran means = record { steps = ran.steps; transformed = λ clean. tt }
 
-pub leads_then : {X Y : Type 0} (P Q R : Database → Type 0) (a b c : State) (x : X) (r : Result Y Error) → Leads {X = X} P Q a b (Ok x) → Leads Q R b c r
-    → Leads P R a c r
-leads_then P Q R a b c x (Ok y) p q = record {
+pub transforms_then : {X Y : Type 0} (P Q R : Database → Type 0) (a b c : State) (x : X) (r : Result Y Error) → Transforms {X = X} P Q a b (Ok x) → Transforms Q R b c r
+    → Transforms P R a c r
+transforms_then P Q R a b c x (Ok y) p q = record {
   steps = steps_then a b c x (Ok y) p.steps q.steps;
-  led = λ clean inside h. let early = clean_before b c _ q.steps.survives clean in q.led clean (p.steps.going early inside) (p.led early inside h);
+  transformed = λ clean inside h. let early = clean_before b c _ q.steps.survives clean in q.transformed clean (p.steps.going early inside) (p.transformed early inside h);
 }
-leads_then P Q R a b c x (Err e) p q = record { steps = steps_then a b c x (Err e) p.steps q.steps; led = λ clean. tt }
+transforms_then P Q R a b c x (Err e) p q = record { steps = steps_then a b c x (Err e) p.steps q.steps; transformed = λ clean. tt }
 
 -- the last of some steps ran while the connection was open, so it was open before them
 pub opened_before : {X Y : Type 0} (a b c : State) (x : X) (r : Result Y Error) → Steps {X = X} a b (Ok x) → Steps b c r → WasOpen b c r → WasOpen a c r
@@ -118,7 +119,7 @@ opened_before a b c x (Ok y) p q was = λ clean inside. let early = clean_before
 opened_before a b c x (Err e) p q was = λ clean. tt
 
 -- a step failed
-pub leads_stop : {X Y : Type 0} (P Q R : Database → Type 0) (a b : State) (d : Error) (r : Result Y Error) → Leads {X = X} P Q a b (Err d) → IsErr r → Leads P R a b r
-leads_stop P Q R a b d (Ok y) p err = absurd (cc)
-leads_stop P Q R a b d (Err e) p err =
-    record { steps = record { going = λ clean. tt; kept = p.steps.kept; survives = p.steps.survives }; led = λ clean. tt }
+pub transforms_stop : {X Y : Type 0} (P Q R : Database → Type 0) (a b : State) (d : Error) (r : Result Y Error) → Transforms {X = X} P Q a b (Err d) → IsErr r → Transforms P R a b r
+transforms_stop P Q R a b d (Ok y) p err = absurd (cc)
+transforms_stop P Q R a b d (Err e) p err =
+    record { steps = record { going = λ clean. tt; kept = p.steps.kept; survives = p.steps.survives }; transformed = λ clean. tt }

@@ -11,7 +11,7 @@ use Rattle.upd_sqlite.specs.Steps.{Steps, Makes}
 use Rattle.upd_sqlite.proofs.Chains.{clean_before, steps_then}
 use Rattle.upd_sql.specs.Commits.{LeavesTables}
 use Rattle.upd_sql.specs.RowEdits.{with_runs_settled}
-use Rattle.upd_sql.specs.Stands.{Stands, AnyTables}
+use Rattle.upd_sql.specs.LibraryTables.{HoldsTables, AnyTables}
 
 low : (n m : ℕ) → n ≤ m → nat_le n m ≡ true
 low n m h = grind (arith, nat_tests)
@@ -29,7 +29,7 @@ bytes_itself : (a : List ℕ) → bytes_eq a a ≡ true
 bytes_itself [] = refl
 bytes_itself (x ∷ a) = grind (arith, nat_tests, bytes_itself a)
 
--- behind marks of other sites the new mark is found
+-- after marks of other sites the new mark is found
 found_behind : (site : List ℕ) (n : ℕ) (marks : List MarkRow)
     → find (is_mark_of site) (filter (λ m. not (is_mark_of site m)) marks ++ record { site = site; mark = n } ∷ []) ≡ Some (record { site = site; mark = n })
 found_behind site n [] = ap (λ b. if b then Some (record { site = site; mark = n }) else None) (bytes_itself site)
@@ -48,28 +48,28 @@ pub mark_of_marked : (site : List ℕ) (n : ℕ) (it : Rows) → mark_at site (w
 mark_of_marked site n it = ap (λ o. option_map_or (λ (m : MarkRow). m.mark) o 0) (found_behind site n it.settled)
 
 module _ (site : List ℕ) (n mark : ℕ) (old mid : State) (steps : Steps {X = ℕ} old mid (Ok mark)) (same : LeavesTables {X = ℕ} old mid (Ok mark))
-    (found : HasCleanDisk mid → (it : Rows) → Stands it old.now → mark ≡ mark_at site it) where
-  pub mark_stays : n ≤ mark → Makes Stands AnyTables (settled_to site n) old mid (Ok mark)
+    (found : HasCleanDisk mid → (it : Rows) → HoldsTables it old.now → mark ≡ mark_at site it) where
+  pub mark_stays : n ≤ mark → Makes HoldsTables AnyTables (settled_to site n) old mid (Ok mark)
   mark_stays h = record {
     steps = steps;
     made = λ clean inside it any stands.
-        subst (λ d. Stands (settled_to site n it) d) (sym (same clean stands.schema_is))
-        (subst (λ r. Stands r old.now) (sym (stays_as site n it (omega (arith, h, found clean it stands)))) stands);
+        subst (λ d. HoldsTables (settled_to site n it) d) (sym (same clean stands.schema_is))
+        (subst (λ r. HoldsTables r old.now) (sym (stays_as site n it (omega (arith, h, found clean it stands)))) stands);
   }
 
-  pub mark_stays_at : n ≤ mark → HasCleanDisk mid → (it : Rows) → Stands it old.now → mark ≡ mark_at site (settled_to site n it)
+  pub mark_stays_at : n ≤ mark → HasCleanDisk mid → (it : Rows) → HoldsTables it old.now → mark ≡ mark_at site (settled_to site n it)
   mark_stays_at h clean it stands = found clean it stands ∙ ap (mark_at site) (sym (stays_as site n it (omega (arith, h, found clean it stands))))
 
-  pub mark_rises : {Y : Type 0} (new : State) (r : Result Y Error) → mark < n → Makes Stands AnyTables (with_runs_settled site n) mid new r
-      → Makes Stands AnyTables (settled_to site n) old new r
+  pub mark_rises : {Y : Type 0} (new : State) (r : Result Y Error) → mark < n → Makes HoldsTables AnyTables (with_runs_settled site n) mid new r
+      → Makes HoldsTables AnyTables (settled_to site n) old new r
   mark_rises new (Ok y) h m = record {
     steps = steps_then old mid new mark (Ok y) steps m.steps;
     made = λ clean inside it any stands.
         let early = clean_before mid new _ m.steps.survives clean in
-        let there = subst (Stands it) (sym (same early stands.schema_is)) stands in
-        subst (λ r. Stands r new.now) (sym (rises_as site n it (omega (arith, h, found early it stands)))) (m.made clean (steps.going early inside) it any there);
+        let there = subst (HoldsTables it) (sym (same early stands.schema_is)) stands in
+        subst (λ r. HoldsTables r new.now) (sym (rises_as site n it (omega (arith, h, found early it stands)))) (m.made clean (steps.going early inside) it any there);
   }
   mark_rises new (Err e) h m = record { steps = steps_then old mid new mark (Err e) steps m.steps; made = λ clean. tt }
 
-  pub mark_rises_to : mark < n → HasCleanDisk mid → (it : Rows) → Stands it old.now → n ≡ mark_at site (settled_to site n it)
+  pub mark_rises_to : mark < n → HasCleanDisk mid → (it : Rows) → HoldsTables it old.now → n ≡ mark_at site (settled_to site n it)
   mark_rises_to h clean it stands = sym (ap (mark_at site) (rises_as site n it (omega (arith, h, found clean it stands))) ∙ mark_of_marked site n it)

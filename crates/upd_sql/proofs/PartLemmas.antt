@@ -30,63 +30,64 @@ use Rattle.upd_sql.specs.Schema.{library_schema}
 use Rattle.upd_sql.specs.Encoded.{card_row, entry_row, kept_state, num, stored}
 use Rattle.upd_sql.specs.Part.{is_of_ident}
 use Rattle.upd_sql.specs.Listed.{AreInOrder, by_place, in_any_order}
-use Rattle.upd_sql.specs.Stands.{Stands}
+use Rattle.upd_sql.specs.LibraryTables.{HoldsTables}
 use Rattle.upd_sql.proofs.Conditions.{card_named, card_params, entry_of, in_deck, nat_flip, status_of}
 use Rattle.upd_sql.proofs.Listed.{lists, ordered_as}
 use Rattle.upd_sql.proofs.Typed.{own}
 use Rattle.upd_sql.proofs.WholeLemmas.{cards_order}
-use Rattle.upd_sql.proofs.Texts as text
+use Rattle.upd_sql.proofs.WriteTexts as text
+use Rattle.upd_sql.proofs.ReadTexts as query
 
 -- ---- what each text answers
 
-module _ (old new : State) (it : Rows) (h : Stands it old.now) (rows : List Row) where
-  pub decks_listed : (card : CardRef) → Shown text.deck_of_card (card_params card) old new rows
+module _ (old new : State) (it : Rows) (h : HoldsTables it old.now) (rows : List Row) where
+  pub decks_listed : (card : CardRef) → Shown query.deck_of_card (card_params card) old new rows
       → (us : List ℕ) × (rows ≡ map (λ n. num n ∷ []) us) × AreInOrder in_any_order (map (λ r. r.deck) (filter (λ r. same_ref card r.card) it.cards)) us
   decks_listed card shown =
-      let found = lists 2 4 refl card_row (λ r. num r.deck ∷ []) (stored it) it.cards refl text.deck_of_card (card_params card) text.deck_of_card_plain
-      text.deck_of_card_unlisted old new rows shown h text.delete_card_tests text.deck_of_card_shown [] _ text.deck_of_card_is refl refl refl
+      let found = lists 2 4 refl card_row (λ r. num r.deck ∷ []) (stored it) it.cards refl query.deck_of_card (card_params card) query.deck_of_card_plain
+      query.deck_of_card_unlisted old new rows shown h text.delete_card_tests query.deck_of_card_shown [] _ query.deck_of_card_is refl refl refl
       (λ r. same_ref card r.card) (card_named card) (λ x. refl) in (
         map (λ r. r.deck) found.0,
         found.1 ∙ sym (Rattle.sqlite_keyed.proofs.ListLemmas.map-map (λ n. num n ∷ []) (λ (r : CardRow). r.deck) found.0),
         record { same = same_map (λ r. r.deck) found.2.same; sorted = λ k d low high. refl },
       )
 
-  pub deck_listed : (deck : ℕ) → Shown text.cards_of_deck (num deck ∷ []) old new rows
+  pub deck_listed : (deck : ℕ) → Shown query.cards_of_deck (num deck ∷ []) old new rows
       → (us : List CardRow) × (rows ≡ map card_row us) × AreInOrder by_place (filter (λ r. (r.deck == 0) || (r.deck == deck)) it.cards) us
   deck_listed deck shown =
-      let found = lists 2 4 refl card_row card_row (stored it) it.cards refl text.cards_of_deck (num deck ∷ []) text.cards_of_deck_plain
-      text.cards_of_deck_unlisted old new rows shown h text.cards_of_deck_tests text.all_cards_shown text.all_cards_order _ text.cards_of_deck_is refl refl refl
+      let found = lists 2 4 refl card_row card_row (stored it) it.cards refl query.cards_of_deck (num deck ∷ []) query.cards_of_deck_plain
+      query.cards_of_deck_unlisted old new rows shown h query.cards_of_deck_tests query.all_cards_shown query.all_cards_order _ query.cards_of_deck_is refl refl refl
       (λ r. (r.deck == 0) || (r.deck == deck)) (in_deck deck) (λ x. refl) in
       (found.0, found.1, ordered_as _ by_place _ _ found.0 cards_order refl found.2)
 
-  pub ident_entries_listed : (ident : List ℕ) → Shown text.entries_of_ident (Text ident ∷ []) old new rows
+  pub ident_entries_listed : (ident : List ℕ) → Shown query.entries_of_ident (Text ident ∷ []) old new rows
       → (us : List EntryRow) × (rows ≡ map entry_row us) × AreInOrder in_any_order (filter (λ e. bytes_eq ident e.card.name) it.entries) us
   ident_entries_listed ident shown =
-      let found = lists 3 6 refl entry_row entry_row (stored it) it.entries refl text.entries_of_ident (Text ident ∷ []) text.entries_of_ident_plain
-      text.entries_of_ident_unlisted old new rows shown h text.ident_tests text.all_entries_shown [] _ text.entries_of_ident_is
+      let found = lists 3 6 refl entry_row entry_row (stored it) it.entries refl query.entries_of_ident (Text ident ∷ []) query.entries_of_ident_plain
+      query.entries_of_ident_unlisted old new rows shown h query.ident_tests query.all_entries_shown [] _ query.entries_of_ident_is
       refl refl refl (λ e. bytes_eq ident e.card.name) (entry_of ident) (λ x. refl) in
       (found.0, found.1, record { same = found.2.same; sorted = λ k d low high. refl })
 
-  pub ident_states_listed : (ident : List ℕ) → Shown text.states_of_ident (Text ident ∷ []) old new rows
+  pub ident_states_listed : (ident : List ℕ) → Shown query.states_of_ident (Text ident ∷ []) old new rows
       → (us : List (CardRef × Bool)) × (rows ≡ map kept_state us)
       × AreInOrder in_any_order (filter (λ p. bytes_eq ident p.0.name) (map state_pair it.states)) us
   ident_states_listed ident shown =
       let found = lists 6 12 refl kept_state kept_state (stored it) (map state_pair it.states)
-      (sym (Rattle.sqlite_keyed.proofs.ListLemmas.map-map kept_state state_pair it.states)) text.states_of_ident (Text ident ∷ [])
-      text.states_of_ident_plain text.states_of_ident_unlisted old new rows shown h text.ident_tests text.all_states_shown [] _ text.states_of_ident_is
+      (sym (Rattle.sqlite_keyed.proofs.ListLemmas.map-map kept_state state_pair it.states)) query.states_of_ident (Text ident ∷ [])
+      query.states_of_ident_plain query.states_of_ident_unlisted old new rows shown h query.ident_tests query.all_states_shown [] _ query.states_of_ident_is
       refl refl refl (λ p. bytes_eq ident p.0.name) (status_of ident) (λ x. refl) in
       (found.0, found.1, record { same = found.2.same; sorted = λ k d low high. refl })
 
-  pub cards_counted : Shown text.count_cards [] old new rows → rows ≡ (num (sqlite_count (length it.cards)) ∷ []) ∷ []
+  pub cards_counted : Shown query.count_cards [] old new rows → rows ≡ (num (sqlite_count (length it.cards)) ∷ []) ∷ []
   cards_counted shown =
       counts library_schema 2 4 refl old.now (stored it) [] (showing library_schema (stored it) old.now h) (codes "count(*)" ∷ []) (own old.now.trees 4) rows
-      (reads_as text.count_cards [] old new library_schema h.schema_is _ text.count_cards_is text.count_cards_plain text.count_cards_unlisted rows shown)
+      (reads_as query.count_cards [] old new library_schema h.schema_is _ query.count_cards_is query.count_cards_plain query.count_cards_unlisted rows shown)
       ∙ ap (λ n. (num (sqlite_count n) ∷ []) ∷ []) (length-map it.cards card_row)
 
-  pub entries_counted : Shown text.count_entries [] old new rows → rows ≡ (num (sqlite_count (length it.entries)) ∷ []) ∷ []
+  pub entries_counted : Shown query.count_entries [] old new rows → rows ≡ (num (sqlite_count (length it.entries)) ∷ []) ∷ []
   entries_counted shown =
       counts library_schema 3 6 refl old.now (stored it) [] (showing library_schema (stored it) old.now h) (codes "count(*)" ∷ []) (own old.now.trees 6) rows
-      (reads_as text.count_entries [] old new library_schema h.schema_is _ text.count_entries_is text.count_entries_plain text.count_entries_unlisted rows shown)
+      (reads_as query.count_entries [] old new library_schema h.schema_is _ query.count_entries_is query.count_entries_plain query.count_entries_unlisted rows shown)
       ∙ ap (λ n. (num (sqlite_count n) ∷ []) ∷ []) (length-map it.entries entry_row)
 
 -- ---- decks of more and more cards

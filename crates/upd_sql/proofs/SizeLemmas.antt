@@ -33,11 +33,12 @@ use Rattle.upd_sql.specs.Schema.{library_schema, ident_columns, card_columns, en
 use Rattle.upd_sql.specs.Encoded.{num, card_row, entry_row}
 use Rattle.upd_sql.specs.Sizes.{AnySizes, AreSizesOf, HasSizes, HoldsSizes, KeepsSizes, LeadToSizes, Sized, SizedAll, TakeNone, TakesNone, sized, sized_all}
 use Rattle.upd_sql.specs.Sizes.{one_card_more, one_entry_more}
-use Rattle.upd_sql.specs.Stands.{ShowsTables}
+use Rattle.upd_sql.specs.LibraryTables.{ShowsTables}
 use Rattle.upd_sql.specs.declared.sizes.Sizes.{Sizes}
 use Rattle.upd_sql.proofs.Bare.{is_bare, bare_tests, bare_values}
 use Rattle.upd_sql.proofs.Typed.{own, survives_itself}
-use Rattle.upd_sql.proofs.Texts as text
+use Rattle.upd_sql.proofs.WriteTexts as text
+use Rattle.upd_sql.proofs.ReadTexts as query
 
 -- ---- the rows of a table where others, or its own, were put
 
@@ -332,16 +333,16 @@ sizes_shown n it db shown h = (
 -- ---- the texts that count
 
 module _ (old new : State) (rows : List Row) (schema : old.now.schema ≡ library_schema) where
-  pub card_rows_counted : Shown text.count_cards [] old new rows → rows ≡ (num (sqlite_count (length (old.now.trees 4))) ∷ []) ∷ []
+  pub card_rows_counted : Shown query.count_cards [] old new rows → rows ≡ (num (sqlite_count (length (old.now.trees 4))) ∷ []) ∷ []
   card_rows_counted shown =
       counts library_schema 2 4 refl old.now (all_rows old.now.trees) [] (shows_all old.now schema) (codes "count(*)" ∷ []) (own old.now.trees 4) rows
-      (reads_as text.count_cards [] old new library_schema schema _ text.count_cards_is text.count_cards_plain text.count_cards_unlisted rows shown)
+      (reads_as query.count_cards [] old new library_schema schema _ query.count_cards_is query.count_cards_plain query.count_cards_unlisted rows shown)
       ∙ ap (λ n. (num (sqlite_count n) ∷ []) ∷ []) (length-map (old.now.trees 4) (drop 1))
 
-  pub entry_rows_counted : Shown text.count_entries [] old new rows → rows ≡ (num (sqlite_count (length (old.now.trees 6))) ∷ []) ∷ []
+  pub entry_rows_counted : Shown query.count_entries [] old new rows → rows ≡ (num (sqlite_count (length (old.now.trees 6))) ∷ []) ∷ []
   entry_rows_counted shown =
       counts library_schema 3 6 refl old.now (all_rows old.now.trees) [] (shows_all old.now schema) (codes "count(*)" ∷ []) (own old.now.trees 6) rows
-      (reads_as text.count_entries [] old new library_schema schema _ text.count_entries_is text.count_entries_plain text.count_entries_unlisted rows shown)
+      (reads_as query.count_entries [] old new library_schema schema _ query.count_entries_is query.count_entries_plain query.count_entries_unlisted rows shown)
       ∙ ap (λ n. (num (sqlite_count n) ∷ []) ∷ []) (length-map (old.now.trees 6) (drop 1))
 
 -- ---- a whole transaction

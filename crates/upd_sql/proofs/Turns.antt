@@ -8,7 +8,7 @@ use Rattle.upd_records.specs.Rows.{Rows}
 use Rattle.upd_records.specs.Fits.{Fits, AllFit}
 use Rattle.upd_sqlite.specs.Steps.{Makes}
 use Rattle.upd_sqlite.proofs.Chains.{makes_then, makes_as}
-use Rattle.upd_sql.specs.Stands.{Stands}
+use Rattle.upd_sql.specs.LibraryTables.{HoldsTables}
 use Rattle.upd_sql.proofs.Typed.{survives_itself}
 
 fits_push : (cs : List ChangeView) (d : ChangeView) (it : Rows) → AllFit (cs ++ d ∷ []) it → AllFit cs it × Fits d (done_all cs it)
@@ -20,7 +20,7 @@ done_push [] d it = refl
 done_push (c ∷ cs) d it = done_push cs d (done c it)
 
 -- no change yet
-pub none_made : {X : Type 0} (s : State) (x : X) → Makes {X = X} Stands (AllFit []) (done_all []) s s (Ok x)
+pub none_made : {X : Type 0} (s : State) (x : X) → Makes {X = X} HoldsTables (AllFit []) (done_all []) s s (Ok x)
 none_made s x = record {
   steps = record { going = λ clean inside. inside; kept = λ clean inside. record { was_open = λ o. o; committed = λ o. refl }; survives = survives_itself s _ };
   made = λ clean inside it fits h. h;
@@ -28,11 +28,11 @@ none_made s x = record {
 
 -- one change more
 pub one_made : {X Y : Type 0} (cs : List ChangeView) (d : ChangeView) (a b c : State) (x : X) (y : Y)
-    → Makes {X = X} Stands (AllFit cs) (done_all cs) a b (Ok x) → Makes {X = Y} Stands (Fits d) (done d) b c (Ok y)
-    → Makes {X = X} Stands (AllFit (cs ++ d ∷ [])) (done_all (cs ++ d ∷ [])) a c (Ok x)
+    → Makes {X = X} HoldsTables (AllFit cs) (done_all cs) a b (Ok x) → Makes {X = Y} HoldsTables (Fits d) (done d) b c (Ok y)
+    → Makes {X = X} HoldsTables (AllFit (cs ++ d ∷ [])) (done_all (cs ++ d ∷ [])) a c (Ok x)
 one_made cs d a b c x y p q =
-    let whole = makes_as Stands _ (AllFit (cs ++ d ∷ [])) _ (done_all (cs ++ d ∷ [])) a c (Ok y) (fits_push cs d) (done_push cs d)
-    (makes_then Stands (AllFit cs) (Fits d) (done_all cs) (done d) a b c x (Ok y) p q) in
+    let whole = makes_as HoldsTables _ (AllFit (cs ++ d ∷ [])) _ (done_all (cs ++ d ∷ [])) a c (Ok y) (fits_push cs d) (done_push cs d)
+    (makes_then HoldsTables (AllFit cs) (Fits d) (done_all cs) (done d) a b c x (Ok y) p q) in
     record { steps = record { going = whole.steps.going; kept = whole.steps.kept; survives = whole.steps.survives }; made = whole.made }
 
 pub seen_more : (changes : List Change) (i : ℕ) (c : Change) → i < length changes → c ≡ get_or changes i c

@@ -1,4 +1,4 @@
--- The same statements on lists of records, each of which is kept as a row.
+-- The same statements on lists of records, each of which is stored as a row.
 use Rattle.std.proofs.Common.{OnOk, IsErr, inl, arith, ◌≡◌, ℕ, ◌/◌, ◌-◌, ◌^◌, nat_le, unwrap_or, None, Bool, not, if◌then◌else◌, List, [], ◌∷◌, ◌++◌, map}
 use Rattle.std.proofs.Common.{length, filter, slice_get, Some, Ok, refl, sym, ap, subst, ◌∙◌, IfOk, IsTrue, true, false, Result, Err}
 use Rattle.std.specs.List.{AllByRecursion, list_all}
@@ -28,7 +28,7 @@ use Rattle.upd_sqlite.proofs.Frames.{is_lone}
 use Rattle.upd_sqlite.proofs.Shapes.{inserts, deletes, updates, reads_in_order}
 use Rattle.upd_sqlite.proofs.Answers.{shown_same, shown_was_open}
 use Rattle.upd_sql.specs.Schema.{library_schema}
-use Rattle.upd_sql.specs.Stands.{Stands, AnyTables}
+use Rattle.upd_sql.specs.LibraryTables.{HoldsTables, AnyTables}
 use Rattle.upd_sqlite.proofs.Chains.{makes_then, makes_not, makes_as}
 use Rattle.upd_sql.proofs.Bare.{is_bare, bare_tests, bare_values}
 
@@ -110,8 +110,8 @@ reads_exactly k tree alone row all xs are sql params plain unlisted old new rows
 
 pub makes_from : {X : Type 0} (Fits : Rows → Type 0) (change : Rows → Rows) (sql : List ℕ) (params : Row) (old new : State) (r : Result X Error)
     → Ran sql params old new r
-    → ((count : ℕ) → Executes sql params old new (Ok count) → (it : Rows) → Fits it → Stands it old.now → Stands (change it) new.now)
-    → Makes Stands Fits change old new r
+    → ((count : ℕ) → Executes sql params old new (Ok count) → (it : Rows) → Fits it → HoldsTables it old.now → HoldsTables (change it) new.now)
+    → Makes HoldsTables Fits change old new r
 makes_from Fits change sql params old new (Ok x) ran means =
     record { steps = ran.steps; made = λ clean inside it fits h. let ex = ran.executed clean inside in means ex.0 ex.1 it fits h }
 makes_from Fits change sql params old new (Err e) ran means = record { steps = ran.steps; made = λ clean. tt }
@@ -119,13 +119,13 @@ makes_from Fits change sql params old new (Err e) ran means = record { steps = r
 -- an answer of a plain query leaves the tables
 pub looks_from : {X : Type 0} (items : X → List Row) (sql : List ℕ) (params : Row) (plain : IsPlain (understood library_schema sql)) (old new : State)
     (r : Result X Error) → Steps old new r
-    → (HasCleanDisk new → IfOk r (λ x. Shown sql params old new (items x))) → Makes Stands (λ _. Unit {0}) (λ it. it) old new r
+    → (HasCleanDisk new → IfOk r (λ x. Shown sql params old new (items x))) → Makes HoldsTables (λ _. Unit {0}) (λ it. it) old new r
 looks_from items sql params plain old new (Ok x) steps shown =
     record {
       steps = steps;
       made = λ clean inside it fits h.
           let same = shown_same sql params old new (items x) (subst (λ s. IsPlain (understood s sql)) (sym h.schema_is) plain) (shown clean) in
-          subst (Stands it) (sym same.0.now_is) h;
+          subst (HoldsTables it) (sym same.0.now_is) h;
     }
 looks_from items sql params plain old new (Err e) steps shown = record { steps = steps; made = λ clean. tt }
 
@@ -134,7 +134,7 @@ survives_itself s P =
     record { clean = omega arith; shield = λ h. h; counts = omega arith; limit = refl; closes = λ clean o. inl o; crash = λ clean db may. inl may }
 
 -- nothing was run
-pub makes_nothing : {X : Type 0} (Fits : Rows → Type 0) (change : Rows → Rows) (s : State) (r : Result X Error) → IsErr r → Makes Stands Fits change s s r
+pub makes_nothing : {X : Type 0} (Fits : Rows → Type 0) (change : Rows → Rows) (s : State) (r : Result X Error) → IsErr r → Makes HoldsTables Fits change s s r
 makes_nothing Fits change s (Ok x) err = absurd (cc)
 makes_nothing Fits change s (Err e) err = record {
   steps = record { going = λ clean. tt; kept = λ clean inside. record { was_open = λ o. o; committed = λ o. refl }; survives = survives_itself s _ };
@@ -142,17 +142,17 @@ makes_nothing Fits change s (Err e) err = record {
 }
 
 -- two texts, of which the first went well
-pub makes_both : {X Y : Type 0} (f g : Rows → Rows) (a b c : State) (x : X) (r : Result Y Error) → Makes Stands AnyTables f a b (Ok x)
-    → Makes Stands AnyTables g b c r
-    → Makes Stands AnyTables (λ it. g (f it)) a c r
-makes_both f g a b c x r p q = makes_as Stands _ AnyTables _ (λ it. g (f it)) a c r (λ it any. (any, any)) (λ it. refl)
-    (makes_then Stands AnyTables AnyTables f g a b c x r p q)
+pub makes_both : {X Y : Type 0} (f g : Rows → Rows) (a b c : State) (x : X) (r : Result Y Error) → Makes HoldsTables AnyTables f a b (Ok x)
+    → Makes HoldsTables AnyTables g b c r
+    → Makes HoldsTables AnyTables (λ it. g (f it)) a c r
+makes_both f g a b c x r p q = makes_as HoldsTables _ AnyTables _ (λ it. g (f it)) a c r (λ it any. (any, any)) (λ it. refl)
+    (makes_then HoldsTables AnyTables AnyTables f g a b c x r p q)
 
 -- the first failed
 pub makes_stop : {X Y : Type 0} (F G : Rows → Type 0) (f g : Rows → Rows) (a b : State) (d : Error) (r : Result Y Error)
-    → Makes {X = X} Stands F f a b (Err d) → IsErr r → Makes Stands G g a b r
+    → Makes {X = X} HoldsTables F f a b (Err d) → IsErr r → Makes HoldsTables G g a b r
 makes_stop F G f g a b d (Ok y) p err = absurd (cc)
-makes_stop F G f g a b d (Err e) p err = makes_not Stands F G f g a b d e p
+makes_stop F G f g a b d (Err e) p err = makes_not HoldsTables F G f g a b d e p
 
 -- only an open connection answers
 pub was_open_from : {X : Type 0} (items : X → List Row) (sql : List ℕ) (params : Row) (old new : State) (r : Result X Error)

@@ -1,4 +1,4 @@
--- What a whole transaction does to the tables of the last commit, and what its statements do that only look.
+-- What a whole transaction does to the tables of the last commit, and what its statements do that only read.
 use Rattle.std.specs.Prelude.{◌≡◌, Result, IsTrue, IfOk, OnOk}
 use Rattle.std.specs.List.{AllZip}
 use Rattle.sqlite_trees.specs.Tree.{Trees}
@@ -9,7 +9,7 @@ use Rattle.upd_sqlite.specs.Steps.{Steps}
 use Rattle.upd_sqlite.specs.Stored.{HasRows}
 use Rattle.upd_sql.specs.Schema.{library_schema}
 use Rattle.upd_sql.specs.Encoded.{stored}
-use Rattle.upd_sql.specs.Stands.{ShowsTables, Stands}
+use Rattle.upd_sql.specs.LibraryTables.{ShowsTables, HoldsTables}
 
 -- trees that show these tables
 abbrev pub ShowsIn : Trees → Rows → Type 0
@@ -38,9 +38,9 @@ MayKeep old trees = IsTrue old.is_open × (old.committed.schema ≡ library_sche
 abbrev pub LeavesTables : {X : Type 0} → State → State → Result X Error → Type 0
 LeavesTables old new r = HasCleanDisk new → OnOk r (old.now.schema ≡ library_schema → new.now ≡ old.now)
 
--- What statements of a transaction do that only read: they leave the tables, and what they find is so of the tables as they stood.
+-- What statements of a transaction do that only read: they leave the tables, and what they find is so of these tables.
 pub record Looks {X : Type 0} (Found : Rows → X → Type 0) (old new : State) (r : Result X Error) : Type 0 where
   pub steps : Steps old new r
   pub was_open : WasOpen old new r
   pub same : LeavesTables old new r
-  pub found : HasCleanDisk new → IfOk r (λ x. (it : Rows) → Stands it old.now → Found it x)
+  pub found : HasCleanDisk new → IfOk r (λ x. (it : Rows) → HoldsTables it old.now → Found it x)

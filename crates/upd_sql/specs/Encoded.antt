@@ -1,4 +1,4 @@
--- The rows of a library's tables as SQLite keeps them: whole numbers, texts and bytes.
+-- The rows of a library's tables as SQLite stores them: whole numbers, texts and bytes.
 use Rattle.std.specs.Prelude.{ℕ, pos, Bool, List, [], ◌∷◌, ◌++◌, map, codes, if◌then◌else◌}
 use Rattle.sqlite_value.specs.declared.value.Value.{Value}
 use Rattle.sqlite_value.specs.declared.value.Value.TheVariants.{Int, Text, Blob}
@@ -30,7 +30,7 @@ target_code (target.Set z) = num 0 ∷ num z ∷ num 0 ∷ []
 target_code (target.SetIn z d) = num 1 ∷ num z ∷ num d ∷ []
 target_code (target.Deck d) = num 2 ∷ num d ∷ num 0 ∷ []
 
--- the row of `meta` that tells a version of the schema
+-- the row of `meta` with a version of the schema
 abbrev pub version_row : ℕ → Row
 version_row v = Text (codes "version") ∷ num v ∷ []
 

@@ -1,6 +1,6 @@
 pub mod Schema
 pub mod Encoded
-pub mod Stands
+pub mod LibraryTables
 pub mod RowEdits
 pub mod Commits
 pub mod Listed

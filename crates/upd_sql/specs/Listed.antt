@@ -1,4 +1,4 @@
--- What a query answers of records, and in which order.
+-- The records that a query returns, and their order.
 use Rattle.std.specs.Prelude.{List, IsSorted}
 use Rattle.std.specs.Ordering.{nat_cmp, ordering_then}
 use Rattle.std.specs.declared.cmp.Ordering.{Ordering}
@@ -7,7 +7,7 @@ use Rattle.upd_text.specs.Order.{by_name}
 use Rattle.upd_core.specs.declared.ident.Ident.{Ident}
 use Rattle.upd_records.specs.Rows.{CardRow, EntryRow, IsSame, StateRow, TargetRow}
 
--- The records that were wanted, as often, in an order.
+-- The records that were asked for, each as often, in an order.
 pub record AreInOrder {X : Type 0} (cmp : X → X → Ordering) (wanted found : List X) : Type 0 where
   pub same : IsSame found wanted
   pub sorted : IsSorted cmp found

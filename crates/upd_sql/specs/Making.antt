@@ -28,18 +28,18 @@ abbrev pub with_tables : List Table → Schema → Schema
 with_tables [] schema = schema
 with_tables (t ∷ tables) schema = with_tables tables (created schema t)
 
--- the schema with the first so many tables
+-- the schema with the first n tables
 abbrev pub schema_up_to : ℕ → Schema
 schema_up_to n = with_tables (take n all_tables) no_schema
 
--- so many tables with no rows
+-- n tables with no rows
 abbrev pub no_rows_in : ℕ → List (List Row)
 no_rows_in zero = []
 no_rows_in (suc n) = no_rows_in n ++ [] ∷ []
 
--- the database has the first so many tables, all of them empty
-abbrev pub HasMade : ℕ → Database → Type 0
-HasMade n = HoldsAllRows (schema_up_to n) (no_rows_in n)
+-- the database has the first n tables, all of them empty
+abbrev pub HasEmptyTables : ℕ → Database → Type 0
+HasEmptyTables n = HoldsAllRows (schema_up_to n) (no_rows_in n)
 
 -- an empty library's tables
 abbrev pub no_rows : Rows
@@ -55,10 +55,10 @@ pub record MakesNext (n : ℕ) (sql : List ℕ) : Type 0 where
   pub next : created (schema_up_to n) table ≡ schema_up_to (n + 1)
   pub rows : no_rows_in n ++ [] ∷ [] ≡ no_rows_in (n + 1)
 
--- a step that leads from one kind of database to another
-pub record Leads {X : Type 0} (Before After : Database → Type 0) (old new : State) (r : Result X Error) : Type 0 where
+-- a step that transforms from one kind of database to another
+pub record Transforms {X : Type 0} (Before After : Database → Type 0) (old new : State) (r : Result X Error) : Type 0 where
   pub steps : Steps old new r
-  pub led : HasCleanDisk new → OnOk r (IsTrue old.in_transaction → Before old.now → After new.now)
+  pub transformed : HasCleanDisk new → OnOk r (IsTrue old.in_transaction → Before old.now → After new.now)
 
 -- what a crash may leave while the tables are made
 abbrev pub MayMake : State → Trees → Type 0

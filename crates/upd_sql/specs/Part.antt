@@ -11,7 +11,7 @@ use Rattle.upd_row_store.specs.Assembling.{AreRowsOf}
 use Rattle.upd_row_store.specs.PartRows.{AreOfDistinctCards, part_rows}
 use Rattle.upd_sql.specs.Sizes.{AreSizesOf}
 use Rattle.upd_sql.specs.Listed.{AreInOrder, in_any_order}
-use Rattle.upd_sql.specs.Stands.{Stands}
+use Rattle.upd_sql.specs.LibraryTables.{HoldsTables}
 use Rattle.upd_sql.specs.declared.active.ActiveRows.{ActiveRows}
 use Rattle.upd_sql.specs.declared.part.Part.{Part}
 
@@ -20,13 +20,13 @@ pub record IsPart (ages : List ℕ) (tables : Rows) (found : Part) : Type 0 wher
   pub rows : AreOfDistinctCards tables.cards → AreRowsOf (part_rows ages tables) found.rows
   pub sizes : AreSizesOf tables found.sizes
 
--- whether a card is of one of the idents that brought these
+-- whether a card is of one of the idents that introduced these
 abbrev pub is_of_ident : List CardRef → CardRef → Bool
 is_of_ident cards card = list_any (λ c. bytes_eq c.name card.name) cards
 
--- In all states of a store, a query answers the records of the cards that an ident brought.
+-- In all states of a store, a query returns the records of the cards that an ident introduced.
 pub record AnswersIdents {S A : Type 0} (state_of : S → State) (sql : List ℕ) (stored : A → Row) (listed : Rows → List A) (card_of : A → CardRef) : Type 0 where
-  pub answers : (old new : S) (it : Rows) → Stands it (state_of old).now → (rows : List Row) (ident : List ℕ)
+  pub answers : (old new : S) (it : Rows) → HoldsTables it (state_of old).now → (rows : List Row) (ident : List ℕ)
       → Shown sql (Text ident ∷ []) (state_of old) (state_of new) rows
       → (us : List A) × (rows ≡ map stored us) × AreInOrder in_any_order (filter (λ x. bytes_eq ident (card_of x).name) (listed it)) us
 

@@ -1,4 +1,4 @@
--- What single statements make of the tables, where a change of rows takes two of them.
+-- What single statements do to the tables, where a change of rows takes two of them.
 use Rattle.std.specs.Prelude.{ℕ, Bool, not, List, [], ◌∷◌, ◌++◌}
 use Rattle.std.specs.List.{filter}
 use Rattle.upd_text.specs.declared.card_ref.CardRef.{CardRef}

@@ -1,4 +1,4 @@
--- How many cards and entries there are, and what row changes make of these numbers.
+-- The numbers of cards and entries, and what row changes do to them.
 use Rattle.std.specs.Prelude.{◌≡◌, ℕ, ◌+◌, List, [], ◌∷◌, Option, Some, None, Result, IsTrue, length}
 use Rattle.sqlite_value.specs.Order.{Row}
 use Rattle.sqlite_trees.specs.Tree.{Trees}
@@ -21,11 +21,11 @@ card_tree = 4
 abbrev pub entry_tree : ℕ
 entry_tree = 6
 
--- there are so many rows of cards and of entries, whatever the rows are
+-- these are the numbers of rows of cards and of entries, whatever the rows are
 abbrev pub HasSizes : Sizes → Trees → Type 0
 HasSizes n trees = (n.cards ≡ length (trees card_tree)) × (n.entries ≡ length (trees entry_tree))
 
--- so many cards and entries stand in the tables
+-- these are the numbers of cards and entries in the tables
 abbrev pub AreSizesOf : Rows → Sizes → Type 0
 AreSizesOf it n = (n.cards ≡ length it.cards) × (n.entries ≡ length it.entries)
 
@@ -37,7 +37,7 @@ AreRightIfKnown known IsRight = (n : Sizes) → known ≡ Some n → IsRight n
 abbrev pub AreOfCommit : Option Sizes → State → Type 0
 AreOfCommit known s = AreRightIfKnown known (λ n. HasCleanDisk s → IsTrue s.is_open → HasSizes n s.committed.trees)
 
--- A database of the library's schema, whose rowids rise, has so many rows of cards and of entries.
+-- A database of the library's schema, whose rowids rise, has these numbers of rows of cards and of entries.
 pub record HoldsSizes (n : Sizes) (db : Database) : Type 0 where
   pub all : List (List Row)
   pub holds : HoldsAllRows library_schema all db
@@ -48,7 +48,7 @@ pub record HoldsSizes (n : Sizes) (db : Database) : Type 0 where
 abbrev pub AnySizes : Sizes → Type 0
 AnySizes n = Unit {0}
 
--- a change takes no card and no entry away
+-- a change removes no card and no entry
 abbrev pub TakesNone : ChangeView → Type 0
 TakesNone (CardGone card) = ⊥
 TakesNone (EntriesGone card) = ⊥
@@ -74,7 +74,7 @@ one_card_more n = record { cards = n.cards + 1; entries = n.entries }
 abbrev pub one_entry_more : Sizes → Sizes
 one_entry_more n = record { cards = n.cards; entries = n.entries + 1 }
 
--- the numbers after a change that takes none away
+-- the numbers after a change that removes none
 abbrev pub sized : ChangeView → Sizes → Sizes
 sized (CardNew card deck p body) n = one_card_more n
 sized (EntryNew card ord entry) n = one_entry_more n
@@ -93,7 +93,7 @@ abbrev pub sized_all : List ChangeView → Sizes → Sizes
 sized_all [] n = n
 sized_all (c ∷ cs) n = sized_all cs (sized c n)
 
--- numbers that were known lead to these by changes that take none away
+-- changes that remove none turn the numbers that were known into these
 abbrev pub LeadToSizes : List ChangeView → Option Sizes → Sizes → Type 0
 LeadToSizes cs None m = ⊥
 LeadToSizes cs (Some n) m = TakeNone cs × (m ≡ sized_all cs n)
@@ -102,7 +102,7 @@ LeadToSizes cs (Some n) m = TakeNone cs × (m ≡ sized_all cs n)
 abbrev pub KeepsSizes : {X : Type 0} → State → State → Result X Error → Type 0
 KeepsSizes old new r = Makes HoldsSizes AnySizes (λ n. n) old new r
 
--- what a change does to the numbers, where it takes none away
+-- what a change does to the numbers, where it removes none
 abbrev pub Sized : {X : Type 0} → ChangeView → State → State → Result X Error → Type 0
 Sized c old new r = Makes HoldsSizes (λ _. TakesNone c) (sized c) old new r
 

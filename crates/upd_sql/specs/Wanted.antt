@@ -30,6 +30,6 @@ key_indexes =
     ∷ key_index 16 (codes "sqlite_autoindex_settled_1") (1 ∷ [])
     ∷ []
 
--- the first so many tables of the library with the indexes of their keys, and nothing else
+-- the first n tables of the library with the indexes of their keys, and nothing else
 abbrev pub first_tables : ℕ → Schema
 first_tables n = record { tables = take n library_schema.tables; indexes = take n key_indexes; views = [] }

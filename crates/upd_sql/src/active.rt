@@ -1,10 +1,11 @@
-//! The rows by which the active cards are told.
+//! The rows that give the active cards.
 ghost use Rattle.std.specs.Prelude.{◌≡◌};
 ghost use Rattle.sqlite.specs.Held.{state};
 ghost use Rattle.upd_sql.specs.Commits.{Looks};
 ghost use Rattle.upd_sql.specs.Listed.{AreInOrder, by_state_row};
 ghost use Rattle.upd_sql.specs.Part.{AreActiveRows};
 
+use crate::texts;
 use crate::whole::{all_of, cards_in, idents_in};
 use sqlite::{Alter, Error, Transaction};
 use std::alloc::Global;
@@ -27,15 +28,10 @@ fn state_rows_in<S: Alter>(
     ensures looks { Looks (λ it found. AreInOrder by_state_row it.states found.items)
         (state S.Store tx.old.conn.now) (state S.Store tx.new.conn.now) result }
 {
-    all_of(
-        tx,
-        alloc,
-        "SELECT ident, num, active FROM states ORDER BY ident, num",
-        &[],
-    )
+    all_of(tx, alloc, texts::ALL_STATES, &[])
 }
 
-/// The rows by which the active cards are told, inside a transaction.
+/// The rows that give the active cards, inside a transaction.
 pub(crate) fn active_in<S: Alter>(
     tx: &mut Transaction<'_, S>,
     alloc: Global,

@@ -1,20 +1,20 @@
-//! Row changes carried out by statements.
+//! Row changes, carried out by statements.
 ghost use Rattle.std.specs.Prelude.{◌≡◌, map};
 ghost use Rattle.sqlite.specs.Held.{state};
 ghost use Rattle.upd_records.specs.Changes.{done, done_all, change_view, CardGone, CardsMoved, CountNow, StatusNow};
 ghost use Rattle.upd_records.specs.Fits.{AllFit, Fits};
 ghost use Rattle.upd_sqlite.specs.Steps.{Makes};
 ghost use Rattle.upd_sql.specs.Sizes.{KeepsSizes, Sized, SizedAll};
-ghost use Rattle.upd_sql.specs.Stands.{AnyTables, Stands};
+ghost use Rattle.upd_sql.specs.LibraryTables.{AnyTables, HoldsTables};
 
 use crate::writes;
 use sqlite::{Alter, Error, Transaction};
 use upd_core::{CardRef, Change, Serial, Target};
 
-/// The card goes, and its status with it.
+/// Removes the card and its status.
 fn remove_card<S: Alter>(tx: &mut Transaction<'_, S>, card: &CardRef) -> Result<(), Error>
     ensures same_reference { tx.new.conn.ghost_name ≡ tx.old.conn.ghost_name }
-    ensures makes { Makes Stands AnyTables (done (CardGone card.now)) (state S.Store tx.old.conn.now)
+    ensures makes { Makes HoldsTables AnyTables (done (CardGone card.now)) (state S.Store tx.old.conn.now)
         (state S.Store tx.new.conn.now) result }
     ensures sized { Sized (CardGone card.now)
         (state S.Store tx.old.conn.now) (state S.Store tx.new.conn.now) result }
@@ -23,14 +23,14 @@ fn remove_card<S: Alter>(tx: &mut Transaction<'_, S>, card: &CardRef) -> Result<
     writes::delete_state(tx, card)
 }
 
-/// The card's status takes the place of the one before it.
+/// Sets the card's status.
 fn set_state<S: Alter>(
     tx: &mut Transaction<'_, S>,
     card: &CardRef,
     active: bool,
 ) -> Result<(), Error>
     ensures same_reference { tx.new.conn.ghost_name ≡ tx.old.conn.ghost_name }
-    ensures makes { Makes Stands AnyTables (done (StatusNow card.now active)) (state S.Store tx.old.conn.now)
+    ensures makes { Makes HoldsTables AnyTables (done (StatusNow card.now active)) (state S.Store tx.old.conn.now)
         (state S.Store tx.new.conn.now) result }
     ensures sized { KeepsSizes (state S.Store tx.old.conn.now) (state S.Store tx.new.conn.now) result }
 {
@@ -38,10 +38,10 @@ fn set_state<S: Alter>(
     writes::insert_state(tx, card, active)
 }
 
-/// The target's count takes the place of the one before it; 0 leaves no row.
+/// Sets the target's count; 0 leaves no row.
 fn set_count<S: Alter>(tx: &mut Transaction<'_, S>, target: Target, n: u32) -> Result<(), Error>
     ensures same_reference { tx.new.conn.ghost_name ≡ tx.old.conn.ghost_name }
-    ensures makes { Makes Stands AnyTables (done (CountNow target n)) (state S.Store tx.old.conn.now)
+    ensures makes { Makes HoldsTables AnyTables (done (CountNow target n)) (state S.Store tx.old.conn.now)
         (state S.Store tx.new.conn.now) result }
     ensures sized { KeepsSizes (state S.Store tx.old.conn.now) (state S.Store tx.new.conn.now) result }
 {
@@ -52,7 +52,7 @@ fn set_count<S: Alter>(tx: &mut Transaction<'_, S>, target: Target, n: u32) -> R
     writes::insert_count(tx, target, n)
 }
 
-/// The cards of a deck that stand at a place or behind it move.
+/// Moves the cards of a deck at a place and after it.
 fn move_cards<S: Alter>(
     tx: &mut Transaction<'_, S>,
     deck: Serial,
@@ -60,7 +60,7 @@ fn move_cards<S: Alter>(
     by: i64,
 ) -> Result<(), Error>
     ensures same_reference { tx.new.conn.ghost_name ≡ tx.old.conn.ghost_name }
-    ensures makes { Makes Stands (Fits (CardsMoved deck from by)) (done (CardsMoved deck from by))
+    ensures makes { Makes HoldsTables (Fits (CardsMoved deck from by)) (done (CardsMoved deck from by))
         (state S.Store tx.old.conn.now) (state S.Store tx.new.conn.now) result }
     ensures sized { KeepsSizes (state S.Store tx.old.conn.now) (state S.Store tx.new.conn.now) result }
 {
@@ -74,7 +74,7 @@ fn move_cards<S: Alter>(
 /// Carries out one change.
 fn carry_out<S: Alter>(tx: &mut Transaction<'_, S>, change: &Change) -> Result<(), Error>
     ensures same_reference { tx.new.conn.ghost_name ≡ tx.old.conn.ghost_name }
-    ensures makes { Makes Stands (Fits (change_view change.now)) (done (change_view change.now))
+    ensures makes { Makes HoldsTables (Fits (change_view change.now)) (done (change_view change.now))
         (state S.Store tx.old.conn.now) (state S.Store tx.new.conn.now) result }
     ensures sized { Sized (change_view change.now)
         (state S.Store tx.old.conn.now) (state S.Store tx.new.conn.now) result }
@@ -102,7 +102,7 @@ fn carry_out<S: Alter>(tx: &mut Transaction<'_, S>, change: &Change) -> Result<(
 /// Carries out changes in order, inside a transaction.
 pub fn carry_out_all<S: Alter>(tx: &mut Transaction<'_, S>, changes: &[Change]) -> Result<(), Error>
     ensures same_reference { tx.new.conn.ghost_name ≡ tx.old.conn.ghost_name }
-    ensures makes { Makes Stands (AllFit (map change_view changes.now)) (done_all (map change_view changes.now))
+    ensures makes { Makes HoldsTables (AllFit (map change_view changes.now)) (done_all (map change_view changes.now))
         (state S.Store tx.old.conn.now) (state S.Store tx.new.conn.now) result }
     ensures sized { SizedAll (map change_view changes.now)
         (state S.Store tx.old.conn.now) (state S.Store tx.new.conn.now) result }

@@ -15,9 +15,9 @@ use crate::writes::insert_run;
 use sqlite::{Connection, Error};
 use upd_core::Change;
 use upd_records::RunRow;
-use upd_sqlite::{Rising, note_order_outside};
+use upd_sqlite::{Rising, begin};
 
-/// Carries out row changes and keeps the run that brought them, all or nothing.
+/// Carries out row changes and stores the run that made them, all or nothing.
 pub fn commit_changes<S: Rising>(
     conn: &mut Connection<S>,
     changes: &[Change],
@@ -39,10 +39,7 @@ pub fn commit_changes<S: Rising>(
         → (n : Sizes) → HasSizes n (state S.Store conn.old).committed.trees
         → HasSizes (sized_all (map change_view changes.now) n) (state S.Store conn.new).committed.trees) }
 {
-    note_order_outside(conn);
-    // For its clause alone: outside a transaction the tables are those of the last commit.
-    let _outside = conn.is_autocommit();
-    let mut tx = conn.transaction();
+    let mut tx = begin(conn);
     carry_out_all(&mut tx, changes)?;
     insert_run(&mut tx, row)?;
     tx.commit()

@@ -1,15 +1,13 @@
 //! The library in a file that any SQLite shell opens.
 //!
-//! Nine tables of whole numbers, texts and bytes. Each SQL statement that is run on them is a fixed string. But for
-//! those that make the tables each stands in a function of its own, whose contract is what the statement reads or makes
-//! of the tables.
+//! Nine tables of whole numbers, texts and bytes. Each SQL statement is a fixed string. Except for those that make the
+//! tables, each is in a function of its own, whose contract says what the statement reads or changes.
 #![tactic(auto)]
 
 mod active;
 mod changes;
 mod commits;
 mod decode;
-mod kept;
 mod make;
 mod part;
 mod reads;
@@ -18,6 +16,8 @@ mod schema;
 mod settle;
 mod sizes;
 mod statuses;
+mod stored;
+mod texts;
 mod values;
 mod whole;
 mod writes;
@@ -25,13 +25,14 @@ mod writes;
 pub use active::ActiveRows;
 pub use changes::carry_out_all;
 pub use commits::commit_changes;
-pub use kept::{
-    kept_active, kept_decks_of, kept_library_rows, kept_mark, kept_part, kept_run, kept_states,
-    kept_states_of,
-};
 pub use make::make_library;
 pub use part::Part;
 pub use schema::{has_first_tables, is_library_schema, is_no_schema};
 pub use settle::settle_site;
 pub use sizes::{Sizes, sizes_after};
+pub use stored::{
+    stored_active, stored_decks_of, stored_library_rows, stored_mark, stored_part, stored_run,
+    stored_states, stored_states_of,
+};
+pub use texts::{CREATE_COUNTS, CREATE_SETTLED, CREATE_STATES};
 pub use whole::library_rows_in;

@@ -3,96 +3,70 @@ ghost use Rattle.std.specs.Prelude.{◌≡◌, ◌+◌, ℕ, false, IsTrue, OnEr
 ghost use Rattle.sqlite.specs.Held.{state};
 ghost use Rattle.sqlite.specs.State.{HasCleanDisk, Survives};
 ghost use Rattle.upd_sql.specs.Commits.{WasOpen};
-ghost use Rattle.upd_sql.specs.Making.{no_rows, HasMade, Leads, MakesNext, MayMake};
+ghost use Rattle.upd_sql.specs.Making.{no_rows, HasEmptyTables, Transforms, MakesNext, MayMake};
 ghost use Rattle.upd_sql.specs.Schema.{no_schema};
-ghost use Rattle.upd_sql.specs.Stands.{ShowsTables, Stands};
+ghost use Rattle.upd_sql.specs.LibraryTables.{ShowsTables, HoldsTables};
 
+use crate::texts;
 use sqlite::{Alter, Connection, Error, Transaction};
-use upd_sqlite::run;
+use upd_sqlite::{Rising, begin, run};
 
 /// Makes the next table.
 fn create<S: Alter>(tx: &mut Transaction<'_, S>, sql: &str) -> Result<(), Error>
     ensures same_reference { tx.new.conn.ghost_name ≡ tx.old.conn.ghost_name }
-    ensures leads { (n : ℕ) → MakesNext n sql.now → Leads (HasMade n) (HasMade (n + 1))
+    ensures transforms { (n : ℕ) → MakesNext n sql.now → Transforms (HasEmptyTables n) (HasEmptyTables (n + 1))
         (state S.Store tx.old.conn.now) (state S.Store tx.new.conn.now) result }
 {
     run(tx, sql, &[])
 }
 
-/// Tells the version of the schema.
+/// Writes the version of the schema.
 fn insert_version<S: Alter>(tx: &mut Transaction<'_, S>) -> Result<(), Error>
     ensures same_reference { tx.new.conn.ghost_name ≡ tx.old.conn.ghost_name }
-    ensures leads { Leads (HasMade 9) (Stands no_rows) (state S.Store tx.old.conn.now)
+    ensures transforms { Transforms (HasEmptyTables 9) (HoldsTables no_rows) (state S.Store tx.old.conn.now)
         (state S.Store tx.new.conn.now) result }
     ensures was_open { WasOpen (state S.Store tx.old.conn.now) (state S.Store tx.new.conn.now) result }
 {
-    run(tx, "INSERT INTO meta (k, v) VALUES ('version', 3)", &[])
+    run(tx, texts::INSERT_VERSION, &[])
 }
 
-/// The tables of the version, the idents and the cards.
+/// Makes the tables of the version, the idents and the cards.
 fn create_cards<S: Alter>(tx: &mut Transaction<'_, S>) -> Result<(), Error>
     ensures same_reference { tx.new.conn.ghost_name ≡ tx.old.conn.ghost_name }
-    ensures leads { Leads (HasMade 0) (HasMade 3) (state S.Store tx.old.conn.now)
+    ensures transforms { Transforms (HasEmptyTables 0) (HasEmptyTables 3) (state S.Store tx.old.conn.now)
         (state S.Store tx.new.conn.now) result }
 {
-    create(
-        tx,
-        "CREATE TABLE meta (k TEXT NOT NULL, v INT NOT NULL, PRIMARY KEY (k)) STRICT",
-    )?;
-    create(
-        tx,
-        "CREATE TABLE idents (age INT NOT NULL, name TEXT NOT NULL, kind INT NOT NULL, noprop INT NOT NULL, held INT NOT NULL, PRIMARY KEY (age)) STRICT",
-    )?;
-    create(
-        tx,
-        "CREATE TABLE cards (ident TEXT NOT NULL, num INT NOT NULL, deck INT NOT NULL, pos INT NOT NULL, body TEXT NOT NULL, PRIMARY KEY (ident, num)) STRICT",
-    )
+    create(tx, texts::CREATE_META)?;
+    create(tx, texts::CREATE_IDENTS)?;
+    create(tx, texts::CREATE_CARDS)
 }
 
-/// The tables of what hangs on cards, and of the runs.
+/// Makes the tables of entries, targets and runs.
 fn create_runs<S: Alter>(tx: &mut Transaction<'_, S>) -> Result<(), Error>
     ensures same_reference { tx.new.conn.ghost_name ≡ tx.old.conn.ghost_name }
-    ensures leads { Leads (HasMade 3) (HasMade 6) (state S.Store tx.old.conn.now)
+    ensures transforms { Transforms (HasEmptyTables 3) (HasEmptyTables 6) (state S.Store tx.old.conn.now)
         (state S.Store tx.new.conn.now) result }
 {
-    create(
-        tx,
-        "CREATE TABLE entries (ident TEXT NOT NULL, num INT NOT NULL, ord INT NOT NULL, who INT NOT NULL, active INT NOT NULL, PRIMARY KEY (ident, num, ord)) STRICT",
-    )?;
-    create(
-        tx,
-        "CREATE TABLE targets (ident TEXT NOT NULL, num INT NOT NULL, ord INT NOT NULL, kind INT NOT NULL, target INT NOT NULL, deck INT NOT NULL, PRIMARY KEY (ident, num, ord)) STRICT",
-    )?;
-    create(
-        tx,
-        "CREATE TABLE runs (site TEXT NOT NULL, num INT NOT NULL, mode INT NOT NULL, body BLOB NOT NULL, accepted INT NOT NULL, reply BLOB NOT NULL, PRIMARY KEY (site, num)) STRICT",
-    )
+    create(tx, texts::CREATE_ENTRIES)?;
+    create(tx, texts::CREATE_TARGETS)?;
+    create(tx, texts::CREATE_RUNS)
 }
 
-/// The tables of statuses, counts and settled marks.
+/// Makes the tables of statuses, counts and settled marks.
 fn create_marks<S: Alter>(tx: &mut Transaction<'_, S>) -> Result<(), Error>
     ensures same_reference { tx.new.conn.ghost_name ≡ tx.old.conn.ghost_name }
-    ensures leads { Leads (HasMade 6) (HasMade 9) (state S.Store tx.old.conn.now)
+    ensures transforms { Transforms (HasEmptyTables 6) (HasEmptyTables 9) (state S.Store tx.old.conn.now)
         (state S.Store tx.new.conn.now) result }
 {
-    create(
-        tx,
-        "CREATE TABLE states (ident TEXT NOT NULL, num INT NOT NULL, active INT NOT NULL, PRIMARY KEY (ident, num)) STRICT",
-    )?;
-    create(
-        tx,
-        "CREATE TABLE counts (kind INT NOT NULL, target INT NOT NULL, deck INT NOT NULL, n INT NOT NULL, PRIMARY KEY (kind, target, deck)) STRICT",
-    )?;
-    create(
-        tx,
-        "CREATE TABLE settled (site TEXT NOT NULL, mark INT NOT NULL, PRIMARY KEY (site)) STRICT",
-    )
+    create(tx, texts::CREATE_STATES)?;
+    create(tx, texts::CREATE_COUNTS)?;
+    create(tx, texts::CREATE_SETTLED)
 }
 
-/// All tables, and the version.
+/// Makes all tables, and writes the version.
 fn make_tables<S: Alter>(tx: &mut Transaction<'_, S>) -> Result<(), Error>
     ensures same_reference { tx.new.conn.ghost_name ≡ tx.old.conn.ghost_name }
-    ensures leads { Leads (HasMade 0) (Stands no_rows) (state S.Store tx.old.conn.now) (state S.Store tx.new.conn.now) result }
+    ensures transforms { Transforms (HasEmptyTables 0) (HoldsTables no_rows) (state S.Store tx.old.conn.now) (state S.Store tx.new.conn.now) result }
     ensures was_open { WasOpen (state S.Store tx.old.conn.now) (state S.Store tx.new.conn.now) result }
 {
     create_cards(tx)?;
@@ -102,7 +76,7 @@ fn make_tables<S: Alter>(tx: &mut Transaction<'_, S>) -> Result<(), Error>
 }
 
 /// Makes the tables of an empty library in one transaction.
-pub fn make_library<S: Alter>(conn: &mut Connection<S>) -> Result<(), Error>
+pub fn make_library<S: Rising>(conn: &mut Connection<S>) -> Result<(), Error>
     requires { conn.old.in_transaction ≡ false }
     ensures outside { conn.new.in_transaction ≡ false }
     ensures done { HasCleanDisk (state S.Store conn.new) → OnOk result (IsTrue (state S.Store conn.new).is_open
@@ -113,9 +87,7 @@ pub fn make_library<S: Alter>(conn: &mut Connection<S>) -> Result<(), Error>
         (IsTrue (state S.Store conn.old).is_open × ((state S.Store conn.new).committed ≡ (state S.Store conn.old).committed)) }
     ensures crash { Survives (state S.Store conn.old) (state S.Store conn.new) (MayMake (state S.Store conn.old)) }
 {
-    // For its clause alone: outside a transaction the tables are those of the last commit.
-    let _outside = conn.is_autocommit();
-    let mut tx = conn.transaction();
+    let mut tx = begin(conn);
     make_tables(&mut tx)?;
     tx.commit()
 }

@@ -1,4 +1,4 @@
-//! Parts of the tables: the rows of some decks and cards, and how many rows there are.
+//! Parts of the tables: the rows of some decks and cards, and the numbers of rows.
 ghost use Rattle.std.specs.Prelude.{◌≡◌, ◌==◌, ◌||◌, ℕ, [], ◌∷◌, List, length, map, IfOk, IfSome};
 ghost use Rattle.std.specs.List.{filter};
 ghost use Rattle.std.specs.BTreeSet as sorted;
@@ -20,11 +20,12 @@ ghost use Rattle.upd_sql.specs.Listed.{AreInOrder, by_place, in_any_order};
 ghost use Rattle.upd_sql.specs.Part.{AnswersIdents, IsPart, is_of_ident};
 ghost use Rattle.upd_sql.specs.Schema.{library_schema};
 ghost use Rattle.upd_sql.specs.Sizes.{AreRightIfKnown, AreSizesOf, HasSizes, card_tree, entry_tree};
-ghost use Rattle.upd_sql.specs.Stands.{Stands};
+ghost use Rattle.upd_sql.specs.LibraryTables.{HoldsTables};
 
 use crate::reads::mark_in;
 use crate::record::Record;
 use crate::sizes::Sizes;
+use crate::texts;
 use crate::values::{name, number};
 use crate::whole::{all_of, cards_in, idents_in, rows_of, targets_in};
 use sqlite::{Alter, Error, ErrorCode, Row, Transaction};
@@ -37,17 +38,17 @@ use upd_row_store::card_set;
 /// The last number to which SQLite counts.
 const LAST: u64 = 0x7fff_ffff_ffff_ffff;
 
-/// The rows of some decks, and how many cards and entries there are in all.
+/// The rows of some decks, and the numbers of all cards and entries.
 #[derive(Debug, Drop)]
 pub struct Part {
-    /// Whole but for the cards of other decks, and their entries.
+    /// All rows, except those of the cards of other decks and of their entries.
     pub rows: LibraryRows,
     pub sizes: Sizes,
 }
 
-/// Looks at a row that isn't there: a shut connection fails, also where no card follows. It is called so that what is
-/// found says that the connection was open, after a loop with no turn too.
-fn look_at_nothing<S: Alter>(tx: &mut Transaction<'_, S>) -> Result<(), Error>
+/// Fails on a closed connection. A query for each card would not where there is no card. SQLite has no call for it, so
+/// this reads the mark of a site that has none.
+fn check_open<S: Alter>(tx: &mut Transaction<'_, S>) -> Result<(), Error>
     ensures same_reference { tx.new.conn.ghost_name ≡ tx.old.conn.ghost_name }
     ensures looks { Looks (λ _ _. Unit {0}) (state S.Store tx.old.conn.now) (state S.Store tx.new.conn.now) result }
 {
@@ -69,12 +70,12 @@ fn decks_of_card<S: Alter>(
     all_of(
         tx,
         alloc,
-        "SELECT deck FROM cards WHERE ident = ?1 AND num = ?2",
+        texts::DECK_OF_CARD,
         &[name(&card.name), number(card.number)],
     )
 }
 
-/// The ages of the decks in the rows of these cards, 0 for `YANK$$$`. An age may stand there more than once.
+/// The ages of the decks in the rows of these cards, 0 for `YANK$$$`. An age may occur more than once.
 pub(crate) fn decks_in<S: Alter>(
     tx: &mut Transaction<'_, S>,
     alloc: Global,
@@ -84,7 +85,7 @@ pub(crate) fn decks_in<S: Alter>(
     ensures looks { Looks (λ it found. AreDecksOf cards.now it.cards found.items) (state S.Store tx.old.conn.now)
         (state S.Store tx.new.conn.now) result }
 {
-    look_at_nothing(tx)?;
+    check_open(tx)?;
     let mut ages = Vec::new(alloc);
     for card in cards {
         let found = decks_of_card(tx, alloc, card)?;
@@ -104,12 +105,7 @@ fn cards_of_deck<S: Alter>(
         (filter (λ r. (r.deck == 0) || (r.deck == deck)) it.cards) found.items)
         (state S.Store tx.old.conn.now) (state S.Store tx.new.conn.now) result }
 {
-    all_of(
-        tx,
-        alloc,
-        "SELECT ident, num, deck, pos, body FROM cards WHERE deck = 0 OR deck = ?1 ORDER BY deck, pos",
-        &[number(deck)],
-    )
+    all_of(tx, alloc, texts::CARDS_OF_DECK, &[number(deck)])
 }
 
 /// Whether a deck is `YANK$$$` or of these ages.
@@ -119,7 +115,7 @@ fn is_loaded(ages: &[Serial], deck: Serial) -> bool
     deck == 0 || ages.contains(&deck)
 }
 
-/// The deck that is asked for where it is one alone, `YANK$$$` where there is none.
+/// The only deck that is asked for, `YANK$$$` where none is.
 fn lone_deck(ages: &[Serial]) -> Option<Serial>
     ensures { IfSome result (λ deck. (d : ℕ) → is_loaded ages.now d ≡ ((d == 0) || (d == deck))) }
 {
@@ -130,7 +126,7 @@ fn lone_deck(ages: &[Serial]) -> Option<Serial>
     }
 }
 
-/// Takes the cards of other decks away.
+/// Removes the cards of other decks.
 fn keep_cards(cards: &mut Vec<CardRow>, ages: &[Serial])
     ensures { cards.new.items ≡ filter (λ r. is_loaded ages.now r.deck) cards.old.items }
 {
@@ -157,8 +153,8 @@ fn cards_of_decks<S: Alter>(
     }
 }
 
-/// The records of all idents that brought these cards, by a query for those of one ident, `?1`. Each ident is asked for
-/// once.
+/// The records of all idents that introduced these cards, by a query for those of one ident, `?1`. It runs once for each
+/// ident.
 pub(crate) fn of_idents<S: Alter, T: Record + Drop>(
     tx: &mut Transaction<'_, S>,
     alloc: Global,
@@ -171,7 +167,7 @@ pub(crate) fn of_idents<S: Alter, T: Record + Drop>(
         → Looks (λ it found. IsSame found.items (filter (λ x. is_of_ident cards.now (card_of x)) (listed it)))
         (state S.Store tx.old.conn.now) (state S.Store tx.new.conn.now) result }
 {
-    look_at_nothing(tx)?;
+    check_open(tx)?;
     let mut asked = BTreeSet::new(alloc);
     let mut found = Vec::new(alloc);
     for card in cards {
@@ -183,7 +179,7 @@ pub(crate) fn of_idents<S: Alter, T: Record + Drop>(
     Ok(found)
 }
 
-/// The entries of all cards of the idents that brought these.
+/// The entries of all cards of the idents that introduced these.
 fn entries_of_idents<S: Alter>(
     tx: &mut Transaction<'_, S>,
     alloc: Global,
@@ -193,23 +189,18 @@ fn entries_of_idents<S: Alter>(
     ensures looks { Looks (λ it found. IsSame found.items (filter (λ e. is_of_ident cards.now e.card) it.entries))
         (state S.Store tx.old.conn.now) (state S.Store tx.new.conn.now) result }
 {
-    of_idents(
-        tx,
-        alloc,
-        "SELECT ident, num, ord, who, active FROM entries WHERE ident = ?1",
-        cards,
-    )
+    of_idents(tx, alloc, texts::ENTRIES_OF_IDENT, cards)
 }
 
-/// Takes the entries of other cards away.
+/// Removes the entries of other cards.
 fn keep_entries(entries: &mut Vec<EntryRow>, cards: &BTreeSet<CardRef>)
     ensures { entries.new.items ≡ filter (λ e. sorted.contains by_name cards.now e.card) entries.old.items }
 {
     entries.retain(|entry| cards.contains(&entry.card));
 }
 
-/// The entries of cards. All that their idents brought are read: one statement for each ident takes far less than one
-/// for each card.
+/// The entries of cards. Those of all cards of their idents are read: one statement for each ident takes far less time
+/// than one for each card.
 fn entries_of_cards<S: Alter>(
     tx: &mut Transaction<'_, S>,
     alloc: Global,
@@ -235,7 +226,7 @@ fn references_of(alloc: Global, cards: &[CardRow]) -> Result<Vec<CardRef>, Alloc
     Ok(references)
 }
 
-/// The number that the first row begins with, 0 where there is no row. A count that stands at its last value is refused.
+/// The number in the first column of the first row, 0 where there is no row. A count at its last value is refused.
 fn first_count(rows: &[Row]) -> Result<u64, Error>
     ensures { IfOk result (λ n. (count : ℕ) → rows.now ≡ (num (sqlite_count count) ∷ []) ∷ [] → n ≡ count) }
 {
@@ -245,7 +236,7 @@ fn first_count(rows: &[Row]) -> Result<u64, Error>
     }
 }
 
-/// A number that is a count; the last one stands for all that are above it, too.
+/// A number that is a count. The last one is refused, since SQLite returns it for all counts above it, too.
 fn below_last(n: u64) -> Result<u64, Error>
     ensures { IfOk result (λ m. (count : ℕ) → n ≡ sqlite_count count → m ≡ count) }
 {
@@ -256,11 +247,11 @@ fn below_last(n: u64) -> Result<u64, Error>
     }
 }
 
-/// The number that a SELECT count(*) answers; TooBig from 2^63 - 1 on.
+/// The number that a SELECT count(*) returns; TooBig from 2^63 - 1 on.
 fn number_of<S: Alter>(tx: &mut Transaction<'_, S>, sql: &str) -> Result<u64, Error>
     ensures same_reference { tx.new.conn.ghost_name ≡ tx.old.conn.ghost_name }
     ensures looks { (size : Rows → ℕ) → IsPlain (understood library_schema sql.now)
-        → ((it : Rows) → Stands it (state S.Store tx.old.conn.now).now → (rows : List SqlRow)
+        → ((it : Rows) → HoldsTables it (state S.Store tx.old.conn.now).now → (rows : List SqlRow)
         → Shown sql.now [] (state S.Store tx.old.conn.now) (state S.Store tx.new.conn.now) rows
         → rows ≡ (num (sqlite_count (size it)) ∷ []) ∷ [])
         → Looks (λ it n. n ≡ size it) (state S.Store tx.old.conn.now) (state S.Store tx.new.conn.now) result }
@@ -282,7 +273,7 @@ fn card_count<S: Alter>(tx: &mut Transaction<'_, S>) -> Result<u64, Error>
         → IfOk result (λ n. (state S.Store tx.old.conn.now).now.schema ≡ library_schema
         → n ≡ length ((state S.Store tx.old.conn.now).now.trees card_tree)) }
 {
-    number_of(tx, "SELECT count(*) FROM cards")
+    number_of(tx, texts::COUNT_CARDS)
 }
 
 fn entry_count<S: Alter>(tx: &mut Transaction<'_, S>) -> Result<u64, Error>
@@ -293,7 +284,7 @@ fn entry_count<S: Alter>(tx: &mut Transaction<'_, S>) -> Result<u64, Error>
         → IfOk result (λ n. (state S.Store tx.old.conn.now).now.schema ≡ library_schema
         → n ≡ length ((state S.Store tx.old.conn.now).now.trees entry_tree)) }
 {
-    number_of(tx, "SELECT count(*) FROM entries")
+    number_of(tx, texts::COUNT_ENTRIES)
 }
 
 /// The rows of `YANK$$$` and of the decks of these ages.
@@ -319,7 +310,7 @@ fn part_rows_in<S: Alter>(
     })
 }
 
-/// How many cards and entries there are.
+/// The numbers of cards and entries.
 fn sizes_in<S: Alter>(tx: &mut Transaction<'_, S>) -> Result<Sizes, Error>
     ensures same_reference { tx.new.conn.ghost_name ≡ tx.old.conn.ghost_name }
     ensures looks { Looks AreSizesOf (state S.Store tx.old.conn.now) (state S.Store tx.new.conn.now) result }
@@ -332,8 +323,8 @@ fn sizes_in<S: Alter>(tx: &mut Transaction<'_, S>) -> Result<Sizes, Error>
     Ok(Sizes { cards, entries })
 }
 
-/// The rows of `YANK$$$` and of the decks of these ages, and how many cards and entries there are in all: counted where
-/// the numbers aren't known.
+/// The rows of `YANK$$$` and of the decks of these ages, and the numbers of all cards and entries, which are counted
+/// where they are not known.
 pub(crate) fn part_in<S: Alter>(
     tx: &mut Transaction<'_, S>,
     alloc: Global,

@@ -1,4 +1,4 @@
-//! The queries that read a site's kept run and its mark, and what they answer.
+//! The queries that read a site's stored run and its mark.
 ghost use Rattle.std.specs.Prelude.{◌≡◌, map, IfOk};
 ghost use Rattle.std.specs.List.{filter};
 ghost use Rattle.sqlite.specs.Held.{state};
@@ -8,15 +8,16 @@ ghost use Rattle.upd_row_store.specs.Tables.{is_mark_of, is_run, mark_at, run_at
 ghost use Rattle.upd_sqlite.specs.Steps.{Steps};
 ghost use Rattle.upd_sql.specs.Commits.{LeavesTables, WasOpen};
 ghost use Rattle.upd_sql.specs.Encoded.{mark_row, run_row};
-ghost use Rattle.upd_sql.specs.Stands.{Stands};
+ghost use Rattle.upd_sql.specs.LibraryTables.{HoldsTables};
 
 use crate::decode::{first_mark, first_run};
+use crate::texts;
 use crate::values::{self, wide};
 use sqlite::{Alter, Error, Row, Transaction};
 use upd_records::RunRow;
 use upd_sqlite::ask;
 
-/// The rows of a site's run of a number.
+/// The rows of a site's run with a number.
 pub(crate) fn runs_of_key<S: Alter>(
     tx: &mut Transaction<'_, S>,
     site: &str,
@@ -27,15 +28,11 @@ pub(crate) fn runs_of_key<S: Alter>(
     ensures was_open { WasOpen (state S.Store tx.old.conn.now) (state S.Store tx.new.conn.now) result }
     ensures same { LeavesTables (state S.Store tx.old.conn.now) (state S.Store tx.new.conn.now) result }
     ensures found { HasCleanDisk (state S.Store tx.new.conn.now)
-        → IfOk result (λ rows. (it : Rows) → Stands it (state S.Store tx.old.conn.now).now
+        → IfOk result (λ rows. (it : Rows) → HoldsTables it (state S.Store tx.old.conn.now).now
         → rows.items ≡ map run_row (filter (is_run site.now number) it.runs)) }
 {
     let number = wide(number)?;
-    ask(
-        tx,
-        "SELECT site, num, mode, body, accepted, reply FROM runs WHERE site = ?1 AND num = ?2 ORDER BY rowid",
-        &[values::site(site), number],
-    )
+    ask(tx, texts::RUN_OF_KEY, &[values::site(site), number])
 }
 
 /// The rows of a site's mark.
@@ -48,14 +45,10 @@ pub(crate) fn marks_of_site<S: Alter>(
     ensures was_open { WasOpen (state S.Store tx.old.conn.now) (state S.Store tx.new.conn.now) result }
     ensures same { LeavesTables (state S.Store tx.old.conn.now) (state S.Store tx.new.conn.now) result }
     ensures found { HasCleanDisk (state S.Store tx.new.conn.now)
-        → IfOk result (λ rows. (it : Rows) → Stands it (state S.Store tx.old.conn.now).now
+        → IfOk result (λ rows. (it : Rows) → HoldsTables it (state S.Store tx.old.conn.now).now
         → rows.items ≡ map mark_row (filter (is_mark_of site.now) it.settled)) }
 {
-    ask(
-        tx,
-        "SELECT site, mark FROM settled WHERE site = ?1 ORDER BY rowid",
-        &[values::site(site)],
-    )
+    ask(tx, texts::MARK_OF_SITE, &[values::site(site)])
 }
 
 /// The number up to which a site has settled, 0 where it never did.
@@ -65,14 +58,14 @@ pub(crate) fn mark_in<S: Alter>(tx: &mut Transaction<'_, S>, site: &str) -> Resu
     ensures was_open { WasOpen (state S.Store tx.old.conn.now) (state S.Store tx.new.conn.now) result }
     ensures same { LeavesTables (state S.Store tx.old.conn.now) (state S.Store tx.new.conn.now) result }
     ensures found { HasCleanDisk (state S.Store tx.new.conn.now)
-        → IfOk result (λ mark. (it : Rows) → Stands it (state S.Store tx.old.conn.now).now → mark
+        → IfOk result (λ mark. (it : Rows) → HoldsTables it (state S.Store tx.old.conn.now).now → mark
         ≡ mark_at site.now it) }
 {
     let rows = marks_of_site(tx, site)?;
     first_mark(&rows)
 }
 
-/// The run that is kept under a key.
+/// The run that is stored under a key.
 pub(crate) fn run_in<S: Alter>(
     tx: &mut Transaction<'_, S>,
     site: &str,
@@ -83,7 +76,7 @@ pub(crate) fn run_in<S: Alter>(
     ensures was_open { WasOpen (state S.Store tx.old.conn.now) (state S.Store tx.new.conn.now) result }
     ensures same { LeavesTables (state S.Store tx.old.conn.now) (state S.Store tx.new.conn.now) result }
     ensures found { HasCleanDisk (state S.Store tx.new.conn.now)
-        → IfOk result (λ run. (it : Rows) → Stands it (state S.Store tx.old.conn.now).now → run
+        → IfOk result (λ run. (it : Rows) → HoldsTables it (state S.Store tx.old.conn.now).now → run
         ≡ run_at site.now number it) }
 {
     let rows = runs_of_key(tx, site, number)?;

@@ -1,4 +1,4 @@
-//! Records that are kept as rows of a table, read back from an answer.
+//! Records that are stored as rows of a table, read back from the rows of a query.
 ghost use Rattle.std.specs.Prelude.{◌≡◌, ◌<◌, ◌+◌, [], ◌∷◌, List, map, IfOk};
 ghost use Rattle.sqlite_value.specs.declared.value.Value.TheVariants.{Text};
 ghost use Rattle.sqlite_value.specs.Order.{column, Row as SqlRow};
@@ -10,16 +10,16 @@ use std::alloc::Global;
 use upd_core::{CardRef, Entry, Ident, Kind, Name, Serial, Target};
 use upd_records::{CardRow, EntryRow, StateRow, TargetRow};
 
-/// What is kept as a row.
+/// A record that is stored as a row.
 pub(crate) trait Record: Sized {
-    // The row as which it is kept.
+    // The row as which it is stored.
     ghost stored: { Self → SqlRow };
 
     fn read(alloc: Global, row: &Row) -> Result<Self, Error>
         ensures { IfOk result (λ x. (kept : Self) → row.now ≡ stored kept → x ≡ kept) };
 }
 
-/// A row that no record is kept as.
+/// The error of a row that is not the row of a record.
 const ILLEGIBLE: Error = Error::SqliteFailure(ErrorCode::DatabaseCorrupt);
 
 fn name_in(row: &Row, at: usize) -> Result<Name, Error>
@@ -75,7 +75,7 @@ fn target_of(kind: u32, target: Serial, deck: Serial) -> Result<Target, Error>
     }
 }
 
-/// The target in three columns from a place on.
+/// The target in three columns that begin at a place.
 fn target_in(row: &Row, at: usize) -> Result<Target, Error>
     requires { at < 8 }
     ensures { IfOk result (λ found. target_code found

@@ -291,7 +291,7 @@ fn is_index_at(at: usize, index: &Index) -> bool
     }
 }
 
-/// The first so many tables.
+/// Whether these are the first `count` tables.
 fn are_tables(tables: &[Table], count: usize) -> bool
     requires { count ≤ 9 }
     ensures { IsTrue result → tables.now ≡ take count library_schema.tables }
@@ -307,7 +307,7 @@ fn are_tables(tables: &[Table], count: usize) -> bool
     true
 }
 
-/// The indexes of the first so many tables.
+/// Whether these are the indexes of the first `count` tables.
 fn are_indexes(indexes: &[Index], count: usize) -> bool
     requires { count ≤ 9 }
     ensures { IsTrue result → indexes.now ≡ take count key_indexes }
@@ -323,7 +323,7 @@ fn are_indexes(indexes: &[Index], count: usize) -> bool
     true
 }
 
-/// The first so many of the library's tables with the indexes of their keys, and nothing else.
+/// Whether a schema is that of the first `count` of the library's tables, with the indexes of their keys and nothing else.
 pub fn has_first_tables(schema: &Schema, count: usize) -> bool
     requires { count ≤ 9 }
     ensures { IsTrue result → schema.now ≡ first_tables count }
@@ -337,14 +337,14 @@ pub fn has_first_tables(schema: &Schema, count: usize) -> bool
     are_indexes(schema.indexes.as_slice(), count)
 }
 
-/// The nine tables with the indexes of their keys, and nothing else.
+/// Whether a schema is that of the nine tables, with the indexes of their keys and nothing else.
 pub fn is_library_schema(schema: &Schema) -> bool
     ensures { IsTrue result → schema.now ≡ library_schema }
 {
     has_first_tables(schema, 9)
 }
 
-/// No table, index or view.
+/// Whether a schema has no table, index or view.
 pub fn is_no_schema(schema: &Schema) -> bool
     ensures { IsTrue result → schema.now ≡ no_schema }
 {

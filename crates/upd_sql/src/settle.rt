@@ -1,4 +1,4 @@
-//! Settling a site's runs.
+//! Settlement of a site's runs.
 ghost use Rattle.std.specs.Prelude.{◌≡◌, false, IfOk, IsTrue, OnErr, OnOk};
 ghost use Rattle.sqlite.specs.Held.{state};
 ghost use Rattle.sqlite.specs.State.{HasCleanDisk, Survives};
@@ -7,17 +7,17 @@ ghost use Rattle.upd_row_store.specs.Tables.{mark_at, settled_to};
 ghost use Rattle.upd_sqlite.specs.Steps.{Makes};
 ghost use Rattle.upd_sql.specs.Commits.{Commits, MayCommit, WasOpen};
 ghost use Rattle.upd_sql.specs.RowEdits.{with_runs_settled};
-ghost use Rattle.upd_sql.specs.Stands.{AnyTables, ShowsTables, Stands};
+ghost use Rattle.upd_sql.specs.LibraryTables.{AnyTables, ShowsTables, HoldsTables};
 
 use crate::reads::mark_in;
 use crate::writes;
 use sqlite::{Alter, Connection, Error, Transaction};
-use upd_sqlite::{Rising, note_order_outside};
+use upd_sqlite::{Rising, begin};
 
-/// The site's runs up to a number go, and the number is its mark.
+/// Removes the site's runs up to a number, and makes the number its mark.
 fn set_mark<S: Alter>(tx: &mut Transaction<'_, S>, site: &str, number: u64) -> Result<(), Error>
     ensures same_reference { tx.new.conn.ghost_name ≡ tx.old.conn.ghost_name }
-    ensures makes { Makes Stands AnyTables (with_runs_settled site.now number) (state S.Store tx.old.conn.now)
+    ensures makes { Makes HoldsTables AnyTables (with_runs_settled site.now number) (state S.Store tx.old.conn.now)
         (state S.Store tx.new.conn.now) result }
 {
     writes::delete_runs(tx, site, number)?;
@@ -25,14 +25,14 @@ fn set_mark<S: Alter>(tx: &mut Transaction<'_, S>, site: &str, number: u64) -> R
     writes::insert_mark(tx, site, number)
 }
 
-/// Settles a site's runs up to a number, and answers the site's mark afterwards.
+/// Settles a site's runs up to a number, and returns the site's mark afterwards.
 fn settle_in<S: Alter>(tx: &mut Transaction<'_, S>, site: &str, number: u64) -> Result<u64, Error>
     ensures same_reference { tx.new.conn.ghost_name ≡ tx.old.conn.ghost_name }
-    ensures makes { Makes Stands AnyTables (settled_to site.now number) (state S.Store tx.old.conn.now)
+    ensures makes { Makes HoldsTables AnyTables (settled_to site.now number) (state S.Store tx.old.conn.now)
         (state S.Store tx.new.conn.now) result }
     ensures was_open { WasOpen (state S.Store tx.old.conn.now) (state S.Store tx.new.conn.now) result }
     ensures mark { HasCleanDisk (state S.Store tx.new.conn.now)
-        → IfOk result (λ mark. (it : Rows) → Stands it (state S.Store tx.old.conn.now).now → mark
+        → IfOk result (λ mark. (it : Rows) → HoldsTables it (state S.Store tx.old.conn.now).now → mark
         ≡ mark_at site.now (settled_to site.now number it)) }
 {
     let mark = mark_in(tx, site)?;
@@ -43,7 +43,7 @@ fn settle_in<S: Alter>(tx: &mut Transaction<'_, S>, site: &str, number: u64) -> 
     Ok(number)
 }
 
-/// Settles a site's runs up to a number in one transaction, and answers the site's mark afterwards.
+/// Settles a site's runs up to a number in one transaction, and returns the site's mark afterwards.
 pub fn settle_site<S: Rising>(
     conn: &mut Connection<S>,
     site: &str,
@@ -62,10 +62,7 @@ pub fn settle_site<S: Rising>(
         → ShowsTables it (state S.Store conn.old).committed
         → mark ≡ mark_at site.now (settled_to site.now number it)) }
 {
-    note_order_outside(conn);
-    // For its clause alone: outside a transaction the tables are those of the last commit.
-    let _outside = conn.is_autocommit();
-    let mut tx = conn.transaction();
+    let mut tx = begin(conn);
     let mark = settle_in(&mut tx, site, number)?;
     tx.commit()?;
     Ok(mark)

@@ -1,4 +1,4 @@
-//! How many cards and entries there are, kept up over row changes.
+//! The numbers of cards and entries, updated by row changes.
 ghost use Rattle.std.specs.Prelude.{◌≡◌, map, IfSome};
 ghost use Rattle.upd_records.specs.Changes.{change_view};
 ghost use Rattle.upd_sql.specs.Sizes.{LeadToSizes, TakesNone, sized};
@@ -12,7 +12,7 @@ pub struct Sizes {
     pub entries: u64,
 }
 
-/// The numbers after a change; none where it takes cards or entries away, or there would be too many.
+/// The numbers after a change; none where it removes cards or entries, or there would be too many.
 fn size_after(sizes: Sizes, change: &Change) -> Option<Sizes>
     ensures takes_none { IfSome result (λ m. TakesNone (change_view change.now)) }
     ensures sized { IfSome result (λ m. m ≡ sized (change_view change.now) sizes) }
@@ -32,7 +32,7 @@ fn size_after(sizes: Sizes, change: &Change) -> Option<Sizes>
     }
 }
 
-/// The numbers after changes, where they were known before and no change takes cards or entries away.
+/// The numbers after changes, where they were known before and no change removes cards or entries.
 pub fn sizes_after(known: Option<Sizes>, changes: &[Change]) -> Option<Sizes>
     ensures { IfSome result (λ m. LeadToSizes (map change_view changes.now) known m) }
 {

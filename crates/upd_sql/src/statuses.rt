@@ -9,17 +9,18 @@ ghost use Rattle.upd_sql.specs.Commits.{Looks};
 ghost use Rattle.upd_sql.specs.Part.{is_of_ident};
 
 use crate::part::of_idents;
+use crate::texts;
 use crate::whole::{counts_in, states_in};
 use sqlite::{Alter, Error, Transaction};
 use std::alloc::Global;
 use upd_core::{CardRef, States};
 use upd_row_store::{card_set, keep_states, states_by_key};
 
-/// For how many cards the statuses are asked ident by ident, at most. The whole table is read for more: one statement
-/// takes less than one for each ident.
+/// The largest number of cards whose statuses are read ident by ident. The whole table is read for more: one statement
+/// takes less time than one for each ident.
 const MOST_BY_IDENT: usize = 10_000;
 
-/// The statuses of all cards of the idents that brought these.
+/// The statuses of all cards of the idents that introduced these.
 fn states_of_idents<S: Alter>(
     tx: &mut Transaction<'_, S>,
     alloc: Global,
@@ -29,15 +30,10 @@ fn states_of_idents<S: Alter>(
     ensures looks { Looks (λ it found. IsSame found.items (filter (λ p. is_of_ident cards.now p.0) (map state_pair it.states)))
         (state S.Store tx.old.conn.now) (state S.Store tx.new.conn.now) result }
 {
-    of_idents(
-        tx,
-        alloc,
-        "SELECT ident, num, active FROM states WHERE ident = ?1",
-        cards,
-    )
+    of_idents(tx, alloc, texts::STATES_OF_IDENT, cards)
 }
 
-/// Statuses that have those of these cards, and maybe others.
+/// The statuses of these cards, and maybe of others.
 fn states_with<S: Alter>(
     tx: &mut Transaction<'_, S>,
     alloc: Global,

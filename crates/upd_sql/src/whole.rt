@@ -13,10 +13,11 @@ ghost use Rattle.upd_sqlite.specs.Steps.{Steps};
 ghost use Rattle.upd_sql.specs.Commits.{LeavesTables, Looks, WasOpen};
 ghost use Rattle.upd_sql.specs.Listed.{AreInOrder, by_age, by_entry, by_place, by_target, in_any_order};
 ghost use Rattle.upd_sql.specs.Schema.{library_schema};
-ghost use Rattle.upd_sql.specs.Stands.{Stands};
+ghost use Rattle.upd_sql.specs.LibraryTables.{HoldsTables};
 ghost use Rattle.upd_row_store.specs.Assembling.{AreRowsOf};
 
 use crate::record::{Record, each};
+use crate::texts;
 use sqlite::types::ValueRef;
 use sqlite::{Alter, Error, Row, Transaction};
 use std::alloc::Global;
@@ -25,7 +26,7 @@ use upd_records::{CardRow, EntryRow, LibraryRows, TargetRow};
 use upd_row_store::states_by_key;
 use upd_sqlite::ask;
 
-/// The rows that a query answers.
+/// The rows that a query returns.
 pub(crate) fn rows_of<S: Alter>(
     tx: &mut Transaction<'_, S>,
     sql: &str,
@@ -42,7 +43,7 @@ pub(crate) fn rows_of<S: Alter>(
     ask(tx, sql, params)
 }
 
-/// The records that a query answers.
+/// The records that a query returns.
 pub(crate) fn all_of<S: Alter, T: Record + Drop>(
     tx: &mut Transaction<'_, S>,
     alloc: Global,
@@ -51,7 +52,7 @@ pub(crate) fn all_of<S: Alter, T: Record + Drop>(
 ) -> Result<Vec<T>, Error>
     ensures same_reference { tx.new.conn.ghost_name ≡ tx.old.conn.ghost_name }
     ensures looks { (listed : Rows → List T) (cmp : T → T → Ordering) → IsPlain (understood library_schema sql.now)
-        → ((it : Rows) → Stands it (state S.Store tx.old.conn.now).now → (rows : List SqlRow)
+        → ((it : Rows) → HoldsTables it (state S.Store tx.old.conn.now).now → (rows : List SqlRow)
         → Shown sql.now (bound params.now) (state S.Store tx.old.conn.now) (state S.Store tx.new.conn.now) rows
         → (kept : List T) × (rows ≡ map T.stored kept) × AreInOrder cmp (listed it) kept)
         → Looks (λ it found. AreInOrder cmp (listed it) found.items) (state S.Store tx.old.conn.now)
@@ -69,12 +70,7 @@ pub(crate) fn idents_in<S: Alter>(
     ensures looks { Looks (λ it found. AreInOrder by_age it.idents found.items)
         (state S.Store tx.old.conn.now) (state S.Store tx.new.conn.now) result }
 {
-    all_of(
-        tx,
-        alloc,
-        "SELECT age, name, kind, noprop, held FROM idents ORDER BY age",
-        &[],
-    )
+    all_of(tx, alloc, texts::ALL_IDENTS, &[])
 }
 
 pub(crate) fn cards_in<S: Alter>(
@@ -85,12 +81,7 @@ pub(crate) fn cards_in<S: Alter>(
     ensures looks { Looks (λ it found. AreInOrder by_place it.cards found.items)
         (state S.Store tx.old.conn.now) (state S.Store tx.new.conn.now) result }
 {
-    all_of(
-        tx,
-        alloc,
-        "SELECT ident, num, deck, pos, body FROM cards ORDER BY deck, pos",
-        &[],
-    )
+    all_of(tx, alloc, texts::ALL_CARDS, &[])
 }
 
 fn entries_in<S: Alter>(tx: &mut Transaction<'_, S>, alloc: Global) -> Result<Vec<EntryRow>, Error>
@@ -98,12 +89,7 @@ fn entries_in<S: Alter>(tx: &mut Transaction<'_, S>, alloc: Global) -> Result<Ve
     ensures looks { Looks (λ it found. AreInOrder by_entry it.entries found.items)
         (state S.Store tx.old.conn.now) (state S.Store tx.new.conn.now) result }
 {
-    all_of(
-        tx,
-        alloc,
-        "SELECT ident, num, ord, who, active FROM entries ORDER BY ident, num, ord",
-        &[],
-    )
+    all_of(tx, alloc, texts::ALL_ENTRIES, &[])
 }
 
 pub(crate) fn targets_in<S: Alter>(
@@ -114,12 +100,7 @@ pub(crate) fn targets_in<S: Alter>(
     ensures looks { Looks (λ it found. AreInOrder by_target it.targets found.items)
         (state S.Store tx.old.conn.now) (state S.Store tx.new.conn.now) result }
 {
-    all_of(
-        tx,
-        alloc,
-        "SELECT ident, num, ord, kind, target, deck FROM targets ORDER BY ident, num, ord",
-        &[],
-    )
+    all_of(tx, alloc, texts::ALL_TARGETS, &[])
 }
 
 pub(crate) fn states_in<S: Alter>(
@@ -130,7 +111,7 @@ pub(crate) fn states_in<S: Alter>(
     ensures looks { Looks (λ it found. AreInOrder in_any_order (map state_pair it.states) found.items)
         (state S.Store tx.old.conn.now) (state S.Store tx.new.conn.now) result }
 {
-    all_of(tx, alloc, "SELECT ident, num, active FROM states", &[])
+    all_of(tx, alloc, texts::EACH_STATE, &[])
 }
 
 pub(crate) fn counts_in<S: Alter>(
@@ -141,7 +122,7 @@ pub(crate) fn counts_in<S: Alter>(
     ensures looks { Looks (λ it found. AreInOrder in_any_order (map count_pair it.counts) found.items)
         (state S.Store tx.old.conn.now) (state S.Store tx.new.conn.now) result }
 {
-    all_of(tx, alloc, "SELECT kind, target, deck, n FROM counts", &[])
+    all_of(tx, alloc, texts::ALL_COUNTS, &[])
 }
 
 /// The rows of the four tables that a library is made of, inside a transaction.
@@ -165,7 +146,7 @@ pub fn library_rows_in<S: Alter>(
 }
 
 /// The status of each card and the count of each target that a live yank card has, by the keys of their tables. They
-/// are read as they stand and put in order here: an answer by its key takes a look-up for each row.
+/// are read in any order and sorted here: a query in the order of the key takes a look-up for each row.
 pub(crate) fn all_states_in<S: Alter>(
     tx: &mut Transaction<'_, S>,
     alloc: Global,

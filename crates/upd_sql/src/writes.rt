@@ -10,8 +10,9 @@ ghost use Rattle.upd_sql.specs.RowEdits.{with_count, with_mark, with_state, with
 ghost use Rattle.upd_sql.specs.RowEdits.{without_runs, without_state};
 ghost use Rattle.upd_sql.specs.Commits.{WasOpen};
 ghost use Rattle.upd_sql.specs.Sizes.{KeepsSizes, Sized};
-ghost use Rattle.upd_sql.specs.Stands.{AnyTables, Stands};
+ghost use Rattle.upd_sql.specs.LibraryTables.{AnyTables, HoldsTables};
 
+use crate::texts;
 use crate::values::{self, blob, codes_of, flag, kind, name, number, text, wide};
 use sqlite::{Alter, Error, Transaction};
 use upd_core::{CardRef, Entry, Ident, Serial, Target};
@@ -23,13 +24,13 @@ pub(crate) fn insert_ident<S: Alter>(
     ident: &Ident,
 ) -> Result<(), Error>
     ensures same_reference { tx.new.conn.ghost_name ≡ tx.old.conn.ghost_name }
-    ensures makes { Makes Stands AnyTables (done (IdentNew ident.now)) (state S.Store tx.old.conn.now)
+    ensures makes { Makes HoldsTables AnyTables (done (IdentNew ident.now)) (state S.Store tx.old.conn.now)
         (state S.Store tx.new.conn.now) result }
     ensures sized { KeepsSizes (state S.Store tx.old.conn.now) (state S.Store tx.new.conn.now) result }
 {
     run(
         tx,
-        "INSERT INTO idents (age, name, kind, noprop, held) VALUES (?1, ?2, ?3, ?4, ?5)",
+        texts::INSERT_IDENT,
         &[
             number(ident.age),
             name(&ident.name),
@@ -42,15 +43,11 @@ pub(crate) fn insert_ident<S: Alter>(
 
 pub(crate) fn purge_ident<S: Alter>(tx: &mut Transaction<'_, S>, age: Serial) -> Result<(), Error>
     ensures same_reference { tx.new.conn.ghost_name ≡ tx.old.conn.ghost_name }
-    ensures makes { Makes Stands AnyTables (done (IdentPurged age)) (state S.Store tx.old.conn.now)
+    ensures makes { Makes HoldsTables AnyTables (done (IdentPurged age)) (state S.Store tx.old.conn.now)
         (state S.Store tx.new.conn.now) result }
     ensures sized { KeepsSizes (state S.Store tx.old.conn.now) (state S.Store tx.new.conn.now) result }
 {
-    run(
-        tx,
-        "UPDATE idents SET held = 0 WHERE age = ?1",
-        &[number(age)],
-    )
+    run(tx, texts::PURGE_IDENT, &[number(age)])
 }
 
 pub(crate) fn insert_card<S: Alter>(
@@ -61,14 +58,14 @@ pub(crate) fn insert_card<S: Alter>(
     body: &[u8],
 ) -> Result<(), Error>
     ensures same_reference { tx.new.conn.ghost_name ≡ tx.old.conn.ghost_name }
-    ensures makes { Makes Stands AnyTables (done (CardNew card.now deck pos body.now))
+    ensures makes { Makes HoldsTables AnyTables (done (CardNew card.now deck pos body.now))
         (state S.Store tx.old.conn.now) (state S.Store tx.new.conn.now) result }
     ensures sized { Sized (CardNew card.now deck pos body.now)
         (state S.Store tx.old.conn.now) (state S.Store tx.new.conn.now) result }
 {
     run(
         tx,
-        "INSERT INTO cards (ident, num, deck, pos, body) VALUES (?1, ?2, ?3, ?4, ?5)",
+        texts::INSERT_CARD,
         &[
             name(&card.name),
             number(card.number),
@@ -79,18 +76,18 @@ pub(crate) fn insert_card<S: Alter>(
     )
 }
 
-/// The card's row alone: its status goes by `delete_state`.
+/// Removes only the card's row; `delete_state` removes its status.
 pub(crate) fn delete_card<S: Alter>(
     tx: &mut Transaction<'_, S>,
     card: &CardRef,
 ) -> Result<(), Error>
     ensures same_reference { tx.new.conn.ghost_name ≡ tx.old.conn.ghost_name }
-    ensures makes { Makes Stands AnyTables (without_card card.now) (state S.Store tx.old.conn.now)
+    ensures makes { Makes HoldsTables AnyTables (without_card card.now) (state S.Store tx.old.conn.now)
         (state S.Store tx.new.conn.now) result }
 {
     run(
         tx,
-        "DELETE FROM cards WHERE ident = ?1 AND num = ?2",
+        texts::DELETE_CARD,
         &[name(&card.name), number(card.number)],
     )
 }
@@ -102,14 +99,14 @@ pub(crate) fn insert_entry<S: Alter>(
     entry: &Entry,
 ) -> Result<(), Error>
     ensures same_reference { tx.new.conn.ghost_name ≡ tx.old.conn.ghost_name }
-    ensures makes { Makes Stands AnyTables (done (EntryNew card.now ord entry.now)) (state S.Store tx.old.conn.now)
+    ensures makes { Makes HoldsTables AnyTables (done (EntryNew card.now ord entry.now)) (state S.Store tx.old.conn.now)
         (state S.Store tx.new.conn.now) result }
     ensures sized { Sized (EntryNew card.now ord entry.now)
         (state S.Store tx.old.conn.now) (state S.Store tx.new.conn.now) result }
 {
     run(
         tx,
-        "INSERT INTO entries (ident, num, ord, who, active) VALUES (?1, ?2, ?3, ?4, ?5)",
+        texts::INSERT_ENTRY,
         &[
             name(&card.name),
             number(card.number),
@@ -125,14 +122,14 @@ pub(crate) fn delete_entries<S: Alter>(
     card: &CardRef,
 ) -> Result<(), Error>
     ensures same_reference { tx.new.conn.ghost_name ≡ tx.old.conn.ghost_name }
-    ensures makes { Makes Stands AnyTables (done (EntriesGone card.now)) (state S.Store tx.old.conn.now)
+    ensures makes { Makes HoldsTables AnyTables (done (EntriesGone card.now)) (state S.Store tx.old.conn.now)
         (state S.Store tx.new.conn.now) result }
     ensures sized { Sized (EntriesGone card.now)
         (state S.Store tx.old.conn.now) (state S.Store tx.new.conn.now) result }
 {
     run(
         tx,
-        "DELETE FROM entries WHERE ident = ?1 AND num = ?2",
+        texts::DELETE_ENTRIES,
         &[name(&card.name), number(card.number)],
     )
 }
@@ -144,14 +141,14 @@ pub(crate) fn insert_target<S: Alter>(
     target: Target,
 ) -> Result<(), Error>
     ensures same_reference { tx.new.conn.ghost_name ≡ tx.old.conn.ghost_name }
-    ensures makes { Makes Stands AnyTables (done (TargetNew card.now ord target)) (state S.Store tx.old.conn.now)
+    ensures makes { Makes HoldsTables AnyTables (done (TargetNew card.now ord target)) (state S.Store tx.old.conn.now)
         (state S.Store tx.new.conn.now) result }
     ensures sized { KeepsSizes (state S.Store tx.old.conn.now) (state S.Store tx.new.conn.now) result }
 {
     let codes = codes_of(target);
     run(
         tx,
-        "INSERT INTO targets (ident, num, ord, kind, target, deck) VALUES (?1, ?2, ?3, ?4, ?5, ?6)",
+        texts::INSERT_TARGET,
         &[
             name(&card.name),
             number(card.number),
@@ -168,20 +165,20 @@ pub(crate) fn delete_targets<S: Alter>(
     card: &CardRef,
 ) -> Result<(), Error>
     ensures same_reference { tx.new.conn.ghost_name ≡ tx.old.conn.ghost_name }
-    ensures makes { Makes Stands AnyTables (done (TargetsGone card.now [])) (state S.Store tx.old.conn.now)
+    ensures makes { Makes HoldsTables AnyTables (done (TargetsGone card.now [])) (state S.Store tx.old.conn.now)
         (state S.Store tx.new.conn.now) result }
     ensures sized { KeepsSizes (state S.Store tx.old.conn.now) (state S.Store tx.new.conn.now) result }
 {
     run(
         tx,
-        "DELETE FROM targets WHERE ident = ?1 AND num = ?2",
+        texts::DELETE_TARGETS,
         &[name(&card.name), number(card.number)],
     )
 }
 
 pub(crate) fn insert_run<S: Alter>(tx: &mut Transaction<'_, S>, row: &RunRow) -> Result<(), Error>
     ensures same_reference { tx.new.conn.ghost_name ≡ tx.old.conn.ghost_name }
-    ensures makes { Makes Stands AnyTables (with_run row.now) (state S.Store tx.old.conn.now)
+    ensures makes { Makes HoldsTables AnyTables (with_run row.now) (state S.Store tx.old.conn.now)
         (state S.Store tx.new.conn.now) result }
     ensures sized { KeepsSizes (state S.Store tx.old.conn.now) (state S.Store tx.new.conn.now) result }
     ensures was_open { WasOpen (state S.Store tx.old.conn.now) (state S.Store tx.new.conn.now) result }
@@ -189,7 +186,7 @@ pub(crate) fn insert_run<S: Alter>(tx: &mut Transaction<'_, S>, row: &RunRow) ->
     let run_number = wide(row.number)?;
     run(
         tx,
-        "INSERT INTO runs (site, num, mode, body, accepted, reply) VALUES (?1, ?2, ?3, ?4, ?5, ?6)",
+        texts::INSERT_RUN,
         &[
             values::site(&row.site),
             run_number,
@@ -207,13 +204,13 @@ pub(crate) fn insert_state<S: Alter>(
     active: bool,
 ) -> Result<(), Error>
     ensures same_reference { tx.new.conn.ghost_name ≡ tx.old.conn.ghost_name }
-    ensures makes { Makes Stands AnyTables (with_state card.now active) (state S.Store tx.old.conn.now)
+    ensures makes { Makes HoldsTables AnyTables (with_state card.now active) (state S.Store tx.old.conn.now)
         (state S.Store tx.new.conn.now) result }
     ensures sized { KeepsSizes (state S.Store tx.old.conn.now) (state S.Store tx.new.conn.now) result }
 {
     run(
         tx,
-        "INSERT INTO states (ident, num, active) VALUES (?1, ?2, ?3)",
+        texts::INSERT_STATE,
         &[name(&card.name), number(card.number), flag(active)],
     )
 }
@@ -223,13 +220,13 @@ pub(crate) fn delete_state<S: Alter>(
     card: &CardRef,
 ) -> Result<(), Error>
     ensures same_reference { tx.new.conn.ghost_name ≡ tx.old.conn.ghost_name }
-    ensures makes { Makes Stands AnyTables (without_state card.now) (state S.Store tx.old.conn.now)
+    ensures makes { Makes HoldsTables AnyTables (without_state card.now) (state S.Store tx.old.conn.now)
         (state S.Store tx.new.conn.now) result }
     ensures sized { KeepsSizes (state S.Store tx.old.conn.now) (state S.Store tx.new.conn.now) result }
 {
     run(
         tx,
-        "DELETE FROM states WHERE ident = ?1 AND num = ?2",
+        texts::DELETE_STATE,
         &[name(&card.name), number(card.number)],
     )
 }
@@ -240,14 +237,14 @@ pub(crate) fn insert_count<S: Alter>(
     n: u32,
 ) -> Result<(), Error>
     ensures same_reference { tx.new.conn.ghost_name ≡ tx.old.conn.ghost_name }
-    ensures makes { Makes Stands AnyTables (with_count target n) (state S.Store tx.old.conn.now)
+    ensures makes { Makes HoldsTables AnyTables (with_count target n) (state S.Store tx.old.conn.now)
         (state S.Store tx.new.conn.now) result }
     ensures sized { KeepsSizes (state S.Store tx.old.conn.now) (state S.Store tx.new.conn.now) result }
 {
     let codes = codes_of(target);
     run(
         tx,
-        "INSERT INTO counts (kind, target, deck, n) VALUES (?1, ?2, ?3, ?4)",
+        texts::INSERT_COUNT,
         &[
             number(codes.kind),
             number(codes.target),
@@ -262,14 +259,14 @@ pub(crate) fn delete_count<S: Alter>(
     target: Target,
 ) -> Result<(), Error>
     ensures same_reference { tx.new.conn.ghost_name ≡ tx.old.conn.ghost_name }
-    ensures makes { Makes Stands AnyTables (without_count target) (state S.Store tx.old.conn.now)
+    ensures makes { Makes HoldsTables AnyTables (without_count target) (state S.Store tx.old.conn.now)
         (state S.Store tx.new.conn.now) result }
     ensures sized { KeepsSizes (state S.Store tx.old.conn.now) (state S.Store tx.new.conn.now) result }
 {
     let codes = codes_of(target);
     run(
         tx,
-        "DELETE FROM counts WHERE kind = ?1 AND target = ?2 AND deck = ?3",
+        texts::DELETE_COUNT,
         &[number(codes.kind), number(codes.target), number(codes.deck)],
     )
 }
@@ -280,28 +277,20 @@ pub(crate) fn insert_mark<S: Alter>(
     mark: u64,
 ) -> Result<(), Error>
     ensures same_reference { tx.new.conn.ghost_name ≡ tx.old.conn.ghost_name }
-    ensures makes { Makes Stands AnyTables (with_mark site.now mark) (state S.Store tx.old.conn.now)
+    ensures makes { Makes HoldsTables AnyTables (with_mark site.now mark) (state S.Store tx.old.conn.now)
         (state S.Store tx.new.conn.now) result }
     ensures was_open { WasOpen (state S.Store tx.old.conn.now) (state S.Store tx.new.conn.now) result }
 {
     let mark_value = wide(mark)?;
-    run(
-        tx,
-        "INSERT INTO settled (site, mark) VALUES (?1, ?2)",
-        &[values::site(site), mark_value],
-    )
+    run(tx, texts::INSERT_MARK, &[values::site(site), mark_value])
 }
 
 pub(crate) fn delete_mark<S: Alter>(tx: &mut Transaction<'_, S>, site: &str) -> Result<(), Error>
     ensures same_reference { tx.new.conn.ghost_name ≡ tx.old.conn.ghost_name }
-    ensures makes { Makes Stands AnyTables (without_mark site.now) (state S.Store tx.old.conn.now)
+    ensures makes { Makes HoldsTables AnyTables (without_mark site.now) (state S.Store tx.old.conn.now)
         (state S.Store tx.new.conn.now) result }
 {
-    run(
-        tx,
-        "DELETE FROM settled WHERE site = ?1",
-        &[values::site(site)],
-    )
+    run(tx, texts::DELETE_MARK, &[values::site(site)])
 }
 
 pub(crate) fn delete_runs<S: Alter>(
@@ -310,18 +299,14 @@ pub(crate) fn delete_runs<S: Alter>(
     number: u64,
 ) -> Result<(), Error>
     ensures same_reference { tx.new.conn.ghost_name ≡ tx.old.conn.ghost_name }
-    ensures makes { Makes Stands AnyTables (without_runs site.now number) (state S.Store tx.old.conn.now)
+    ensures makes { Makes HoldsTables AnyTables (without_runs site.now number) (state S.Store tx.old.conn.now)
         (state S.Store tx.new.conn.now) result }
 {
     let up_to = wide(number)?;
-    run(
-        tx,
-        "DELETE FROM runs WHERE site = ?1 AND num <= ?2",
-        &[values::site(site), up_to],
-    )
+    run(tx, texts::DELETE_RUNS, &[values::site(site), up_to])
 }
 
-/// The cards of a deck that stand at a place or behind it move away from the front.
+/// Moves the cards of a deck at a place and after it away from the front.
 pub(crate) fn move_back<S: Alter>(
     tx: &mut Transaction<'_, S>,
     deck: Serial,
@@ -329,19 +314,19 @@ pub(crate) fn move_back<S: Alter>(
     by: u64,
 ) -> Result<(), Error>
     ensures same_reference { tx.new.conn.ghost_name ≡ tx.old.conn.ghost_name }
-    ensures makes { Makes Stands (Fits (CardsMoved deck from (pos by))) (done (CardsMoved deck from (pos by)))
+    ensures makes { Makes HoldsTables (Fits (CardsMoved deck from (pos by))) (done (CardsMoved deck from (pos by)))
         (state S.Store tx.old.conn.now) (state S.Store tx.new.conn.now) result }
     ensures sized { KeepsSizes (state S.Store tx.old.conn.now) (state S.Store tx.new.conn.now) result }
 {
     let distance = wide(by)?;
     run(
         tx,
-        "UPDATE cards SET pos = pos + ?3 WHERE deck = ?1 AND pos >= ?2",
+        texts::MOVE_BACK,
         &[number(deck), number(from), distance],
     )
 }
 
-/// They move towards the front.
+/// Moves the cards of a deck at a place and after it towards the front.
 pub(crate) fn move_up<S: Alter>(
     tx: &mut Transaction<'_, S>,
     deck: Serial,
@@ -350,15 +335,11 @@ pub(crate) fn move_up<S: Alter>(
 ) -> Result<(), Error>
     requires { 0 < by }
     ensures same_reference { tx.new.conn.ghost_name ≡ tx.old.conn.ghost_name }
-    ensures makes { Makes Stands (Fits (CardsMoved deck from (negsuc (by - 1))))
+    ensures makes { Makes HoldsTables (Fits (CardsMoved deck from (negsuc (by - 1))))
         (done (CardsMoved deck from (negsuc (by - 1)))) (state S.Store tx.old.conn.now)
         (state S.Store tx.new.conn.now) result }
     ensures sized { KeepsSizes (state S.Store tx.old.conn.now) (state S.Store tx.new.conn.now) result }
 {
     let distance = wide(by)?;
-    run(
-        tx,
-        "UPDATE cards SET pos = pos - ?3 WHERE deck = ?1 AND pos >= ?2",
-        &[number(deck), number(from), distance],
-    )
+    run(tx, texts::MOVE_UP, &[number(deck), number(from), distance])
 }

@@ -68,7 +68,7 @@ pub shown_was_open : (sql : List ℕ) (params : Row) (old new : State) (rows : L
 unfolding Shown
 shown_was_open sql params old new rows h = shown_open sql params old new h.0 _ rows h.0.returning h.2
 
--- a plain query leaves all as it was
+-- a plain query changes nothing
 pub shown_same : (sql : List ℕ) (params : Row) (old new : State) (rows : List Row) → IsPlain (understood old.now.schema sql) → Shown sql params old new rows
     → IsUnchanged old new
 unfolding Shown

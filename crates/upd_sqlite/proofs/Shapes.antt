@@ -110,7 +110,7 @@ module _ (schema : Schema) (k tree : ℕ) (name : List ℕ) (columns : List Colu
   OnTable command db = (tally : Tally) × OnRows (record { limit = old.step_limit; keys = Enforced; schema = schema; table = table; params = params })
       (mode_of old) None command old.now.trees (Ok (tally, db))
 
-  -- other rows in the table alone
+  -- other rows only in this table
   changed : (trees : Trees) (edit : Edit) (rows : List Row) → new.now ≡ record { schema = schema; trees = trees } → edit.table ≡ table
       → Applies schema Enforced old.now.trees edit trees
       → IsShaped shape.Table (trees tree) → map (drop 1) (trees tree) ≡ rows → HoldsAllRows schema (with_rows k rows all) new.now

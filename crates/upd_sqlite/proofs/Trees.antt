@@ -96,7 +96,7 @@ put_last : (new : Row) (rows : List Row) → AllByRecursion (λ r. value_cmp (ro
 put_last new [] h = refl
 put_last new (r ∷ rows) h = rw h.0 (ap (λ l. r ∷ l) (put_last new rows h.1))
 
--- a row with the next rowid stands at the end
+-- a row with the next rowid is at the end
 pub put_new : (rows : List Row) (vs : Row) → IsShaped Table rows
     → IsShaped Table (put_row (Int (next_rowid rows) ∷ vs) rows) × (map (drop 1) (put_row (Int (next_rowid rows) ∷ vs) rows) ≡ map (drop 1) rows ++ vs ∷ [])
 put_new rows vs h = (

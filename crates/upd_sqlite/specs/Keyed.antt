@@ -15,7 +15,7 @@ use Rattle.sqlite_schema.specs.declared.schema.Table.{Table}
 abbrev pub needed : List ℕ → Kind → Column
 needed name kind = record { name = name; kind = kind; is_strict = true; not_null = true; default = Null; collation = Binary }
 
--- a table of such columns with a key, whose places count from 1; its rowid is no column
+-- a table of such columns with a key, whose places count from 1; its rowid is not a column
 abbrev pub keyed : ℕ → List ℕ → List Column → List ℕ → Table
 keyed tree name columns key = record {
   name = name;
@@ -46,11 +46,11 @@ plain_query tree tests project order = record {
   offset = lit (Int (pos 0));
 }
 
--- a count as SQLite tells it: up to the last number of 64 bits with a sign
+-- a count as SQLite returns it: up to the last signed number of 64 bits
 abbrev pub sqlite_count : ℕ → ℕ
 sqlite_count n = min n (2 ^ 63 - 1)
 
--- how many rows a tree has
+-- the number of rows of a tree
 abbrev pub row_count : ℕ → Query
 row_count tree = record {
   from = inner tree end;

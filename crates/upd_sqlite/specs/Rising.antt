@@ -1,4 +1,4 @@
--- What it means that the tables of a database are in order.
+-- When the tables of a database are in order.
 use Rattle.std.specs.List.{AllByRecursion}
 use Rattle.sqlite_trees.specs.declared.store.Shape.TheVariants.{Table}
 use Rattle.sqlite_trees.specs.View.{View, IsShaped, IsOrdered}
@@ -10,6 +10,6 @@ pub record Rises (v : View) : Type 0 where
   pub ordered : IsOrdered v.committed_shape v.committed
   pub listed : IsListed (v.committed catalog_tree) v.committed_shape v.committed_reals
 
--- each table's rows stand in rising order of their rowids, which are integers
+-- each table's rows are in rising order of their rowids, which are integers
 abbrev pub TablesRise : Database → Type 0
 TablesRise db = AllByRecursion (λ t. IsShaped Table (db.trees t.tree)) db.schema.tables

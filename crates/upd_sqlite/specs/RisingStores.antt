@@ -1,4 +1,4 @@
--- The kit's stores keep the order.
+-- The stores of the kit keep their tables in order.
 use Rattle.std.proofs.Common.{zero, suc, ◌==◌, true, false, if◌then◌else◌, List, [], ◌∷◌, map, IsTrue, refl}
 use Rattle.std.proofs.Math.Logic.{∥∥₁_elim}
 use Rattle.sqlite_disk.specs.declared.Disk.{Ghosts}

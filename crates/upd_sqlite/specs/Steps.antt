@@ -5,7 +5,7 @@ use Rattle.sqlite.specs.declared.error.Error.{Error}
 use Rattle.sqlite.specs.Effect.{Database}
 use Rattle.sqlite.specs.State.{State, HasCleanDisk, KeepsCommit, Survives, Executes}
 
--- A step inside a transaction: nothing is committed, and where it went well the transaction goes on.
+-- A step inside a transaction: nothing is committed, and after a success the transaction continues.
 pub record Steps {X : Type 0} (old new : State) (r : Result X Error) : Type 0 where
   pub going : HasCleanDisk new → OnOk r (IsTrue old.in_transaction → IsTrue new.in_transaction)
   pub kept : HasCleanDisk new → IsTrue old.in_transaction → KeepsCommit old new

@@ -2,7 +2,7 @@
 //!
 //! Tables have a key of their own beside the rowid, and columns that are never NULL. The lemmas of `proofs/Shapes` say
 //! what an INSERT of one row, a DELETE or an UPDATE of the rows that pass a test, a SELECT of one table and a CREATE
-//! TABLE make of the lists: equations, with no rowid in them.
+//! TABLE do to the lists. They are equations without rowids.
 ghost use Rattle.std.specs.Prelude.{◌≡◌, ◌⊎◌, false, Err, IfErr, IfOk, IsTrue};
 ghost use Rattle.sqlite.specs.Held.{state};
 ghost use Rattle.sqlite.specs.State.{ExecutesInside, FailsToQuery, HasCleanDisk, IsTooLate, Shown};
@@ -12,7 +12,7 @@ ghost use Rattle.upd_sqlite.specs.Steps.{Ran, Steps};
 use sqlite::types::ValueRef;
 use sqlite::{Alter, Error, ErrorCode, Row, Transaction};
 
-/// Runs one statement. The error is SQLite's; it is TransactionState where no transaction is open.
+/// Runs one statement. The error is that of SQLite, and TransactionState where no transaction is open.
 pub fn run<S: Alter>(
     tx: &mut Transaction<'_, S>,
     sql: &str,
@@ -31,7 +31,7 @@ pub fn run<S: Alter>(
     Ok(())
 }
 
-/// All rows of a query's answer. The error is SQLite's.
+/// Returns all rows of a query's answer. The error is that of SQLite.
 pub fn ask<S: Alter>(
     tx: &mut Transaction<'_, S>,
     sql: &str,

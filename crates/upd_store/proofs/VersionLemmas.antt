@@ -24,10 +24,11 @@ use Rattle.upd_sqlite.proofs.Tests.{eq_text, one_test}
 use Rattle.upd_sql.specs.Encoded.{num, version_row}
 use Rattle.upd_sql.specs.Schema.{meta}
 use Rattle.upd_sql.specs.Wanted.{first_tables}
-use Rattle.upd_store.specs.Version.{IsLibrarySchema, TellsVersion}
+use Rattle.upd_store.specs.declared.version.TheConstants.{READ_VERSION}
+use Rattle.upd_store.specs.Version.{IsLibrarySchema, HasVersion}
 
 abbrev pub version_text : List ℕ
-version_text = codes "SELECT v FROM meta WHERE k = 'version'"
+version_text = READ_VERSION.now
 
 abbrev tests : List Term
 tests = op2 (Compare Eq Binary) (col 1 1) (lit (Text (codes "version"))) ∷ []
@@ -94,10 +95,10 @@ answered old new rows all schema has found =
     ∙ ap (λ rs. map shown (filter passes rs)) has in
     subst (λ l. IsPermutation l rows) named answer
 
--- the version alone, and nothing where there is no row
-pub version_shown : (v : ℕ) (old new : State) (rows : List Row) → TellsVersion v old.now → Shown version_text [] old new rows
+-- only the version, and nothing where there is no row
+pub version_shown : (v : ℕ) (old new : State) (rows : List Row) → HasVersion v old.now → Shown version_text [] old new rows
     → (rows ≡ (num v ∷ []) ∷ []) ⊎ ((v ≡ 0) × (rows ≡ []))
-version_shown v old new rows h found = elim h.row_changes [
+version_shown v old new rows h found = elim h.rows [
   | inl row ↦ inl (one_permutation _ rows (subst (λ l. IsPermutation l rows) (one_row v) (answered old new rows _ h.schema row found)))
   | inr none ↦ inr (none.0, nil_from_length rows (length_permutation [] rows (answered old new rows [] h.schema none.1 found)))
 ]

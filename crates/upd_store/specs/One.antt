@@ -1,4 +1,4 @@
--- An image shows one set of tables, at most: each row can be read back.
+-- An image shows at most one set of tables: each row can be read back.
 use Rattle.std.proofs.Common.{◌≡◌, ℕ, zero, suc, pos, Bool, true, false, List, [], ◌∷◌, map, drop, refl, sym, ap, ◌∙◌}
 use Rattle.sqlite_value.specs.declared.value.Value.{Value}
 use Rattle.sqlite_value.specs.declared.value.Value.TheVariants.{Int, Text, Blob}
@@ -109,7 +109,7 @@ count_back (target.Set z) n = refl
 count_back (target.SetIn z d) n = refl
 count_back (target.Deck d) n = refl
 
--- a list that is kept as rows is read back from them
+-- a list that is stored as rows is read back from them
 back : {X : Type 0} (row : X → Row) (of : Row → X) → ((x : X) → of (row x) ≡ x) → (xs : List X) → map of (map row xs) ≡ xs
 back row of each [] = refl
 back row of each (x ∷ xs) = ap (λ l. of (row x) ∷ l) (back row of each xs) ∙ ap (λ y. y ∷ xs) (each x)

@@ -7,7 +7,7 @@ ghost use Rattle.upd_store.specs.Faults.{IsUnopened, failures_after, kind_for};
 use sqlite::{Error, ErrorCode};
 use upd_text::{Fault, FaultKind};
 
-/// Want of memory.
+/// Out of memory.
 pub(crate) fn no_memory() -> Fault
     ensures lost { IsLost result }
     ensures kind { result.kind ≡ NoMemory }
@@ -25,7 +25,7 @@ pub fn store_at(version: u32) -> Fault
     FaultKind::Store.at_line(version)
 }
 
-/// Want of memory is told as such, any other error as a failure of the store.
+/// Out of memory is NoMemory, any other error a failure of the store.
 pub fn fault_of(error: Error) -> Fault
     ensures lost { IsLost result }
     ensures kind { result.kind ≡ kind_for error }
@@ -37,7 +37,7 @@ pub fn fault_of(error: Error) -> Fault
     }
 }
 
-/// The fault of a file of another schema, by the version that it tells.
+/// The fault of a file of another schema, at the version in the file.
 pub(crate) fn version_fault(found: Result<u32, Error>) -> Fault
     ensures unopened { IsUnopened result }
     ensures kind { MatchResult found (λ _. result.kind ≡ Store) (λ error. result.kind ≡ kind_for error) }
@@ -49,7 +49,7 @@ pub(crate) fn version_fault(found: Result<u32, Error>) -> Fault
     }
 }
 
-/// A call that wasn't begun: one more failure of the store.
+/// The fault of a call that was not begun. It counts as a failure of the store.
 pub(crate) fn refused(failures: &mut u64) -> Fault
     ensures lost { IsLost result }
     ensures kind { result.kind ≡ Store }
@@ -62,7 +62,7 @@ pub(crate) fn refused(failures: &mut u64) -> Fault
     store_at(0)
 }
 
-/// A call that failed: a failure of the store is counted, want of memory isn't.
+/// The fault of a call that failed. A failure of the store is counted, out of memory is not.
 pub(crate) fn counted(error: Error, failures: &mut u64) -> Fault
     ensures lost { IsLost result }
     ensures kind { result.kind ≡ kind_for error }

@@ -1,10 +1,7 @@
 //! The library in a file: opened, made and closed by the file's path.
 //!
-//! Beside the file stands its log, under the file's name with `-wal` behind it. While a library is open its file is
-//! locked, so that another program of this kind finds it in use, and so does SQLite.
-//!
-//! Where clauses speak of both outcomes of a call, it stands in a `match` of two arms, so that each is a path of its
-//! own (docs/DECISIONS.md, Form).
+//! The log is beside the file, under the file's name followed by `-wal`. While a library is open its file is locked:
+//! another program of this kind finds it in use, and so does SQLite.
 ghost use Rattle.std.specs.Prelude.{◌≡◌, IfErr, IfOk, IsTrue};
 ghost use Rattle.sqlite.specs.Closing.{IsCopied};
 ghost use Rattle.sqlite.specs.Effect.{Database};
@@ -17,7 +14,7 @@ ghost use Rattle.sqlite_wal.specs.Reads.{AreClean};
 ghost use Rattle.upd_row_store.specs.Keeping.{IsLost};
 ghost use Rattle.upd_sql.specs.Making.{no_rows};
 ghost use Rattle.upd_sql.specs.Schema.{library_schema, no_schema};
-ghost use Rattle.upd_sql.specs.Stands.{ShowsTables};
+ghost use Rattle.upd_sql.specs.LibraryTables.{ShowsTables};
 ghost use Rattle.upd_store.specs.Faults.{IsUnopened};
 
 use crate::fault::{fault_of, store_at};
@@ -28,36 +25,42 @@ use std::io::Read;
 use std::{fs, io};
 use upd_text::Fault;
 
-/// A library in a file, where `S` stands for what the file and its log held as they were opened.
+/// A library in a file. `S` stands for the contents of the file and its log when they were opened.
 pub type FileLibrary<S> = SqlStore<FileStore<FileFrom<S>>>;
 
-/// How each file of SQLite begins.
+/// The first bytes of each file of SQLite.
 const FIRST_BYTES: &[u8; 16] = b"SQLite format 3\0";
 
-/// Opens the library in a file. Where the file holds none the fault is Store, at the version that the file tells, 0
-/// where it tells none; no byte of it is changed, and a file that isn't there isn't made. The fault is Store at 0, too,
-/// where the file may not be read and written, where another program has it open, and where it is damaged. Want of
-/// memory is NoMemory at 0.
-pub fn open<S: Start>(rt: &HostRuntime, path: &str, start: S) -> Result<FileLibrary<S>, Fault>
-    ensures found { IfOk result (λ s. HasCleanDisk (file_state s.conn) → IsTrue (file_state s.conn).is_open
-        → FindsIn (image_at S.Start) (file_state s.conn)) }
-    ensures ours { IfOk result (λ s. HasCleanDisk (file_state s.conn) → IsTrue (file_state s.conn).is_open
-        → (file_state s.conn).committed.schema ≡ library_schema) }
-    ensures unopened { IfErr result IsUnopened }
-{
-    let conn = match connect(rt, path, start) {
-        Ok(conn) => conn,
-        Err(fault) => return Err(fault),
-    };
-    match SqlStore::adopt(conn) {
-        Ok(store) => Ok(store),
-        Err((fault, _)) => Err(fault),
+impl<S: Start> SqlStore<FileStore<FileFrom<S>>> {
+    /// Opens the library in a file. `new_has_sums` says whether an empty file would get checksums, as in
+    /// `Connection::open_from`; a library's file is never empty.
+    ///
+    /// Where the file holds no library the fault is Store, at the version in the file, 0 where it has none. No byte of
+    /// it is changed then, and a file that does not exist is not made. The fault is Store at 0, too, where the file may not
+    /// be read and written, where another program has it open, and where it is damaged. Out of memory is NoMemory at 0.
+    pub fn open(
+        rt: &HostRuntime,
+        path: &str,
+        new_has_sums: bool,
+        start: S,
+    ) -> Result<SqlStore<FileStore<FileFrom<S>>>, Fault>
+        ensures found { IfOk result (λ s. HasCleanDisk (file_state s.conn) → IsTrue (file_state s.conn).is_open
+            → FindsIn (image_at S.Start) (file_state s.conn)) }
+        ensures ours { IfOk result (λ s. HasCleanDisk (file_state s.conn) → IsTrue (file_state s.conn).is_open
+            → (file_state s.conn).committed.schema ≡ library_schema) }
+        ensures unopened { IfErr result IsUnopened }
+    {
+        let conn = connect_with(rt, path, new_has_sums, start)?;
+        match SqlStore::adopt(conn) {
+            Ok(store) => Ok(store),
+            Err((fault, _)) => Err(fault),
+        }
     }
 }
 
-/// Makes an empty library in a file, and the file where there is none. Where the file has any table the fault is Store,
-/// at the version that it tells, 0 where it tells none, and no byte of it is changed. An empty file, or one in which this
-/// call was stopped, is taken for no file. Want of memory is NoMemory at 0.
+/// Makes an empty library in a file, and the file where it doesn't exist. Where the file has any table the fault is Store,
+/// at the version in the file, 0 where it has none, and no byte of it is changed. An empty file, or one in which this
+/// call was cut off, counts as no file. Out of memory is NoMemory at 0.
 pub fn create<S: Start>(rt: &HostRuntime, path: &str, start: S) -> Result<FileLibrary<S>, Fault>
     ensures shows { IfOk result (λ s. HasCleanDisk (file_state s.conn)
         → IsTrue (file_state s.conn).is_open × ShowsTables no_rows (file_state s.conn).committed) }
@@ -66,18 +69,15 @@ pub fn create<S: Start>(rt: &HostRuntime, path: &str, start: S) -> Result<FileLi
         × ((held : Trees) → HoldsDatabase (image_at S.Start) held → found.trees ≡ held)) }
     ensures unopened { IfErr result IsUnopened }
 {
-    let conn = match connect_or_make(rt, path, start) {
-        Ok(conn) => conn,
-        Err(fault) => return Err(fault),
-    };
+    let conn = connect_or_make(rt, path, false, start)?;
     match SqlStore::init(conn) {
         Ok(store) => Ok(store),
         Err((fault, _)) => Err(fault),
     }
 }
 
-/// Copies the log into the file, so that the file alone is the library, and gives both back. Where that fails the file
-/// and its log together are the library as before, and the next open finds it.
+/// Copies the log into the file, so that the file is the whole library, and returns both. Where that fails the file and
+/// its log together are the library as before, and the next open finds it.
 pub fn close<D: Disk + Drop>(library: SqlStore<FileStore<D>>) -> Result<Files<D>, Fault>
     ensures copied { IfOk result (λ files. AreClean D.Disk files.log files.db → IsCopied library.conn files) }
     ensures lost { IfErr result IsLost }
@@ -91,8 +91,8 @@ pub fn close<D: Disk + Drop>(library: SqlStore<FileStore<D>>) -> Result<Files<D>
     }
 }
 
-/// A connection to a file of SQLite, whatever its tables are. Where it is no such file the fault is Store at 0, and a
-/// file that isn't there isn't made.
+/// A connection to a file of SQLite, whatever its tables are. Where it is not such a file the fault is Store at 0. A
+/// file that does not exist is not made.
 pub fn connect<S: Start>(
     rt: &HostRuntime,
     path: &str,
@@ -101,8 +101,20 @@ pub fn connect<S: Start>(
     ensures found { IfOk result (λ c. HasCleanDisk (file_state c) → FindsIn (image_at S.Start) (file_state c)) }
     ensures lost { IfErr result IsLost }
 {
+    connect_with(rt, path, false, start)
+}
+
+fn connect_with<S: Start>(
+    rt: &HostRuntime,
+    path: &str,
+    new_has_sums: bool,
+    start: S,
+) -> Result<Connection<FileStore<FileFrom<S>>>, Fault>
+    ensures found { IfOk result (λ c. HasCleanDisk (file_state c) → FindsIn (image_at S.Start) (file_state c)) }
+    ensures lost { IfErr result IsLost }
+{
     if begins_as_database(rt, path).unwrap_or(false) {
-        connect_or_make(rt, path, start)
+        connect_or_make(rt, path, new_has_sums, start)
     } else {
         Err(store_at(0))
     }
@@ -111,12 +123,13 @@ pub fn connect<S: Start>(
 fn connect_or_make<S: Start>(
     rt: &HostRuntime,
     path: &str,
+    new_has_sums: bool,
     start: S,
 ) -> Result<Connection<FileStore<FileFrom<S>>>, Fault>
     ensures found { IfOk result (λ c. HasCleanDisk (file_state c) → FindsIn (image_at S.Start) (file_state c)) }
     ensures lost { IfErr result IsLost }
 {
-    match Connection::open_from(rt, path, false, start) {
+    match Connection::open_from(rt, path, new_has_sums, start) {
         Ok(conn) => Ok(conn),
         Err((error, _)) => Err(fault_of(error)),
     }

@@ -1,4 +1,4 @@
-//! The promises of a store of rows, kept by the tables.
+//! `SqlStore` as a `RowStore`.
 ghost use Rattle.std.specs.Prelude.{◌≡◌, false, IfErr, IfOk, IsTrue, OnOk};
 ghost use Rattle.sqlite.specs.Held.{state};
 ghost use Rattle.sqlite.specs.State.{HasCleanDisk};
@@ -14,21 +14,19 @@ use upd_row_store::{
     Meaning, RowStore, assembled, assembled_active, assembled_with_rest, decks_by_age, reads_with,
 };
 use upd_sql::{
-    commit_changes, is_library_schema, kept_active, kept_decks_of, kept_library_rows, kept_mark,
-    kept_part, kept_run, kept_states, kept_states_of, settle_site, sizes_after,
+    commit_changes, is_library_schema, settle_site, sizes_after, stored_active, stored_decks_of,
+    stored_library_rows, stored_mark, stored_part, stored_run, stored_states, stored_states_of,
 };
-use upd_sqlite::Rising;
+use upd_sqlite::{Rising, committed_schema};
 use upd_text::Fault;
 
-/// Whether the schema is the library's, outside a transaction.
+/// Whether the last commit has the library's schema.
 fn is_ours<S: Rising>(conn: &Connection<S>) -> bool
     requires { conn.now.in_transaction ≡ false }
     ensures { IsTrue result → IsTrue (state S.Store conn.now).is_open
         → (state S.Store conn.now).committed.schema ≡ library_schema }
 {
-    // For its clause alone: outside a transaction the tables are those of the last commit.
-    let _outside = conn.is_autocommit();
-    is_library_schema(conn.schema())
+    is_library_schema(committed_schema(conn))
 }
 
 impl<S: Rising> Meaning for SqlStore<S> {
@@ -62,7 +60,7 @@ impl<S: Rising> RowStore for SqlStore<S> {
         if !is_ours(&self.conn) {
             return Err(refused(&mut self.failures));
         }
-        match kept_library_rows(&mut self.conn, alloc) {
+        match stored_library_rows(&mut self.conn, alloc) {
             Ok(rows) => match assembled(alloc, rows) {
                 Ok(library) => {
                     self.decks_read = reads_with(self.decks_read, &library);
@@ -80,7 +78,7 @@ impl<S: Rising> RowStore for SqlStore<S> {
         }
         let known = self.sizes;
         self.sizes = None;
-        match kept_part(&mut self.conn, alloc, decks, known) {
+        match stored_part(&mut self.conn, alloc, decks, known) {
             Ok(part) => match assembled_with_rest(
                 alloc,
                 part.rows,
@@ -102,7 +100,7 @@ impl<S: Rising> RowStore for SqlStore<S> {
         if !is_ours(&self.conn) {
             return Err(refused(&mut self.failures));
         }
-        match kept_decks_of(&mut self.conn, alloc, cards) {
+        match stored_decks_of(&mut self.conn, alloc, cards) {
             Ok(ages) => Ok(decks_by_age(ages)),
             Err(error) => Err(counted(error, &mut self.failures)),
         }
@@ -112,7 +110,7 @@ impl<S: Rising> RowStore for SqlStore<S> {
         if !is_ours(&self.conn) {
             return Err(refused(&mut self.failures));
         }
-        match kept_states(&mut self.conn, alloc) {
+        match stored_states(&mut self.conn, alloc) {
             Ok(states) => Ok(states),
             Err(error) => Err(counted(error, &mut self.failures)),
         }
@@ -122,7 +120,7 @@ impl<S: Rising> RowStore for SqlStore<S> {
         if !is_ours(&self.conn) {
             return Err(refused(&mut self.failures));
         }
-        match kept_states_of(&mut self.conn, alloc, cards) {
+        match stored_states_of(&mut self.conn, alloc, cards) {
             Ok(states) => Ok(states),
             Err(error) => Err(counted(error, &mut self.failures)),
         }
@@ -132,7 +130,7 @@ impl<S: Rising> RowStore for SqlStore<S> {
         if !is_ours(&self.conn) {
             return Err(refused(&mut self.failures));
         }
-        match kept_active(&mut self.conn, alloc) {
+        match stored_active(&mut self.conn, alloc) {
             Ok(rows) => match assembled_active(alloc, rows.idents, rows.cards, rows.states) {
                 Ok(actives) => Ok(actives),
                 Err(_) => Err(no_memory()),
@@ -145,7 +143,7 @@ impl<S: Rising> RowStore for SqlStore<S> {
         if !is_ours(&self.conn) {
             return Err(refused(&mut self.failures));
         }
-        match kept_run(&mut self.conn, site, number) {
+        match stored_run(&mut self.conn, site, number) {
             Ok(run) => Ok(run),
             Err(error) => Err(counted(error, &mut self.failures)),
         }
@@ -155,7 +153,7 @@ impl<S: Rising> RowStore for SqlStore<S> {
         if !is_ours(&self.conn) {
             return Err(refused(&mut self.failures));
         }
-        match kept_mark(&mut self.conn, site) {
+        match stored_mark(&mut self.conn, site) {
             Ok(mark) => Ok(mark),
             Err(error) => Err(counted(error, &mut self.failures)),
         }

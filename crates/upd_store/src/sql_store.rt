@@ -5,15 +5,15 @@ ghost use Rattle.sqlite.specs.State.{HasCleanDisk, Survives};
 ghost use Rattle.upd_sql.specs.Making.{no_rows, MayMake};
 ghost use Rattle.upd_sql.specs.Schema.{library_schema, no_schema};
 ghost use Rattle.upd_sql.specs.Sizes.{AreOfCommit};
-ghost use Rattle.upd_sql.specs.Stands.{ShowsTables};
+ghost use Rattle.upd_sql.specs.LibraryTables.{ShowsTables};
 ghost use Rattle.upd_store.specs.Faults.{IsUnopened};
-ghost use Rattle.upd_store.specs.Version.{TellsVersion};
+ghost use Rattle.upd_store.specs.Version.{HasVersion};
 
 use crate::fault::{fault_of, store_at, version_fault};
 use crate::version::version_of;
 use sqlite::Connection;
 use upd_sql::{Sizes, is_library_schema, is_no_schema, make_library};
-use upd_sqlite::Rising;
+use upd_sqlite::{Rising, committed_schema};
 use upd_text::Fault;
 
 /// The version of the schema.
@@ -23,15 +23,15 @@ const VERSION: u32 = 3;
 pub struct SqlStore<S: Rising> {
     pub(crate) conn: Connection<S>,
     pub(crate) failures: u64,
-    /// How many decks loads have brought.
+    /// The number of decks that were loaded.
     pub(crate) decks_read: u64,
-    /// How many cards and entries the last commit holds, where that is known.
+    /// The number of cards and entries in the last commit, where it is known.
     pub(crate) sizes: Option<Sizes>,
     ghost outside: { conn.in_transaction ≡ false },
     ghost sized: { AreOfCommit sizes (state S.Store conn) },
 }
 
-// It is written out, so that a caller does not prove again how each part is dropped.
+// Written by hand, so that a caller does not prove again how each part is dropped.
 impl<S: Rising + Drop> Drop for SqlStore<S> {
     fn drop(self) {
         let SqlStore {
@@ -44,9 +44,9 @@ impl<S: Rising + Drop> Drop for SqlStore<S> {
 }
 
 impl<S: Rising> SqlStore<S> {
-    /// Takes a connection to a library's file. Where it is none the fault is Store, at the version that the file
-    /// tells, 0 where there is none. Inside a transaction it is Store at 0, and want of memory is NoMemory at 0. With
-    /// each fault the connection comes back. Nothing is written.
+    /// Takes a connection to a library's file. Where the file is not a library's the fault is Store, at the version in
+    /// the file, 0 where it has none. Inside a transaction it is Store at 0, and out of memory is NoMemory at 0. The
+    /// connection is returned with the fault. Nothing is written.
     pub fn adopt(mut conn: Connection<S>) -> Result<SqlStore<S>, (Fault, Connection<S>)>
         ensures ours { IfOk result (λ s. HasCleanDisk (state S.Store s.conn) → IsTrue (state S.Store s.conn).is_open
             → (state S.Store s.conn).committed.schema ≡ library_schema) }
@@ -59,9 +59,9 @@ impl<S: Rising> SqlStore<S> {
         ensures counts { IfOk result (λ s. (s.failures ≡ 0) × (s.decks_read ≡ 0)) }
         ensures unopened { IfErr result (λ e. IsUnopened e.0) }
         ensures third { IfOk result (λ s. HasCleanDisk (state S.Store s.conn) → (v : ℕ)
-            → TellsVersion v (state S.Store conn).committed → v ≡ 3) }
+            → HasVersion v (state S.Store conn).committed → v ≡ 3) }
         ensures version { IfErr result (λ e. HasCleanDisk (state S.Store e.1) → (v : ℕ)
-            → TellsVersion v (state S.Store conn).committed → (e.0.at ≡ v) ⊎ (e.0.at ≡ 0)) }
+            → HasVersion v (state S.Store conn).committed → (e.0.at ≡ v) ⊎ (e.0.at ≡ 0)) }
     {
         if !conn.is_autocommit() {
             return Err((store_at(0), conn));
@@ -70,9 +70,7 @@ impl<S: Rising> SqlStore<S> {
             Ok(version) => version,
             Err(error) => return Err((fault_of(error), conn)),
         };
-        // For its clause alone: outside a transaction the tables are those of the last commit.
-        let _outside = conn.is_autocommit();
-        if version != VERSION || !is_library_schema(conn.schema()) {
+        if version != VERSION || !is_library_schema(committed_schema(&conn)) {
             return Err((store_at(version), conn));
         }
         Ok(SqlStore {
@@ -83,9 +81,9 @@ impl<S: Rising> SqlStore<S> {
         })
     }
 
-    /// Makes an empty library's tables. Where there is any table the fault is Store, at the version that the file
-    /// tells, 0 where there is none. Inside a transaction it is Store at 0, and want of memory is NoMemory at 0. With
-    /// each fault the connection comes back.
+    /// Makes the tables of an empty library. Where there is any table the fault is Store, at the version in the file, 0
+    /// where it has none. Inside a transaction it is Store at 0, and out of memory is NoMemory at 0. The connection is
+    /// returned with the fault.
     pub fn init(mut conn: Connection<S>) -> Result<SqlStore<S>, (Fault, Connection<S>)>
         ensures shows { IfOk result (λ s. HasCleanDisk (state S.Store s.conn)
             → IsTrue (state S.Store s.conn).is_open × ShowsTables no_rows (state S.Store s.conn).committed) }
@@ -100,7 +98,7 @@ impl<S: Rising> SqlStore<S> {
         ensures empty { IfOk result (λ s. HasCleanDisk (state S.Store s.conn)
             → (state S.Store conn).committed.schema ≡ no_schema) }
         ensures version { IfErr result (λ e. HasCleanDisk (state S.Store e.1) → (v : ℕ)
-            → TellsVersion v (state S.Store conn).committed → (e.0.at ≡ v) ⊎ (e.0.at ≡ 0)) }
+            → HasVersion v (state S.Store conn).committed → (e.0.at ≡ v) ⊎ (e.0.at ≡ 0)) }
     {
         if !conn.is_autocommit() {
             return Err((store_at(0), conn));
@@ -120,7 +118,7 @@ impl<S: Rising> SqlStore<S> {
         }
     }
 
-    /// The connection; nothing is written.
+    /// Returns the connection. Nothing is written.
     pub fn into_connection(self) -> Connection<S>
         ensures { result ≡ self.conn }
     {

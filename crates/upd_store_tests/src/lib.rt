@@ -1,13 +1,23 @@
-//! Tests of the store over SQLite in memory: what runs leave in it is there again when the connection is taken up anew;
-//! and files in memory as large as a library may be, for their times.
+//! Tests of stores: over lists, whose tables follow a library that runs change, and over SQLite in memory, where the
+//! rows are read again by another connection. Those of `times` make libraries as large as one may be, and
+//! `bench/store.py` times them.
 //!
-//! Expected values are worked by hand from `docs/rules.md`.
+//! Expected values are worked by hand from `docs/rules.md` and `docs/protocol.md`, or come from the library that the
+//! store follows.
 #![tactic(auto)]
 
 #[cfg(test)]
-mod check;
+mod committing;
 #[cfg(test)]
-mod shelf;
+mod follower;
+#[cfg(test)]
+mod library_tables;
+#[cfg(test)]
+mod list_store_answers;
+#[cfg(test)]
+mod random_lists;
+#[cfg(test)]
+mod renewed_parts;
 #[cfg(test)]
 mod stored;
 #[cfg(test)]

@@ -1,16 +1,15 @@
 //! Libraries in files in memory, as large as a library may be; `bench/store.py` times these tests.
-use crate::check::{same, same_number};
-use crate::shelf::commit;
+use crate::committing::commit;
 use sqlite::types::ToSql;
 use sqlite::{Connection, FileStore, Options, Transaction, params};
 use sqlite_disk::{Disk, Files, Memory};
 use std::alloc::Global;
-use std::process::Abort;
 use std::test::Fail;
 use upd_core::{CardRef, Change, Entry, Ident, Kind, Name};
 use upd_row_store::RowStore;
 use upd_store::SqlStore;
 use upd_store::file::close;
+use upd_testkit::check::{holds, same};
 use upd_text::Fault;
 
 type Library = SqlStore<FileStore<Memory>>;
@@ -22,7 +21,7 @@ fn taken(store: Result<Library, (Fault, Connection<FileStore<Memory>>)>) -> Resu
     }
 }
 
-/// A disk in memory copies the whole of a file where it is synced, so the log is kept short.
+/// A disk in memory copies the whole of a file when it is synced, so the log is short.
 fn with_short_log() -> Options {
     let mut options = Options::new(1);
     options.checkpoint_frames = 100;
@@ -108,7 +107,7 @@ fn deck_name(alloc: Global, age: u32) -> Result<Name, Fail> {
     Ok(Name::read(text.as_bytes()).ok_or("no name")?)
 }
 
-/// A deck of this age with so many cards, each with its status and four entries.
+/// A deck of this serial with `cards` cards, each with its status and four entries.
 fn deck_of(alloc: Global, age: u32, cards: u32) -> Result<Vec<Change>, Fail> {
     let name = deck_name(alloc, age)?;
     let mut changes = Vec::new(alloc);
@@ -121,7 +120,7 @@ fn deck_of(alloc: Global, age: u32, cards: u32) -> Result<Vec<Change>, Fail> {
     Ok(changes)
 }
 
-/// Commits a deck of this age with so many cards, as the run of this number.
+/// Commits a deck of this serial with `cards` cards, as the run of this number.
 fn add_deck(alloc: Global, store: &mut Library, age: u32, cards: u32) -> Result<(), Fail> {
     let changes = deck_of(alloc, age, cards)?;
     commit(alloc, store, u64::from(age), "", &changes)
@@ -136,17 +135,15 @@ fn with_50000_cards(alloc: Global) -> Result<Library, Fail> {
     Ok(store)
 }
 
-/// A library's site LYON has never settled.
-fn is_unsettled(rt: &impl Abort, alloc: Global, store: &mut Library) -> Result<(), Fail> {
-    same_number(rt, "the mark", store.mark(alloc, "LYON")?, 0);
-    Ok(())
+/// The site LYON has never settled.
+fn is_unsettled(alloc: Global, store: &mut Library) -> Result<(), Fail> {
+    same("the mark", store.mark(alloc, "LYON")?, 0)
 }
 
-/// The run of this number is kept.
-fn keeps(rt: &impl Abort, alloc: Global, store: &mut Library, number: u64) -> Result<(), Fail> {
+/// The run of this number is stored.
+fn stores(alloc: Global, store: &mut Library, number: u64) -> Result<(), Fail> {
     let run = store.kept_run(alloc, "LYON", number)?;
-    assert!(rt; run.is_some(), "{number}");
-    Ok(())
+    holds(number, run.is_some())
 }
 
 /// Asks little: what making the library takes is the measure for the tests beside it.
@@ -154,11 +151,11 @@ fn keeps(rt: &impl Abort, alloc: Global, store: &mut Library, number: u64) -> Re
 fn keeps_50000_cards(rt: HostRuntime) -> Result<(), Fail> {
     let alloc = rt.alloc();
     let mut store = with_50000_cards(alloc)?;
-    is_unsettled(&rt, alloc, &mut store)?;
-    keeps(&rt, alloc, &mut store, 25)
+    is_unsettled(alloc, &mut store)?;
+    stores(alloc, &mut store, 25)
 }
 
-/// How many decks a library has, and how many cards they have together.
+/// The numbers of decks and of their cards.
 fn count_cards(library: &upd_core::Library) -> (usize, usize) {
     let mut cards: usize = 0;
     for deck in library.decks() {
@@ -167,11 +164,10 @@ fn count_cards(library: &upd_core::Library) -> (usize, usize) {
     (library.decks().len(), cards)
 }
 
-/// The library that is kept has 50,000 cards in 25 decks.
-fn loads_all(rt: &impl Abort, alloc: Global, store: &mut Library) -> Result<(), Fail> {
+/// The stored library has 50,000 cards in 25 decks.
+fn loads_all(alloc: Global, store: &mut Library) -> Result<(), Fail> {
     let found = count_cards(&store.load(alloc)?);
-    same(rt, "decks, cards", &found, &(25, 50_000));
-    Ok(())
+    same("decks, cards", &found, &(25, 50_000))
 }
 
 #[test]
@@ -179,24 +175,23 @@ fn loads_50000_cards_10_times(rt: HostRuntime) -> Result<(), Fail> {
     let alloc = rt.alloc();
     let mut store = with_50000_cards(alloc)?;
     for _ in 0..10 {
-        loads_all(&rt, alloc, &mut store)?;
+        loads_all(alloc, &mut store)?;
     }
     Ok(())
 }
 
-/// How many cards and entries a part of one deck leaves out.
+/// The numbers of cards and entries that a part of one deck leaves out.
 fn rest_of_part(alloc: Global, store: &mut Library) -> Result<(usize, usize), Fail> {
     let rest = store.load_decks(alloc, &[2])?.rest();
     Ok((rest.cards, rest.entries))
 }
 
 #[test]
-fn a_part_tells_what_it_leaves_of_50000_cards(rt: HostRuntime) -> Result<(), Fail> {
+fn a_part_counts_what_it_leaves_of_50000_cards(rt: HostRuntime) -> Result<(), Fail> {
     let alloc = rt.alloc();
     let mut store = with_50000_cards(alloc)?;
     let rest = rest_of_part(alloc, &mut store)?;
-    same(&rt, "the rest", &rest, &(48_000, 192_000));
-    Ok(())
+    same("the rest", &rest, &(48_000, 192_000))
 }
 
 /// An ident, 8 cards with a status and four entries each, and a purged ident.
@@ -216,13 +211,13 @@ fn with_500_cards(alloc: Global) -> Result<Library, Fail> {
 fn keeps_500_cards(rt: HostRuntime) -> Result<(), Fail> {
     let alloc = rt.alloc();
     let mut store = with_500_cards(alloc)?;
-    keeps(&rt, alloc, &mut store, 1)
+    stores(alloc, &mut store, 1)
 }
 
 /// Commits 50 changes, as the run of this number.
-fn commit_50(rt: &impl Abort, alloc: Global, store: &mut Library, age: u32) -> Result<(), Fail> {
+fn commit_50(alloc: Global, store: &mut Library, age: u32) -> Result<(), Fail> {
     let changes = changes_50(alloc, age)?;
-    same(rt, "changes", &changes.len(), &50);
+    same("changes", changes.len(), 50)?;
     commit(alloc, store, u64::from(age), "", &changes)
 }
 
@@ -231,15 +226,15 @@ fn commits_50_changes_200_times(rt: HostRuntime) -> Result<(), Fail> {
     let alloc = rt.alloc();
     let mut store = with_500_cards(alloc)?;
     for age in 2..202 {
-        commit_50(&rt, alloc, &mut store, age)?;
+        commit_50(alloc, &mut store, age)?;
     }
-    keeps(&rt, alloc, &mut store, 201)
+    stores(alloc, &mut store, 201)
 }
 
 /// Opens files, asks the library in them for a mark and closes it.
-fn open_once(rt: &impl Abort, alloc: Global, files: Files<Memory>) -> Result<Files<Memory>, Fail> {
+fn open_once(alloc: Global, files: Files<Memory>) -> Result<Files<Memory>, Fail> {
     let mut store = taken(SqlStore::adopt(opened(alloc, files)?))?;
-    is_unsettled(rt, alloc, &mut store)?;
+    is_unsettled(alloc, &mut store)?;
     closed(store)
 }
 
@@ -248,7 +243,7 @@ fn opens_500_cards_20_times(rt: HostRuntime) -> Result<(), Fail> {
     let alloc = rt.alloc();
     let mut files = closed(with_500_cards(alloc)?)?;
     for _ in 0..20 {
-        files = open_once(&rt, alloc, files)?;
+        files = open_once(alloc, files)?;
     }
     Ok(())
 }
@@ -279,7 +274,7 @@ fn with_100000_runs(alloc: Global) -> Result<Library, Fail> {
 fn keeps_100000_runs(rt: HostRuntime) -> Result<(), Fail> {
     let alloc = rt.alloc();
     let mut store = with_100000_runs(alloc)?;
-    keeps(&rt, alloc, &mut store, 100_000)
+    stores(alloc, &mut store, 100_000)
 }
 
 #[test]
@@ -287,7 +282,7 @@ fn finds_each_of_100000_runs(rt: HostRuntime) -> Result<(), Fail> {
     let alloc = rt.alloc();
     let mut store = with_100000_runs(alloc)?;
     for number in 1..100_001 {
-        keeps(&rt, alloc, &mut store, number)?;
+        stores(alloc, &mut store, number)?;
     }
     Ok(())
 }

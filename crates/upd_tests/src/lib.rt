@@ -1,31 +1,37 @@
 //! Tests of names and lines, of whole runs from their bytes to compile files and listings, of the edits of a library,
-//! kept statuses and limits, and of command lines. Expected values are worked by hand from `docs/rules.md`, or come
-//! from a second implementation, as the files of `upd_examples` do.
+//! statuses and limits, of command lines over memory, and of each public call once by its path (`surface`).
 //!
-//! They stand in a crate of their own, since a crate with tests is proved once more with them.
+//! Expected values are worked by hand from `docs/rules.md`, or come from a second implementation, as the files of
+//! `upd_examples` do. Tests are in crates of their own, since a crate with tests is proved once more with them.
 #![tactic(auto)]
 
 #[cfg(test)]
-mod check;
+mod asked_library;
 #[cfg(test)]
-mod commands;
+mod cached_statuses;
 #[cfg(test)]
-mod commons;
+mod command_streams;
 #[cfg(test)]
-mod corrections;
+mod common_deck_runs;
 #[cfg(test)]
-mod edits;
+mod correction_runs;
 #[cfg(test)]
-mod kept;
+mod library_edits;
 #[cfg(test)]
-mod limits;
+mod library_limits;
 #[cfg(test)]
-mod parts;
+mod long_runs;
 #[cfg(test)]
-mod purges;
+mod purge_runs;
 #[cfg(test)]
-mod reading;
+mod surface;
 #[cfg(test)]
-mod shelf;
+mod surface_desk;
 #[cfg(test)]
-mod yanks;
+mod surface_wire;
+#[cfg(test)]
+mod texts_read;
+#[cfg(test)]
+mod written_store;
+#[cfg(test)]
+mod yank_runs;

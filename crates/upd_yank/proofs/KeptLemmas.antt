@@ -8,7 +8,7 @@ use Rattle.std.proofs.lemmas.Bool.Decides.{nat_tests, Decides-eqb}
 use Rattle.std.proofs.lemmas.List.Folds.{list_any-append}
 use Rattle.std.proofs.lemmas.Option.{same_Some}
 use Rattle.upd_core.proofs.ApartLemmas.{all_of_contained, contained_at}
-use Rattle.upd_core.proofs.FoundLemmas.{card_held, held_at, in_flat, status_at}
+use Rattle.upd_core.proofs.FoundLemmas.{card_at, card_held, card_place, held_at, in_flat, status_at}
 use Rattle.upd_core.specs.declared.card.Entry.{Entry}
 use Rattle.upd_core.specs.declared.ident.Ident.{Ident}
 use Rattle.upd_core.specs.Counted.{counted_card}
@@ -22,7 +22,7 @@ use Rattle.upd_records.specs.Rows.{same_ref}
 use Rattle.upd_yank.proofs.FindLemmas.{any_at, cards_found}
 use Rattle.upd_yank.proofs.FlipLemmas.{status_is}
 use Rattle.upd_yank.proofs.RefLemmas.{ref_same}
-use Rattle.upd_yank.specs.Affected.{is_touched}
+use Rattle.upd_yank.specs.Affected.{is_touched, status_before}
 use Rattle.upd_yank.specs.Cascade.{is_active_by}
 
 -- ---- what a test of none finds
@@ -144,3 +144,34 @@ pub untouched_status : (old new : LibraryView) (d : DeckView) (c : CardView) →
     is_touched (touched old new) (counted_card new.idents d.ident c) ≡ false →
     status_of (ref_of new.idents c) old ≡ Some (is_active_by (live_count old) d.ident c)
 untouched_status old new d c sound on in_decks in_cards none = stood_status old new d c sound on (untouched_stood old new d c in_decks in_cards none)
+
+-- ---- the status that the card of an ident and a number had
+
+pub before_at : (l : LibraryView) (d : DeckView) (c : CardView) → IsSound l → Contains (all_decks l) d → Contains d.cards c →
+    status_before l c ≡ Some (is_active (live_targets l) d.ident c)
+before_at l d c sound in_decks in_cards =
+    let at = contained_at (all_decks l) d in_decks in
+    let index = contained_at d.cards c in_cards in
+    rw (card_place (all_decks l) at.0 d index.0 c sound.keys at.1 index.1, card_at l d index.0 c sound in_decks index.1) refl
+
+stood_before : (old : LibraryView) (d : ℕ) (c : CardView) → IsSound old → stood_in (cards_of d old) c ≡ true →
+    status_before old c ≡ Some (is_active_by (live_count old) d c)
+stood_before old d c sound stood =
+    let at = any_at (λ b. is_card c.ident c.number b && same_history b.history c.history) (cards_of d old) stood in
+    let b = at.1 in
+    let both = and_both (is_card c.ident c.number b) (same_history b.history c.history) at.3 in
+    let key = and_both (b.ident == c.ident) (b.number == c.number) both.0 in
+    let ident : b.ident ≡ c.ident = (Decides-eqb b.ident c.ident).0 key.0 in
+    let number : b.number ≡ c.number = (Decides-eqb b.number c.number).0 key.1 in
+    let history : b.history ≡ c.history = same_histories b.history c.history both.1 in
+    let deck = cards_found old d at.0 b at.2 in
+    let same : status_before old b ≡ status_before old c = λ i. status_before old (record b { ident = ident i; number = number i }) in
+    sym same ∙ before_at old deck.0 b sound deck.1 deck.3
+    ∙ ap Some (ap (λ n. is_active (live_targets old) n b) deck.2 ∙ status_is (live_cards old.yanks) d b
+    ∙ ap (λ h. is_active_by (live_count old) d (record b { history = h })) history)
+
+-- a card that isn't touched had the status that its history gives it by the counts before
+pub untouched_before : (old new : LibraryView) (d : DeckView) (c : CardView) → IsSound old → Contains (all_decks new) d → Contains d.cards c →
+    is_touched (touched old new) (counted_card new.idents d.ident c) ≡ false → status_before old c ≡ Some (is_active_by (live_count old) d.ident c)
+untouched_before old new d c sound in_decks in_cards none =
+    stood_before old d.ident c sound (untouched_stood old new d c in_decks in_cards none)

@@ -23,14 +23,14 @@ use Rattle.upd_diff.proofs.StateLemmas.{any_of}
 use Rattle.upd_text.specs.declared.card_ref.CardRef.{CardRef}
 use Rattle.upd_yank.proofs.EnoughLemmas.{Sees}
 use Rattle.upd_yank.proofs.FlipLemmas.{same_active, status_is}
-use Rattle.upd_yank.proofs.KeptLemmas.{untouched_status}
+use Rattle.upd_yank.proofs.KeptLemmas.{untouched_before, untouched_status}
 use Rattle.upd_yank.proofs.SettleLemmas.{settled_is}
 use Rattle.upd_yank.proofs.StatusChangeLemmas.{IsSettled}
 use Rattle.upd_yank.proofs.WholeLemmas.{whole_right}
 use Rattle.upd_yank.proofs.StateLemmas.{HadStatus, all_counted, put_all, stay_right, statuses_are, unfound_stayed}
 use Rattle.upd_yank.proofs.WorkLemmas.{Agrees, HasStatus, IsListed, is_found, all_agree, all_both, all_listed_back, all_listed_others, all_map, found_back, length_back}
 use Rattle.upd_yank.proofs.WorkLemmas.{listed_back, listed_front, right_back, right_others, takes_no_yanks, yanks_found}
-use Rattle.upd_yank.specs.Affected.{affected, altered, is_other, is_touched}
+use Rattle.upd_yank.specs.Affected.{affected, altered, is_other, is_touched, status_before}
 use Rattle.upd_yank.specs.Cascade.{ArePut, AreYanks, IsRightBefore, TakesNoYanks, found_of, found_of_all, found_others, found_yanks, is_active_by, is_due, live_now}
 use Rattle.upd_yank.specs.Cascade.{stay}
 use Rattle.upd_yank.specs.Cascade.{views}
@@ -180,24 +180,24 @@ known_between old new cache run between = record {
 
 -- each card that is new or differs in status is examined
 least : (old new : LibraryView) (before : Target → ℕ) (run : List CardRef) (ks : List CountedCardView) →
-    AllByRecursion (λ k. is_touched run k ≡ false → status_of k.card old ≡ Some (is_active_by before k.deck k.view)) ks →
-    length (filter (λ k. is_other (is_active (live_targets new) k.deck k.view) (status_of k.card old)) ks) ≤ length
+    AllByRecursion (λ k. is_touched run k ≡ false → status_before old k.view ≡ Some (is_active_by before k.deck k.view)) ks →
+    length (filter (λ k. is_other (is_active (live_targets new) k.deck k.view) (status_before old k.view)) ks) ≤ length
     (filter (is_due (is_touched run) before (live_count new)) ks)
 least old new before run [] was = omega arith
 least old new before run (k ∷ ks) was = go (is_due (is_touched run) before (live_count new) k) refl
-    (is_other (is_active (live_targets new) k.deck k.view) (status_of k.card old)) refl (least old new before run ks was.1)
+    (is_other (is_active (live_targets new) k.deck k.view) (status_before old k.view)) refl (least old new before run ks was.1)
   where
     rest : List CountedCardView
-    rest = filter (λ k. is_other (is_active (live_targets new) k.deck k.view) (status_of k.card old)) ks
+    rest = filter (λ k. is_other (is_active (live_targets new) k.deck k.view) (status_before old k.view)) ks
 
     same_not : (b : Bool) → is_other b (Some b) ≡ false
     same_not true = refl
     same_not false = refl
 
     go : (d : Bool) → is_due (is_touched run) before (live_count new) k ≡ d → (o : Bool) →
-        is_other (is_active (live_targets new) k.deck k.view) (status_of k.card old) ≡ o →
+        is_other (is_active (live_targets new) k.deck k.view) (status_before old k.view) ≡ o →
         length rest ≤ length (filter (is_due (is_touched run) before (live_count new)) ks) →
-        length (filter (λ k. is_other (is_active (live_targets new) k.deck k.view) (status_of k.card old)) (k ∷ ks)) ≤ length
+        length (filter (λ k. is_other (is_active (live_targets new) k.deck k.view) (status_before old k.view)) (k ∷ ks)) ≤ length
         (filter (is_due (is_touched run) before (live_count new)) (k ∷ ks))
     go true e true f later = rw (e, f) (omega arith)
     go true e false f later = rw (e, f) (omega arith)
@@ -211,7 +211,10 @@ least old new before run (k ∷ ks) was = go (is_due (is_touched run) before (li
 -- no more cards are new or differ in status than are affected
 pub least_affected : (old new : LibraryView) → IsSound old → Continues old.idents new.idents →
     length (altered old new) ≤ length (affected (touched old new) old new)
-least_affected old new before goes_on = least old new (live_count old) (touched old new) (counted_cards new) (untouched_was old new before goes_on)
+least_affected old new before goes_on =
+    least old new (live_count old) (touched old new) (counted_cards new)
+    (all_counted (λ k. is_touched (touched old new) k ≡ false → status_before old k.view ≡ Some (is_active_by (live_count old) k.deck k.view)) new
+    (λ d c in_decks in_cards. untouched_before old new d c before in_decks in_cards))
 
 pub least_work : (old new : LibraryView) (cache : CacheView) (run : List CardRef) → IsRunBetween old new cache run →
     length (altered old new) ≤ length (affected run old new)

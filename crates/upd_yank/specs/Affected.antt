@@ -1,10 +1,11 @@
 -- The cards whose status a run may have changed.
 use Rattle.std.specs.Prelude.{Bool, true, false, not, List, Option, Some, None}
 use Rattle.std.specs.List.{list_any, filter}
+use Rattle.std.specs.Option.{option_map, option_and_then}
 use Rattle.upd_text.specs.declared.card_ref.CardRef.{CardRef}
 use Rattle.upd_core.specs.Counted.{CountedCardView, counted_cards}
-use Rattle.upd_core.specs.Library.{LibraryView}
-use Rattle.upd_core.specs.Status.{is_active, live_targets, status_of}
+use Rattle.upd_core.specs.Library.{CardView, LibraryView, all_decks, card_in, place_in}
+use Rattle.upd_core.specs.Status.{is_active, live_targets}
 use Rattle.upd_core.specs.TargetCounts.{live_count}
 use Rattle.upd_records.specs.Rows.{same_ref}
 use Rattle.upd_yank.specs.Cascade.{is_due}
@@ -23,6 +24,12 @@ is_other now None = true
 is_other true (Some was) = not was
 is_other false (Some was) = was
 
+-- whether the card of the same ident and number was active in a library before, if it was there: a card that a run purges and adds again under
+-- its old name is of a younger ident, and so was not there
+abbrev pub status_before : LibraryView → CardView → Option Bool
+status_before old c =
+    option_and_then (λ p. option_map (is_active (live_targets old) p.deck) (card_in p old)) (place_in (all_decks old) c.ident c.number)
+
 -- the cards of a library after a run that are new or whose status differs from before
 abbrev pub altered : LibraryView → LibraryView → List CountedCardView
-altered old new = filter (λ k. is_other (is_active (live_targets new) k.deck k.view) (status_of k.card old)) (counted_cards new)
+altered old new = filter (λ k. is_other (is_active (live_targets new) k.deck k.view) (status_before old k.view)) (counted_cards new)

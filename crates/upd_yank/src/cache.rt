@@ -19,8 +19,8 @@ ghost use Rattle.upd_yank.specs.Right.{IsRight, IsRunBetween, AreStatesOf, kept_
 
 use crate::cascade::{Before, settling};
 use crate::renewing::renewed_decks;
-use crate::statuses::Statuses;
 use crate::status_changes::tell;
+use crate::statuses::Statuses;
 use crate::touched::Touched;
 use std::alloc::{AllocError, Global};
 use std::marker::Model;

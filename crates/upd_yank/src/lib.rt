@@ -8,8 +8,8 @@ pub mod cache;
 mod cascade;
 pub mod laws;
 mod renewing;
-mod statuses;
 mod status_changes;
+mod statuses;
 mod touched;
 
 pub use cache::Cache;

@@ -73,7 +73,11 @@ fn push_status(changes: &mut Vec<Change>, card: &CardRef, active: bool) -> Resul
 
 /// Adds the status of each card that the run deleted, with its status, and that exists after the run: its name was
 /// purged and introduced again, or its diff was gone and new.
-fn add_repeated_statuses(changes: &mut Vec<Change>, now: &Statuses, run: &[Change]) -> Result<(), AllocError>
+fn add_repeated_statuses(
+    changes: &mut Vec<Change>,
+    now: &Statuses,
+    run: &[Change],
+) -> Result<(), AllocError>
     ensures { OnOk result (map change_view changes.new.items ≡ map change_view changes.old.items
         ++ all_repeated_statuses (kept_status now.now) (map change_view run.now)) }
 {

@@ -1,6 +1,5 @@
 use Rattle.std.proofs.Common.{◌≡◌, map, arith, Ok, Err}
 use Rattle.std.proofs.lemmas.Grind.{common_steps}
-use Rattle.upd_text.specs.declared.fault.FaultKind.TheVariants.{YankSelf}
 use Rattle.upd_core.specs.declared.target.Target.TheVariants.{Set}
 use Rattle.upd_apply.specs.Names.{idents_in}
 use Rattle.upd_core.specs.Targets.{is_same}
@@ -15,12 +14,6 @@ returns-in_err-ages c =
     let whole = once_refused is_same (range_targets c.args.set c.args.library.now) c.args.ranges.now c.loop-range.range-index c.range-item.result _ _ _
     c.loop-range-test.true c.range-item.is refused c.loop-range.invariant.named in
     grind (arith, common_steps, whole)
-
-pub returns-then-set-ages : goal.returns-then-set-ages
-returns-then-set-ages c =
-    let refused : range_targets c.args.set c.args.library.now c.range-item.result ≡ Err YankSelf = grind (arith, common_steps) in
-    once_refused is_same (range_targets c.args.set c.args.library.now) c.args.ranges.now c.loop-range.range-index c.range-item.result _ _ _
-    c.loop-range-test.true c.range-item.is refused c.loop-range.invariant.named
 
 pub loop-range-preserved : goal.loop-range-preserved
 loop-range-preserved c =

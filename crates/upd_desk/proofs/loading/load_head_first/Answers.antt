@@ -6,9 +6,9 @@ use Rattle.upd_desk.proofs.loading.load_head_first.Goals as goal
 
 pub returns-in-Ok-load-clause-found : goal.returns-in-Ok-load-clause-found
 returns-in-Ok-load-clause-found g c honest l made rows shown shows =
-    let before = c.in-Ok-load.ensures.same.honest honest in
-    let there = shown_there c.args.store.now c.load_decks.new.self c.in-Ok.ensures.same before
-    (c.in-Ok.ensures.open before) rows shown in
+    let before = c.in-Ok-load.ensures.leaves.same.honest honest in
+    let there = shown_there c.args.store.now c.load_decks.new.self c.in-Ok.ensures.leaves.same before
+    (c.in-Ok.ensures.leaves.opens before) rows shown in
     all_loaded c.args.run.now l c.in-Ok-load.library (c.in-Ok-load.ensures.found honest l made.sound made.whole rows there shows)
     (needs_yanks c.args.run.now l c.in-Ok.head c.args.cards.now made.sound
     (c.in-Ok.ensures.found before l made.sound made.whole rows shown shows) c.requires.named
@@ -16,16 +16,16 @@ returns-in-Ok-load-clause-found g c honest l made rows shown shows =
 
 pub returns-in-Ok-load-clause-reads : goal.returns-in-Ok-load-clause-reads
 returns-in-Ok-load-clause-reads g c honest l made rows shown shows =
-    let before = c.in-Ok-load.ensures.same.honest honest in
+    let before = c.in-Ok-load.ensures.leaves.same.honest honest in
     needed_read c.args.run.now l c.in-Ok-load.library _ _ _ made.sound
     (none_read _ _ l c.in-Ok.head made.sound (c.in-Ok.ensures.found before l made.sound made.whole rows shown shows)
-    c.in-Ok.ensures.reads) c.in-Ok-load.ensures.reads (returns-in-Ok-load-clause-found g c honest l made rows shown shows)
+    c.in-Ok.ensures.leaves.reads) c.in-Ok-load.ensures.leaves.reads (returns-in-Ok-load-clause-found g c honest l made rows shown shows)
 
 pub returns-in-Ok-load_holders-clause-found : goal.returns-in-Ok-load_holders-clause-found
 returns-in-Ok-load_holders-clause-found g c honest l made rows shown shows =
     let before = c.in-Ok-load_holders.ensures.same.honest honest in
-    let there = shown_there c.args.store.now c.load_decks.new.self c.in-Ok.ensures.same before
-    (c.in-Ok.ensures.open before) rows shown in
+    let there = shown_there c.args.store.now c.load_decks.new.self c.in-Ok.ensures.leaves.same before
+    (c.in-Ok.ensures.leaves.opens before) rows shown in
     named_loaded c.args.run.now l c.in-Ok-load_holders.part c.args.cards.now c.args.cards.now refl
     (c.in-Ok-load_holders.ensures.found honest l made rows there shows)
     (needs_named c.args.run.now l c.in-Ok.head c.args.cards.now made.sound c.requires.plain
@@ -37,4 +37,4 @@ returns-in-Ok-load_holders-clause-reads g c honest l made rows shown shows =
     let before = c.in-Ok-load_holders.ensures.same.honest honest in
     needed_read c.args.run.now l c.in-Ok-load_holders.part _ _ _ made.sound
     (none_read _ _ l c.in-Ok.head made.sound (c.in-Ok.ensures.found before l made.sound made.whole rows shown shows)
-    c.in-Ok.ensures.reads) c.in-Ok-load_holders.ensures.reads (returns-in-Ok-load_holders-clause-found g c honest l made rows shown shows)
+    c.in-Ok.ensures.leaves.reads) c.in-Ok-load_holders.ensures.reads (returns-in-Ok-load_holders-clause-found g c honest l made rows shown shows)

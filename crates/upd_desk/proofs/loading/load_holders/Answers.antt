@@ -6,7 +6,7 @@ use Rattle.upd_desk.proofs.loading.load_holders.Goals as goal
 
 pub returns-in-Ok-load_decks-clause-found : goal.returns-in-Ok-load_decks-clause-found
 returns-in-Ok-load_decks-clause-found g c honest l made rows shown shows =
-    let before = c.in-Ok-load_decks.ensures.same.honest honest in
-    let there = shown_there c.args.store.now c.decks_of.new.self c.in-Ok.ensures.same before (c.in-Ok.ensures.open before) rows shown in
+    let before = c.in-Ok-load_decks.ensures.leaves.same.honest honest in
+    let there = shown_there c.args.store.now c.decks_of.new.self c.in-Ok.ensures.leaves.same before (c.in-Ok.ensures.leaves.opens before) rows shown in
     c.in-Ok-load_decks.ensures.found honest l made.sound made.whole rows there shows
     ∙ ap (λ ages. part_of ages l) (c.deref.ensures.value ∙ c.in-Ok.ensures.found before l made.sound made.whole rows shown shows)

@@ -10,5 +10,5 @@ returns-in-Ok-load-clause-found g c honest l made rows shown shows =
 
 pub returns-in-Ok-load-clause-reads : goal.returns-in-Ok-load-clause-reads
 returns-in-Ok-load-clause-reads g c honest l made rows shown shows =
-    needed_read c.args.run.now l c.in-Ok-load.library _ _ _ made.sound (omega arith) c.in-Ok-load.ensures.reads
+    needed_read c.args.run.now l c.in-Ok-load.library _ _ _ made.sound (omega arith) c.in-Ok-load.ensures.leaves.reads
     (returns-in-Ok-load-clause-found g c honest l made rows shown shows)

@@ -1,7 +1,7 @@
--- Each way out of a settlement is what is owed to it.
+-- Each way out of a settlement is what is expected for it.
 use Rattle.std.proofs.Common.{sym}
 use Rattle.upd_row_store.proofs.StoreLemmas.{keeps_still}
-use Rattle.upd_desk.proofs.SettlesLemmas.{loses_key, loses_settling, refuses_key, settles_after, tells_mark}
+use Rattle.upd_desk.proofs.SettlesLemmas.{loses_key, loses_settlement, refuses_key, settles_after, tells_mark}
 use Rattle.upd_desk.proofs.settle.settle_at.Goals as goal
 
 pub returns-in-Err-clause-settles : goal.returns-in-Err-clause-settles
@@ -12,20 +12,20 @@ returns-in-Err-clause-settles g c =
 pub returns-in-Err-mark-clause-settles : goal.returns-in-Err-mark-clause-settles
 returns-in-Err-mark-clause-settles g c =
     loses_key c.args.site.now c.args.number c.in-Err-mark.fault c.args.store.now c.mark.new.self
-    c.in-Err-mark.ensures.same c.in-Err-mark.ensures.lost
+    c.in-Err-mark.ensures.leaves.same c.in-Err-mark.ensures.leaves.lost
 
 pub returns-then-number-mark-clause-settles : goal.returns-then-number-mark-clause-settles
 returns-then-number-mark-clause-settles g c =
     tells_mark g.met.S.RowStore.leaves_image c.args.site.now c.args.number c.in-Ok-mark.mark c.args.store.now c.mark.new.self
-    c.in-Ok-mark.ensures.same c.in-Ok-mark.ensures.open (sym c.in-Ok.ensures) c.in-Ok-mark.ensures.found c.if-number-mark.true
+    c.in-Ok-mark.ensures.leaves.same c.in-Ok-mark.ensures.leaves.opens (sym c.in-Ok.ensures) c.in-Ok-mark.ensures.found c.if-number-mark.true
 
 pub returns-in-Ok-settle_to-clause-settles : goal.returns-in-Ok-settle_to-clause-settles
 returns-in-Ok-settle_to-clause-settles g c =
     settles_after g.met.S.RowStore.leaves_image c.args.site.now c.args.number c.in-Ok-settle_to.mark c.args.store.now c.mark.new.self
-    c.settle_to.new.self c.in-Ok-mark.ensures.same c.in-Ok-settle_to.ensures.crash c.in-Ok-settle_to.ensures.open (sym c.in-Ok.ensures)
+    c.settle_to.new.self c.in-Ok-mark.ensures.leaves.same c.in-Ok-settle_to.ensures.leaves.crash c.in-Ok-settle_to.ensures.leaves.opens (sym c.in-Ok.ensures)
     c.in-Ok-settle_to.ensures.done
 
 pub returns-in-Err-settle_to-clause-settles : goal.returns-in-Err-settle_to-clause-settles
 returns-in-Err-settle_to-clause-settles g c =
-    loses_settling c.args.site.now c.args.number c.in-Err-settle_to.fault c.args.store.now c.mark.new.self c.settle_to.new.self
-    c.in-Ok-mark.ensures.same c.in-Err-settle_to.ensures.crash c.in-Err-settle_to.ensures.lost c.in-Err-settle_to.ensures.undone
+    loses_settlement c.args.site.now c.args.number c.in-Err-settle_to.fault c.args.store.now c.mark.new.self c.settle_to.new.self
+    c.in-Ok-mark.ensures.leaves.same c.in-Err-settle_to.ensures.leaves.crash c.in-Err-settle_to.ensures.leaves.lost c.in-Err-settle_to.ensures.leaves.undone

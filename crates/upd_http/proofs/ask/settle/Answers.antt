@@ -1,17 +1,21 @@
-use Rattle.std.proofs.Common.{ℕ, inl, refl, sym, subst, None, Some, Result, Ok, Err}
+use Rattle.std.proofs.Common.{ℕ, inl, inr, ap, refl, sym, subst, None, Some, Result, Ok, Err}
 use Rattle.upd_request.specs.Calls.{settle}
 use Rattle.upd_text.specs.declared.fault.Fault.{Fault}
 use Rattle.upd_http.specs.Responses.{Response}
-use Rattle.upd_http.specs.Serving.{IsMarkResponse}
+use Rattle.upd_http.specs.Serving.{IsMarkResponse, no_memory}
+use Rattle.upd_http.specs.Views.{answer_seen}
 use Rattle.upd_http.specs.declared.status.Media.TheVariants.{Json}
-use Rattle.upd_http.specs.declared.status.Status.TheVariants.{Done}
 use Rattle.upd_http.proofs.AskLemmas.{answered_fault}
+use Rattle.upd_http.proofs.AnswerLemmas.{fault_is}
 use Rattle.upd_http.proofs.ask.settle.Goals as goal
+
+pub returns-in_err-body : goal.returns-in_err-body
+returns-in_err-body g c = (None, refl, inr (refl, ap answer_seen (fault_is c.from_residual.result no_memory c.from_residual.ensures.1)))
 
 pub returns-in-Ok-settle_site : goal.returns-in-Ok-settle_site
 returns-in-Ok-settle_site g c =
     let body = c.write_mark.new.out.items in
-    let said : Response = record { status = Done; media = Json; allow = None; body = body } in
+    let said : Response = record { status = 200; media = Json; allow = None; body = body } in
     let told : Result Response Fault = Ok said in
     let IsTold : Result ℕ Fault → Type 0 = λ result. IsMarkResponse c.args.site.now result told in (
       Some (settle c.args.site.now c.args.number, told),

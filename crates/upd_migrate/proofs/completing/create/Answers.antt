@@ -2,13 +2,14 @@ use Rattle.std.proofs.Common.{◌+◌, [], ◌∷◌, ◌++◌}
 use Rattle.sqlite.specs.Held.{state}
 use Rattle.upd_sqlite.specs.Stored.{HoldsAllRows}
 use Rattle.upd_sql.specs.Making.{schema_up_to}
-use Rattle.upd_sql.proofs.MakingLemmas.{leads_from}
+use Rattle.upd_sql.proofs.MakingLemmas.{transforms_from}
 use Rattle.upd_migrate.proofs.Completed.{next_made}
 use Rattle.upd_migrate.proofs.completing.create.Goals as goal
 
-pub returns-clause-leads : goal.returns-clause-leads
-returns-clause-leads g c n all m =
+pub returns-clause-transforms : goal.returns-clause-transforms
+returns-clause-transforms g c n all m =
     let old = state g.S.Store c.args.tx.now.conn.now in
     let new = state g.S.Store c.run.new.tx.conn.now in
-    leads_from (HoldsAllRows (schema_up_to n) all) (HoldsAllRows (schema_up_to (n + 1)) (all ++ [] ∷ [])) c.args.sql.now old new c.run.result c.run.ensures.ran
+    transforms_from (HoldsAllRows (schema_up_to n) all) (HoldsAllRows (schema_up_to (n + 1)) (all ++ [] ∷ []))
+    c.args.sql.now old new c.run.result c.run.ensures.ran
     (λ count ran h. next_made n c.args.sql.now m all old new count ran h)

@@ -1,21 +1,23 @@
 use Rattle.std.proofs.Common.{Ok, refl, sym, subst}
 use Rattle.sqlite.specs.Held.{state}
 use Rattle.upd_sqlite.specs.Stored.{HoldsAllRows}
-use Rattle.upd_sql.specs.Making.{Leads}
-use Rattle.upd_sql.specs.Stands.{Stands}
+use Rattle.upd_sql.specs.Making.{Transforms}
+use Rattle.upd_sql.specs.LibraryTables.{HoldsTables}
 use Rattle.upd_migrate.specs.declared.version.Version.TheVariants.{First}
-use Rattle.upd_migrate.specs.Migrated.{IsMigrated, StandsAfter, completed}
+use Rattle.upd_migrate.specs.Migrated.{IsMigrated, HoldsAfter, completed}
 use Rattle.upd_migrate.specs.Older.{schema_of, stored_in}
 use Rattle.upd_migrate.proofs.Filled.{bare_rows, first_filled}
 use Rattle.upd_migrate.proofs.filling.fill.Goals as goal
 
-pub returns-in-First-clause-leads : goal.returns-in-First-clause-leads
-returns-in-First-clause-leads g c l rows lib =
+pub returns-in-First-clause-transforms : goal.returns-in-First-clause-transforms
+returns-in-First-clause-transforms g c l rows lib =
     let old = state g.S.Store c.args.tx.now.conn.now in
     let mid = state g.S.Store c.complete.new.tx.conn.now in
     let new = state g.S.Store c.fill_states.new.tx.conn.now in
-    let complete = subst (λ v. Leads {X = Unit {0}} (HoldsAllRows (schema_of v) (stored_in v rows)) (Stands (completed v rows)) old mid (Ok c.in_ok-complete.field-0))
-    c.in-First.is (c.in_ok-complete.ensures.leads rows) in
+    let complete = subst (λ v. Transforms {X = Unit {0}} (HoldsAllRows (schema_of v) (stored_in v rows)) (HoldsTables (completed v rows)) old mid
+    (Ok c.in_ok-complete.field-0))
+    c.in-First.is (c.in_ok-complete.ensures.transforms rows) in
     let filled = first_filled l rows old mid new c.in_ok-complete.field-0 c.fill_states.result complete
-    (c.fill_states.ensures.leads l (completed First rows) (bare_rows l rows lib) refl refl) in
-    subst (λ v. Leads (HoldsAllRows (schema_of v) (stored_in v rows)) (StandsAfter (IsMigrated v l rows)) old new c.fill_states.result) (sym c.in-First.is) filled
+    (c.fill_states.ensures.transforms l (completed First rows) (bare_rows l rows lib) refl refl) in
+    subst (λ v. Transforms (HoldsAllRows (schema_of v) (stored_in v rows)) (HoldsAfter (IsMigrated v l rows)) old new c.fill_states.result) (sym c.in-First.is)
+    filled

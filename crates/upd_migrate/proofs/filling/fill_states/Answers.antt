@@ -4,16 +4,16 @@ use Rattle.upd_core.specs.declared.change.Change.{Change}
 use Rattle.upd_records.specs.Changes.{change_view, done_all}
 use Rattle.upd_records.specs.Fits.{AllFit}
 use Rattle.upd_sqlite.specs.Steps.{Makes}
-use Rattle.upd_sql.specs.Stands.{Stands}
+use Rattle.upd_sql.specs.LibraryTables.{HoldsTables}
 use Rattle.upd_migrate.proofs.Filled.{states_filled}
 use Rattle.upd_migrate.proofs.filling.fill_states.Goals as goal
 
-pub returns-clause-leads : goal.returns-clause-leads
-returns-clause-leads g c l it lib states counts =
+pub returns-clause-transforms : goal.returns-clause-transforms
+returns-clause-transforms g c l it lib states counts =
     let old = state g.S.Store c.args.tx.now.conn.now in
     let mid = state g.S.Store c.library_rows_in.new.tx.conn.now in
     let new = state g.S.Store c.carry_out_all.new.tx.conn.now in
-    let makes = subst (λ (xs : List Change). Makes Stands (AllFit (map change_view xs)) (done_all (map change_view xs)) mid new c.carry_out_all.result)
+    let makes = subst (λ (xs : List Change). Makes HoldsTables (AllFit (map change_view xs)) (done_all (map change_view xs)) mid new c.carry_out_all.result)
     c.deref.ensures.value c.carry_out_all.ensures.makes in
     states_filled l c.in_ok-library.library it (map change_view c.in-Ok.changes.items) old mid new c.in_ok-rows.rows c.carry_out_all.result lib
     c.in_ok-rows.ensures.looks c.in_ok-library.ensures.whole (λ sound. c.in-Ok.ensures.states sound it states counts) c.in-Ok.ensures.only makes

@@ -1,7 +1,18 @@
-use Rattle.std.proofs.Common.{inl, refl, sym, subst}
+use Rattle.std.proofs.Common.{◌≡◌, ◌⊎◌, ℕ, inl, refl, sym, subst}
+use Rattle.sqlite.specs.Held.{state}
+use Rattle.sqlite.specs.State.{HasCleanDisk}
 use Rattle.upd_row_store.specs.Keeping.{OfMemory}
 use Rattle.upd_store.specs.Faults.{IsUnopened}
+use Rattle.upd_store.specs.Version.{HasVersion}
+use Rattle.upd_migrate.proofs.PassedFaults.{passed_on}
 use Rattle.upd_migrate.proofs.loading.load_rows.Goals as goal
 
 pub returns-in-Err-assembled-clause-unopened : goal.returns-in-Err-assembled-clause-unopened
 returns-in-Err-assembled-clause-unopened g c = subst IsUnopened (sym c.without_line.ensures) (inl (OfMemory _ refl refl))
+
+pub returns-in_err-version-clause-version : goal.returns-in_err-version-clause-version
+returns-in_err-version-clause-version g c =
+    passed_on
+    (λ e. HasCleanDisk (state g.S.Store c.known_version.new.conn) → (v : ℕ) → HasVersion v (state g.S.Store c.args.conn.now).committed
+    → (e.at ≡ v) ⊎ (e.at ≡ 0))
+    c.from_residual.result c.in_err-version.field-0.0 c.from_residual.ensures.1 c.in_err-version.ensures.fault

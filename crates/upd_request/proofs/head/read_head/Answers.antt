@@ -33,4 +33,4 @@ pub returns-then-is_err-clause-err : goal.returns-then-is_err-clause-err
 returns-then-is_err-clause-err g c = refused_by_failure (g.R.Read.remaining c.args.reader.now) c.of.result (inl c.of.ensures)
 
 pub returns-in-Err-clause-err : goal.returns-in-Err-clause-err
-returns-in-Err-clause-err g c = refused_by_failure (g.R.Read.remaining c.args.reader.now) c.read_refusal.result c.read_refusal.ensures.failure
+returns-in-Err-clause-err g c = refused_by_failure (g.R.Read.remaining c.args.reader.now) c.silent-in-Err.result (inr c.silent-in-Err.ensures)

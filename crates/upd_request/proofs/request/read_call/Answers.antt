@@ -1,87 +1,70 @@
-use Rattle.std.proofs.Common.{ap, sym, ◌∙◌, subst, drop, List, ℕ, ◌++◌, Ok, Err, Vec, Global}
+use Rattle.std.proofs.Common.{ap, sym, ◌∙◌, subst, drop, List, ℕ, ◌++◌, Result, Vec, Global}
 use Rattle.std.proofs.lemmas.List.{take_rest}
 use Rattle.httparse.specs.Spans.{IsRequestAt}
 use Rattle.upd_io.proofs.InputLemmas.{input_behind, some_input}
 use Rattle.upd_request.specs.Calls.{asked}
-use Rattle.upd_request.specs.Views.{wanted_seen}
-use Rattle.upd_request.proofs.RequestLemmas.{HasRead, body_refused, call_read, head_refused, wanted_refused}
+use Rattle.upd_request.specs.Requests.{IsRead}
+use Rattle.upd_request.specs.Views.{head_view}
+use Rattle.upd_request.specs.declared.call.DeskCall.{DeskCall}
+use Rattle.upd_request.specs.declared.call.Refusal.{Refusal}
+use Rattle.upd_request.proofs.RequestLemmas.{HasRead, body_refused, call_read, checked_refused, error_is}
 use Rattle.upd_request.proofs.request.read_call.Goals as goal
 
 abbrev Bytes : Type 0
 Bytes = Vec ℕ Global
 
-pub returns-in-Err : goal.returns-in-Err
-returns-in-Err g c =
-    let (input, is, refuses) = c.in-Err.ensures.err in
-    (input, is, head_refused asked input c.in-Err.refusal refuses)
-
-pub returns-in-Err-read_wanted : goal.returns-in-Err-read_wanted
-returns-in-Err-read_wanted g c =
+pub returns-in_err-head : goal.returns-in_err-head
+returns-in_err-head g c =
     let buf = c.read_head.new.buf.items in
     let headers = c.read_head.new.headers in
     let old = g.R.Read.remaining c.args.reader.now in
     let new = g.R.Read.remaining c.read_head.new.reader in
-    let (h, at) = c.in-Ok.ensures.head in
-    let r : HasRead buf headers c.in-Ok.spans h = record {
+    let spans = c.in_ok-spans.spans in
+    let (h, at) = c.in_ok-spans.ensures.head in
+    let r : HasRead buf headers spans h = record {
       head = at;
-      within = c.in-Ok.ensures.within;
-      most = c.in-Ok.ensures.most;
+      within = c.in_ok-spans.ensures.within;
+      most = c.in_ok-spans.ensures.most;
       room = c.read_head.auto.headers;
     } in
-    let IsAt : List ℕ → Type 0 = λ l. IsRequestAt l headers c.in-Ok.spans h in
+    let IsAt : List ℕ → Type 0 = λ l. IsRequestAt l headers spans h in
     let there = subst IsAt (sym c.deref.ensures.value) at in
-    let (rest, left) = some_input new in (
+    let (rest, left) = some_input new in
+    let refusal = c.in_err-head.field-0.0 in
+    let result = c.from_residual-in_err-head.result in
+    let IsGiven : Result DeskCall Refusal → Type 0 = λ result. IsRead asked (buf ++ rest) result in (
       buf ++ rest,
-      input_behind old new buf rest c.in-Ok.ensures.bytes left,
-      wanted_refused asked wanted_seen buf headers c.in-Ok.spans h r c.in-Err-read_wanted.refusal (c.in-Err-read_wanted.ensures h there) rest,
+      input_behind old new buf rest c.in_ok-spans.ensures.bytes left,
+      subst IsGiven (sym (error_is result refusal c.from_residual-in_err-head.ensures.1))
+          (checked_refused asked head_view buf headers spans h r refusal (c.in_err-head.ensures h there) rest),
     )
 
-pub returns-in-Err-read_body : goal.returns-in-Err-read_body
-returns-in-Err-read_body g c =
+pub returns-in_err-body : goal.returns-in_err-body
+returns-in_err-body g c =
     let buf = c.read_head.new.buf.items in
     let headers = c.read_head.new.headers in
     let old = g.R.Read.remaining c.args.reader.now in
     let new = g.R.Read.remaining c.read_head.new.reader in
-    let (h, at) = c.in-Ok.ensures.head in
-    let r : HasRead buf headers c.in-Ok.spans h = record {
+    let spans = c.in_ok-spans.spans in
+    let (h, at) = c.in_ok-spans.ensures.head in
+    let r : HasRead buf headers spans h = record {
       head = at;
-      within = c.in-Ok.ensures.within;
-      most = c.in-Ok.ensures.most;
+      within = c.in_ok-spans.ensures.within;
+      most = c.in_ok-spans.ensures.most;
       room = c.read_head.auto.headers;
     } in
-    let IsAt : List ℕ → Type 0 = λ l. IsRequestAt l headers c.in-Ok.spans h in
+    let IsAt : List ℕ → Type 0 = λ l. IsRequestAt l headers spans h in
     let there = subst IsAt (sym c.deref.ensures.value) at in
-    let w = wanted_seen c.in-Ok-read_wanted.wanted in
-    let (rest, left, gives) = c.in-Err-read_body.ensures in (
+    let w = head_view c.in_ok-head.head in
+    let (rest, left, gives) = c.in_err-body.ensures in
+    let refusal = c.in_err-body.field-0.0 in
+    let result = c.from_residual-in_err-body.result in
+    let IsGiven : Result DeskCall Refusal → Type 0 = λ result. IsRead asked (buf ++ rest) result in (
       buf ++ rest,
-      input_behind old new buf rest c.in-Ok.ensures.bytes left,
-      body_refused asked (λ (b : Bytes). b.items) buf headers c.in-Ok.spans h r w (c.in-Ok-read_wanted.ensures h there) _
-          (take_rest c.deref-2.result.now c.in-Ok.spans.len
-          ∙ ap (drop c.in-Ok.spans.len) c.deref-2.ensures.value) c.in-Err-read_body.refusal rest gives,
-    )
-
-pub returns-in-Ok-call_of : goal.returns-in-Ok-call_of
-returns-in-Ok-call_of g c =
-    let buf = c.read_head.new.buf.items in
-    let headers = c.read_head.new.headers in
-    let old = g.R.Read.remaining c.args.reader.now in
-    let new = g.R.Read.remaining c.read_head.new.reader in
-    let (h, at) = c.in-Ok.ensures.head in
-    let r : HasRead buf headers c.in-Ok.spans h = record {
-      head = at;
-      within = c.in-Ok.ensures.within;
-      most = c.in-Ok.ensures.most;
-      room = c.read_head.auto.headers;
-    } in
-    let IsAt : List ℕ → Type 0 = λ l. IsRequestAt l headers c.in-Ok.spans h in
-    let there = subst IsAt (sym c.deref.ensures.value) at in
-    let w = wanted_seen c.in-Ok-read_wanted.wanted in
-    let (rest, left, whole) = c.in-Ok-read_body.ensures in (
-      buf ++ rest,
-      input_behind old new buf rest c.in-Ok.ensures.bytes left,
-      call_read asked (λ (b : Bytes). b.items) buf headers c.in-Ok.spans h r w (c.in-Ok-read_wanted.ensures h there) _
-          (take_rest c.deref-2.result.now c.in-Ok.spans.len ∙ ap (drop c.in-Ok.spans.len) c.deref-2.ensures.value) c.in-Ok-read_body.body rest whole
-          (Ok c.in-Ok-call_of.call) c.in-Ok-call_of.ensures,
+      input_behind old new buf rest c.in_ok-spans.ensures.bytes left,
+      subst IsGiven (sym (error_is result refusal c.from_residual-in_err-body.ensures.1))
+          (body_refused asked (λ (b : Bytes). b.items) buf headers spans h r w (c.in_ok-head.ensures h there) _
+          (take_rest c.deref-2.result.now spans.len ∙ ap (drop spans.len) c.deref-2.ensures.value) refusal rest gives),
     )
 
 pub returns : goal.returns
@@ -90,20 +73,21 @@ returns g c =
     let headers = c.read_head.new.headers in
     let old = g.R.Read.remaining c.args.reader.now in
     let new = g.R.Read.remaining c.read_head.new.reader in
-    let (h, at) = c.in-Ok.ensures.head in
-    let r : HasRead buf headers c.in-Ok.spans h = record {
+    let spans = c.in_ok-spans.spans in
+    let (h, at) = c.in_ok-spans.ensures.head in
+    let r : HasRead buf headers spans h = record {
       head = at;
-      within = c.in-Ok.ensures.within;
-      most = c.in-Ok.ensures.most;
+      within = c.in_ok-spans.ensures.within;
+      most = c.in_ok-spans.ensures.most;
       room = c.read_head.auto.headers;
     } in
-    let IsAt : List ℕ → Type 0 = λ l. IsRequestAt l headers c.in-Ok.spans h in
+    let IsAt : List ℕ → Type 0 = λ l. IsRequestAt l headers spans h in
     let there = subst IsAt (sym c.deref.ensures.value) at in
-    let w = wanted_seen c.in-Ok-read_wanted.wanted in
-    let (rest, left, whole) = c.in-Ok-read_body.ensures in (
+    let w = head_view c.in_ok-head.head in
+    let (rest, left, whole) = c.in_ok-body.ensures in (
       buf ++ rest,
-      input_behind old new buf rest c.in-Ok.ensures.bytes left,
-      call_read asked (λ (b : Bytes). b.items) buf headers c.in-Ok.spans h r w (c.in-Ok-read_wanted.ensures h there) _
-          (take_rest c.deref-2.result.now c.in-Ok.spans.len ∙ ap (drop c.in-Ok.spans.len) c.deref-2.ensures.value) c.in-Ok-read_body.body rest whole
-          (Err c.in-Err-call_of.refusal) c.in-Err-call_of.ensures,
+      input_behind old new buf rest c.in_ok-spans.ensures.bytes left,
+      call_read asked (λ (b : Bytes). b.items) buf headers spans h r w (c.in_ok-head.ensures h there) _
+          (take_rest c.deref-2.result.now spans.len ∙ ap (drop spans.len) c.deref-2.ensures.value) c.in_ok-body.body rest whole
+          c.call_of.result c.call_of.ensures,
     )

@@ -4,7 +4,7 @@ use Rattle.upd_records.specs.Changes.{ChangeView, done_all, change_view}
 use Rattle.upd_records.specs.Fits.{AllFit}
 use Rattle.upd_sqlite.specs.Steps.{Makes}
 use Rattle.upd_sql.specs.Sizes.{SizedAll}
-use Rattle.upd_sql.specs.Stands.{Stands}
+use Rattle.upd_sql.specs.LibraryTables.{HoldsTables}
 use Rattle.upd_sql.proofs.SizeLemmas.{one_sized}
 use Rattle.upd_sql.proofs.Turns.{one_made, seen_more}
 use Rattle.upd_sql.proofs.changes.carry_out_all.Goals as goal
@@ -20,6 +20,6 @@ loop-change-preserved g c =
     let counted = one_sized before (change_view c.change-item.result) old (state g.S.Store c.loop-change.tx.conn.now) new tt c.in_ok-carry_out.field-0
     c.loop-change.invariant.2 c.in_ok-carry_out.ensures.sized in (
       c.in_ok-carry_out.ensures.same_reference ∙ c.loop-change.invariant.0,
-      subst (λ (cs : List ChangeView). Makes {X = Unit {0}} Stands (AllFit cs) (done_all cs) old new (Ok tt)) (sym more) made,
+      subst (λ (cs : List ChangeView). Makes {X = Unit {0}} HoldsTables (AllFit cs) (done_all cs) old new (Ok tt)) (sym more) made,
       subst (λ (cs : List ChangeView). SizedAll {X = Unit {0}} cs old new (Ok tt)) (sym more) counted,
     )

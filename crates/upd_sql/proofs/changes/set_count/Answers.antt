@@ -4,7 +4,7 @@ use Rattle.upd_records.specs.Changes.{done, CountNow}
 use Rattle.upd_records.specs.Rows.{Rows}
 use Rattle.upd_sqlite.proofs.Chains.{makes_as}
 use Rattle.upd_sql.specs.RowEdits.{with_count, without_count}
-use Rattle.upd_sql.specs.Stands.{Stands, AnyTables}
+use Rattle.upd_sql.specs.LibraryTables.{HoldsTables, AnyTables}
 use Rattle.upd_sql.proofs.Typed.{makes_both}
 use Rattle.upd_sql.proofs.SizeLemmas.{sizes_kept}
 use Rattle.upd_sql.proofs.changes.set_count.Goals as goal
@@ -17,7 +17,7 @@ returns-clause-makes g c =
     c.in_ok-delete_count.field-0 c.insert_count.result c.in_ok-delete_count.ensures.makes c.insert_count.ensures.makes in
     let same : (it : Rows) → with_count c.args.target c.args.n (without_count c.args.target it) ≡ done (CountNow c.args.target c.args.n) it =
     λ it. rw (ne_eqb c.args.n 0 c.if-n-eq0.false) refl in
-    makes_as Stands AnyTables AnyTables _ (done (CountNow c.args.target c.args.n)) old new c.insert_count.result (λ it any. any) same both
+    makes_as HoldsTables AnyTables AnyTables _ (done (CountNow c.args.target c.args.n)) old new c.insert_count.result (λ it any. any) same both
 
 pub returns-clause-sized : goal.returns-clause-sized
 returns-clause-sized g c =

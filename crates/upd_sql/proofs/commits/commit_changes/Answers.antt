@@ -9,7 +9,7 @@ use Rattle.upd_sqlite.specs.Steps.{Makes}
 use Rattle.upd_sqlite.proofs.Chains.{clean_before, makes_then, makes_as}
 use Rattle.upd_sql.specs.Commits.{MayCommit}
 use Rattle.upd_sql.specs.Sizes.{AnySizes, HasSizes, HoldsSizes, SizedAll, TakeNone, sized_all}
-use Rattle.upd_sql.specs.Stands.{Stands, AnyTables}
+use Rattle.upd_sql.specs.LibraryTables.{HoldsTables, AnyTables}
 use Rattle.upd_sql.proofs.CommitLemmas.{crash_leaves}
 use Rattle.upd_sql.proofs.SizeLemmas.{committed_sizes, on_done}
 use Rattle.upd_sql.proofs.commits.commit_changes.Goals as goal
@@ -22,15 +22,14 @@ returns-clause-crash g c =
     let last = state g.S.Store c.insert_run.new.tx.conn.now in
     let end = state g.S.Store c.commit.new.self.0 in
     let cs = map change_view c.args.changes.now in
-    let made : Makes {X = Unit {0}} Stands (AllFit cs) (done_all cs) begun mid (Ok c.in_ok-carry_out_all.field-0) =
-    rw c.transaction-tx.ensures.begun at c.in_ok-carry_out_all.ensures.makes in
-    let whole : Makes {X = Unit {0}} Stands (AllFit cs) (committed cs c.args.row.now) begun last (Ok c.in_ok-insert_run.field-0) =
-    makes_as Stands _ (AllFit cs) _ (committed cs c.args.row.now) begun last (Ok c.in_ok-insert_run.field-0) (λ it fits. (fits, tt)) (λ it. refl)
-    (makes_then Stands (AllFit cs) AnyTables (done_all cs) (with_run c.args.row.now) begun mid last c.in_ok-carry_out_all.field-0
+    let made : Makes {X = Unit {0}} HoldsTables (AllFit cs) (done_all cs) begun mid (Ok c.in_ok-carry_out_all.field-0) =
+    rw c.begin-tx.ensures.begun at c.in_ok-carry_out_all.ensures.makes in
+    let whole : Makes {X = Unit {0}} HoldsTables (AllFit cs) (committed cs c.args.row.now) begun last (Ok c.in_ok-insert_run.field-0) =
+    makes_as HoldsTables _ (AllFit cs) _ (committed cs c.args.row.now) begun last (Ok c.in_ok-insert_run.field-0) (λ it fits. (fits, tt)) (λ it. refl)
+    (makes_then HoldsTables (AllFit cs) AnyTables (done_all cs) (with_run c.args.row.now) begun mid last c.in_ok-carry_out_all.field-0
     (Ok c.in_ok-insert_run.field-0) made c.in_ok-insert_run.ensures.makes) in
-    let outside : IsTrue c.is_autocommit-outside.result = c.is_autocommit-outside.ensures.value ∙ ap not c.requires in
-    let left = crash_leaves (AllFit cs) (committed cs c.args.row.now) old last end c.in_ok-insert_run.field-0 (c.note_order_outside.ensures c.requires)
-    (c.is_autocommit-outside.ensures.settled outside) whole
+    let left = crash_leaves (AllFit cs) (committed cs c.args.row.now) old last end c.in_ok-insert_run.field-0 c.begin-tx.ensures.rise
+    c.begin-tx.ensures.settled whole
     (λ clean. let early : HasCleanDisk mid = omega (arith, c.insert_run.ensures.makes.steps.survives.clean) in (made.steps.kept early refl).was_open
     (c.in_ok-insert_run.ensures.was_open clean (made.steps.going early refl))) c.commit.ensures.survives in
     let P = MayCommit (AllFit cs) (committed cs c.args.row.now) old in
@@ -45,14 +44,13 @@ returns-clause-sized g c clean =
     let last = state g.S.Store c.insert_run.new.tx.conn.now in
     let end = state g.S.Store c.commit.new.self.0 in
     let cs = map change_view c.args.changes.now in
-    let made : SizedAll {X = Unit {0}} cs begun mid (Ok c.in_ok-carry_out_all.field-0) = rw c.transaction-tx.ensures.begun at c.in_ok-carry_out_all.ensures.sized in
+    let made : SizedAll {X = Unit {0}} cs begun mid (Ok c.in_ok-carry_out_all.field-0) = rw c.begin-tx.ensures.begun at c.in_ok-carry_out_all.ensures.sized in
     let whole = makes_then HoldsSizes (λ _. TakeNone cs) AnySizes (sized_all cs) (λ n. n) begun mid last c.in_ok-carry_out_all.field-0
     (Ok c.in_ok-insert_run.field-0) made c.in_ok-insert_run.ensures.sized in
-    let outside : IsTrue c.is_autocommit-outside.result = c.is_autocommit-outside.ensures.value ∙ ap not c.requires in
     let same : c.commit.new.self.0 ≡ c.conn-2-1.given.0 = search rules in
     let late : HasCleanDisk end = subst (λ h. HasCleanDisk (state g.S.Store h)) (sym same) clean in
     let early = clean_before last end _ c.commit.ensures.survives late in
     on_done c.commit.result (c.commit.ensures.ok late)
     (λ ended schema none n h. subst (λ h. HasSizes (sized_all cs n) (state g.S.Store h).committed.trees) same
-    (committed_sizes old last end c.in_ok-insert_run.field-0 (c.note_order_outside.ensures c.requires) (c.is_autocommit-outside.ensures.settled outside)
+    (committed_sizes old last end c.in_ok-insert_run.field-0 c.begin-tx.ensures.rise c.begin-tx.ensures.settled
     (λ n. TakeNone cs × AnySizes (sized_all cs n)) (sized_all cs) whole early ended.1 schema n (none, tt) h))

@@ -1,12 +1,12 @@
 use Rattle.std.proofs.Common.{◌+◌}
 use Rattle.sqlite.specs.Held.{state}
-use Rattle.upd_sql.specs.Making.{HasMade}
-use Rattle.upd_sql.proofs.MakingLemmas.{leads_from, next_made}
+use Rattle.upd_sql.specs.Making.{HasEmptyTables}
+use Rattle.upd_sql.proofs.MakingLemmas.{transforms_from, next_made}
 use Rattle.upd_sql.proofs.make.create.Goals as goal
 
-pub returns-clause-leads : goal.returns-clause-leads
-returns-clause-leads g c n m =
+pub returns-clause-transforms : goal.returns-clause-transforms
+returns-clause-transforms g c n m =
     let old = state g.S.Store c.args.tx.now.conn.now in
     let new = state g.S.Store c.run.new.tx.conn.now in
-    leads_from (HasMade n) (HasMade (n + 1)) c.args.sql.now old new c.run.result c.run.ensures.ran
+    transforms_from (HasEmptyTables n) (HasEmptyTables (n + 1)) c.args.sql.now old new c.run.result c.run.ensures.ran
     (λ count ran h. next_made n c.args.sql.now m old new count ran h)

@@ -1,6 +1,6 @@
 use Rattle.std.proofs.Common.{length}
 use Rattle.sqlite.specs.Held.{state}
-use Rattle.upd_sql.proofs.Texts as text
+use Rattle.upd_sql.proofs.ReadTexts as query
 use Rattle.upd_sql.proofs.PartLemmas.{cards_counted}
 use Rattle.upd_sql.specs.Sizes.{card_tree}
 use Rattle.upd_sql.proofs.SizeLemmas.{card_rows_counted}
@@ -8,7 +8,7 @@ use Rattle.upd_sql.proofs.part.card_count.Goals as goal
 
 pub returns-clause-looks : goal.returns-clause-looks
 returns-clause-looks g c =
-    c.number_of.ensures.looks (λ it. length it.cards) text.count_cards_plain
+    c.number_of.ensures.looks (λ it. length it.cards) query.count_cards_plain
     (cards_counted (state g.S.Store c.args.tx.now.conn.now) (state g.S.Store c.number_of.new.tx.conn.now))
 
 pub returns-clause-number : goal.returns-clause-number

@@ -12,10 +12,10 @@ use Rattle.upd_sql.proofs.part.decks_in.Goals as goal
 pub loop-card-init : goal.loop-card-init
 loop-card-init g c =
     let old = state g.S.Store c.args.tx.now.conn.now in
-    let new = state g.S.Store c.look_at_nothing.new.tx.conn.now in (
-      c.in_ok-look_at_nothing.ensures.same_reference,
-      looks_as (λ _ _. Unit {0}) (λ it found. AreDecksOf [] it.cards found.items) old new c.in_ok-look_at_nothing.field-0 c.new-ages.result
-          (λ it none. subst (AreDecksOf [] it.cards) (sym c.new-ages.ensures.items) (no_decks it.cards)) c.in_ok-look_at_nothing.ensures.looks,
+    let new = state g.S.Store c.check_open.new.tx.conn.now in (
+      c.in_ok-check_open.ensures.same_reference,
+      looks_as (λ _ _. Unit {0}) (λ it found. AreDecksOf [] it.cards found.items) old new c.in_ok-check_open.field-0 c.new-ages.result
+          (λ it none. subst (AreDecksOf [] it.cards) (sym c.new-ages.ensures.items) (no_decks it.cards)) c.in_ok-check_open.ensures.looks,
     )
 
 pub loop-card-preserved : goal.loop-card-preserved

@@ -25,14 +25,14 @@ is_there a false e f = absurd (let p = sym e ∙ f in cc)
 pub loop-card-init : goal.loop-card-init
 loop-card-init g c =
     let old = state g.S.Store c.args.tx.now.conn.now in
-    let new = state g.S.Store c.look_at_nothing.new.tx.conn.now in (
-      c.in_ok-look_at_nothing.ensures.same_reference,
+    let new = state g.S.Store c.check_open.new.tx.conn.now in (
+      c.in_ok-check_open.ensures.same_reference,
       λ n. rw c.new-asked.ensures.empty refl,
       λ listed card_of plain means.
           looks_as (λ _ _. Unit {0}) (λ it found. IsSame found.items (filter (λ x. is_of_ident [] (card_of x)) (listed it))) old new
-          c.in_ok-look_at_nothing.field-0 c.new-found.result
+          c.in_ok-check_open.field-0 c.new-found.result
           (λ it none. subst (λ l. IsSame l (filter (λ x. is_of_ident [] (card_of x)) (listed it))) (sym c.new-found.ensures.items) (no_rows card_of (listed it)))
-          c.in_ok-look_at_nothing.ensures.looks,
+          c.in_ok-check_open.ensures.looks,
     )
 
 pub loop-card-preserved : goal.loop-card-preserved

@@ -7,15 +7,15 @@ use Rattle.sqlite.specs.State.{State, Shown}
 use Rattle.upd_records.specs.Rows.{Rows}
 use Rattle.upd_row_store.specs.Tables.{is_mark_of}
 use Rattle.upd_sql.specs.Encoded.{mark_row}
-use Rattle.upd_sql.specs.Stands.{Stands}
+use Rattle.upd_sql.specs.LibraryTables.{HoldsTables}
 use Rattle.upd_sql.proofs.Finds.{marks_found, untouched}
 use Rattle.upd_sql.proofs.Typed.{was_open_from}
-use Rattle.upd_sql.proofs.Texts as text
+use Rattle.upd_sql.proofs.ReadTexts as query
 use Rattle.upd_sql.proofs.reads.marks_of_site.Goals as goal
 
 found : {X : Type 0} (items : X → List Row) (site : List ℕ) (old new : State) (r : Result X Error)
-    → IfOk r (λ rows. Shown text.mark_of_site (Text site ∷ []) old new (items rows))
-    → IfOk r (λ rows. (it : Rows) → Stands it old.now → items rows ≡ map mark_row (filter (is_mark_of site) it.settled))
+    → IfOk r (λ rows. Shown query.mark_of_site (Text site ∷ []) old new (items rows))
+    → IfOk r (λ rows. (it : Rows) → HoldsTables it old.now → items rows ≡ map mark_row (filter (is_mark_of site) it.settled))
 found items site old new (Ok rows) shown = λ it h. marks_found old new (items rows) it h site shown
 found items site old new (Err e) shown = tt
 
@@ -31,5 +31,5 @@ returns-clause-found g c clean =
 
 pub returns-clause-same : goal.returns-clause-same
 returns-clause-same g c clean =
-    untouched (λ rows. rows.items) text.mark_of_site (Text c.args.site.now ∷ []) (state g.S.Store c.args.tx.now.conn.now)
-    (state g.S.Store c.ask.new.tx.conn.now) c.ask.result text.mark_of_site_plain (rw c.site.ensures at (c.ask.ensures.shown clean))
+    untouched (λ rows. rows.items) query.mark_of_site (Text c.args.site.now ∷ []) (state g.S.Store c.args.tx.now.conn.now)
+    (state g.S.Store c.ask.new.tx.conn.now) c.ask.result query.mark_of_site_plain (rw c.site.ensures at (c.ask.ensures.shown clean))

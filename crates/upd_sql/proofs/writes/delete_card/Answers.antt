@@ -1,9 +1,9 @@
 use Rattle.sqlite.specs.Held.{state}
 use Rattle.upd_sql.specs.RowEdits.{without_card}
-use Rattle.upd_sql.specs.Stands.{AnyTables}
+use Rattle.upd_sql.specs.LibraryTables.{AnyTables}
 use Rattle.upd_sql.proofs.Conditions.{card_params}
 use Rattle.upd_sql.proofs.Typed.{makes_from}
-use Rattle.upd_sql.proofs.Texts.{delete_card}
+use Rattle.upd_sql.proofs.WriteTexts.{delete_card}
 use Rattle.upd_sql.proofs.Effects.{card_gone}
 use Rattle.upd_sql.proofs.writes.delete_card.Goals as goal
 

@@ -4,9 +4,9 @@ use Rattle.sqlite.specs.Held.{state}
 use Rattle.upd_sqlite.specs.Steps.{Ran}
 use Rattle.upd_sql.specs.Encoded.{target_code}
 use Rattle.upd_sql.specs.RowEdits.{without_count}
-use Rattle.upd_sql.specs.Stands.{AnyTables}
+use Rattle.upd_sql.specs.LibraryTables.{AnyTables}
 use Rattle.upd_sql.proofs.Typed.{makes_from}
-use Rattle.upd_sql.proofs.Texts.{delete_count}
+use Rattle.upd_sql.proofs.WriteTexts.{delete_count}
 use Rattle.upd_sql.proofs.Effects.{count_gone}
 use Rattle.upd_sql.proofs.SizeLemmas.{count_gone_sizes}
 use Rattle.upd_sql.proofs.writes.delete_count.Goals as goal

@@ -1,9 +1,9 @@
 use Rattle.sqlite.specs.Held.{state}
 use Rattle.upd_records.specs.Changes.{done, EntriesGone}
-use Rattle.upd_sql.specs.Stands.{AnyTables, Stands}
+use Rattle.upd_sql.specs.LibraryTables.{AnyTables, HoldsTables}
 use Rattle.upd_sql.proofs.Conditions.{card_params}
 use Rattle.upd_sql.proofs.Typed.{makes_from}
-use Rattle.upd_sql.proofs.Texts.{delete_entries}
+use Rattle.upd_sql.proofs.WriteTexts.{delete_entries}
 use Rattle.upd_sql.proofs.Effects.{entries_gone}
 use Rattle.upd_sql.proofs.SizeLemmas.{sizes_lost}
 use Rattle.upd_sql.proofs.writes.delete_entries.Goals as goal
@@ -16,5 +16,5 @@ returns-clause-makes g c =
     (rw (c.name.ensures, c.number.ensures) at c.run.ensures.ran) (λ count ran it fits h. entries_gone old new count it h c.args.card.now ran)
 
 pub returns-clause-sized : goal.returns-clause-sized
-returns-clause-sized g c = sizes_lost Stands AnyTables (done (EntriesGone c.args.card.now)) (λ n. n) (state g.S.Store c.args.tx.now.conn.now)
+returns-clause-sized g c = sizes_lost HoldsTables AnyTables (done (EntriesGone c.args.card.now)) (λ n. n) (state g.S.Store c.args.tx.now.conn.now)
     (state g.S.Store c.run.new.tx.conn.now) c.run.result (returns-clause-makes g c)

@@ -2,9 +2,9 @@ use Rattle.std.proofs.Common.{[], ◌∷◌}
 use Rattle.sqlite_value.specs.declared.value.Value.TheVariants.{Text}
 use Rattle.sqlite.specs.Held.{state}
 use Rattle.upd_sql.specs.RowEdits.{without_mark}
-use Rattle.upd_sql.specs.Stands.{AnyTables}
+use Rattle.upd_sql.specs.LibraryTables.{AnyTables}
 use Rattle.upd_sql.proofs.Typed.{makes_from}
-use Rattle.upd_sql.proofs.Texts.{delete_mark}
+use Rattle.upd_sql.proofs.WriteTexts.{delete_mark}
 use Rattle.upd_sql.proofs.Effects.{mark_gone}
 use Rattle.upd_sql.proofs.writes.delete_mark.Goals as goal
 

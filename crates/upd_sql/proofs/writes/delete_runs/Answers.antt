@@ -3,9 +3,9 @@ use Rattle.sqlite_value.specs.declared.value.Value.TheVariants.{Text}
 use Rattle.sqlite.specs.Held.{state}
 use Rattle.upd_sql.specs.Encoded.{num}
 use Rattle.upd_sql.specs.RowEdits.{without_runs}
-use Rattle.upd_sql.specs.Stands.{AnyTables}
+use Rattle.upd_sql.specs.LibraryTables.{AnyTables}
 use Rattle.upd_sql.proofs.Typed.{makes_from, makes_nothing}
-use Rattle.upd_sql.proofs.Texts.{delete_runs}
+use Rattle.upd_sql.proofs.WriteTexts.{delete_runs}
 use Rattle.upd_sql.proofs.Effects.{runs_gone}
 use Rattle.upd_sql.proofs.writes.delete_runs.Goals as goal
 

@@ -1,9 +1,9 @@
 use Rattle.sqlite.specs.Held.{state}
 use Rattle.upd_sql.specs.RowEdits.{without_state}
-use Rattle.upd_sql.specs.Stands.{AnyTables}
+use Rattle.upd_sql.specs.LibraryTables.{AnyTables}
 use Rattle.upd_sql.proofs.Conditions.{card_params}
 use Rattle.upd_sql.proofs.Typed.{makes_from}
-use Rattle.upd_sql.proofs.Texts.{delete_state}
+use Rattle.upd_sql.proofs.WriteTexts.{delete_state}
 use Rattle.upd_sql.proofs.Effects.{state_gone}
 use Rattle.upd_sql.proofs.SizeLemmas.{state_gone_sizes}
 use Rattle.upd_sql.proofs.writes.delete_state.Goals as goal

@@ -1,10 +1,10 @@
 use Rattle.std.proofs.Common.{[]}
 use Rattle.sqlite.specs.Held.{state}
 use Rattle.upd_records.specs.Changes.{done, TargetsGone}
-use Rattle.upd_sql.specs.Stands.{AnyTables}
+use Rattle.upd_sql.specs.LibraryTables.{AnyTables}
 use Rattle.upd_sql.proofs.Conditions.{card_params}
 use Rattle.upd_sql.proofs.Typed.{makes_from}
-use Rattle.upd_sql.proofs.Texts.{delete_targets}
+use Rattle.upd_sql.proofs.WriteTexts.{delete_targets}
 use Rattle.upd_sql.proofs.Effects.{targets_gone}
 use Rattle.upd_sql.proofs.SizeLemmas.{targets_gone_sizes}
 use Rattle.upd_sql.proofs.writes.delete_targets.Goals as goal

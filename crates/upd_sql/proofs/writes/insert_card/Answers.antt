@@ -2,9 +2,9 @@ use Rattle.sqlite.specs.Held.{state}
 use Rattle.upd_records.specs.Changes.{done, CardNew}
 use Rattle.upd_records.specs.Rows.{CardRow}
 use Rattle.upd_sql.specs.Encoded.{card_row}
-use Rattle.upd_sql.specs.Stands.{AnyTables}
+use Rattle.upd_sql.specs.LibraryTables.{AnyTables}
 use Rattle.upd_sql.proofs.Typed.{makes_from}
-use Rattle.upd_sql.proofs.Texts.{insert_card}
+use Rattle.upd_sql.proofs.WriteTexts.{insert_card}
 use Rattle.upd_sql.proofs.Effects.{card_added}
 use Rattle.upd_sql.proofs.SizeLemmas.{card_new_sizes}
 use Rattle.upd_sql.proofs.writes.insert_card.Goals as goal

@@ -5,9 +5,9 @@ use Rattle.upd_sqlite.specs.Steps.{Ran}
 use Rattle.upd_records.specs.Rows.{CountRow}
 use Rattle.upd_sql.specs.Encoded.{num, count_row}
 use Rattle.upd_sql.specs.RowEdits.{with_count}
-use Rattle.upd_sql.specs.Stands.{AnyTables}
+use Rattle.upd_sql.specs.LibraryTables.{AnyTables}
 use Rattle.upd_sql.proofs.Typed.{makes_from}
-use Rattle.upd_sql.proofs.Texts.{insert_count}
+use Rattle.upd_sql.proofs.WriteTexts.{insert_count}
 use Rattle.upd_sql.proofs.Effects.{count_added}
 use Rattle.upd_sql.proofs.SizeLemmas.{count_new_sizes}
 use Rattle.upd_sql.proofs.writes.insert_count.Goals as goal

@@ -2,9 +2,9 @@ use Rattle.sqlite.specs.Held.{state}
 use Rattle.upd_records.specs.Changes.{done, EntryNew}
 use Rattle.upd_records.specs.Rows.{EntryRow}
 use Rattle.upd_sql.specs.Encoded.{entry_row}
-use Rattle.upd_sql.specs.Stands.{AnyTables}
+use Rattle.upd_sql.specs.LibraryTables.{AnyTables}
 use Rattle.upd_sql.proofs.Typed.{makes_from}
-use Rattle.upd_sql.proofs.Texts.{insert_entry}
+use Rattle.upd_sql.proofs.WriteTexts.{insert_entry}
 use Rattle.upd_sql.proofs.Effects.{entry_added}
 use Rattle.upd_sql.proofs.SizeLemmas.{entry_new_sizes}
 use Rattle.upd_sql.proofs.writes.insert_entry.Goals as goal

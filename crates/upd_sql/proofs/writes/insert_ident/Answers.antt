@@ -1,9 +1,9 @@
 use Rattle.sqlite.specs.Held.{state}
 use Rattle.upd_records.specs.Changes.{done, IdentNew}
 use Rattle.upd_sql.specs.Encoded.{ident_row}
-use Rattle.upd_sql.specs.Stands.{AnyTables}
+use Rattle.upd_sql.specs.LibraryTables.{AnyTables}
 use Rattle.upd_sql.proofs.Typed.{makes_from}
-use Rattle.upd_sql.proofs.Texts.{insert_ident}
+use Rattle.upd_sql.proofs.WriteTexts.{insert_ident}
 use Rattle.upd_sql.proofs.Effects.{ident_added}
 use Rattle.upd_sql.proofs.SizeLemmas.{ident_new_sizes}
 use Rattle.upd_sql.proofs.writes.insert_ident.Goals as goal

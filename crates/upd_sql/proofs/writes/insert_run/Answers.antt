@@ -4,9 +4,9 @@ use Rattle.upd_sqlite.specs.Steps.{Ran}
 use Rattle.upd_records.specs.Rows.{RunView}
 use Rattle.upd_row_store.specs.Tables.{with_run}
 use Rattle.upd_sql.specs.Encoded.{run_row}
-use Rattle.upd_sql.specs.Stands.{AnyTables}
+use Rattle.upd_sql.specs.LibraryTables.{AnyTables}
 use Rattle.upd_sql.proofs.Typed.{makes_from, makes_nothing}
-use Rattle.upd_sql.proofs.Texts.{insert_run}
+use Rattle.upd_sql.proofs.WriteTexts.{insert_run}
 use Rattle.upd_sql.proofs.Effects.{run_added}
 use Rattle.upd_sql.proofs.SizeLemmas.{run_new_sizes, sizes_not}
 use Rattle.upd_sql.proofs.writes.insert_run.Goals as goal

@@ -2,9 +2,9 @@ use Rattle.sqlite.specs.Held.{state}
 use Rattle.upd_records.specs.Rows.{StateRow}
 use Rattle.upd_sql.specs.Encoded.{state_row}
 use Rattle.upd_sql.specs.RowEdits.{with_state}
-use Rattle.upd_sql.specs.Stands.{AnyTables}
+use Rattle.upd_sql.specs.LibraryTables.{AnyTables}
 use Rattle.upd_sql.proofs.Typed.{makes_from}
-use Rattle.upd_sql.proofs.Texts.{insert_state}
+use Rattle.upd_sql.proofs.WriteTexts.{insert_state}
 use Rattle.upd_sql.proofs.Effects.{state_added}
 use Rattle.upd_sql.proofs.SizeLemmas.{state_new_sizes}
 use Rattle.upd_sql.proofs.writes.insert_state.Goals as goal

@@ -6,9 +6,9 @@ use Rattle.upd_sqlite.specs.Steps.{Ran}
 use Rattle.upd_records.specs.Changes.{done, TargetNew}
 use Rattle.upd_records.specs.Rows.{TargetRow}
 use Rattle.upd_sql.specs.Encoded.{num, target_row}
-use Rattle.upd_sql.specs.Stands.{AnyTables}
+use Rattle.upd_sql.specs.LibraryTables.{AnyTables}
 use Rattle.upd_sql.proofs.Typed.{makes_from}
-use Rattle.upd_sql.proofs.Texts.{insert_target}
+use Rattle.upd_sql.proofs.WriteTexts.{insert_target}
 use Rattle.upd_sql.proofs.Effects.{target_added}
 use Rattle.upd_sql.proofs.SizeLemmas.{target_new_sizes}
 use Rattle.upd_sql.proofs.writes.insert_target.Goals as goal

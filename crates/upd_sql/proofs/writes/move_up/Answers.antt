@@ -5,7 +5,7 @@ use Rattle.upd_records.specs.Fits.{Fits}
 use Rattle.upd_sqlite.specs.Steps.{Ran}
 use Rattle.upd_sql.specs.Encoded.{num}
 use Rattle.upd_sql.proofs.Typed.{makes_from, makes_nothing}
-use Rattle.upd_sql.proofs.Texts as text
+use Rattle.upd_sql.proofs.WriteTexts as text
 use Rattle.upd_sql.proofs.Effects.{cards_moved_up}
 use Rattle.upd_sql.proofs.SizeLemmas.{moved_up_sizes, sizes_not}
 use Rattle.upd_sql.proofs.writes.move_up.Goals as goal

@@ -2,9 +2,9 @@ use Rattle.std.proofs.Common.{[], ◌∷◌}
 use Rattle.sqlite.specs.Held.{state}
 use Rattle.upd_records.specs.Changes.{done, IdentPurged}
 use Rattle.upd_sql.specs.Encoded.{num}
-use Rattle.upd_sql.specs.Stands.{AnyTables}
+use Rattle.upd_sql.specs.LibraryTables.{AnyTables}
 use Rattle.upd_sql.proofs.Typed.{makes_from}
-use Rattle.upd_sql.proofs.Texts.{purge_ident}
+use Rattle.upd_sql.proofs.WriteTexts.{purge_ident}
 use Rattle.upd_sql.proofs.Effects.{ident_purged}
 use Rattle.upd_sql.proofs.SizeLemmas.{ident_purged_sizes}
 use Rattle.upd_sql.proofs.writes.purge_ident.Goals as goal

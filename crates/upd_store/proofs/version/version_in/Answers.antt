@@ -5,19 +5,19 @@ use Rattle.sqlite.specs.Held.{state}
 use Rattle.sqlite.specs.State.{State, Shown}
 use Rattle.upd_sqlite.proofs.Answers.{shown_was_open}
 use Rattle.upd_sql.specs.Encoded.{num}
-use Rattle.upd_store.specs.Version.{TellsVersion}
+use Rattle.upd_store.specs.Version.{HasVersion}
 use Rattle.upd_store.proofs.VersionLemmas.{version_shown, version_text}
 use Rattle.upd_store.proofs.version.version_in.Goals as goal
 
-row_changes : (old new : State) (rows : List Row) (r : Result ℕ Error) → IfOk r (λ n. (v : ℕ) → rows ≡ (num v ∷ []) ∷ [] → n ≡ v)
+value : (old new : State) (rows : List Row) (r : Result ℕ Error) → IfOk r (λ n. (v : ℕ) → rows ≡ (num v ∷ []) ∷ [] → n ≡ v)
     → IfOk r (λ n. rows ≡ [] → n ≡ 0)
     → Shown version_text [] old new rows
-    → IfOk r (λ n. (v : ℕ) → TellsVersion v old.now → n ≡ v)
-row_changes old new rows (Ok n) first none shown = λ v h. elim (version_shown v old new rows h shown) [
+    → IfOk r (λ n. (v : ℕ) → HasVersion v old.now → n ≡ v)
+value old new rows (Ok n) first none shown = λ v h. elim (version_shown v old new rows h shown) [
   | inl row ↦ first v row
   | inr empty ↦ none empty.1 ∙ sym empty.0
 ]
-row_changes old new rows (Err e) first none shown = tt
+value old new rows (Err e) first none shown = tt
 
 was_open : (old new : State) (rows : List Row) (r : Result ℕ Error) → Shown version_text [] old new rows
     → OnOk r (IsTrue old.in_transaction → IsTrue old.is_open)
@@ -29,7 +29,7 @@ returns-clause-was_open g c clean =
     was_open (state g.S.Store c.args.tx.now.conn.now) (state g.S.Store c.ask.new.tx.conn.now) c.in_ok-rows.rows.items c.first_number.result
     (c.in_ok-rows.ensures.shown clean)
 
-pub returns-clause-row_changes : goal.returns-clause-row_changes
-returns-clause-row_changes g c clean =
-    row_changes (state g.S.Store c.args.tx.now.conn.now) (state g.S.Store c.ask.new.tx.conn.now) c.in_ok-rows.rows.items c.first_number.result
+pub returns-clause-value : goal.returns-clause-value
+returns-clause-value g c clean =
+    value (state g.S.Store c.args.tx.now.conn.now) (state g.S.Store c.ask.new.tx.conn.now) c.in_ok-rows.rows.items c.first_number.result
     (rw c.deref.ensures.value at c.first_number.ensures.first) (rw c.deref.ensures.value at c.first_number.ensures.none) (c.in_ok-rows.ensures.shown clean)

@@ -1,4 +1,4 @@
--- What is owed of the library that was loaded is owed of the library after each journal that the store holds.
+-- What is expected of the library that was loaded is expected of the library after each journal that the store holds.
 use Rattle.std.proofs.Common.{Ok, Err, inl}
 use Rattle.upd_compile.specs.Listings.{card_listing}
 use Rattle.upd_desk.proofs.MadeLemmas.{library_made}

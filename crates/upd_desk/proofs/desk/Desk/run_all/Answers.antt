@@ -1,4 +1,4 @@
--- After each arrival the answers so far are what the arrivals so far are owed, and there is room for the rest.
+-- After each arrival the answers so far are those that are expected for the arrivals so far, and there is room for the rest.
 use Rattle.std.proofs.Common.{◌≡◌, ◌+◌, [], ◌∷◌, ◌++◌, take, length, refl, sym, ap, ◌∙◌, rules, arith}
 use Rattle.std.proofs.lemmas.List.{length-take-le, length_push, take_more}
 use Rattle.std.proofs.lemmas.List.Elements.{All-nil}

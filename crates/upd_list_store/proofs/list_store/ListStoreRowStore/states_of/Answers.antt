@@ -1,5 +1,6 @@
-use Rattle.upd_row_store.proofs.KeepingLemmas.{lost_for_memory}
+use Rattle.std.proofs.Common.{refl}
+use Rattle.upd_row_store.proofs.StoreLemmas.{keeps_still, read_lost}
 use Rattle.upd_list_store.proofs.list_store.ListStoreRowStore.states_of.Goals as goal
 
-pub returns-in_err-states-clause-lost : goal.returns-in_err-states-clause-lost
-returns-in_err-states-clause-lost c = lost_for_memory c.from_residual.result c.from_residual.ensures.1
+pub returns-in_err-states-clause-leaves : goal.returns-in_err-states-clause-leaves
+returns-in_err-states-clause-leaves c = read_lost c.from_residual.result _ _ c.from_residual.ensures.1 (keeps_still _) refl

@@ -2,16 +2,17 @@ use Rattle.std.proofs.Common.{◌≡◌, ◌⊎◌, inl, inr, ◌∙◌, ℕ, Re
 use Rattle.std.specs.Prelude.{MatchResult}
 use Rattle.sqlite.specs.declared.error.Error.{Error}
 use Rattle.sqlite.specs.Held.{state}
-use Rattle.upd_store.specs.Version.{TellsVersion}
+use Rattle.upd_store.specs.Version.{HasVersion}
 use Rattle.upd_store.proofs.sql_store.SqlStore.init.Goals as goal
 
-named : (Tells : ℕ → Type 0) (found : Result ℕ Error) (at : ℕ) → IfOk found (λ n. (v : ℕ) → Tells v → n ≡ v)
+named : (Has : ℕ → Type 0) (found : Result ℕ Error) (at : ℕ) → IfOk found (λ n. (v : ℕ) → Has v → n ≡ v)
     → MatchResult found (λ n. at ≡ n) (λ _. at ≡ 0)
-    → (v : ℕ) → Tells v → (at ≡ v) ⊎ (at ≡ 0)
-named Tells (Ok n) at row_changes is v h = inl (is ∙ row_changes v h)
-named Tells (Err e) at row_changes is v h = inr is
+    → (v : ℕ) → Has v → (at ≡ v) ⊎ (at ≡ 0)
+named Has (Ok n) at value is v h = inl (is ∙ value v h)
+named Has (Err e) at value is v h = inr is
 
 pub returns-then-not-is_no_schema-clause-version : goal.returns-then-not-is_no_schema-clause-version
 returns-then-not-is_no_schema-clause-version g c clean =
-    named (λ v. TellsVersion v (state g.S.Store c.args.conn).committed) c.version_of-found.result c.version_fault.result.at (c.version_of-found.ensures.row_changes clean)
+    named (λ v. HasVersion v (state g.S.Store c.args.conn).committed) c.version_of-found.result c.version_fault.result.at
+    (c.version_of-found.ensures.value clean)
     c.version_fault.ensures.at

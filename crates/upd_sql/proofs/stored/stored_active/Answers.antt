@@ -1,0 +1,19 @@
+use Rattle.std.proofs.Common.{◌≡◌, IsTrue, not, ap, subst, ◌∙◌, rules}
+use Rattle.sqlite.specs.Held.{state}
+use Rattle.sqlite.specs.State.{Survives}
+use Rattle.sqlite.proofs.Callers.{survives_begin}
+use Rattle.upd_sql.specs.Commits.{MayKeep}
+use Rattle.upd_sql.proofs.CommitLemmas.{read_leaves}
+use Rattle.upd_sql.proofs.stored.stored_active.Goals as goal
+
+pub returns-in_err-commit-clause-crash : goal.returns-in_err-commit-clause-crash
+returns-in_err-commit-clause-crash g c =
+    let old = state g.S.Store c.args.conn.now in
+    let last = state g.S.Store c.active_in.new.tx.conn.now in
+    let end = state g.S.Store c.commit.new.self.0 in
+    let begun = c.begin-tx.ensures.begun in
+    let left = read_leaves old last end c.in_ok-found.found c.begin-tx.ensures.settled (rw begun at c.in_ok-found.ensures.looks.steps)
+    (rw begun at c.in_ok-found.ensures.looks.was_open) (rw begun at c.in_ok-found.ensures.looks.same)
+    c.commit.ensures.survives in
+    let same : c.commit.new.self.0 ≡ c.conn-2-1.given.0 = search rules in
+    subst (λ h. Survives old (state g.S.Store h) (MayKeep old)) same (survives_begin g.S.Store c.args.conn.now end (MayKeep old) left)

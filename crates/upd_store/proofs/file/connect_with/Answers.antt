@@ -1,0 +1,5 @@
+use Rattle.upd_row_store.specs.Keeping.{OfStore}
+use Rattle.upd_store.proofs.file.connect_with.Goals as goal
+
+pub returns-else-unwrap_or-clause-lost : goal.returns-else-unwrap_or-clause-lost
+returns-else-unwrap_or-clause-lost g c = OfStore _ c.store_at.ensures.kind c.store_at.ensures.at

@@ -1,0 +1,149 @@
+//! The tables as text, as the reference desk would store them.
+use crate::reference_desk::{ReferenceDesk, StoredRun};
+use std::alloc::Global;
+use std::test::Fail;
+use upd_core::ident::name_at;
+use upd_core::{Card, CardRef, Ident, Kind, Library, Name, Target};
+
+/// Sorted lines.
+pub fn joined(alloc: Global, mut lines: Vec<String>) -> Result<String, Fail> {
+    lines.sort()?;
+    let mut text = String::new(alloc);
+    for line in &lines {
+        write!(text, "{line}\n")?;
+    }
+    Ok(text)
+}
+
+/// The sorted lines of the tables that the reference desk would store, with the marks of these sites.
+pub fn reference_tables(
+    alloc: Global,
+    reference: &ReferenceDesk,
+    sites: &[&str],
+) -> Result<String, Fail> {
+    let mut lines = Vec::new(alloc);
+    lines.push(String::from_str(alloc, "meta|'version'|3")?)?;
+    add_library(&mut lines, &reference.library)?;
+    for run in &reference.stored {
+        if run.number > reference.mark(run.site.as_str()) {
+            lines.push(run_line(alloc, run)?)?;
+        }
+    }
+    for site in sites {
+        let mark = reference.mark(site);
+        if mark > 0 {
+            lines.push(format!(in alloc; "settled|'{site}'|{mark}")?)?;
+        }
+    }
+    joined(alloc, lines)
+}
+
+fn run_line(alloc: Global, run: &StoredRun) -> Result<String, Fail> {
+    let mode = match run.mode.as_str() {
+        "full" => 0,
+        "quick" => 1,
+        _ => 2,
+    };
+    let accepted = u8::from(run.answer.ends_with("\"state\":\"accepted\"}"));
+    Ok(format!(in alloc;
+        "runs|'{}'|{}|{mode}|x'{}'|{accepted}|x'{}'",
+        run.site, run.number, run.text, run.answer
+    )?)
+}
+
+/// Adds the lines of a library, with the statuses and counts of its histories.
+pub fn add_library(lines: &mut Vec<String>, library: &Library) -> Result<(), Fail> {
+    for ident in library.idents() {
+        lines.push(ident_line(*lines.allocator(), ident)?)?;
+    }
+    add_cards(lines, library, 0, library.yanks())?;
+    for deck in library.decks() {
+        add_cards(lines, library, deck.ident, &deck.cards)?;
+    }
+    add_counts(lines, library)
+}
+
+fn ident_line(alloc: Global, ident: &Ident) -> Result<String, Fail> {
+    let kind = match ident.kind {
+        Kind::Set => 0,
+        Kind::Deck => 1,
+        Kind::Common => 2,
+    };
+    let (noprop, held) = (u8::from(ident.noprop), u8::from(ident.held));
+    Ok(format!(in alloc;
+        "idents|{}|'{}'|{kind}|{noprop}|{held}",
+        ident.age, ident.name
+    )?)
+}
+
+fn add_cards(
+    lines: &mut Vec<String>,
+    library: &Library,
+    deck: u32,
+    cards: &[Card],
+) -> Result<(), Fail> {
+    let live = library.live_yanks()?;
+    for (pos, card) in cards.iter().enumerate() {
+        let name = name_at(library.idents(), card.ident).ok_or("no name")?;
+        let reference = CardRef {
+            name,
+            number: card.number,
+        };
+        let active = library.status(&live, reference).ok_or("no status")?;
+        let text = std::str::from_utf8(&card.text)?;
+        let alloc = *lines.allocator();
+        let number = card.number;
+        lines.push(format!(in alloc; "cards|'{name}'|{number}|{deck}|{pos}|'{text}'")?)?;
+        lines.push(format!(in alloc; "states|'{name}'|{number}|{}", u8::from(active))?)?;
+        add_history(lines, name, card)?;
+    }
+    Ok(())
+}
+
+/// Adds the entries and targets of a card.
+fn add_history(lines: &mut Vec<String>, name: Name, card: &Card) -> Result<(), Fail> {
+    let alloc = *lines.allocator();
+    let number = card.number;
+    for (ord, entry) in card.history.iter().enumerate() {
+        let active = u8::from(entry.active);
+        lines.push(format!(in alloc; "entries|'{name}'|{number}|{ord}|{}|{active}", entry.ident)?)?;
+    }
+    for (ord, target) in card.targets.iter().enumerate() {
+        let key = key_of(alloc, *target)?;
+        lines.push(format!(in alloc; "targets|'{name}'|{number}|{ord}|{key}")?)?;
+    }
+    Ok(())
+}
+
+fn key_of(alloc: Global, target: Target) -> Result<String, Fail> {
+    Ok(match target {
+        Target::Set(set) => format!(in alloc; "0|{set}|0")?,
+        Target::SetIn(set, deck) => format!(in alloc; "1|{set}|{deck}")?,
+        Target::Deck(deck) => format!(in alloc; "2|{deck}|0")?,
+    })
+}
+
+/// Adds the number of live yank cards of each target.
+fn add_counts(lines: &mut Vec<String>, library: &Library) -> Result<(), Fail> {
+    let alloc = *lines.allocator();
+    let mut targets = Vec::new(alloc);
+    let live = library.live_yanks()?;
+    for card in library.yanks() {
+        let name = name_at(library.idents(), card.ident).ok_or("no name")?;
+        if live.live_yank(CardRef {
+            name,
+            number: card.number,
+        }) == Some(true)
+        {
+            targets.extend_from_slice(&card.targets)?;
+        }
+    }
+    targets.sort()?;
+    for same in targets.chunk_by(|a, b| a == b) {
+        if let Some(target) = same.first() {
+            let key = key_of(alloc, *target)?;
+            lines.push(format!(in alloc; "counts|{key}|{}", same.len())?)?;
+        }
+    }
+    Ok(())
+}
