@@ -98,10 +98,10 @@ module _ {S : Type 0} (meaning : Ghosts S) where
   bad_stops s input input' output taken consumed bad = stopped BadFrame s input input' output taken consumed bad
 
   -- the frame arrived, and its line isn't out whole
-  pub line_missing : (kind : FaultKind) (a : ArrivalView) (old new : S) {input input' : Option (List ℕ)} (output output' : Option (List ℕ))
-      → LeavesNoLine meaning kind a old new output output' → IsFrame a → Consumes input input' (frame_text a)
+  pub line_missing : (kind : FaultKind) (a : ArrivalView) (old new : S) (output output' : Option (List ℕ))
+      → LeavesNoLine meaning kind a old new output output' → IsFrame a → (input input' : Option (List ℕ)) → Consumes input input' (frame_text a)
       → EndsBy meaning old new input input' output output' kind [] []
-  line_missing Write a old new {input} {input'} output output' missing is consumed =
+  line_missing Write a old new output output' missing is input input' consumed =
       let result = missing.0 in
       let begun = missing.3 in (
         a,
@@ -114,7 +114,7 @@ module _ {S : Type 0} (meaning : Ghosts S) where
           line = begun.2;
         },
       )
-  line_missing Store a old new {input} {input'} output output' missing is consumed = (
+  line_missing Store a old new output output' missing is input input' consumed = (
     a,
     missing.0,
     record {
@@ -124,7 +124,7 @@ module _ {S : Type 0} (meaning : Ghosts S) where
     },
     missing.3 refl,
   )
-  line_missing NoMemory a old new {input} {input'} output output' missing is consumed =
+  line_missing NoMemory a old new output output' missing is input input' consumed =
       inr (
         a,
         missing.0,
@@ -134,7 +134,7 @@ module _ {S : Type 0} (meaning : Ghosts S) where
           lost = missing.2;
         },
       )
-  line_missing _ a old new {input} {input'} output output' missing is consumed = absurd (false≢true (lost_kind _ missing.0 missing.2))
+  line_missing _ a old new output output' missing is input input' consumed = absurd (false≢true (lost_kind _ missing.0 missing.2))
 
 module _ {S : Type 0} {meaning : Ghosts S} where
   -- the frame has its line

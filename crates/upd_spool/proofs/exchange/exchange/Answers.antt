@@ -47,4 +47,4 @@ returns g c =
     let found = header_found c.read_line.new.line.items _ h c.in-Some.ensures c.deref.ensures.value in
     let size = c.in-Ok.ensures.size ∙ ap (λ (k : HeaderView). k.size) c.header.view_is in
     let taken = frame_taken _ _ _ _ _ c.deref-2.result.now h found read.0 c.in-Ok.ensures.ok size c.deref-2.ensures.value in
-    line_missing g.S.Meaning c.in-Err-answer.kind (arrival_of h c.deref-2.result.now) _ _ _ _ c.in-Err-answer.ensures.err taken.0 taken.1
+    line_missing g.S.Meaning c.in-Err-answer.kind (arrival_of h c.deref-2.result.now) _ _ _ _ c.in-Err-answer.ensures.err taken.0 _ _ taken.1
