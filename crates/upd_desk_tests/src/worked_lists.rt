@@ -1,8 +1,7 @@
 //! Worked lists of runs, over both stores. A run in full mode shows all active cards in its reply.
 use crate::empty_stores::Fresh;
-use crate::steps::Step::{self, Accepts, Compiles, Fails, Paris, Refuses, Says};
-use crate::steps::{take, take_all, take_list};
-use Step::{Accepts, Compiles, Fails, Paris, Refuses, Says};
+use crate::steps::Step::{Accepts, Compiles, Fails, Paris, Refuses, Says};
+use crate::steps::{Step, take, take_all, take_list};
 use sqlite::MemStore;
 use std::alloc::Global;
 use std::test::Fail;
