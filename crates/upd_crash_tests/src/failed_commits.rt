@@ -1,0 +1,274 @@
+//! A store over lists of which one commit fails: what was in hand is lost, and may arrive again.
+ghost use Rattle.std.specs.Prelude.{◌≡◌, refl};
+ghost use Rattle.std.proofs.Common.{sym, ◌∙◌};
+ghost use Rattle.upd_records.specs.Rows.{Rows};
+ghost use Rattle.upd_row_store.specs.Keeping.{IsLost};
+
+use std::alloc::Global;
+use std::test::Fail;
+use upd_core::{Actives, CardRef, Change, Library, Serial, States};
+use upd_desk::{Arrival, Desk};
+use upd_list_store::ListStore;
+use upd_records::RunRow;
+use upd_row_store::{Meaning, RowStore};
+use upd_testkit::asks::{Ask, Sent, lyon, shown};
+use upd_testkit::check::{holds, same, same_text};
+use upd_testkit::replies::{accepted, refused};
+use upd_testkit::session::Session;
+use upd_text::{Fault, FaultKind};
+
+/// Lists of which one commit fails.
+#[derive(Drop)]
+struct Failing {
+    lists: ListStore,
+    /// The number of commits before the one that fails.
+    passing: u64,
+    failures: u64,
+}
+
+impl Failing {
+    fn new(alloc: Global, passing: u64) -> Failing {
+        Failing {
+            lists: ListStore::new(alloc),
+            passing,
+            failures: 0,
+        }
+    }
+}
+
+fn store_failed() -> Fault
+    ensures { IsLost result }
+{
+    FaultKind::Store.without_line()
+}
+
+impl Meaning for Failing {
+    ghost Image = { Rows };
+
+    ghost shows = { λ image rows. image ≡ rows };
+
+    ghost image = { λ s. s.lists.tables };
+
+    ghost is_open = { λ _. Unit {0} };
+
+    ghost is_honest = { λ _. Unit {0} };
+
+    ghost may_leave = { λ s image. image ≡ s.lists.tables };
+
+    ghost failures_of = { λ s. s.failures };
+
+    ghost decks_read_of = { λ s. s.lists.decks_read };
+}
+
+impl RowStore for Failing {
+    fn load(&mut self, alloc: Global) -> Result<Library, Fault> {
+        self.lists.load(alloc)
+    }
+
+    fn load_decks(&mut self, alloc: Global, decks: &[Serial]) -> Result<Library, Fault> {
+        self.lists.load_decks(alloc, decks)
+    }
+
+    fn decks_of(&mut self, alloc: Global, cards: &[CardRef]) -> Result<Vec<Serial>, Fault> {
+        self.lists.decks_of(alloc, cards)
+    }
+
+    fn load_states(&mut self, alloc: Global) -> Result<States, Fault> {
+        self.lists.load_states(alloc)
+    }
+
+    fn load_active(&mut self, alloc: Global) -> Result<Actives, Fault> {
+        self.lists.load_active(alloc)
+    }
+
+    fn kept_run(
+        &mut self,
+        alloc: Global,
+        site: &str,
+        number: u64,
+    ) -> Result<Option<RunRow>, Fault> {
+        self.lists.kept_run(alloc, site, number)
+    }
+
+    fn mark(&mut self, alloc: Global, site: &str) -> Result<u64, Fault> {
+        self.lists.mark(alloc, site)
+    }
+
+    fn commit(&mut self, alloc: Global, changes: &[Change], run: RunRow) -> Result<(), Fault> {
+        if self.passing == 0 && self.failures == 0 {
+            self.failures = 1;
+            return Err(store_failed());
+        }
+        self.passing = self.passing.saturating_sub(1);
+        self.lists.commit(alloc, changes, run)
+    }
+
+    fn settle_to(&mut self, alloc: Global, site: &str, number: u64) -> Result<u64, Fault> {
+        self.lists.settle_to(alloc, site, number)
+    }
+
+    fn failures(&self) -> u64 {
+        self.failures
+    }
+
+    fn decks_read(&self) -> u64 {
+        self.lists.decks_read()
+    }
+
+    ghost shows_one = { λ i a b shown other. sym shown ∙ other };
+
+    ghost leaves_image = { λ s i _ _ left. left };
+
+    ghost stays = { λ s _ _. refl };
+
+    ghost survives = { λ s _. ∣ (_, refl) ∣₁ };
+}
+
+const DECK_A: &str = "*DECK A\nONE\nTWO\nTHREE\n";
+
+/// The run that fails is lost: its key isn't known, and it acts when it arrives again.
+fn loses_one(alloc: Global, list: &[Sent<'_>], passing: usize) -> Result<(), Fail> {
+    let mut session = Session::new(alloc, Failing::new(alloc, passing as u64));
+    for (commits, sent) in list.iter().enumerate() {
+        if commits == passing {
+            session = after_loss(session, *sent)?;
+        }
+        session.ask(Ask::Run(*sent))?;
+    }
+    Ok(())
+}
+
+/// A run is lost: its key isn't known.
+fn after_loss(mut session: Session<Failing>, sent: Sent<'_>) -> Result<Session<Failing>, Fail> {
+    let ask = Ask::Run(sent);
+    let answer = session.ask_desk(ask)?;
+    same_text(ask, answer.as_str(), "Store (29) at 0")?;
+    let Session {
+        desk,
+        reference,
+        alloc,
+    } = session;
+    let mut store = desk.close();
+    is_not_stored(alloc, &mut store, sent)?;
+    Ok(Session::over(store, reference))
+}
+
+/// The run isn't stored, and one commit has failed.
+fn is_not_stored(alloc: Global, store: &mut Failing, sent: Sent<'_>) -> Result<(), Fail> {
+    let is_stored = store.kept_run(alloc, sent.site, sent.number)?.is_some();
+    holds(sent, !is_stored)?;
+    same("the failures", store.failures(), 1)
+}
+
+#[test]
+fn a_failed_commit_stores_no_run(rt: HostRuntime) -> Result<(), Fail> {
+    let list = [
+        lyon(1, "full", DECK_A),
+        lyon(2, "full", "*IDENT X\n*DELETE A.2\nNEW\n"),
+        lyon(3, "full", "*IDENT Y\n*YANK X\n"),
+        lyon(4, "full", "*IDENT Z\n*YANK Y\n"),
+        lyon(5, "full", "*IDENT W\n*DELETE Z.1\n"),
+    ];
+    for passing in 0..5 {
+        loses_one(rt.alloc(), &list, passing)?;
+    }
+    Ok(())
+}
+
+/// The answers of a desk whose store fails after `passing` commits, one a line.
+fn run_all(alloc: Global, list: &[Arrival<'_>], passing: u64) -> Result<String, Fail> {
+    let mut desk = Desk::open(Failing::new(alloc, passing));
+    let mut text = String::new(alloc);
+    for answer in desk.run_all(alloc, list)? {
+        let answer = shown(alloc, answer.map(|reply| reply.text))?;
+        write!(text, "{answer}\n")?;
+    }
+    Ok(text)
+}
+
+fn arrival(sent: Sent<'_>) -> Arrival<'_> {
+    Arrival {
+        site: sent.site,
+        number: sent.number,
+        mode: sent.mode,
+        bytes: sent.text.as_bytes(),
+    }
+}
+
+/// Run 7 introduces deck A.
+fn deck() -> Sent<'static> {
+    lyon(7, "full", DECK_A)
+}
+
+/// Run 6 deletes a card of deck A.
+fn deleted() -> Sent<'static> {
+    lyon(6, "full", "*IDENT X\n*DELETE A.3\n")
+}
+
+/// The replies to the two runs: the second is refused while there is no deck.
+#[derive(Drop)]
+struct Replies {
+    made: String,
+    corrected: String,
+    unknown: String,
+}
+
+fn wanted_replies(alloc: Global) -> Result<Replies, Fail> {
+    let lines = [("ONE", "A", 2), ("TWO", "A", 3), ("THREE", "A", 4)];
+    let made = accepted(alloc, deck(), &["A"], &lines)?;
+    let lines = [("ONE", "A", 2), ("THREE", "A", 4)];
+    let corrected = accepted(alloc, deleted(), &["X"], &lines)?;
+    let unknown = refused(alloc, deleted(), "CardUnknown 13 at 2")?;
+    Ok(Replies {
+        made,
+        corrected,
+        unknown,
+    })
+}
+
+/// The two runs and their repeats have these answers if the commit after `passing` others fails.
+fn answers_are(alloc: Global, passing: u64, wanted: &str) -> Result<(), Fail> {
+    let list = [
+        arrival(deck()),
+        arrival(deleted()),
+        arrival(deck()),
+        arrival(deleted()),
+    ];
+    let answers = run_all(alloc, &list, passing)?;
+    same_text("the answers", answers.as_str(), wanted)
+}
+
+fn first_is_lost(alloc: Global, replies: &Replies) -> Result<(), Fail> {
+    let Replies { made, unknown, .. } = replies;
+    let wanted = format!(in alloc; "Store (29) at 0\n{unknown}\n{made}\n{unknown}\n")?;
+    answers_are(alloc, 0, wanted.as_str())
+}
+
+fn second_is_lost(alloc: Global, replies: &Replies) -> Result<(), Fail> {
+    let Replies {
+        made,
+        corrected,
+        ..
+    } = replies;
+    let wanted = format!(in alloc; "{made}\nStore (29) at 0\n{made}\n{corrected}\n")?;
+    answers_are(alloc, 1, wanted.as_str())
+}
+
+fn none_is_lost(alloc: Global, replies: &Replies) -> Result<(), Fail> {
+    let Replies {
+        made,
+        corrected,
+        ..
+    } = replies;
+    let wanted = format!(in alloc; "{made}\n{corrected}\n{made}\n{corrected}\n")?;
+    answers_are(alloc, 2, wanted.as_str())
+}
+
+#[test]
+fn a_lost_run_is_passed_over(rt: HostRuntime) -> Result<(), Fail> {
+    let alloc = rt.alloc();
+    let replies = wanted_replies(alloc)?;
+    first_is_lost(alloc, &replies)?;
+    second_is_lost(alloc, &replies)?;
+    none_is_lost(alloc, &replies)
+}

@@ -1,0 +1,87 @@
+//! Files in memory that fail after a number of calls, and what a kill and a crash leave of them.
+use sqlite::{Connection, FileStore, Options};
+use sqlite_disk::{Crash, Disk, Files, Fuse, Memory};
+use std::alloc::Global;
+use std::test::Fail;
+
+/// A file in memory that fails after a number of calls.
+pub type Fused = Fuse<Memory>;
+
+/// The bytes of the database file and of its log.
+#[derive(Drop)]
+pub struct Bytes {
+    log: Vec<u8>,
+    db: Vec<u8>,
+}
+
+impl Bytes {
+    /// Empty files.
+    pub fn none(alloc: Global) -> Bytes {
+        Bytes {
+            log: Vec::new(alloc),
+            db: Vec::new(alloc),
+        }
+    }
+
+    /// What another process finds after a kill: all bytes that were written.
+    pub fn written(alloc: Global, files: &Files<Fused>) -> Result<Bytes, Fail> {
+        Ok(Bytes {
+            log: Vec::from_slice(alloc, files.log.inner().bytes())?,
+            db: Vec::from_slice(alloc, files.db.inner().bytes())?,
+        })
+    }
+
+    /// What is found after a crash of the machine: the bytes that were synced.
+    pub fn synced(alloc: Global, mut files: Files<Fused>) -> Result<Bytes, Fail> {
+        files.log.crash();
+        files.db.crash();
+        Bytes::written(alloc, &files)
+    }
+
+    /// Files of these bytes that fail after these calls.
+    pub fn files(&self, alloc: Global, calls: Calls) -> Result<Files<Fused>, Fail> {
+        Ok(Files {
+            log: file_of(alloc, &self.log, calls.log)?,
+            db: file_of(alloc, &self.db, calls.db)?,
+        })
+    }
+}
+
+fn file_of(alloc: Global, bytes: &[u8], calls: u64) -> Result<Fused, Fail> {
+    let mut file = Memory::new(alloc);
+    file.write_at(0, bytes)?;
+    file.sync()?;
+    Ok(Fuse::new(file, calls))
+}
+
+/// The number of calls of the log and of the database file that pass.
+#[derive(Clone, Copy, Debug)]
+pub struct Calls {
+    pub log: u64,
+    pub db: u64,
+}
+
+/// No call fails.
+pub const ALL: Calls = Calls {
+    log: u64::MAX,
+    db: u64::MAX,
+};
+
+/// The database in files, which come back if it can't be opened.
+pub fn opened(
+    alloc: Global,
+    files: Files<Fused>,
+) -> Result<Connection<FileStore<Fused>>, Files<Fused>> {
+    if !files.may_be_used() {
+        return Err(files);
+    }
+    match Connection::open_files(alloc, files, Options::new(1)) {
+        Ok(conn) => Ok(conn),
+        Err((_, left)) => Err(left.into_files()),
+    }
+}
+
+/// The files of a database.
+pub fn closed(conn: Connection<FileStore<Fused>>) -> Files<Fused> {
+    conn.into_store().close()
+}

@@ -1,0 +1,24 @@
+//! Tests of the desk over lists and over SQLite: worked lists of runs, random lists beside the reference desk, the
+//! decks that it reads, row changes, and status updates at the limits of a library.
+//!
+//! Expected values are worked by hand from `docs/rules.md` and `docs/protocol.md`, or come from the reference desk.
+#![tactic(auto)]
+
+#[cfg(test)]
+mod changes_of_runs;
+#[cfg(test)]
+mod decks_read;
+#[cfg(test)]
+mod desk_times;
+#[cfg(test)]
+mod empty_stores;
+#[cfg(test)]
+mod random_arrivals;
+#[cfg(test)]
+mod status_updates;
+#[cfg(test)]
+mod steps;
+#[cfg(test)]
+mod store_loads;
+#[cfg(test)]
+mod worked_lists;

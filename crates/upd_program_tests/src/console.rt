@@ -1,0 +1,96 @@
+//! A command line, what it reads, and what it answers.
+use std::io::Read;
+use std::test::Fail;
+use std::{env, fs, process};
+use upd_cli::run_command;
+use upd_testkit::check::{same, same_text};
+
+/// A path for a library of this test and process, where no file is.
+pub fn fresh(rt: &HostRuntime, name: &str) -> Result<String, Fail> {
+    let file = format!(in rt.alloc(); "upd-{}-{name}.db", process::id(rt.process()))?;
+    let path = env::temp_dir(rt)?.join(rt.alloc(), file.as_str())?;
+    let path = String::from_str(rt.alloc(), path.as_str())?;
+    remove(rt, path.as_str())?;
+    Ok(path)
+}
+
+/// Removes a library with its log.
+pub fn remove(rt: &HostRuntime, path: &str) -> Result<(), Fail> {
+    let _ = fs::remove_file(rt, path);
+    let _ = fs::remove_file(rt, format!(in rt.alloc(); "{path}-wal")?.as_str());
+    Ok(())
+}
+
+/// What a command line answered: its exit status, its output, and what it said on the fault stream.
+#[derive(Drop)]
+pub struct Answer {
+    pub status: u8,
+    pub output: Vec<u8>,
+    pub faults: Vec<u8>,
+}
+
+/// The answer to the words of a command line after the program's name, over this input.
+pub fn ask<R: Read>(rt: &HostRuntime, words: &[&str], input: &mut R) -> Result<Answer, Fail> {
+    let mut line = Vec::new(rt.alloc());
+    line.push("upd")?;
+    line.extend_from_slice(words)?;
+    let (mut output, mut faults) = (Vec::new(rt.alloc()), Vec::new(rt.alloc()));
+    let status = run_command(rt, &line, input, &mut output, &mut faults);
+    Ok(Answer {
+        status,
+        output,
+        faults,
+    })
+}
+
+/// An answer has this exit status, this output and this text on the fault stream.
+pub fn is_answer(found: &Answer, (status, output, faults): (u8, &str, &str)) -> Result<(), Fail> {
+    same("the status", found.status, status)?;
+    same_text("the output", std::str::from_utf8(&found.output)?, output)?;
+    same_text("the faults", std::str::from_utf8(&found.faults)?, faults)
+}
+
+/// A command line over this input has this answer.
+pub fn answers(
+    rt: &HostRuntime,
+    words: &[&str],
+    mut input: &[u8],
+    wanted: (u8, &str, &str),
+) -> Result<(), Fail> {
+    let found = ask(rt, words, &mut input)?;
+    is_answer(&found, wanted)
+}
+
+/// A command on the library in a file has this answer over no input: its name, and its words after the file.
+pub fn answers_of<'a>(
+    rt: &HostRuntime,
+    file: &'a str,
+    name: &'a str,
+    words: &[&'a str],
+    wanted: (u8, &str, &str),
+) -> Result<(), Fail> {
+    let mut line = Vec::new(rt.alloc());
+    line.push(name)?;
+    line.push(file)?;
+    line.extend_from_slice(words)?;
+    answers(rt, &line, b"", wanted)
+}
+
+/// A path of a new library without decks.
+pub fn library(rt: &HostRuntime, name: &str) -> Result<String, Fail> {
+    let file = fresh(rt, name)?;
+    answers(rt, &["init", &file], b"", (0, "", ""))?;
+    Ok(file)
+}
+
+/// A run of site LYON arrives and is accepted.
+pub fn accepts(
+    rt: &HostRuntime,
+    file: &str,
+    number: &str,
+    mode: &str,
+    mut run: &[u8],
+) -> Result<(), Fail> {
+    let found = ask(rt, &["run", file, "LYON", number, mode], &mut run)?;
+    same("the status of a run", found.status, 0)
+}

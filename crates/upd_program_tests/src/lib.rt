@@ -1,0 +1,13 @@
+//! Tests of whole command lines on a library in a file, which is made in the folder of temporary files.
+//!
+//! Expected values are worked by hand from `docs/protocol.md`.
+#![tactic(auto)]
+
+#[cfg(test)]
+mod console;
+#[cfg(test)]
+mod library_files;
+#[cfg(test)]
+mod refusals;
+#[cfg(test)]
+mod site_commands;

@@ -1,0 +1,206 @@
+//! What is refused, in which order, and on which stream.
+use crate::console::{Answer, answers, answers_of, ask, fresh, is_answer, library, remove};
+use sqlite_disk::Unknown;
+use std::fs;
+use std::io::ErrorKind;
+use std::test::Fail;
+use upd_store::file::connect;
+use upd_testkit::check::{holds, same};
+use upd_testkit::fake_streams::Pieces;
+
+/// The words of a command line after its name and file, and the line on the fault stream, with status 1.
+const OPERANDS: &[(&str, &[&str], &str)] = &[
+    ("run", &["LYON", "01", "full"], "upd: BadNumber (24) at 0\n"),
+    ("run", &["LYON", "+1", "full"], "upd: BadNumber (24) at 0\n"),
+    (
+        "run",
+        &["LYON", "1000000000", "full"],
+        "upd: BadNumber (24) at 0\n",
+    ),
+    ("settle", &["LYON", "x"], "upd: BadNumber (24) at 0\n"),
+    ("list", &["a"], "upd: BadName (5) at 0\n"),
+    ("history", &["A"], "upd: BadCard (6) at 0\n"),
+];
+
+/// No file is at this path.
+fn is_not_there(rt: &HostRuntime, path: &str) -> Result<(), Fail> {
+    holds(path, !fs::exists(rt, path)?)
+}
+
+#[test]
+fn operands_are_checked_before_the_file(rt: HostRuntime) -> Result<(), Fail> {
+    let file = fresh(&rt, "operands")?;
+    for (name, words, wanted) in OPERANDS {
+        answers_of(&rt, &file, name, words, (1, "", wanted))?;
+    }
+    is_not_there(&rt, file.as_str())
+}
+
+/// The commands that need a library, with the words after their file.
+pub const COMMANDS: &[(&str, &[&str])] = &[
+    ("run", &["LYON", "1", "full"]),
+    ("settle", &["LYON", "1"]),
+    ("spool", &[]),
+    ("serve", &["127.0.0.1:0", "1"]),
+    ("compile", &[]),
+    ("list", &["A"]),
+    ("history", &["A.2"]),
+    ("idents", &[]),
+    ("yanks", &[]),
+    ("migrate", &[]),
+];
+
+/// Each of these commands on a file has this answer.
+pub fn all_answer(rt: &HostRuntime, file: &str, wanted: (u8, &str, &str)) -> Result<(), Fail> {
+    for (name, words) in COMMANDS {
+        answers_of(rt, file, name, words, wanted)?;
+    }
+    Ok(())
+}
+
+#[test]
+fn a_missing_file_is_refused_and_not_made(rt: HostRuntime) -> Result<(), Fail> {
+    let file = fresh(&rt, "missing")?;
+    all_answer(&rt, &file, (3, "", "upd: Store (29) at 0\n"))?;
+    is_not_there(&rt, file.as_str())
+}
+
+/// The answer to a command line whose input can't be read.
+fn ask_unreadable(rt: &HostRuntime, words: &[&str]) -> Result<Answer, Fail> {
+    ask(rt, words, &mut Pieces::failing(b"", 1, 1, ErrorKind::Other))
+}
+
+#[test]
+fn a_missing_file_is_reported_before_the_run_is_read(rt: HostRuntime) -> Result<(), Fail> {
+    let file = fresh(&rt, "unheard")?;
+    let words = ["run", &file, "LYON", "1", "full"];
+    let found = ask_unreadable(&rt, &words)?;
+    is_answer(&found, (3, "", "upd: Store (29) at 0\n"))?;
+    answers(&rt, &["init", &file], b"", (0, "", ""))?;
+    let found = ask_unreadable(&rt, &words)?;
+    is_answer(&found, (3, "", "upd: Read (32) at 0\n"))?;
+    remove(&rt, &file)
+}
+
+#[test]
+fn another_file_is_refused_and_stays(rt: HostRuntime) -> Result<(), Fail> {
+    const TEXT: &[u8] = b"SQLite format 2\0 is how this text begins, which is not a library\n";
+    let file = fresh(&rt, "text")?;
+    fs::write(&rt, file.as_str(), TEXT)?;
+    all_answer(&rt, &file, (3, "", "upd: Store (29) at 0\n"))?;
+    let log = format!(in rt.alloc(); "{file}-wal")?;
+    is_not_there(&rt, log.as_str())?;
+    answers(
+        &rt,
+        &["init", &file],
+        b"",
+        (3, "", "upd: Store (29) at 0\n"),
+    )?;
+    same("the file", fs::read(&rt, file.as_str())?.as_slice(), TEXT)?;
+    remove(&rt, &file)
+}
+
+/// A file of another version is refused at that version, whatever is asked of it.
+#[test]
+fn a_file_of_another_schema_is_refused_at_its_version(rt: HostRuntime) -> Result<(), Fail> {
+    let file = library(&rt, "older")?;
+    let mut conn = connect(&rt, &file, Unknown)?;
+    conn.execute("UPDATE meta SET v = 2", &[])?;
+    conn.close()?;
+    all_answer(&rt, &file, (3, "", "upd: Store (29) at 2\n"))?;
+    answers(
+        &rt,
+        &["init", &file],
+        b"",
+        (3, "", "upd: Store (29) at 2\n"),
+    )?;
+    remove(&rt, &file)
+}
+
+/// Runs that admission checks refuse: their words after the file, and the text on the output.
+const ADMISSION: &[(&[&str], &str)] = &[
+    (
+        &["lyon", "1", "full"],
+        "{\"at\":0,\"fault\":23,\"name\":\"BadSite\"}\n",
+    ),
+    (
+        &["LYON", "0", "full"],
+        "{\"at\":0,\"fault\":24,\"name\":\"BadNumber\"}\n",
+    ),
+    (
+        &["LYON", "1", "slow"],
+        "{\"at\":0,\"fault\":25,\"name\":\"BadMode\"}\n",
+    ),
+];
+
+#[test]
+fn a_run_is_refused_on_admission_on_the_output(rt: HostRuntime) -> Result<(), Fail> {
+    let file = library(&rt, "admission")?;
+    for (words, wanted) in ADMISSION {
+        answers_of(&rt, &file, "run", words, (1, wanted, ""))?;
+    }
+    let long = vec![in rt.alloc(); b'T'; 65_537]?;
+    let wanted = "{\"at\":0,\"fault\":1,\"name\":\"RunLong\"}\n";
+    answers(
+        &rt,
+        &["run", &file, "LYON", "1", "full"],
+        &long,
+        (1, wanted, ""),
+    )?;
+    remove(&rt, &file)
+}
+
+#[test]
+fn a_query_of_an_unknown_name_is_refused(rt: HostRuntime) -> Result<(), Fail> {
+    let file = library(&rt, "nothing")?;
+    answers(
+        &rt,
+        &["list", &file, "NOPE"],
+        b"",
+        (1, "", "upd: DeckUnknown (12) at 0\n"),
+    )?;
+    answers(
+        &rt,
+        &["history", &file, "A.2"],
+        b"",
+        (1, "", "upd: CardUnknown (13) at 0\n"),
+    )?;
+    answers(
+        &rt,
+        &["settle", &file, "lyon", "1"],
+        b"",
+        (1, "", "upd: BadSite (23) at 0\n"),
+    )?;
+    remove(&rt, &file)
+}
+
+/// The words after `serve FILE`, and the text on the fault stream.
+const UNREAD: &[(&[&str], &str)] = &[
+    (
+        &["localhost", "1"],
+        "error: invalid value 'localhost' for '<ADDRESS>': no IP address and port\n\n\
+For more information, try '--help'.\n",
+    ),
+    (
+        &["localhost", "0"],
+        "error: invalid value 'localhost' for '<ADDRESS>': no IP address and port\n\n\
+For more information, try '--help'.\n",
+    ),
+    (
+        &["127.0.0.1:0", "0"],
+        "error: invalid value '0' for '<COUNT>': not in 1..=1000000\n\nFor more information, try '--help'.\n",
+    ),
+    (
+        &["127.0.0.1:0", "1000001"],
+        "error: invalid value '1000001' for '<COUNT>': not in 1..=1000000\n\nFor more information, try '--help'.\n",
+    ),
+];
+
+#[test]
+fn an_address_or_a_count_that_is_not_valid_is_a_mistake(rt: HostRuntime) -> Result<(), Fail> {
+    let file = fresh(&rt, "unread")?;
+    for (words, wanted) in UNREAD {
+        answers_of(&rt, &file, "serve", words, (2, "", wanted))?;
+    }
+    is_not_there(&rt, file.as_str())
+}

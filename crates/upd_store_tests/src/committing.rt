@@ -1,0 +1,76 @@
+//! A store to which runs come one after the other.
+ghost use Rattle.std.specs.Prelude.{◌≡◌, IfOk};
+
+use std::alloc::Global;
+use std::test::Fail;
+use upd_apply::apply;
+use upd_core::{Change, Library};
+use upd_deck::read_run;
+use upd_records::RunRow;
+use upd_row_store::RowStore;
+
+/// The row of a run that was accepted, with an empty reply.
+fn row_of(alloc: Global, site: &str, number: u64, text: &str) -> Result<RunRow, Fail>
+    ensures { IfOk result (λ row. (row.site ≡ site.now) × (row.number ≡ number)) }
+{
+    Ok(RunRow {
+        site: String::from_str(alloc, site)?,
+        number,
+        mode: 0,
+        bytes: Vec::from_slice(alloc, text.as_bytes())?,
+        accepted: true,
+        reply: Vec::new(alloc),
+    })
+}
+
+/// Commits what the run of a number changes, whose key is free.
+pub fn commit<R: RowStore>(
+    alloc: Global,
+    store: &mut R,
+    number: u64,
+    text: &str,
+    changes: &[Change],
+) -> Result<(), Fail> {
+    let row = row_of(alloc, "LYON", number, text)?;
+    match store.kept_run(alloc, "LYON", number)? {
+        Some(_) => return Err("the key is known".into()),
+        None => {}
+    }
+    store.commit(alloc, changes, row)?;
+    Ok(())
+}
+
+/// What a run changes in a library, to which it is applied.
+fn changes_of(alloc: Global, library: &mut Library, text: &str) -> Result<Vec<Change>, Fail> {
+    let run = read_run(alloc, text.as_bytes())?;
+    Ok(apply(alloc, library, &run)?.changes)
+}
+
+/// Applies a run to the library of the store, and commits what it changes.
+pub fn apply_and_commit<R: RowStore>(
+    alloc: Global,
+    store: &mut R,
+    number: u64,
+    text: &str,
+) -> Result<(), Fail> {
+    let mut library = store.load(alloc)?;
+    let changes = changes_of(alloc, &mut library, text)?;
+    commit(alloc, store, number, text, &changes)
+}
+
+/// The library that runs make of the empty one.
+pub fn applied(alloc: Global, runs: &[&str]) -> Result<Library, Fail> {
+    let mut library = Library::new(alloc);
+    for text in runs {
+        changes_of(alloc, &mut library, text)?;
+    }
+    Ok(library)
+}
+
+/// The bytes of the run that is stored under a number, or "none".
+pub fn stored_run<R: RowStore>(alloc: Global, store: &mut R, number: u64) -> Result<String, Fail> {
+    match store.kept_run(alloc, "LYON", number)? {
+        Some(row) => Ok(String::from_str(alloc, std::str::from_utf8(&row.bytes)?)?),
+        None => Ok(String::from_str(alloc, "none")?),
+    }
+}

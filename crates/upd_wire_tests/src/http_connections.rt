@@ -1,0 +1,182 @@
+//! Connections on this machine.
+use crate::http_desk::{QUICK, QUICK_ANSWER, empty_desk};
+use std::alloc::Global;
+use std::cell::Cell;
+use std::io;
+use std::io::{ErrorKind, Read, Write};
+use std::net::{Shutdown, SocketAddr, TcpListener, TcpStream};
+use std::test::Fail;
+use std::time::{Clock, Duration, Instant};
+use upd_http::serve_on_within;
+use upd_testkit::check::{holds, same};
+use upd_text::FaultKind;
+
+/// A client that has written this and writes no more.
+fn client_with(rt: &HostRuntime, address: SocketAddr, sent: &[u8]) -> Result<TcpStream, Fail> {
+    let mut client = TcpStream::connect(rt, address)?;
+    client.write_all(sent)?;
+    client.shutdown(Shutdown::Write)?;
+    Ok(client)
+}
+
+/// What a client reads to the end is this.
+fn reads(alloc: Global, mut client: TcpStream, wanted: &str) -> Result<(), Fail> {
+    let mut answer = Vec::new(alloc);
+    client.read_to_end(&mut answer)?;
+    same("the answer", &std::str::from_utf8(&answer)?, &wanted)
+}
+
+/// A client connects and writes, then the connection is served, then the client reads. One that goes away before its
+/// request is whole takes nobody else's answer.
+#[test]
+fn connections_are_served(rt: HostRuntime) -> Result<(), Fail> {
+    let listener = TcpListener::bind(&rt, "127.0.0.1:0")?;
+    let address = listener.local_addr()?;
+    let gone = client_with(&rt, address, &QUICK.as_bytes()[..30])?;
+    let client = client_with(&rt, address, QUICK.as_bytes())?;
+    serve_on_within(rt.alloc(), &rt, &listener, 2, &mut empty_desk(rt.alloc()))?;
+    reads(rt.alloc(), gone, "")?;
+    reads(rt.alloc(), client, QUICK_ANSWER)
+}
+
+/// The request of a run that is too long.
+fn long_request(alloc: Global) -> Result<Vec<u8>, Fail> {
+    let head = b"POST /sites/LYON/runs/1/quick HTTP/1.1\r\nContent-Length: 65537\r\n\r\n";
+    let mut request = Vec::from_slice(alloc, head)?;
+    request.extend_from_slice(&[b'x'; 65_537])?;
+    Ok(request)
+}
+
+/// A client that sends more than it may has its answer all the same.
+#[test]
+fn a_long_body_is_answered(rt: HostRuntime) -> Result<(), Fail> {
+    let listener = TcpListener::bind(&rt, "127.0.0.1:0")?;
+    let request = long_request(rt.alloc())?;
+    let client = client_with(&rt, listener.local_addr()?, &request)?;
+    serve_on_within(rt.alloc(), &rt, &listener, 1, &mut empty_desk(rt.alloc()))?;
+    let wanted =
+        "HTTP/1.1 413 Payload Too Large\r\nContent-Type: application/json\r\nContent-Length: 35\r\n\
+Connection: close\r\n\r\n{\"at\":0,\"fault\":1,\"name\":\"RunLong\"}";
+    reads(rt.alloc(), client, wanted)
+}
+
+/// A connection that can't be accepted isn't passed over. Nobody has connected here, and the listener doesn't wait.
+#[test]
+fn an_accept_that_fails_is_reported(rt: HostRuntime) -> Result<(), Fail> {
+    let alloc = rt.alloc();
+    let listener = TcpListener::bind(&rt, "127.0.0.1:0")?;
+    listener.set_nonblocking(true)?;
+    let served = serve_on_within(alloc, &rt, &listener, 2, &mut empty_desk(alloc));
+    same("the end", &served, &Err(FaultKind::Read.without_line()))
+}
+
+/// How many seconds a connection at a listener is served.
+fn seconds_served(rt: &HostRuntime, listener: &TcpListener) -> Result<u64, Fail> {
+    let start = Instant::now(rt)?;
+    serve_on_within(rt.alloc(), rt, listener, 1, &mut empty_desk(rt.alloc()))?;
+    Ok(start.elapsed(rt)?.as_secs())
+}
+
+/// A client that says nothing is waited for ten seconds, and once more after its answer, which is empty.
+#[test]
+fn a_silent_client_is_not_waited_for_for_ever(rt: HostRuntime) -> Result<(), Fail> {
+    let listener = TcpListener::bind(&rt, "127.0.0.1:0")?;
+    let client = TcpStream::connect(&rt, listener.local_addr()?)?;
+    let waited = seconds_served(&rt, &listener)?;
+    holds(("seconds", waited), 20 <= waited && waited < 30)?;
+    reads(rt.alloc(), client, "")
+}
+
+/// A clock that goes forward by some seconds whenever it is read, after some first readings.
+#[derive(Drop)]
+struct Ticking {
+    readings: Cell<u64>,
+    still: u64,
+    step: u64,
+}
+
+impl Ticking {
+    fn new(still: u64, step: u64) -> Ticking {
+        Ticking {
+            readings: Cell::new(0),
+            still,
+            step,
+        }
+    }
+}
+
+impl Clock for Ticking {
+    fn monotonic(&self) -> io::Result<Duration> {
+        let readings = self.readings.get().saturating_add(1);
+        self.readings.set(readings);
+        let ticks = readings.saturating_sub(self.still);
+        Ok(Duration::from_secs(ticks.saturating_mul(self.step)))
+    }
+
+    fn since_1970(&self) -> io::Result<Duration> {
+        Ok(Duration::from_secs(0))
+    }
+}
+
+/// A client reads nothing, and then the connection's end, or that it was reset.
+fn reads_nothing(alloc: Global, mut client: TcpStream) -> Result<(), Fail> {
+    let mut answer = Vec::new(alloc);
+    let is_over = match client.read_to_end(&mut answer) {
+        Ok(_) => true,
+        Err(error) => error.kind() == ErrorKind::ConnectionReset,
+    };
+    same("bytes, the end", (answer.len(), is_over), (0, true))
+}
+
+/// A client that isn't done after two minutes is given up, and its run isn't stored: the key is free for another one.
+#[test]
+fn a_slow_client_is_given_up(rt: HostRuntime) -> Result<(), Fail> {
+    let mut desk = empty_desk(rt.alloc());
+    let listener = TcpListener::bind(&rt, "127.0.0.1:0")?;
+    let mut client = TcpStream::connect(&rt, listener.local_addr()?)?;
+    client.write_all(QUICK.as_bytes())?;
+    serve_on_within(rt.alloc(), &Ticking::new(0, 120), &listener, 1, &mut desk)?;
+    reads_nothing(rt.alloc(), client)?;
+    desk.arrive(rt.alloc(), "LYON", 1, "full", b"")?;
+    Ok(())
+}
+
+/// A client whose time is up after its request isn't answered. Its run is stored: the key is that run's.
+#[test]
+fn a_client_that_takes_its_answer_late_is_given_up(rt: HostRuntime) -> Result<(), Fail> {
+    let mut desk = empty_desk(rt.alloc());
+    let listener = TcpListener::bind(&rt, "127.0.0.1:0")?;
+    let client = client_with(&rt, listener.local_addr()?, QUICK.as_bytes())?;
+    serve_on_within(rt.alloc(), &Ticking::new(2, 120), &listener, 1, &mut desk)?;
+    reads_nothing(rt.alloc(), client)?;
+    let answer = desk.arrive(rt.alloc(), "LYON", 1, "full", b"");
+    let found = answer.map(|reply| reply.accepted);
+    let changed = FaultKind::RunChanged.without_line();
+    same("the key", &found, &Err(changed))
+}
+
+/// Clients that each have sent the same request.
+fn clients_with(
+    rt: &HostRuntime,
+    address: SocketAddr,
+    count: usize,
+) -> Result<Vec<TcpStream>, Fail> {
+    let mut clients = Vec::new(rt.alloc());
+    for _ in 0..count {
+        clients.push(client_with(rt, address, QUICK.as_bytes())?)?;
+    }
+    Ok(clients)
+}
+
+/// Each connection has two minutes of its own: four of them that take forty seconds and more are all served.
+#[test]
+fn each_connection_has_its_own_time(rt: HostRuntime) -> Result<(), Fail> {
+    let listener = TcpListener::bind(&rt, "127.0.0.1:0")?;
+    let clients = clients_with(&rt, listener.local_addr()?, 4)?;
+    let mut desk = empty_desk(rt.alloc());
+    serve_on_within(rt.alloc(), &Ticking::new(0, 20), &listener, 4, &mut desk)?;
+    for client in clients {
+        reads(rt.alloc(), client, QUICK_ANSWER)?;
+    }
+    Ok(())
+}

@@ -1,0 +1,78 @@
+//! A desk over lists that is asked by requests.
+use std::alloc::Global;
+use std::test::Fail;
+use upd_desk::Desk;
+use upd_http::serve_one;
+use upd_list_store::ListStore;
+use upd_testkit::check::{holds, same};
+use upd_testkit::fake_streams::{Held, Pieces};
+use upd_text::Fault;
+
+/// The request of a run of no bytes.
+pub const QUICK: &str =
+    "POST /sites/LYON/runs/1/quick HTTP/1.1\r\nHost: lib\r\nContent-Length: 0\r\n\r\n";
+
+/// The answer to `QUICK` on an empty library.
+pub const QUICK_ANSWER: &str =
+    "HTTP/1.1 200 OK\r\nContent-Type: application/json\r\nContent-Length: 92\r\n\
+Connection: close\r\n\r\n{\"compile\":\"\",\"idents\":[],\"lines\":0,\"mode\":\"quick\",\"run\":1,\"site\":\"LYON\",\
+\"state\":\"accepted\"}";
+
+/// A desk over lists.
+pub type Lists = Desk<ListStore>;
+
+/// A desk over an empty library.
+pub fn empty_desk(alloc: Global) -> Lists {
+    Desk::open(ListStore::new(alloc))
+}
+
+/// What is written and flushed for a request that is read at most `most` bytes at a time.
+pub fn answer_to(
+    alloc: Global,
+    desk: &mut Lists,
+    request: &[u8],
+    most: usize,
+) -> Result<Vec<u8>, Fault> {
+    let mut output = Held::new(alloc, 0);
+    let mut input = Pieces::new(request, most);
+    serve_one(alloc, &mut input, &mut output, desk)?;
+    Ok(output.flushed)
+}
+
+/// The answer to a request that is read at most `most` bytes at a time is this text.
+pub fn expect_read(
+    alloc: Global,
+    desk: &mut Lists,
+    (request, most): (&str, usize),
+    wanted: &str,
+) -> Result<(), Fail> {
+    let answer = answer_to(alloc, desk, request.as_bytes(), most)?;
+    same(request, &std::str::from_utf8(&answer)?, &wanted)
+}
+
+/// The answer to a request is this text.
+pub fn expect(alloc: Global, desk: &mut Lists, request: &str, wanted: &str) -> Result<(), Fail> {
+    expect_read(alloc, desk, (request, 65_536), wanted)
+}
+
+/// The answer to a request without headers and body is this text.
+pub fn expect_plain(alloc: Global, desk: &mut Lists, line: &str, wanted: &str) -> Result<(), Fail> {
+    let request = format!(in alloc; "{line} HTTP/1.1\r\n\r\n")?;
+    expect(alloc, desk, &request, wanted)
+}
+
+/// A run is posted, and its answer is accepted.
+pub fn post(
+    alloc: Global,
+    desk: &mut Lists,
+    number: u32,
+    mode: &str,
+    run: &str,
+) -> Result<(), Fail> {
+    let length = run.len();
+    let request = format!(in alloc;
+        "POST /sites/LYON/runs/{number}/{mode} HTTP/1.1\r\nContent-Length: {length}\r\n\r\n{run}"
+    )?;
+    let answer = answer_to(alloc, desk, request.as_bytes(), 65_536)?;
+    holds(run, answer.starts_with(b"HTTP/1.1 200 OK\r\n"))
+}
