@@ -28,7 +28,7 @@ trial_command words mode asked = of (subcommand_of upd_app words) asked.1
     of (Some (name, rows)) is = is.0
 
 -- serving is no trial
-pub serve_command : (words : List Text) (file address count : Bor (List ℕ)) → IsAskedFor words (Serve file address count)
+pub serve_command : (words : List Text) (file address : Bor (List ℕ)) (count : ℕ) → IsAskedFor words (Serve file address count)
     → command_word words ≡ codes "serve"
 serve_command words file address count asked = of (subcommand_of upd_app words) asked.1
   where

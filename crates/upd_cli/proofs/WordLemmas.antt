@@ -1,10 +1,17 @@
 -- The command lines of `trial` are read, and a command that was entered is one of the program's.
-use Rattle.std.proofs.Common.{◌≡◌, ◌⊎◌, inl, inr, if◌then◌else◌, Bool, true, false, List, [], ◌∷◌, codes, find, Option, Some, None, IfSome, option_and_then, option_map, refl}
+use Rattle.std.proofs.Common.{◌≡◌, ◌⊎◌, inl, inr, if◌then◌else◌, Bool, true, false, List, [], ◌∷◌, ◌++◌, codes, drop, find, Option, Some, None, IfSome, option_and_then, option_map, refl, take}
+use Rattle.clap.specs.Faults.{fault_of}
+use Rattle.clap.specs.Lexer.{long_of, short_of}
 use Rattle.clap.specs.Simple.{argument_words, built, label_of, names_of, rows_at}
 use Rattle.clap.specs.Walk.{answers_to, stop_after}
-use Rattle.clap.specs.Words.{Shape, Text, subcommand_of}
+use Rattle.clap.specs.Words.{App, Shape, Text, subcommand_of}
+use Rattle.clap.specs.declared.builder.value_parser.ValueParser.{ValueParser}
+use Rattle.clap.specs.declared.builder.value_parser.ValueParser.TheVariants.{String}
+use Rattle.clap.specs.ValueTests.{accepts}
+use Rattle.clap.specs.Values.{refused_kind}
+use Rattle.std.specs.Str.{bytes_eq}
 use Rattle.clap.proofs.OnLiterals.{clap_on_literals}
-use Rattle.upd_cli.specs.Words.{IsOneOf, IsPlain, command_word, operand_word, upd_app, upd_commands, word_faults}
+use Rattle.upd_cli.specs.Words.{IsOneOf, IsPlain, command_shape, command_word, operand_word, upd_app, upd_commands, word_faults}
 
 pub plain_read : (name mode : Text) → IsPlain mode → word_faults (name ∷ codes "trial" ∷ mode ∷ []) ≡ []
 unfolding clap_on_literals
@@ -20,6 +27,36 @@ pub plain_command : (name mode : Text) → IsPlain mode → command_word (name �
 unfolding clap_on_literals
 plain_command name [] plain = refl
 plain_command name (b ∷ bs) plain = refl
+
+-- the program, with another test of COUNT
+abbrev pub with_count : ValueParser → App
+with_count parser =
+    record upd_app {
+      subs = take 5 upd_app.subs
+          ++ command_shape (codes "serve") ((codes "FILE", String) ∷ (codes "ADDRESS", String) ∷ (codes "COUNT", parser) ∷ []) ∷ drop 6 upd_app.subs;
+    }
+
+-- how a word is seen that does not begin with a hyphen
+pub record IsNoFlag (word : Text) : Type 0 where
+  pub long : long_of word ≡ None
+  pub short : short_of word ≡ None
+  pub dashes : bytes_eq word (45 ∷ 45 ∷ []) ≡ false
+
+pub no_flag : (word : Text) → IsPlain word → IsNoFlag word
+no_flag [] plain = record { long = refl; short = refl; dashes = refl }
+no_flag (b ∷ bs) plain = record { long = simp plain refl; short = simp plain refl; dashes = simp plain refl }
+
+pub count_accepted : (parser : ValueParser) (name file address count : Text) → IsNoFlag file → IsNoFlag address → IsNoFlag count → accepts false parser count ≡ true
+    → fault_of (with_count parser) (name ∷ codes "serve" ∷ file ∷ address ∷ count ∷ []) ≡ []
+unfolding clap_on_literals
+count_accepted parser name file address count f a c is =
+    simp (f.long, f.short, f.dashes) (simp (a.long, a.short, a.dashes) (simp (c.long, c.short, c.dashes) (rw is refl)))
+
+pub count_refused : (parser : ValueParser) (name file address count : Text) → IsNoFlag file → IsNoFlag address → IsNoFlag count → accepts false parser count ≡ false
+    → fault_of (with_count parser) (name ∷ codes "serve" ∷ file ∷ address ∷ count ∷ []) ≡ refused_kind parser ∷ []
+unfolding clap_on_literals
+count_refused parser name file address count f a c is =
+    simp (f.long, f.short, f.dashes) (simp (a.long, a.short, a.dashes) (simp (c.long, c.short, c.dashes) (rw is refl)))
 
 -- a name is that of one of these shapes
 abbrev IsNamedIn : Text → List Shape → Type 0

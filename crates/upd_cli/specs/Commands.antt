@@ -9,7 +9,7 @@ use Rattle.upd_desk.specs.Outcomes.{ReplyView}
 use Rattle.upd_io.specs.Numbers.{number_of}
 use Rattle.clap.specs.Words.{Text}
 use Rattle.upd_cli.specs.Command.{IsTold}
-use Rattle.upd_cli.specs.Operands.{IsCount, IsNoAddress, IsNoCount, card_read, deck_read}
+use Rattle.upd_cli.specs.Operands.{IsNoAddress, card_read, deck_read}
 use Rattle.upd_cli.specs.Status.{exit_status, fault_line, no_memory}
 use Rattle.upd_cli.specs.Telling.{TellsLines, TellsMark, TellsRun, TellsText}
 use Rattle.upd_cli.specs.Words.{IsAskedFor}
@@ -64,11 +64,11 @@ abbrev pub IsCarriedOut : Asked → ℕ → Option (List ℕ) → Option (List �
 IsCarriedOut asked status input input' output output' faults faults' =
     (ended : Result ℕ Fault) × Leaves asked ended input input' output output' × IsEndOf ended status faults faults'
 
--- how `serve` ended: an ADDRESS or a COUNT that is not valid is a mistake in the command line; else connections were served, or the failure is reported by its line
-abbrev pub IsServed : List ℕ → List ℕ → ℕ → Option (List ℕ) → Option (List ℕ) → Type 0
-IsServed address count status faults faults' =
-    ((IsNoAddress address ⊎ IsNoCount count) × ((status ≡ 2) ⊎ (status ≡ 3)))
-    ⊎ ((place : SocketAddr) × (connections : ℕ) × IsSocketText address place × IsCount count connections
+-- how `serve` ended: an ADDRESS that is not valid is a mistake in the command line; else connections were served, or the failure is reported by its line
+abbrev pub IsServed : List ℕ → ℕ → Option (List ℕ) → Option (List ℕ) → Type 0
+IsServed address status faults faults' =
+    (IsNoAddress address × ((status ≡ 2) ⊎ (status ≡ 3)))
+    ⊎ ((place : SocketAddr) × IsSocketText address place
     × (ended : Result ℕ Fault) × IfOk ended (λ meant. meant ≡ 0) × IfErr ended (λ fault. exit_status fault.kind ≡ 3)
     × IsEndOf ended status faults faults')
 
@@ -76,7 +76,7 @@ IsServed address count status faults faults' =
 -- Of a trial the clause `trial` of `run_command` speaks, and of help and the version none does.
 abbrev pub IsDone : Request → ℕ → Option (List ℕ) → Option (List ℕ) → Option (List ℕ) → Option (List ℕ) → Option (List ℕ) → Option (List ℕ) → Type 0
 IsDone (Library file asked) status input input' output output' faults faults' = IsCarriedOut asked status input input' output output' faults faults'
-IsDone (Serve file address count) status input input' output output' faults faults' = Appends output output' [] × IsServed address.now count.now status faults faults'
+IsDone (Serve file address count) status input input' output output' faults faults' = Appends output output' [] × IsServed address.now status faults faults'
 IsDone (Unread text) status input input' output output' faults faults' = Appends output output' []
 IsDone _ status input input' output output' faults faults' = Unit {0}
 

@@ -17,13 +17,14 @@ deck_read word = at_line 0 (need BadName (if is_name word then Some word else No
 abbrev pub card_read : List ℕ → Result CardRef Fault
 card_read word = at_line 0 (need BadCard (card_of word))
 
--- a word spells how many connections are served: a decimal number from 1 to a million, a plus before it or none
+-- a word spells this number of connections: a decimal number from 1 to a million, a plus before it or none
 abbrev pub IsCount : List ℕ → ℕ → Type 0
 IsCount word n = IsNumeral 10 (without_leading_plus word) × (digits_value 10 (without_leading_plus word) ≡ n) × (1 ≤ n) × (n ≤ 1000000)
 
--- a word spells no address, or no count
+-- a word spells a number of connections
+abbrev pub SpellsCount : List ℕ → Type 0
+SpellsCount word = (n : ℕ) × IsCount word n
+
+-- a word spells no address
 abbrev pub IsNoAddress : List ℕ → Type 0
 IsNoAddress word = (a : SocketAddr) → ¬ (IsSocketText word a)
-
-abbrev pub IsNoCount : List ℕ → Type 0
-IsNoCount word = (n : ℕ) → ¬ (IsCount word n)

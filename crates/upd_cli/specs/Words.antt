@@ -4,40 +4,51 @@ use Rattle.std.specs.Option.{option_and_then, option_map}
 use Rattle.clap.specs.Simple.{new_shape}
 use Rattle.clap.specs.Words.{App, IsAmong, Row, Rule, Shape, Text, fault_of, first_of, new_app, new_rule, subcommand_of}
 use Rattle.clap.specs.declared.builder.action.ArgAction.TheVariants.{Set}
+use Rattle.clap.specs.declared.builder.value_parser.ValueParser.{ValueParser}
+use Rattle.clap.specs.declared.builder.value_parser.ValueParser.TheVariants.{String, Unsigned}
 use Rattle.clap.specs.declared.error.kind.ErrorKind.{ErrorKind}
 use Rattle.clap.specs.declared.error.kind.ErrorKind.TheVariants.{DisplayHelp, DisplayVersion}
+use Rattle.upd_cli.specs.Operands.{IsCount, SpellsCount}
 use Rattle.upd_cli.specs.declared.words.Request.{Request}
 use Rattle.upd_cli.specs.declared.words.Request.TheVariants.{Trial, Library, Serve, Shown, Unread}
 use Rattle.upd_cli.specs.declared.words.Asked.{Asked}
 use Rattle.upd_cli.specs.declared.words.Asked.TheVariants as asks
 
+-- an operand's name, and what its word has to be
+abbrev pub Operand : Type 0
+Operand = Text × ValueParser
+
+-- an operand whose word is judged later, if at all
+abbrev pub word_of : Text → Operand
+word_of name = (name, String)
+
 -- a required word that is named by its place
-abbrev pub operand_rule : Text → Rule
-operand_rule name = record (new_rule name) { action = Some Set; required = true }
+abbrev pub operand_rule : Operand → Rule
+operand_rule (name, parser) = record (new_rule name) { action = Some Set; required = true; parser = Some parser }
 
 -- a command with its operands in order
-abbrev pub command_shape : Text → List Text → Shape
+abbrev pub command_shape : Text → List Operand → Shape
 command_shape name operands = record (new_shape name) { rules = map operand_rule operands }
 
 -- the commands in order, each with its operands
-abbrev pub upd_commands : List (Text × List Text)
+abbrev pub upd_commands : List (Text × List Operand)
 upd_commands =
-    (codes "trial", codes "MODE" ∷ [])
-    ∷ (codes "init", codes "FILE" ∷ [])
-    ∷ (codes "run", codes "FILE" ∷ codes "SITE" ∷ codes "NUMBER" ∷ codes "MODE" ∷ [])
-    ∷ (codes "settle", codes "FILE" ∷ codes "SITE" ∷ codes "NUMBER" ∷ [])
-    ∷ (codes "spool", codes "FILE" ∷ [])
-    ∷ (codes "serve", codes "FILE" ∷ codes "ADDRESS" ∷ codes "COUNT" ∷ [])
-    ∷ (codes "compile", codes "FILE" ∷ [])
-    ∷ (codes "list", codes "FILE" ∷ codes "DECK" ∷ [])
-    ∷ (codes "history", codes "FILE" ∷ codes "CARD" ∷ [])
-    ∷ (codes "idents", codes "FILE" ∷ [])
-    ∷ (codes "yanks", codes "FILE" ∷ [])
-    ∷ (codes "migrate", codes "FILE" ∷ [])
+    (codes "trial", word_of (codes "MODE") ∷ [])
+    ∷ (codes "init", word_of (codes "FILE") ∷ [])
+    ∷ (codes "run", word_of (codes "FILE") ∷ word_of (codes "SITE") ∷ word_of (codes "NUMBER") ∷ word_of (codes "MODE") ∷ [])
+    ∷ (codes "settle", word_of (codes "FILE") ∷ word_of (codes "SITE") ∷ word_of (codes "NUMBER") ∷ [])
+    ∷ (codes "spool", word_of (codes "FILE") ∷ [])
+    ∷ (codes "serve", word_of (codes "FILE") ∷ word_of (codes "ADDRESS") ∷ (codes "COUNT", Unsigned 1 1000000) ∷ [])
+    ∷ (codes "compile", word_of (codes "FILE") ∷ [])
+    ∷ (codes "list", word_of (codes "FILE") ∷ word_of (codes "DECK") ∷ [])
+    ∷ (codes "history", word_of (codes "FILE") ∷ word_of (codes "CARD") ∷ [])
+    ∷ (codes "idents", word_of (codes "FILE") ∷ [])
+    ∷ (codes "yanks", word_of (codes "FILE") ∷ [])
+    ∷ (codes "migrate", word_of (codes "FILE") ∷ [])
     ∷ []
 
 -- a name is that of one of these commands
-abbrev pub IsOneOf : Text → List (Text × List Text) → Type 0
+abbrev pub IsOneOf : Text → List (Text × List Operand) → Type 0
 IsOneOf name [] = ⊥
 IsOneOf name (command ∷ commands) = (name ≡ command.0) ⊎ IsOneOf name commands
 
@@ -80,13 +91,17 @@ IsAskedBy name rows asks.Idents = name ≡ codes "idents"
 IsAskedBy name rows asks.Yanks = name ≡ codes "yanks"
 IsAskedBy name rows asks.Migrate = name ≡ codes "migrate"
 
+-- a command `serve` has a number of connections
+abbrev pub HasCount : Text × List Row → Type 0
+HasCount (name, rows) = name ≡ codes "serve" → SpellsCount (operand_in (codes "COUNT") rows)
+
 -- the request of the command of this name with these operands
 abbrev pub IsRequest : Text × List Row → Request → Type 0
 IsRequest (name, rows) (Trial mode) = (name ≡ codes "trial") × (mode.now ≡ operand_in (codes "MODE") rows)
 IsRequest (name, rows) (Library file asked) = (file.now ≡ operand_in (codes "FILE") rows) × IsAskedBy name rows asked
 IsRequest (name, rows) (Serve file address count) =
     (name ≡ codes "serve") × (file.now ≡ operand_in (codes "FILE") rows) × (address.now ≡ operand_in (codes "ADDRESS") rows)
-    × (count.now ≡ operand_in (codes "COUNT") rows)
+    × IsCount (operand_in (codes "COUNT") rows) count
 IsRequest _ _ = ⊥
 
 -- a request for a text: help or the version

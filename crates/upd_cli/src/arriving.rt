@@ -32,10 +32,7 @@ pub(crate) fn hand_in<S: RowStore, R: Read, W: Write>(
     ensures front { TakesFront (MAX_RUN_BYTES + 1) (R.remaining input.old) (R.remaining input.new) }
     ensures status { IfOk result (λ status. (status ≡ 0) ⊎ (status ≡ 1)) }
 {
-    let run = match read_input(alloc, input) {
-        Ok(run) => run,
-        Err(fault) => return Err(fault),
-    };
+    let run = read_input(alloc, input)?;
     match desk.arrive(alloc, site, number, mode, &run) {
         Ok(reply) => tell(&reply, output),
         Err(fault) => tell_fault(alloc, fault, output),

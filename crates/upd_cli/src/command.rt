@@ -13,7 +13,7 @@ ghost use Rattle.upd_cli.specs.Words.{command_word, operand_word, word_faults};
 ghost use Rattle.upd_cli.specs.Inputs.{HandsRunsIn, IsHandIn, IsSpoolCommand, ReadsInput};
 
 use crate::library::{carry_out, serve};
-use crate::operands::{read_address, read_count};
+use crate::operands::read_address;
 use crate::status::{DONE, FAILED, UNREAD, exit_status, write_fault};
 use crate::streams::{read_input, write_out};
 use crate::trial_run::{read_mode, trial};
@@ -126,28 +126,28 @@ fn carry_out_library<R: Read, W: Write, E: Write>(
     }
 }
 
-/// `serve`: an address or a count that is not valid is a usage error.
+/// `serve`: an address that is not valid is a usage error.
 fn carry_out_serving<E: Write>(
     rt: &HostRuntime,
     file: &str,
     address: &str,
-    count: &str,
+    count: u32,
     faults: &mut E,
 ) -> u8
-    ensures served { IsServed address.now count.now result (E.contents faults.old) (E.contents faults.new) }
+    ensures served { IsServed address.now result (E.contents faults.old) (E.contents faults.new) }
     ensures clean { result ≡ 0 → faults.new ≡ faults.old }
 {
-    const BEGINNING: &[u8] = b"error: invalid value '";
-    const END: &[u8] = b"\n\nFor more information, try '--help'.\n";
     let Some(reachable) = read_address(address) else {
-        let why: &[u8] = b"' for '<ADDRESS>': no IP address and port";
-        return tell_unread(&[BEGINNING, address.as_bytes(), why, END], faults);
+        return tell_unread(
+            &[
+                b"error: invalid value '",
+                address.as_bytes(),
+                b"' for '<ADDRESS>': no IP address and port\n\nFor more information, try '--help'.\n",
+            ],
+            faults,
+        );
     };
-    let Some(connections) = read_count(count) else {
-        let why: &[u8] = b"' for '<COUNT>': not in 1..=1000000";
-        return tell_unread(&[BEGINNING, count.as_bytes(), why, END], faults);
-    };
-    match serve(rt, file, reachable, connections) {
+    match serve(rt, file, reachable, count) {
         Ok(status) => status,
         Err(fault) => finish(Err(fault), faults),
     }

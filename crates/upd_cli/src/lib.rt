@@ -17,4 +17,4 @@ mod words;
 
 pub use command::{report_words, run_command};
 pub use trial_run::trial;
-pub use words::trial_is_read;
+pub use words::{serve_is_read, trial_is_read};

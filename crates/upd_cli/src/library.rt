@@ -76,14 +76,8 @@ fn run_on<R: Read, W: Write>(
     ensures front { TakesFront (MAX_RUN_BYTES + 1) (R.remaining input.old) (R.remaining input.new) }
     ensures status { IfOk result (λ status. (status ≡ 0) ⊎ (status ≡ 1)) }
 {
-    let number = match read_number(number) {
-        Ok(number) => number,
-        Err(fault) => return Err(fault),
-    };
-    let mut desk = match open_desk(rt, file) {
-        Ok(desk) => desk,
-        Err(fault) => return Err(fault),
-    };
+    let number = read_number(number)?;
+    let mut desk = open_desk(rt, file)?;
     let ended = hand_in(rt.alloc(), &mut desk, site, number, mode, input, output);
     close_desk(desk);
     ended
@@ -102,14 +96,8 @@ fn settle_on<W: Write>(
     ensures status { IfOk result (λ status. status ≡ 0) }
     ensures silent { IfErr result (λ fault. exit_status fault.kind ≡ 1 → output.new ≡ output.old) }
 {
-    let number = match read_number(number) {
-        Ok(number) => number,
-        Err(fault) => return Err(fault),
-    };
-    let mut desk = match open_desk(rt, file) {
-        Ok(desk) => desk,
-        Err(fault) => return Err(fault),
-    };
+    let number = read_number(number)?;
+    let mut desk = open_desk(rt, file)?;
     let ended = settle(rt.alloc(), &mut desk, site, number, output);
     close_desk(desk);
     ended
@@ -126,10 +114,7 @@ fn spool_on<R: Read, W: Write>(
         (W.contents output.old) (W.contents output.new) }
     ensures status { IfOk result (λ status. status ≡ 0) }
 {
-    let mut desk = match open_desk(rt, file) {
-        Ok(desk) => desk,
-        Err(fault) => return Err(fault),
-    };
+    let mut desk = open_desk(rt, file)?;
     let ended = spool(rt.alloc(), input, output, &mut desk);
     close_desk(desk);
     match ended {
@@ -148,10 +133,7 @@ pub(crate) fn serve(
     ensures status { IfOk result (λ status. status ≡ 0) }
     ensures failed { IfErr result (λ fault. exit_status fault.kind ≡ 3) }
 {
-    let mut desk = match open_desk(rt, file) {
-        Ok(desk) => desk,
-        Err(fault) => return Err(fault),
-    };
+    let mut desk = open_desk(rt, file)?;
     let ended = match TcpListener::bind(rt, address) {
         Ok(listener) => serve_on_within(rt.alloc(), rt, &listener, count, &mut desk),
         Err(_) => Err(FaultKind::Read.without_line()),
@@ -181,10 +163,7 @@ fn migrate_file(rt: &HostRuntime, file: &str) -> Result<u8, Fault>
     ensures status { IfOk result (λ status. status ≡ 0) }
     ensures failed { IfErr result (λ fault. exit_status fault.kind ≡ 3) }
 {
-    let mut conn = match connect(rt, file, Unknown) {
-        Ok(conn) => conn,
-        Err(fault) => return Err(fault),
-    };
+    let mut conn = connect(rt, file, Unknown)?;
     let ended = migrate(rt.alloc(), &mut conn);
     let _ = conn.close();
     match ended {
@@ -233,10 +212,7 @@ fn answer_on<W: Write>(
     ensures status { IfOk result (λ status. status ≡ 0) }
     ensures silent { IfErr result (λ fault. exit_status fault.kind ≡ 1 → output.new ≡ output.old) }
 {
-    let mut desk = match open_desk(rt, file) {
-        Ok(desk) => desk,
-        Err(fault) => return Err(fault),
-    };
+    let mut desk = open_desk(rt, file)?;
     let ended = inquire(rt.alloc(), &mut desk, question, output);
     close_desk(desk);
     ended

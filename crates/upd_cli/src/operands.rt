@@ -1,7 +1,7 @@
 //! Operands of commands, as they are written.
 ghost use Rattle.std.specs.Prelude.{◌≡◌, MatchOption};
 ghost use Rattle.std.specs.Net.Grammar.{IsSocketText};
-ghost use Rattle.upd_cli.specs.Operands.{IsCount, IsNoAddress, IsNoCount, card_read, deck_read};
+ghost use Rattle.upd_cli.specs.Operands.{IsNoAddress, card_read, deck_read};
 ghost use Rattle.upd_io.specs.Numbers.{number_of};
 ghost use Rattle.upd_text.specs.Outcome.{at_line, need};
 ghost use Rattle.upd_text.specs.declared.fault.FaultKind.TheVariants.{BadNumber};
@@ -9,9 +9,6 @@ ghost use Rattle.upd_text.specs.declared.fault.FaultKind.TheVariants.{BadNumber}
 use std::net::SocketAddr;
 use upd_core::{CardRef, Name};
 use upd_text::{Fault, FaultKind};
-
-/// The most connections that a command serves.
-const MAX_CONNECTIONS: u32 = 1_000_000;
 
 /// A run number: 1 to 9 digits without a leading zero, or `0`, which the desk refuses. Another word is BadNumber, at 0.
 pub(crate) fn read_number(word: &str) -> Result<u64, Fault>
@@ -50,15 +47,5 @@ pub(crate) fn read_address(word: &str) -> Option<SocketAddr>
     match word.parse::<SocketAddr>() {
         Ok(address) => Some(address),
         Err(_) => None,
-    }
-}
-
-/// How many connections are served.
-pub(crate) fn read_count(word: &str) -> Option<u32>
-    ensures { MatchOption result (IsNoCount word.now) (IsCount word.now) }
-{
-    match word.parse::<u32>() {
-        Ok(count) if 1 <= count && count <= MAX_CONNECTIONS => Some(count),
-        _ => None,
     }
 }

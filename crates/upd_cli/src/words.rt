@@ -2,13 +2,15 @@
 ghost use Rattle.std.specs.Prelude.{[], ◌∷◌, ◌≡◌, ◌≢◌, IfErr, IfOk, IfSome, IsSomeAnd, codes, false, map, true};
 ghost use Rattle.clap.specs.Words.{Text, app_of, found_of, has_subcommand, kind_of, rows_of, rule_of, subcommand_rows_of};
 ghost use Rattle.clap.specs.declared.builder.command.Command.TheViews.{out-Command as fields_of};
-ghost use Rattle.clap.specs.declared.error.kind.ErrorKind.TheVariants.{OutOfMemory};
+ghost use Rattle.clap.specs.declared.error.kind.ErrorKind.TheVariants.{OutOfMemory, ValueValidation};
 ghost use Rattle.upd_cli.specs.Status.{no_memory};
 ghost use Rattle.clap.specs.Simple.{new_app};
-ghost use Rattle.upd_cli.specs.Words.{IsAskedBy, IsAskedFor, IsOneOf, IsPlain, IsRequest, IsUnreadRequest, command_shape, command_word};
+ghost use Rattle.upd_cli.specs.Operands.{IsCount, SpellsCount};
+ghost use Rattle.upd_cli.specs.Words.{HasCount, IsAskedBy, IsAskedFor, IsOneOf, IsPlain, IsRequest, IsUnreadRequest, command_shape, command_word};
 ghost use Rattle.upd_cli.specs.Words.{operand_in, operand_rule, operand_word, upd_app, upd_commands, upd_top, word_faults};
 
 use crate::help;
+use clap::builder::ValueParser;
 use clap::error::ErrorKind;
 use clap::{Arg, ArgAction, ArgMatches, Command, Error};
 use std::alloc::{AllocError, Global};
@@ -27,11 +29,11 @@ pub enum Request<'a> {
         file: &'a str,
         asked: Asked<'a>,
     },
-    /// `serve FILE ADDRESS COUNT`, its address and count as they were written.
+    /// `serve FILE ADDRESS COUNT`, its address as it was written.
     Serve {
         file: &'a str,
         address: &'a str,
-        count: &'a str,
+        count: u32,
     },
     /// Help or the version, which goes to the output.
     Shown(String),
@@ -65,24 +67,35 @@ pub enum Asked<'a> {
     Migrate,
 }
 
-/// An operand's name, and what help says of it.
-type Operand = (&'static str, &'static str);
+/// An operand's name, what help says of it, and what its word has to be.
+type Operand = (&'static str, &'static str, ValueParser<'static>);
 
-const FILE: Operand = ("FILE", "the file of a library");
+const FILE: Operand = ("FILE", "the file of a library", ValueParser::String);
 
-const SITE: Operand = ("SITE", "1 to 8 of A-Z and 0-9");
+const SITE: Operand = ("SITE", "1 to 8 of A-Z and 0-9", ValueParser::String);
 
-const MODE: Operand = ("MODE", "full, quick or normal");
+const MODE: Operand = ("MODE", "full, quick or normal", ValueParser::String);
+
+/// The number of connections that a command may serve.
+const COUNT_RANGE: ValueParser<'static> = ValueParser::Unsigned(1, 1_000_000);
 
 /// The commands of the program, one level deep.
 fn commands<'a>(alloc: Global) -> Result<Command<'a>, AllocError>
     ensures { IfOk result (λ c. app_of c ≡ upd_app) }
 {
-    const NUMBER: Operand = ("NUMBER", "1 to 999999999");
-    const ADDRESS: Operand = ("ADDRESS", "an IP address and a port, as 127.0.0.1:8080");
-    const COUNT: Operand = ("COUNT", "how many connections are served, 1 to 1000000");
-    const DECK: Operand = ("DECK", "the name of a deck, or YANK$$$");
-    const CARD: Operand = ("CARD", "a card, as A.2");
+    const NUMBER: Operand = ("NUMBER", "1 to 999999999", ValueParser::String);
+    const ADDRESS: Operand = (
+        "ADDRESS",
+        "an IP address and a port, as 127.0.0.1:8080",
+        ValueParser::String,
+    );
+    const COUNT: Operand = (
+        "COUNT",
+        "how many connections are served, 1 to 1000000",
+        COUNT_RANGE,
+    );
+    const DECK: Operand = ("DECK", "the name of a deck, or YANK$$$", ValueParser::String);
+    const CARD: Operand = ("CARD", "a card, as A.2", ValueParser::String);
     program(alloc)
         .subcommand(command(alloc, "trial", help::TRIAL, &[MODE])?)?
         .subcommand(command(alloc, "init", help::INIT, &[FILE])?)?
@@ -116,26 +129,27 @@ fn command<'a>(
     help: help::Text,
     operands: &[Operand],
 ) -> Result<Command<'a>, AllocError>
-    ensures app { IfOk result (λ c. app_of c ≡ record (new_app []) { top = command_shape name.entry.now (map (λ o. o.0.now) operands.now) }) }
+    ensures app { IfOk result (λ c. app_of c ≡ record (new_app []) { top = command_shape name.entry.now (map (λ o. (o.0.now, o.2)) operands.now) }) }
     ensures local { IfOk result (λ c. (fields_of c).has_globals ≡ false) }
 {
     let mut command = Command::new(alloc, name)
         .about(help.about)
         .after_help(help.more);
-    for (operand_name, text) in operands {
-        command = command.arg(operand(alloc, operand_name, text))?;
+    for (operand_name, text, parser) in operands {
+        command = command.arg(operand(alloc, operand_name, text, *parser))?;
     }
     Ok(command)
 }
 
 /// A required word that is named by its place.
-fn operand<'a>(alloc: Global, name: &'a str, help: &'a str) -> Arg<'a>
-    ensures rule { rule_of result ≡ operand_rule name.entry.now }
+fn operand<'a>(alloc: Global, name: &'a str, help: &'a str, parser: ValueParser<'a>) -> Arg<'a>
+    ensures rule { rule_of result ≡ operand_rule (name.entry.now, parser.entry) }
     ensures local { result.global ≡ false }
 {
     Arg::new(alloc, name)
         .required(true)
         .action(ArgAction::Set)
+        .value_parser(parser)
         .help(help)
 }
 
@@ -153,7 +167,7 @@ pub(crate) fn read_words<'a, S: AsStr>(alloc: Global, words: &'a [S]) -> Result<
 fn read_request<'a>(matches: &ArgMatches<'a>) -> Request<'a>
     requires used { has_subcommand matches.now ≡ true }
     requires known { IfSome (subcommand_rows_of matches.now) (λ command. IsOneOf command.0 upd_commands) }
-    ensures { IsSomeAnd (subcommand_rows_of matches.now) (λ command. IsRequest command result) }
+    ensures { IsSomeAnd (subcommand_rows_of matches.now) (λ command. HasCount command → IsRequest command result) }
 {
     match matches.subcommand() {
         Some(("trial", operands)) => Request::Trial {
@@ -162,7 +176,7 @@ fn read_request<'a>(matches: &ArgMatches<'a>) -> Request<'a>
         Some(("serve", operands)) => Request::Serve {
             file: word(operands, "FILE"),
             address: word(operands, "ADDRESS"),
-            count: word(operands, "COUNT"),
+            count: count(operands),
         },
         Some((name, operands)) => Request::Library {
             file: word(operands, "FILE"),
@@ -210,6 +224,14 @@ fn word<'a>(operands: &ArgMatches<'a>, name: &str) -> &'a str
     operands.get_str(name).unwrap_or("")
 }
 
+/// The number of connections, which clap has let through.
+fn count(operands: &ArgMatches<'_>) -> u32
+    ensures { SpellsCount (operand_in (codes "COUNT") (rows_of (found_of operands.now)))
+        → IsCount (operand_in (codes "COUNT") (rows_of (found_of operands.now))) result }
+{
+    word(operands, "COUNT").parse::<u32>().unwrap_or(0)
+}
+
 /// What clap says where the words are not read or ask for a text.
 fn told<'a>(alloc: Global, error: &Error) -> Result<Request<'a>, Fault>
     ensures ok { IfOk result (λ told. (kind_of error.now ≢ OutOfMemory) × IsUnreadRequest (kind_of error.now) told) }
@@ -232,4 +254,13 @@ pub fn trial_is_read()
     ensures read { (name mode : Text) → IsPlain mode → word_faults (name ∷ codes "trial" ∷ mode ∷ []) ≡ [] }
     ensures asks { (name mode : Text) → IsPlain mode → command_word (name ∷ codes "trial" ∷ mode ∷ []) ≡ codes "trial" }
     ensures mode { (name mode : Text) → IsPlain mode → operand_word (codes "MODE") (name ∷ codes "trial" ∷ mode ∷ []) ≡ mode }
+{}
+
+/// `serve` and three words that do not begin with a hyphen are a command line, whatever the program is called, where the
+/// third spells a number of connections. Another third word is a mistake in the command line.
+pub fn serve_is_read()
+    ensures read { (name file address count : Text) → IsPlain file → IsPlain address → IsPlain count → SpellsCount count
+        → word_faults (name ∷ codes "serve" ∷ file ∷ address ∷ count ∷ []) ≡ [] }
+    ensures refused { (name file address count : Text) → IsPlain file → IsPlain address → IsPlain count → ¬ SpellsCount count
+        → word_faults (name ∷ codes "serve" ∷ file ∷ address ∷ count ∷ []) ≡ ValueValidation ∷ [] }
 {}

@@ -183,16 +183,21 @@ For more information, try '--help'.\n",
     ),
     (
         &["localhost", "0"],
-        "error: invalid value 'localhost' for '<ADDRESS>': no IP address and port\n\n\
-For more information, try '--help'.\n",
+        "error: invalid value '0' for '<COUNT>': 0 is not in 1..=1000000\n\nFor more information, try '--help'.\n",
     ),
     (
         &["127.0.0.1:0", "0"],
-        "error: invalid value '0' for '<COUNT>': not in 1..=1000000\n\nFor more information, try '--help'.\n",
+        "error: invalid value '0' for '<COUNT>': 0 is not in 1..=1000000\n\nFor more information, try '--help'.\n",
     ),
     (
         &["127.0.0.1:0", "1000001"],
-        "error: invalid value '1000001' for '<COUNT>': not in 1..=1000000\n\nFor more information, try '--help'.\n",
+        "error: invalid value '1000001' for '<COUNT>': 1000001 is not in 1..=1000000\n\n\
+For more information, try '--help'.\n",
+    ),
+    (
+        &["127.0.0.1:0", "many"],
+        "error: invalid value 'many' for '<COUNT>': invalid digit found in string\n\n\
+For more information, try '--help'.\n",
     ),
 ];
 

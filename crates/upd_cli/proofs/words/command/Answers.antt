@@ -2,18 +2,23 @@ use Rattle.std.proofs.Common.{◌≡◌, ◌||◌, ◌<◌, ◌+◌, ◌++◌, [
 use Rattle.std.proofs.Math.Seq.{take-suc}
 use Rattle.std.proofs.lemmas.List.{map-append}
 use Rattle.clap.specs.Simple.{new_app}
+use Rattle.clap.specs.declared.builder.value_parser.ValueParser.{ValueParser}
 use Rattle.clap.specs.Words.{Rule, with_rule}
-use Rattle.upd_cli.specs.Words.{command_shape, operand_rule}
+use Rattle.upd_cli.specs.Words.{Operand, command_shape, operand_rule}
 use Rattle.upd_cli.proofs.words.command.Goals as goal
 
-rules_more : (operands : List (Bor (List ℕ) × Bor (List ℕ))) (i : ℕ) (d : Bor (List ℕ) × Bor (List ℕ)) → i < length operands
-    → map operand_rule (map (λ (o : Bor (List ℕ) × Bor (List ℕ)). o.0.now) (take i operands)) ++ operand_rule (get_or operands i d).0.now ∷ []
-    ≡ map operand_rule (map (λ (o : Bor (List ℕ) × Bor (List ℕ)). o.0.now) (take (i + 1) operands))
+-- an operand as it is written in the program
+abbrev Written : Type 0
+Written = Bor (List ℕ) × Bor (List ℕ) × ValueParser
+
+rules_more : (operands : List Written) (i : ℕ) (d : Written) → i < length operands
+    → map operand_rule (map (λ o. (o.0.now, o.2)) (take i operands)) ++ operand_rule ((get_or operands i d).0.now, (get_or operands i d).2) ∷ []
+    ≡ map operand_rule (map (λ o. (o.0.now, o.2)) (take (i + 1) operands))
 rules_more operands i d h =
-    let name = λ (o : Bor (List ℕ) × Bor (List ℕ)). o.0.now in
-    sym (ap (λ l. map operand_rule (map name l)) (ap (λ n. take n operands) (add-one i) ∙ take-suc operands i d h)
-    ∙ ap (map operand_rule) (map-append name (take i operands) (get_or operands i d ∷ []))
-    ∙ map-append operand_rule (map name (take i operands)) (name (get_or operands i d) ∷ []))
+    let operand_of : Written → Operand = λ o. (o.0.now, o.2) in
+    sym (ap (λ l. map operand_rule (map operand_of l)) (ap (λ n. take n operands) (add-one i) ∙ take-suc operands i d h)
+    ∙ ap (map operand_rule) (map-append operand_of (take i operands) (get_or operands i d ∷ []))
+    ∙ map-append operand_rule (map operand_of (take i operands)) (operand_of (get_or operands i d) ∷ []))
 
 pub loop-operand_name-preserved : goal.loop-operand_name-preserved
 loop-operand_name-preserved c = record {

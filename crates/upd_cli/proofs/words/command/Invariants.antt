@@ -7,6 +7,6 @@ use Rattle.upd_cli.proofs.words.command.Given as goal
 
 abbrev pub invariant-loop-operand_name : goal.invariant-loop-operand_name
 invariant-loop-operand_name l = record {
-  app : app_of l.command ≡ record (new_app []) { top = command_shape l.name (map (λ o. o.0.now) (take l.operand_name-index l.operands)) };
+  app : app_of l.command ≡ record (new_app []) { top = command_shape l.name (map (λ o. (o.0.now, o.2)) (take l.operand_name-index l.operands)) };
   local : (fields_of l.command).has_globals ≡ false;
 }

@@ -4,9 +4,10 @@ use Rattle.clap.specs.Walk.{Row}
 use Rattle.clap.specs.Words.{App, HasKind, IsAmong, Text, app_of, fault_of, is_simple, is_simple_and_free, kind_of, subcommand_of, subcommand_rows_of}
 use Rattle.clap.specs.declared.error.kind.ErrorKind.{ErrorKind}
 use Rattle.clap.specs.declared.error.kind.ErrorKind.TheVariants.{OutOfMemory}
-use Rattle.upd_cli.specs.Words.{IsAskedFor, IsOneOf, IsRequest, IsUnreadRequest, upd_app, upd_commands, word_faults}
+use Rattle.upd_cli.specs.Words.{HasCount, IsAskedFor, IsOneOf, IsRequest, IsUnreadRequest, upd_app, upd_commands, word_faults}
 use Rattle.upd_cli.specs.declared.words.Request.{Request}
 use Rattle.upd_cli.specs.declared.words.Request.TheVariants.{Trial, Library, Serve, Shown, Unread}
+use Rattle.upd_cli.proofs.CountLemmas.{read_counts}
 use Rattle.upd_cli.proofs.WordLemmas.{known_command}
 use Rattle.upd_cli.proofs.words.read_words.Goals as goal
 
@@ -37,6 +38,12 @@ among : (kind : ErrorKind) (kinds : List ErrorKind) → (kind ≡ OutOfMemory) �
 among kind kinds (inl is) other = absurd (other is)
 among kind kinds (inr is) other = is
 
+-- a request for a command whose count is within its range
+counted : (command : Option (Text × List Row)) (IsMade : Text × List Row → Type 0) → IfSome command HasCount
+    → IsSomeAnd command (λ found. HasCount found → IsMade found) → IsSomeAnd command IsMade
+counted None IsMade counts made = made
+counted (Some found) IsMade counts made = made counts
+
 pub returns-in-Ok-clause-ok : goal.returns-in-Ok-clause-ok
 returns-in-Ok-clause-ok g c =
     let app_is : app_of c.in_ok-commands.field-0 ≡ upd_app = c.in_ok-commands.ensures in
@@ -44,7 +51,10 @@ returns-in-Ok-clause-ok g c =
     let none : word_faults words ≡ [] = sym (ap (λ (a : App). fault_of a words) app_is) ∙ c.in-Ok.ensures.kinds (ap is_simple_and_free app_is ∙ is_free_upd) in
     let rows : subcommand_rows_of c.in-Ok.matches ≡ subcommand_of upd_app words = (c.in-Ok.ensures.matches (ap is_simple app_is ∙ is_simple_upd)).1
     ∙ ap (λ (a : App). subcommand_of a words) app_is in
-    asked_command words (subcommand_rows_of c.in-Ok.matches) c.read_request.result (sym rows) none c.read_request.ensures
+    let HasCounts : Option (Text × List Row) → Type 0 = λ o. IfSome o HasCount in
+    asked_command words (subcommand_rows_of c.in-Ok.matches) c.read_request.result (sym rows) none
+    (counted (subcommand_rows_of c.in-Ok.matches) (λ found. IsRequest found c.read_request.result) (subst HasCounts (sym rows) (read_counts words none))
+    c.read_request.ensures)
 
 pub read_request-requires-clause-known : goal.read_request-requires-clause-known
 read_request-requires-clause-known g c =
