@@ -1,5 +1,5 @@
 -- What commands on a library leave on the output.
-use Rattle.std.proofs.Common.{◌≡◌, ◌⊎◌, inl, inr, ℕ, List, Option, Some, None, Result, Ok, Err, IsErrAnd, ap}
+use Rattle.std.proofs.Common.{◌≡◌, ◌⊎◌, inl, inr, ℕ, List, Option, Some, None, Result, Ok, Err, IsErrAnd, IfErr, ap, sym, ◌∙◌, subst}
 use Rattle.std.proofs.KnownBytes.{Appends-nil}
 use Rattle.upd_text.specs.Outcome.{at_line, need}
 use Rattle.upd_text.specs.declared.fault.Fault.{Fault}
@@ -31,3 +31,22 @@ pub unread_fails : (result : Result ℕ Fault) → IsUnread result → IsErrAnd 
 unread_fails (Ok status) unread = absurd unread
 unread_fails (Err fault) (inl is) = ap (λ (f : Fault). exit_status f.kind) is
 unread_fails (Err fault) (inr is) = ap (λ (f : Fault). exit_status f.kind) is
+
+-- the same of a fault that `?` passes on
+pub passed_tells_nothing : (result : Result ℕ Fault) (fault : Fault) (output : Option (List ℕ)) → IsErrAnd result (λ e. e ≡ fault) → IsUnopened fault
+    → TellsNothing result output output
+passed_tells_nothing (Ok status) fault output is unopened = absurd is
+passed_tells_nothing (Err e) fault output is unopened =
+    subst (λ (f : Fault). TellsNothing (Err f) output output) (sym is) (unopened_tells_nothing fault output unopened)
+
+pub passed_fails : (result : Result ℕ Fault) (fault : Fault) → IsErrAnd result (λ e. e ≡ fault) → IsUnopened fault
+    → IfErr result (λ f. exit_status f.kind ≡ 3)
+passed_fails (Ok status) fault is unopened = tt
+passed_fails (Err e) fault is unopened = ap (λ (f : Fault). exit_status f.kind) is ∙ unopened_fails fault unopened
+
+-- a number that was not read
+pub number_unread : (read : Option ℕ) (fault : Fault) (ended : Result ℕ Fault) (output : Option (List ℕ)) (told : Type 0)
+    → Err fault ≡ at_line 0 (need BadNumber read) → IsErrAnd ended (λ e. e ≡ fault) → TellsNumbered ended output output read told
+number_unread (Some m) fault ended output told is passed = absurd (cc)
+number_unread None fault (Ok status) output told is passed = absurd passed
+number_unread None fault (Err e) output told is passed = (ap Err passed ∙ is, Appends-nil output)

@@ -94,7 +94,11 @@ fn commands<'a>(alloc: Global) -> Result<Command<'a>, AllocError>
         "how many connections are served, 1 to 1000000",
         COUNT_RANGE,
     );
-    const DECK: Operand = ("DECK", "the name of a deck, or YANK$$$", ValueParser::String);
+    const DECK: Operand = (
+        "DECK",
+        "the name of a deck, or YANK$$$",
+        ValueParser::String,
+    );
     const CARD: Operand = ("CARD", "a card, as A.2", ValueParser::String);
     program(alloc)
         .subcommand(command(alloc, "trial", help::TRIAL, &[MODE])?)?
