@@ -8,7 +8,7 @@ use Rattle.upd_row_store.specs.Keeping.IsLost.{OfMemory, OfStore}
 use Rattle.upd_store.specs.Faults.{IsUnopened}
 use Rattle.upd_cli.specs.Commands.{TellsNothing, TellsNumbered}
 use Rattle.upd_cli.specs.Errands.{IsUnread}
-use Rattle.upd_cli.specs.Status.{exit_status}
+use Rattle.upd_cli.specs.Status.{exit_status, no_memory, read_failed}
 
 -- a number that was read
 pub number_read : (read : Option ℕ) (n : ℕ) (ended : Result ℕ Fault) (output output' : Option (List ℕ)) (told : Type 0)
@@ -43,6 +43,11 @@ pub passed_fails : (result : Result ℕ Fault) (fault : Fault) → IsErrAnd resu
     → IfErr result (λ f. exit_status f.kind ≡ 3)
 passed_fails (Ok status) fault is unopened = tt
 passed_fails (Err e) fault is unopened = ap (λ (f : Fault). exit_status f.kind) is ∙ unopened_fails fault unopened
+
+pub passed_unread : (result : Result ℕ Fault) (fault : Fault) → IsErrAnd result (λ e. e ≡ fault) → (fault ≡ no_memory) ⊎ (fault ≡ read_failed)
+    → IsUnread result
+passed_unread (Ok status) fault is why = absurd is
+passed_unread (Err e) fault is why = subst (λ (f : Fault). (f ≡ no_memory) ⊎ (f ≡ read_failed)) (sym is) why
 
 -- a number that was not read
 pub number_unread : (read : Option ℕ) (fault : Fault) (ended : Result ℕ Fault) (output : Option (List ℕ)) (told : Type 0)
