@@ -1,9 +1,8 @@
 -- How a mark is told.
-use Rattle.std.proofs.Common.{◌≡◌, ℕ, List, [], ◌∷◌, ◌++◌, Bor, get_or, length, Option, Result, Ok, IsTrue, ap, ◌∙◌, append_assoc, append-nil, arith}
+use Rattle.std.proofs.Common.{◌≡◌, ℕ, List, [], ◌∷◌, ◌++◌, Bor, get_or, length, Option, Result, Ok, ap, ◌∙◌, append_assoc, append-nil, arith}
 use Rattle.std.specs.List.{flat_map}
 use Rattle.upd_text.specs.declared.fault.Fault.{Fault}
-use Rattle.upd_reply.specs.Texts.{settled_bytes, settled_text}
-use Rattle.upd_desk.specs.Arrivals.{is_site}
+use Rattle.upd_reply.specs.Texts.{settled_bytes}
 use Rattle.upd_http.proofs.HeadLemmas.{mark_text}
 use Rattle.upd_cli.specs.Telling.{TellsMark, Writes}
 

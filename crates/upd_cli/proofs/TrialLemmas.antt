@@ -1,5 +1,5 @@
 -- A trial needs no more of a run than the first byte beyond the limit, and fails by its refusal or for want of memory.
-use Rattle.std.proofs.Common.{◌≡◌, ◌≤◌, ◌<◌, ◌⊎◌, inl, inr, ℕ, ◌+◌, nat_lt, Bool, true, List, length, take, Option, Some, None, Result, Ok, Err, refl, ap, sym}
+use Rattle.std.proofs.Common.{◌≡◌, ◌≤◌, ◌<◌, ◌⊎◌, inl, inr, ℕ, ◌+◌, nat_lt, Bool, true, List, length, take, Option, Result, Ok, Err, refl, ap, sym}
 use Rattle.std.proofs.Common.{◌∙◌, subst, arith}
 use Rattle.upd_core.specs.Library.{empty}
 use Rattle.upd_apply.specs.Applying.{applied}

@@ -4,7 +4,7 @@ use Rattle.std.specs.Net.Grammar.{IsSocketText}
 use Rattle.std.specs.Str.Parse.{IsNumeral, digits_value, without_leading_plus}
 use Rattle.std.specs.declared.net.socket_addr.SocketAddr.{SocketAddr}
 use Rattle.upd_text.specs.Names.{card_of, is_name}
-use Rattle.upd_text.specs.Outcome.{◌>>=◌, at_line, need}
+use Rattle.upd_text.specs.Outcome.{at_line, need}
 use Rattle.upd_text.specs.declared.card_ref.CardRef.{CardRef}
 use Rattle.upd_text.specs.declared.fault.Fault.{Fault}
 use Rattle.upd_text.specs.declared.fault.FaultKind.TheVariants.{BadCard, BadName}

@@ -1,4 +1,4 @@
-use Rattle.std.proofs.Common.{rules, ◌≡◌, ℕ, List, Result, Ok, sym, ◌∙◌, subst}
+use Rattle.std.proofs.Common.{rules, ℕ, List, Result, Ok, sym, ◌∙◌, subst}
 use Rattle.upd_io.proofs.InputLemmas.{some_input}
 use Rattle.upd_text.specs.declared.fault.Fault.{Fault}
 use Rattle.upd_text.specs.Outcome.{GivesAt}

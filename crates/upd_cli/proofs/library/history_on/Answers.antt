@@ -1,6 +1,5 @@
-use Rattle.std.proofs.Common.{List, ℕ, Result, refl, sym, ◌∙◌, subst}
+use Rattle.std.proofs.Common.{refl, sym, ◌∙◌, subst}
 use Rattle.std.proofs.KnownBytes.{Appends-nil}
-use Rattle.upd_text.specs.declared.fault.Fault.{Fault}
 use Rattle.upd_cli.specs.Commands.{TellsRead}
 use Rattle.upd_cli.proofs.library.history_on.Goals as goal
 

@@ -2,7 +2,7 @@ use Rattle.std.proofs.Common.{ℕ, Result, subst, sym}
 use Rattle.upd_text.specs.declared.fault.Fault.{Fault}
 use Rattle.upd_cli.specs.Telling.{TellsLines}
 use Rattle.upd_cli.proofs.CommandLemmas.{error_is}
-use Rattle.upd_cli.proofs.SpoolingLemmas.{lines_before, lines_of_all, unopened_tells_no_lines}
+use Rattle.upd_cli.proofs.SpoolingLemmas.{lines_before, unopened_tells_no_lines}
 use Rattle.upd_cli.proofs.library.spool_on.Goals as goal
 
 pub returns-in_err-desk-clause-leaves : goal.returns-in_err-desk-clause-leaves
