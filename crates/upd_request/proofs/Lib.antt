@@ -4,5 +4,6 @@ pub mod HeadLemmas
 pub mod RequestLemmas
 pub mod SeekLemmas
 pub mod PathLemmas
+pub mod CaptureLemmas
 pub mod RouteLemmas
 pub mod SaysLemmas

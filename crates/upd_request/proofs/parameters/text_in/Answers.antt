@@ -6,7 +6,7 @@ use Rattle.percent_encoding.specs.Iter.{decoded_bytes}
 use Rattle.percent_encoding.specs.Percent.{percent_decode}
 use Rattle.upd_request.specs.Parameters.{parameter, segments_of}
 use Rattle.upd_request.proofs.ParameterLemmas.{text-is, text-not}
-use Rattle.upd_request.proofs.parameters.text_at.Goals as goal
+use Rattle.upd_request.proofs.parameters.text_in.Goals as goal
 
 pub returns-in_ok-text-in-Ok : goal.returns-in_ok-text-in-Ok
 returns-in_ok-text-in-Ok c =
