@@ -155,7 +155,7 @@ module _ (pattern text path : List ℕ) where
       let part : part_of path at (at + length (b ∷ s)) ≡ b ∷ s = rw (ordered, inside, size, there) (take-append_seam (b ∷ s) (spell segments)) in
       rw (here, stop, next, part) refl
 
-  captures_taken : (all : List (List ℕ)) (parts : List Part) (segments : List (List ℕ)) (names : List (ℕ × ℕ)) (i token at : ℕ) → length pattern < 256
+  pub captures_taken : (all : List (List ℕ)) (parts : List Part) (segments : List (List ℕ)) (names : List (ℕ × ℕ)) (i token at : ℕ) → length pattern < 256
       → AreParts parts → length names ≡ parameter_count parts → fits parts segments ≡ true → HaveNoSlash segments
       → drop i all ≡ segments → drop token pattern ≡ tails parts → drop at path ≡ spell segments
       → Walk names token at ≡ zip (map (λ (n : ℕ × ℕ). part_of text n.0 n.1) names) (taken all i parts)
