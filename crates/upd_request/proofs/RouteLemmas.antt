@@ -1,7 +1,7 @@
 -- The router's routes in plain words.
 use Rattle.std.proofs.Common.{◌≡◌, ◌≢◌, inl, inr, ℕ, suc, ◌<◌, ◌≤◌, List, [], ◌∷◌, ◌++◌, length, drop, map, get_or, Option, Some, None, Bool, true, false}
 use Rattle.std.proofs.Common.{not, ◌&&◌, ◌||◌, if◌then◌else◌, nat_lt, nat_le, ltb, ◌==◌, refl, sym, ap, ap₂, ◌∙◌, subst, arith, codes, option_map, Fits, w8}
-use Rattle.std.proofs.lemmas.Bool.{false≢true, ltb-true}
+use Rattle.std.proofs.lemmas.Bool.{and_parts, false≢true, ltb-true}
 use Rattle.std.proofs.lemmas.Bool.Decides.{nat_tests}
 use Rattle.std.proofs.lemmas.Slice.Eq.{bytes_eq-Decides}
 use Rattle.std.proofs.lemmas.Str.{IsUtf8-from_is_utf8}
@@ -17,96 +17,25 @@ use Rattle.upd_request.specs.Paths.{AreBytes, ArePlain, Part, word, any, fits, p
 use Rattle.upd_request.specs.Routes.{parameters_of, route_of, routes}
 use Rattle.upd_request.specs.declared.routes.Route.{Route}
 use Rattle.upd_request.specs.declared.routes.Route.TheVariants as route
-use Rattle.upd_request.proofs.CaptureLemmas.{captures_taken, parameter_count, segments_are_text, segments_spell_path, spell, taken}
-use Rattle.upd_request.proofs.PathLemmas.{AreParts, IsPart, IsWord, parts_go, piece, tails}
-use Rattle.upd_request.proofs.SeekLemmas.{AllPlain, Ends, Finds, Hits, IsPlain, Misses, goes, seek_finds}
+use Rattle.upd_request.proofs.CaptureLemmas.{captures_taken, parameter_count, taken}
+use Rattle.upd_request.proofs.PathLemmas.{are_words, path_goes, tails, tails_are_plain}
+use Rattle.upd_request.proofs.SeekLemmas.{AllPlain, Finds, Hits, Misses, goes, seek_finds}
+use Rattle.upd_request.proofs.SegmentLemmas.{segments_are_text, segments_spell_path, spell}
 
--- the tokens of parts, the first of which stands in front of no slash
-abbrev tokens : List Part → List ℕ
-tokens [] = []
-tokens (part ∷ parts) = piece part ++ tails parts
-
--- ---- tests that compute
-
-and_both : (x y : Bool) → (x && y) ≡ true → (x ≡ true) × (y ≡ true)
-and_both true true is = (refl, refl)
-and_both true false is = absurd (false≢true is)
-and_both false y is = absurd (false≢true is)
-
-abbrev ends_test : List ℕ → Bool
-ends_test [] = true
-ends_test (x ∷ tokens) = x == 47
-
-abbrev is_plain : List ℕ → Bool
-is_plain [] = true
-is_plain (x ∷ tokens) = nat_le x 256 && ((not (x == 256) || ends_test tokens) && is_plain tokens)
-
-plain_is : (tokens : List ℕ) → is_plain tokens ≡ true → IsPlain tokens
-plain_is [] is = tt
-plain_is (x ∷ ts) is =
-    let (small, more) = and_both (nat_le x 256) _ is in
-    let (param, rest) = and_both (not (x == 256) || ends_test ts) (is_plain ts) more in
-    let most : x ≤ 256 = grind (arith, nat_tests) in
-    (most, λ same. ends_is ts (let there : (x == 256) ≡ true = grind (arith, nat_tests) in rw there at param), plain_is ts rest)
-  where
-    ends_is : (tokens : List ℕ) → ends_test tokens ≡ true → Ends tokens
-    ends_is [] is = tt
-    ends_is (y ∷ more) is = grind (arith, nat_tests)
-
-abbrev are_plain : RowsOf (RouteOf Route) → Bool
-are_plain [] = true
-are_plain ((t, k) ∷ rows) = is_plain t && are_plain rows
-
-plain_are : (rows : RowsOf (RouteOf Route)) → are_plain rows ≡ true → AllPlain rows
-plain_are [] is = tt
-plain_are ((t, k) ∷ rows) is =
-    let (here, later) = and_both (is_plain t) (are_plain rows) is in
-    (plain_is t here, plain_are rows later)
-
-routes_plain : AllPlain routes
-unfolding matchit_on_literals
-routes_plain = plain_are routes refl
-
-abbrev is_word : List ℕ → Bool
-is_word [] = true
-is_word (x ∷ w) = nat_lt x 256 && (not (x == 47) && is_word w)
-
-word_is : (w : List ℕ) → is_word w ≡ true → IsWord w
-word_is [] is = tt
-word_is (x ∷ w) is =
-    let (small, more) = and_both (nat_lt x 256) _ is in
-    let (other, rest) = and_both (not (x == 47)) (is_word w) more in
-    let byte : x < 256 = grind (arith, nat_tests) in
-    let apart : x ≢ 47 = λ same. grind (arith, nat_tests) in
-    (byte, apart, word_is w rest)
-
-abbrev is_part : Part → Bool
-is_part (word w) = is_word w
-is_part any = true
-
-abbrev are_parts : List Part → Bool
-are_parts [] = true
-are_parts (part ∷ parts) = is_part part && are_parts parts
-
-part_is : (part : Part) → is_part part ≡ true → IsPart part
-part_is (word w) is = word_is w is
-part_is any is = tt
-
-parts_are : (parts : List Part) → are_parts parts ≡ true → AreParts parts
-parts_are [] is = tt
-parts_are (part ∷ parts) is =
-    let (here, later) = and_both (is_part part) (are_parts parts) is in
-    (part_is part here, parts_are parts later)
+-- the parts of a route after its first slash
+abbrev steps : Route → List Part
+steps r = drop 1 (parts_of r)
 
 -- ---- rows and routes
 
 -- A row is as its route says.
 record IsRoute (t : List ℕ) (k : RouteOf Route) : Type 0 where
-  row : t ≡ tokens (parts_of k.value)
+  row : t ≡ tails (steps k.value)
   pattern : k.pattern ≡ t
+  words : are_words (steps k.value) ≡ true
   short : ltb (length t) 256 ≡ true
-  count : length k.names ≡ parameter_count (parts_of k.value)
-  names : (segments : List (List ℕ)) → zip (map (λ (n : ℕ × ℕ). part_of k.text n.0 n.1) k.names) (taken segments 0 (parts_of k.value)) ≡ parameters_of k.value segments
+  count : length k.names ≡ parameter_count (steps k.value)
+  names : (segments : List (List ℕ)) → zip (map (λ (n : ℕ × ℕ). part_of k.text n.0 n.1) k.names) (taken segments 1 (steps k.value)) ≡ parameters_of k.value segments
 
 abbrev AreRoutes : RowsOf (RouteOf Route) → Type 0
 AreRoutes [] = Unit {0}
@@ -115,13 +44,17 @@ AreRoutes ((t, k) ∷ rows) = IsRoute t k × AreRoutes rows
 are_routes : AreRoutes routes
 unfolding matchit_on_literals
 are_routes = (
-  record { row = refl; pattern = refl; short = refl; count = refl; names = λ s. refl }, (
-  record { row = refl; pattern = refl; short = refl; count = refl; names = λ s. refl }, (
-  record { row = refl; pattern = refl; short = refl; count = refl; names = λ s. refl }, (
-  record { row = refl; pattern = refl; short = refl; count = refl; names = λ s. refl }, (
-  record { row = refl; pattern = refl; short = refl; count = refl; names = λ s. refl }, (
-  record { row = refl; pattern = refl; short = refl; count = refl; names = λ s. refl }, (
-  record { row = refl; pattern = refl; short = refl; count = refl; names = λ s. refl }, tt)))))))
+  record { row = refl; pattern = refl; words = refl; short = refl; count = refl; names = λ s. refl }, (
+  record { row = refl; pattern = refl; words = refl; short = refl; count = refl; names = λ s. refl }, (
+  record { row = refl; pattern = refl; words = refl; short = refl; count = refl; names = λ s. refl }, (
+  record { row = refl; pattern = refl; words = refl; short = refl; count = refl; names = λ s. refl }, (
+  record { row = refl; pattern = refl; words = refl; short = refl; count = refl; names = λ s. refl }, (
+  record { row = refl; pattern = refl; words = refl; short = refl; count = refl; names = λ s. refl }, (
+  record { row = refl; pattern = refl; words = refl; short = refl; count = refl; names = λ s. refl }, tt)))))))
+
+plain_rows : (rows : RowsOf (RouteOf Route)) → AreRoutes rows → AllPlain rows
+plain_rows [] are = tt
+plain_rows ((t, k) ∷ rows) (is, are) = (rw is.row (tails_are_plain (steps k.value) is.words).0, plain_rows rows are)
 
 hits_route : (g : List ℕ → Bool) (rows : RowsOf (RouteOf Route)) (key : RouteOf Route) → AreRoutes rows → Hits g rows key
     → (t : List ℕ) × IsRoute t key × (g t ≡ true)
@@ -129,7 +62,7 @@ hits_route g [] key are hit = absurd hit
 hits_route g ((t, k) ∷ rows) key (is, are) (inl (passes, same)) = (t, subst (IsRoute t) same is, passes)
 hits_route g ((t, k) ∷ rows) key (is, are) (inr later) = hits_route g rows key are later
 
-misses_value : (g : List ℕ → Bool) → Misses g routes → (r : Route) → g (tokens (parts_of r)) ≡ false
+misses_value : (g : List ℕ → Bool) → Misses g routes → (r : Route) → g (tails (steps r)) ≡ false
 unfolding matchit_on_literals
 misses_value g misses route.Run = misses.1.1.1.1.0
 misses_value g misses route.Settled = misses.1.1.1.1.1.0
@@ -140,7 +73,7 @@ misses_value g misses route.Idents = misses.1.1.1.0
 misses_value g misses route.Yanks = misses.1.1.1.1.1.1.0
 
 -- a route begins with a slash
-begins : (r : Route) → (parts_of r ≡ word [] ∷ drop 1 (parts_of r)) × (are_parts (drop 1 (parts_of r)) ≡ true)
+begins : (r : Route) → (parts_of r ≡ word [] ∷ steps r) × (are_words (steps r) ≡ true)
 begins route.Run = (refl, refl)
 begins route.Settled = (refl, refl)
 begins route.Compile = (refl, refl)
@@ -149,11 +82,10 @@ begins route.Card = (refl, refl)
 begins route.Idents = (refl, refl)
 begins route.Yanks = (refl, refl)
 
-route_goes : (r : Route) (path : List ℕ) → goes (tokens (parts_of r)) path ≡ fits (parts_of r) (segments_of path)
+route_goes : (r : Route) (path : List ℕ) → goes (tails (steps r)) path ≡ fits (parts_of r) (segments_of path)
 route_goes r path =
     let (begin, are) = begins r in
-    subst (λ (parts : List Part). goes (tokens parts) path ≡ fits parts (segments_of path)) (sym begin)
-        (parts_go (word []) (drop 1 (parts_of r)) tt (parts_are (drop 1 (parts_of r)) are) path)
+    path_goes (steps r) are path ∙ sym (ap (λ parts. fits parts (segments_of path)) begin)
 
 -- ---- no path fits two routes
 
@@ -161,14 +93,14 @@ length_fits : (parts : List Part) (segments : List (List ℕ)) → fits parts se
 length_fits [] [] is = refl
 length_fits [] (s ∷ segments) is = absurd (false≢true is)
 length_fits (part ∷ parts) [] is = absurd (false≢true is)
-length_fits (part ∷ parts) (s ∷ segments) is = ap suc (length_fits parts segments (and_both (part_fits part s) (fits parts segments) is).1)
+length_fits (part ∷ parts) (s ∷ segments) is = ap suc (length_fits parts segments (and_parts (part_fits part s) (fits parts segments) is).1)
 
 second_fits : (part : Part) (w : List ℕ) (parts : List Part) (segments : List (List ℕ)) → fits (part ∷ word w ∷ parts) segments ≡ true → get_or segments 1 [] ≡ w
 second_fits part w parts [] is = absurd (false≢true is)
-second_fits part w parts (s ∷ []) is = absurd (false≢true (and_both (part_fits part s) false is).1)
+second_fits part w parts (s ∷ []) is = absurd (false≢true (and_parts (part_fits part s) false is).1)
 second_fits part w parts (s ∷ t ∷ segments) is =
-    let (here, later) = and_both (part_fits part s) (bytes_eq w t && fits parts segments) is in
-    sym ((bytes_eq-Decides w t).0 (and_both (bytes_eq w t) (fits parts segments) later).0)
+    let (here, later) = and_parts (part_fits part s) (bytes_eq w t && fits parts segments) is in
+    sym ((bytes_eq-Decides w t).0 (and_parts (bytes_eq w t) (fits parts segments) later).0)
 
 -- the route of a number of segments and the second of them
 route_by : ℕ → List ℕ → Route
@@ -205,7 +137,7 @@ hit_fits path k hit =
     (t, is, sym (route_goes k.value path) ∙ (ap (λ t. goes t path) (sym is.row) ∙ passes))
 
 pub plain : (path : List ℕ) → AreBytes path → (r : Route) → ArePlain path r
-plain path bytes r = by (first routes path) refl (seek_finds path bytes 0 routes routes_plain)
+plain path bytes r = by (first routes path) refl (seek_finds path bytes 0 routes (plain_rows routes are_routes))
   where
     by : (answer : Option (RouteOf Route)) → first routes path ≡ answer → Finds (λ t. goes t path) routes answer → ArePlain path r
     by None is misses = record {
@@ -231,18 +163,15 @@ plain path bytes r = by (first routes path) refl (seek_finds path bytes 0 routes
 pub captures_are_parameters : (path : List ℕ) → AreBytes path → (k : RouteOf Route) → first routes path ≡ Some k
     → walk k.pattern k.text path k.names 0 0 ≡ parameters_of k.value (segments_of path)
 captures_are_parameters path bytes k found =
-    let (t, is, fit) = hit_fits path k (subst (Finds (λ t. goes t path) routes) found (seek_finds path bytes 0 routes routes_plain)) in
-    let parts = drop 1 (parts_of k.value) in
+    let (t, is, fit) = hit_fits path k (subst (Finds (λ t. goes t path) routes) found (seek_finds path bytes 0 routes (plain_rows routes are_routes))) in
     let (begin, are) = begins k.value in
     let (s, more, split, whole, none, rest) = segments_spell_path path in
-    let fit' : (bytes_eq [] s && fits parts more) ≡ true = sym (ap₂ fits begin split) ∙ fit in
-    let (empty, fit'') = and_both (bytes_eq [] s) (fits parts more) fit' in
+    let fit' : (bytes_eq [] s && fits (steps k.value) more) ≡ true = sym (ap₂ fits begin split) ∙ fit in
+    let (empty, fit'') = and_parts (bytes_eq [] s) (fits (steps k.value) more) fit' in
     let spelled : path ≡ spell more = whole ∙ ap (λ l. l ++ spell more) (sym ((bytes_eq-Decides [] s).0 empty)) in
-    let pattern : k.pattern ≡ tails parts = is.pattern ∙ (is.row ∙ ap tokens begin) in
     let short : length k.pattern < 256 = rw is.pattern (ltb-true (length t) 256 is.short) in
-    captures_taken k.pattern k.text path (segments_of path) parts more k.names 1 0 0 short (parts_are parts are) (is.count ∙ ap parameter_count begin) fit'' rest
-    (ap (drop 1) split) pattern spelled
-    ∙ (ap (λ l. zip (map (λ (n : ℕ × ℕ). part_of k.text n.0 n.1) k.names) (taken (segments_of path) 0 l)) (sym begin) ∙ is.names (segments_of path))
+    captures_taken k.pattern k.text path (segments_of path) (steps k.value) more k.names 1 0 0 short is.words is.count fit'' rest
+    (ap (drop 1) split) (is.pattern ∙ is.row) spelled ∙ is.names (segments_of path)
 
 pub parameters_are_text : (r : Route) (path : List ℕ) → IsUtf8 path → AllText (parameters_of r (segments_of path))
 unfolding is_utf8 chars lib.Utf8.encode

@@ -2,19 +2,16 @@
 use Rattle.std.proofs.Common.{◌≡◌, ◌⊎◌, inl, inr, ℕ, zero, suc, ◌-◌, ◌<◌, ◌≤◌, List, [], ◌∷◌, length, drop, Option, Some, None, Bool, true}
 use Rattle.std.proofs.Common.{false, cond, not, ◌&&◌}
 use Rattle.std.proofs.Common.{refl, sym, ap, ◌∙◌, subst, arith, nat_eq, ◌==◌, ltb}
+use Rattle.std.proofs.Math.Seq.{drop-length}
 use Rattle.std.proofs.lemmas.Bool.{false≢true}
 use Rattle.std.proofs.lemmas.Bool.Decides.{nat_tests}
 use Rattle.std.specs.Cmp.Lexicographic.{pointwise}
 use Rattle.std.specs.List.{ends_with}
 use Rattle.matchit.specs.Rows.{RowsOf}
-use Rattle.upd_request.specs.Paths.{AreBytes}
 use Rattle.matchit.specs.Seek.{better, cuts, has_slash, longest_from, longest_suffix, or_else, own, param_step, same_text, seek, segment, slash, step}
 use Rattle.matchit.specs.Seek.{with_suffix}
-
--- what a path has from its first slash on
-abbrev pub rest_of : List ℕ → List ℕ
-rest_of [] = []
-rest_of (b ∷ path) = cond (b == 47) (b ∷ path) (rest_of path)
+use Rattle.upd_request.specs.Paths.{AreBytes}
+use Rattle.upd_request.proofs.SegmentLemmas.{cuts_at_slash, rest_at, rest_none, rest_of, rest_some}
 
 -- whether a path goes by tokens: a parameter takes all up to the next slash, and at least a byte
 abbrev pub goes : List ℕ → List ℕ → Bool
@@ -232,82 +229,6 @@ module _ {K : Type 0} where
   no_tails_miss q (([], k) ∷ rows) none = (refl, no_tails_miss q rows none)
   no_tails_miss q ((x ∷ t, k) ∷ rows) none = absurd (false≢true (sym none))
 
--- the end of a segment
-ends_more : (b c : ℕ) (s : List ℕ) → ends_with nat_eq (b ∷ c ∷ s) (47 ∷ []) ≡ ends_with nat_eq (c ∷ s) (47 ∷ [])
-ends_more b c s =
-    let long : suc (suc (length s)) - 1 ≡ suc (length s) = omega arith in
-    let short : suc (length s) - 1 ≡ length s = omega arith in
-    ap (λ n. pointwise nat_eq (47 ∷ []) (drop n (b ∷ c ∷ s))) long ∙ sym (ap (λ n. pointwise nat_eq (47 ∷ []) (drop n (c ∷ s))) short)
-
-segment_ends : (b : ℕ) (path : List ℕ) → (b == 47) ≡ false → ends_with nat_eq (b ∷ segment path) (47 ∷ []) ≡ has_slash path
-segment_ends b [] other =
-    let flipped : (47 == b) ≡ false = grind (arith, nat_tests) in
-    rw flipped refl
-segment_ends b (c ∷ path) other = by (segment_ends c path) (c == 47) refl
-  where
-    by : ((c == 47) ≡ false → ends_with nat_eq (c ∷ segment path) (47 ∷ []) ≡ has_slash path) → (v : Bool) → (c == 47) ≡ v
-        → ends_with nat_eq (b ∷ cond v (c ∷ []) (c ∷ segment path)) (47 ∷ []) ≡ cond v true (has_slash path)
-    by on true e =
-        let flipped : (47 == c) ≡ true = grind (arith, nat_tests) in
-        ends_more b c [] ∙ rw flipped refl
-    by on false e = ends_more b c (segment path) ∙ on e
-
-segment_some : (c : ℕ) (path : List ℕ) → 0 < length (segment (c ∷ path))
-segment_some c path =
-    elim (c == 47) as (λ v. 0 < length (cond v (c ∷ []) (c ∷ segment path))) [
-      | true ↦ omega arith
-      | false ↦ omega arith
-    ]
-
-cuts_at_slash : (b : ℕ) (path : List ℕ) → (b == 47) ≡ false → cuts (b ∷ segment path) (47 ∷ []) ≡ has_slash path
-cuts_at_slash b [] other = refl
-cuts_at_slash b (c ∷ path) other =
-    let some = segment_some c path in
-    let two : ltb 1 (suc (length (segment (c ∷ path)))) ≡ true = grind (arith, nat_tests) in
-    rw two (segment_ends b (c ∷ path) other)
-
-rest_none : (path : List ℕ) → has_slash path ≡ false → rest_of path ≡ []
-rest_none [] none = refl
-rest_none (c ∷ path) none = by (rest_none path) (c == 47) none
-  where
-    by : (has_slash path ≡ false → rest_of path ≡ []) → (v : Bool) → cond v true (has_slash path) ≡ false → cond v (c ∷ path) (rest_of path) ≡ []
-    by on true none = absurd (false≢true (sym none))
-    by on false none = on none
-
-rest_some : (path : List ℕ) → has_slash path ≡ true → (q : List ℕ) × (rest_of path ≡ 47 ∷ q)
-rest_some [] some = absurd (false≢true some)
-rest_some (c ∷ path) some = by (rest_some path) (c == 47) refl some
-  where
-    by : (has_slash path ≡ true → (q : List ℕ) × (rest_of path ≡ 47 ∷ q)) → (v : Bool) → (c == 47) ≡ v → cond v true (has_slash path) ≡ true
-        → (q : List ℕ) × (cond v (c ∷ path) (rest_of path) ≡ 47 ∷ q)
-    by on true e some =
-        let same : c ≡ 47 = grind (arith, nat_tests) in
-        (path, ap (λ x. x ∷ path) same)
-    by on false e some = on some
-
-rest_at : (path : List ℕ) → has_slash path ≡ true → drop (length (segment path) - 1) path ≡ rest_of path
-rest_at [] some = absurd (false≢true some)
-rest_at (c ∷ path) some = by (rest_at path) (c == 47) some
-  where
-    further : (path : List ℕ) → has_slash path ≡ true → length (segment path) ≡ suc (length (segment path) - 1)
-    further [] some = absurd (false≢true some)
-    further (d ∷ path) some =
-        let some = segment_some d path in
-        omega arith
-
-    by : (has_slash path ≡ true → drop (length (segment path) - 1) path ≡ rest_of path) → (v : Bool) → cond v true (has_slash path) ≡ true
-        → drop (length (cond v (c ∷ []) (c ∷ segment path)) - 1) (c ∷ path) ≡ cond v (c ∷ path) (rest_of path)
-    by on true some = refl
-    by on false some =
-        let one : suc (length (segment path)) - 1 ≡ suc (length (segment path) - 1) =
-        (let f = further path some in omega arith) in
-        ap (λ n. drop n (c ∷ path)) one ∙ on some
-
-drop_all : (path : List ℕ) → drop (length path) path ≡ []
-drop_all [] = refl
-drop_all (b ∷ path) = drop_all path
-
-module _ {K : Type 0} where
   -- how far a parameter goes, and the rows behind it
   stepped : List ℕ → RowsOf K → List ℕ → List ℕ → Bool → ℕ × RowsOf K
   stepped path rows s longest v =
@@ -373,7 +294,7 @@ module _ {K : Type 0} where
           let whole = step_is ∙ (ap (λ l. Step (b ∷ segment path) l (has_slash path)) longest ∙ ap (Step (b ∷ segment path) []) none) in
           let n = suc (length path) - 1 in
           let place : n ≡ length path = omega arith in
-          let there : drop n path ≡ rest_of path = ap (λ m. drop m path) place ∙ (drop_all path ∙ sym (rest_none path none)) in
+          let there : drop n path ≡ rest_of path = ap (λ m. drop m path) place ∙ (drop-length path ∙ sym (rest_none path none)) in
           let P : List ℕ → Type 0 = λ l. Finds (λ t. goes t l) rows (seek n rows path) in
           subst Answer (sym whole) (subst P there (later n rows plain))
 
