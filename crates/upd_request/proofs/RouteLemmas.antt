@@ -19,7 +19,7 @@ use Rattle.upd_request.specs.declared.routes.Route.{Route}
 use Rattle.upd_request.specs.declared.routes.Route.TheVariants as route
 use Rattle.upd_request.proofs.CaptureLemmas.{captures_taken, parameter_count, taken}
 use Rattle.upd_request.proofs.PathLemmas.{are_words, path_goes, tails, tails_are_plain}
-use Rattle.upd_request.proofs.SeekLemmas.{AllPlain, Finds, Hits, Misses, goes, seek_finds}
+use Rattle.upd_request.proofs.SeekLemmas.{AllPlain, Finds, Has, goes, seek_finds}
 use Rattle.upd_request.proofs.SegmentLemmas.{segments_are_text, segments_spell_path, spell}
 
 -- the parts of a route after its first slash
@@ -52,25 +52,25 @@ are_routes = (
   record { row = refl; pattern = refl; words = refl; short = refl; count = refl; names = λ s. refl }, (
   record { row = refl; pattern = refl; words = refl; short = refl; count = refl; names = λ s. refl }, tt)))))))
 
-plain_rows : (rows : RowsOf (RouteOf Route)) → AreRoutes rows → AllPlain rows
-plain_rows [] are = tt
-plain_rows ((t, k) ∷ rows) (is, are) = (rw is.row (tails_are_plain (steps k.value) is.words).0, plain_rows rows are)
+has_route : (t : List ℕ) (key : RouteOf Route) (rows : RowsOf (RouteOf Route)) → AreRoutes rows → Has t key rows → IsRoute t key
+has_route t key [] are has = absurd has
+has_route t key ((u, k) ∷ rows) (is, are) (inl (row, same)) = subst (λ l. IsRoute l key) row (subst (IsRoute u) same is)
+has_route t key ((u, k) ∷ rows) (is, are) (inr has) = has_route t key rows are has
 
-hits_route : (g : List ℕ → Bool) (rows : RowsOf (RouteOf Route)) (key : RouteOf Route) → AreRoutes rows → Hits g rows key
-    → (t : List ℕ) × IsRoute t key × (g t ≡ true)
-hits_route g [] key are hit = absurd hit
-hits_route g ((t, k) ∷ rows) key (is, are) (inl (passes, same)) = (t, subst (IsRoute t) same is, passes)
-hits_route g ((t, k) ∷ rows) key (is, are) (inr later) = hits_route g rows key are later
+routes_are_plain : AllPlain routes
+routes_are_plain t key has =
+    let is = has_route t key routes are_routes has in
+    rw is.row (tails_are_plain (steps key.value) is.words).0
 
-misses_value : (g : List ℕ → Bool) → Misses g routes → (r : Route) → g (tails (steps r)) ≡ false
+misses_value : (g : List ℕ → Bool) → Finds g routes None → (r : Route) → g (tails (steps r)) ≡ false
 unfolding matchit_on_literals
-misses_value g misses route.Run = misses.1.1.1.1.0
-misses_value g misses route.Settled = misses.1.1.1.1.1.0
-misses_value g misses route.Compile = misses.1.0
-misses_value g misses route.Deck = misses.1.1.0
-misses_value g misses route.Card = misses.0
-misses_value g misses route.Idents = misses.1.1.1.0
-misses_value g misses route.Yanks = misses.1.1.1.1.1.1.0
+misses_value g misses route.Run = misses _ _ (inr (inr (inr (inr (inl (refl, refl))))))
+misses_value g misses route.Settled = misses _ _ (inr (inr (inr (inr (inr (inl (refl, refl)))))))
+misses_value g misses route.Compile = misses _ _ (inr (inl (refl, refl)))
+misses_value g misses route.Deck = misses _ _ (inr (inr (inl (refl, refl))))
+misses_value g misses route.Card = misses _ _ (inl (refl, refl))
+misses_value g misses route.Idents = misses _ _ (inr (inr (inr (inl (refl, refl)))))
+misses_value g misses route.Yanks = misses _ _ (inr (inr (inr (inr (inr (inr (inl (refl, refl))))))))
 
 -- a route begins with a slash
 begins : (r : Route) → (parts_of r ≡ word [] ∷ steps r) × (are_words (steps r) ≡ true)
@@ -131,13 +131,14 @@ one_fits : (r q : Route) (segments : List (List ℕ)) → fits (parts_of r) segm
 one_fits r q segments one other = sym (fits_by r segments one) ∙ fits_by q segments other
 
 -- the row that a path goes by
-hit_fits : (path : List ℕ) (k : RouteOf Route) → Hits (λ t. goes t path) routes k → (t : List ℕ) × IsRoute t k × (fits (parts_of k.value) (segments_of path) ≡ true)
-hit_fits path k hit =
-    let (t, is, passes) = hits_route (λ t. goes t path) routes k are_routes hit in
+found_fits : (path : List ℕ) (k : RouteOf Route) → Finds (λ t. goes t path) routes (Some k)
+    → (t : List ℕ) × IsRoute t k × (fits (parts_of k.value) (segments_of path) ≡ true)
+found_fits path k (t, has, passes) =
+    let is = has_route t k routes are_routes has in
     (t, is, sym (route_goes k.value path) ∙ (ap (λ t. goes t path) (sym is.row) ∙ passes))
 
 pub plain : (path : List ℕ) → AreBytes path → (r : Route) → ArePlain path r
-plain path bytes r = by (first routes path) refl (seek_finds path bytes 0 routes (plain_rows routes are_routes))
+plain path bytes r = by (first routes path) refl (seek_finds path bytes routes routes_are_plain)
   where
     by : (answer : Option (RouteOf Route)) → first routes path ≡ answer → Finds (λ t. goes t path) routes answer → ArePlain path r
     by None is misses = record {
@@ -149,7 +150,7 @@ plain path bytes r = by (first routes path) refl (seek_finds path bytes 0 routes
         none_is_some e = cc
     by (Some k) is hit =
         let value : route_of path ≡ Some k.value = ap (option_map (λ (k : RouteOf Route). k.value)) is in
-        let (t, row, it_fits) = hit_fits path k hit in
+        let (t, row, it_fits) = found_fits path k hit in
         record {
           found = λ e. subst (λ (q : Route). fits (parts_of q) (segments_of path) ≡ true) (some_same (sym value ∙ e)) it_fits;
           only = λ e. value ∙ ap Some (one_fits k.value r (segments_of path) it_fits e);
@@ -163,7 +164,7 @@ plain path bytes r = by (first routes path) refl (seek_finds path bytes 0 routes
 pub captures_are_parameters : (path : List ℕ) → AreBytes path → (k : RouteOf Route) → first routes path ≡ Some k
     → walk k.pattern k.text path k.names 0 0 ≡ parameters_of k.value (segments_of path)
 captures_are_parameters path bytes k found =
-    let (t, is, fit) = hit_fits path k (subst (Finds (λ t. goes t path) routes) found (seek_finds path bytes 0 routes (plain_rows routes are_routes))) in
+    let (t, is, fit) = found_fits path k (subst (Finds (λ t. goes t path) routes) found (seek_finds path bytes routes routes_are_plain)) in
     let (begin, are) = begins k.value in
     let (s, more, split, whole, none, rest) = segments_spell_path path in
     let fit' : (bytes_eq [] s && fits (steps k.value) more) ≡ true = sym (ap₂ fits begin split) ∙ fit in

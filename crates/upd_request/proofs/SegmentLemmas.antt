@@ -1,5 +1,5 @@
 -- The segments of a path.
-use Rattle.std.proofs.Common.{◌≡◌, ℕ, zero, suc, ◌+◌, ◌-◌, ◌<◌, List, [], ◌∷◌, ◌++◌, length, drop, get_or, Bool, true, false, cond, ltb, nat_eq, ◌==◌, refl, sym, ap, ◌∙◌}
+use Rattle.std.proofs.Common.{◌≡◌, ℕ, zero, suc, ◌+◌, ◌-◌, ◌<◌, List, [], ◌∷◌, ◌++◌, length, drop, get_or, Bool, true, false, cond, ltb, nat_eq, ◌==◌, ◌&&◌, refl, sym, ap, ◌∙◌}
 use Rattle.std.proofs.Common.{subst, arith, add-one, append-nil}
 use Rattle.std.proofs.Math.Seq.{drop-append_seam, get_or-append_seam, take-append_seam}
 use Rattle.std.proofs.lemmas.Bool.{false≢true}
@@ -64,7 +64,21 @@ rest_spelled (b ∷ s) none segments =
     let (other, later) = no_slash b s none in
     rw other (rest_spelled s later segments)
 
--- ---- where the next slash is
+pub segment_all : (s : List ℕ) → has_slash s ≡ false → segment s ≡ s
+segment_all [] none = refl
+segment_all (b ∷ s) none =
+    let (other, later) = no_slash b s none in
+    rw other (ap (λ l. b ∷ l) (segment_all s later))
+
+pub slash_in : (s rest : List ℕ) → has_slash (s ++ 47 ∷ rest) ≡ true
+slash_in [] rest = refl
+slash_in (b ∷ s) rest = by (b == 47) (slash_in s rest)
+  where
+    by : (v : Bool) → has_slash (s ++ 47 ∷ rest) ≡ true → cond v true (has_slash (s ++ 47 ∷ rest)) ≡ true
+    by true is = refl
+    by false is = is
+
+-- ---- whether a slash ends a segment
 
 ends_more : (b c : ℕ) (s : List ℕ) → ends_with nat_eq (b ∷ c ∷ s) (47 ∷ []) ≡ ends_with nat_eq (c ∷ s) (47 ∷ [])
 ends_more b c s =
@@ -72,69 +86,29 @@ ends_more b c s =
     let short : suc (length s) - 1 ≡ length s = omega arith in
     ap (λ n. pointwise nat_eq (47 ∷ []) (drop n (b ∷ c ∷ s))) long ∙ sym (ap (λ n. pointwise nat_eq (47 ∷ []) (drop n (c ∷ s))) short)
 
-segment_ends : (b : ℕ) (path : List ℕ) → (b == 47) ≡ false → ends_with nat_eq (b ∷ segment path) (47 ∷ []) ≡ has_slash path
-segment_ends b [] other =
+ends_at_slash : (b : ℕ) (s : List ℕ) → ends_with nat_eq (b ∷ s ++ 47 ∷ []) (47 ∷ []) ≡ true
+ends_at_slash b [] = refl
+ends_at_slash b (c ∷ s) = ends_more b c (s ++ 47 ∷ []) ∙ ends_at_slash c s
+
+ends_without : (b : ℕ) (s : List ℕ) → has_slash (b ∷ s) ≡ false → ends_with nat_eq (b ∷ s) (47 ∷ []) ≡ false
+ends_without b [] none =
+    let other = (no_slash b [] none).0 in
     let flipped : (47 == b) ≡ false = grind (arith, nat_tests) in
     rw flipped refl
-segment_ends b (c ∷ path) other = by (segment_ends c path) (c == 47) refl
-  where
-    by : ((c == 47) ≡ false → ends_with nat_eq (c ∷ segment path) (47 ∷ []) ≡ has_slash path) → (v : Bool) → (c == 47) ≡ v
-        → ends_with nat_eq (b ∷ cond v (c ∷ []) (c ∷ segment path)) (47 ∷ []) ≡ cond v true (has_slash path)
-    by on true e =
-        let flipped : (47 == c) ≡ true = grind (arith, nat_tests) in
-        ends_more b c [] ∙ rw flipped refl
-    by on false e = ends_more b c (segment path) ∙ on e
+ends_without b (c ∷ s) none = ends_more b c s ∙ ends_without c s (no_slash b (c ∷ s) none).1
 
-segment_some : (c : ℕ) (path : List ℕ) → 0 < length (segment (c ∷ path))
-segment_some c path =
-    elim (c == 47) as (λ v. 0 < length (cond v (c ∷ []) (c ∷ segment path))) [
-      | true ↦ omega arith
-      | false ↦ omega arith
+pub cut_at_slash : (b : ℕ) (s : List ℕ) → cuts (b ∷ s ++ 47 ∷ []) (47 ∷ []) ≡ true
+cut_at_slash b s =
+    let long : ltb 1 (suc (length (s ++ 47 ∷ []))) ≡ true = (let size = length-append s (47 ∷ []) in grind (arith, nat_tests)) in
+    rw (long, ends_at_slash b s) refl
+
+pub uncut : (s : List ℕ) → has_slash s ≡ false → cuts s (47 ∷ []) ≡ false
+uncut [] none = refl
+uncut (b ∷ s) none =
+    elim (ltb 1 (suc (length s))) as (λ v. (v && ends_with nat_eq (b ∷ s) (47 ∷ [])) ≡ false) [
+      | true ↦ ends_without b s none
+      | false ↦ refl
     ]
-
-pub cuts_at_slash : (b : ℕ) (path : List ℕ) → (b == 47) ≡ false → cuts (b ∷ segment path) (47 ∷ []) ≡ has_slash path
-cuts_at_slash b [] other = refl
-cuts_at_slash b (c ∷ path) other =
-    let some = segment_some c path in
-    let two : ltb 1 (suc (length (segment (c ∷ path)))) ≡ true = grind (arith, nat_tests) in
-    rw two (segment_ends b (c ∷ path) other)
-
-pub rest_none : (path : List ℕ) → has_slash path ≡ false → rest_of path ≡ []
-rest_none [] none = refl
-rest_none (c ∷ path) none = by (rest_none path) (c == 47) none
-  where
-    by : (has_slash path ≡ false → rest_of path ≡ []) → (v : Bool) → cond v true (has_slash path) ≡ false → cond v (c ∷ path) (rest_of path) ≡ []
-    by on true none = absurd (false≢true (sym none))
-    by on false none = on none
-
-pub rest_some : (path : List ℕ) → has_slash path ≡ true → (q : List ℕ) × (rest_of path ≡ 47 ∷ q)
-rest_some [] some = absurd (false≢true some)
-rest_some (c ∷ path) some = by (rest_some path) (c == 47) refl some
-  where
-    by : (has_slash path ≡ true → (q : List ℕ) × (rest_of path ≡ 47 ∷ q)) → (v : Bool) → (c == 47) ≡ v → cond v true (has_slash path) ≡ true
-        → (q : List ℕ) × (cond v (c ∷ path) (rest_of path) ≡ 47 ∷ q)
-    by on true e some =
-        let same : c ≡ 47 = grind (arith, nat_tests) in
-        (path, ap (λ x. x ∷ path) same)
-    by on false e some = on some
-
-pub rest_at : (path : List ℕ) → has_slash path ≡ true → drop (length (segment path) - 1) path ≡ rest_of path
-rest_at [] some = absurd (false≢true some)
-rest_at (c ∷ path) some = by (rest_at path) (c == 47) some
-  where
-    further : (path : List ℕ) → has_slash path ≡ true → length (segment path) ≡ suc (length (segment path) - 1)
-    further [] some = absurd (false≢true some)
-    further (d ∷ path) some =
-        let some = segment_some d path in
-        omega arith
-
-    by : (has_slash path ≡ true → drop (length (segment path) - 1) path ≡ rest_of path) → (v : Bool) → cond v true (has_slash path) ≡ true
-        → drop (length (cond v (c ∷ []) (c ∷ segment path)) - 1) (c ∷ path) ≡ cond v (c ∷ path) (rest_of path)
-    by on true some = refl
-    by on false some =
-        let one : suc (length (segment path)) - 1 ≡ suc (length (segment path) - 1) =
-        (let f = further path some in omega arith) in
-        ap (λ n. drop n (c ∷ path)) one ∙ on some
 
 -- ---- places in a path
 
