@@ -180,19 +180,9 @@ module _ {K : Type 0} where
   unfolding param_step
   param_is path rows seg longest v whole is slash = rw (whole, is, slash) refl
 
-  -- nothing is found where there is nothing
-  seek_nothing : (n : ℕ) (path : List ℕ) → seek {K = K} n [] path ≡ None
-  unfolding seek param_step
-  seek_nothing n [] = refl
-  seek_nothing (suc n) (b ∷ path) = seek_nothing n path
-  seek_nothing zero (b ∷ path) = simp (seek_nothing 0 path, nothing_stepped (b ∷ path), seek_nothing ((param_step {K = K} [] (b ∷ path)).0 - 1) path)
-    where
-      nothing_stepped : (p : List ℕ) → (param_step {K = K} [] p).1 ≡ []
-      nothing_stepped p =
-          elim (has_slash p) as (λ v. (cond {A = ℕ × RowsOf K} v (0, []) (length p, [])).1 ≡ []) [
-            | true ↦ refl
-            | false ↦ refl
-          ]
+  nothing_found : (g : List ℕ → Bool) (answer : Option K) → Finds g [] answer → answer ≡ None
+  nothing_found g None none = refl
+  nothing_found g (Some key) (t, has, is) = absurd has
 
   -- the answer after a parameter, which takes the rest of a segment
   param_finds : (b : ℕ) (s : List ℕ) (segments : List (List ℕ)) (rows : RowsOf K) → has_slash (b ∷ s) ≡ false → AllEnd rows → AllPlain rows
@@ -233,14 +223,16 @@ module _ {K : Type 0} where
           let At : ℕ → Type 0 = λ n. Finds (λ u. goes u (spell (t ∷ segments))) rows (seek n kept path) in
           subst Answer (sym (step_is true e)) (subst At (sym place) there)
       by false e =
+          let nothing = nothing_found (λ u. goes u path) (seek 0 [] path) (later 0 [] (λ u key has. absurd has)) in
           let Found : Option K → Type 0 = λ answer. Finds (λ u. goes u (spell (t ∷ segments))) rows answer in
-          subst Answer (sym (step_is false e)) (subst Found (sym (seek_nothing 0 path)) (λ u key has. rw (no_tail u key rows e has) refl))
+          subst Answer (sym (step_is false e)) (subst Found (sym nothing) (λ u key has. rw (no_tail u key rows e has) refl))
 
   -- no parameter begins with a slash
-  none_at_slash : (path : List ℕ) (rows : RowsOf K) → AllEnd rows → seek ((param_step rows (47 ∷ path)).0 - 1) (param_step rows (47 ∷ path)).1 path ≡ None
-  none_at_slash path rows ends =
+  none_at_slash : (path : List ℕ) (rows : RowsOf K) → AllEnd rows → Finds (λ t. goes t path) [] (seek 0 [] path)
+      → seek ((param_step rows (47 ∷ path)).0 - 1) (param_step rows (47 ∷ path)).1 path ≡ None
+  none_at_slash path rows ends found =
       ap (λ (st : ℕ × RowsOf K). seek (st.0 - 1) st.1 path) (param_is (47 ∷ path) rows (47 ∷ []) [] true refl (longest_is (47 ∷ []) false refl rows ends) refl)
-      ∙ seek_nothing 0 path
+      ∙ nothing_found (λ t. goes t path) (seek 0 [] path) found
 
   -- what is found over a byte of the path
   join_finds : (b : ℕ) (path : List ℕ) (rows : RowsOf K) → b < 256 → (word param : Option K) → Finds (λ t. goes t path) (step b rows) word
@@ -280,7 +272,7 @@ module _ {K : Type 0} where
       let ends : AllEnd (step 256 rows) = λ u key has. (plain (256 ∷ u) key (step_has 256 u key rows has)).1 refl in
       rw (no_catch_all rows plain) (join_finds 47 path rows bytes.0 (seek 0 (step 47 rows) path) _
       (spelled_finds t segments none' nones bytes.1 0 (step 47 rows) (λ u key has. (plain (47 ∷ u) key (step_has 47 u key rows has)).2))
-      (inl (refl, none_at_slash path (step 256 rows) ends)))
+      (inl (refl, none_at_slash path (step 256 rows) ends (spelled_finds t segments none' nones bytes.1 0 [] (λ u key has. absurd has)))))
   spelled_finds (b ∷ s) segments none nones bytes (suc n) rows plain = spelled_finds s segments (no_slash b s none).1 nones bytes.1 n rows plain
   spelled_finds (b ∷ s) segments none nones bytes zero rows plain =
       let path = s ++ spell segments in
