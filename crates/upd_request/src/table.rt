@@ -57,6 +57,7 @@ impl<'t, 'p> RouteMatch<'t, 'p> {
     }
 }
 
+#[tactic(auto, unfolding(matchit::proofs::OnLiterals::matchit_on_literals))]
 fn router(alloc: Global) -> Result<Router<Route>, AllocError>
     ensures { IfOk result (λ router. router ≡ routes) }
 {
