@@ -35,6 +35,7 @@ fn decoded(alloc: Global, segment: &str) -> Result<Vec<u8>, AllocError>
 }
 
 /// A segment as a text. The fault is `kind` where it is not UTF-8.
+#[tactic(auto, using(crate::proofs::ParameterLemmas::text_is, crate::proofs::ParameterLemmas::text_not))]
 pub(crate) fn text_in(alloc: Global, segment: &str, kind: FaultKind) -> Result<String, Refusal>
     ensures { Gives string_bytes result (or_refuse kind (text_of (percent_decode segment.now))) }
 {

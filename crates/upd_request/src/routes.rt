@@ -86,6 +86,7 @@ pub(crate) fn call_of(
 
 /// A path has a route exactly where its segments match the parts of that route, which are words and parameters. So no
 /// path has two routes.
+#[tactic(auto, using(crate::proofs::RouteLemmas::plain))]
 pub fn routes_are_plain()
     ensures { (path : List ℕ) → AreBytes path → (route : Route) → ArePlain path route }
 {}
