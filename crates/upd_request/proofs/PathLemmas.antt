@@ -1,5 +1,5 @@
 -- A path goes by a route's tokens exactly where its segments fit the route's parts.
-use Rattle.std.proofs.Common.{◌≡◌, ◌≢◌, ℕ, ◌<◌, ◌≤◌, List, [], ◌∷◌, ◌++◌, Bool, true, false, not, nat_lt, ◌==◌, ◌&&◌, refl, sym, ap, ◌∙◌, arith}
+use Rattle.std.proofs.Common.{◌≡◌, ◌≢◌, ℕ, ◌<◌, List, [], ◌∷◌, ◌++◌, Bool, true, false, not, nat_lt, ◌==◌, ◌&&◌, refl, sym, ap, ◌∙◌, arith}
 use Rattle.std.proofs.lemmas.Bool.{and_parts}
 use Rattle.std.proofs.lemmas.Bool.Decides.{nat_tests}
 use Rattle.std.specs.Str.{bytes_eq}
@@ -7,7 +7,7 @@ use Rattle.matchit.specs.Seek.{has_slash}
 use Rattle.upd_request.specs.Parameters.{segments_of}
 use Rattle.upd_request.specs.Paths.{Part, word, any, fits, part_fits}
 use Rattle.upd_request.proofs.SeekLemmas.{Ends, IsPlain, goes}
-use Rattle.upd_request.proofs.SegmentLemmas.{HaveNoSlash, no_slash, rest_of, rest_spelled, segments_spell_path, spell}
+use Rattle.upd_request.proofs.SegmentLemmas.{HaveNoSlash, no_slash, rest_spelled, segments_spell_path, spell}
 
 -- the tokens of parts, each after a slash
 abbrev pub tails : List Part → List ℕ

@@ -1,8 +1,7 @@
 -- The router's routes in plain words.
-use Rattle.std.proofs.Common.{◌≡◌, ◌≢◌, inl, inr, ℕ, suc, ◌<◌, ◌≤◌, List, [], ◌∷◌, ◌++◌, length, drop, map, get_or, Option, Some, None, Bool, true, false}
-use Rattle.std.proofs.Common.{not, ◌&&◌, ◌||◌, if◌then◌else◌, nat_lt, nat_le, ltb, ◌==◌, refl, sym, ap, ap₂, ◌∙◌, subst, arith, codes, option_map, Fits, w8}
+use Rattle.std.proofs.Common.{◌≡◌, inl, inr, ℕ, suc, ◌<◌, List, [], ◌∷◌, ◌++◌, length, drop, map, get_or, Option, Some, None, Bool, true, false}
+use Rattle.std.proofs.Common.{◌&&◌, if◌then◌else◌, ltb, ◌==◌, refl, sym, ap, ap₂, ◌∙◌, subst, arith, codes, option_map, Fits, w8}
 use Rattle.std.proofs.lemmas.Bool.{and_parts, false≢true, ltb-true}
-use Rattle.std.proofs.lemmas.Bool.Decides.{nat_tests}
 use Rattle.std.proofs.lemmas.Slice.Eq.{bytes_eq-Decides}
 use Rattle.std.proofs.lemmas.Str.{IsUtf8-from_is_utf8}
 use Rattle.std.specs.List.{zip}
@@ -13,7 +12,7 @@ use Rattle.matchit.specs.Router.{RouteOf}
 use Rattle.matchit.specs.Rows.{RowsOf}
 use Rattle.matchit.specs.Seek.{first}
 use Rattle.upd_request.specs.Parameters.{segments_of}
-use Rattle.upd_request.specs.Paths.{AreBytes, ArePlain, Part, word, any, fits, part_fits, parts_of}
+use Rattle.upd_request.specs.Paths.{AreBytes, ArePlain, Part, word, fits, part_fits, parts_of}
 use Rattle.upd_request.specs.Routes.{parameters_of, route_of, routes}
 use Rattle.upd_request.specs.declared.routes.Route.{Route}
 use Rattle.upd_request.specs.declared.routes.Route.TheVariants as route
@@ -44,13 +43,27 @@ AreRoutes ((t, k) ∷ rows) = IsRoute t k × AreRoutes rows
 are_routes : AreRoutes routes
 unfolding matchit_on_literals
 are_routes = (
-  record { row = refl; pattern = refl; words = refl; short = refl; count = refl; names = λ s. refl }, (
-  record { row = refl; pattern = refl; words = refl; short = refl; count = refl; names = λ s. refl }, (
-  record { row = refl; pattern = refl; words = refl; short = refl; count = refl; names = λ s. refl }, (
-  record { row = refl; pattern = refl; words = refl; short = refl; count = refl; names = λ s. refl }, (
-  record { row = refl; pattern = refl; words = refl; short = refl; count = refl; names = λ s. refl }, (
-  record { row = refl; pattern = refl; words = refl; short = refl; count = refl; names = λ s. refl }, (
-  record { row = refl; pattern = refl; words = refl; short = refl; count = refl; names = λ s. refl }, tt)))))))
+  record { row = refl; pattern = refl; words = refl; short = refl; count = refl; names = λ s. refl },
+  (
+    record { row = refl; pattern = refl; words = refl; short = refl; count = refl; names = λ s. refl },
+    (
+      record { row = refl; pattern = refl; words = refl; short = refl; count = refl; names = λ s. refl },
+      (
+        record { row = refl; pattern = refl; words = refl; short = refl; count = refl; names = λ s. refl },
+        (
+          record { row = refl; pattern = refl; words = refl; short = refl; count = refl; names = λ s. refl },
+          (
+            record { row = refl; pattern = refl; words = refl; short = refl; count = refl; names = λ s. refl },
+            (
+              record { row = refl; pattern = refl; words = refl; short = refl; count = refl; names = λ s. refl },
+              tt,
+            ),
+          ),
+        ),
+      ),
+    ),
+  ),
+)
 
 has_route : (t : List ℕ) (key : RouteOf Route) (rows : RowsOf (RouteOf Route)) → AreRoutes rows → Has t key rows → IsRoute t key
 has_route t key [] are has = absurd has

@@ -46,11 +46,7 @@ impl Route {
 }
 
 /// What a path asks by its route, its parameters and the body.
-pub(crate) fn call_of(
-    alloc: Global,
-    found: &RouteMatch,
-    body: Vec<u8>,
-) -> Result<DeskCall, Refusal>
+pub(crate) fn call_of(alloc: Global, found: &RouteMatch, body: Vec<u8>) -> Result<DeskCall, Refusal>
     ensures { Gives asked result (call_of found.now.route (segments_of found.now.params.path.now) body.items) }
 {
     match found.route {
