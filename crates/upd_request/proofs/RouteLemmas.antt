@@ -1,5 +1,5 @@
 -- The router's routes in plain words.
-use Rattle.std.proofs.Common.{◌≡◌, inl, inr, ℕ, suc, ◌<◌, List, [], ◌∷◌, ◌++◌, length, drop, map, get_or, Option, Some, None, Bool, true, false}
+use Rattle.std.proofs.Common.{◌≡◌, inl, inr, ℕ, suc, List, [], ◌∷◌, ◌++◌, length, drop, map, get_or, Option, Some, None, Bool, true, false}
 use Rattle.std.proofs.Common.{◌&&◌, if◌then◌else◌, ltb, ◌==◌, refl, sym, ap, ap₂, ◌∙◌, subst, arith, codes, option_map, Fits, w8}
 use Rattle.std.proofs.lemmas.Bool.{and_parts, false≢true, ltb-true}
 use Rattle.std.proofs.lemmas.Slice.Eq.{bytes_eq-Decides}
@@ -27,14 +27,19 @@ steps r = drop 1 (parts_of r)
 
 -- ---- rows and routes
 
--- A row is as its route says.
-record IsRoute (t : List ℕ) (k : RouteOf Route) : Type 0 where
-  row : t ≡ tails (steps k.value)
-  pattern : k.pattern ≡ t
-  words : are_words (steps k.value) ≡ true
-  short : ltb (length t) 256 ≡ true
-  count : length k.names ≡ parameter_count (steps k.value)
-  names : (segments : List (List ℕ)) → zip (map (λ (n : ℕ × ℕ). part_of k.text n.0 n.1) k.names) (taken segments 1 (steps k.value)) ≡ parameters_of k.value segments
+-- what is seen of a row, and what its route says of that
+abbrev View : Type 0
+View = List ℕ × List ℕ × Bool × ℕ × List (List ℕ × List ℕ)
+
+abbrev view_of : List ℕ → RouteOf Route → List (List ℕ) → View
+view_of t k segments =
+    (t, k.pattern, ltb (length k.pattern) 256, length k.names, zip (map (λ (n : ℕ × ℕ). part_of k.text n.0 n.1) k.names) (taken segments 1 (steps k.value)))
+
+abbrev view_by : Route → List (List ℕ) → View
+view_by r segments = (tails (steps r), tails (steps r), true, parameter_count (steps r), parameters_of r segments)
+
+abbrev IsRoute : List ℕ → RouteOf Route → Type 0
+IsRoute t k = (segments : List (List ℕ)) → view_of t k segments ≡ view_by k.value segments
 
 abbrev AreRoutes : RowsOf (RouteOf Route) → Type 0
 AreRoutes [] = Unit {0}
@@ -42,38 +47,12 @@ AreRoutes ((t, k) ∷ rows) = IsRoute t k × AreRoutes rows
 
 are_routes : AreRoutes routes
 unfolding matchit_on_literals
-are_routes = (
-  record { row = refl; pattern = refl; words = refl; short = refl; count = refl; names = λ s. refl },
-  (
-    record { row = refl; pattern = refl; words = refl; short = refl; count = refl; names = λ s. refl },
-    (
-      record { row = refl; pattern = refl; words = refl; short = refl; count = refl; names = λ s. refl },
-      (
-        record { row = refl; pattern = refl; words = refl; short = refl; count = refl; names = λ s. refl },
-        (
-          record { row = refl; pattern = refl; words = refl; short = refl; count = refl; names = λ s. refl },
-          (
-            record { row = refl; pattern = refl; words = refl; short = refl; count = refl; names = λ s. refl },
-            (
-              record { row = refl; pattern = refl; words = refl; short = refl; count = refl; names = λ s. refl },
-              tt,
-            ),
-          ),
-        ),
-      ),
-    ),
-  ),
-)
+are_routes = (λ s. refl, (λ s. refl, (λ s. refl, (λ s. refl, (λ s. refl, (λ s. refl, (λ s. refl, tt)))))))
 
 has_route : (t : List ℕ) (key : RouteOf Route) (rows : RowsOf (RouteOf Route)) → AreRoutes rows → Has t key rows → IsRoute t key
 has_route t key [] are has = absurd has
 has_route t key ((u, k) ∷ rows) (is, are) (inl (row, same)) = subst (λ l. IsRoute l key) row (subst (IsRoute u) same is)
 has_route t key ((u, k) ∷ rows) (is, are) (inr has) = has_route t key rows are has
-
-routes_are_plain : AllPlain routes
-routes_are_plain t key has =
-    let is = has_route t key routes are_routes has in
-    rw is.row (tails_are_plain (steps key.value) is.words).0
 
 misses_value : (g : List ℕ → Bool) → Finds g routes None → (r : Route) → g (tails (steps r)) ≡ false
 unfolding matchit_on_literals
@@ -94,6 +73,11 @@ begins route.Deck = (refl, refl)
 begins route.Card = (refl, refl)
 begins route.Idents = (refl, refl)
 begins route.Yanks = (refl, refl)
+
+routes_are_plain : AllPlain routes
+routes_are_plain t key has =
+    let row : t ≡ tails (steps key.value) = ap (λ (v : View). v.0) (has_route t key routes are_routes has []) in
+    rw row (tails_are_plain (steps key.value) (begins key.value).1).0
 
 route_goes : (r : Route) (path : List ℕ) → goes (tails (steps r)) path ≡ fits (parts_of r) (segments_of path)
 route_goes r path =
@@ -148,29 +132,27 @@ found_fits : (path : List ℕ) (k : RouteOf Route) → Finds (λ t. goes t path)
     → (t : List ℕ) × IsRoute t k × (fits (parts_of k.value) (segments_of path) ≡ true)
 found_fits path k (t, has, passes) =
     let is = has_route t k routes are_routes has in
-    (t, is, sym (route_goes k.value path) ∙ (ap (λ t. goes t path) (sym is.row) ∙ passes))
+    (t, is, sym (route_goes k.value path) ∙ (ap (λ t. goes t path) (sym (ap (λ (v : View). v.0) (is []))) ∙ passes))
 
 pub plain : (path : List ℕ) → AreBytes path → (r : Route) → ArePlain path r
 plain path bytes r = by (first routes path) refl (seek_finds path bytes routes routes_are_plain)
   where
     by : (answer : Option (RouteOf Route)) → first routes path ≡ answer → Finds (λ t. goes t path) routes answer → ArePlain path r
-    by None is misses = record {
-      found = λ e. absurd (none_is_some (sym (ap (option_map (λ (k : RouteOf Route). k.value)) is) ∙ e));
-      only = λ e. absurd (false≢true (sym (misses_value (λ t. goes t path) misses r) ∙ (route_goes r path ∙ e)));
-    }
-      where
-        none_is_some : {r : Route} → None ≡ Some r → ⊥
-        none_is_some e = cc
+    by None is misses =
+        let none : route_of path ≡ None = ap (option_map (λ (k : RouteOf Route). k.value)) is in
+        record {
+          found = λ e. absurd (cc);
+          only = λ e. absurd (false≢true (sym (misses_value (λ t. goes t path) misses r) ∙ (route_goes r path ∙ e)));
+        }
     by (Some k) is hit =
         let value : route_of path ≡ Some k.value = ap (option_map (λ (k : RouteOf Route). k.value)) is in
         let (t, row, it_fits) = found_fits path k hit in
         record {
-          found = λ e. subst (λ (q : Route). fits (parts_of q) (segments_of path) ≡ true) (some_same (sym value ∙ e)) it_fits;
+          found = λ e.
+              let same : k.value ≡ r = cc in
+              subst (λ (q : Route). fits (parts_of q) (segments_of path) ≡ true) same it_fits;
           only = λ e. value ∙ ap Some (one_fits k.value r (segments_of path) it_fits e);
         }
-      where
-        some_same : {p q : Route} → Some p ≡ Some q → p ≡ q
-        some_same e = cc
 
 -- ---- parameters
 
@@ -183,9 +165,10 @@ captures_are_parameters path bytes k found =
     let fit' : (bytes_eq [] s && fits (steps k.value) more) ≡ true = sym (ap₂ fits begin split) ∙ fit in
     let (empty, fit'') = and_parts (bytes_eq [] s) (fits (steps k.value) more) fit' in
     let spelled : path ≡ spell more = whole ∙ ap (λ l. l ++ spell more) (sym ((bytes_eq-Decides [] s).0 empty)) in
-    let short : length k.pattern < 256 = rw is.pattern (ltb-true (length t) 256 is.short) in
-    captures_taken k.pattern k.text path (segments_of path) (steps k.value) more k.names 1 0 0 short is.words is.count fit'' rest
-    (ap (drop 1) split) (is.pattern ∙ is.row) spelled ∙ is.names (segments_of path)
+    let view = is (segments_of path) in
+    let short = ltb-true (length k.pattern) 256 (ap (λ (v : View). v.2) view) in
+    captures_taken k.pattern k.text path (segments_of path) (steps k.value) more k.names 1 0 0 short are (ap (λ (v : View). v.3) view) fit'' rest
+    (ap (drop 1) split) (ap (λ (v : View). v.1) view) spelled ∙ ap (λ (v : View). v.4) view
 
 pub parameters_are_text : (r : Route) (path : List ℕ) → IsUtf8 path → AllText (parameters_of r (segments_of path))
 unfolding is_utf8 chars lib.Utf8.encode
@@ -208,6 +191,4 @@ parameters_are_text r path text = by r
 
 pub are_bytes : (path : List ℕ) → ((i : ℕ) → Fits w8 (get_or path i 0)) → AreBytes path
 are_bytes [] fit = tt
-are_bytes (b ∷ path) fit =
-    let byte = fit 0 in
-    (omega arith, are_bytes path (λ i. fit (suc i)))
+are_bytes (b ∷ path) fit = (omega (arith, fit 0), are_bytes path (λ i. fit (suc i)))

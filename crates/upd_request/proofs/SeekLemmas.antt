@@ -29,14 +29,8 @@ abbrev pub IsPlain : List ℕ → Type 0
 IsPlain [] = Unit {0}
 IsPlain (x ∷ tokens) = (x ≤ 256) × (x ≡ 256 → Ends tokens) × IsPlain tokens
 
-and_false : (x y : Bool) → y ≡ false → (x && y) ≡ false
-and_false true y is = is
-and_false false y is = refl
-
 segment_tail : (x : ℕ) (t : List ℕ) → x ≡ 47 → segment (x ∷ t) ≡ 47 ∷ []
-segment_tail x t is =
-    let P : ℕ → Type 0 = λ y. segment (y ∷ t) ≡ 47 ∷ [] in
-    subst P (sym is) refl
+segment_tail x t is = rw is refl
 
 module _ {K : Type 0} where
   -- these tokens and this key are a row
@@ -250,10 +244,7 @@ module _ {K : Type 0} where
           → (((b == 47) ≡ true) × ◌≡◌ {A = Option K} None None) ⊎ (((b == 47) ≡ false) × Finds (λ t. goes t (rest_of path)) (step 256 rows) None)
           → goes (x ∷ t) (b ∷ path) ≡ false
       here x t key has true e v f (inl (slash, same)) = rw (e, slash) refl
-      here x t key has true e v f (inr (other, param)) =
-          let off : (not (b == 47) && goes t (rest_of path)) ≡ false =
-          and_false (not (b == 47)) (goes t (rest_of path)) (param t key (has_step 256 x e t key rows has)) in
-          rw e off
+      here x t key has true e v f (inr (other, param)) = rw (e, other, param t key (has_step 256 x e t key rows has)) refl
       here x t key has false e true f how = rw (e, f) (none t key (has_step b x f t key rows has))
       here x t key has false e false f how = rw (e, f) refl
 
