@@ -12,7 +12,7 @@ use Rattle.matchit.specs.Params.{after_token, part_of, walk, wild_from, wild_sto
 use Rattle.matchit.specs.Seek.{has_slash, segment}
 use Rattle.upd_request.specs.Paths.{Part, word, any, fits}
 use Rattle.upd_request.proofs.PathLemmas.{are_words, is_word, tails, word_byte}
-use Rattle.upd_request.proofs.SegmentLemmas.{HaveNoSlash, drop_next, drop_past, segment_whole, spell}
+use Rattle.upd_request.proofs.PathSegmentLemmas.{HaveNoSlash, drop_next, drop_past, segment_whole, spell}
 
 -- the segments at the places of parameters, where the parts begin at a place
 abbrev pub taken : List (List ℕ) → ℕ → List Part → List (List ℕ)

@@ -2,7 +2,7 @@ pub mod LengthLemmas
 pub mod ParameterLemmas
 pub mod HeadLemmas
 pub mod RequestLemmas
-pub mod SegmentLemmas
+pub mod PathSegmentLemmas
 pub mod SeekLemmas
 pub mod PathLemmas
 pub mod CaptureLemmas

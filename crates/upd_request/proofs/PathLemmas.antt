@@ -7,7 +7,7 @@ use Rattle.matchit.specs.Seek.{has_slash}
 use Rattle.upd_request.specs.Parameters.{segments_of}
 use Rattle.upd_request.specs.Paths.{Part, word, any, fits, part_fits}
 use Rattle.upd_request.proofs.SeekLemmas.{Ends, IsPlain, goes}
-use Rattle.upd_request.proofs.SegmentLemmas.{HaveNoSlash, no_slash, rest_spelled, segments_spell_path, spell}
+use Rattle.upd_request.proofs.PathSegmentLemmas.{HaveNoSlash, no_slash, rest_spelled, segments_spell_path, spell}
 
 -- the tokens of parts, each after a slash
 abbrev pub tails : List Part → List ℕ

@@ -19,7 +19,7 @@ use Rattle.upd_request.specs.declared.routes.Route.TheVariants as route
 use Rattle.upd_request.proofs.CaptureLemmas.{captures_taken, parameter_count, taken}
 use Rattle.upd_request.proofs.PathLemmas.{are_words, path_goes, tails, tails_are_plain}
 use Rattle.upd_request.proofs.SeekLemmas.{AllPlain, Finds, Has, goes, seek_finds}
-use Rattle.upd_request.proofs.SegmentLemmas.{segments_are_text, segments_spell_path, spell}
+use Rattle.upd_request.proofs.PathSegmentLemmas.{segments_are_text, segments_spell_path, spell}
 
 -- the parts of a route after its first slash
 abbrev steps : Route → List Part
@@ -74,8 +74,8 @@ begins route.Card = (refl, refl)
 begins route.Idents = (refl, refl)
 begins route.Yanks = (refl, refl)
 
-routes_are_plain : AllPlain routes
-routes_are_plain t key has =
+rows_are_plain : AllPlain routes
+rows_are_plain t key has =
     let row : t ≡ tails (steps key.value) = ap (λ (v : View). v.0) (has_route t key routes are_routes has []) in
     rw row (tails_are_plain (steps key.value) (begins key.value).1).0
 
@@ -135,7 +135,7 @@ found_fits path k (t, has, passes) =
     (t, is, sym (route_goes k.value path) ∙ (ap (λ t. goes t path) (sym (ap (λ (v : View). v.0) (is []))) ∙ passes))
 
 pub plain : (path : List ℕ) → AreBytes path → (r : Route) → ArePlain path r
-plain path bytes r = by (first routes path) refl (seek_finds path bytes routes routes_are_plain)
+plain path bytes r = by (first routes path) refl (seek_finds path bytes routes rows_are_plain)
   where
     by : (answer : Option (RouteOf Route)) → first routes path ≡ answer → Finds (λ t. goes t path) routes answer → ArePlain path r
     by None is misses =
@@ -159,7 +159,7 @@ plain path bytes r = by (first routes path) refl (seek_finds path bytes routes r
 pub captures_are_parameters : (path : List ℕ) → AreBytes path → (k : RouteOf Route) → first routes path ≡ Some k
     → walk k.pattern k.text path k.names 0 0 ≡ parameters_of k.value (segments_of path)
 captures_are_parameters path bytes k found =
-    let (t, is, fit) = found_fits path k (subst (Finds (λ t. goes t path) routes) found (seek_finds path bytes routes routes_are_plain)) in
+    let (t, is, fit) = found_fits path k (subst (Finds (λ t. goes t path) routes) found (seek_finds path bytes routes rows_are_plain)) in
     let (begin, are) = begins k.value in
     let (s, more, split, whole, none, rest) = segments_spell_path path in
     let fit' : (bytes_eq [] s && fits (steps k.value) more) ≡ true = sym (ap₂ fits begin split) ∙ fit in

@@ -9,8 +9,8 @@ use Rattle.matchit.specs.Rows.{RowsOf}
 use Rattle.matchit.specs.Seek.{better, cuts, has_slash, longest_from, longest_suffix, or_else, own, param_step, same_text, seek, segment, step}
 use Rattle.matchit.specs.Seek.{with_suffix}
 use Rattle.upd_request.specs.Paths.{AreBytes}
-use Rattle.upd_request.proofs.SegmentLemmas.{HaveNoSlash, cut_at_slash, no_slash, rest_of, rest_spelled, segment_all, segment_whole, segments_spell_path, slash_in}
-use Rattle.upd_request.proofs.SegmentLemmas.{spell, uncut}
+use Rattle.upd_request.proofs.PathSegmentLemmas.{HaveNoSlash, cut_at_slash, no_slash, rest_of, rest_spelled, segment_all, segment_whole, segments_spell_path, slash_in}
+use Rattle.upd_request.proofs.PathSegmentLemmas.{spell, uncut}
 
 -- whether a path goes by tokens: a parameter takes all up to the next slash, and at least a byte
 abbrev pub goes : List ℕ → List ℕ → Bool
