@@ -1,6 +1,7 @@
 -- A run that is refused: its fault is the defined one, and no card has another status.
-use Rattle.std.proofs.Common.{◌≡◌, ℕ, ◌≤◌, ◌⊎◌, inl, inr, Bool, true, false, List, [], ◌∷◌, length, Some, Result, Err, refl, ap, sym, ◌∙◌, subst, arith}
+use Rattle.std.proofs.Common.{◌≡◌, ℕ, ◌≤◌, ◌⊎◌, inl, inr, Bool, true, false, List, [], ◌∷◌, length, Some, Result, Ok, Err, refl, ap, sym, ◌∙◌, subst, arith}
 use Rattle.std.specs.List.{filter, AllByRecursion}
+use Rattle.std.specs.Result.{IsErrAnd}
 use Rattle.upd_text.specs.declared.fault.Fault.{Fault}
 use Rattle.upd_text.specs.declared.fault.FaultKind.{FaultKind}
 use Rattle.upd_text.specs.declared.fault.FaultKind.TheVariants as kinds
@@ -17,6 +18,11 @@ use Rattle.upd_yank.proofs.KeptLemmas.{before_at}
 use Rattle.upd_yank.proofs.StateLemmas.{all_counted}
 use Rattle.upd_desk.specs.Arrivals.{ArrivalView}
 use Rattle.upd_desk.specs.Outcomes.{compiled, outcome, outcome_by}
+
+-- what an early return passes on is the error that was met
+pub error_is : {T E : Type 0} (result : Result T E) (error : E) → IsErrAnd result (λ e. e ≡ error) → result ≡ Err error
+error_is (Ok x) error is = absurd is
+error_is (Err e) error is = ap Err is
 
 -- a fault is out of memory, at no line, or the defined one
 pub fails_by : {A : Type 0} (fault : Fault) (defined : Result A Fault) → FailsAt fault defined

@@ -32,9 +32,7 @@ impl<'a> Model for Arrival<'a> {
 pub(crate) fn check_arrival(arrival: &Arrival<'_>) -> Result<Mode, Fault>
     ensures { result ≡ check_arrival arrival.now }
 {
-    if let Err(fault) = check_key(arrival.site, arrival.number) {
-        return Err(fault);
-    }
+    check_key(arrival.site, arrival.number)?;
     let Some(mode) = Mode::read(arrival.mode) else {
         return Err(FaultKind::BadMode.without_line());
     };

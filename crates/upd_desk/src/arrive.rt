@@ -90,14 +90,8 @@ fn keep_new<S: RowStore>(
     ensures lost { IfErr result IsLost }
     ensures failed { CountsFailure S.Meaning result store.old store.new }
 {
-    let outcome = match run_outcome(store, alloc, mode, arrival) {
-        Ok(outcome) => outcome,
-        Err(fault) => return Err(fault),
-    };
-    let run = match run_row(alloc, mode, arrival, &outcome.reply) {
-        Ok(run) => run,
-        Err(fault) => return Err(fault),
-    };
+    let outcome = run_outcome(store, alloc, mode, arrival)?;
+    let run = run_row(alloc, mode, arrival, &outcome.reply)?;
     match store.commit(alloc, &outcome.changes, run) {
         Ok(()) => Ok(Answered {
             reply: outcome.reply,
@@ -122,21 +116,12 @@ pub(crate) fn arrive_at<S: RowStore>(
     ensures unread { ReadsNoneRefused S.Meaning result store.old store.new }
     ensures failed { CountsFailure S.Meaning result store.old store.new }
 {
-    let mode = match check_arrival(arrival) {
-        Ok(mode) => mode,
-        Err(fault) => return Err(fault),
-    };
-    let mark = match store.mark(alloc, arrival.site) {
-        Ok(mark) => mark,
-        Err(fault) => return Err(fault),
-    };
+    let mode = check_arrival(arrival)?;
+    let mark = store.mark(alloc, arrival.site)?;
     if arrival.number <= mark {
         return Err(FaultKind::Settled.without_line());
     }
-    let kept = match store.kept_run(alloc, arrival.site, arrival.number) {
-        Ok(kept) => kept,
-        Err(fault) => return Err(fault),
-    };
+    let kept = store.kept_run(alloc, arrival.site, arrival.number)?;
     match kept {
         Some(run) => match repeat_answer(run, mode, arrival) {
             Ok(reply) => Ok(Answered { reply, work: 0 }),

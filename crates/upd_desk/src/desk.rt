@@ -166,10 +166,7 @@ impl<S: RowStore> Desk<S> {
         ensures idle { self.new.work ≡ self.old.work }
         ensures failed { CountsFailure S.Meaning result self.old.store self.new.store }
     {
-        let actives = match self.store.load_active(alloc) {
-            Ok(actives) => actives,
-            Err(fault) => return Err(fault),
-        };
+        let actives = self.store.load_active(alloc)?;
         match compile_active(alloc, &actives, &actives, Mode::Full, &[]) {
             Ok(text) => Ok(text),
             Err(fault) => Err(fault),
@@ -187,10 +184,7 @@ impl<S: RowStore> Desk<S> {
         ensures idle { self.new.work ≡ self.old.work }
         ensures failed { CountsFailure S.Meaning result self.old.store self.new.store }
     {
-        let library = match load_deck_named(&mut self.store, alloc, name) {
-            Ok(library) => library,
-            Err(fault) => return Err(fault),
-        };
+        let library = load_deck_named(&mut self.store, alloc, name)?;
         match list_deck(alloc, &library, name) {
             Ok(text) => Ok(text),
             Err(fault) => Err(fault),
@@ -208,10 +202,7 @@ impl<S: RowStore> Desk<S> {
         ensures idle { self.new.work ≡ self.old.work }
         ensures failed { CountsFailure S.Meaning result self.old.store self.new.store }
     {
-        let library = match load_deck_with(&mut self.store, alloc, &card) {
-            Ok(library) => library,
-            Err(fault) => return Err(fault),
-        };
+        let library = load_deck_with(&mut self.store, alloc, &card)?;
         match list_card(alloc, &library, card) {
             Ok(text) => Ok(text),
             Err(fault) => Err(fault),
@@ -228,10 +219,7 @@ impl<S: RowStore> Desk<S> {
         ensures idle { self.new.work ≡ self.old.work }
         ensures failed { CountsFailure S.Meaning result self.old.store self.new.store }
     {
-        let head = match self.store.load_decks(alloc, &[]) {
-            Ok(head) => head,
-            Err(fault) => return Err(fault),
-        };
+        let head = self.store.load_decks(alloc, &[])?;
         match list_idents(alloc, &head) {
             Ok(text) => Ok(text),
             Err(fault) => Err(fault),
@@ -248,10 +236,7 @@ impl<S: RowStore> Desk<S> {
         ensures idle { self.new.work ≡ self.old.work }
         ensures failed { CountsFailure S.Meaning result self.old.store self.new.store }
     {
-        let head = match self.store.load_decks(alloc, &[]) {
-            Ok(head) => head,
-            Err(fault) => return Err(fault),
-        };
+        let head = self.store.load_decks(alloc, &[])?;
         match list_yanks(alloc, &head) {
             Ok(text) => Ok(text),
             Err(fault) => Err(fault),

@@ -18,7 +18,7 @@ use upd_core::{CardRef, Counted, CountedCard, Library, Name};
 use upd_deck::Run;
 use upd_partial::needs::{any_names_yank_card, cards_named, is_plain};
 use upd_row_store::RowStore;
-use upd_text::{Fault, FaultKind};
+use upd_text::Fault;
 
 /// What a run is applied to: the directory, `YANK$$$`, and the decks that it needs.
 pub(crate) fn load_needed<S: RowStore>(
@@ -79,9 +79,7 @@ fn load_named<S: RowStore>(store: &mut S, alloc: Global, run: &Run<'_>) -> Resul
     ensures lost { IfErr result IsLost }
     ensures failed { CountsFailure S.Meaning result store.old store.new }
 {
-    let Ok(cards) = cards_named(alloc, run) else {
-        return Err(FaultKind::NoMemory.without_line());
-    };
+    let cards = cards_named(alloc, run)?;
     match stand_in_decks(store, alloc, &cards) {
         Ok(true) => match load_holders(store, alloc, &cards) {
             Ok(part) => Ok(part),
@@ -111,10 +109,8 @@ fn stand_in_decks<S: RowStore>(
     ensures failed { CountsFailure S.Meaning result store.old store.new }
 {
     for card in cards {
-        match stands_in_deck(store, alloc, *card) {
-            Ok(true) => {}
-            Ok(false) => return Ok(false),
-            Err(fault) => return Err(fault),
+        if !stands_in_deck(store, alloc, *card)? {
+            return Ok(false);
         }
     }
     Ok(true)
@@ -152,10 +148,7 @@ fn load_head_first<S: RowStore>(
     ensures lost { IfErr result IsLost }
     ensures failed { CountsFailure S.Meaning result store.old store.new }
 {
-    let head = match store.load_decks(alloc, &[]) {
-        Ok(head) => head,
-        Err(fault) => return Err(fault),
-    };
+    let head = store.load_decks(alloc, &[])?;
     if any_names_yank_card(cards, &head) {
         match store.load(alloc) {
             Ok(library) => Ok(library),
@@ -183,10 +176,7 @@ pub(crate) fn load_holders<S: RowStore>(
     ensures lost { IfErr result IsLost }
     ensures failed { CountsFailure S.Meaning result store.old store.new }
 {
-    let decks = match store.decks_of(alloc, cards) {
-        Ok(decks) => decks,
-        Err(fault) => return Err(fault),
-    };
+    let decks = store.decks_of(alloc, cards)?;
     match store.load_decks(alloc, &decks) {
         Ok(part) => Ok(part),
         Err(fault) => Err(fault),
@@ -229,10 +219,7 @@ pub(crate) fn load_deck_named<S: RowStore>(
     ensures lost { IfErr result IsLost }
     ensures failed { CountsFailure S.Meaning result store.old store.new }
 {
-    let head = match store.load_decks(alloc, &[]) {
-        Ok(head) => head,
-        Err(fault) => return Err(fault),
-    };
+    let head = store.load_decks(alloc, &[])?;
     match head.deck_of(name) {
         Some(deck) => match store.load_decks(alloc, &[deck]) {
             Ok(part) => Ok(part),

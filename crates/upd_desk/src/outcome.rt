@@ -110,14 +110,8 @@ fn read_outcome<S: RowStore>(
     ensures lost { IfErr result IsLost }
     ensures failed { CountsFailure S.Meaning result store.old store.new }
 {
-    let part = match load_needed(store, alloc, run) {
-        Ok(part) => part,
-        Err(fault) => return Err(fault),
-    };
-    let cards = match references(alloc, &part) {
-        Ok(cards) => cards,
-        Err(_) => return Err(FaultKind::NoMemory.without_line()),
-    };
+    let part = load_needed(store, alloc, run)?;
+    let cards = references(alloc, &part)?;
     match apply_run(alloc, part, run) {
         Ok(applied) => match applied_outcome(store, alloc, mode, arrival, &cards, applied) {
             Ok(outcome) => Ok(outcome),
@@ -152,14 +146,8 @@ fn applied_outcome<S: RowStore>(
     ensures lost { IfErr result IsLost }
     ensures failed { CountsFailure S.Meaning result store.old store.new }
 {
-    let states = match store.states_of(alloc, cards) {
-        Ok(states) => states,
-        Err(fault) => return Err(fault),
-    };
-    let before = match active_before(store, alloc, mode, &run) {
-        Ok(before) => before,
-        Err(fault) => return Err(fault),
-    };
+    let states = store.states_of(alloc, cards)?;
+    let before = active_before(store, alloc, mode, &run)?;
     match compiled_outcome(alloc, mode, arrival, &states, before, run) {
         Ok(outcome) => Ok(outcome),
         Err(fault) => Err(fault),

@@ -20,14 +20,8 @@ pub(crate) fn settle_at<S: RowStore>(
     ensures unread { S.decks_read_of store.new ≡ S.decks_read_of store.old }
     ensures failed { CountsFailure S.Meaning result store.old store.new }
 {
-    match check_key(site, number) {
-        Ok(()) => {}
-        Err(fault) => return Err(fault),
-    }
-    let mark = match store.mark(alloc, site) {
-        Ok(mark) => mark,
-        Err(fault) => return Err(fault),
-    };
+    check_key(site, number)?;
+    let mark = store.mark(alloc, site)?;
     if number <= mark {
         return Ok(mark);
     }

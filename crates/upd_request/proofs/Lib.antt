@@ -2,7 +2,9 @@ pub mod LengthLemmas
 pub mod ParameterLemmas
 pub mod HeadLemmas
 pub mod RequestLemmas
+pub mod PathSegmentLemmas
 pub mod SeekLemmas
 pub mod PathLemmas
+pub mod CaptureLemmas
 pub mod RouteLemmas
 pub mod SaysLemmas

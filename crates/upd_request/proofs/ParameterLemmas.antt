@@ -7,10 +7,10 @@ use Rattle.upd_text.specs.declared.fault.FaultKind.{FaultKind}
 use Rattle.upd_request.specs.Calls.{fault_refusal}
 use Rattle.upd_request.specs.Parameters.{or_refuse, text_of}
 
-pub text-is : (kind : FaultKind) (bytes : List ℕ) → IsUtf8 bytes → or_refuse kind (text_of bytes) ≡ Ok bytes
-text-is kind bytes is = rw (is_utf8-from_IsUtf8 bytes is) refl
+pub text_is : (kind : FaultKind) (bytes : List ℕ) → IsUtf8 bytes → or_refuse kind (text_of bytes) ≡ Ok bytes
+text_is kind bytes is = rw (is_utf8-from_IsUtf8 bytes is) refl
 
-pub text-not : (kind : FaultKind) (bytes : List ℕ) → (IsUtf8 bytes → ⊥) → or_refuse kind (text_of bytes) ≡ Err (fault_refusal kind)
-text-not kind bytes none =
+pub text_not : (kind : FaultKind) (bytes : List ℕ) → (IsUtf8 bytes → ⊥) → or_refuse kind (text_of bytes) ≡ Err (fault_refusal kind)
+text_not kind bytes none =
     let no : is_utf8 bytes ≡ false = false_from_ne_true (is_utf8 bytes) (λ is. none (IsUtf8-from_is_utf8 bytes is)) in
     rw no refl

@@ -1,20 +1,16 @@
 -- What a router finds: the one row that a path goes by, token for token.
-use Rattle.std.proofs.Common.{◌≡◌, ◌⊎◌, inl, inr, ℕ, zero, suc, ◌-◌, ◌<◌, ◌≤◌, List, [], ◌∷◌, length, drop, Option, Some, None, Bool, true}
-use Rattle.std.proofs.Common.{false, cond, not, ◌&&◌}
-use Rattle.std.proofs.Common.{refl, sym, ap, ◌∙◌, subst, arith, nat_eq, ◌==◌, ltb}
+use Rattle.std.proofs.Common.{◌≡◌, ◌⊎◌, inl, inr, ℕ, zero, suc, ◌-◌, ◌<◌, ◌≤◌, List, [], ◌∷◌, ◌++◌, length, drop, Option, Some, None, Bool, true, false, cond}
+use Rattle.std.proofs.Common.{not, ◌&&◌, refl, sym, ap, ap₂, ◌∙◌, subst, arith, append-nil, ◌==◌, ltb}
+use Rattle.std.proofs.Math.Seq.{drop-append_seam, drop-length}
 use Rattle.std.proofs.lemmas.Bool.{false≢true}
 use Rattle.std.proofs.lemmas.Bool.Decides.{nat_tests}
-use Rattle.std.specs.Cmp.Lexicographic.{pointwise}
-use Rattle.std.specs.List.{ends_with}
+use Rattle.std.proofs.lemmas.List.{length-append}
 use Rattle.matchit.specs.Rows.{RowsOf}
-use Rattle.upd_request.specs.Paths.{AreBytes}
-use Rattle.matchit.specs.Seek.{better, cuts, has_slash, longest_from, longest_suffix, or_else, own, param_step, same_text, seek, segment, slash, step}
+use Rattle.matchit.specs.Seek.{better, cuts, has_slash, longest_from, longest_suffix, or_else, own, param_step, same_text, seek, segment, step}
 use Rattle.matchit.specs.Seek.{with_suffix}
-
--- what a path has from its first slash on
-abbrev pub rest_of : List ℕ → List ℕ
-rest_of [] = []
-rest_of (b ∷ path) = cond (b == 47) (b ∷ path) (rest_of path)
+use Rattle.upd_request.specs.Paths.{AreBytes}
+use Rattle.upd_request.proofs.PathSegmentLemmas.{HaveNoSlash, cut_at_slash, no_slash, rest_of, rest_spelled, segment_all, segment_whole, segments_spell_path, slash_in}
+use Rattle.upd_request.proofs.PathSegmentLemmas.{spell, uncut}
 
 -- whether a path goes by tokens: a parameter takes all up to the next slash, and at least a byte
 abbrev pub goes : List ℕ → List ℕ → Bool
@@ -23,7 +19,7 @@ goes [] (b ∷ path) = false
 goes (x ∷ tokens) [] = false
 goes (x ∷ tokens) (b ∷ path) = cond (x == 256) (not (b == 47) && goes tokens (rest_of path)) ((x == b) && goes tokens path)
 
--- what may stand behind a parameter
+-- what may follow a parameter
 abbrev pub Ends : List ℕ → Type 0
 Ends [] = Unit {0}
 Ends (x ∷ tokens) = x ≡ 47
@@ -33,389 +29,257 @@ abbrev pub IsPlain : List ℕ → Type 0
 IsPlain [] = Unit {0}
 IsPlain (x ∷ tokens) = (x ≤ 256) × (x ≡ 256 → Ends tokens) × IsPlain tokens
 
-and_false : (x y : Bool) → y ≡ false → (x && y) ≡ false
-and_false true y is = is
-and_false false y is = refl
-
 segment_tail : (x : ℕ) (t : List ℕ) → x ≡ 47 → segment (x ∷ t) ≡ 47 ∷ []
-segment_tail x t is =
-    let P : ℕ → Type 0 = λ y. segment (y ∷ t) ≡ 47 ∷ [] in
-    subst P (sym is) refl
+segment_tail x t is = rw is refl
 
 module _ {K : Type 0} where
+  -- these tokens and this key are a row
+  abbrev pub Has : List ℕ → K → RowsOf K → Type 0
+  Has t key [] = ⊥
+  Has t key ((u, k) ∷ rows) = ((u ≡ t) × (k ≡ key)) ⊎ Has t key rows
+
   abbrev pub AllPlain : RowsOf K → Type 0
-  AllPlain [] = Unit {0}
-  AllPlain ((t, k) ∷ rows) = IsPlain t × AllPlain rows
+  AllPlain rows = (t : List ℕ) (key : K) → Has t key rows → IsPlain t
 
-  abbrev pub AllEnd : RowsOf K → Type 0
-  AllEnd [] = Unit {0}
-  AllEnd ((t, k) ∷ rows) = Ends t × AllEnd rows
+  abbrev AllEnd : RowsOf K → Type 0
+  AllEnd rows = (t : List ℕ) (key : K) → Has t key rows → Ends t
 
-  -- no row passes, one of this key does, and an answer that says which
-  abbrev pub Misses : (List ℕ → Bool) → RowsOf K → Type 0
-  Misses g [] = Unit {0}
-  Misses g ((t, k) ∷ rows) = (g t ≡ false) × Misses g rows
-
-  abbrev pub Hits : (List ℕ → Bool) → RowsOf K → K → Type 0
-  Hits g [] key = ⊥
-  Hits g ((t, k) ∷ rows) key = ((g t ≡ true) × (k ≡ key)) ⊎ Hits g rows key
-
+  -- a row of the key passes, or none does
   abbrev pub Finds : (List ℕ → Bool) → RowsOf K → Option K → Type 0
-  Finds g rows None = Misses g rows
-  Finds g rows (Some key) = Hits g rows key
-
-  finds_past : (g : List ℕ → Bool) (t : List ℕ) (k : K) (rows : RowsOf K) (answer : Option K) → g t ≡ false → Finds g rows answer
-      → Finds g ((t, k) ∷ rows) answer
-  finds_past g t k rows None miss found = (miss, found)
-  finds_past g t k rows (Some key) miss found = inr found
+  Finds g rows None = (t : List ℕ) (key : K) → Has t key rows → g t ≡ false
+  Finds g rows (Some key) = (t : List ℕ) × Has t key rows × (g t ≡ true)
 
   own_finds : (rows : RowsOf K) → Finds (λ t. goes t []) rows (own rows)
-  own_finds [] = tt
-  own_finds (([], k) ∷ rows) = inl (refl, refl)
-  own_finds ((x ∷ t, k) ∷ rows) = finds_past (λ t. goes t []) (x ∷ t) k rows (own rows) refl (own_finds rows)
-
-  step_plain : (b : ℕ) (rows : RowsOf K) → AllPlain rows → AllPlain (step b rows)
-  step_plain b [] plain = tt
-  step_plain b (([], k) ∷ rows) plain = step_plain b rows plain.1
-  step_plain b ((x ∷ t, k) ∷ rows) (is, plain) =
-      elim (x == b) as (λ v. AllPlain (cond v ((t, k) ∷ step b rows) (step b rows))) [
-        | true ↦ (is.2, step_plain b rows plain)
-        | false ↦ step_plain b rows plain
-      ]
-
-  step_ends : (rows : RowsOf K) → AllPlain rows → AllEnd (step 256 rows)
-  step_ends [] plain = tt
-  step_ends (([], k) ∷ rows) plain = step_ends rows plain.1
-  step_ends ((x ∷ t, k) ∷ rows) (is, plain) = by (x == 256) refl (step_ends rows plain)
+  own_finds [] = λ t key has. absurd has
+  own_finds (([], k) ∷ rows) = ([], inl (refl, refl), refl)
+  own_finds ((x ∷ t, k) ∷ rows) = by (own rows) (own_finds rows)
     where
-      by : (v : Bool) → (x == 256) ≡ v → AllEnd (step 256 rows) → AllEnd (cond v ((t, k) ∷ step 256 rows) (step 256 rows))
-      by true e later =
-          let same : x ≡ 256 = grind (arith, nat_tests) in
-          (is.1 same, later)
-      by false e later = later
+      miss : Finds (λ t. goes t []) rows None → (u : List ℕ) (key : K) → Has u key ((x ∷ t, k) ∷ rows) → goes u [] ≡ false
+      miss none u key (inl (same, is)) = ap (λ l. goes l []) (sym same)
+      miss none u key (inr has) = none u key has
+
+      by : (answer : Option K) → Finds (λ t. goes t []) rows answer → Finds (λ t. goes t []) ((x ∷ t, k) ∷ rows) answer
+      by None none = miss none
+      by (Some key) (u, has, is) = (u, inr has, is)
+
+  -- ---- rows after a token
+
+  step_has : (b : ℕ) (t : List ℕ) (key : K) (rows : RowsOf K) → Has t key (step b rows) → Has (b ∷ t) key rows
+  step_has b t key [] has = has
+  step_has b t key (([], k) ∷ rows) has = inr (step_has b t key rows has)
+  step_has b t key ((x ∷ u, k) ∷ rows) has = by (step_has b t key rows) (x == b) refl has
+    where
+      by : (Has t key (step b rows) → Has (b ∷ t) key rows) → (v : Bool) → (x == b) ≡ v → Has t key (cond v ((u, k) ∷ step b rows) (step b rows))
+          → Has (b ∷ t) key ((x ∷ u, k) ∷ rows)
+      by on true e (inl (same, is)) =
+          let token : x ≡ b = grind (arith, nat_tests) in
+          inl (ap₂ (λ y l. y ∷ l) token same, is)
+      by on true e (inr has) = inr (on has)
+      by on false e has = inr (on has)
+
+  has_step : (b x : ℕ) → (x == b) ≡ true → (t : List ℕ) (key : K) (rows : RowsOf K) → Has (x ∷ t) key rows → Has t key (step b rows)
+  has_step b x token t key [] has = has
+  has_step b x token t key (([], k) ∷ rows) (inl (same, is)) = absurd (cc)
+  has_step b x token t key (([], k) ∷ rows) (inr has) = has_step b x token t key rows has
+  has_step b x token t key ((y ∷ u, k) ∷ rows) has = by (has_step b x token t key rows) (y == b) refl has
+    where
+      by : (Has (x ∷ t) key rows → Has t key (step b rows)) → (v : Bool) → (y == b) ≡ v → Has (x ∷ t) key ((y ∷ u, k) ∷ rows)
+          → Has t key (cond v ((u, k) ∷ step b rows) (step b rows))
+      by on true e (inl (same, is)) =
+          let rest : u ≡ t = cc in
+          inl (rest, is)
+      by on true e (inr has) = inr (on has)
+      by on false e (inl (same, is)) =
+          let first : y ≡ x = cc in
+          absurd (false≢true (sym e ∙ (ap (λ z. z == b) first ∙ token)))
+      by on false e (inr has) = on has
 
   -- no route has a catch-all
   no_catch_all : (rows : RowsOf K) → AllPlain rows → step 257 rows ≡ []
   no_catch_all [] plain = refl
-  no_catch_all (([], k) ∷ rows) plain = no_catch_all rows plain.1
-  no_catch_all ((x ∷ t, k) ∷ rows) (is, plain) =
-      let small : x ≤ 256 = is.0 in
+  no_catch_all (([], k) ∷ rows) plain = no_catch_all rows (λ u key has. plain u key (inr has))
+  no_catch_all ((x ∷ t, k) ∷ rows) plain =
+      let small : x ≤ 256 = (plain (x ∷ t) k (inl (refl, refl))).0 in
       let other : (x == 257) ≡ false = grind (arith, nat_tests) in
-      rw other (no_catch_all rows plain)
+      rw other (no_catch_all rows (λ u key has. plain u key (inr has)))
 
-  -- a byte
-  hits_byte : (b : ℕ) (path : List ℕ) (key : K) → b < 256 → (rows : RowsOf K) → Hits (λ t. goes t path) (step b rows) key
-      → Hits (λ t. goes t (b ∷ path)) rows key
-  hits_byte b path key small [] hit = absurd hit
-  hits_byte b path key small (([], k) ∷ rows) hit = inr (hits_byte b path key small rows hit)
-  hits_byte b path key small ((x ∷ t, k) ∷ rows) hit = by (hits_byte b path key small rows) (x == b) refl hit
+  -- ---- rows with a suffix
+
+  suffix_has : (s t : List ℕ) (key : K) (rows : RowsOf K) → Has t key (with_suffix s rows) → Has t key rows
+  suffix_has s t key [] has = has
+  suffix_has s t key ((u, k) ∷ rows) has = by (suffix_has s t key rows) (same_text (segment u) s) has
     where
-      by : (Hits (λ t. goes t path) (step b rows) key → Hits (λ t. goes t (b ∷ path)) rows key) → (v : Bool) → (x == b) ≡ v
-          → Hits (λ t. goes t path) (cond v ((t, k) ∷ step b rows) (step b rows)) key → Hits (λ t. goes t (b ∷ path)) ((x ∷ t, k) ∷ rows) key
-      by on true e (inl (goes_on, is)) =
-          let same : x ≡ b = grind (arith, nat_tests) in
-          let word : (x == 256) ≡ false = grind (arith, nat_tests) in
-          inl (rw (word, e) goes_on, is)
-      by on true e (inr later) = inr (on later)
-      by on false e later = inr (on later)
+      by : (Has t key (with_suffix s rows) → Has t key rows) → (v : Bool) → Has t key (cond v ((u, k) ∷ with_suffix s rows) (with_suffix s rows))
+          → Has t key ((u, k) ∷ rows)
+      by on true (inl is) = inl is
+      by on true (inr has) = inr (on has)
+      by on false has = inr (on has)
 
-  -- a parameter
-  hits_param : (b : ℕ) (path : List ℕ) (key : K) → (b == 47) ≡ false → (rows : RowsOf K) → Hits (λ t. goes t (rest_of path)) (step 256 rows) key
-      → Hits (λ t. goes t (b ∷ path)) rows key
-  hits_param b path key other [] hit = absurd hit
-  hits_param b path key other (([], k) ∷ rows) hit = inr (hits_param b path key other rows hit)
-  hits_param b path key other ((x ∷ t, k) ∷ rows) hit = by (hits_param b path key other rows) (x == 256) refl hit
+  has_suffix : (s t : List ℕ) (key : K) → same_text (segment t) s ≡ true → (rows : RowsOf K) → Has t key rows → Has t key (with_suffix s rows)
+  has_suffix s t key ends [] has = has
+  has_suffix s t key ends ((u, k) ∷ rows) has = by (has_suffix s t key ends rows) (same_text (segment u) s) refl has
     where
-      by : (Hits (λ t. goes t (rest_of path)) (step 256 rows) key → Hits (λ t. goes t (b ∷ path)) rows key) → (v : Bool) → (x == 256) ≡ v
-          → Hits (λ t. goes t (rest_of path)) (cond v ((t, k) ∷ step 256 rows) (step 256 rows)) key
-          → Hits (λ t. goes t (b ∷ path)) ((x ∷ t, k) ∷ rows) key
-      by on true e (inl (goes_on, is)) = inl (rw (e, other) goes_on, is)
-      by on true e (inr later) = inr (on later)
-      by on false e later = inr (on later)
+      by : (Has t key rows → Has t key (with_suffix s rows)) → (v : Bool) → same_text (segment u) s ≡ v → Has t key ((u, k) ∷ rows)
+          → Has t key (cond v ((u, k) ∷ with_suffix s rows) (with_suffix s rows))
+      by on true e (inl is) = inl is
+      by on true e (inr has) = inr (on has)
+      by on false e (inl (same, is)) = absurd (false≢true (sym e ∙ (ap (λ l. same_text (segment l) s) same ∙ ends)))
+      by on false e (inr has) = on has
 
-  -- neither
-  misses_both : (b : ℕ) (path : List ℕ) (rows : RowsOf K) → Misses (λ t. goes t path) (step b rows)
-      → ((b == 47) ≡ true) ⊎ Misses (λ t. goes t (rest_of path)) (step 256 rows) → Misses (λ t. goes t (b ∷ path)) rows
-  misses_both b path [] word param = tt
-  misses_both b path (([], k) ∷ rows) word param = (refl, misses_both b path rows word param)
-  misses_both b path ((x ∷ t, k) ∷ rows) word param = by (misses_both b path rows) (x == 256) refl (x == b) refl word param
+  suffix_finds : (q : List ℕ) (rows : RowsOf K) → AllEnd rows → (answer : Option K) → Finds (λ t. goes t (47 ∷ q)) (with_suffix (47 ∷ []) rows) answer
+      → Finds (λ t. goes t (47 ∷ q)) rows answer
+  suffix_finds q rows ends None none = miss
     where
-      Words : Bool → Type 0
-      Words v = Misses (λ t. goes t path) (cond v ((t, k) ∷ step b rows) (step b rows))
-
-      Params : Bool → Type 0
-      Params v = ((b == 47) ≡ true) ⊎ Misses (λ t. goes t (rest_of path)) (cond v ((t, k) ∷ step 256 rows) (step 256 rows))
-
-      words_later : (v : Bool) → Words v → Misses (λ t. goes t path) (step b rows)
-      words_later true w = w.1
-      words_later false w = w
-
-      params_later : (v : Bool) → Params v → ((b == 47) ≡ true) ⊎ Misses (λ t. goes t (rest_of path)) (step 256 rows)
-      params_later v (inl is) = inl is
-      params_later true (inr p) = inr p.1
-      params_later false (inr p) = inr p
-
-      here : (u : Bool) → (x == 256) ≡ u → (v : Bool) → (x == b) ≡ v → Words v → Params u → goes (x ∷ t) (b ∷ path) ≡ false
-      here true e v f w (inl is) = rw (e, is) refl
-      here true e v f w (inr p) =
-          let off : (not (b == 47) && goes t (rest_of path)) ≡ false = and_false (not (b == 47)) (goes t (rest_of path)) p.0 in
-          rw e off
-      here false e true f w p = rw (e, f) w.0
-      here false e false f w p = rw (e, f) refl
-
-      by : (Misses (λ t. goes t path) (step b rows) → ((b == 47) ≡ true) ⊎ Misses (λ t. goes t (rest_of path)) (step 256 rows)
-          → Misses (λ t. goes t (b ∷ path)) rows)
-          → (u : Bool) → (x == 256) ≡ u → (v : Bool) → (x == b) ≡ v → Words v → Params u → Misses (λ t. goes t (b ∷ path)) ((x ∷ t, k) ∷ rows)
-      by on u e v f w p = (here u e v f w p, on (words_later v w) (params_later u p))
+      miss : (t : List ℕ) (key : K) → Has t key rows → goes t (47 ∷ q) ≡ false
+      miss [] key has = refl
+      miss (x ∷ t) key has =
+          let is = segment_tail x t (ends (x ∷ t) key has) in
+          none (x ∷ t) key (has_suffix (47 ∷ []) (x ∷ t) key (ap (λ s. same_text s (47 ∷ [])) is) rows has)
+  suffix_finds q rows ends (Some key) (t, has, is) = (t, suffix_has (47 ∷ []) t key rows has, is)
 
   -- ---- how far a parameter goes
 
-  -- whether something stands behind a parameter in some row
-  abbrev pub any_tail : RowsOf K → Bool
+  -- whether something follows a parameter in some row
+  abbrev any_tail : RowsOf K → Bool
   any_tail [] = false
   any_tail (([], k) ∷ rows) = any_tail rows
   any_tail ((x ∷ t, k) ∷ rows) = true
 
+  no_tail : (t : List ℕ) (key : K) (rows : RowsOf K) → any_tail rows ≡ false → Has t key rows → t ≡ []
+  no_tail t key [] none has = absurd has
+  no_tail t key (([], k) ∷ rows) none (inl (same, is)) = sym same
+  no_tail t key (([], k) ∷ rows) none (inr has) = no_tail t key rows none has
+  no_tail t key ((x ∷ u, k) ∷ rows) none has = absurd (false≢true (sym none))
+
   longest_found : (seg : List ℕ) (rows : RowsOf K) → AllEnd rows → longest_from seg (47 ∷ []) rows ≡ 47 ∷ []
   longest_found seg [] ends = refl
-  longest_found seg (([], k) ∷ rows) ends = longest_found seg rows ends.1
-  longest_found seg ((x ∷ t, k) ∷ rows) (is, ends) =
-      ap (λ s. longest_from seg (better seg (47 ∷ []) s) rows) (segment_tail x t is) ∙ longest_found seg rows ends
+  longest_found seg (([], k) ∷ rows) ends = longest_found seg rows (λ u key has. ends u key (inr has))
+  longest_found seg ((x ∷ t, k) ∷ rows) ends =
+      ap (λ s. longest_from seg (better seg (47 ∷ []) s) rows) (segment_tail x t (ends (x ∷ t) k (inl (refl, refl))))
+      ∙ longest_found seg rows (λ u key has. ends u key (inr has))
 
-  longest_cut : (seg : List ℕ) (rows : RowsOf K) → AllEnd rows → cuts seg (47 ∷ []) ≡ true → longest_suffix seg rows ≡ cond (any_tail rows) (47 ∷ []) []
-  longest_cut seg [] ends cut = refl
-  longest_cut seg (([], k) ∷ rows) ends cut = longest_cut seg rows ends.1 cut
-  longest_cut seg ((x ∷ t, k) ∷ rows) (is, ends) cut =
-      ap (λ s. longest_from seg (better seg [] s) rows) (segment_tail x t is)
-      ∙ (ap (λ v. longest_from seg (cond (true && v) (47 ∷ []) []) rows) cut ∙ longest_found seg rows ends)
+  longest_is : (seg : List ℕ) (v : Bool) → cuts seg (47 ∷ []) ≡ v → (rows : RowsOf K) → AllEnd rows → longest_suffix seg rows ≡ cond (v && any_tail rows) (47 ∷ []) []
+  longest_is seg true cut [] ends = refl
+  longest_is seg false cut [] ends = refl
+  longest_is seg v cut (([], k) ∷ rows) ends = longest_is seg v cut rows (λ u key has. ends u key (inr has))
+  longest_is seg true cut ((x ∷ t, k) ∷ rows) ends =
+      ap (λ s. longest_from seg (better seg [] s) rows) (segment_tail x t (ends (x ∷ t) k (inl (refl, refl))))
+      ∙ (ap (λ v. longest_from seg (cond (true && v) (47 ∷ []) []) rows) cut ∙ longest_found seg rows (λ u key has. ends u key (inr has)))
+  longest_is seg false cut ((x ∷ t, k) ∷ rows) ends =
+      ap (λ s. longest_from seg (better seg [] s) rows) (segment_tail x t (ends (x ∷ t) k (inl (refl, refl))))
+      ∙ (ap (λ v. longest_from seg (cond (true && v) (47 ∷ []) []) rows) cut ∙ longest_is seg false cut rows (λ u key has. ends u key (inr has)))
 
-  longest_uncut : (seg : List ℕ) (rows : RowsOf K) → AllEnd rows → cuts seg (47 ∷ []) ≡ false → longest_suffix seg rows ≡ []
-  longest_uncut seg [] ends cut = refl
-  longest_uncut seg (([], k) ∷ rows) ends cut = longest_uncut seg rows ends.1 cut
-  longest_uncut seg ((x ∷ t, k) ∷ rows) (is, ends) cut =
-      ap (λ s. longest_from seg (better seg [] s) rows) (segment_tail x t is)
-      ∙ (ap (λ v. longest_from seg (cond (true && v) (47 ∷ []) []) rows) cut ∙ longest_uncut seg rows ends cut)
+  param_is : (path : List ℕ) (rows : RowsOf K) (seg longest : List ℕ) (v : Bool) → segment path ≡ seg → longest_suffix seg rows ≡ longest → has_slash path ≡ v
+      → param_step rows path ≡ cond (ltb 0 (length longest)) (length seg - length longest, with_suffix longest rows) (cond v (0, []) (length path, rows))
+  unfolding param_step
+  param_is path rows seg longest v whole is slash = rw (whole, is, slash) refl
 
-  -- nothing is found where there is nothing
-  seek_nothing : (n : ℕ) (path : List ℕ) → seek {K = K} n [] path ≡ None
-  unfolding seek param_step
-  seek_nothing n [] = refl
-  seek_nothing (suc n) (b ∷ path) = seek_nothing n path
-  seek_nothing zero (b ∷ path) = simp (seek_nothing 0 path, nothing_stepped (b ∷ path), seek_nothing ((param_step {K = K} [] (b ∷ path)).0 - 1) path)
+  nothing_found : (g : List ℕ → Bool) (answer : Option K) → Finds g [] answer → answer ≡ None
+  nothing_found g None none = refl
+  nothing_found g (Some key) (t, has, is) = absurd has
+
+  -- the answer after a parameter, which takes the rest of a segment
+  param_finds : (b : ℕ) (s : List ℕ) (segments : List (List ℕ)) (rows : RowsOf K) → has_slash (b ∷ s) ≡ false → AllEnd rows → AllPlain rows
+      → ((n : ℕ) (rs : RowsOf K) → AllPlain rs → Finds (λ t. goes t (drop n (s ++ spell segments))) rs (seek n rs (s ++ spell segments)))
+      → Finds (λ t. goes t (spell segments)) rows (seek ((param_step rows (b ∷ s ++ spell segments)).0 - 1) (param_step rows (b ∷ s ++ spell segments)).1
+      (s ++ spell segments))
+  param_finds b s [] rows none ends plain later =
+      let step_is : param_step rows (b ∷ s) ≡ (suc (length s), rows) =
+      param_is (b ∷ s) rows (b ∷ s) [] false (segment_all (b ∷ s) none) (longest_is (b ∷ s) false (uncut (b ∷ s) none) rows ends) none in
+      let place : suc (length s) - 1 ≡ length s = omega arith in
+      let after = rw append-nil at later in
+      let there = rw drop-length at (after (length s) rows plain) in
+      simp append-nil (rw (step_is, place) there)
+  param_finds b s (t ∷ segments) rows none ends plain later = by (any_tail rows) refl
     where
-      nothing_stepped : (p : List ℕ) → (param_step {K = K} [] p).1 ≡ []
-      nothing_stepped p =
-          elim (has_slash p) as (λ v. (cond {A = ℕ × RowsOf K} v (0, []) (length p, [])).1 ≡ []) [
-            | true ↦ refl
-            | false ↦ refl
-          ]
+      path : List ℕ
+      path = s ++ spell (t ∷ segments)
 
-  -- the rows with something behind the parameter, where that is what stands ahead
-  suffix_finds : (q : List ℕ) (rows : RowsOf K) → AllEnd rows → (answer : Option K) → Finds (λ t. goes t (47 ∷ q)) (with_suffix (47 ∷ []) rows) answer
-      → Finds (λ t. goes t (47 ∷ q)) rows answer
-  suffix_finds q [] ends answer found = found
-  suffix_finds q (([], k) ∷ rows) ends answer found = finds_past (λ t. goes t (47 ∷ q)) [] k rows answer refl (suffix_finds q rows ends.1 answer found)
-  suffix_finds q ((x ∷ t, k) ∷ rows) (is, ends) answer found =
-      let Kept : List ℕ → Type 0 = λ s. Finds (λ t. goes t (47 ∷ q)) (cond (same_text s (47 ∷ [])) ((x ∷ t, k) ∷ with_suffix (47 ∷ []) rows) (with_suffix
-      (47 ∷ []) rows)) answer in
-      by (suffix_finds q rows ends) answer (subst Kept (segment_tail x t is) found)
-    where
-      by : ((answer : Option K) → Finds (λ t. goes t (47 ∷ q)) (with_suffix (47 ∷ []) rows) answer → Finds (λ t. goes t (47 ∷ q)) rows answer)
-          → (answer : Option K) → Finds (λ t. goes t (47 ∷ q)) ((x ∷ t, k) ∷ with_suffix (47 ∷ []) rows) answer
-          → Finds (λ t. goes t (47 ∷ q)) ((x ∷ t, k) ∷ rows) answer
-      by on None (miss, later) = (miss, on None later)
-      by on (Some key) (inl here) = inl here
-      by on (Some key) (inr later) = inr (on (Some key) later)
+      longest : Bool → List ℕ
+      longest v = cond v (47 ∷ []) []
 
-  no_tails_miss : (q : List ℕ) (rows : RowsOf K) → any_tail rows ≡ false → Misses (λ t. goes t (47 ∷ q)) rows
-  no_tails_miss q [] none = tt
-  no_tails_miss q (([], k) ∷ rows) none = (refl, no_tails_miss q rows none)
-  no_tails_miss q ((x ∷ t, k) ∷ rows) none = absurd (false≢true (sym none))
+      step_is : (v : Bool) → any_tail rows ≡ v
+          → param_step rows (b ∷ path) ≡ cond (ltb 0 (length (longest v))) (length (b ∷ s ++ 47 ∷ []) - length (longest v), with_suffix (longest v) rows) (0, [])
+      step_is v e =
+          param_is (b ∷ path) rows (b ∷ s ++ 47 ∷ []) (longest v) true (segment_whole (b ∷ s) (t ++ spell segments) none)
+          (longest_is (b ∷ s ++ 47 ∷ []) true (cut_at_slash b s) rows ends ∙ ap longest e) (slash_in (b ∷ s) (t ++ spell segments))
 
--- the end of a segment
-ends_more : (b c : ℕ) (s : List ℕ) → ends_with nat_eq (b ∷ c ∷ s) (47 ∷ []) ≡ ends_with nat_eq (c ∷ s) (47 ∷ [])
-ends_more b c s =
-    let long : suc (suc (length s)) - 1 ≡ suc (length s) = omega arith in
-    let short : suc (length s) - 1 ≡ length s = omega arith in
-    ap (λ n. pointwise nat_eq (47 ∷ []) (drop n (b ∷ c ∷ s))) long ∙ sym (ap (λ n. pointwise nat_eq (47 ∷ []) (drop n (c ∷ s))) short)
-
-segment_ends : (b : ℕ) (path : List ℕ) → (b == 47) ≡ false → ends_with nat_eq (b ∷ segment path) (47 ∷ []) ≡ has_slash path
-segment_ends b [] other =
-    let flipped : (47 == b) ≡ false = grind (arith, nat_tests) in
-    rw flipped refl
-segment_ends b (c ∷ path) other = by (segment_ends c path) (c == 47) refl
-  where
-    by : ((c == 47) ≡ false → ends_with nat_eq (c ∷ segment path) (47 ∷ []) ≡ has_slash path) → (v : Bool) → (c == 47) ≡ v
-        → ends_with nat_eq (b ∷ cond v (c ∷ []) (c ∷ segment path)) (47 ∷ []) ≡ cond v true (has_slash path)
-    by on true e =
-        let flipped : (47 == c) ≡ true = grind (arith, nat_tests) in
-        ends_more b c [] ∙ rw flipped refl
-    by on false e = ends_more b c (segment path) ∙ on e
-
-segment_some : (c : ℕ) (path : List ℕ) → 0 < length (segment (c ∷ path))
-segment_some c path =
-    elim (c == 47) as (λ v. 0 < length (cond v (c ∷ []) (c ∷ segment path))) [
-      | true ↦ omega arith
-      | false ↦ omega arith
-    ]
-
-cuts_at_slash : (b : ℕ) (path : List ℕ) → (b == 47) ≡ false → cuts (b ∷ segment path) (47 ∷ []) ≡ has_slash path
-cuts_at_slash b [] other = refl
-cuts_at_slash b (c ∷ path) other =
-    let some = segment_some c path in
-    let two : ltb 1 (suc (length (segment (c ∷ path)))) ≡ true = grind (arith, nat_tests) in
-    rw two (segment_ends b (c ∷ path) other)
-
-rest_none : (path : List ℕ) → has_slash path ≡ false → rest_of path ≡ []
-rest_none [] none = refl
-rest_none (c ∷ path) none = by (rest_none path) (c == 47) none
-  where
-    by : (has_slash path ≡ false → rest_of path ≡ []) → (v : Bool) → cond v true (has_slash path) ≡ false → cond v (c ∷ path) (rest_of path) ≡ []
-    by on true none = absurd (false≢true (sym none))
-    by on false none = on none
-
-rest_some : (path : List ℕ) → has_slash path ≡ true → (q : List ℕ) × (rest_of path ≡ 47 ∷ q)
-rest_some [] some = absurd (false≢true some)
-rest_some (c ∷ path) some = by (rest_some path) (c == 47) refl some
-  where
-    by : (has_slash path ≡ true → (q : List ℕ) × (rest_of path ≡ 47 ∷ q)) → (v : Bool) → (c == 47) ≡ v → cond v true (has_slash path) ≡ true
-        → (q : List ℕ) × (cond v (c ∷ path) (rest_of path) ≡ 47 ∷ q)
-    by on true e some =
-        let same : c ≡ 47 = grind (arith, nat_tests) in
-        (path, ap (λ x. x ∷ path) same)
-    by on false e some = on some
-
-rest_at : (path : List ℕ) → has_slash path ≡ true → drop (length (segment path) - 1) path ≡ rest_of path
-rest_at [] some = absurd (false≢true some)
-rest_at (c ∷ path) some = by (rest_at path) (c == 47) some
-  where
-    further : (path : List ℕ) → has_slash path ≡ true → length (segment path) ≡ suc (length (segment path) - 1)
-    further [] some = absurd (false≢true some)
-    further (d ∷ path) some =
-        let some = segment_some d path in
-        omega arith
-
-    by : (has_slash path ≡ true → drop (length (segment path) - 1) path ≡ rest_of path) → (v : Bool) → cond v true (has_slash path) ≡ true
-        → drop (length (cond v (c ∷ []) (c ∷ segment path)) - 1) (c ∷ path) ≡ cond v (c ∷ path) (rest_of path)
-    by on true some = refl
-    by on false some =
-        let one : suc (length (segment path)) - 1 ≡ suc (length (segment path) - 1) =
-        (let f = further path some in omega arith) in
-        ap (λ n. drop n (c ∷ path)) one ∙ on some
-
-drop_all : (path : List ℕ) → drop (length path) path ≡ []
-drop_all [] = refl
-drop_all (b ∷ path) = drop_all path
-
-module _ {K : Type 0} where
-  -- how far a parameter goes, and the rows behind it
-  stepped : List ℕ → RowsOf K → List ℕ → List ℕ → Bool → ℕ × RowsOf K
-  stepped path rows s longest v =
-      cond (ltb 0 (length longest)) (length s - length longest, with_suffix longest rows) (cond v (0, []) (suc (length path), rows))
-
-  param_at : (b : ℕ) (path : List ℕ) (rows : RowsOf K) (v : Bool) → (b == 47) ≡ v
-      → param_step rows (b ∷ path) ≡ stepped path rows (cond v (b ∷ []) (b ∷ segment path)) (longest_suffix (cond v (b ∷ []) (b ∷ segment path)) rows)
-      (cond v true (has_slash path))
-  unfolding param_step stepped
-  param_at b path rows v e =
-      let F : Bool → ℕ × RowsOf K = λ w. stepped path rows (cond w (b ∷ []) (b ∷ segment path)) (longest_suffix (cond w (b ∷ []) (b ∷ segment path)) rows)
-      (cond w true (has_slash path)) in
-      ap F e
-
-  -- the answer behind a parameter, which takes a byte that is no slash
-  param_finds : (b : ℕ) (path : List ℕ) (rows : RowsOf K) → (b == 47) ≡ false → AllEnd rows → AllPlain rows
-      → ((n : ℕ) (rs : RowsOf K) → AllPlain rs → Finds (λ t. goes t (drop n path)) rs (seek n rs path))
-      → Finds (λ t. goes t (rest_of path)) rows (seek ((param_step rows (b ∷ path)).0 - 1) (param_step rows (b ∷ path)).1 path)
-  unfolding stepped
-  param_finds b path rows other ends plain later = by (has_slash path) refl
-    where
       Answer : ℕ × RowsOf K → Type 0
-      Answer s = Finds (λ t. goes t (rest_of path)) rows (seek (s.0 - 1) s.1 path)
+      Answer st = Finds (λ u. goes u (spell (t ∷ segments))) rows (seek (st.0 - 1) st.1 path)
 
-      Step : List ℕ → List ℕ → Bool → ℕ × RowsOf K
-      Step = stepped path rows
+      by : (v : Bool) → any_tail rows ≡ v → Answer (param_step rows (b ∷ path))
+      by true e =
+          let kept = with_suffix (47 ∷ []) rows in
+          let place : length (b ∷ s ++ 47 ∷ []) - 1 - 1 ≡ length s = omega (arith, length-append s (47 ∷ [])) in
+          let found = later (length s) kept (λ u key has. plain u key (suffix_has (47 ∷ []) u key rows has)) in
+          let Ahead : List ℕ → Type 0 = λ l. Finds (λ u. goes u l) kept (seek (length s) kept path) in
+          let there = suffix_finds (t ++ spell segments) rows ends (seek (length s) kept path) (subst Ahead (drop-append_seam s (spell (t ∷ segments))) found) in
+          let At : ℕ → Type 0 = λ n. Finds (λ u. goes u (spell (t ∷ segments))) rows (seek n kept path) in
+          subst Answer (sym (step_is true e)) (subst At (sym place) there)
+      by false e =
+          let nothing = nothing_found (λ u. goes u path) (seek 0 [] path) (later 0 [] (λ u key has. absurd has)) in
+          let Found : Option K → Type 0 = λ answer. Finds (λ u. goes u (spell (t ∷ segments))) rows answer in
+          subst Answer (sym (step_is false e)) (subst Found (sym nothing) (λ u key has. rw (no_tail u key rows e has) refl))
 
-      step_is : param_step rows (b ∷ path) ≡ Step (b ∷ segment path) (longest_suffix (b ∷ segment path) rows) (has_slash path)
-      step_is = param_at b path rows false other
-
-      suffix_plain : (rs : RowsOf K) → AllPlain rs → AllPlain (with_suffix (47 ∷ []) rs)
-      suffix_plain [] plain = tt
-      suffix_plain ((t, k) ∷ rs) (is, plain) =
-          elim (same_text (segment t) (47 ∷ [])) as (λ v. AllPlain (cond v ((t, k) ∷ with_suffix (47 ∷ []) rs) (with_suffix (47 ∷ []) rs))) [
-            | true ↦ (is, suffix_plain rs plain)
-            | false ↦ suffix_plain rs plain
-          ]
-
-      ahead : (w : Bool) → any_tail rows ≡ w → has_slash path ≡ true → Answer (Step (b ∷ segment path) (cond w (47 ∷ []) []) true)
-      ahead true some slash =
-          let (q, is) = rest_some path slash in
-          let n = (suc (length (segment path)) - 1) - 1 in
-          let place : n ≡ length (segment path) - 1 = omega arith in
-          let there : drop n path ≡ 47 ∷ q = ap (λ m. drop m path) place ∙ (rest_at path slash ∙ is) in
-          let answer = seek n (with_suffix (47 ∷ []) rows) path in
-          let P : List ℕ → Type 0 = λ l. Finds (λ t. goes t l) (with_suffix (47 ∷ []) rows) answer in
-          let Q : List ℕ → Type 0 = λ l. Finds (λ t. goes t l) rows answer in
-          subst Q (sym is) (suffix_finds q rows ends answer (subst P there (later n (with_suffix (47 ∷ []) rows) (suffix_plain rows plain))))
-      ahead false none slash =
-          let (q, is) = rest_some path slash in
-          let P : Option K → Type 0 = λ answer. Finds (λ t. goes t (rest_of path)) rows answer in
-          let Q : List ℕ → Type 0 = λ l. Misses (λ t. goes t l) rows in
-          subst P (sym (seek_nothing 0 path)) (subst Q (sym is) (no_tails_miss q rows none))
-
-      by : (v : Bool) → has_slash path ≡ v → Answer (param_step rows (b ∷ path))
-      by true slash =
-          let longest = longest_cut (b ∷ segment path) rows ends (cuts_at_slash b path other ∙ slash) in
-          let whole = step_is ∙ (ap (λ l. Step (b ∷ segment path) l (has_slash path)) longest
-          ∙ ap (Step (b ∷ segment path) (cond (any_tail rows) (47 ∷ []) [])) slash) in
-          subst Answer (sym whole) (ahead (any_tail rows) refl slash)
-      by false none =
-          let longest = longest_uncut (b ∷ segment path) rows ends (cuts_at_slash b path other ∙ none) in
-          let whole = step_is ∙ (ap (λ l. Step (b ∷ segment path) l (has_slash path)) longest ∙ ap (Step (b ∷ segment path) []) none) in
-          let n = suc (length path) - 1 in
-          let place : n ≡ length path = omega arith in
-          let there : drop n path ≡ rest_of path = ap (λ m. drop m path) place ∙ (drop_all path ∙ sym (rest_none path none)) in
-          let P : List ℕ → Type 0 = λ l. Finds (λ t. goes t l) rows (seek n rows path) in
-          subst Answer (sym whole) (subst P there (later n rows plain))
+  -- no parameter begins with a slash
+  none_at_slash : (path : List ℕ) (rows : RowsOf K) → AllEnd rows → Finds (λ t. goes t path) [] (seek 0 [] path)
+      → seek ((param_step rows (47 ∷ path)).0 - 1) (param_step rows (47 ∷ path)).1 path ≡ None
+  none_at_slash path rows ends found =
+      ap (λ (st : ℕ × RowsOf K). seek (st.0 - 1) st.1 path) (param_is (47 ∷ path) rows (47 ∷ []) [] true refl (longest_is (47 ∷ []) false refl rows ends) refl)
+      ∙ nothing_found (λ t. goes t path) (seek 0 [] path) found
 
   -- what is found over a byte of the path
   join_finds : (b : ℕ) (path : List ℕ) (rows : RowsOf K) → b < 256 → (word param : Option K) → Finds (λ t. goes t path) (step b rows) word
       → (((b == 47) ≡ true) × (param ≡ None)) ⊎ (((b == 47) ≡ false) × Finds (λ t. goes t (rest_of path)) (step 256 rows) param)
       → Finds (λ t. goes t (b ∷ path)) rows (or_else word (or_else param None))
-  join_finds b path rows small (Some key) param hit how = hits_byte b path key small rows hit
-  join_finds b path rows small None None miss (inl (slash, none)) = misses_both b path rows miss (inl slash)
-  join_finds b path rows small None None miss (inr (other, param)) = misses_both b path rows miss (inr param)
-  join_finds b path rows small None (Some key) miss (inl (slash, none)) = absurd (some_is_none none)
+  join_finds b path rows small (Some key) param (t, has, is) how =
+      let byte : (b == 256) ≡ false = grind (arith, nat_tests) in
+      let same : (b == b) ≡ true = grind (arith, nat_tests) in
+      (b ∷ t, step_has b t key rows has, rw (byte, same) is)
+  join_finds b path rows small None (Some key) none (inl (slash, is)) = absurd (cc)
+  join_finds b path rows small None (Some key) none (inr (other, (t, has, is))) = (256 ∷ t, step_has 256 t key rows has, rw other is)
+  join_finds b path rows small None None none how = miss
     where
-      some_is_none : Some key ≡ None → ⊥
-      some_is_none e = cc
-  join_finds b path rows small None (Some key) miss (inr (other, hit)) = hits_param b path key other rows hit
+      here : (x : ℕ) (t : List ℕ) (key : K) → Has (x ∷ t) key rows → (u : Bool) → (x == 256) ≡ u → (v : Bool) → (x == b) ≡ v
+          → (((b == 47) ≡ true) × ◌≡◌ {A = Option K} None None) ⊎ (((b == 47) ≡ false) × Finds (λ t. goes t (rest_of path)) (step 256 rows) None)
+          → goes (x ∷ t) (b ∷ path) ≡ false
+      here x t key has true e v f (inl (slash, same)) = rw (e, slash) refl
+      here x t key has true e v f (inr (other, param)) = rw (e, other, param t key (has_step 256 x e t key rows has)) refl
+      here x t key has false e true f how = rw (e, f) (none t key (has_step b x f t key rows has))
+      here x t key has false e false f how = rw (e, f) refl
 
-  -- no parameter begins with a slash
-  at_slash : (b : ℕ) (path : List ℕ) (rows : RowsOf K) → (b == 47) ≡ true → AllEnd rows
-      → seek ((param_step rows (b ∷ path)).0 - 1) (param_step rows (b ∷ path)).1 path ≡ None
-  unfolding stepped
-  at_slash b path rows slash ends =
-      ap (λ s. seek (s.0 - 1) s.1 path) (param_at b path rows true slash ∙ ap (λ l. stepped path rows (b ∷ []) l true) (longest_uncut (b ∷ []) rows ends refl))
-      ∙ seek_nothing 0 path
+      miss : (t : List ℕ) (key : K) → Has t key rows → goes t (b ∷ path) ≡ false
+      miss [] key has = refl
+      miss (x ∷ t) key has = here x t key has (x == 256) refl (x == b) refl how
+
+  spelled_finds : (s : List ℕ) (segments : List (List ℕ)) → has_slash s ≡ false → HaveNoSlash segments → AreBytes (s ++ spell segments)
+      → (n : ℕ) (rows : RowsOf K) → AllPlain rows → Finds (λ t. goes t (drop n (s ++ spell segments))) rows (seek n rows (s ++ spell segments))
+  unfolding seek
+  spelled_finds [] [] none nones bytes zero rows plain = own_finds rows
+  spelled_finds [] [] none nones bytes (suc n) rows plain = own_finds rows
+  spelled_finds [] (t ∷ segments) none (none', nones) bytes (suc n) rows plain = spelled_finds t segments none' nones bytes.1 n rows plain
+  spelled_finds [] (t ∷ segments) none (none', nones) bytes zero rows plain =
+      let path = t ++ spell segments in
+      let ends : AllEnd (step 256 rows) = λ u key has. (plain (256 ∷ u) key (step_has 256 u key rows has)).1 refl in
+      rw (no_catch_all rows plain) (join_finds 47 path rows bytes.0 (seek 0 (step 47 rows) path) _
+      (spelled_finds t segments none' nones bytes.1 0 (step 47 rows) (λ u key has. (plain (47 ∷ u) key (step_has 47 u key rows has)).2))
+      (inl (refl, none_at_slash path (step 256 rows) ends (spelled_finds t segments none' nones bytes.1 0 [] (λ u key has. absurd has)))))
+  spelled_finds (b ∷ s) segments none nones bytes (suc n) rows plain = spelled_finds s segments (no_slash b s none).1 nones bytes.1 n rows plain
+  spelled_finds (b ∷ s) segments none nones bytes zero rows plain =
+      let path = s ++ spell segments in
+      let (other, later) = no_slash b s none in
+      let ends : AllEnd (step 256 rows) = λ u key has. (plain (256 ∷ u) key (step_has 256 u key rows has)).1 refl in
+      let Param : List ℕ → Type 0 = λ l. Finds (λ t. goes t l) (step 256 rows) (seek ((param_step (step 256 rows) (b ∷ path)).0 - 1)
+      (param_step (step 256 rows) (b ∷ path)).1 path) in
+      let param = subst Param (sym (rest_spelled s later segments)) (param_finds b s segments (step 256 rows) none ends
+      (λ u key has. (plain (256 ∷ u) key (step_has 256 u key rows has)).2) (spelled_finds s segments later nones bytes.1)) in
+      rw (no_catch_all rows plain) (join_finds b path rows bytes.0 (seek 0 (step b rows) path) _
+      (spelled_finds s segments later nones bytes.1 0 (step b rows) (λ u key has. (plain (b ∷ u) key (step_has b u key rows has)).2))
+      (inr (other, param)))
 
   -- a router finds a row that the path goes by, or there is none
-  pub seek_finds : (path : List ℕ) → AreBytes path → (n : ℕ) (rows : RowsOf K) → AllPlain rows → Finds (λ t. goes t (drop n path)) rows (seek n rows path)
-  unfolding seek
-  seek_finds [] bytes zero rows plain = own_finds rows
-  seek_finds [] bytes (suc n) rows plain = own_finds rows
-  seek_finds (b ∷ path) bytes (suc n) rows plain = seek_finds path bytes.1 n rows plain
-  seek_finds (b ∷ path) bytes zero rows plain =
-      let word = seek 0 (step b rows) path in
-      let param = seek ((param_step (step 256 rows) (b ∷ path)).0 - 1) (param_step (step 256 rows) (b ∷ path)).1 path in
-      let P : RowsOf K → Type 0 = λ last. Finds (λ t. goes t (b ∷ path)) rows (or_else word (or_else param (own last))) in
-      subst P (sym (no_catch_all rows plain))
-      (join_finds b path rows bytes.0 word param (seek_finds path bytes.1 0 (step b rows) (step_plain b rows plain)) (by (seek_finds path bytes.1)
-      (b == 47) refl))
-    where
-      Param : Option K
-      Param = seek ((param_step (step 256 rows) (b ∷ path)).0 - 1) (param_step (step 256 rows) (b ∷ path)).1 path
-
-      by : ((n : ℕ) (rs : RowsOf K) → AllPlain rs → Finds (λ t. goes t (drop n path)) rs (seek n rs path)) → (v : Bool) → (b == 47) ≡ v
-          → (((b == 47) ≡ true) × (Param ≡ None)) ⊎ (((b == 47) ≡ false) × Finds (λ t. goes t (rest_of path)) (step 256 rows) Param)
-      by on true slash = inl (slash, at_slash b path (step 256 rows) slash (step_ends rows plain))
-      by on false other = inr (other, param_finds b path (step 256 rows) other (step_ends rows plain) (step_plain 256 rows plain) on)
+  pub seek_finds : (path : List ℕ) → AreBytes path → (rows : RowsOf K) → AllPlain rows → Finds (λ t. goes t path) rows (seek 0 rows path)
+  seek_finds path bytes rows plain =
+      let (s, segments, split, whole, none, nones) = segments_spell_path path in
+      let Found : List ℕ → Type 0 = λ l. Finds (λ t. goes t l) rows (seek 0 rows l) in
+      subst Found (sym whole) (spelled_finds s segments none nones (subst AreBytes whole bytes) 0 rows plain)

@@ -2,6 +2,8 @@
 use Rattle.std.specs.Prelude.{ℕ, ◌==◌, if◌then◌else◌, List, [], get_or, Option, Some, None, Result, Ok, Err}
 use Rattle.std.specs.List.{before_first, slice_split}
 use Rattle.std.specs.Str.{is_utf8}
+use Rattle.matchit.specs.Params.{walk}
+use Rattle.matchit.specs.declared.params.Params.{Params}
 use Rattle.percent_encoding.specs.Percent.{percent_decode}
 use Rattle.upd_text.specs.declared.fault.FaultKind.{FaultKind}
 use Rattle.upd_text.specs.Names.{is_name}
@@ -15,6 +17,10 @@ path_of target = before_first (λ b. b == 63) target
 -- the segments of a path, which slashes separate
 abbrev pub segments_of : List ℕ → List (List ℕ)
 segments_of path = slice_split (λ b. b == 47) path
+
+-- what the parameters of a match captured, by their names
+abbrev pub captures : Params → List (List ℕ × List ℕ)
+captures params = walk params.pattern.now params.text.now params.path.now params.names.now 0 0
 
 -- the parameter at a place among the segments, decoded
 abbrev pub parameter : List (List ℕ) → ℕ → List ℕ

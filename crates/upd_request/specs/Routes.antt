@@ -1,5 +1,5 @@
 -- The routes, and the one that a path has.
-use Rattle.std.specs.Prelude.{ℕ, Bool, false, List, [], ◌∷◌, ◌++◌, codes, Option, Result, Ok, Err}
+use Rattle.std.specs.Prelude.{ℕ, Bool, false, List, [], ◌∷◌, ◌++◌, codes, get_or, Option, Result, Ok, Err}
 use Rattle.std.specs.Option.{is_none, option_map}
 use Rattle.matchit.specs.Order.{placed}
 use Rattle.matchit.specs.Route.{Scan, parse_route}
@@ -66,6 +66,17 @@ method_of route.Deck = codes "GET"
 method_of route.Card = codes "GET"
 method_of route.Idents = codes "GET"
 method_of route.Yanks = codes "GET"
+
+-- the parameters of a route by their names, each with its segment of the path
+abbrev pub parameters_of : Route → List (List ℕ) → List (List ℕ × List ℕ)
+parameters_of route.Run segments =
+    (codes "site", get_or segments 2 []) ∷ (codes "number", get_or segments 4 []) ∷ (codes "mode", get_or segments 5 []) ∷ []
+parameters_of route.Settled segments = (codes "site", get_or segments 2 []) ∷ (codes "number", get_or segments 4 []) ∷ []
+parameters_of route.Compile segments = []
+parameters_of route.Deck segments = (codes "name", get_or segments 2 []) ∷ []
+parameters_of route.Card segments = (codes "ident", get_or segments 2 []) ∷ (codes "number", get_or segments 3 []) ∷ []
+parameters_of route.Idents segments = []
+parameters_of route.Yanks segments = []
 
 -- What a route asks, by the segments of its path and the body. The leftmost parameter that is not valid gives the refusal.
 abbrev pub call_of : Route → List (List ℕ) → List ℕ → Result Asked Refusal

@@ -4,4 +4,4 @@ use Rattle.upd_request.specs.declared.request.RequestHead as code
 
 -- a head that was read
 abbrev pub head_view : code.RequestHead → HeadView
-head_view w = record { route = w.route; path = w.path.now; body_len = w.body_len }
+head_view w = record { route = w.found.route; path = w.found.params.path.now; body_len = w.body_len }

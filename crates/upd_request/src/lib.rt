@@ -1,7 +1,7 @@
 //! Requests of HTTP: how a head and a body are read, and what they ask of the desk.
 //!
-//! `specs/` defines what a request means. `httparse` reads the head, `matchit` finds the route, and this crate reads
-//! lengths and parameters.
+//! `specs/` defines what a request means. `httparse` reads the head, `matchit` finds the route and its parameters, and this
+//! crate reads lengths and decodes parameters.
 #![tactic(auto)]
 
 mod call;

@@ -1,13 +1,13 @@
-//! The parameters in a path.
+//! The path of a target, and what the segments of a path spell.
 
-ghost use Rattle.std.specs.Prelude.{◌≡◌, ◌++◌, ◌∷◌, [], get_or, IfOk};
+ghost use Rattle.std.specs.Prelude.{◌≡◌, ◌++◌, ◌∷◌, IfOk};
 ghost use Rattle.std.specs.String.{string_bytes};
+ghost use Rattle.percent_encoding.specs.Percent.{percent_decode};
 ghost use Rattle.upd_io.specs.Numbers.{number_of};
 ghost use Rattle.upd_text.specs.Names.{card_of};
 ghost use Rattle.upd_text.specs.declared.fault.FaultKind.TheVariants.{BadCard, BadName, BadNumber};
 ghost use Rattle.upd_request.specs.Calls.{Gives};
-ghost use Rattle.upd_request.specs.Parameters.{name_of, or_refuse, parameter, path_of};
-ghost use Rattle.upd_request.specs.Parameters.{segments_of, text_of};
+ghost use Rattle.upd_request.specs.Parameters.{name_of, or_refuse, path_of, text_of};
 
 use crate::call::Refusal;
 use percent_encoding::{DecodeError, percent_decode_str};
@@ -25,32 +25,21 @@ pub(crate) fn path_of(target: &str) -> &str
     }
 }
 
-/// The segment of a path at a place, or an empty text if there are fewer.
-fn segment(path: &str, place: usize) -> &str
-    ensures { result.now ≡ get_or (segments_of path.now) place [] }
-{
-    path.split('/').nth(place).unwrap_or("")
-}
-
-/// The parameter of a path at a place, decoded.
-fn parameter(alloc: Global, path: &str, place: usize) -> Result<Vec<u8>, AllocError>
-    ensures { IfOk result (λ bytes. bytes.items ≡ parameter (segments_of path.now) place) }
+/// A segment, decoded.
+fn decoded(alloc: Global, segment: &str) -> Result<Vec<u8>, AllocError>
+    ensures { IfOk result (λ bytes. bytes.items ≡ percent_decode segment.now) }
 {
     let mut bytes = Vec::new(alloc);
-    percent_decode_str(segment(path, place)).append_to(&mut bytes)?;
+    percent_decode_str(segment).append_to(&mut bytes)?;
     Ok(bytes)
 }
 
-/// A parameter as a text. The fault is `kind` where it is not UTF-8.
-pub(crate) fn text_at(
-    alloc: Global,
-    path: &str,
-    place: usize,
-    kind: FaultKind,
-) -> Result<String, Refusal>
-    ensures { Gives string_bytes result (or_refuse kind (text_of (parameter (segments_of path.now) place))) }
+/// A segment as a text. The fault is `kind` where it is not UTF-8.
+#[tactic(auto, using(crate::proofs::ParameterLemmas::text_is, crate::proofs::ParameterLemmas::text_not))]
+pub(crate) fn text_in(alloc: Global, segment: &str, kind: FaultKind) -> Result<String, Refusal>
+    ensures { Gives string_bytes result (or_refuse kind (text_of (percent_decode segment.now))) }
 {
-    match percent_decode_str(segment(path, place)).decode_utf8(alloc) {
+    match percent_decode_str(segment).decode_utf8(alloc) {
         Ok(text) => {
             let text = text.into_owned(alloc)?;
             Ok(text)
@@ -60,40 +49,34 @@ pub(crate) fn text_at(
     }
 }
 
-/// A parameter as a number, or BadNumber.
-pub(crate) fn number_at(alloc: Global, path: &str, place: usize) -> Result<u64, Refusal>
-    ensures { Gives (λ n. n) result (or_refuse BadNumber (number_of (parameter (segments_of path.now) place))) }
+/// A segment as a number, or BadNumber.
+pub(crate) fn number_in(alloc: Global, segment: &str) -> Result<u64, Refusal>
+    ensures { Gives (λ n. n) result (or_refuse BadNumber (number_of (percent_decode segment.now))) }
 {
-    let text = parameter(alloc, path, place)?;
+    let text = decoded(alloc, segment)?;
     match read_number(&text) {
         Some(number) => Ok(u64::from(number)),
         None => Err(Refusal::of(FaultKind::BadNumber)),
     }
 }
 
-/// A parameter as a name, or BadName.
-pub(crate) fn name_at(alloc: Global, path: &str, place: usize) -> Result<Name, Refusal>
-    ensures { Gives (λ n. n) result (or_refuse BadName (name_of (parameter (segments_of path.now) place))) }
+/// A segment as a name, or BadName.
+pub(crate) fn name_in(alloc: Global, segment: &str) -> Result<Name, Refusal>
+    ensures { Gives (λ n. n) result (or_refuse BadName (name_of (percent_decode segment.now))) }
 {
-    let text = parameter(alloc, path, place)?;
+    let text = decoded(alloc, segment)?;
     match Name::read(&text) {
         Some(name) => Ok(name),
         None => Err(Refusal::of(FaultKind::BadName)),
     }
 }
 
-/// Two parameters as one card reference, or BadCard.
-pub(crate) fn card_at(
-    alloc: Global,
-    path: &str,
-    ident: usize,
-    number: usize,
-) -> Result<CardRef, Refusal>
-    ensures { Gives (λ c. c) result (or_refuse BadCard (card_of (parameter (segments_of path.now) ident
-        ++ (46 ∷ parameter (segments_of path.now) number)))) }
+/// Two segments as one card reference, or BadCard.
+pub(crate) fn card_in(alloc: Global, ident: &str, number: &str) -> Result<CardRef, Refusal>
+    ensures { Gives (λ c. c) result (or_refuse BadCard (card_of (percent_decode ident.now ++ (46 ∷ percent_decode number.now)))) }
 {
-    let mut text = parameter(alloc, path, ident)?;
-    let number = parameter(alloc, path, number)?;
+    let mut text = decoded(alloc, ident)?;
+    let number = decoded(alloc, number)?;
     text.push(b'.')?;
     text.extend_from_slice(&number)?;
     match CardRef::read(&text) {

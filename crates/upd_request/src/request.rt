@@ -13,8 +13,8 @@ use crate::call::{DeskCall, Refusal};
 use crate::head::{MAX_HEADERS, read_head};
 use crate::lengths::{BodyLength, body_length};
 use crate::parameters::path_of;
-use crate::routes::{Route, call_of};
-use crate::table::RouteTable;
+use crate::routes::call_of;
+use crate::table::{RouteMatch, RouteTable};
 use httparse::spans::{EMPTY_HEADER_SPAN, HeaderSpan, RequestSpans};
 use std::alloc::Global;
 use std::io::Read;
@@ -22,11 +22,10 @@ use std::str;
 use upd_io::read_up_to;
 use upd_text::FaultKind;
 
-/// A head that was read: the route and the path that it asks for, and how long its body is.
-#[derive(Clone, Copy, Debug)]
-pub struct RequestHead<'b> {
-    route: Route,
-    path: &'b str,
+/// A head that was read: the route of the path that it asks for, and how long its body is.
+#[derive(Debug, Drop)]
+pub struct RequestHead<'t, 'b> {
+    found: RouteMatch<'t, 'b>,
     /// How many bytes its body has.
     body_len: usize,
 }
@@ -45,16 +44,16 @@ pub fn read_call<R: Read>(
     let spans = read_head(reader, &mut buf, &mut headers)?;
     let head = check_head(routes, &buf, &headers, spans)?;
     let body = read_body(alloc, reader, &buf[spans.len..], head.body_len)?;
-    call_of(alloc, head.route, head.path, body)
+    call_of(alloc, &head.found, body)
 }
 
 /// What a head asks for, or its first refusal.
-fn check_head<'b>(
-    routes: &RouteTable,
+fn check_head<'t, 'b>(
+    routes: &'t RouteTable,
     buf: &'b [u8],
     headers: &[HeaderSpan],
     spans: RequestSpans,
-) -> Result<RequestHead<'b>, Refusal>
+) -> Result<RequestHead<'t, 'b>, Refusal>
     requires head { IsRequestOf buf.now headers.now spans }
     requires within { IsRequestWithin buf.now headers.now spans }
     ensures { (h : HttpHead) → IsRequestAt buf.entry.now headers.now spans h
@@ -65,22 +64,18 @@ fn check_head<'b>(
         return Err(Refusal::of(FaultKind::BadFrame));
     }
     let path = target_path(buf, headers, spans);
-    let Some(route) = routes.route_of(path) else {
+    let Some(found) = routes.find(path) else {
         return Err(Refusal::NoRoute);
     };
-    if !route.takes(spans.method.of(buf)) {
-        return Err(Refusal::OtherMethod(route));
+    if !found.route.takes(spans.method.of(buf)) {
+        return Err(Refusal::OtherMethod(found.route));
     }
     let body_len = match length {
         BodyLength::Bytes(count) => count,
         BodyLength::Long => return Err(Refusal::of(FaultKind::RunLong)),
         _ => 0,
     };
-    Ok(RequestHead {
-        route,
-        path,
-        body_len,
-    })
+    Ok(RequestHead { found, body_len })
 }
 
 /// The path of a head's target, which is a text.

@@ -8,7 +8,8 @@ ghost use Rattle.upd_request.specs.Paths.{AreBytes, ArePlain};
 ghost use Rattle.upd_request.specs.Routes.{call_of, method_of};
 
 use crate::call::{DeskCall, Refusal};
-use crate::parameters::{card_at, name_at, number_at, text_at};
+use crate::parameters::{card_in, name_in, number_in, text_in};
+use crate::table::RouteMatch;
 use http::Method;
 use std::alloc::Global;
 use upd_text::FaultKind;
@@ -44,25 +45,34 @@ impl Route {
     }
 }
 
-/// What a route asks, by the parameters in its path and the body.
-pub(crate) fn call_of(
-    alloc: Global,
-    route: Route,
-    path: &str,
-    body: Vec<u8>,
-) -> Result<DeskCall, Refusal>
-    ensures { Gives asked result (call_of route (segments_of path.now) body.items) }
+/// What a path asks by its route, its parameters and the body.
+pub(crate) fn call_of(alloc: Global, found: &RouteMatch, body: Vec<u8>) -> Result<DeskCall, Refusal>
+    ensures { Gives asked result (call_of found.now.route (segments_of found.now.params.path.now) body.items) }
 {
-    match route {
-        Route::Run => run_call(alloc, path, body),
-        Route::Settled => settle_call(alloc, path),
+    match found.route {
+        Route::Run => {
+            let site = text_in(alloc, found.parameter("site"), FaultKind::BadSite)?;
+            let number = number_in(alloc, found.parameter("number"))?;
+            let mode = text_in(alloc, found.parameter("mode"), FaultKind::BadMode)?;
+            Ok(DeskCall::Run {
+                site,
+                number,
+                mode,
+                body,
+            })
+        }
+        Route::Settled => {
+            let site = text_in(alloc, found.parameter("site"), FaultKind::BadSite)?;
+            let number = number_in(alloc, found.parameter("number"))?;
+            Ok(DeskCall::Settle { site, number })
+        }
         Route::Compile => Ok(DeskCall::Compile),
         Route::Deck => {
-            let name = name_at(alloc, path, 2)?;
+            let name = name_in(alloc, found.parameter("name"))?;
             Ok(DeskCall::Deck(name))
         }
         Route::Card => {
-            let card = card_at(alloc, path, 2, 3)?;
+            let card = card_in(alloc, found.parameter("ident"), found.parameter("number"))?;
             Ok(DeskCall::Card(card))
         }
         Route::Idents => Ok(DeskCall::Idents),
@@ -70,30 +80,9 @@ pub(crate) fn call_of(
     }
 }
 
-fn run_call(alloc: Global, path: &str, body: Vec<u8>) -> Result<DeskCall, Refusal>
-    ensures { Gives asked result (call_of Route.Run (segments_of path.now) body.items) }
-{
-    let site = text_at(alloc, path, 2, FaultKind::BadSite)?;
-    let number = number_at(alloc, path, 4)?;
-    let mode = text_at(alloc, path, 5, FaultKind::BadMode)?;
-    Ok(DeskCall::Run {
-        site,
-        number,
-        mode,
-        body,
-    })
-}
-
-fn settle_call(alloc: Global, path: &str) -> Result<DeskCall, Refusal>
-    ensures { (body : List ℕ) → Gives asked result (call_of Route.Settled (segments_of path.now) body) }
-{
-    let site = text_at(alloc, path, 2, FaultKind::BadSite)?;
-    let number = number_at(alloc, path, 4)?;
-    Ok(DeskCall::Settle { site, number })
-}
-
 /// A path has a route exactly where its segments match the parts of that route, which are words and parameters. So no
 /// path has two routes.
+#[tactic(auto, using(crate::proofs::RouteLemmas::plain))]
 pub fn routes_are_plain()
     ensures { (path : List ℕ) → AreBytes path → (route : Route) → ArePlain path route }
 {}

@@ -1,6 +1,6 @@
 -- Headers are read as they are spelled.
 use Rattle.std.proofs.Common.{◌≡◌, ℕ, ◌+◌, ◌<◌, ◌≤◌, ◌^◌, ◌==◌, nat_le, zero, suc, Bool, true, false, cond, not, ◌&&◌, ◌||◌, List, [], ◌∷◌, ◌++◌, length}
-use Rattle.std.proofs.Common.{get_or, decimal, codes, Bor, Option, Some, None, Result, Ok, Err, MatchResult, sym, ap, ap₂, ◌∙◌, refl, subst, arith, rules, lit<}
+use Rattle.std.proofs.Common.{get_or, decimal, codes, Bor, Option, Some, None, Result, Ok, Err, MatchResult, sym, ap, ap₂, ◌∙◌, refl, subst, arith, lit<}
 use Rattle.std.specs.List.{list_all, list_any, position_or_len, before_first, after_first}
 use Rattle.std.specs.Option.{option_map}
 use Rattle.std.specs.Result.{result_ok}

@@ -1,14 +1,16 @@
 -- What is read of a frame before it stops.
-use Rattle.std.proofs.Common.{◌≡◌, ℕ, ◌<◌, ◌≤◌, ◌≢◌, ◌==◌, zero, suc, Bool, false, ◌||◌, List, [], ◌∷◌, ◌++◌, length, take, get_or, Option, Some, refl, sym, ap}
+use Rattle.std.proofs.Common.{◌≡◌, ℕ, ◌<◌, ◌≤◌, ◌≢◌, ◌==◌, zero, suc, Bool, false, ◌||◌, List, [], ◌∷◌, ◌++◌, length, take, get_or, Option, Some, Result, Ok, Err, inl, inr, refl, sym, ap}
 use Rattle.std.proofs.Common.{◌∙◌, subst, arith, append_assoc, append-nil}
 use Rattle.std.proofs.lemmas.Bool.{ne_eqb}
 use Rattle.std.proofs.lemmas.Bool.Decides.{nat_tests}
 use Rattle.std.proofs.lemmas.List.{take_all}
 use Rattle.std.proofs.lemmas.List.Folds.{list_any-append}
 use Rattle.std.specs.Io.KnownBytes.{Consumes}
+use Rattle.std.specs.Result.{IsErrAnd}
 use Rattle.std.proofs.KnownBytes.{Consumes-trans}
 use Rattle.upd_text.specs.declared.fault.FaultKind.{FaultKind}
 use Rattle.upd_text.specs.declared.fault.FaultKind.TheVariants.{BadFrame, CutFrame, NoMemory, Read}
+use Rattle.upd_io.specs.Inputs.{IsReadFailure}
 use Rattle.upd_spool.specs.Header.{HeaderView, IsHeader, header_of, header_text}
 use Rattle.upd_spool.specs.Frames.{IsBad, IsFrame, arrival_of, frame_text, has_lf}
 use Rattle.upd_spool.specs.Frames.IsBad.{no_lf, no_end}
@@ -17,6 +19,11 @@ use Rattle.upd_spool.specs.Exchange.{StopsEnd, StopsRun}
 use Rattle.upd_spool.specs.Spools.{Stops}
 use Rattle.upd_spool.proofs.FrameLemmas.{cut_is_no_frame, frame_made}
 use Rattle.upd_spool.proofs.HeaderLemmas.{header_is_spelled}
+
+-- what an early return passes on is the fault that was met
+pub error_is : {T : Type 0} (result : Result T FaultKind) (kind : FaultKind) → IsErrAnd result (λ e. e ≡ kind) → result ≡ Err kind
+error_is (Ok x) kind is = absurd is
+error_is (Err e) kind is = ap Err is
 
 -- a further byte that is no LF
 pub byte_without : (text buffer : List ℕ) (n : ℕ) → has_lf text ≡ false → length buffer ≡ 1 → get_or buffer 0 0 ≢ 10 → has_lf (text ++ take n buffer) ≡ false
@@ -46,6 +53,12 @@ end_stops BadFrame size bytes taken input' all (b, is, other) = (bytes, b, ap (�
 end_stops CutFrame size bytes taken input' all (is, end) = (rw is (rw append-nil (omega (arith, all))), end)
 end_stops Read size bytes taken input' all is = rw is (rw append-nil (omega (arith, all)))
 end_stops _ size bytes taken input' all stops = absurd stops
+
+-- the run was not read whole: there was no memory for it, or a read failed
+pub failure_stops : (kind : FaultKind) (size : ℕ) (taken : List ℕ) (input' : Option (List ℕ)) → IsReadFailure kind → length taken ≤ size
+    → StopsRun kind size taken input'
+failure_stops kind size taken input' (inl memory) few = rw memory few
+failure_stops kind size taken input' (inr failed) few = rw failed few
 
 -- so no frame was read whose header was
 pub run_stops : (kind : FaultKind) (h : HeaderView) (taken : List ℕ) (input' : Option (List ℕ)) → IsHeader h → StopsRun kind h.size taken input'

@@ -37,10 +37,7 @@ pub(crate) fn answer<W: Write, S: RowStore>(
         kind (arrival_of header.now run.now) desk.old.store desk.new.store (W.contents writer.old)
         (W.contents writer.new)) }
 {
-    let text = match answer_text(alloc, desk, header, run) {
-        Ok(text) => text,
-        Err(kind) => return Err(kind),
-    };
+    let text = answer_text(alloc, desk, header, run)?;
     match write_line(writer, &text) {
         Ok(()) => Ok(()),
         Err(_) => Err(FaultKind::Write),

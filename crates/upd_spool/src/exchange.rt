@@ -21,21 +21,15 @@ pub(crate) fn exchange<R: Read, W: Write, S: RowStore>(
         (R.remaining reader.old) (R.remaining reader.new) (W.contents writer.old) (W.contents writer.new) result }
 {
     let mut line = Vec::new(alloc);
-    match read_line(reader, &mut line) {
-        Ok(true) => {}
-        Ok(false) => return Ok(false),
-        Err(kind) => return Err(kind),
+    let found = read_line(reader, &mut line)?;
+    if !found {
+        return Ok(false);
     }
     let Some(header) = read_header(&line) else {
         return Err(FaultKind::BadFrame);
     };
     let mut run = Vec::new(alloc);
-    match read_run(reader, header.size, &mut run) {
-        Ok(()) => {}
-        Err(kind) => return Err(kind),
-    }
-    match answer(alloc, writer, desk, &header, &run) {
-        Ok(()) => Ok(true),
-        Err(kind) => Err(kind),
-    }
+    read_run(reader, header.size, &mut run)?;
+    answer(alloc, writer, desk, &header, &run)?;
+    Ok(true)
 }

@@ -6,6 +6,7 @@ ghost use Rattle.upd_spool.specs.Spools.{Stops};
 
 use crate::header::MAX_HEADER_BYTES;
 use std::io::Read;
+use upd_io::read_up_to;
 use upd_text::FaultKind;
 
 /// Reads a line of at most `MAX_HEADER_BYTES` into an empty vector, without its LF. `false`: the input ends before it.
@@ -48,10 +49,7 @@ pub(crate) fn read_run<R: Read>(
         × Consumes (R.remaining reader.old) (R.remaining reader.new) taken
         × StopsRun kind size taken (R.remaining reader.new)) }
 {
-    match read_bytes(reader, size, run) {
-        Ok(()) => {}
-        Err(kind) => return Err(kind),
-    }
+    read_bytes(reader, size, run)?;
     match read_end(reader) {
         Ok(()) => Ok(()),
         Err(kind) => Err(kind),
@@ -67,19 +65,9 @@ fn read_bytes<R: Read>(reader: &mut R, size: usize, run: &mut Vec<u8>) -> Result
         × Consumes (R.remaining reader.old) (R.remaining reader.new) taken
         × StopsRun kind size taken (R.remaining reader.new)) }
 {
-    let mut chunk = [0u8; 4096];
-    'run: while run.len() < size {
-        let room = (size - run.len()).min(4096);
-        let part = &mut chunk[..room];
-        match reader.read(part) {
-            Ok(0) => return Err(FaultKind::CutFrame),
-            Ok(count) => {
-                if run.extend_from_slice(&part[..count]).is_err() {
-                    return Err(FaultKind::NoMemory);
-                }
-            }
-            Err(_) => return Err(FaultKind::Read),
-        }
+    read_up_to(reader, size, run)?;
+    if run.len() < size {
+        return Err(FaultKind::CutFrame);
     }
     Ok(())
 }

@@ -3,50 +3,52 @@ use Rattle.std.proofs.Common.{ap, map, sym}
 use Rattle.upd_records.specs.Changes.{change_view}
 use Rattle.upd_desk.proofs.LeadLemmas.{outcome_adds}
 use Rattle.upd_desk.proofs.LoadingLemmas.{read_no_more}
+use Rattle.upd_desk.proofs.RefusedLemmas.{error_is}
 use Rattle.upd_desk.proofs.StoreLemmas.{commit_as_run, commit_becomes, lost_memory}
 use Rattle.upd_desk.proofs.arrive.keep_new.Goals as goal
 
-pub returns-in-Err-run_row-clause-lost : goal.returns-in-Err-run_row-clause-lost
-returns-in-Err-run_row-clause-lost g c = lost_memory c.in-Err-run_row.fault c.in-Err-run_row.ensures.lost
+pub returns-in_err-run-clause-lost : goal.returns-in_err-run-clause-lost
+returns-in_err-run-clause-lost g c =
+    rw (error_is _ _ c.from_residual-in_err-run.ensures.1) (lost_memory c.in_err-run.field-0.0 c.in_err-run.ensures.lost)
 
-pub returns-in-Ok-commit-clause-tries : goal.returns-in-Ok-commit-clause-tries
-returns-in-Ok-commit-clause-tries g c =
-    commit_as_run c.args.mode c.args.arrival.now (map change_view c.deref.result.now) c.in-Ok-run_row.run'
-    c.args.store.now c.run_outcome.new.store c.commit.new.self c.in-Ok.ensures.same c.in-Ok-commit.ensures.leaves.crash
-    (λ honest is l made rows shown shows states. outcome_adds c.args.mode c.args.arrival.now l rows c.in-Ok.outcome
-    (map change_view c.deref.result.now) c.in-Ok-run_row.run' (c.in-Ok.ensures.found honest l made rows shown shows states)
-    (ap (map change_view) (sym c.deref.ensures.value)) c.in-Ok-run_row.ensures.run)
+pub returns-in-Ok-clause-tries : goal.returns-in-Ok-clause-tries
+returns-in-Ok-clause-tries g c =
+    commit_as_run c.args.mode c.args.arrival.now (map change_view c.deref.result.now) c.in_ok-run.run'
+    c.args.store.now c.run_outcome.new.store c.commit.new.self c.in_ok-outcome.ensures.same c.in-Ok.ensures.leaves.crash
+    (λ honest is l made rows shown shows states. outcome_adds c.args.mode c.args.arrival.now l rows c.in_ok-outcome.outcome
+    (map change_view c.deref.result.now) c.in_ok-run.run' (c.in_ok-outcome.ensures.found honest l made rows shown shows states)
+    (ap (map change_view) (sym c.deref.ensures.value)) c.in_ok-run.ensures.run)
 
-pub returns-in-Ok-commit-clause-becomes : goal.returns-in-Ok-commit-clause-becomes
-returns-in-Ok-commit-clause-becomes g c =
-    commit_becomes c.args.mode c.args.arrival.now (map change_view c.deref.result.now) c.in-Ok-run_row.run'
-    c.args.store.now c.run_outcome.new.store c.commit.new.self c.in-Ok.ensures.same c.in-Ok-commit.ensures.leaves.crash c.in-Ok-commit.ensures.leaves.opens
-    c.in-Ok-commit.ensures.done
-    (λ honest l made rows shown shows states. outcome_adds c.args.mode c.args.arrival.now l rows c.in-Ok.outcome
-    (map change_view c.deref.result.now) c.in-Ok-run_row.run' (c.in-Ok.ensures.found honest l made rows shown shows states)
-    (ap (map change_view) (sym c.deref.ensures.value)) c.in-Ok-run_row.ensures.run)
+pub returns-in-Ok-clause-becomes : goal.returns-in-Ok-clause-becomes
+returns-in-Ok-clause-becomes g c =
+    commit_becomes c.args.mode c.args.arrival.now (map change_view c.deref.result.now) c.in_ok-run.run'
+    c.args.store.now c.run_outcome.new.store c.commit.new.self c.in_ok-outcome.ensures.same c.in-Ok.ensures.leaves.crash c.in-Ok.ensures.leaves.opens
+    c.in-Ok.ensures.done
+    (λ honest l made rows shown shows states. outcome_adds c.args.mode c.args.arrival.now l rows c.in_ok-outcome.outcome
+    (map change_view c.deref.result.now) c.in_ok-run.run' (c.in_ok-outcome.ensures.found honest l made rows shown shows states)
+    (ap (map change_view) (sym c.deref.ensures.value)) c.in_ok-run.ensures.run)
 
-pub returns-in-Ok-commit-clause-reply : goal.returns-in-Ok-commit-clause-reply
-returns-in-Ok-commit-clause-reply g c honest l made rows shown shows states =
-    (c.in-Ok.ensures.found (c.in-Ok-commit.ensures.leaves.crash.honest honest) l made rows shown shows states).reply
+pub returns-in-Ok-clause-reply : goal.returns-in-Ok-clause-reply
+returns-in-Ok-clause-reply g c honest l made rows shown shows states =
+    (c.in_ok-outcome.ensures.found (c.in-Ok.ensures.leaves.crash.honest honest) l made rows shown shows states).reply
 
-pub returns-in-Ok-commit-clause-work : goal.returns-in-Ok-commit-clause-work
-returns-in-Ok-commit-clause-work g c honest l made rows shown shows states =
-    (c.in-Ok.ensures.found (c.in-Ok-commit.ensures.leaves.crash.honest honest) l made rows shown shows states).work
+pub returns-in-Ok-clause-work : goal.returns-in-Ok-clause-work
+returns-in-Ok-clause-work g c honest l made rows shown shows states =
+    (c.in_ok-outcome.ensures.found (c.in-Ok.ensures.leaves.crash.honest honest) l made rows shown shows states).work
 
-pub returns-in-Ok-commit-clause-least : goal.returns-in-Ok-commit-clause-least
-returns-in-Ok-commit-clause-least g c honest l made rows shown shows states =
-    (c.in-Ok.ensures.found (c.in-Ok-commit.ensures.leaves.crash.honest honest) l made rows shown shows states).least
+pub returns-in-Ok-clause-least : goal.returns-in-Ok-clause-least
+returns-in-Ok-clause-least g c honest l made rows shown shows states =
+    (c.in_ok-outcome.ensures.found (c.in-Ok.ensures.leaves.crash.honest honest) l made rows shown shows states).least
 
-pub returns-in-Ok-commit-clause-reads : goal.returns-in-Ok-commit-clause-reads
-returns-in-Ok-commit-clause-reads g c honest l made rows shown shows =
-    read_no_more _ _ _ _ c.in-Ok-commit.ensures.leaves.unread
-    (c.in-Ok.ensures.reads (c.in-Ok-commit.ensures.leaves.crash.honest honest) l made rows shown shows)
+pub returns-in-Ok-clause-reads : goal.returns-in-Ok-clause-reads
+returns-in-Ok-clause-reads g c honest l made rows shown shows =
+    read_no_more _ _ _ _ c.in-Ok.ensures.leaves.unread
+    (c.in_ok-outcome.ensures.reads (c.in-Ok.ensures.leaves.crash.honest honest) l made rows shown shows)
 
-pub returns-in-Err-commit-clause-tries : goal.returns-in-Err-commit-clause-tries
-returns-in-Err-commit-clause-tries g c =
-    commit_as_run c.args.mode c.args.arrival.now (map change_view c.deref.result.now) c.in-Ok-run_row.run'
-    c.args.store.now c.run_outcome.new.store c.commit.new.self c.in-Ok.ensures.same c.in-Err-commit.ensures.leaves.crash
-    (λ honest is l made rows shown shows states. outcome_adds c.args.mode c.args.arrival.now l rows c.in-Ok.outcome
-    (map change_view c.deref.result.now) c.in-Ok-run_row.run' (c.in-Ok.ensures.found honest l made rows shown shows states)
-    (ap (map change_view) (sym c.deref.ensures.value)) c.in-Ok-run_row.ensures.run)
+pub returns-in-Err-clause-tries : goal.returns-in-Err-clause-tries
+returns-in-Err-clause-tries g c =
+    commit_as_run c.args.mode c.args.arrival.now (map change_view c.deref.result.now) c.in_ok-run.run'
+    c.args.store.now c.run_outcome.new.store c.commit.new.self c.in_ok-outcome.ensures.same c.in-Err.ensures.leaves.crash
+    (λ honest is l made rows shown shows states. outcome_adds c.args.mode c.args.arrival.now l rows c.in_ok-outcome.outcome
+    (map change_view c.deref.result.now) c.in_ok-run.run' (c.in_ok-outcome.ensures.found honest l made rows shown shows states)
+    (ap (map change_view) (sym c.deref.ensures.value)) c.in_ok-run.ensures.run)

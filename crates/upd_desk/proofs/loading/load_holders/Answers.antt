@@ -4,9 +4,9 @@ use Rattle.upd_core.specs.Parts.{part_of}
 use Rattle.upd_desk.proofs.QueryLemmas.{shown_there}
 use Rattle.upd_desk.proofs.loading.load_holders.Goals as goal
 
-pub returns-in-Ok-load_decks-clause-found : goal.returns-in-Ok-load_decks-clause-found
-returns-in-Ok-load_decks-clause-found g c honest l made rows shown shows =
-    let before = c.in-Ok-load_decks.ensures.leaves.same.honest honest in
-    let there = shown_there c.args.store.now c.decks_of.new.self c.in-Ok.ensures.leaves.same before (c.in-Ok.ensures.leaves.opens before) rows shown in
-    c.in-Ok-load_decks.ensures.found honest l made.sound made.whole rows there shows
-    ∙ ap (λ ages. part_of ages l) (c.deref.ensures.value ∙ c.in-Ok.ensures.found before l made.sound made.whole rows shown shows)
+pub returns-in-Ok-clause-found : goal.returns-in-Ok-clause-found
+returns-in-Ok-clause-found g c honest l made rows shown shows =
+    let before = c.in-Ok.ensures.leaves.same.honest honest in
+    let there = shown_there c.args.store.now c.decks_of.new.self c.in_ok-decks.ensures.leaves.same before (c.in_ok-decks.ensures.leaves.opens before) rows shown in
+    c.in-Ok.ensures.found honest l made.sound made.whole rows there shows
+    ∙ ap (λ ages. part_of ages l) (c.deref.ensures.value ∙ c.in_ok-decks.ensures.found before l made.sound made.whole rows shown shows)

@@ -4,13 +4,13 @@ use Rattle.upd_desk.proofs.StateLemmas.{read_states}
 use Rattle.upd_desk.proofs.StoreLemmas.{lost_memory}
 use Rattle.upd_desk.proofs.outcome.applied_outcome.Goals as goal
 
-pub returns-in-Ok-compiled_outcome-clause-found : goal.returns-in-Ok-compiled_outcome-clause-found
-returns-in-Ok-compiled_outcome-clause-found g c honest lines l loaded reached read made of_run are rows shown shows states =
-    let before = c.in-Ok-active_before.ensures.same.honest honest in
-    let there = shown_there c.args.store.now c.states_of.new.self c.in-Ok.ensures.leaves.same before (c.in-Ok.ensures.leaves.opens before) rows shown in
-    c.in-Ok-compiled_outcome.ensures.found lines l loaded reached read made of_run
-    (c.in-Ok-active_before.ensures.found honest l made rows there shows states) rows shows states
-    (read_states rows _ l loaded c.args.cards.now made.sound of_run.part are (c.in-Ok.ensures.found before rows shown) states)
+pub returns-in-Ok-clause-found : goal.returns-in-Ok-clause-found
+returns-in-Ok-clause-found g c honest lines l loaded reached read made of_run are rows shown shows states =
+    let before = c.in_ok-before.ensures.same.honest honest in
+    let there = shown_there c.args.store.now c.states_of.new.self c.in_ok-states.ensures.leaves.same before (c.in_ok-states.ensures.leaves.opens before) rows shown in
+    c.in-Ok.ensures.found lines l loaded reached read made of_run
+    (c.in_ok-before.ensures.found honest l made rows there shows states) rows shows states
+    (read_states rows _ l loaded c.args.cards.now made.sound of_run.part are (c.in_ok-states.ensures.found before rows shown) states)
 
 pub returns-clause-lost : goal.returns-clause-lost
-returns-clause-lost g c = lost_memory c.in-Err-compiled_outcome.fault c.in-Err-compiled_outcome.ensures.lost
+returns-clause-lost g c = lost_memory c.in-Err.fault c.in-Err.ensures.lost

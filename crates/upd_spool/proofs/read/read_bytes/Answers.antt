@@ -1,11 +1,10 @@
-use Rattle.std.proofs.Common.{◌++◌, ◌≤◌, ◌≡◌, ◌∙◌, length, take, arith}
-use Rattle.std.proofs.lemmas.List.{length-append, length-take-le}
-use Rattle.std.proofs.KnownBytes.{Consumes-trans}
+use Rattle.std.proofs.Common.{arith}
+use Rattle.upd_spool.proofs.ReadLemmas.{error_is, failure_stops}
 use Rattle.upd_spool.proofs.read.read_bytes.Goals as goal
 
-pub returns-then-is_err-clause-err : goal.returns-then-is_err-clause-err
-returns-then-is_err-clause-err g c =
-    let more = take c.in-Ok.count c.read.new.buf in
-    let room : length c.read.new.buf ≡ c.min-room.result = c.read.auto.buf ∙ length-take-le c.min-room.result c.run.chunk (omega arith) in
-    let few : length (c.run.run.items ++ more) ≤ c.args.size = omega (arith, room, c.in-Ok.ensures.bound, length-append c.run.run.items more) in
-    (c.run.run.items ++ more, Consumes-trans _ _ _ _ _ c.run.invariant.consumed c.in-Ok.ensures.bytes.0, few)
+pub returns-in_err-read_up_to-clause-err : goal.returns-in_err-read_up_to-clause-err
+returns-in_err-read_up_to-clause-err g c =
+    let (taken, few, consumed) = c.in_err-read_up_to.ensures.front in
+    let kind = c.in_err-read_up_to.field-0.0 in
+    rw (error_is _ _ c.from_residual.ensures.1)
+    (taken, consumed, failure_stops kind c.args.size taken _ c.in_err-read_up_to.ensures.err (omega (arith, few)))

@@ -5,27 +5,28 @@ use Rattle.upd_compile.specs.declared.mode.Mode.TheVariants.{Full}
 use Rattle.upd_desk.proofs.ArrivesLemmas.{unstored}
 use Rattle.upd_desk.proofs.MadeLemmas.{library_made}
 use Rattle.upd_desk.proofs.QueryLemmas.{compile_keeps, fails_owed, store_fails, tells_same}
+use Rattle.upd_desk.proofs.RefusedLemmas.{error_is}
 use Rattle.upd_desk.proofs.desk.Desk.full_compile.Goals as goal
 
-pub returns-in-Ok-compile_active-clause-text : goal.returns-in-Ok-compile_active-clause-text
-returns-in-Ok-compile_active-clause-text g c =
-    tells_same library_made (λ l. compile_file_of Full [] l l) (file_of Full [] c.in-Ok.actives c.in-Ok.actives)
-    (Ok c.in-Ok-compile_active.text) c.args.self.now.store c.load_active.new.self c.in-Ok.ensures.leaves.same c.in-Ok.ensures.leaves.opens
+pub returns-in-Ok-clause-text : goal.returns-in-Ok-clause-text
+returns-in-Ok-clause-text g c =
+    tells_same library_made (λ l. compile_file_of Full [] l l) (file_of Full [] c.in_ok-actives.actives c.in_ok-actives.actives)
+    (Ok c.in-Ok.text) c.args.self.now.store c.load_active.new.self c.in_ok-actives.ensures.leaves.same c.in_ok-actives.ensures.leaves.opens
     (λ honest l made rows shown shows states.
-    ap (λ a. file_of Full [] a a) (c.in-Ok.ensures.found honest l made.sound made.whole rows shown shows states)) c.in-Ok-compile_active.ensures
+    ap (λ a. file_of Full [] a a) (c.in_ok-actives.ensures.found honest l made.sound made.whole rows shown shows states)) c.in-Ok.ensures
 
 pub returns-clause-text : goal.returns-clause-text
 returns-clause-text g c =
-    tells_same library_made (λ l. compile_file_of Full [] l l) (file_of Full [] c.in-Ok.actives c.in-Ok.actives)
-    (Err c.in-Err-compile_active.fault) c.args.self.now.store c.load_active.new.self c.in-Ok.ensures.leaves.same c.in-Ok.ensures.leaves.opens
+    tells_same library_made (λ l. compile_file_of Full [] l l) (file_of Full [] c.in_ok-actives.actives c.in_ok-actives.actives)
+    (Err c.in-Err.fault) c.args.self.now.store c.load_active.new.self c.in_ok-actives.ensures.leaves.same c.in_ok-actives.ensures.leaves.opens
     (λ honest l made rows shown shows states.
-    ap (λ a. file_of Full [] a a) (c.in-Ok.ensures.found honest l made.sound made.whole rows shown shows states))
-    (fails_owed c.in-Err-compile_active.fault (file_of Full [] c.in-Ok.actives c.in-Ok.actives) c.in-Err-compile_active.ensures)
+    ap (λ a. file_of Full [] a a) (c.in_ok-actives.ensures.found honest l made.sound made.whole rows shown shows states))
+    (fails_owed c.in-Err.fault (file_of Full [] c.in_ok-actives.actives c.in_ok-actives.actives) c.in-Err.ensures)
 
-pub returns-in-Err-clause-text : goal.returns-in-Err-clause-text
-returns-in-Err-clause-text g c honest journal held = inl c.in-Err.ensures.leaves.lost
+pub returns-in_err-actives-clause-text : goal.returns-in_err-actives-clause-text
+returns-in_err-actives-clause-text g c honest journal held = rw (error_is _ _ c.from_residual.ensures.1) (inl c.in_err-actives.ensures.leaves.lost)
 
 pub returns-clause-failed : goal.returns-clause-failed
 returns-clause-failed g c is =
-    unstored _ _ c.in-Err-compile_active.fault (compile_keeps Full [] c.in-Ok.actives c.in-Ok.actives c.in-Err-compile_active.fault
-    (store_fails c.in-Err-compile_active.fault (file_of Full [] c.in-Ok.actives c.in-Ok.actives) is c.in-Err-compile_active.ensures)) is
+    unstored _ _ c.in-Err.fault (compile_keeps Full [] c.in_ok-actives.actives c.in_ok-actives.actives c.in-Err.fault
+    (store_fails c.in-Err.fault (file_of Full [] c.in_ok-actives.actives c.in_ok-actives.actives) is c.in-Err.ensures)) is

@@ -7,24 +7,24 @@ use Rattle.upd_desk.proofs.QueryLemmas.{of_held, tells_same}
 use Rattle.upd_desk.proofs.StoreLemmas.{lost_memory}
 use Rattle.upd_desk.proofs.desk.Desk.yank_list.Goals as goal
 
-pub returns-in-Ok-list_yanks-clause-text : goal.returns-in-Ok-list_yanks-clause-text
-returns-in-Ok-list_yanks-clause-text g c =
-    tells_same library_made (λ l. Ok (yank_listing l)) (Ok (yank_listing c.in-Ok.head)) (Ok c.in-Ok-list_yanks.text.items)
-    c.args.self.now.store c.load_decks.new.self c.in-Ok.ensures.leaves.same c.in-Ok.ensures.leaves.opens
-    (λ honest l made rows shown shows states. ap (λ l. Ok (yank_listing l)) (c.in-Ok.ensures.found honest l made.sound made.whole rows shown shows))
-    (ap Ok (sym c.in-Ok-list_yanks.ensures.ok))
+pub returns-in-Ok-clause-text : goal.returns-in-Ok-clause-text
+returns-in-Ok-clause-text g c =
+    tells_same library_made (λ l. Ok (yank_listing l)) (Ok (yank_listing c.in_ok-head.head)) (Ok c.in-Ok.text.items)
+    c.args.self.now.store c.load_decks.new.self c.in_ok-head.ensures.leaves.same c.in_ok-head.ensures.leaves.opens
+    (λ honest l made rows shown shows states. ap (λ l. Ok (yank_listing l)) (c.in_ok-head.ensures.found honest l made.sound made.whole rows shown shows))
+    (ap Ok (sym c.in-Ok.ensures.ok))
 
 pub returns-clause-text : goal.returns-clause-text
-returns-clause-text g c honest journal held = inl (lost_memory c.in-Err-list_yanks.fault c.in-Err-list_yanks.ensures.err)
+returns-clause-text g c honest journal held = inl (lost_memory c.in-Err.fault c.in-Err.ensures.err)
 
-pub returns-in-Ok-list_yanks-clause-reads : goal.returns-in-Ok-list_yanks-clause-reads
-returns-in-Ok-list_yanks-clause-reads g c honest =
-    of_held g.S.Meaning.shows (g.S.Meaning.image c.args.self.now.store) (c.in-Ok.ensures.leaves.same.was_open honest (c.in-Ok.ensures.leaves.opens honest))
+pub returns-in-Ok-clause-reads : goal.returns-in-Ok-clause-reads
+returns-in-Ok-clause-reads g c honest =
+    of_held g.S.Meaning.shows (g.S.Meaning.image c.args.self.now.store) (c.in_ok-head.ensures.leaves.same.was_open honest (c.in_ok-head.ensures.leaves.opens honest))
     (λ l made rows shown shows.
-    none_read _ _ l c.in-Ok.head made.sound (c.in-Ok.ensures.found honest l made.sound made.whole rows shown shows) c.in-Ok.ensures.leaves.reads)
+    none_read _ _ l c.in_ok-head.head made.sound (c.in_ok-head.ensures.found honest l made.sound made.whole rows shown shows) c.in_ok-head.ensures.leaves.reads)
 
 pub returns-clause-reads : goal.returns-clause-reads
 returns-clause-reads g c honest =
-    of_held g.S.Meaning.shows (g.S.Meaning.image c.args.self.now.store) (c.in-Ok.ensures.leaves.same.was_open honest (c.in-Ok.ensures.leaves.opens honest))
+    of_held g.S.Meaning.shows (g.S.Meaning.image c.args.self.now.store) (c.in_ok-head.ensures.leaves.same.was_open honest (c.in_ok-head.ensures.leaves.opens honest))
     (λ l made rows shown shows.
-    none_read _ _ l c.in-Ok.head made.sound (c.in-Ok.ensures.found honest l made.sound made.whole rows shown shows) c.in-Ok.ensures.leaves.reads)
+    none_read _ _ l c.in_ok-head.head made.sound (c.in_ok-head.ensures.found honest l made.sound made.whole rows shown shows) c.in_ok-head.ensures.leaves.reads)
