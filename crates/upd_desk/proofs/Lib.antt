@@ -1,17 +1,17 @@
 mod JournalLemmas
 mod KeptLemmas
 mod RepeatLemmas
-mod MadeLemmas
+pub mod MadeLemmas
 mod ShownLemmas
 mod StateLemmas
 mod AlikeLemmas
 mod AnswerLemmas
 mod StoreLemmas
-mod ArrivesLemmas
+pub mod ArrivesLemmas
 mod RunAllLemmas
 mod SettlesLemmas
 mod RefusedLemmas
-mod QueryLemmas
+pub mod QueryLemmas
 mod ListedLemmas
 mod LoadingLemmas
 mod StandingLemmas

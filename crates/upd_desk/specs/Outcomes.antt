@@ -8,7 +8,7 @@ use Rattle.upd_apply.specs.Applying.{Reached, applied}
 use Rattle.upd_compile.specs.File.{FileView, compile_file_of}
 use Rattle.upd_compile.specs.declared.mode.Mode.{Mode}
 use Rattle.upd_reply.specs.Texts.{accepted_text, refused_text}
-use Rattle.upd_desk.specs.Arrivals.{ArrivalView}
+use Rattle.upd_desk.specs.Arrivals.{ArrivalView, check_arrival}
 
 -- What a run reached, and its compile file.
 pub record Compiled : Type 0 where
@@ -47,3 +47,9 @@ outcome_by a l (Err fault) = record { library = l; reply = record { accepted = f
 -- what a new run in a mode makes of a library
 abbrev pub outcome : Mode → ArrivalView → LibraryView → Outcome
 outcome mode a l = outcome_by a l (compiled mode a.bytes l)
+
+-- the reply that a new run would get of a library, or its refusal by the admission checks
+abbrev pub reply_on : ArrivalView → LibraryView → Result ReplyView Fault
+reply_on a l = do
+  mode ← check_arrival a
+  Ok (outcome mode a l).reply

@@ -22,7 +22,7 @@ use std::alloc::Global;
 use upd_compile::{
     CompileFile, Mode, compile_active, list_card, list_deck, list_idents, list_yanks,
 };
-use upd_core::{CardRef, Name};
+use upd_core::{CardRef, Library, Name};
 use upd_row_store::RowStore;
 use upd_text::Fault;
 
@@ -169,6 +169,19 @@ impl<S: RowStore> Desk<S> {
         let actives = self.store.load_active(alloc)?;
         match compile_active(alloc, &actives, &actives, Mode::Full, &[]) {
             Ok(text) => Ok(text),
+            Err(fault) => Err(fault),
+        }
+    }
+
+    /// The whole library, as the runs have made it. After NoMemory or Store, at 0, it can be asked again.
+    pub fn library(&mut self, alloc: Global) -> Result<Library, Fault>
+        ensures library { Tells S.Meaning (λ l. Ok l) result self.old.store self.new.store }
+        ensures same { Keeps S.Meaning self.old.store self.new.store }
+        ensures idle { self.new.work ≡ self.old.work }
+        ensures failed { CountsFailure S.Meaning result self.old.store self.new.store }
+    {
+        match self.store.load(alloc) {
+            Ok(library) => Ok(library),
             Err(fault) => Err(fault),
         }
     }

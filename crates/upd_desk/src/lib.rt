@@ -15,8 +15,10 @@ mod loading;
 mod outcome;
 pub mod reply;
 mod settle;
+pub mod trying;
 pub mod worked;
 
 pub use arrival::Arrival;
 pub use desk::Desk;
 pub use reply::{Reply, fault_answer};
+pub use trying::reply_on;

@@ -51,8 +51,8 @@ pub(crate) struct RunOutcome {
 #[derive(Debug, Drop)]
 pub(crate) struct AppliedRun {
     /// The part with the decks that the run needed, and with its own.
-    library: Library,
-    applied: Applied,
+    pub(crate) library: Library,
+    pub(crate) applied: Applied,
 }
 
 // A new run, step by step:
@@ -281,7 +281,7 @@ fn accepted(
 }
 
 /// The reply to an accepted run.
-fn accepted_reply(
+pub(crate) fn accepted_reply(
     alloc: Global,
     arrival: &Arrival<'_>,
     run: &AppliedRun,
@@ -319,7 +319,11 @@ fn names(alloc: Global, idents: &[Ident], ages: &[Serial]) -> Result<Vec<Name>, 
 }
 
 /// A refused run has a reply and changes nothing. Out of memory is no refusal.
-fn refused(alloc: Global, arrival: &Arrival<'_>, fault: Fault) -> Result<RunOutcome, Fault>
+pub(crate) fn refused(
+    alloc: Global,
+    arrival: &Arrival<'_>,
+    fault: Fault,
+) -> Result<RunOutcome, Fault>
     ensures reply { (mode : Mode) (l : LibraryView) → check_arrival arrival.now ≡ Ok mode
         → IfOk result (λ o. o.reply ≡ (outcome_by arrival.now l (Err fault)).reply) }
     ensures changes { IfOk result (λ o. o.changes.items ≡ []) }

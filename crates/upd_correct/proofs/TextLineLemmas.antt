@@ -1,0 +1,163 @@
+-- The lines of an edited text, and how they are read.
+use Rattle.std.proofs.Common.{◌≡◌, ℕ, zero, suc, ◌+◌, ◌<◌, Bool, true, false, List, [], ◌∷◌, ◌++◌, map, length, take, drop, get_or, refl, sym, ap, ◌∙◌, subst, arith}
+use Rattle.std.proofs.Common.{append-nil, append_assoc}
+use Rattle.std.proofs.lemmas.List.{take_more}
+use Rattle.std.proofs.lemmas.List.Concat.{flat_map-append}
+use Rattle.std.specs.Prelude.{Ok}
+use Rattle.std.specs.List.{flat_map, AllByRecursion, AllZip}
+use Rattle.upd_text.specs.Lines.{called, is_call}
+use Rattle.upd_deck.specs.Items.{ItemView, LineView, Text, Call}
+use Rattle.upd_deck.specs.Grammar.{AreLines, IsLine, IsTextOf, Trimmed, Comment, Line, NoMore, LastLine, NextLine, Says}
+use Rattle.upd_deck.specs.Reading.{is_feed, reading}
+use Rattle.upd_deck.proofs.CallLaws.{call_read, call_said}
+use Rattle.upd_deck.proofs.GrammarRuns.{run_back}
+use Rattle.upd_core.proofs.ApartLemmas.{all_back, all_front}
+use Rattle.upd_laws.proofs.SoundListLemmas.{all_append}
+use Rattle.upd_correction_laws.specs.Corrections.{IsCardItem, IsCardLine, NewDeck, first_line, new_deck_lines}
+use Rattle.upd_correction_laws.specs.RunLines.{IsSpelled, RunLine, written}
+use Rattle.upd_correct.specs.EditedText.{IsReadAs, begun_with, card_line, lines_in}
+use Rattle.upd_correct.specs.Plans.{IsEditedDeck}
+
+-- ---- lines
+
+-- no byte is LF
+abbrev pub HasNoFeed : List ℕ → Type 0
+HasNoFeed bytes = AllByRecursion (λ b. is_feed b ≡ false) bytes
+
+pub lines_from_feed : (front back : List ℕ) → HasNoFeed front → lines_in (front ++ 10 ∷ back) ≡ (front ++ 10 ∷ []) ∷ lines_in back
+lines_from_feed [] back none = refl
+lines_from_feed (b ∷ front) back none = rw none.0 (ap (begun_with b) (lines_from_feed front back none.1))
+
+pub one_line : (b : ℕ) (bytes : List ℕ) → HasNoFeed (b ∷ bytes) → lines_in (b ∷ bytes) ≡ (b ∷ bytes) ∷ []
+one_line b [] none = rw none.0 refl
+one_line b (c ∷ bytes) none = rw none.0 (ap (begun_with b) (one_line c bytes none.1))
+
+pub some_line : (bytes : List ℕ) → 0 < length bytes → HasNoFeed bytes → lines_in bytes ≡ bytes ∷ []
+some_line [] some none = absurd (omega (arith, some))
+some_line (b ∷ bytes) some none = one_line b bytes none
+
+split_at_index : (bytes : List ℕ) (i : ℕ) → i < length bytes → bytes ≡ take i bytes ++ get_or bytes i 0 ∷ drop (i + 1) bytes
+split_at_index [] i within = absurd (omega (arith, within))
+split_at_index (b ∷ bytes) zero within = refl
+split_at_index (b ∷ bytes) (suc i) within =
+    let next : suc i + 1 ≡ suc (i + 1) = omega arith in
+    rw next (ap (λ more. b ∷ more) (split_at_index bytes i (omega (arith, within))))
+
+pub lines_at_feed : (bytes : List ℕ) (i : ℕ) → i < length bytes → HasNoFeed (take i bytes) → get_or bytes i 0 ≡ 10
+    → lines_in bytes ≡ take (i + 1) bytes ∷ lines_in (drop (i + 1) bytes)
+lines_at_feed bytes i within none feed =
+    ap lines_in (split_at_index bytes i within) ∙ ap (λ b. lines_in (take i bytes ++ b ∷ drop (i + 1) bytes)) feed
+    ∙ lines_from_feed (take i bytes) (drop (i + 1) bytes) none
+    ∙ ap (λ line. line ∷ lines_in (drop (i + 1) bytes))
+    (ap (λ b. take i bytes ++ b ∷ []) (sym feed) ∙ sym (take_more bytes i 0 within))
+
+-- ---- a line that is read is spelled
+
+own_text : (text line : List ℕ) → IsTextOf text line → IsTextOf text text
+own_text text line (Trimmed _ n allowed short inked) = subst (IsTextOf text) (append-nil text) (Trimmed text 0 allowed short inked)
+
+-- lines that are spelled, as they are written
+abbrev pub AreSpelled : List LineView → Type 0
+AreSpelled lines = AllByRecursion (λ line. IsSpelled (written line)) lines
+
+line_spelled : (number start : ℕ) (line : List ℕ) (lines : List LineView) → IsLine number start line lines → AreSpelled lines
+line_spelled number start line lines (Comment _ _ _ text few is comment) = tt
+line_spelled number start line lines (Line _ _ _ text item few is no_comment says) =
+    (record { text = own_text text line is; kept = no_comment; item = says }, tt)
+
+lines_spelled : (number start : ℕ) (bytes : List ℕ) (lines : List LineView) → AreLines number start bytes lines → AreSpelled lines
+lines_spelled number start bytes lines (NoMore _ _) = tt
+lines_spelled number start bytes lines (LastLine _ _ _ _ some is) = line_spelled number start bytes lines is
+lines_spelled number start bytes lines (NextLine _ _ line end rest said later is ends more) =
+    all_append (λ line. IsSpelled (written line)) said later (line_spelled number start line said is) (lines_spelled _ _ rest later more)
+
+pub read_spelled : (bytes : List ℕ) (lines : List LineView) → reading bytes ≡ Ok lines → AreSpelled lines
+read_spelled bytes lines e = let read = run_back bytes lines e in lines_spelled 1 0 bytes lines read.spelled
+
+pub taken_spelled : (bytes : List ℕ) (line : RunLine) → IsReadAs bytes line → IsSpelled line
+taken_spelled bytes line is = let spelled = read_spelled bytes (is.0 ∷ []) is.1 in subst IsSpelled is.2 spelled.0
+
+pub all_spelled : (pieces : List (List ℕ)) (lines : List RunLine) → AllZip IsReadAs pieces lines → AllByRecursion IsSpelled lines
+all_spelled [] [] are = tt
+all_spelled [] (line ∷ lines) are = absurd are
+all_spelled (piece ∷ pieces) [] are = absurd are
+all_spelled (piece ∷ pieces) (line ∷ lines) are = (taken_spelled piece line are.0, all_spelled pieces lines are.1)
+
+-- ---- the line of a card
+
+pub card_line_is : (text : List ℕ) → IsCardLine (card_line text)
+card_line_is text = go (is_call text) refl
+  where
+    go : (b : Bool) → is_call text ≡ b → IsCardLine (card_line text)
+    go true e = rw e tt
+    go false e = rw e tt
+
+pub card_lines_are : (texts : List (List ℕ)) → AllByRecursion IsCardLine (map card_line texts)
+card_lines_are [] = tt
+card_lines_are (text ∷ texts) = (card_line_is text, card_lines_are texts)
+
+said_text : (text : List ℕ) → Says text Text → card_line text ≡ record { text = text; item = Text }
+said_text text says = go (is_call text) refl
+  where
+    go : (b : Bool) → is_call text ≡ b → card_line text ≡ record { text = text; item = Text }
+    go true e = let call : Text ≡ Call (called text) = call_said text Text says e in absurd (cc)
+    go false e = rw e refl
+
+said_call : (text name : List ℕ) → Says text (Call name) → card_line text ≡ record { text = text; item = Call name }
+said_call text name says = let is = call_read text name says in rw is.0 (λ i. record { text = text; item = Call (is.1 i) })
+
+pub said_card : (text : List ℕ) (item : ItemView) → IsCardItem item → Says text item → record { text = text; item = item } ≡ card_line text
+said_card text Text is says = sym (said_text text says)
+said_card text (Call name) is says = sym (said_call text name says)
+said_card text _ is says = absurd is
+
+-- a line that is read as text or a call is that of a card
+pub read_card : (bytes : List ℕ) (read : LineView) → reading bytes ≡ Ok (read ∷ []) → IsCardItem read.item → IsReadAs bytes (card_line read.text)
+read_card bytes read e is =
+    let spelled = read_spelled bytes (read ∷ []) e in
+    let own : IsSpelled (written read) = spelled.0 in
+    (read, e, said_card read.text read.item is own.item)
+
+-- ---- decks grow line by line
+
+zip_end : {A B : Type 0} (R : A → B → Type 0) (xs : List A) (ys : List B) (x : A) (y : B) → AllZip R xs ys → R x y → AllZip R (xs ++ x ∷ []) (ys ++ y ∷ [])
+zip_end R [] [] x y zip is = (is, tt)
+zip_end R [] (w ∷ ys) x y zip is = absurd zip
+zip_end R (v ∷ xs) [] x y zip is = absurd zip
+zip_end R (v ∷ xs) (w ∷ ys) x y zip is = (zip.0, zip_end R xs ys x y zip.1 is)
+
+-- a deck begins
+pub deck_read : (lines : List (List ℕ)) (bytes : List ℕ) (decks new : List NewDeck) (d : NewDeck) → new ≡ decks ++ d ∷ [] → d.lines ≡ []
+    → IsReadAs bytes (first_line d) → AllZip IsReadAs lines (flat_map new_deck_lines decks)
+    → AllZip IsReadAs (lines ++ bytes ∷ []) (flat_map new_deck_lines new)
+deck_read lines bytes decks new d e none is zip =
+    subst (AllZip IsReadAs (lines ++ bytes ∷ []))
+    (sym (ap (flat_map new_deck_lines) e ∙ flat_map-append new_deck_lines decks (d ∷ [])
+    ∙ ap (λ x. flat_map new_deck_lines decks ++ x) (append-nil (new_deck_lines d) ∙ ap (λ lines. first_line d ∷ lines) none)))
+    (zip_end IsReadAs lines (flat_map new_deck_lines decks) bytes (first_line d) zip is)
+
+-- the last deck gets a line
+pub line_read : (lines : List (List ℕ)) (bytes text : List ℕ) (front old new : List NewDeck) (d e : NewDeck) → old ≡ front ++ d ∷ [] → new ≡ front ++ e ∷ []
+    → e ≡ record d { lines = d.lines ++ card_line text ∷ [] } → IsReadAs bytes (card_line text) → AllZip IsReadAs lines (flat_map new_deck_lines old)
+    → AllZip IsReadAs (lines ++ bytes ∷ []) (flat_map new_deck_lines new)
+line_read lines bytes text front old new d e was now grown is zip =
+    subst (AllZip IsReadAs (lines ++ bytes ∷ []))
+    (sym (ap (flat_map new_deck_lines) (now ∙ ap (λ x. front ++ x ∷ []) grown)
+    ∙ last_piece new_deck_lines front d (record d { lines = d.lines ++ card_line text ∷ [] }) (card_line text ∷ []) refl
+    ∙ ap (λ x. flat_map new_deck_lines x ++ card_line text ∷ []) (sym was)))
+    (zip_end IsReadAs lines (flat_map new_deck_lines old) bytes (card_line text) zip is)
+  where
+    last_piece : {X A : Type 0} (f : X → List A) (done : List X) (s t : X) (more : List A) → f t ≡ f s ++ more
+        → flat_map f (done ++ t ∷ []) ≡ flat_map f (done ++ s ∷ []) ++ more
+    last_piece f done s t more e =
+        flat_map-append f done (t ∷ []) ∙ ap (λ x. flat_map f done ++ x) (append-nil (f t) ∙ e) ∙ sym (append_assoc (flat_map f done) (f s) more)
+        ∙ ap (λ x. x ++ more) (ap (λ x. flat_map f done ++ x) (sym (append-nil (f s))) ∙ sym (flat_map-append f done (s ∷ [])))
+
+pub deck_grown : (front old new : List NewDeck) (d e : NewDeck) (text : List ℕ) → old ≡ front ++ d ∷ [] → new ≡ front ++ e ∷ []
+    → e ≡ record d { lines = d.lines ++ card_line text ∷ [] } → AllByRecursion IsEditedDeck old → AllByRecursion IsEditedDeck new
+deck_grown front old new d e text was now grown all =
+    let before : AllByRecursion IsEditedDeck (front ++ d ∷ []) = subst (AllByRecursion IsEditedDeck) was all in
+    let one : IsEditedDeck d = (all_back IsEditedDeck front (d ∷ []) before).0 in
+    subst (AllByRecursion IsEditedDeck) (sym (now ∙ ap (λ x. front ++ x ∷ []) grown))
+    (all_append IsEditedDeck front _ (all_front IsEditedDeck front (d ∷ []) before)
+    (record { plain = one.plain; lines = all_append IsCardLine d.lines (card_line text ∷ []) one.lines (card_line_is text, tt) }, tt))

@@ -1,0 +1,18 @@
+use Rattle.std.proofs.Common.{◌≡◌, [], ◌∷◌, sym, subst, Ok}
+use Rattle.upd_deck.specs.declared.item.Item.{Item}
+use Rattle.upd_deck.specs.Items.{LineView}
+use Rattle.upd_deck.specs.LineFields.{seen}
+use Rattle.upd_deck.specs.Reading.{reading}
+use Rattle.upd_correction_laws.specs.Corrections.{IsCardItem}
+use Rattle.upd_correct.proofs.TextLineLemmas.{read_card}
+use Rattle.upd_correct.proofs.read_line.line_by_item.Goals as goal
+
+pub returns-in-Text : goal.returns-in-Text
+returns-in-Text c e =
+    read_card c.args.bytes.now _ (subst (λ (v : LineView). reading c.args.bytes.now ≡ Ok (v ∷ [])) (sym c.line.view_is) e)
+    (subst (λ (item : Item). IsCardItem (seen item)) (sym c.in-Text.is) tt)
+
+pub returns-in-Call : goal.returns-in-Call
+returns-in-Call c e =
+    read_card c.args.bytes.now _ (subst (λ (v : LineView). reading c.args.bytes.now ≡ Ok (v ∷ [])) (sym c.line.view_is) e)
+    (subst (λ (item : Item). IsCardItem (seen item)) (sym c.in-Call.is) tt)

@@ -1,0 +1,8 @@
+use Rattle.std.proofs.Common.{take}
+use Rattle.std.specs.List.{flat_map}
+use Rattle.upd_correction_laws.specs.Corrections.{segment_lines}
+use Rattle.upd_correct.specs.Writing.{Writes}
+use Rattle.upd_correct.proofs.writer.RunText.push_correction.Given as goal
+
+abbrev pub invariant-loop-segment : goal.invariant-loop-segment
+invariant-loop-segment l = Writes l.initial.self l.self (flat_map (segment_lines l.idents) (take l.segment-index l.segment-items))

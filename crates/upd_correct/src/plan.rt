@@ -1,0 +1,233 @@
+//! Plans: the corrections of held decks, and the new decks.
+
+ghost use Rattle.std.specs.Prelude.{◌≡◌, ◌∷◌, [], ℕ, IsTrue, List, Some, None, IfOk, OnOk, map};
+ghost use Rattle.std.specs.List.{AllByRecursion, flat_map, list_any};
+ghost use Rattle.std.specs.Str.{bytes_eq};
+ghost use Rattle.upd_core.specs.Library.{cards_of};
+ghost use Rattle.upd_core.specs.Status.{is_active, live_of};
+ghost use Rattle.upd_correction_laws.specs.Corrections.{NewDeck, new_deck_lines};
+ghost use Rattle.upd_correction_laws.specs.RunLines.{IsSpelled};
+ghost use Rattle.upd_correct.specs.EditedText.{card_line, texts_of};
+ghost use Rattle.upd_correct.specs.Plans.{AreCorrectionsFor, new_decks};
+ghost use Rattle.upd_correct.specs.Scripts.{IsScriptOf};
+ghost use Rattle.upd_correct.specs.Problems.{HasNoProblem, deck_problem, first_problem, name_problem, set_problem};
+
+use crate::edited_deck::{EditedDeck, refuse};
+use crate::matching::matches_of;
+use crate::refusal::{Problem, Refusal};
+use crate::script::{Segment, script_of};
+use std::alloc::{AllocError, Global};
+use std::marker::Model;
+use upd_core::{Card, Library, Live, Serial};
+use upd_text::Name;
+
+/// A deck and its segments.
+#[derive(Debug, Drop)]
+pub(crate) struct Correction<'a> {
+    pub(crate) deck: Serial,
+    pub(crate) segments: Vec<Segment<'a>>,
+}
+
+impl<'a> Model for Correction<'a> {
+    ghost use Rattle.upd_correction_laws.specs.Corrections.{Correction as CorrectionView};
+
+    ghost Value = { CorrectionView };
+
+    ghost view = { λ c. record { deck = c.deck; segments = c.segments.items } };
+}
+
+/// What is wrong with the name of a set.
+pub(crate) fn set_problem(library: &Library, set: &[u8]) -> Option<Problem>
+    ensures { result ≡ set_problem library.now set.now }
+{
+    let Some(name) = Name::read(set) else {
+        return Some(Problem::BadName);
+    };
+    if name == Name::yank() {
+        return Some(Problem::Reserved);
+    }
+    if library.held(&name).is_some() {
+        return Some(Problem::NameTaken);
+    }
+    None
+}
+
+/// Adds a refusal for each deck with a problem.
+pub(crate) fn check_decks(
+    library: &Library,
+    live: &Live,
+    set: &[u8],
+    decks: &[EditedDeck],
+    refusals: &mut Vec<Refusal>,
+) -> Result<(), AllocError>
+    requires { live.now ≡ live_of library.now }
+    ensures earlier { refusals.new.items ≡ [] → refusals.old.items ≡ [] }
+    ensures none { refusals.new.items ≡ [] → OnOk result (HasNoProblem library.now set.now [] decks.now) }
+{
+    for (i, deck) in decks.iter().enumerate() {
+        check_deck(library, live, set, &decks[..i], deck, refusals)?;
+    }
+    Ok(())
+}
+
+/// Adds a refusal for a deck with a problem.
+fn check_deck(
+    library: &Library,
+    live: &Live,
+    set: &[u8],
+    earlier: &[EditedDeck],
+    deck: &EditedDeck,
+    refusals: &mut Vec<Refusal>,
+) -> Result<(), AllocError>
+    requires { live.now ≡ live_of library.now }
+    ensures earlier { refusals.new.items ≡ [] → refusals.old.items ≡ [] }
+    ensures none { refusals.new.items ≡ [] → OnOk result (deck_problem library.now set.now earlier.now deck.now ≡ None) }
+{
+    if let Some(problem) = deck_problem(library, live, set, earlier, deck) {
+        refuse(refusals, deck.number, 1, problem)?;
+    }
+    Ok(())
+}
+
+/// What is wrong with a deck that follows others in the text.
+fn deck_problem(
+    library: &Library,
+    live: &Live,
+    set: &[u8],
+    earlier: &[EditedDeck],
+    deck: &EditedDeck,
+) -> Option<Problem>
+    requires { live.now ≡ live_of library.now }
+    ensures { result ≡ deck_problem library.now set.now earlier.now deck.now }
+{
+    if has_name(earlier, &deck.name) {
+        return Some(Problem::DeckTwice);
+    }
+    match library.deck_of(&deck.name) {
+        Some(age) => first_problem(live, age, deck.first, library.cards_of(age)),
+        None => name_problem(library, set, &deck.name),
+    }
+}
+
+/// Whether one of these decks has a name.
+fn has_name(decks: &[EditedDeck], name: &Name) -> bool
+    ensures { result ≡ list_any (λ d. bytes_eq d.name name.now) decks.now }
+{
+    decks.iter().any(|deck| deck.name == *name)
+}
+
+/// What is wrong with the first line of a held deck.
+fn first_problem(live: &Live, deck: Serial, text: &[u8], cards: &[Card]) -> Option<Problem>
+    ensures { result ≡ first_problem live.now.targets deck text.now cards.now }
+{
+    match cards {
+        [] => Some(Problem::FirstCard),
+        [first, ..] => {
+            if first.text.as_slice() != text {
+                Some(Problem::FirstCard)
+            } else if live.is_active(deck, first) {
+                None
+            } else {
+                Some(Problem::OutOfUse)
+            }
+        }
+    }
+}
+
+/// What is wrong with the name of a new deck.
+fn name_problem(library: &Library, set: &[u8], name: &Name) -> Option<Problem>
+    ensures { result ≡ name_problem library.now set.now name.now }
+{
+    if *name == Name::yank() {
+        Some(Problem::Reserved)
+    } else if library.held(name).is_some() || name.as_bytes() == set {
+        Some(Problem::NameTaken)
+    } else {
+        None
+    }
+}
+
+/// The corrections that lead the held decks of a text to their edited texts.
+pub(crate) fn corrections_for<'a>(
+    alloc: Global,
+    library: &'a Library,
+    live: &Live,
+    decks: &[EditedDeck<'a>],
+) -> Result<Vec<Correction<'a>>, AllocError>
+    requires { live.now ≡ live_of library.now }
+    ensures { (set : List ℕ) → HasNoProblem library.now set [] decks.now
+        → AllByRecursion IsSpelled (flat_map new_deck_lines decks.now)
+        → IfOk result (λ corrections. AreCorrectionsFor library.now decks.now corrections.items) }
+{
+    let mut corrections = Vec::new(alloc);
+    for deck in decks {
+        match library.deck_of(&deck.name) {
+            Some(age) => {
+                let cards = library.cards_of(age);
+                corrections.push(correction_of(alloc, live, age, cards, deck)?)?;
+            }
+            None => {}
+        }
+    }
+    Ok(corrections)
+}
+
+/// The correction that leads a held deck to its edited text.
+fn correction_of<'a>(
+    alloc: Global,
+    live: &Live,
+    age: Serial,
+    cards: &'a [Card],
+    deck: &EditedDeck<'a>,
+) -> Result<Correction<'a>, AllocError>
+    ensures deck { IfOk result (λ c. c.deck ≡ age) }
+    ensures script { first_problem live.now.targets age deck.now.first cards.now ≡ None
+        → AllByRecursion IsSpelled deck.now.lines
+        → IfOk result (λ c. IsScriptOf live.now.targets age cards.now (texts_of deck.now) c.segments) }
+{
+    let segments = match cards {
+        [] => Vec::new(alloc),
+        [first, rest @ ..] => segments_of(alloc, live, age, first, rest, &deck.lines)?,
+    };
+    Ok(Correction {
+        deck: age,
+        segments,
+    })
+}
+
+/// The segments that lead the cards of a deck to the texts of its first card and of these lines.
+fn segments_of<'a>(
+    alloc: Global,
+    live: &Live,
+    age: Serial,
+    first: &'a Card,
+    rest: &'a [Card],
+    lines: &[&'a [u8]],
+) -> Result<Vec<Segment<'a>>, AllocError>
+    ensures { IsTrue (is_active live.now.targets age first.now)
+        → AllByRecursion IsSpelled (map (λ t. card_line t.now) lines.now)
+        → IfOk result (λ segments. IsScriptOf live.now.targets age (first.now ∷ rest.now)
+        (first.now.text ∷ map (λ t. t.now) lines.now) segments.items) }
+{
+    let matches = matches_of(alloc, live, age, rest, lines)?;
+    let script = script_of(alloc, live, age, first, rest, &matches, lines)?;
+    let segments = script.finish()?;
+    Ok(segments)
+}
+
+/// The decks of a text that are new.
+pub(crate) fn added_decks<'b, 'a>(
+    alloc: Global,
+    library: &Library,
+    decks: &'b [EditedDeck<'a>],
+) -> Result<Vec<&'b EditedDeck<'a>>, AllocError>
+    ensures { IfOk result (λ added. map (λ d. d.now) added.items ≡ new_decks library.now decks.now) }
+{
+    let mut added = Vec::new(alloc);
+    for deck in decks {
+        if library.deck_of(&deck.name).is_none() {
+            added.push(deck)?;
+        }
+    }
+    Ok(added)
+}

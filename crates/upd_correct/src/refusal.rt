@@ -1,0 +1,67 @@
+//! Refusals of edited texts.
+
+use std::alloc::{AllocError, AllocFailed};
+
+/// Why a line of an edited text, or the text as a whole, is refused.
+#[derive(Clone, Copy, Debug, PartialEq, Eq)]
+pub enum Problem {
+    /// A byte that no line may have: other than 0x20 to 0x7E and the tab.
+    BadByte,
+    /// A line of more than 80 bytes, trailing blanks not counted.
+    LineLong,
+    /// A comment: a run would drop it.
+    Comment,
+    /// A directive's word in column 1: a run would carry it out.
+    Directive,
+    /// A line before the first line of any deck.
+    NoDeck,
+    /// The first line of a held deck isn't the text of its first card.
+    FirstCard,
+    /// No run can lead the deck to a text, because it is taken out of use.
+    OutOfUse,
+    /// The deck occurs twice in the text.
+    DeckTwice,
+    /// A new name that is held.
+    NameTaken,
+    /// `YANK$$$` as a new name.
+    Reserved,
+    /// The name of the set isn't a name.
+    BadName,
+    /// The run would have more than 2,000 lines.
+    TooManyLines,
+    /// The run would have more than 65,536 bytes.
+    RunLong,
+    /// The run would exceed a limit of the library.
+    Full,
+}
+
+/// A problem and where it is.
+#[derive(Clone, Copy, Debug, PartialEq, Eq)]
+pub struct Refusal {
+    /// The number of the line in the text, from 1; 0 where the problem is not one of a line.
+    pub line: usize,
+    /// The column in the line, from 1; 0 where the problem is not one of a line.
+    pub column: usize,
+    pub problem: Problem,
+}
+
+/// Why there is no run.
+#[derive(Debug, Drop)]
+pub enum CorrectError {
+    /// Out of memory.
+    NoMemory,
+    /// The text is refused: all its problems, in order of line.
+    Refused(Vec<Refusal>),
+}
+
+impl From<AllocError> for CorrectError {
+    fn from(_error: AllocError) -> CorrectError {
+        CorrectError::NoMemory
+    }
+}
+
+impl<T: Drop> From<AllocFailed<T>> for CorrectError {
+    fn from(_error: AllocFailed<T>) -> CorrectError {
+        CorrectError::NoMemory
+    }
+}

@@ -1,0 +1,18 @@
+-- A run that is refused gets the defined refusal.
+use Rattle.std.proofs.Common.{◌≡◌, Result, Ok, Err, ap, sym, ◌∙◌, subst}
+use Rattle.upd_text.specs.declared.fault.Fault.{Fault}
+use Rattle.upd_desk.specs.Arrivals.{ArrivalView}
+use Rattle.upd_desk.specs.Outcomes.{Compiled, compiled, outcome_by}
+use Rattle.upd_desk.proofs.RefusedLemmas.{fails_is}
+use Rattle.upd_desk.proofs.trying.reply_in.Goals as goal
+
+pub returns-in-Ok-refused : goal.returns-in-Ok-refused
+returns-in-Ok-refused c = λ made.
+    let mode = c.args.mode in
+    let library = c.args.library.now in
+    let arrival = c.args.arrival.now in
+    let fault = c.in-Err.fault in
+    let met = fails_is fault _ c.in-Ok-refused.ensures.kind c.in-Err.ensures.refused in
+    let is = subst (λ (a : ArrivalView). compiled mode a.bytes library ≡ Err fault) c.arrival.view_is met in
+    ap Ok (sym (c.in-Ok-refused.ensures.reply mode library c.requires.passed
+    ∙ ap (λ (r : Result Compiled Fault). (outcome_by arrival library r).reply) (sym is)))
