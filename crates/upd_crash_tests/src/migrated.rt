@@ -4,10 +4,11 @@ use sqlite::{Connection, MemStore};
 use std::alloc::Global;
 use std::test::Fail;
 use upd_compile::list_card;
-use upd_core::{CardRef, Library};
+use upd_core::Library;
 use upd_desk::Desk;
 use upd_migrate::{load_rows, migrate};
 use upd_store::SqlStore;
+use upd_testkit::applying::card_ref;
 use upd_testkit::asks::shown;
 use upd_testkit::check::{same, same_text};
 use upd_testkit::listings::listings;
@@ -27,7 +28,7 @@ fn adopted(conn: Connection<MemStore>) -> Result<SqlStore<MemStore>, Fail> {
 
 /// The listings, with that of the card A.3.
 fn all_listings(alloc: Global, library: &Library) -> Result<String, Fail> {
-    let card = CardRef::read(b"A.3").ok_or("no card reference")?;
+    let card = card_ref("A.3")?;
     let mut text = listings(alloc, library, "A")?;
     text.push_str(std::str::from_utf8(&list_card(alloc, library, card)?)?)?;
     Ok(text)
@@ -127,7 +128,7 @@ fn lists_yanks(alloc: Global, desk: &mut TableDesk, wanted: &str) -> Result<(), 
 
 /// The card A.2 is listed so.
 fn lists_card(alloc: Global, desk: &mut TableDesk, wanted: &str) -> Result<(), Fail> {
-    let card = CardRef::read(b"A.2").ok_or("no card reference")?;
+    let card = card_ref("A.2")?;
     let found = desk.card_list(alloc, card)?;
     same_text("the card", std::str::from_utf8(&found)?, wanted)
 }

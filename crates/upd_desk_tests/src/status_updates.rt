@@ -3,19 +3,13 @@ use crate::changes_of_runs::with_decks;
 use std::alloc::Global;
 use std::collections::BTreeMap;
 use std::test::Fail;
-use upd_apply::{Applied, apply};
+use upd_apply::Applied;
 use upd_core::ident::name_at;
 use upd_core::{Card, CardRef, Counted, Deck, Library};
-use upd_deck::read_run;
+use upd_testkit::applying::{applied, card_ref};
 use upd_testkit::check::same;
 use upd_testkit::yank_chains::yanks_in_a_row;
 use upd_yank::Cache;
-
-fn applied(library: &mut Library, text: &str) -> Result<Applied, Fail> {
-    let alloc = library.allocator();
-    let run = read_run(alloc, text.as_bytes())?;
-    Ok(apply(alloc, library, &run)?)
-}
 
 /// A run that deletes `count` cards, one a line.
 fn deletions(alloc: Global, set: u32, count: u32) -> Result<String, Fail> {
@@ -141,7 +135,7 @@ fn copies_48000_statuses_20_times(rt: HostRuntime) -> Result<(), Fail> {
 
 /// Whether the first line of deck A is active.
 fn first_line(cache: &Cache) -> Result<Option<bool>, Fail> {
-    let card = CardRef::read(b"A.2").ok_or("no card reference")?;
+    let card = card_ref("A.2")?;
     Ok(cache.active(card))
 }
 

@@ -3,10 +3,11 @@ use crate::empty_stores::{Fresh, adopted};
 use sqlite::MemStore;
 use std::alloc::Global;
 use std::test::Fail;
-use upd_core::{CardRef, Library, States};
+use upd_core::{Library, States};
 use upd_list_store::ListStore;
 use upd_row_store::RowStore;
 use upd_store::SqlStore;
+use upd_testkit::applying::card_ref;
 use upd_testkit::asks::{Ask, lyon};
 use upd_testkit::check::{same, same_text};
 use upd_testkit::loaded_names::{decks_of_cards, loaded_names, replayed_names};
@@ -186,8 +187,7 @@ fn some_lines<S: RowStore>(
 
 /// The lines of a card that is there and one that is nowhere, and those of the first, asked 10,001 times.
 fn few_and_many<S: RowStore>(alloc: Global, store: &mut S) -> Result<(String, String), Fail> {
-    let there = CardRef::read(b"A.2").ok_or("no card")?;
-    let nowhere = CardRef::read(b"Q.1").ok_or("no card")?;
+    let (there, nowhere) = (card_ref("A.2")?, card_ref("Q.1")?);
     let few = some_lines(alloc, store, &[there, nowhere])?;
     let many = vec![in alloc; there; 10_001]?;
     Ok((few, some_lines(alloc, store, &many)?))

@@ -9,6 +9,7 @@ use upd_core::{CardRef, Change, Entry, Ident, Kind, Name};
 use upd_row_store::RowStore;
 use upd_store::SqlStore;
 use upd_store::file::close;
+use upd_testkit::applying::name;
 use upd_testkit::check::{holds, same};
 use upd_text::Fault;
 
@@ -104,7 +105,7 @@ fn add_card(changes: &mut Vec<Change>, new: Change, card: &CardRef, age: u32) ->
 
 fn deck_name(alloc: Global, age: u32) -> Result<Name, Fail> {
     let text = format!(in alloc; "DECK{age}")?;
-    Ok(Name::read(text.as_bytes()).ok_or("no name")?)
+    name(&text)
 }
 
 /// A deck of this serial with `cards` cards, each with its status and four entries.

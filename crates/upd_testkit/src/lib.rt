@@ -3,6 +3,7 @@
 //! A check ends a test by an error, since a library may not end a program.
 #![tactic(auto)]
 
+pub mod applying;
 pub mod asks;
 pub mod check;
 pub mod fake_streams;

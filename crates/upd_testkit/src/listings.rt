@@ -1,8 +1,9 @@
 //! The listings of a library as one text.
+use crate::applying::name;
 use std::alloc::Global;
 use std::test::Fail;
 use upd_compile::{list_deck, list_idents, list_yanks};
-use upd_core::{Library, Name};
+use upd_core::Library;
 
 /// Texts one after the other.
 fn joined(alloc: Global, texts: &[Vec<u8>]) -> Result<String, Fail> {
@@ -15,10 +16,9 @@ fn joined(alloc: Global, texts: &[Vec<u8>]) -> Result<String, Fail> {
 
 /// The listings of the idents, of a deck and of the yanks.
 pub fn listings(alloc: Global, library: &Library, deck: &str) -> Result<String, Fail> {
-    let name = Name::read(deck.as_bytes()).ok_or("no name")?;
     let texts = [
         list_idents(alloc, library)?,
-        list_deck(alloc, library, &name)?,
+        list_deck(alloc, library, &name(deck)?)?,
         list_yanks(alloc, library)?,
     ];
     joined(alloc, &texts)

@@ -1,9 +1,10 @@
 //! Active cards by their names, and what stores load of them.
+use crate::applying::card_ref;
 use std::alloc::Global;
 use std::test::Fail;
 use upd_compile::{Mode, compile_active};
 use upd_core::ident::name_at;
-use upd_core::{ActiveCardRef, Actives, CardRef, Ident, Serial};
+use upd_core::{ActiveCardRef, Actives, Ident, Serial};
 use upd_row_store::RowStore;
 
 /// The active cards as directives name them, a line for each deck, after the deck's serial.
@@ -54,7 +55,5 @@ pub fn replayed_names<S: RowStore>(alloc: Global, store: &mut S) -> Result<Strin
 
 /// The decks that hold the card B.2, or the card Q.1, which is in no deck.
 pub fn decks_of_cards<S: RowStore>(alloc: Global, store: &mut S) -> Result<Vec<Serial>, Fail> {
-    let held = CardRef::read(b"B.2").ok_or("no card reference")?;
-    let unknown = CardRef::read(b"Q.1").ok_or("no card reference")?;
-    Ok(store.decks_of(alloc, &[held, unknown])?)
+    Ok(store.decks_of(alloc, &[card_ref("B.2")?, card_ref("Q.1")?])?)
 }

@@ -1,4 +1,5 @@
 //! The reference desk: a library, and lists of the runs with their answers and of the marks. It stores no status.
+use crate::applying::{card_ref, name};
 use crate::asks::{Ask, Sent, shown};
 use crate::needed_decks::decks_needed;
 use std::alloc::Global;
@@ -6,7 +7,7 @@ use std::test::Fail;
 use upd_apply::{Applied, apply};
 use upd_compile::{CompileFile, Mode, compile_file, list_card, list_deck, list_idents, list_yanks};
 use upd_core::ident::name_at;
-use upd_core::{CardRef, Counted, Ident, Library, Name, Serial};
+use upd_core::{Counted, Ident, Library, Serial};
 use upd_deck::read_run;
 use upd_text::{Fault, FaultKind};
 use upd_yank::Cache;
@@ -71,13 +72,17 @@ impl ReferenceDesk {
     }
 
     fn deck(&self, deck: &str) -> Result<String, Fail> {
-        let name = Name::read(deck.as_bytes()).ok_or("no name")?;
-        shown(self.alloc(), list_deck(self.alloc(), &self.library, &name))
+        shown(
+            self.alloc(),
+            list_deck(self.alloc(), &self.library, &name(deck)?),
+        )
     }
 
     fn card(&self, card: &str) -> Result<String, Fail> {
-        let card = CardRef::read(card.as_bytes()).ok_or("no card reference")?;
-        shown(self.alloc(), list_card(self.alloc(), &self.library, card))
+        shown(
+            self.alloc(),
+            list_card(self.alloc(), &self.library, card_ref(card)?),
+        )
     }
 
     /// The answer to an arrival: its reply, or its fault.

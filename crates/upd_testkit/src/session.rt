@@ -1,11 +1,11 @@
 //! A desk that is asked in text, beside the reference desk, which has to answer the same.
+use crate::applying::{card_ref, name};
 use crate::asks::{Ask, Sent, shown};
 use crate::check::{same, same_text};
 use crate::reference_desk::ReferenceDesk;
 use crate::replies::{Line, accepted, compile_lines, refused};
 use std::alloc::Global;
 use std::test::Fail;
-use upd_core::{CardRef, Name};
 use upd_desk::Desk;
 use upd_row_store::RowStore;
 use upd_text::Fault;
@@ -94,13 +94,11 @@ impl<S: RowStore> Session<S> {
     }
 
     fn deck(&mut self, deck: &str) -> Result<Result<Vec<u8>, Fault>, Fail> {
-        let name = Name::read(deck.as_bytes()).ok_or("no name")?;
-        Ok(self.desk.deck_list(self.alloc, &name))
+        Ok(self.desk.deck_list(self.alloc, &name(deck)?))
     }
 
     fn card(&mut self, card: &str) -> Result<Result<Vec<u8>, Fault>, Fail> {
-        let card = CardRef::read(card.as_bytes()).ok_or("no card reference")?;
-        Ok(self.desk.card_list(self.alloc, card))
+        Ok(self.desk.card_list(self.alloc, card_ref(card)?))
     }
 
     fn reply(&mut self, sent: Sent<'_>) -> Result<Vec<u8>, Fault> {

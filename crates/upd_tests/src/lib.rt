@@ -1,0 +1,29 @@
+//! Tests of names and lines, of whole runs from their bytes to compile files and listings, of the edits of a library,
+//! statuses and limits, and of each public call below the stores once by its path (`surface`).
+//!
+//! Expected values are worked by hand from `docs/rules.md`, or come from a second implementation, as the files of
+//! `upd_examples` do. Tests are in crates of their own, since a crate with tests is proved once more with them.
+#![tactic(auto)]
+
+#[cfg(test)]
+mod asked_library;
+#[cfg(test)]
+mod cached_statuses;
+#[cfg(test)]
+mod common_deck_runs;
+#[cfg(test)]
+mod correction_runs;
+#[cfg(test)]
+mod library_edits;
+#[cfg(test)]
+mod library_limits;
+#[cfg(test)]
+mod long_runs;
+#[cfg(test)]
+mod purge_runs;
+#[cfg(test)]
+mod surface;
+#[cfg(test)]
+mod texts_read;
+#[cfg(test)]
+mod yank_runs;
