@@ -4,7 +4,7 @@ use std::alloc::Global;
 use std::test::Fail;
 use upd_compile::{Mode, compile_active};
 use upd_core::ident::name_at;
-use upd_core::{ActiveCardRef, Actives, Ident, Serial};
+use upd_core::{ActiveCardRef, Actives, CardRef, Ident, Serial};
 use upd_row_store::RowStore;
 
 /// The active cards as directives name them, a line for each deck, after the deck's serial.
