@@ -3,3 +3,4 @@ pub mod HeadLemmas
 pub mod ReasonLemmas
 pub mod AnswerLemmas
 pub mod OwedLemmas
+mod ServedLemmas

@@ -3,3 +3,4 @@ pub mod Responses
 pub mod Views
 pub mod Serving
 pub mod Owed
+pub mod Served

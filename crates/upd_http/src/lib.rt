@@ -11,4 +11,4 @@ mod write;
 
 pub use connections::{serve_on, serve_on_within};
 pub use exchange::serve_one;
-pub use laws::answers_are_owed;
+pub use laws::{answers_are_owed, served_calls_continue_the_journal};
