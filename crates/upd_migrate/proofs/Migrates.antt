@@ -1,5 +1,6 @@
 -- From the steps of a migration and its commit to what the whole of it does.
-use Rattle.std.proofs.Common.{◌≡◌, Result, Ok, Err, OnOk, refl, sym, subst, ◌∙◌, IsTrue, true, false}
+use Rattle.std.proofs.Common.{◌≡◌, ℕ, Result, Ok, Err, OnOk, refl, sym, ap, subst, ◌∙◌, IsTrue, true, false}
+use Rattle.sqlite.specs.Effect.{Database}
 use Rattle.sqlite.specs.State.{State, HasCleanDisk, Shows, Survives}
 use Rattle.sqlite.proofs.StateLemmas.{survives_then}
 use Rattle.upd_core.specs.Library.{LibraryView}
@@ -14,9 +15,10 @@ use Rattle.upd_sql.specs.Encoded.{stored}
 use Rattle.upd_sql.specs.Making.{Transforms}
 use Rattle.upd_sql.specs.Schema.{library_schema}
 use Rattle.upd_sql.specs.LibraryTables.{ShowsTables}
+use Rattle.upd_store.specs.Version.{HasVersion}
 use Rattle.upd_migrate.specs.declared.version.Version.{Version}
 use Rattle.upd_migrate.specs.Migrated.{AreLibraryRows, HasMigrated, IsMigrated, MayMigrate, MayMigrateFrom, Migrates, MigratesFrom, HoldsAfter}
-use Rattle.upd_migrate.specs.Older.{ShowsAs, schema_of, stored_in}
+use Rattle.upd_migrate.specs.Older.{ShowsAs, number_of, schema_of, stored_in}
 use Rattle.upd_migrate.proofs.Loaded.{begun_holds}
 use Rattle.upd_migrate.proofs.Versions.{one_version}
 
@@ -71,13 +73,15 @@ module _ (found : Version) (old mid : State) (schema : IsTrue mid.is_open → mi
       let known = is_found clean o version rows shown in
       subst (λ v. ShowsAs v rows mid.committed → HasMigrated v l rows new.committed) (sym known.0) (λ there. done l rows lib there) known.1
 
-  pub any_leaves : (new : State) → (HasCleanDisk mid → IsTrue mid.is_open → IsTrue old.is_open) → Survives old mid (λ _. ⊥)
+  pub any_leaves : (new : State) → (HasCleanDisk mid → IsTrue mid.is_open → IsTrue old.is_open)
+      → (HasCleanDisk mid → (n : ℕ) → HasVersion n old.committed → n ≡ number_of found) → Survives old mid (λ _. ⊥)
       → Survives mid new (MayMigrateFrom found mid) → Survives old new (MayMigrate old)
-  any_leaves new was_open first second =
+  any_leaves new was_open value first second =
       survives_then old mid new (λ _. ⊥) (MayMigrateFrom found mid) (MayMigrate old) (λ _ db none. absurd none)
       (λ clean db may.
       let early = clean_before mid new _ second clean in (
         was_open early may.0,
+        (found, ap (λ (d : Database). d.schema) (sym (same early may.0)) ∙ schema may.0, value early),
         λ version l rows lib shown.
             let known = is_found early may.0 version rows shown in
             subst (λ v. ShowsAs v rows mid.committed → (after : Rows) × IsMigrated v l rows after × ShowsIn db after) (sym known.0)

@@ -58,12 +58,12 @@ abbrev pub MayMigrateFrom : Version → State → Trees → Type 0
 MayMigrateFrom version old trees = IsTrue old.is_open × ((l : LibraryView) (rows : Rows) → AreLibraryRows l rows → ShowsAs version rows old.committed
     → (after : Rows) × IsMigrated version l rows after × ShowsIn trees after)
 
--- and whichever version it had
-abbrev pub MayMigrate : State → Trees → Type 0
-MayMigrate old trees = IsTrue old.is_open × ((version : Version) (l : LibraryView) (rows : Rows) → AreLibraryRows l rows
-    → ShowsAs version rows old.committed
-    → (after : Rows) × IsMigrated version l rows after × ShowsIn trees after)
-
 -- The database has the schema of some version, and no other version in `meta`.
 abbrev pub HasKnown : Database → Type 0
 HasKnown db = (version : Version) × (db.schema ≡ schema_of version) × ((n : ℕ) → HasVersion n db → n ≡ number_of version)
+
+-- And whichever version it had. A file of no known version stays as it is.
+abbrev pub MayMigrate : State → Trees → Type 0
+MayMigrate old trees = IsTrue old.is_open × HasKnown old.committed × ((version : Version) (l : LibraryView) (rows : Rows) → AreLibraryRows l rows
+    → ShowsAs version rows old.committed
+    → (after : Rows) × IsMigrated version l rows after × ShowsIn trees after)

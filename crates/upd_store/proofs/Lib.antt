@@ -1,2 +1,3 @@
 mod VersionLemmas
+mod BeginningLemmas
 pub mod Opening

@@ -1,3 +1,4 @@
+pub mod Beginning
 pub mod Faults
 pub mod One
 pub mod Version

@@ -2,10 +2,11 @@
 ghost use Rattle.std.specs.Prelude.{◌≡◌, ◌⊎◌, ℕ, false, IfErr, IfOk, IsTrue};
 ghost use Rattle.sqlite.specs.Held.{state};
 ghost use Rattle.sqlite.specs.State.{HasCleanDisk, Survives};
-ghost use Rattle.upd_sql.specs.Making.{no_rows, MayMake};
+ghost use Rattle.upd_sql.specs.Making.{no_rows};
 ghost use Rattle.upd_sql.specs.Schema.{library_schema, no_schema};
 ghost use Rattle.upd_sql.specs.Sizes.{AreOfCommit};
 ghost use Rattle.upd_sql.specs.LibraryTables.{ShowsTables};
+ghost use Rattle.upd_store.specs.Beginning.{MayBegin};
 ghost use Rattle.upd_store.specs.Faults.{IsUnopened};
 ghost use Rattle.upd_store.specs.Version.{HasVersion};
 
@@ -88,11 +89,11 @@ impl<S: Rising> SqlStore<S> {
         ensures shows { IfOk result (λ s. HasCleanDisk (state S.Store s.conn)
             → IsTrue (state S.Store s.conn).is_open × ShowsTables no_rows (state S.Store s.conn).committed) }
         ensures survives { IfOk result (λ s. Survives (state S.Store conn) (state S.Store s.conn)
-            (MayMake (state S.Store conn))) }
+            (MayBegin (state S.Store conn))) }
         ensures same_back { IfErr result (λ e. HasCleanDisk (state S.Store e.1) → IsTrue (state S.Store e.1).is_open
             → (state S.Store e.1).committed ≡ (state S.Store conn).committed) }
         ensures survives_back { IfErr result (λ e. Survives (state S.Store conn) (state S.Store e.1)
-            (MayMake (state S.Store conn))) }
+            (MayBegin (state S.Store conn))) }
         ensures counts { IfOk result (λ s. (s.failures ≡ 0) × (s.decks_read ≡ 0)) }
         ensures unopened { IfErr result (λ e. IsUnopened e.0) }
         ensures empty { IfOk result (λ s. HasCleanDisk (state S.Store s.conn)

@@ -21,13 +21,13 @@ pub returns-in-Ok-clause-crash : goal.returns-in-Ok-clause-crash
 returns-in-Ok-clause-crash g c =
     let known = c.in_ok-version.ensures in
     any_leaves c.in_ok-version.version (state g.S.Store c.args.conn.now) (state g.S.Store c.known_version.new.conn) known.found known.same
-    (state g.S.Store c.migrate_from.new.conn) known.was_open known.survives c.in-Ok.ensures.crash
+    (state g.S.Store c.migrate_from.new.conn) known.was_open known.value known.survives c.in-Ok.ensures.crash
 
 pub returns-in-Err-clause-crash : goal.returns-in-Err-clause-crash
 returns-in-Err-clause-crash g c =
     let known = c.in_ok-version.ensures in
     any_leaves c.in_ok-version.version (state g.S.Store c.args.conn.now) (state g.S.Store c.known_version.new.conn) known.found known.same
-    (state g.S.Store c.migrate_from.new.conn) known.was_open known.survives c.in-Err.ensures.crash
+    (state g.S.Store c.migrate_from.new.conn) known.was_open known.value known.survives c.in-Err.ensures.crash
 
 pub returns-in-Ok-clause-known : goal.returns-in-Ok-clause-known
 returns-in-Ok-clause-known g c clean o =
