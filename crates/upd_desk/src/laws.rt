@@ -1,5 +1,5 @@
 //! Laws of whole journals.
-ghost use Rattle.std.specs.Prelude.{◌≡◌, ◌≤◌, ℕ, nat_lt, false, true, ◌⊎◌, List, ◌∷◌, ◌++◌, None, Some, Ok, Err};
+ghost use Rattle.std.specs.Prelude.{◌≡◌, ◌≤◌, ℕ, nat_lt, false, true, ◌⊎◌, List, [], ◌∷◌, ◌++◌, None, Some, Ok, Err};
 ghost use Rattle.std.specs.List.{Contains};
 ghost use Rattle.upd_text.specs.declared.fault.Fault.{Fault};
 ghost use Rattle.upd_core.specs.Library.{LibraryView};
@@ -16,6 +16,12 @@ ghost use Rattle.upd_desk.specs.Outcomes.{ReplyView, outcome};
 #[tactic(auto, using(crate::proofs::LawLemmas::distinct_first))]
 pub fn distinct_runs_are_first_arrivals()
     ensures { (journal : Journal) → distinct journal ≡ first_arrivals (heard journal) }
+{}
+
+/// Tables without rows, as those of a library that has just been made, hold the empty journal.
+pub fn empty_tables_hold_the_empty_journal()
+    ensures { Holds [] (record { idents = []; cards = []; entries = []; targets = []; runs = []; states = [];
+        counts = []; settled = [] }) }
 {}
 
 /// A site's mark is the greatest number that it has settled, and 0 where it never did.
