@@ -32,6 +32,8 @@ impl Meaning for WrittenStore {
 
     ghost is_open = { λ _. Unit {0} };
 
+    ghost open_once = { λ _ _ _. refl };
+
     ghost is_honest = { λ _. Unit {0} };
 
     ghost may_leave = { λ s image. image ≡ s.lists.tables };
@@ -93,9 +95,7 @@ impl RowStore for WrittenStore {
 
     ghost shows_one = { λ i a b shown other. sym shown ∙ other };
 
-    ghost leaves_image = { λ s i _ _ left. left };
-
-    ghost stays = { λ s _ _. refl };
+    ghost leaves_image = { λ s i _ _ left rows shown. left ∙ shown };
 
     ghost survives = { λ s _. ∣ (_, refl) ∣₁ };
 }
