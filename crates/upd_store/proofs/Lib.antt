@@ -1,3 +1,2 @@
 mod VersionLemmas
-mod BeginningLemmas
 pub mod Opening
