@@ -19,8 +19,9 @@ use upd_text::Fault;
 
 /// Tables of rows that are changed by commits, each of which is all or nothing, also in a crash.
 ///
-/// Each call but `failures` and `decks_read` can answer NoMemory or Store, at 0. Nothing is changed then. A failure
-/// may close the store: from then on each call answers Store, and what it keeps is found when it is opened again.
+/// Each call but `failures` and `decks_read` can answer NoMemory or Store, at 0. Nothing is changed then. Only a failure
+/// of the disk closes the store: from then on each call answers Store, and what it keeps is found when it is opened
+/// again.
 pub trait RowStore: Meaning {
     /// The whole library, from its idents, cards, entries and targets.
     fn load(&mut self, alloc: Global) -> Result<Library, Fault>
@@ -96,7 +97,7 @@ pub trait RowStore: Meaning {
         ensures leaves { LeavesWrite Self.Meaning (λ _. Unit {0}) (settled_to site.now number)
             result self.old self.new };
 
-    /// How often the store has failed, up to the greatest value.
+    /// How often a call has answered Store, up to the greatest value.
     fn failures(&self) -> u64
         ensures { result ≡ Self.failures_of self.now };
 
