@@ -15,7 +15,7 @@ use crate::meaning::Meaning;
 use std::alloc::Global;
 use upd_core::{Actives, CardRef, Change, Library, Serial, States};
 use upd_records::{LibraryRows, RunRow};
-use upd_text::Fault;
+use upd_text::{Fault, FaultKind};
 
 /// Tables of rows that are changed by commits, each of which is all or nothing, also in a crash.
 ///
@@ -40,10 +40,14 @@ pub trait RowStore: Meaning {
             (λ l rows found. found.items ≡ decks_with cards.now l) }
         ensures leaves { LeavesRead Self.Meaning result self.old self.new };
 
-    /// The rows that a library is made of, in no order.
-    fn library_rows(&mut self, alloc: Global) -> Result<LibraryRows, Fault>
+    /// The rows that a library is made of, in no order. A store need not have this call: it answers NoMemory then, and a
+    /// store in memory over it keeps no rows.
+    fn library_rows(&mut self, _: Global) -> Result<LibraryRows, Fault>
         ensures found { FindsRows Self.Meaning result self.old self.new AreRowsOf }
-        ensures leaves { LeavesRead Self.Meaning result self.old self.new };
+        ensures leaves { LeavesRead Self.Meaning result self.old self.new }
+    {
+        Err(FaultKind::NoMemory.without_line())
+    }
 
     /// The status of each card and the count of each target that a live yank card has, by the keys of their tables.
     fn load_states(&mut self, alloc: Global) -> Result<States, Fault>
