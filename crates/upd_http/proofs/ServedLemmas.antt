@@ -52,20 +52,20 @@ module _ {S : Type 0} (meaning : Ghosts S) where
   -- a query leaves what the store guards
   kept : (old new : S) (j : Journal) (h : List Event) → Keeps meaning old new → is_honest new → Guards meaning j h old → Guards meaning j h new
   kept old new j h keeps honest guards = record {
-    shown = λ opened. subst (λ i. HoldsIn shows j i) (sym (keeps.same honest opened)) (guards.shown (keeps.was_open honest opened));
+    shown = λ opened. subst (λ i. HoldsIn shows j i) (sym (keeps.same honest opened)) (guards.shown (keeps.later.was_open honest opened));
     left = λ i may. guards.left i (keeps.crash honest i may);
   }
 
   -- a call that was honest at its end was so at its beginning
   honest_before : (made : Made) (old new : S) → Leads meaning made old new → is_honest new → is_honest old
   honest_before None old new same honest = subst is_honest same honest
-  honest_before (Some (run site number mode bytes, told)) old new (result, arrives, more) honest = arrives.honest honest
-  honest_before (Some (settle site n, told)) old new (result, settles, more) honest = settles.honest honest
-  honest_before (Some (compile, told)) old new (result, tells, keeps, more) honest = keeps.honest honest
-  honest_before (Some (deck name, told)) old new (result, tells, keeps, more) honest = keeps.honest honest
-  honest_before (Some (card c, told)) old new (result, tells, keeps, more) honest = keeps.honest honest
-  honest_before (Some (idents, told)) old new (result, tells, keeps, more) honest = keeps.honest honest
-  honest_before (Some (yanks, told)) old new (result, tells, keeps, more) honest = keeps.honest honest
+  honest_before (Some (run site number mode bytes, told)) old new (result, arrives, more) honest = arrives.later.honest honest
+  honest_before (Some (settle site n, told)) old new (result, settles, more) honest = settles.later.honest honest
+  honest_before (Some (compile, told)) old new (result, tells, keeps, more) honest = keeps.later.honest honest
+  honest_before (Some (deck name, told)) old new (result, tells, keeps, more) honest = keeps.later.honest honest
+  honest_before (Some (card c, told)) old new (result, tells, keeps, more) honest = keeps.later.honest honest
+  honest_before (Some (idents, told)) old new (result, tells, keeps, more) honest = keeps.later.honest honest
+  honest_before (Some (yanks, told)) old new (result, tells, keeps, more) honest = keeps.later.honest honest
 
   -- one call
   goes_on : (made : Made) (old new : S) → Leads meaning made old new → is_honest new → (j : Journal) (h : List Event) → Guards meaning j h old

@@ -40,6 +40,8 @@ impl Meaning for WrittenStore {
 
     ghost failures_of = { λ _. 0 };
 
+    ghost disk_failures_of = { λ _. 0 };
+
     ghost decks_read_of = { λ s. s.lists.decks_read };
 }
 
