@@ -59,13 +59,13 @@ module _ {S : Type 0} (meaning : Ghosts S) where
   -- a call that was honest at its end was so at its beginning
   honest_before : (made : Made) (old new : S) → Leads meaning made old new → is_honest new → is_honest old
   honest_before None old new same honest = subst is_honest same honest
-  honest_before (Some (run site number mode bytes, told)) old new (result, arrives, more) honest = arrives.later.honest honest
-  honest_before (Some (settle site n, told)) old new (result, settles, more) honest = settles.later.honest honest
-  honest_before (Some (compile, told)) old new (result, tells, keeps, more) honest = keeps.later.honest honest
-  honest_before (Some (deck name, told)) old new (result, tells, keeps, more) honest = keeps.later.honest honest
-  honest_before (Some (card c, told)) old new (result, tells, keeps, more) honest = keeps.later.honest honest
-  honest_before (Some (idents, told)) old new (result, tells, keeps, more) honest = keeps.later.honest honest
-  honest_before (Some (yanks, told)) old new (result, tells, keeps, more) honest = keeps.later.honest honest
+  honest_before (Some (run site number mode bytes, told)) old new (result, arrives, fails, same) honest = arrives.later.honest honest
+  honest_before (Some (settle site n, told)) old new (result, settles, fails, tells) honest = settles.later.honest honest
+  honest_before (Some (compile, told)) old new (result, tells, keeps, fails, same) honest = keeps.later.honest honest
+  honest_before (Some (deck name, told)) old new (result, tells, keeps, fails, same) honest = keeps.later.honest honest
+  honest_before (Some (card c, told)) old new (result, tells, keeps, fails, same) honest = keeps.later.honest honest
+  honest_before (Some (idents, told)) old new (result, tells, keeps, fails, same) honest = keeps.later.honest honest
+  honest_before (Some (yanks, told)) old new (result, tells, keeps, fails, same) honest = keeps.later.honest honest
 
   -- one call
   goes_on : (made : Made) (old new : S) → Leads meaning made old new → is_honest new → (j : Journal) (h : List Event) → Guards meaning j h old
@@ -81,11 +81,11 @@ module _ {S : Type 0} (meaning : Ghosts S) where
         shown = λ opened. settles.holds honest j guards.shown opened;
         left = settles.leaves honest j h guards;
       })
-  goes_on (Some (compile, told)) old new (result, tells, keeps, more) honest j h guards = kept old new j h keeps honest guards
-  goes_on (Some (deck name, told)) old new (result, tells, keeps, more) honest j h guards = kept old new j h keeps honest guards
-  goes_on (Some (card c, told)) old new (result, tells, keeps, more) honest j h guards = kept old new j h keeps honest guards
-  goes_on (Some (idents, told)) old new (result, tells, keeps, more) honest j h guards = kept old new j h keeps honest guards
-  goes_on (Some (yanks, told)) old new (result, tells, keeps, more) honest j h guards = kept old new j h keeps honest guards
+  goes_on (Some (compile, told)) old new (result, tells, keeps, fails, same) honest j h guards = kept old new j h keeps honest guards
+  goes_on (Some (deck name, told)) old new (result, tells, keeps, fails, same) honest j h guards = kept old new j h keeps honest guards
+  goes_on (Some (card c, told)) old new (result, tells, keeps, fails, same) honest j h guards = kept old new j h keeps honest guards
+  goes_on (Some (idents, told)) old new (result, tells, keeps, fails, same) honest j h guards = kept old new j h keeps honest guards
+  goes_on (Some (yanks, told)) old new (result, tells, keeps, fails, same) honest j h guards = kept old new j h keeps honest guards
 
   -- calls one after the other
   pub all_go_on : (made : List Made) (old new : S) → LeadsThrough meaning made old new → is_honest new → (j : Journal) (h : List Event)
