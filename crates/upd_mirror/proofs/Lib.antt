@@ -1,1 +1,3 @@
 mod RefLemmas
+mod KeptLemmas
+mod MirrorLemmas

@@ -1,9 +1,8 @@
 -- References are the same where the order of the maps' keys says so.
-use Rattle.std.proofs.Common.{◌≡◌, Bool, true, false, if◌then◌else◌, List, [], Option, Some, None, refl, ap}
+use Rattle.std.proofs.Common.{◌≡◌, true, refl, ap, sym, ◌∙◌}
 use Rattle.std.proofs.lemmas.Cmp.{nat_cmp_total, nat_list_cmp_total, on_total, then_total}
 use Rattle.std.proofs.lemmas.Map.Lookups.{CmpEqualImpliesEq}
-use Rattle.std.specs.Cmp.{IsTotalOrder}
-use Rattle.std.specs.Option.{UnwrapsOrElse, option_map_or}
+use Rattle.std.specs.Cmp.{IsTotalOrder, eq_by_cmp_equiv}
 use Rattle.std.specs.Ordering.{is_eq}
 use Rattle.std.specs.declared.cmp.Ordering.{Ordering}
 use Rattle.std.specs.declared.cmp.Ordering.TheVariants.{Less, Equal, Greater}
@@ -25,17 +24,16 @@ pub one_by_order : (a b : CardRef) → is_eq (by_name a b) ≡ true → a ≡ b
 one_by_order a b e = go (by_name a b) refl e
   where
     go : (o : Ordering) → by_name a b ≡ o → is_eq o ≡ true → a ≡ b
-    go Less is e = cc
+    go Less is e = absurd (cc)
     go Equal is e = refs_exact a b is
-    go Greater is e = cc
+    go Greater is e = absurd (cc)
 
--- both ways of a choice
-pub by_choice : {A : Type 0} (b : Bool) {x y z : A} → (b ≡ true → z ≡ x) → (b ≡ false → z ≡ y) → z ≡ (if b then x else y)
-by_choice true so otherwise = so refl
-by_choice false so otherwise = otherwise refl
+pub one_ref : (a b : CardRef) → same_ref a b ≡ true → a ≡ b
+one_ref a b e = one_by_order a b (sym (same_by_order a b) ∙ e)
 
--- a value that is there, or one that is made with no rows
-pub or_empty : {X R : Type 0} (items : X → List R) (P : X → Type 0) (had : Option X) (value : X) → UnwrapsOrElse had (λ v. (items v ≡ []) × P v) value
-    → items value ≡ option_map_or items had []
-or_empty items P None value is = is.0
-or_empty items P (Some v) value is = ap items is
+pub turned : (a b : CardRef) → is_eq (by_name a b) ≡ same_ref b a
+turned a b = (eq_by_cmp_equiv refs_total).symm a b ∙ sym (same_by_order b a)
+
+-- a row of a card is one of another where the cards are the same
+pub alike : (card other row : CardRef) → same_ref other row ≡ true → same_ref card row ≡ is_eq (by_name card other)
+alike card other row same = ap (same_ref card) (sym (one_ref other row same)) ∙ same_by_order card other

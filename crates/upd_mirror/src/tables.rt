@@ -1,6 +1,6 @@
 //! Rows in memory, one table at a time.
 
-ghost use Rattle.std.specs.Prelude.{◌≡◌, ◌==◌, ◌+◌, ◌∷◌, ◌++◌, ℕ, [], Some, not, if◌then◌else◌, map, length, OnOk};
+ghost use Rattle.std.specs.Prelude.{◌≡◌, ◌==◌, ◌∷◌, ◌++◌, ℕ, [], None, Some, false, not, if◌then◌else◌, map, length, OnOk};
 ghost use Rattle.std.specs.BTreeMap.{get};
 ghost use Rattle.std.specs.List.{filter};
 ghost use Rattle.std.specs.Ordering.{is_eq};
@@ -9,7 +9,7 @@ ghost use Rattle.upd_text.specs.declared.card_ref.CardRef.{CardRef};
 ghost use Rattle.upd_core.specs.Targets.{is_same};
 ghost use Rattle.upd_records.specs.Changes.{purged_row};
 ghost use Rattle.upd_records.specs.Rows.{same_ref};
-ghost use Rattle.upd_mirror.specs.Kept.{cards_at, entries_at, moved_place, placed_row};
+ghost use Rattle.upd_mirror.specs.Kept.{cards_at, entries_at, is_home, moved_place, placed_row};
 
 use std::alloc::{AllocError, Global};
 use std::collections::BTreeMap;
@@ -32,13 +32,20 @@ fn purged(ident: Ident, age: Serial) -> Ident
     }
 }
 
-/// The ident of an age is no longer held.
-pub(crate) fn purge_ident(idents: &mut [Ident], age: Serial)
+/// The ident of an age, of these, is no longer held.
+fn purge_in(idents: &mut [Ident], age: Serial)
     ensures { idents.new ≡ map (purged_row age) idents.old }
 {
     for ident in idents.iter_mut() {
         *ident = purged(*ident, age);
     }
+}
+
+/// The ident of an age is no longer held.
+pub(crate) fn purge_ident(idents: &mut Vec<Ident>, age: Serial)
+    ensures { idents.new.items ≡ map (purged_row age) idents.old.items }
+{
+    purge_in(idents, age);
 }
 
 /// Takes a card's targets away.
@@ -77,7 +84,7 @@ fn drop_card(cards: &mut Vec<CardRow>, card: &CardRef)
 }
 
 /// Takes a card's row out of a deck.
-pub(crate) fn drop_card_of(
+fn drop_card_of(
     decks: &mut BTreeMap<Serial, Vec<CardRow>>,
     deck: Serial,
     card: &CardRef,
@@ -132,6 +139,80 @@ pub(crate) fn move_cards_of(
     if let Some(cards) = decks.get_mut(&deck) {
         move_cards(cards, deck, from, by);
     }
+}
+
+// ---- the decks of cards
+
+/// Notes the deck of a card.
+pub(crate) fn put_home(
+    homes: &mut BTreeMap<CardRef, Serial>,
+    card: CardRef,
+    deck: Serial,
+) -> Result<(), AllocError>
+    ensures { OnOk result ((c : CardRef) (d : ℕ) → is_home homes.new c d
+        ≡ (if is_eq (by_name card c) then deck == d else is_home homes.old c d)) }
+{
+    homes.insert(card, deck)?;
+    Ok(())
+}
+
+/// A card is in no deck.
+pub(crate) fn drop_home(homes: &mut BTreeMap<CardRef, Serial>, card: &CardRef)
+    ensures { (c : CardRef) (d : ℕ) → is_home homes.new c d
+        ≡ (if is_eq (by_name card.now c) then false else is_home homes.old c d) }
+{
+    homes.remove(card);
+}
+
+/// The deck of a card.
+pub(crate) fn home_of(homes: &BTreeMap<CardRef, Serial>, card: &CardRef) -> Option<Serial>
+    ensures { result ≡ get by_name homes.now card.now }
+{
+    homes.get(card).copied()
+}
+
+/// Takes a card's row out of the deck that it is known to be in.
+pub(crate) fn drop_at_home(
+    decks: &mut BTreeMap<Serial, Vec<CardRow>>,
+    homes: &BTreeMap<CardRef, Serial>,
+    card: &CardRef,
+)
+    ensures { (d : ℕ) → cards_at decks.new d ≡ (if is_home homes.now card.now d
+        then filter (λ r. not (same_ref card.now r.card)) (cards_at decks.old d) else cards_at decks.old d) }
+{
+    if let Some(deck) = home_of(homes, card) {
+        drop_card_of(decks, deck, card);
+    }
+}
+
+// ---- statuses, by card
+
+/// Sets the status of a card.
+pub(crate) fn put_status(
+    statuses: &mut BTreeMap<CardRef, bool>,
+    card: CardRef,
+    active: bool,
+) -> Result<(), AllocError>
+    ensures { OnOk result ((c : CardRef) → get by_name statuses.new c
+        ≡ (if is_eq (by_name card c) then Some active else get by_name statuses.old c)) }
+{
+    statuses.insert(card, active)?;
+    Ok(())
+}
+
+/// Takes the status of a card away.
+pub(crate) fn drop_status(statuses: &mut BTreeMap<CardRef, bool>, card: &CardRef)
+    ensures { (c : CardRef) → get by_name statuses.new c
+        ≡ (if is_eq (by_name card.now c) then None else get by_name statuses.old c) }
+{
+    statuses.remove(card);
+}
+
+/// The status of a card.
+pub(crate) fn status_of(statuses: &BTreeMap<CardRef, bool>, card: &CardRef) -> Option<bool>
+    ensures { result ≡ get by_name statuses.now card.now }
+{
+    statuses.get(card).copied()
 }
 
 // ---- entries, by card
