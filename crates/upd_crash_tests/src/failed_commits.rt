@@ -9,7 +9,7 @@ use std::test::Fail;
 use upd_core::{Actives, CardRef, Change, Library, Serial, States};
 use upd_desk::{Arrival, Desk};
 use upd_list_store::ListStore;
-use upd_records::RunRow;
+use upd_records::{LibraryRows, RunRow};
 use upd_row_store::{Meaning, RowStore};
 use upd_testkit::asks::{Ask, Sent, lyon, shown};
 use upd_testkit::check::{holds, same, same_text};
@@ -51,6 +51,8 @@ impl Meaning for Failing {
 
     ghost is_open = { λ _. Unit {0} };
 
+    ghost open_once = { λ _ _ _. refl };
+
     ghost is_honest = { λ _. Unit {0} };
 
     ghost may_leave = { λ s image. image ≡ s.lists.tables };
@@ -71,6 +73,10 @@ impl RowStore for Failing {
 
     fn decks_of(&mut self, alloc: Global, cards: &[CardRef]) -> Result<Vec<Serial>, Fault> {
         self.lists.decks_of(alloc, cards)
+    }
+
+    fn library_rows(&mut self, alloc: Global) -> Result<LibraryRows, Fault> {
+        self.lists.library_rows(alloc)
     }
 
     fn load_states(&mut self, alloc: Global) -> Result<States, Fault> {
@@ -117,9 +123,7 @@ impl RowStore for Failing {
 
     ghost shows_one = { λ i a b shown other. sym shown ∙ other };
 
-    ghost leaves_image = { λ s i _ _ left. left };
-
-    ghost stays = { λ s _ _. refl };
+    ghost leaves_image = { λ s i _ _ left rows shown. left ∙ shown };
 
     ghost survives = { λ s _. ∣ (_, refl) ∣₁ };
 }

@@ -52,6 +52,10 @@ module _ {Image : Type 0} (shows : Image → Rows → Type 0) where
   pub holds_in_alike : (a b : Journal) (i : Image) → Alike a b → HoldsIn shows a i → HoldsIn shows b i
   holds_in_alike a b i alike held = (held.0, held.1, holds_alike a b held.0 alike held.2)
 
+  -- what shows the same tables holds what is expected
+  pub left_held : (j : Journal) (kept left : Image) → ((rows : Rows) → shows kept rows → shows left rows) → HoldsIn shows j kept → HoldsIn shows j left
+  left_held j kept left same held = (held.0, same held.0 held.1, held.2)
+
   -- what is left after a journal is left after one that is continued alike
   pub left_alike : (a b : Journal) (hand : List Event) (i : Image) → Alike a b → IsLeft shows a hand i → IsLeft shows b hand i
   left_alike a b hand i alike (inl held) = inl (holds_in_alike a b i alike held)
@@ -70,7 +74,11 @@ module _ {Image : Type 0} (shows : Image → Rows → Type 0) where
 -- ---- answers
 
 module _ {S : Type 0} (meaning : Ghosts S) where
-  open meaning use {shows, image, is_open}
+  open meaning use {Image, shows, image, is_open, is_honest, may_leave}
+
+  -- a crash leaves the tables that an open store keeps
+  abbrev pub LeavesTables : Type 0
+  LeavesTables = (s : S) (i : Image) → is_honest s → is_open s → may_leave s i → (rows : Rows) → shows (image s) rows → shows i rows
 
   -- What is known of an arrival that is looked up: it passed the admission checks, its number is above the mark that the tables hold, and what is kept.
   pub record IsAsked (mode : Mode) (a : ArrivalView) (kept : Option RunView) (s : S) : Type 0 where
@@ -103,17 +111,17 @@ module _ {S : Type 0} {meaning : Ghosts S} where
       alike honest j held = alike_unheard j a (refused_unheard j a f (answers honest j held))
 
   -- A call that only read, and a stored reply: nothing changed, and nothing is in hand.
-  pub tells : (settles : (s : S) (i : Image) → is_honest s → is_open s → may_leave s i → i ≡ image s) (a : ArrivalView) (reply : ReplyView)
+  pub tells : (leaves : LeavesTables meaning) (a : ArrivalView) (reply : ReplyView)
       (old new : S) → Keeps meaning old new → (is_honest new → is_open new)
       → (is_honest new → (j : Journal) → IsHeld meaning j old → (answer j a ≡ Ok reply) × (distinct (Came a ∷ j) ≡ distinct j)) → Arrives meaning a (Ok reply) old new
-  tells settles a reply old new keeps opens answers = record {
+  tells leaves a reply old new keeps opens answers = record {
     honest = keeps.honest;
     was_open = keeps.was_open;
     counts = keeps.counts;
     answers = λ honest j held. (answers honest j held).0;
     holds = holds;
     leaves = λ honest j hand guards i may.
-        inl (subst (HoldsIn shows (Came a ∷ j)) (sym (settles new i honest (opens honest) may)) (holds honest j guards.shown (opens honest)));
+        inl (left_held shows (Came a ∷ j) (image new) i (leaves new i honest (opens honest) may) (holds honest j guards.shown (opens honest)));
   }
     where
       holds : is_honest new → (j : Journal) → IsHeld meaning j old → is_open new → HoldsIn shows (Came a ∷ j) (image new)
@@ -160,20 +168,20 @@ module _ {S : Type 0} {meaning : Ghosts S} where
 
   -- A new run was kept: the store holds the journal with it, and nothing is in hand.
   pub keeps_new : (made : (j : Journal) → IsMade (library_after j))
-      (settles : (s : S) (i : Image) → is_honest s → is_open s → may_leave s i → i ≡ image s) (mode : Mode) (a : ArrivalView) (reply : ReplyView)
+      (leaves : LeavesTables meaning) (mode : Mode) (a : ArrivalView) (reply : ReplyView)
       (old new : S) → TriesRun meaning mode a old new → (is_honest old → IsAsked meaning mode a None old)
       → (is_honest new → is_open new) → (is_honest new → Becomes shows mode a (image old) (image new))
       → (is_honest new → (l : LibraryView) → IsMade l → (rows : Rows) → shows (image old) rows → Shows rows l → ShowsStates rows l
       → reply ≡ (outcome mode a l).reply)
       → Arrives meaning a (Ok reply) old new
-  keeps_new made settles mode a reply old new tries is_new opens becomes replies = record {
+  keeps_new made leaves mode a reply old new tries is_new opens becomes replies = record {
     honest = tries.honest;
     was_open = tries.was_open;
     counts = tries.counts;
     answers = λ honest j held. owed honest j (held (was_open honest));
     holds = holds;
     leaves = λ honest j hand guards i may.
-        inl (subst (HoldsIn shows (Came a ∷ j)) (sym (settles new i honest (opens honest) may)) (holds honest j guards.shown (opens honest)));
+        inl (left_held shows (Came a ∷ j) (image new) i (leaves new i honest (opens honest) may) (holds honest j guards.shown (opens honest)));
   }
     where
       was_open : is_honest new → is_open old
@@ -254,10 +262,10 @@ module _ {S : Type 0} {meaning : Ghosts S} where
       → HoldsIn shows j (image s) → (answer j a ≡ reply_to mode a (library_after j) (Some run)) × (distinct (Came a ∷ j) ≡ distinct j)
   known mode a run s j is asks (rows, shown, held) = answer_again j a mode rows run held asks.passed (asks.above is rows shown) (asks.found is rows shown)
 
-  pub tells_kept : (settles : (s : S) (i : Image) → is_honest s → is_open s → may_leave s i → i ≡ image s) (mode : Mode) (a : ArrivalView)
+  pub tells_kept : (leaves : LeavesTables meaning) (mode : Mode) (a : ArrivalView)
       (run : RunView) (reply : ReplyView) (s : S) → (is_honest s → is_open s) → (is_honest s → IsAsked meaning mode a (Some run) s)
       → ((l : LibraryView) → Ok reply ≡ reply_to mode a l (Some run)) → Arrives meaning a (Ok reply) s s
-  tells_kept settles mode a run reply s opens asks row_changes = tells settles a reply s s (keeps_still s) opens owed
+  tells_kept leaves mode a run reply s opens asks row_changes = tells leaves a reply s s (keeps_still s) opens owed
     where
       owed : is_honest s → (j : Journal) → IsHeld meaning j s → (answer j a ≡ Ok reply) × (distinct (Came a ∷ j) ≡ distinct j)
       owed honest j held =

@@ -14,7 +14,7 @@ use Rattle.upd_row_store.proofs.TableLemmas.{max_right, same_bytes, shows_settle
 use Rattle.upd_desk.specs.Arrivals.{is_run_number, is_site, check_key}
 use Rattle.upd_desk.specs.Journal.{Alike, Event, Settled, Journal, mark, library_after}
 use Rattle.upd_desk.specs.Holding.{Guards, Holds, HoldsIn, IsHeld, IsLeft, Settles, is_lost, mark_after}
-use Rattle.upd_desk.proofs.ArrivesLemmas.{holds_in_alike, left_here, left_more, lost_kind}
+use Rattle.upd_desk.proofs.ArrivesLemmas.{LeavesTables, holds_in_alike, left_held, left_here, left_more, lost_kind}
 use Rattle.upd_desk.proofs.KeptLemmas.{kept_settled, mark_settled}
 
 -- a refusal of a key is no lost call
@@ -78,17 +78,17 @@ module _ {S : Type 0} {meaning : Ghosts S} where
   }
 
   -- what is at or below the mark is settled already: the mark is the answer
-  pub tells_mark : (settles : (s : S) (i : Image) → is_honest s → is_open s → may_leave s i → i ≡ image s) (site : List ℕ) (n m : ℕ) (old new : S)
+  pub tells_mark : (leaves : LeavesTables meaning) (site : List ℕ) (n m : ℕ) (old new : S)
       → Keeps meaning old new → (is_honest new → is_open new) → check_key site n ≡ Ok false
       → (is_honest new → (rows : Rows) → shows (image old) rows → m ≡ mark_at site rows) → n ≤ m → Settles meaning site n (Ok m) old new
-  tells_mark settles site n m old new keeps opens passed found below = record {
+  tells_mark leaves site n m old new keeps opens passed found below = record {
     honest = keeps.honest;
     was_open = keeps.was_open;
     counts = keeps.counts;
     answers = λ honest j held. owed honest j (held (was_open honest));
     holds = holds;
     leaves = λ honest j hand guards i may.
-        inl (subst (HoldsIn shows (Settled site n ∷ j)) (sym (settles new i honest (opens honest) may)) (holds honest j guards.shown (opens honest)));
+        inl (left_held shows (Settled site n ∷ j) (image new) i (leaves new i honest (opens honest) may) (holds honest j guards.shown (opens honest)));
   }
     where
       was_open : is_honest new → is_open old
@@ -113,21 +113,21 @@ module _ {S : Type 0} {meaning : Ghosts S} where
           (holds_in_alike shows j (Settled site n ∷ j) (image old) (alike honest j before) before)
 
   -- a settlement that was carried out after a call that only read
-  pub settles_after : (settles : (s : S) (i : Image) → is_honest s → is_open s → may_leave s i → i ≡ image s) (site : List ℕ) (n m : ℕ)
+  pub settles_after : (leaves : LeavesTables meaning) (site : List ℕ) (n m : ℕ)
       (old mid new : S) → Keeps meaning old mid
       → Tries meaning (λ _. Unit {0}) (settled_to site n) mid new → (is_honest new → is_open new)
       → check_key site n ≡ Ok false
       → (is_honest new → (rows : Rows) → shows (image mid) rows
       → (m ≡ mark_at site (settled_to site n rows)) × shows (image new) (settled_to site n rows))
       → Settles meaning site n (Ok m) old new
-  settles_after settles site n m old mid new keeps tries opens passed done = record {
+  settles_after leaves site n m old mid new keeps tries opens passed done = record {
     honest = λ honest. keeps.honest (tries.honest honest);
     was_open = λ honest is. keeps.was_open (tries.honest honest) (tries.was_open honest is);
     counts = (let less = keeps.counts in let more = tries.counts in grind arith);
     answers = λ honest j held. owed honest j (there honest j held);
     holds = λ honest j held is. holds honest j (there honest j held);
     leaves = λ honest j hand guards i may.
-        inl (subst (HoldsIn shows (Settled site n ∷ j)) (sym (settles new i honest (opens honest) may)) (holds honest j (there honest j guards.shown)));
+        inl (left_held shows (Settled site n ∷ j) (image new) i (leaves new i honest (opens honest) may) (holds honest j (there honest j guards.shown)));
   }
     where
       there : is_honest new → (j : Journal) → IsHeld meaning j old → HoldsIn shows j (image mid)

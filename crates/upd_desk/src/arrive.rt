@@ -2,7 +2,7 @@
 
 ghost use Rattle.std.specs.Prelude.{◌≡◌, ◌≤◌, length, None, Ok, Some, IfErr, IfOk, OnErr, OnOk};
 ghost use Rattle.std.specs.Result.{result_map_both};
-ghost use Rattle.upd_records.specs.Rows.{Rows, ShowsStates};
+ghost use Rattle.upd_records.specs.Rows.{ShowsStates};
 ghost use Rattle.upd_core.specs.Library.{LibraryView};
 ghost use Rattle.upd_desk.specs.Arrivals.{check_arrival};
 ghost use Rattle.upd_desk.specs.Holding.{Arrives, Becomes, FindsMade, LooksAt};
@@ -11,8 +11,7 @@ ghost use Rattle.upd_desk.specs.Made.{looked_at};
 ghost use Rattle.upd_desk.specs.Needed.{needed};
 ghost use Rattle.upd_desk.specs.Journal.{reply_to, run_of};
 ghost use Rattle.upd_desk.specs.Outcomes.{compiled, outcome};
-ghost use Rattle.upd_row_store.specs.Keeping.{CountsFailure, IsLost, IsShown};
-ghost use Rattle.upd_row_store.specs.Tables.{run_at};
+ghost use Rattle.upd_row_store.specs.Keeping.{CountsFailure, IsLost};
 ghost use Rattle.upd_text.specs.Faults.{fault_at};
 ghost use Rattle.upd_text.specs.declared.fault.FaultKind.TheVariants.{NoMemory};
 ghost use Rattle.upd_yank.specs.Affected.{altered};
@@ -71,8 +70,6 @@ fn keep_new<S: RowStore>(
     arrival: &Arrival<'_>,
 ) -> Result<Answered, Fault>
     requires passed { check_arrival arrival.now ≡ Ok mode }
-    requires new_key { S.is_honest store.old → S.is_open store.old → (rows : Rows) → IsShown S.Meaning rows store.old
-        → run_at arrival.now.site arrival.now.number rows ≡ None }
     ensures tries { TriesRun S.Meaning mode arrival.now store.old store.new }
     ensures open { S.is_honest store.new → OnOk result (S.is_open store.new) }
     ensures becomes { S.is_honest store.new

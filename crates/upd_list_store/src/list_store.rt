@@ -7,7 +7,7 @@ ghost use Rattle.upd_records.specs.Rows.{Rows};
 use crate::list_tables::ListTables;
 use std::alloc::Global;
 use upd_core::{Actives, CardRef, Change, Library, Serial, States};
-use upd_records::{RunRow, copy_run};
+use upd_records::{LibraryRows, RunRow, copy_run};
 use upd_row_store::{Meaning, RowStore, reads_with};
 use upd_text::Fault;
 
@@ -59,6 +59,8 @@ impl Meaning for ListStore {
 
     ghost is_open = { λ _. Unit {0} };
 
+    ghost open_once = { λ _ _ _. refl };
+
     ghost is_honest = { λ _. Unit {0} };
 
     ghost may_leave = { λ s image. image ≡ s.tables };
@@ -84,6 +86,11 @@ impl RowStore for ListStore {
     fn decks_of(&mut self, alloc: Global, cards: &[CardRef]) -> Result<Vec<Serial>, Fault> {
         let decks = self.tables.decks_of(alloc, cards)?;
         Ok(decks)
+    }
+
+    fn library_rows(&mut self, alloc: Global) -> Result<LibraryRows, Fault> {
+        let rows = self.tables.library_rows(alloc)?;
+        Ok(rows)
     }
 
     fn load_states(&mut self, alloc: Global) -> Result<States, Fault> {
@@ -140,9 +147,7 @@ impl RowStore for ListStore {
 
     ghost shows_one = { λ i a b shown other. sym shown ∙ other };
 
-    ghost leaves_image = { λ s i _ _ left. left };
-
-    ghost stays = { λ s _ _. refl };
+    ghost leaves_image = { λ s i _ _ left rows shown. left ∙ shown };
 
     ghost survives = { λ s _. ∣ (_, refl) ∣₁ };
 }

@@ -106,7 +106,7 @@ impl ListTables {
     }
 
     /// The rows that make the library; memory alone can fail.
-    fn library_rows(&self, alloc: Global) -> Result<LibraryRows, AllocError>
+    pub(crate) fn library_rows(&self, alloc: Global) -> Result<LibraryRows, AllocError>
         ensures { IfOk result (AreRowsOf self.now) }
     {
         let idents = Vec::from_slice(alloc, &self.idents)?;

@@ -17,6 +17,9 @@ pub trait Meaning {
     // No failure has closed the store.
     ghost is_open: { Self → Type 0 };
 
+    // That it is open is a fact: there is at most one proof of it.
+    ghost open_once: { (s : Self) → IsProp (is_open s) };
+
     // The premise: the disk has returned what was written to it.
     ghost is_honest: { Self → Type 0 };
 

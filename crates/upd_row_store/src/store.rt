@@ -1,10 +1,11 @@
 //! What a store of rows promises.
-ghost use Rattle.std.specs.Prelude.{◌≡◌, None, OnOk, map};
+ghost use Rattle.std.specs.Prelude.{◌≡◌, OnOk, map};
 ghost use Rattle.upd_core.specs.Actives.{actives_of};
 ghost use Rattle.upd_records.specs.Changes.{change_view};
 ghost use Rattle.upd_records.specs.Rows.{Rows, ShowsStates};
 ghost use Rattle.upd_records.specs.Fits.{AllFit};
 ghost use Rattle.upd_row_store.specs.Asked.{decks_with};
+ghost use Rattle.upd_row_store.specs.Assembling.{AreRowsOf};
 ghost use Rattle.upd_row_store.specs.Keeping.{FindsLibrary, FindsRows, IsShown, LeavesLoad, LeavesRead, LeavesWrite};
 ghost use Rattle.upd_core.specs.Parts.{part_of};
 ghost use Rattle.upd_row_store.specs.Tables.{AreByKey, AreRead, AreReadOf, committed, mark_at, run_at, settled_to};
@@ -13,7 +14,7 @@ use crate::asked::states_among;
 use crate::meaning::Meaning;
 use std::alloc::Global;
 use upd_core::{Actives, CardRef, Change, Library, Serial, States};
-use upd_records::RunRow;
+use upd_records::{LibraryRows, RunRow};
 use upd_text::Fault;
 
 /// Tables of rows that are changed by commits, each of which is all or nothing, also in a crash.
@@ -36,6 +37,11 @@ pub trait RowStore: Meaning {
     fn decks_of(&mut self, alloc: Global, cards: &[CardRef]) -> Result<Vec<Serial>, Fault>
         ensures found { FindsLibrary Self.Meaning result self.old self.new
             (λ l rows found. found.items ≡ decks_with cards.now l) }
+        ensures leaves { LeavesRead Self.Meaning result self.old self.new };
+
+    /// The rows that a library is made of, in no order.
+    fn library_rows(&mut self, alloc: Global) -> Result<LibraryRows, Fault>
+        ensures found { FindsRows Self.Meaning result self.old self.new AreRowsOf }
         ensures leaves { LeavesRead Self.Meaning result self.old self.new };
 
     /// The status of each card and the count of each target that a live yank card has, by the keys of their tables.
@@ -76,8 +82,6 @@ pub trait RowStore: Meaning {
     /// Carries out row changes and stores their run, in one transaction. The changes have to fit the tables: no
     /// clause says what others leave.
     fn commit(&mut self, alloc: Global, changes: &[Change], run: RunRow) -> Result<(), Fault>
-        requires new_key { Self.is_honest self.old → Self.is_open self.old → (rows : Rows) → IsShown Self.Meaning rows self.old
-            → run_at run.site run.number rows ≡ None }
         ensures done { Self.is_honest self.new → OnOk result ((rows : Rows) → IsShown Self.Meaning rows self.old
             → AllFit (map change_view changes.now) rows
             → IsShown Self.Meaning (committed (map change_view changes.now) run rows) self.new) }
@@ -103,10 +107,9 @@ pub trait RowStore: Meaning {
     // An image shows one set of tables, at most.
     ghost shows_one: { (i : Self.Image) (a b : Rows) → Self.shows i a → Self.shows i b → a ≡ b };
 
-    // While the store is open, a crash leaves what it keeps, and nothing else.
-    ghost leaves_image: { (s : Self) (i : Self.Image) → Self.is_honest s → Self.is_open s → Self.may_leave s i → i ≡ Self.image s };
-
-    ghost stays: { (s : Self) → Self.is_honest s → Self.is_open s → Self.may_leave s (Self.image s) };
+    // While the store is open, a crash leaves the tables that it keeps, and no others.
+    ghost leaves_image: { (s : Self) (i : Self.Image) → Self.is_honest s → Self.is_open s → Self.may_leave s i
+        → (rows : Rows) → Self.shows (Self.image s) rows → Self.shows i rows };
 
     // A crash leaves something, whatever failed before it.
     ghost survives: { (s : Self) → Self.is_honest s → ∥ ((i : Self.Image) × Self.may_leave s i) ∥₁ };

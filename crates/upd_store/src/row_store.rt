@@ -9,7 +9,7 @@ use crate::sql_store::SqlStore;
 use sqlite::Connection;
 use std::alloc::Global;
 use upd_core::{Actives, CardRef, Change, Library, Serial, States};
-use upd_records::RunRow;
+use upd_records::{LibraryRows, RunRow};
 use upd_row_store::{
     Meaning, RowStore, assembled, assembled_active, assembled_with_rest, decks_by_age, reads_with,
 };
@@ -35,6 +35,7 @@ impl<S: Rising> Meaning for SqlStore<S> {
     ghost use Rattle.sqlite.specs.Held.{state};
     ghost use Rattle.sqlite.specs.State.{HasCleanDisk};
     ghost use Rattle.upd_sql.specs.Commits.{ShowsIn};
+    ghost use Rattle.upd_store.specs.One.{is_once};
 
     ghost Image = { Trees };
 
@@ -43,6 +44,8 @@ impl<S: Rising> Meaning for SqlStore<S> {
     ghost image = { λ s. (state S.Store s.conn).committed.trees };
 
     ghost is_open = { λ s. IsTrue (state S.Store s.conn).is_open };
+
+    ghost open_once = { λ s. is_once (state S.Store s.conn).is_open };
 
     ghost is_honest = { λ s. HasCleanDisk (state S.Store s.conn) };
 
@@ -54,6 +57,8 @@ impl<S: Rising> Meaning for SqlStore<S> {
 }
 
 impl<S: Rising> RowStore for SqlStore<S> {
+    ghost use Rattle.std.proofs.Common.{subst, sym};
+    ghost use Rattle.upd_sql.specs.Commits.{ShowsIn};
     ghost use Rattle.upd_store.specs.One.{shows_one};
 
     fn load(&mut self, alloc: Global) -> Result<Library, Fault> {
@@ -102,6 +107,16 @@ impl<S: Rising> RowStore for SqlStore<S> {
         }
         match stored_decks_of(&mut self.conn, alloc, cards) {
             Ok(ages) => Ok(decks_by_age(ages)),
+            Err(error) => Err(counted(error, &mut self.failures)),
+        }
+    }
+
+    fn library_rows(&mut self, alloc: Global) -> Result<LibraryRows, Fault> {
+        if !is_ours(&self.conn) {
+            return Err(refused(&mut self.failures));
+        }
+        match stored_library_rows(&mut self.conn, alloc) {
+            Ok(rows) => Ok(rows),
             Err(error) => Err(counted(error, &mut self.failures)),
         }
     }
@@ -195,9 +210,8 @@ impl<S: Rising> RowStore for SqlStore<S> {
 
     ghost shows_one = { shows_one };
 
-    ghost leaves_image = { λ s i clean is_open may. S.Store.settled s.conn.store i is_open may };
-
-    ghost stays = { λ s clean is_open. S.Store.stays s.conn.store is_open };
+    ghost leaves_image = { λ s i clean is_open may rows shown.
+        subst (λ kept. ShowsIn kept rows) (sym (S.Store.settled s.conn.store i is_open may)) shown };
 
     ghost survives = { λ s clean. S.Store.survives s.conn.store clean };
 }
