@@ -1,3 +1,4 @@
 mod RefLemmas
 mod KeptLemmas
 mod MirrorLemmas
+mod FlatLemmas
