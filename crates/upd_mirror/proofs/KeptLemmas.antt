@@ -1,7 +1,8 @@
 -- Rows that are kept under keys stay those of a table when both change in the same way.
-use Rattle.std.proofs.Common.{◌≡◌, Bool, true, false, not, cond, List, [], ◌∷◌, ◌++◌, map, refl, ap, sym, ◌∙◌, subst, append-nil}
+use Rattle.std.proofs.Common.{◌≡◌, Bool, true, false, not, cond, List, [], ◌∷◌, ◌++◌, map, refl, ap, sym, ◌∙◌, subst, append-nil, append_assoc, ℕ, ◌+◌, ◌<◌, get_or, length, take}
 use Rattle.std.specs.Prelude.{◌&&◌, ◌||◌}
 use Rattle.std.specs.List.{filter, list_any}
+use Rattle.std.proofs.lemmas.List.{map-append, take_more}
 use Rattle.std.proofs.lemmas.List.Elements.{filter-append}
 use Rattle.upd_records.proofs.CountLemmas.{same_append, same_of}
 use Rattle.upd_records.specs.Rows.{IsSame}
@@ -145,3 +146,16 @@ module _ {K R : Type 0} (has : K → R → Bool) where
       go : (b : Bool) → hit k ≡ b → IsSame (cond b [] (old k)) (filter (has k) (filter (λ r. not (gone r)) all))
       go true e = same_of [] _ (sym (all_go (has k) gone all (λ r is. alike k r is ∙ e)))
       go false e = subst (IsSame (old k)) (sym (all_stay (has k) gone all (λ r is. alike k r is ∙ e))) (are k)
+
+-- ---- one row after the other
+
+pub one_taken : {A : Type 0} (front xs : List A) (i : ℕ) (x : A) → i < length xs → x ≡ get_or xs i x
+    → (front ++ take i xs) ++ x ∷ [] ≡ front ++ take (i + 1) xs
+one_taken front xs i x inside is =
+    append_assoc front (take i xs) (x ∷ []) ∙ ap (λ ys. front ++ ys) (ap (λ y. take i xs ++ y ∷ []) is ∙ sym (take_more xs i x inside))
+
+pub one_made : {A B : Type 0} (f : A → B) (front : List B) (xs : List A) (i : ℕ) (x : A) → i < length xs → x ≡ get_or xs i x
+    → (front ++ map f (take i xs)) ++ f x ∷ [] ≡ front ++ map f (take (i + 1) xs)
+one_made f front xs i x inside is =
+    append_assoc front (map f (take i xs)) (f x ∷ [])
+    ∙ ap (λ ys. front ++ ys) (sym (map-append f (take i xs) (x ∷ [])) ∙ ap (map f) (ap (λ y. take i xs ++ y ∷ []) is ∙ sym (take_more xs i x inside)))

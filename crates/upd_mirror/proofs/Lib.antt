@@ -2,3 +2,4 @@ mod RefLemmas
 mod KeptLemmas
 mod MirrorLemmas
 mod FlatLemmas
+mod ReadLemmas

@@ -1,28 +1,33 @@
 -- The tables of a mirror after one change.
 use Rattle.std.proofs.Common.{◌≡◌, ℕ, ◌+◌, ◌-◌, ◌==◌, nat_le, Bool, true, false, not, cond, if◌then◌else◌, IsTrue, List, [], ◌∷◌, ◌++◌, length, map, get_or, drop, ◌<◌}
-use Rattle.std.proofs.Common.{None, Some, Option, Result, Ok, Err, OnOk, refl, ap, sym, ◌∙◌, subst, arith, append-nil}
+use Rattle.std.proofs.Common.{None, Some, Option, Result, Ok, Err, OnOk, IfOk, refl, ap, sym, ◌∙◌, subst, arith, append-nil}
 use Rattle.std.specs.Prelude.{◌&&◌, ◌||◌, ℤ, pos, negsuc, ◌^◌, ◌≤◌}
-use Rattle.std.specs.BTreeMap.{BTreeMap, get}
+use Rattle.std.specs.BTreeMap.{BTreeMap, get, is_at}
 use Rattle.std.specs.List.{count_by, filter, list_any, AllByRecursion}
 use Rattle.std.specs.Option.{option_map_or}
-use Rattle.std.specs.Ordering.{is_eq}
+use Rattle.std.specs.Map.{lookup}
+use Rattle.std.specs.Ordering.{is_eq, nat_cmp}
 use Rattle.std.specs.Result.{result_ok}
 use Rattle.std.specs.declared.vec.Vec.{Vec}
 use Rattle.std.proofs.Math.Nat.{min-eq_left}
 use Rattle.std.proofs.lemmas.Bool.Decides.{Decides-eqb}
 use Rattle.std.proofs.lemmas.List.{drop_more, map-append}
+use Rattle.std.proofs.lemmas.Option.{same_Some}
 use Rattle.upd_text.specs.Order.{by_name}
 use Rattle.upd_text.specs.declared.card_ref.CardRef.{CardRef}
 use Rattle.upd_core.specs.Targets.{is_same}
 use Rattle.upd_core.specs.declared.target.Target.{Target}
-use Rattle.upd_records.proofs.CountLemmas.{count_cons, same_append, same_filter, same_map, same_of}
+use Rattle.upd_records.proofs.CountLemmas.{count_cons, same_append, same_filter, same_map, same_of, same_trans}
 use Rattle.upd_records.proofs.EffectLemmas.{any_append}
 use Rattle.upd_core.specs.declared.change.Change.{Change}
 use Rattle.upd_records.specs.Changes.{change_view, done, done_all, moved_row, shifted}
 use Rattle.upd_records.specs.Fits.{AllFit, CanMove, Fits}
 use Rattle.upd_records.specs.Rows.{CardRow, CountRow, EntryRow, IsSame, Rows, StateRow, count_rows, same_ref, state_rows}
 use Rattle.upd_row_store.proofs.AskedLemmas.{filter_made}
-use Rattle.upd_row_store.specs.Tables.{count_pair}
+use Rattle.upd_row_store.proofs.HolderLemmas.{any_same}
+use Rattle.upd_row_store.specs.Tables.{count_pair, state_pair}
+use Rattle.upd_mirror.specs.Mirrored.{Agrees, state_row}
+use Rattle.upd_mirror.specs.declared.mirror.Mirror.{Mirror}
 use Rattle.upd_mirror.specs.Kept.{AreCards, AreEntries, AreHomes, AreStatuses, cards_at, entries_at, is_home, moved_place, placed_row}
 use Rattle.upd_mirror.proofs.KeptLemmas.{any_gone, any_mapped, any_stays, apart_stay, filter_mapped, filter_twice, one_more, some_gone}
 use Rattle.upd_mirror.proofs.RefLemmas.{alike, one_by_order, turned}
@@ -39,6 +44,11 @@ and_right false b e = absurd (cc)
 pub when_ok : {A E P : Type 0} (r : Result A E) (o : Option A) (x : A) → o ≡ result_ok r → o ≡ Some x → OnOk r P → P
 when_ok (Ok y) o x is some holds = holds
 when_ok (Err e) o x is some holds = absurd (let clash : None ≡ Some x = sym is ∙ some in cc)
+
+-- what a call ensures of the value that it returns
+pub ok_value : {A E : Type 0} (P : A → Type 0) (r : Result A E) (o : Option A) (x : A) → o ≡ result_ok r → o ≡ Some x → IfOk r P → P x
+ok_value P (Ok y) o x is some holds = subst P (let same : Some y ≡ Some x = sym is ∙ some in same_Some y x same) holds
+ok_value P (Err e) o x is some holds = absurd (let clash : None ≡ Some x = sym is ∙ some in cc)
 
 -- ---- the decks of cards
 
@@ -324,3 +334,58 @@ next_change cs i d x rows within read fit =
     let split : drop i cs ≡ x ∷ drop (i + 1) cs = drop_more cs i d within ∙ ap (λ y. y ∷ drop (i + 1) cs) (sym read) in
     let fits : AllFit (map change_view (x ∷ drop (i + 1) cs)) rows = rw split at fit in
     (fits.0, fits.1, ap (λ ds. done_all (map change_view ds) rows) (sym split))
+
+-- ---- a mirror of rows that were read
+
+pub agrees_same : (m : Mirror) (a b : Rows) → Agrees m a → IsSame a.idents b.idents → IsSame a.cards b.cards → IsSame a.entries b.entries
+    → IsSame a.targets b.targets → IsSame a.states b.states → IsSame (map count_pair a.counts) (map count_pair b.counts) → Agrees m b
+agrees_same m a b are idents cards entries targets states counts = record {
+  idents = same_trans are.idents idents;
+  cards = λ d. same_trans (are.cards d) (same_filter (λ r. r.deck == d) cards);
+  homes = λ card d. are.homes card d ∙ any_same (λ r. (r.deck == d) && same_ref card r.card) cards;
+  entries = λ card. same_trans (are.entries card) (same_filter (λ r. same_ref card r.card) entries);
+  entry_count = are.entry_count ∙ same_length entries;
+  targets = same_trans are.targets targets;
+  states = λ card. same_trans (are.states card) (same_filter (λ r. same_ref card r.card) states);
+  counts = same_trans are.counts counts;
+}
+
+rows_back : (rows : List StateRow) → map state_row (map state_pair rows) ≡ rows
+rows_back [] = refl
+rows_back (r ∷ rows) = ap (λ rest. r ∷ rest) (rows_back rows)
+
+pub states_read : (pairs : List (CardRef × Bool)) (rows : List StateRow) → IsSame pairs (map state_pair rows) → IsSame (map state_row pairs) rows
+states_read pairs rows same = subst (IsSame (map state_row pairs)) (rows_back rows) (same_map state_row same)
+
+-- one status more, of a card that has none
+pub state_more : (old new : BTreeMap CardRef Bool) (rows : List StateRow) (card : CardRef) (active : Bool) → get by_name old card ≡ None
+    → ((c : CardRef) → get by_name new c ≡ cond (is_eq (by_name card c)) (Some active) (get by_name old c)) → AreStatuses old rows
+    → AreStatuses new (rows ++ record { card = card; active = active } ∷ [])
+state_more old new rows card active none put are =
+    one_more (λ c x. same_ref c x.card) (λ c. state_rows c (get by_name old c)) (λ c. state_rows c (get by_name new c)) rows
+    (record { card = card; active = active }) (λ c. ap (state_rows c) (put c) ∙ go c (is_eq (by_name card c)) refl) are
+  where
+    go : (c : CardRef) (b : Bool) → is_eq (by_name card c) ≡ b → state_rows c (cond b (Some active) (get by_name old c))
+        ≡ cond (same_ref c card) (state_rows c (get by_name old c) ++ record { card = card; active = active } ∷ []) (state_rows c (get by_name old c))
+    go c true e =
+        let one = one_by_order card c e in
+        ap (λ k. record { card = k; active = active } ∷ []) (sym one)
+        ∙ sym (ap (λ o. state_rows c o ++ record { card = card; active = active } ∷ []) (ap (get by_name old) (sym one) ∙ none))
+        ∙ sym (ap (λ b. cond b (state_rows c (get by_name old c) ++ record { card = card; active = active } ∷ []) (state_rows c (get by_name old c)))
+        (sym (turned card c) ∙ e))
+    go c false e = sym (ap (λ b. cond b (state_rows c (get by_name old c) ++ record { card = card; active = active } ∷ []) (state_rows c (get by_name old c)))
+        (sym (turned card c) ∙ e))
+
+-- ---- maps with no entries
+
+pub no_cards : {Z : Type 0} (decks : BTreeMap ℕ (Vec CardRow Z)) → decks.entries ≡ [] → AreCards decks []
+no_cards decks none d = same_of _ _ (ap (λ es. option_map_or (λ v. v.items) (lookup (is_at (nat_cmp d)) es) []) none)
+
+pub no_homes : (homes : BTreeMap CardRef ℕ) → homes.entries ≡ [] → AreHomes homes []
+no_homes homes none card d = ap (λ es. option_map_or (λ home. home == d) (lookup (is_at (by_name card)) es) false) none
+
+pub no_entries : {Z : Type 0} (entries : BTreeMap CardRef (Vec EntryRow Z)) → entries.entries ≡ [] → AreEntries entries []
+no_entries entries none card = same_of _ _ (ap (λ es. option_map_or (λ v. v.items) (lookup (is_at (by_name card)) es) []) none)
+
+pub no_statuses : (statuses : BTreeMap CardRef Bool) → statuses.entries ≡ [] → AreStatuses statuses []
+no_statuses statuses none card = same_of _ _ (ap (λ es. state_rows card (lookup (is_at (by_name card)) es)) none)

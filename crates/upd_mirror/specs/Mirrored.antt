@@ -1,6 +1,7 @@
 -- When what is in memory agrees with the tables of a store.
-use Rattle.std.specs.Prelude.{◌≡◌, length, map, Option, Some, None}
-use Rattle.upd_records.specs.Rows.{IsSame, Rows}
+use Rattle.std.specs.Prelude.{◌≡◌, Bool, length, map, Option, Some, None}
+use Rattle.upd_text.specs.declared.card_ref.CardRef.{CardRef}
+use Rattle.upd_records.specs.Rows.{IsSame, Rows, StateRow}
 use Rattle.upd_row_store.specs.Tables.{count_pair}
 use Rattle.upd_mirror.specs.Kept.{AreCards, AreEntries, AreHomes, AreStatuses}
 use Rattle.upd_mirror.specs.declared.mirror.Mirror.{Mirror}
@@ -15,6 +16,10 @@ pub record Agrees (m : Mirror) (rows : Rows) : Type 0 where
   pub targets : IsSame m.targets.items rows.targets
   pub states : AreStatuses m.statuses rows.states
   pub counts : IsSame m.counts.items (map count_pair rows.counts)
+
+-- the row of a card with its status
+abbrev pub state_row : CardRef × Bool → StateRow
+state_row p = record { card = p.0; active = p.1 }
 
 -- where there is no mirror, nothing is claimed
 abbrev pub AgreesIfAny : Option Mirror → Rows → Type 0

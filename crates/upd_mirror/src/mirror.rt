@@ -48,7 +48,7 @@ impl Mirror {
     }
 
     /// Adds a card. A card that is in a deck already can't be added.
-    fn add_card(&mut self, row: CardRow) -> Option<()>
+    pub(crate) fn add_card(&mut self, row: CardRow) -> Option<()>
         ensures { OnSome result ((rows : Rows) → Agrees self.old rows
             → Agrees self.new (record rows { cards = rows.cards ++ row ∷ [] })) }
     {
@@ -75,7 +75,7 @@ impl Mirror {
         move_cards_of(&mut self.decks, deck, from, by);
     }
 
-    fn add_entry(&mut self, alloc: Global, row: EntryRow) -> Option<()>
+    pub(crate) fn add_entry(&mut self, alloc: Global, row: EntryRow) -> Option<()>
         ensures { OnSome result ((rows : Rows) → Agrees self.old rows
             → Agrees self.new (record rows { entries = rows.entries ++ row ∷ [] })) }
     {
