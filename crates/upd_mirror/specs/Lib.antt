@@ -1,2 +1,3 @@
 pub mod Kept
 pub mod Mirrored
+pub mod Overlaid

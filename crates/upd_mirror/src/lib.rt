@@ -3,7 +3,8 @@
 
 mod made;
 pub mod mirror;
+pub mod mirror_store;
 mod reads;
 mod tables;
 
-pub use mirror::Mirror;
+pub use mirror_store::MirrorStore;
