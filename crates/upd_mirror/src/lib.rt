@@ -1,6 +1,7 @@
 //! The rows of a store, kept in memory beside it.
 #![tactic(auto)]
 
+mod copies;
 mod made;
 pub mod mirror;
 pub mod mirror_store;
