@@ -17,11 +17,11 @@ use Rattle.std.proofs.lemmas.Map.Lookups.{CmpEqualImpliesEq}
 use Rattle.std.proofs.lemmas.Map.Views.{All-found}
 use Rattle.upd_records.proofs.CountLemmas.{count_cons, count_filter, same_filter, same_of, same_trans}
 use Rattle.upd_records.specs.Rows.{IsSame}
-use Rattle.upd_mirror.proofs.KeptLemmas.{filter_twice, not_true}
+use Rattle.upd_mirror.proofs.KeptLemmas.{filter_alike, filter_twice, not_true}
 
 -- ---- counts
 
-count_split : {A : Type 0} (test has : A → Bool) (xs : List A)
+pub count_split : {A : Type 0} (test has : A → Bool) (xs : List A)
     → count_by test (filter has xs) + count_by test (filter (λ x. not (has x)) xs) ≡ count_by test xs
 count_split test has [] = refl
 count_split test has (x ∷ xs) = go (has x) (count_split test has xs)
@@ -68,7 +68,7 @@ own_key has xs ys same =
 -- ---- lists that have the same rows at each key
 
 -- what a test keeps is nothing where only those pass that another test does not keep
-none_both : {A : Type 0} (f g : A → Bool) (xs : List A) → ((x : A) → g x ≡ true → f x ≡ false) → filter f (filter g xs) ≡ []
+pub none_both : {A : Type 0} (f g : A → Bool) (xs : List A) → ((x : A) → g x ≡ true → f x ≡ false) → filter f (filter g xs) ≡ []
 none_both f g [] apart = refl
 none_both {A} f g (x ∷ xs) apart = go (g x) refl (none_both f g xs apart)
   where
@@ -207,25 +207,10 @@ module _ {K V R : Type 0} {cmp : K → K → Ordering} (total : IsTotalOrder cmp
         own es found.1,
       )
 
-      alike : (k : K) (b : Bool) → p k ≡ b → (xs : List R) → filter (λ r. p (key r)) (filter (has k) xs) ≡ cond b (filter (has k) xs) []
-      alike k b e [] = same_either b []
-      alike k b e (x ∷ xs) = go (has k x) refl (alike k b e xs)
-        where
-          go : (h : Bool) → has k x ≡ h → filter (λ r. p (key r)) (filter (has k) xs) ≡ cond b (filter (has k) xs) []
-              → filter (λ r. p (key r)) (cond h (x ∷ filter (has k) xs) (filter (has k) xs)) ≡ cond b (cond h (x ∷ filter (has k) xs) (filter (has k) xs)) []
-          go false hit rest = rest
-          go true hit rest =
-              ap (λ t. cond t (x ∷ filter (λ r. p (key r)) (filter (has k) xs)) (filter (λ r. p (key r)) (filter (has k) xs)))
-              (ap p (sym (has_one k x hit)) ∙ e) ∙ ap (λ zs. cond b (x ∷ zs) zs) rest ∙ both b
-            where
-              both : (b : Bool) → cond b (x ∷ cond b (filter (has k) xs) []) (cond b (filter (has k) xs) []) ≡ cond b (x ∷ filter (has k) xs) []
-              both true = refl
-              both false = refl
-
       each : (k : K) → IsSame (filter (has k) (flat_map (λ e. cond (p e.0) (rows e.0 e.1) []) m.entries)) (filter (has k) (filter (λ r. p (key r)) all))
       each k = subst (λ zs. IsSame zs (filter (has k) (filter (λ r. p (key r)) all)))
           (sym (flat_at p k m.entries up (own m.entries (recursion_from_All _ _ (All-found total m up)))))
-          (subst (IsSame (cond (p k) (option_map_or (rows k) (get cmp m k) []) [])) (sym (filter_twice (has k) (λ r. p (key r)) all ∙ alike k (p k) refl all))
+          (subst (IsSame (cond (p k) (option_map_or (rows k) (get cmp m k) []) [])) (sym (filter_twice (has k) (λ r. p (key r)) all ∙ filter_alike (λ r. p (key r)) (has k) (p k) (λ r hit. ap p (sym (has_one k r hit))) all))
           (go (p k)))
         where
           go : (b : Bool) → IsSame (cond b (option_map_or (rows k) (get cmp m k) []) []) (cond b (filter (has k) all) [])

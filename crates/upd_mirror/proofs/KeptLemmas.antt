@@ -76,6 +76,23 @@ filter_twice {A} f g (x ∷ xs) = go (f x) (g x) refl refl (filter_twice f g xs)
     go false true e h rest = ap (λ t. cond t (x ∷ filter f (filter g xs)) (filter f (filter g xs))) e ∙ rest
     go false false e h rest = rest
 
+-- where a test says the same of all that another keeps
+pub filter_alike : {A : Type 0} (test has : A → Bool) (b : Bool) → ((x : A) → has x ≡ true → test x ≡ b) → (xs : List A)
+    → filter test (filter has xs) ≡ cond b (filter has xs) []
+filter_alike test has true alike [] = refl
+filter_alike test has false alike [] = refl
+filter_alike {A} test has b alike (x ∷ xs) = go (has x) refl (filter_alike test has b alike xs)
+  where
+    both : (b : Bool) → cond b (x ∷ cond b (filter has xs) []) (cond b (filter has xs) []) ≡ cond b (x ∷ filter has xs) []
+    both true = refl
+    both false = refl
+
+    go : (h : Bool) → has x ≡ h → filter test (filter has xs) ≡ cond b (filter has xs) []
+        → filter test (cond h (x ∷ filter has xs) (filter has xs)) ≡ cond b (cond h (x ∷ filter has xs) (filter has xs)) []
+    go false hit rest = rest
+    go true hit rest = ap (λ t. cond t (x ∷ filter test (filter has xs)) (filter test (filter has xs))) (alike x hit)
+        ∙ ap (λ zs. cond b (x ∷ zs) zs) rest ∙ both b
+
 -- rows with one more
 pub filter_end : {A : Type 0} (test : A → Bool) (xs : List A) (x : A) → filter test (xs ++ x ∷ []) ≡ filter test xs ++ cond (test x) (x ∷ []) []
 filter_end test xs x = filter-append test xs (x ∷ [])

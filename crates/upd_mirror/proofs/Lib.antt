@@ -3,3 +3,4 @@ mod KeptLemmas
 mod MirrorLemmas
 mod FlatLemmas
 mod ReadLemmas
+mod LoadLemmas

@@ -16,7 +16,7 @@ use Rattle.upd_row_store.specs.Tables.{state_pair}
 use Rattle.upd_mirror.specs.Kept.{AreStatuses}
 use Rattle.upd_mirror.specs.Mirrored.{state_row}
 use Rattle.upd_mirror.proofs.FlatLemmas.{all_same}
-use Rattle.upd_mirror.proofs.KeptLemmas.{filter_twice}
+use Rattle.upd_mirror.proofs.KeptLemmas.{filter_alike, filter_twice}
 use Rattle.upd_mirror.proofs.RefLemmas.{one_by_order, one_ref, refs_exact, refs_total, same_by_order, turned}
 
 -- ---- statuses
@@ -112,28 +112,11 @@ asked_same cards all kept rows are keep c =
     (subst (IsSame (state_rows c (cond (is_asked cards c) (get by_name all c) None)))
     (sym (filter_twice (λ r. same_ref c r.card) (λ r. is_asked cards r.card) rows)) (go (is_asked cards c) refl))
   where
-    alike : (b : Bool) → is_asked cards c ≡ b → (xs : List StateRow)
-        → filter (λ r. is_asked cards r.card) (filter (λ r. same_ref c r.card) xs) ≡ cond b (filter (λ r. same_ref c r.card) xs) []
-    alike true e [] = refl
-    alike false e [] = refl
-    alike b e (x ∷ xs) = step (same_ref c x.card) refl (alike b e xs)
-      where
-        step : (h : Bool) → same_ref c x.card ≡ h
-            → filter (λ r. is_asked cards r.card) (filter (λ r. same_ref c r.card) xs) ≡ cond b (filter (λ r. same_ref c r.card) xs) []
-            → filter (λ r. is_asked cards r.card) (cond h (x ∷ filter (λ r. same_ref c r.card) xs) (filter (λ r. same_ref c r.card) xs))
-            ≡ cond b (cond h (x ∷ filter (λ r. same_ref c r.card) xs) (filter (λ r. same_ref c r.card) xs)) []
-        step false hit rest = rest
-        step true hit rest =
-            ap (λ t. cond t (x ∷ filter (λ r. is_asked cards r.card) (filter (λ r. same_ref c r.card) xs))
-            (filter (λ r. is_asked cards r.card) (filter (λ r. same_ref c r.card) xs))) (ap (is_asked cards) (sym (one_ref c x.card hit)) ∙ e)
-            ∙ ap (λ zs. cond b (x ∷ zs) zs) rest ∙ both b
-          where
-            both : (b : Bool) → cond b (x ∷ cond b (filter (λ r. same_ref c r.card) xs) []) (cond b (filter (λ r. same_ref c r.card) xs) [])
-                ≡ cond b (x ∷ filter (λ r. same_ref c r.card) xs) []
-            both true = refl
-            both false = refl
+    alike : (b : Bool) → is_asked cards c ≡ b → filter (λ r. is_asked cards r.card) (filter (λ r. same_ref c r.card) rows)
+        ≡ cond b (filter (λ r. same_ref c r.card) rows) []
+    alike b e = filter_alike (λ r. is_asked cards r.card) (λ r. same_ref c r.card) b (λ r hit. ap (is_asked cards) (sym (one_ref c r.card hit)) ∙ e) rows
 
     go : (b : Bool) → is_asked cards c ≡ b → IsSame (state_rows c (cond b (get by_name all c) None))
         (filter (λ r. is_asked cards r.card) (filter (λ r. same_ref c r.card) rows))
-    go true e = subst (IsSame (state_rows c (get by_name all c))) (sym (alike true e rows)) (are c)
-    go false e = subst (IsSame []) (sym (alike false e rows)) (same_of [] [] refl)
+    go true e = subst (IsSame (state_rows c (get by_name all c))) (sym (alike true e)) (are c)
+    go false e = subst (IsSame []) (sym (alike false e)) (same_of [] [] refl)
