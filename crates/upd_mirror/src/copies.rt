@@ -75,7 +75,8 @@ pub(crate) fn all_cards(
 
 /// The number of all cards; none where it is no number of 64 bits.
 pub(crate) fn card_count(decks: &BTreeMap<Serial, Vec<CardRow>>) -> Option<u64>
-    ensures { IfSome result (λ count. count ≡ length (flat_map (λ e. e.1.items) decks.now.entries)) }
+    ensures count { IfSome result (λ count. count ≡ length (flat_map (λ e. e.1.items) decks.now.entries)) }
+    ensures ordered { IsOrdered nat_cmp decks.now }
 {
     let mut count: u64 = 0;
     for (_, cards) in decks {

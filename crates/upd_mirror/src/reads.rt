@@ -1,27 +1,30 @@
 //! What a store is asked for, from the rows in memory.
 
-ghost use Rattle.std.specs.Prelude.{◌≡◌, ◌^◌, ◌<◌, if◌then◌else◌, length, map, IfOk, IfSome, None, OnOk, [], ◌++◌};
+ghost use Rattle.std.specs.Prelude.{◌≡◌, if◌then◌else◌, length, IfOk, IfSome, None, OnOk};
 ghost use Rattle.std.specs.BTreeMap.{IsOrdered, get};
-ghost use Rattle.std.specs.List.{filter, flat_map};
 ghost use Rattle.std.specs.Option.{option_or};
-ghost use Rattle.std.specs.Ordering.{is_eq, nat_cmp};
+ghost use Rattle.std.specs.Ordering.{is_eq};
 ghost use Rattle.upd_text.specs.Order.{by_name};
 ghost use Rattle.upd_text.specs.declared.card_ref.CardRef.{CardRef};
-ghost use Rattle.upd_records.specs.Rows.{IsSame, Rows};
-ghost use Rattle.upd_row_store.specs.Asked.{AreDecksOf, is_asked};
+ghost use Rattle.upd_core.specs.Actives.{actives_of};
+ghost use Rattle.upd_core.specs.Library.{LibraryView};
+ghost use Rattle.upd_core.specs.Parts.{part_of};
+ghost use Rattle.upd_core.specs.Sound.{IsSound, IsWhole};
+ghost use Rattle.upd_records.specs.Rows.{Rows, Shows, ShowsStates};
+ghost use Rattle.upd_row_store.specs.Asked.{decks_with, is_asked};
 ghost use Rattle.upd_row_store.specs.Assembling.{AreRowsOf};
-ghost use Rattle.upd_row_store.specs.PartRows.{AreOfDistinctCards, is_loaded, part_rows};
+ghost use Rattle.upd_row_store.specs.PartRows.{AreOfDistinctCards, part_rows};
 ghost use Rattle.upd_row_store.specs.Tables.{AreByKey, AreRead, AreReadOf};
-ghost use Rattle.upd_mirror.specs.Kept.{entries_at};
-ghost use Rattle.upd_mirror.specs.Mirrored.{Agrees, state_row};
+ghost use Rattle.upd_mirror.specs.Mirrored.{Agrees};
 
+use crate::copies::{all_cards, all_entries, all_states, card_count, cards_of, entries_of, homes_of};
 use crate::mirror::Mirror;
-use crate::tables::{home_of, put_status, status_of};
+use crate::tables::{put_status, status_of};
 use std::alloc::{AllocError, Global};
 use std::collections::BTreeMap;
-use upd_core::{CardRef, Serial, States};
-use upd_records::{CardRow, EntryRow, LibraryRows, StateRow};
-use upd_row_store::states_by_key;
+use upd_core::{Actives, CardRef, Library, Serial, States};
+use upd_records::LibraryRows;
+use upd_row_store::{assembled, assembled_active, assembled_with_rest, decks_by_age, states_by_key};
 
 /// The cards of a map with their statuses.
 fn pairs_of(
@@ -89,5 +92,94 @@ impl Mirror {
         let states = pairs_of(alloc, &kept)?;
         let counts = Vec::from_slice(alloc, &self.counts)?;
         Ok(states_by_key(States { states, counts }))
+    }
+
+    /// The rows that make the library; memory alone can fail.
+    fn library_rows(&self, alloc: Global) -> Result<LibraryRows, AllocError>
+        ensures { IfOk result (λ found. (rows : Rows) → Agrees self.now rows → AreRowsOf rows found) }
+    {
+        let idents = Vec::from_slice(alloc, &self.idents)?;
+        let cards = all_cards(alloc, &self.decks)?;
+        let entries = all_entries(alloc, &self.entries)?;
+        let targets = Vec::from_slice(alloc, &self.targets)?;
+        Ok(LibraryRows {
+            idents,
+            cards,
+            entries,
+            targets,
+        })
+    }
+
+    /// The rows that make the part of the library with the decks of these ages; memory alone can fail.
+    fn part_rows(&self, alloc: Global, ages: &[Serial]) -> Result<LibraryRows, AllocError>
+        ensures { IfOk result (λ found. (rows : Rows) → Agrees self.now rows → AreOfDistinctCards rows.cards
+            → AreRowsOf (part_rows ages.now rows) found) }
+    {
+        let idents = Vec::from_slice(alloc, &self.idents)?;
+        let cards = cards_of(alloc, &self.decks, ages)?;
+        let entries = entries_of(alloc, &self.entries, &cards)?;
+        let targets = Vec::from_slice(alloc, &self.targets)?;
+        Ok(LibraryRows {
+            idents,
+            cards,
+            entries,
+            targets,
+        })
+    }
+
+    /// The library; memory alone can fail.
+    pub(crate) fn library(&self, alloc: Global) -> Result<Library, AllocError>
+        ensures { (rows : Rows) → Agrees self.now rows → (l : LibraryView) → IsSound l → IsWhole l → Shows rows l
+            → IfOk result (λ found. found ≡ l) }
+    {
+        let rows = self.library_rows(alloc)?;
+        let library = assembled(alloc, rows)?;
+        Ok(library)
+    }
+
+    /// The library without the decks that aren't of these ages; memory alone can fail.
+    pub(crate) fn part(&self, alloc: Global, ages: &[Serial]) -> Result<Library, AllocError>
+        ensures { (rows : Rows) → Agrees self.now rows → (l : LibraryView) → IsSound l → IsWhole l → Shows rows l
+            → IfOk result (λ found. found ≡ part_of ages.now l) }
+    {
+        let rows = self.part_rows(alloc, ages)?;
+        let Some(cards) = self.card_count() else {
+            return Err(AllocError);
+        };
+        let library = assembled_with_rest(alloc, rows, cards, self.entry_count)?;
+        Ok(library)
+    }
+
+    /// The number of cards; none where it is no number of 64 bits.
+    fn card_count(&self) -> Option<u64>
+        ensures { IfSome result (λ count. (rows : Rows) → Agrees self.now rows → count ≡ length rows.cards) }
+    {
+        let count = card_count(&self.decks)?;
+        Some(count)
+    }
+
+    /// The decks other than `YANK$$$` that hold one of these cards; memory alone can fail.
+    pub(crate) fn decks_of(
+        &self,
+        alloc: Global,
+        cards: &[CardRef],
+    ) -> Result<Vec<Serial>, AllocError>
+        ensures { (rows : Rows) → Agrees self.now rows → (l : LibraryView) → IsSound l → Shows rows l
+            → IfOk result (λ found. found.items ≡ decks_with cards.now l) }
+    {
+        let ages = homes_of(alloc, &self.homes, cards)?;
+        Ok(decks_by_age(ages))
+    }
+
+    /// The active cards, by the statuses; memory alone can fail.
+    pub(crate) fn actives(&self, alloc: Global) -> Result<Actives, AllocError>
+        ensures { (rows : Rows) → Agrees self.now rows → (l : LibraryView) → IsSound l → Shows rows l → ShowsStates rows l
+            → IfOk result (λ found. found ≡ actives_of l) }
+    {
+        let idents = Vec::from_slice(alloc, &self.idents)?;
+        let cards = all_cards(alloc, &self.decks)?;
+        let states = all_states(alloc, &self.statuses)?;
+        let actives = assembled_active(alloc, idents, cards, states)?;
+        Ok(actives)
     }
 }
