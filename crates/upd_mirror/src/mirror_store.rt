@@ -2,6 +2,9 @@
 
 ghost use Rattle.std.specs.Prelude.{◌≡◌, None, true};
 ghost use Rattle.std.specs.Coded.{→_prop};
+ghost use Rattle.upd_records.specs.Rows.{Rows};
+ghost use Rattle.upd_row_store.specs.Keeping.{Keeps};
+ghost use Rattle.upd_mirror.specs.Mirrored.{AgreesIfAny};
 
 use crate::made::of_rows;
 use crate::mirror::{Mirror, carried};
@@ -70,6 +73,37 @@ impl<S: RowStore> MirrorStore<S> {
     }
 }
 
+/// The rows of a store in memory; none where they can't be read, or where they are not those of a library.
+fn made<S: RowStore>(inner: &mut S, alloc: Global) -> Option<Mirror>
+    ensures agrees { S.is_honest inner.new → S.is_open inner.new → (rows : Rows) → S.shows (S.image inner.old) rows → AgreesIfAny result rows }
+    ensures same { Keeps S.Meaning inner.old inner.new }
+{
+    let rows = inner.library_rows(alloc).ok()?;
+    let states = inner.load_states(alloc).ok()?;
+    of_rows(alloc, rows, states)
+}
+
+/// The rows of a store in memory, where they are wanted.
+fn made_where<S: RowStore>(inner: &mut S, alloc: Global, wanted: bool) -> Option<Mirror>
+    ensures agrees { S.is_honest inner.new → S.is_open inner.new → (rows : Rows) → S.shows (S.image inner.old) rows → AgreesIfAny result rows }
+    ensures same { Keeps S.Meaning inner.old inner.new }
+{
+    if !wanted {
+        return None;
+    }
+    made(inner, alloc)
+}
+
+/// The first of two mirrors, or else the second.
+fn one_of(first: Option<Mirror>, second: Option<Mirror>) -> Option<Mirror>
+    ensures { (rows : Rows) → AgreesIfAny first rows → AgreesIfAny second rows → AgreesIfAny result rows }
+{
+    match first {
+        Some(mirror) => Some(mirror),
+        None => second,
+    }
+}
+
 impl<S: RowStore> Meaning for MirrorStore<S> {
     ghost use Rattle.std.specs.Prelude.{Option, None, ◌≡◌};
     ghost use Rattle.upd_mirror.specs.Mirrored.{AgreesIfAny};
@@ -98,6 +132,11 @@ impl<S: RowStore> RowStore for MirrorStore<S> {
     ghost use Rattle.upd_mirror.specs.Overlaid.{left_over, none_agrees};
 
     fn load(&mut self, alloc: Global) -> Result<Library, Fault> {
+        if self.is_live && let Some(mirror) = &self.mirror {
+            let library = mirror.library(alloc)?;
+            self.reads = reads_with(self.reads, &library);
+            return Ok(library);
+        }
         match self.inner.load(alloc) {
             Ok(library) => {
                 self.is_live = true;
@@ -112,6 +151,11 @@ impl<S: RowStore> RowStore for MirrorStore<S> {
     }
 
     fn load_decks(&mut self, alloc: Global, decks: &[Serial]) -> Result<Library, Fault> {
+        if self.is_live && let Some(mirror) = &self.mirror {
+            let library = mirror.part(alloc, decks)?;
+            self.reads = reads_with(self.reads, &library);
+            return Ok(library);
+        }
         match self.inner.load_decks(alloc, decks) {
             Ok(library) => {
                 self.is_live = true;
@@ -126,6 +170,10 @@ impl<S: RowStore> RowStore for MirrorStore<S> {
     }
 
     fn decks_of(&mut self, alloc: Global, cards: &[CardRef]) -> Result<Vec<Serial>, Fault> {
+        if self.is_live && let Some(mirror) = &self.mirror {
+            let decks = mirror.decks_of(alloc, cards)?;
+            return Ok(decks);
+        }
         match self.inner.decks_of(alloc, cards) {
             Ok(decks) => {
                 self.is_live = true;
@@ -186,6 +234,10 @@ impl<S: RowStore> RowStore for MirrorStore<S> {
     }
 
     fn load_active(&mut self, alloc: Global) -> Result<Actives, Fault> {
+        if self.is_live && let Some(mirror) = &self.mirror {
+            let actives = mirror.actives(alloc)?;
+            return Ok(actives);
+        }
         match self.inner.load_active(alloc) {
             Ok(actives) => {
                 self.is_live = true;
@@ -230,11 +282,14 @@ impl<S: RowStore> RowStore for MirrorStore<S> {
     }
 
     fn commit(&mut self, alloc: Global, changes: &[Change], run: RunRow) -> Result<(), Fault> {
+        let wanted = self.has_committed && self.mirror.is_none();
+        let made = made_where(&mut self.inner, alloc, wanted);
         match self.inner.commit(alloc, changes, run) {
             Ok(()) => {
                 self.is_live = true;
                 self.has_committed = true;
-                self.mirror = carried(alloc, self.mirror.take(), changes);
+                let mirror = one_of(self.mirror.take(), made);
+                self.mirror = carried(alloc, mirror, changes);
                 Ok(())
             }
             Err(fault) => {
