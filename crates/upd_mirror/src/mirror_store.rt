@@ -1,6 +1,6 @@
 //! A store over another store, with its rows in memory.
 
-ghost use Rattle.std.specs.Prelude.{◌≡◌, None, true};
+ghost use Rattle.std.specs.Prelude.{◌≡◌, None, OnSome, true};
 ghost use Rattle.std.specs.Coded.{→_prop};
 ghost use Rattle.upd_records.specs.Rows.{Rows};
 ghost use Rattle.upd_row_store.specs.Keeping.{Keeps};
@@ -58,6 +58,25 @@ impl<S: RowStore> MirrorStore<S> {
         }
     }
 
+    /// Reads the rows into memory, if they aren't there. Where they can't be read or kept, there are none.
+    pub fn warm(&mut self, alloc: Global)
+        ensures same { Keeps S.Meaning self.old.inner self.new.inner }
+        ensures shows { S.is_honest self.new.inner → S.is_open self.new.inner → (rows : Rows)
+            → S.shows (S.image self.old.inner) rows → AgreesIfAny self.old.mirror rows → AgreesIfAny self.new.mirror rows }
+        ensures reads { self.new.reads ≡ self.old.reads }
+    {
+        if self.mirror.is_some() {
+            return;
+        }
+        match made(&mut self.inner, alloc) {
+            Some(mirror) => {
+                self.is_live = true;
+                self.mirror = Some(mirror);
+            }
+            None => self.is_live = false,
+        }
+    }
+
     /// The store below.
     pub fn into_inner(self) -> S
         ensures { result ≡ self.inner }
@@ -76,6 +95,7 @@ impl<S: RowStore> MirrorStore<S> {
 /// The rows of a store in memory; none where they can't be read, or where they are not those of a library.
 fn made<S: RowStore>(inner: &mut S, alloc: Global) -> Option<Mirror>
     ensures agrees { S.is_honest inner.new → S.is_open inner.new → (rows : Rows) → S.shows (S.image inner.old) rows → AgreesIfAny result rows }
+    ensures opens { S.is_honest inner.new → OnSome result (S.is_open inner.new) }
     ensures same { Keeps S.Meaning inner.old inner.new }
 {
     let rows = inner.library_rows(alloc).ok()?;
