@@ -1,8 +1,8 @@
 //! A store over lists of which one commit fails: what was in hand is lost, and may arrive again.
-ghost use Rattle.std.specs.Prelude.{◌≡◌, refl};
+ghost use Rattle.std.specs.Prelude.{◌≡◌, ℕ, ◌+◌, ◌-◌, ◌^◌, min, refl};
 ghost use Rattle.std.proofs.Common.{sym, ◌∙◌};
 ghost use Rattle.upd_records.specs.Rows.{Rows};
-ghost use Rattle.upd_row_store.specs.Keeping.{IsLost};
+ghost use Rattle.upd_row_store.specs.Keeping.{IsLost, failures_with};
 
 use std::alloc::Global;
 use std::test::Fail;
@@ -36,10 +36,20 @@ impl Failing {
     }
 }
 
+/// Counts as one failure.
 fn store_failed() -> Fault
-    ensures { IsLost result }
+    ensures lost { IsLost result }
+    ensures count { (n : ℕ) → failures_with result.kind n ≡ min (n + 1) (2 ^ 64 - 1) }
 {
     FaultKind::Store.without_line()
+}
+
+/// The fault of lists, which only run out of memory. It counts as no failure.
+fn no_memory() -> Fault
+    ensures lost { IsLost result }
+    ensures count { (n : ℕ) → n ≡ failures_with result.kind n }
+{
+    FaultKind::NoMemory.without_line()
 }
 
 impl Meaning for Failing {
@@ -59,32 +69,52 @@ impl Meaning for Failing {
 
     ghost failures_of = { λ s. s.failures };
 
+    ghost disk_failures_of = { λ _. 0 };
+
     ghost decks_read_of = { λ s. s.lists.decks_read };
 }
 
 impl RowStore for Failing {
     fn load(&mut self, alloc: Global) -> Result<Library, Fault> {
-        self.lists.load(alloc)
+        match self.lists.load(alloc) {
+            Ok(library) => Ok(library),
+            Err(_) => Err(no_memory()),
+        }
     }
 
     fn load_decks(&mut self, alloc: Global, decks: &[Serial]) -> Result<Library, Fault> {
-        self.lists.load_decks(alloc, decks)
+        match self.lists.load_decks(alloc, decks) {
+            Ok(library) => Ok(library),
+            Err(_) => Err(no_memory()),
+        }
     }
 
     fn decks_of(&mut self, alloc: Global, cards: &[CardRef]) -> Result<Vec<Serial>, Fault> {
-        self.lists.decks_of(alloc, cards)
+        match self.lists.decks_of(alloc, cards) {
+            Ok(decks) => Ok(decks),
+            Err(_) => Err(no_memory()),
+        }
     }
 
     fn library_rows(&mut self, alloc: Global) -> Result<LibraryRows, Fault> {
-        self.lists.library_rows(alloc)
+        match self.lists.library_rows(alloc) {
+            Ok(rows) => Ok(rows),
+            Err(_) => Err(no_memory()),
+        }
     }
 
     fn load_states(&mut self, alloc: Global) -> Result<States, Fault> {
-        self.lists.load_states(alloc)
+        match self.lists.load_states(alloc) {
+            Ok(states) => Ok(states),
+            Err(_) => Err(no_memory()),
+        }
     }
 
     fn load_active(&mut self, alloc: Global) -> Result<Actives, Fault> {
-        self.lists.load_active(alloc)
+        match self.lists.load_active(alloc) {
+            Ok(actives) => Ok(actives),
+            Err(_) => Err(no_memory()),
+        }
     }
 
     fn kept_run(
@@ -93,24 +123,36 @@ impl RowStore for Failing {
         site: &str,
         number: u64,
     ) -> Result<Option<RunRow>, Fault> {
-        self.lists.kept_run(alloc, site, number)
+        match self.lists.kept_run(alloc, site, number) {
+            Ok(run) => Ok(run),
+            Err(_) => Err(no_memory()),
+        }
     }
 
     fn mark(&mut self, alloc: Global, site: &str) -> Result<u64, Fault> {
-        self.lists.mark(alloc, site)
+        match self.lists.mark(alloc, site) {
+            Ok(mark) => Ok(mark),
+            Err(_) => Err(no_memory()),
+        }
     }
 
     fn commit(&mut self, alloc: Global, changes: &[Change], run: RunRow) -> Result<(), Fault> {
         if self.passing == 0 && self.failures == 0 {
-            self.failures = 1;
+            self.failures = self.failures.saturating_add(1);
             return Err(store_failed());
         }
         self.passing = self.passing.saturating_sub(1);
-        self.lists.commit(alloc, changes, run)
+        match self.lists.commit(alloc, changes, run) {
+            Ok(()) => Ok(()),
+            Err(_) => Err(no_memory()),
+        }
     }
 
     fn settle_to(&mut self, alloc: Global, site: &str, number: u64) -> Result<u64, Fault> {
-        self.lists.settle_to(alloc, site, number)
+        match self.lists.settle_to(alloc, site, number) {
+            Ok(mark) => Ok(mark),
+            Err(_) => Err(no_memory()),
+        }
     }
 
     fn failures(&self) -> u64 {

@@ -1,8 +1,9 @@
 -- What each answer to an arrival makes of a desk over a store.
 use Rattle.std.proofs.Common.{◌≡◌, ℕ, suc, ◌≤◌, ◌<◌, nat_lt, nat_le, Bool, true, false, ◌⊎◌, if◌then◌else◌, List, ◌∷◌}
-use Rattle.std.proofs.Common.{Option, Some, None, Result, Ok, Err, ◌==◌, ◌&&◌}
+use Rattle.std.proofs.Common.{Option, Some, None, IsSome, Result, Ok, Err, ◌==◌, ◌&&◌}
 use Rattle.std.proofs.Common.{inl, inr, refl, ap, sym, ◌∙◌, subst, rules, arith}
 use Rattle.std.specs.Str.{bytes_eq}
+use Rattle.std.proofs.lemmas.Bool.{false≢true}
 use Rattle.std.proofs.lemmas.Bool.Decides.{nat_tests}
 use Rattle.upd_text.specs.declared.fault.Fault.{Fault}
 use Rattle.upd_text.specs.declared.fault.FaultKind.TheVariants as fault
@@ -10,14 +11,14 @@ use Rattle.upd_core.specs.Library.{LibraryView, empty}
 use Rattle.upd_records.specs.Rows.{RunView, Rows, Shows, ShowsStates}
 use Rattle.upd_compile.specs.declared.mode.Mode.{Mode}
 use Rattle.upd_row_store.specs.declared.meaning.Meaning.{Ghosts}
-use Rattle.upd_row_store.specs.Keeping.{IsLost, Keeps, MoreFailures, OfMemory, OfStore}
+use Rattle.upd_row_store.specs.Keeping.{IsLost, Keeps, OfMemory, OfStore}
 use Rattle.upd_row_store.specs.Tables.{mark_at, run_at}
-use Rattle.upd_row_store.proofs.StoreLemmas.{keeps_still}
+use Rattle.upd_row_store.proofs.StoreLemmas.{keeps_still, later_twice}
 use Rattle.upd_desk.specs.Arrivals.{ArrivalView, check_arrival, mode_number}
 use Rattle.upd_desk.specs.Journal.{Alike, Event, Came, Journal, answer, distinct, mark, reply_to, library_after}
 use Rattle.upd_desk.specs.Made.{IsMade}
 use Rattle.upd_desk.specs.Outcomes.{ReplyView, outcome}
-use Rattle.upd_desk.specs.Holding.{Arrives, Becomes, Guards, HoldsIn, IsHeld, IsLeft, TriesRun, is_lost}
+use Rattle.upd_desk.specs.Holding.{Arrives, Becomes, Guards, HoldsIn, IsHeld, IsIdle, IsLeft, TriesRun, is_lost}
 use Rattle.upd_desk.proofs.AlikeLemmas.{alike_more, alike_unheard, holds_alike, holds_new}
 use Rattle.upd_desk.proofs.AnswerLemmas.{answer_again, answer_unadmitted, answer_new, answer_settled, admission_not_lost}
 use Rattle.upd_desk.proofs.RepeatLemmas.{refused_unheard}
@@ -28,8 +29,8 @@ lost_kind f (OfMemory g is at) = rw is refl
 lost_kind f (OfStore g is at) = rw is refl
 
 -- a fault that isn't lost is no failure of a store
-pub unstored : (old new : ℕ) (f : Fault) → is_lost f.kind ≡ false → f.kind ≡ fault.Store → MoreFailures old new
-unstored old new f stays is = let clash : true ≡ false = sym (ap is_lost is) ∙ stays in grind rules
+pub unstored : (f : Fault) → is_lost f.kind ≡ false → ¬ (f.kind ≡ fault.Store)
+unstored f stays is = let clash : true ≡ false = sym (ap is_lost is) ∙ stays in grind rules
 
 -- another run under a kept key neither runs out of memory nor fails as a store does
 pub changed_keeps : (mode : Mode) (a : ArrivalView) (l : LibraryView) (run : RunView) (f : Fault) → Err f ≡ reply_to mode a l (Some run)
@@ -80,6 +81,12 @@ module _ {S : Type 0} (meaning : Ghosts S) where
   abbrev pub LeavesTables : Type 0
   LeavesTables = (s : S) (i : Image) → is_honest s → is_open s → may_leave s i → (rows : Rows) → shows (image s) rows → shows i rows
 
+  -- an arrival that has to change nothing has to change nothing of a store with the same image
+  pub idle_there : (a : ArrivalView) (result : Result ReplyView Fault) (old mid : S) → image mid ≡ image old → IsIdle meaning a result old
+      → IsIdle meaning a result mid
+  idle_there a result old mid same (inl failed) = inl failed
+  idle_there a result old mid same (inr (rows, shown, some)) = inr (rows, subst (λ i. shows i rows) (sym same) shown, some)
+
   -- What is known of an arrival that is looked up: it passed the admission checks, its number is above the mark that the tables hold, and what is kept.
   pub record IsAsked (mode : Mode) (a : ArrivalView) (kept : Option RunView) (s : S) : Type 0 where
     pub passed : check_arrival a ≡ Ok mode
@@ -92,15 +99,15 @@ module _ {S : Type 0} {meaning : Ghosts S} where
   held_after : (old new : S) → Keeps meaning old new → is_honest new → (j k : Journal) → Alike j k
       → IsHeld meaning j old → is_open new → HoldsIn shows k (image new)
   held_after old new keeps honest j k alike held is =
-      subst (HoldsIn shows k) (sym (keeps.same honest is)) (holds_in_alike shows j k (image old) alike (held (keeps.was_open honest is)))
+      subst (HoldsIn shows k) (sym (keeps.same honest is)) (holds_in_alike shows j k (image old) alike (held (keeps.later.was_open honest is)))
 
   -- A call that only read, and a refusal that isn't kept: nothing changed, and the journal is continued alike.
   pub refuses : (a : ArrivalView) (f : Fault) (old new : S) → Keeps meaning old new
       → is_lost f.kind ≡ false → (is_honest new → (j : Journal) → IsHeld meaning j old → answer j a ≡ Err f) → Arrives meaning a (Err f) old new
   refuses a f old new keeps stays answers = record {
-    honest = keeps.honest;
-    was_open = keeps.was_open;
-    counts = keeps.counts;
+    later = keeps.later;
+    opens = λ honest. tt;
+    same = λ honest is idle. keeps.same honest is;
     answers = λ honest j held. inr (answers honest j held);
     holds = λ honest j held is. rw stays (held_after old new keeps honest j (Came a ∷ j) (alike honest j held) held is);
     leaves = λ honest j hand guards i may.
@@ -115,9 +122,9 @@ module _ {S : Type 0} {meaning : Ghosts S} where
       (old new : S) → Keeps meaning old new → (is_honest new → is_open new)
       → (is_honest new → (j : Journal) → IsHeld meaning j old → (answer j a ≡ Ok reply) × (distinct (Came a ∷ j) ≡ distinct j)) → Arrives meaning a (Ok reply) old new
   tells leaves a reply old new keeps opens answers = record {
-    honest = keeps.honest;
-    was_open = keeps.was_open;
-    counts = keeps.counts;
+    later = keeps.later;
+    opens = opens;
+    same = λ honest is idle. keeps.same honest is;
     answers = λ honest j held. (answers honest j held).0;
     holds = holds;
     leaves = λ honest j hand guards i may.
@@ -131,11 +138,11 @@ module _ {S : Type 0} {meaning : Ghosts S} where
   pub loses : (a : ArrivalView) (f : Fault) (old new : S) → Keeps meaning old new
       → IsLost f → Arrives meaning a (Err f) old new
   loses a f old new keeps lost = record {
-    honest = keeps.honest;
-    was_open = keeps.was_open;
-    counts = keeps.counts;
+    later = keeps.later;
+    opens = λ honest. tt;
+    same = λ honest is idle. keeps.same honest is;
     answers = λ honest j held. inl lost;
-    holds = λ honest j held is. rw (lost_kind f lost) (subst (HoldsIn shows j) (sym (keeps.same honest is)) (held (keeps.was_open honest is)));
+    holds = λ honest j held is. rw (lost_kind f lost) (subst (HoldsIn shows j) (sym (keeps.same honest is)) (held (keeps.later.was_open honest is)));
     leaves = λ honest j hand guards i may. rw (lost_kind f lost) (left_more shows j (Came a) hand i (guards.left i (keeps.crash honest i may)));
   }
 
@@ -152,11 +159,11 @@ module _ {S : Type 0} {meaning : Ghosts S} where
       → TriesRun meaning mode a old new → (is_honest old → IsAsked meaning mode a None old) → IsLost f
       → (is_honest new → is_open new → image new ≡ image old) → Arrives meaning a (Err f) old new
   loses_new made mode a f old new tries is_new lost same = record {
-    honest = tries.honest;
-    was_open = tries.was_open;
-    counts = tries.counts;
+    later = tries.later;
+    opens = λ honest. tt;
+    same = λ honest is idle. same honest is;
     answers = λ honest j held. inl lost;
-    holds = λ honest j held is. rw (lost_kind f lost) (subst (HoldsIn shows j) (sym (same honest is)) (held (tries.was_open honest is)));
+    holds = λ honest j held is. rw (lost_kind f lost) (subst (HoldsIn shows j) (sym (same honest is)) (held (tries.later.was_open honest is)));
     leaves = λ honest j hand guards i may. rw (lost_kind f lost) (by honest j hand guards i (tries.crash honest i may));
   }
     where
@@ -164,7 +171,7 @@ module _ {S : Type 0} {meaning : Ghosts S} where
           → may_leave old i ⊎ (is_open old × Becomes shows mode a (image old) i) → IsLeft shows j (Came a ∷ hand) i
       by honest j hand guards i (inl may) = left_more shows j (Came a) hand i (guards.left i may)
       by honest j hand guards i (inr (is, becomes)) = left_here shows j (Came a) hand i
-          (becomes_held made mode a old i j (is_new (tries.honest honest)) is (guards.shown is) becomes)
+          (becomes_held made mode a old i j (is_new (tries.later.honest honest)) is (guards.shown is) becomes)
 
   -- A new run was kept: the store holds the journal with it, and nothing is in hand.
   pub keeps_new : (made : (j : Journal) → IsMade (library_after j))
@@ -175,9 +182,9 @@ module _ {S : Type 0} {meaning : Ghosts S} where
       → reply ≡ (outcome mode a l).reply)
       → Arrives meaning a (Ok reply) old new
   keeps_new made leaves mode a reply old new tries is_new opens becomes replies = record {
-    honest = tries.honest;
-    was_open = tries.was_open;
-    counts = tries.counts;
+    later = tries.later;
+    opens = opens;
+    same = λ honest is idle. absurd (unknown honest idle);
     answers = λ honest j held. owed honest j (held (was_open honest));
     holds = holds;
     leaves = λ honest j hand guards i may.
@@ -185,15 +192,20 @@ module _ {S : Type 0} {meaning : Ghosts S} where
   }
     where
       was_open : is_honest new → is_open old
-      was_open honest = tries.was_open honest (opens honest)
+      was_open honest = tries.later.was_open honest (opens honest)
+
+      unknown : is_honest new → IsIdle meaning a (Ok reply) old → ⊥
+      unknown honest (inl failed) = false≢true failed
+      unknown honest (inr (rows, shown, some)) =
+          false≢true (subst IsSome ((is_new (tries.later.honest honest)).found (was_open honest) rows shown) some)
 
       holds : is_honest new → (j : Journal) → IsHeld meaning j old → is_open new → HoldsIn shows (Came a ∷ j) (image new)
       holds honest j held is =
-          becomes_held made mode a old (image new) j (is_new (tries.honest honest)) (was_open honest) (held (was_open honest)) (becomes honest)
+          becomes_held made mode a old (image new) j (is_new (tries.later.honest honest)) (was_open honest) (held (was_open honest)) (becomes honest)
 
       owed : is_honest new → (j : Journal) → HoldsIn shows j (image old) → answer j a ≡ Ok reply
       owed honest j (rows, shown, held) =
-          let new = is_new (tries.honest honest) in
+          let new = is_new (tries.later.honest honest) in
           let first = answer_new j a mode rows held new.passed (new.above (was_open honest) rows shown) (new.found (was_open honest) rows shown) in
           first ∙ ap Ok (sym (replies honest (library_after j) (made j) rows shown held.library held.states))
 
@@ -203,17 +215,21 @@ module _ {S : Type 0} {meaning : Ghosts S} where
   pub keeps_arrives : (a : ArrivalView) (result : Result ReplyView Fault) (old mid new : S)
       → Keeps meaning old mid → Arrives meaning a result mid new → Arrives meaning a result old new
   keeps_arrives a result old mid new keeps went = record {
-    honest = λ honest. keeps.honest (went.honest honest);
-    was_open = λ honest is. keeps.was_open (went.honest honest) (went.was_open honest is);
-    counts = (let less = keeps.counts in let more = went.counts in grind arith);
-    answers = λ honest j held. went.answers honest j (later (went.honest honest) j held);
-    holds = λ honest j held is. went.holds honest j (later (went.honest honest) j held) is;
+    later = later_twice keeps.later went.later;
+    opens = went.opens;
+    same = λ honest is idle. let there = keeps.same (went.later.honest honest) (went.later.was_open honest is) in
+        went.same honest is (idle_there meaning a result old mid there idle) ∙ there;
+    answers = λ honest j held. went.answers honest j (later (went.later.honest honest) j held);
+    holds = λ honest j held is. went.holds honest j (later (went.later.honest honest) j held) is;
     leaves = λ honest j hand guards i may. went.leaves honest j hand
-        (record { shown = later (went.honest honest) j guards.shown; left = λ i may. guards.left i (keeps.crash (went.honest honest) i may) }) i may;
+        (record {
+          shown = later (went.later.honest honest) j guards.shown;
+          left = λ i may. guards.left i (keeps.crash (went.later.honest honest) i may);
+        }) i may;
   }
     where
       later : is_honest mid → (j : Journal) → IsHeld meaning j old → IsHeld meaning j mid
-      later honest j held is = subst (HoldsIn shows j) (sym (keeps.same honest is)) (held (keeps.was_open honest is))
+      later honest j held is = subst (HoldsIn shows j) (sym (keeps.same honest is)) (held (keeps.later.was_open honest is))
 
   -- what is known once the mark and the stored run were read
   pub asked : (mode : Mode) (a : ArrivalView) (m : ℕ) (kept : Option RunView) (old mid new : S)
@@ -229,10 +245,10 @@ module _ {S : Type 0} {meaning : Ghosts S} where
   }
     where
       before : is_honest mid
-      before = last.honest honest
+      before = last.later.honest honest
 
       there : is_open new → (rows : Rows) → shows (image new) rows → shows (image old) rows
-      there is rows shown = subst (λ i. shows i rows) (last.same honest is ∙ first.same before (last.was_open honest is)) shown
+      there is rows shown = subst (λ i. shows i rows) (last.same honest is ∙ first.same before (last.later.was_open honest is)) shown
 
       higher : (mark : ℕ) → m ≡ mark → nat_lt mark a.number ≡ true
       higher mark is = let over = above in grind (arith, nat_tests)
@@ -256,7 +272,7 @@ module _ {S : Type 0} {meaning : Ghosts S} where
       by j honest (rows, shown, held) = answer_settled j a mode rows held passed (lower (mark_at a.site rows) (marks honest rows shown)) ∙ ap Err (sym is)
 
       owed : is_honest new → (j : Journal) → IsHeld meaning j old → answer j a ≡ Err f
-      owed honest j held = by j honest (held (keeps.was_open honest (opens honest)))
+      owed honest j held = by j honest (held (keeps.later.was_open honest (opens honest)))
 
   known : (mode : Mode) (a : ArrivalView) (run : RunView) (s : S) (j : Journal) → is_open s → IsAsked meaning mode a (Some run) s
       → HoldsIn shows j (image s) → (answer j a ≡ reply_to mode a (library_after j) (Some run)) × (distinct (Came a ∷ j) ≡ distinct j)

@@ -51,7 +51,7 @@ module _ {S : Type 0} {meaning : Ghosts S} where
       (old new : S) → Keeps meaning old new → (is_honest new → is_open new)
       → (is_honest new → (l : LibraryView) → IsMade l → (rows : Rows) → shows (image old) rows → Shows rows l → ShowsStates rows l → owed ≡ defined l)
       → IsOwed owed result → Tells meaning defined result old new
-  tells_same made defined owed result old new keeps opens same meets honest j held = by (held (keeps.was_open honest (opens honest)))
+  tells_same made defined owed result old new keeps opens same meets honest j held = by (held (keeps.later.was_open honest (opens honest)))
     where
       by : HoldsIn shows j (image old) → IsOwed (defined (library_after j)) result
       by (rows, shown, holds) =

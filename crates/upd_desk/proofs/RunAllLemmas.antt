@@ -1,18 +1,17 @@
 -- Arrivals one after the other: one more at the end.
-use Rattle.std.proofs.Common.{◌≡◌, ℕ, ◌≤◌, List, [], ◌∷◌, ◌++◌, length, Result, Ok, Err, IfErr, IfOk, OnErr, refl, sym, ◌∙◌, subst, rules, arith}
-use Rattle.std.specs.List.{All}
-use Rattle.std.proofs.lemmas.List.Elements.{All-push}
+use Rattle.std.proofs.Common.{◌≡◌, ℕ, ◌≤◌, List, [], ◌∷◌, ◌++◌, length, Result, Ok, Err, IfOk, OnErr, OnOk, refl, sym, ◌∙◌, subst, rules, arith}
+use Rattle.std.proofs.lemmas.Bool.{false≢true}
 use Rattle.upd_text.specs.declared.fault.Fault.{Fault}
-use Rattle.upd_text.specs.declared.fault.FaultKind.TheVariants as fault
 use Rattle.upd_row_store.specs.declared.meaning.Meaning.{Ghosts}
-use Rattle.upd_row_store.specs.Keeping.{MoreFailures}
+use Rattle.upd_row_store.specs.Keeping.{failures_after}
+use Rattle.upd_row_store.proofs.StoreLemmas.{later_still, later_twice}
 use Rattle.upd_desk.specs.Arrivals.{ArrivalView}
 use Rattle.upd_desk.specs.Journal.{Event, Journal}
 use Rattle.upd_desk.specs.Outcomes.{ReplyView}
-use Rattle.upd_desk.specs.Holding.{AreAnswers, RunAll, Arrives, HoldsIn, IsAnswer, IsLeft}
-use Rattle.upd_desk.specs.Holding.{after, after_all, in_hand_after, in_hand_after_all, work_after, work_after_all}
+use Rattle.upd_desk.specs.Holding.{AreAnswers, AreIdle, RunAll, Arrives, EndsInReply, HoldsIn, IsAnswer, IsIdle, IsLeft}
+use Rattle.upd_desk.specs.Holding.{after, after_all, failures_after_all, in_hand_after, in_hand_after_all, work_after, work_after_all}
 use Rattle.upd_desk.specs.Made.{work_of}
-use Rattle.upd_desk.proofs.StoreLemmas.{more_after, more_before}
+use Rattle.upd_desk.proofs.ArrivesLemmas.{idle_there}
 
 after_more : (j : Journal) (list : List ArrivalView) (results : List (Result ReplyView Fault)) (a : ArrivalView) (result : Result ReplyView Fault)
     → length list ≡ length results → after_all j (list ++ a ∷ []) (results ++ result ∷ []) ≡ after (after_all j list results) a result
@@ -45,15 +44,38 @@ answers_more j [] (r ∷ results) a result are is = grind rules
 answers_more j (b ∷ list) [] a result are is = grind rules
 answers_more j (b ∷ list) (r ∷ results) a result are is = (are.0, answers_more (after j b r) list results a result are.1 is)
 
+-- after an answer that is a reply the store is open
+pub opens_more : {Open : Type 0} (results : List (Result ReplyView Fault)) (result : Result ReplyView Fault) → OnOk result Open
+    → EndsInReply (results ++ result ∷ []) → Open
+opens_more [] (Ok reply) opens is = opens
+opens_more [] (Err fault) opens is = absurd (false≢true is)
+opens_more (x ∷ []) result opens is = opens_more [] result opens is
+opens_more (x ∷ y ∷ results) result opens is = opens_more (y ∷ results) result opens is
+
+-- the count of failures after one more answer
+pub failures_more : (results : List (Result ReplyView Fault)) (result : Result ReplyView Fault) (n : ℕ)
+    → failures_after_all (results ++ result ∷ []) n ≡ failures_after result (failures_after_all results n)
+failures_more [] result n = refl
+failures_more (r ∷ results) result n = failures_more results result (failures_after r n)
+
+module _ {S : Type 0} (meaning : Ghosts S) where
+  idle_more : (list : List ArrivalView) (results : List (Result ReplyView Fault)) (a : ArrivalView) (result : Result ReplyView Fault) (s : S)
+      → length list ≡ length results → AreIdle meaning (list ++ a ∷ []) (results ++ result ∷ []) s
+      → AreIdle meaning list results s × IsIdle meaning a result s
+  idle_more [] [] a result s same idle = (tt, idle.0)
+  idle_more [] (r ∷ results) a result s same idle = grind (arith, same)
+  idle_more (b ∷ list) [] a result s same idle = grind (arith, same)
+  idle_more (b ∷ list) (r ∷ results) a result s same idle =
+      let both = idle_more list results a result s (omega (arith, same)) idle.1 in ((idle.0, both.0), both.1)
+
 module _ {S : Type 0} {meaning : Ghosts S} where
   open meaning use {Image, shows, image, is_open, is_honest}
 
   -- no arrival does nothing
   pub none_arrived : (s : S) → RunAll meaning [] [] s s
   none_arrived s = record {
-    honest = λ honest. honest;
-    was_open = λ honest is. is;
-    counts = grind arith;
+    later = later_still s;
+    same = λ honest is idle. refl;
     answers = λ honest j held. tt;
     holds = λ honest j held is. held is;
     leaves = λ honest j hand guards i may. guards.left i may;
@@ -65,16 +87,17 @@ module _ {S : Type 0} {meaning : Ghosts S} where
       → Arrives meaning a result mid new
       → RunAll meaning (list ++ a ∷ []) (results ++ result ∷ []) old new
   one_more list results a result old mid new same all went = record {
-    honest = λ honest. all.honest (went.honest honest);
-    was_open = λ honest is. all.was_open (went.honest honest) (went.was_open honest is);
-    counts = (let less = all.counts in let more = went.counts in grind arith);
-    answers = λ honest j held. answers_more j list results a result (all.answers (went.honest honest) j held)
-        (went.answers honest (after_all j list results) (all.holds (went.honest honest) j held));
+    later = later_twice all.later went.later;
+    same = λ honest is idle. let both = idle_more meaning list results a result old same idle in
+        let there = all.same (went.later.honest honest) (went.later.was_open honest is) both.0 in
+        went.same honest is (idle_there meaning a result old mid there both.1) ∙ there;
+    answers = λ honest j held. answers_more j list results a result (all.answers (went.later.honest honest) j held)
+        (went.answers honest (after_all j list results) (all.holds (went.later.honest honest) j held));
     holds = λ honest j held is. subst (λ k. HoldsIn shows k (image new)) (sym (after_more j list results a result same))
-        (went.holds honest (after_all j list results) (all.holds (went.honest honest) j held) is);
+        (went.holds honest (after_all j list results) (all.holds (went.later.honest honest) j held) is);
     leaves = λ honest j hand guards i may. left j hand (went.leaves honest (after_all j list results) (in_hand_after_all hand list results) (record {
-      shown = all.holds (went.honest honest) j guards.shown;
-      left = all.leaves (went.honest honest) j hand guards;
+      shown = all.holds (went.later.honest honest) j guards.shown;
+      left = all.leaves (went.later.honest honest) j hand guards;
     }) i may);
   }
     where
@@ -96,27 +119,10 @@ module _ {S : Type 0} {meaning : Ghosts S} where
       → is_honest new → (j : Journal) → (is_open old → HoldsIn shows j (image old))
       → later ≡ work_after_all work j (list ++ a ∷ []) (results ++ result ∷ [])
   work_one_more list results a result old mid new work before later same all went earlier looks idle honest j held =
-      by result (looks honest (after_all j list results) (all.holds (went.honest honest) j held)) idle ∙ sym (work_more work j list results a result same)
+      by result (looks honest (after_all j list results) (all.holds (went.later.honest honest) j held)) idle
+      ∙ sym (work_more work j list results a result same)
     where
       by : (r : Result ReplyView Fault) → IfOk r (λ reply. later ≡ work_of (after_all j list results) a) → OnErr r (later ≡ before)
           → later ≡ work_after (work_after_all work j list results) (after_all j list results) a r
       by (Ok reply) looked none = looked
-      by (Err f) none stays = stays ∙ earlier (went.honest honest) j held
-
--- a failure of the store was counted
-abbrev pub IsCounted : ℕ → ℕ → Result ReplyView Fault → Type 0
-IsCounted old new result = IfErr result (λ f. f.kind ≡ fault.Store → MoreFailures old new)
-
-counted_after : (old mid new : ℕ) (result : Result ReplyView Fault) → mid ≤ new → IsCounted old mid result → IsCounted old new result
-counted_after old mid new (Ok reply) less counted = tt
-counted_after old mid new (Err f) less counted = λ is. more_after old mid new (counted is) less
-
-counted_before : (old mid new : ℕ) (result : Result ReplyView Fault) → old ≤ mid → IsCounted mid new result → IsCounted old new result
-counted_before old mid new (Ok reply) less counted = tt
-counted_before old mid new (Err f) less counted = λ is. more_before old mid new less (counted is)
-
--- one answer more, and each failure of the store among them was counted
-pub counted_more : (old mid new : ℕ) (results : List (Result ReplyView Fault)) (result : Result ReplyView Fault) → old ≤ mid → mid ≤ new
-    → All (IsCounted old mid) results → IsCounted mid new result → All (IsCounted old new) (results ++ result ∷ [])
-counted_more old mid new results result less more all one =
-    All-push (IsCounted old new) results result (λ k d within. counted_after old mid new _ more (all k d within)) (counted_before old mid new result less one)
+      by (Err f) none stays = stays ∙ earlier (went.later.honest honest) j held

@@ -1,7 +1,8 @@
 -- What each answer to a settlement makes of a desk over a store.
-use Rattle.std.proofs.Common.{◌≡◌, ℕ, ◌≤◌, nat_le, max, Bool, true, false, not, ◌⊎◌, if◌then◌else◌, List, ◌∷◌, Ok, Err}
+use Rattle.std.proofs.Common.{◌≡◌, ℕ, ◌<◌, ◌≤◌, nat_le, max, Bool, true, false, not, ◌⊎◌, if◌then◌else◌, List, ◌∷◌, Ok, Err}
 use Rattle.std.proofs.Common.{inl, inr, refl, ap, sym, ◌∙◌, subst, rules, arith}
 use Rattle.std.specs.Str.{bytes_eq}
+use Rattle.std.proofs.lemmas.Bool.{false≢true}
 use Rattle.std.proofs.lemmas.Bool.Decides.{nat_tests}
 use Rattle.upd_text.specs.declared.fault.Fault.{Fault}
 use Rattle.upd_text.specs.declared.fault.FaultKind.TheVariants as fault
@@ -10,10 +11,11 @@ use Rattle.upd_records.specs.Rows.{Rows}
 use Rattle.upd_row_store.specs.declared.meaning.Meaning.{Ghosts}
 use Rattle.upd_row_store.specs.Keeping.{IsLost, Keeps, Tries}
 use Rattle.upd_row_store.specs.Tables.{mark_at, settled_to}
+use Rattle.upd_row_store.proofs.StoreLemmas.{later_twice}
 use Rattle.upd_row_store.proofs.TableLemmas.{max_right, same_bytes, shows_settled, states_settled}
 use Rattle.upd_desk.specs.Arrivals.{is_run_number, is_site, check_key}
 use Rattle.upd_desk.specs.Journal.{Alike, Event, Settled, Journal, mark, library_after}
-use Rattle.upd_desk.specs.Holding.{Guards, Holds, HoldsIn, IsHeld, IsLeft, Settles, is_lost, mark_after}
+use Rattle.upd_desk.specs.Holding.{Guards, Holds, HoldsIn, IsHeld, IsIdleSettlement, IsLeft, Settles, is_lost, mark_after}
 use Rattle.upd_desk.proofs.ArrivesLemmas.{LeavesTables, holds_in_alike, left_held, left_here, left_more, lost_kind}
 use Rattle.upd_desk.proofs.KeptLemmas.{kept_settled, mark_settled}
 
@@ -57,11 +59,11 @@ module _ {S : Type 0} {meaning : Ghosts S} where
   pub refuses_key : (site : List ℕ) (n : ℕ) (f : Fault) (old new : S) → Keeps meaning old new
       → check_key site n ≡ Err f → Settles meaning site n (Err f) old new
   refuses_key site n f old new keeps refused = record {
-    honest = keeps.honest;
-    was_open = keeps.was_open;
-    counts = keeps.counts;
+    later = keeps.later;
+    opens = λ honest. tt;
+    same = λ honest is idle. keeps.same honest is;
     answers = λ honest j held. inr (rw refused refl);
-    holds = λ honest j held is. subst (HoldsIn shows j) (sym (keeps.same honest is)) (held (keeps.was_open honest is));
+    holds = λ honest j held is. subst (HoldsIn shows j) (sym (keeps.same honest is)) (held (keeps.later.was_open honest is));
     leaves = λ honest j hand guards i may. rw (key_not_lost site n f refused) (guards.left i (keeps.crash honest i may));
   }
 
@@ -69,11 +71,11 @@ module _ {S : Type 0} {meaning : Ghosts S} where
   pub loses_key : (site : List ℕ) (n : ℕ) (f : Fault) (old new : S) → Keeps meaning old new
       → IsLost f → Settles meaning site n (Err f) old new
   loses_key site n f old new keeps lost = record {
-    honest = keeps.honest;
-    was_open = keeps.was_open;
-    counts = keeps.counts;
+    later = keeps.later;
+    opens = λ honest. tt;
+    same = λ honest is idle. keeps.same honest is;
     answers = λ honest j held. inl lost;
-    holds = λ honest j held is. subst (HoldsIn shows j) (sym (keeps.same honest is)) (held (keeps.was_open honest is));
+    holds = λ honest j held is. subst (HoldsIn shows j) (sym (keeps.same honest is)) (held (keeps.later.was_open honest is));
     leaves = λ honest j hand guards i may. rw (lost_kind f lost) (left_more shows j (Settled site n) hand i (guards.left i (keeps.crash honest i may)));
   }
 
@@ -82,9 +84,9 @@ module _ {S : Type 0} {meaning : Ghosts S} where
       → Keeps meaning old new → (is_honest new → is_open new) → check_key site n ≡ Ok false
       → (is_honest new → (rows : Rows) → shows (image old) rows → m ≡ mark_at site rows) → n ≤ m → Settles meaning site n (Ok m) old new
   tells_mark leaves site n m old new keeps opens passed found below = record {
-    honest = keeps.honest;
-    was_open = keeps.was_open;
-    counts = keeps.counts;
+    later = keeps.later;
+    opens = opens;
+    same = λ honest is idle. keeps.same honest is;
     answers = λ honest j held. owed honest j (held (was_open honest));
     holds = holds;
     leaves = λ honest j hand guards i may.
@@ -92,7 +94,7 @@ module _ {S : Type 0} {meaning : Ghosts S} where
   }
     where
       was_open : is_honest new → is_open old
-      was_open honest = keeps.was_open honest (opens honest)
+      was_open honest = keeps.later.was_open honest (opens honest)
 
       is_mark : is_honest new → (j : Journal) → HoldsIn shows j (image old) → m ≡ mark j site
       is_mark honest j (rows, shown, held) = found honest rows shown ∙ held.marks site
@@ -113,28 +115,33 @@ module _ {S : Type 0} {meaning : Ghosts S} where
           (holds_in_alike shows j (Settled site n ∷ j) (image old) (alike honest j before) before)
 
   -- a settlement that was carried out after a call that only read
-  pub settles_after : (leaves : LeavesTables meaning) (site : List ℕ) (n m : ℕ)
+  pub settles_after : (leaves : LeavesTables meaning) (site : List ℕ) (n before m : ℕ)
       (old mid new : S) → Keeps meaning old mid
+      → (is_honest mid → (rows : Rows) → shows (image old) rows → before ≡ mark_at site rows) → before < n
       → Tries meaning (λ _. Unit {0}) (settled_to site n) mid new → (is_honest new → is_open new)
       → check_key site n ≡ Ok false
       → (is_honest new → (rows : Rows) → shows (image mid) rows
       → (m ≡ mark_at site (settled_to site n rows)) × shows (image new) (settled_to site n rows))
       → Settles meaning site n (Ok m) old new
-  settles_after leaves site n m old mid new keeps tries opens passed done = record {
-    honest = λ honest. keeps.honest (tries.honest honest);
-    was_open = λ honest is. keeps.was_open (tries.honest honest) (tries.was_open honest is);
-    counts = (let less = keeps.counts in let more = tries.counts in grind arith);
+  settles_after leaves site n before m old mid new keeps marks below tries opens passed done = record {
+    later = later_twice keeps.later tries.later;
+    opens = opens;
+    same = λ honest is idle. absurd (unsettled honest idle);
     answers = λ honest j held. owed honest j (there honest j held);
     holds = λ honest j held is. holds honest j (there honest j held);
     leaves = λ honest j hand guards i may.
         inl (left_held shows (Settled site n ∷ j) (image new) i (leaves new i honest (opens honest) may) (holds honest j (there honest j guards.shown)));
   }
     where
+      unsettled : is_honest new → IsIdleSettlement meaning site n (Ok m) old → ⊥
+      unsettled honest (inl failed) = false≢true failed
+      unsettled honest (inr (rows, shown, settled)) = let is = marks (tries.later.honest honest) rows shown in omega (arith, is, below, settled)
+
       there : is_honest new → (j : Journal) → IsHeld meaning j old → HoldsIn shows j (image mid)
       there honest j held =
-          let before = tries.honest honest in
-          let is = tries.was_open honest (opens honest) in
-          subst (HoldsIn shows j) (sym (keeps.same before is)) (held (keeps.was_open before is))
+          let before = tries.later.honest honest in
+          let is = tries.later.was_open honest (opens honest) in
+          subst (HoldsIn shows j) (sym (keeps.same before is)) (held (keeps.later.was_open before is))
 
       owed : is_honest new → (j : Journal) → HoldsIn shows j (image mid) → mark_after j site n ≡ Ok m
       owed honest j (rows, shown, held) =
@@ -148,17 +155,18 @@ module _ {S : Type 0} {meaning : Ghosts S} where
       → Tries meaning (λ _. Unit {0}) (settled_to site n) mid new → IsLost f
       → (is_honest new → is_open new → image new ≡ image mid) → Settles meaning site n (Err f) old new
   loses_settlement site n f old mid new keeps tries lost same = record {
-    honest = λ honest. keeps.honest (tries.honest honest);
-    was_open = λ honest is. keeps.was_open (tries.honest honest) (tries.was_open honest is);
-    counts = (let less = keeps.counts in let more = tries.counts in grind arith);
+    later = later_twice keeps.later tries.later;
+    opens = λ honest. tt;
+    same = λ honest is idle. same honest is ∙ keeps.same (tries.later.honest honest) (tries.later.was_open honest is);
     answers = λ honest j held. inl lost;
-    holds = λ honest j held is. subst (HoldsIn shows j) (sym (same honest is)) (there (tries.honest honest) j held (tries.was_open honest is));
+    holds = λ honest j held is.
+        subst (HoldsIn shows j) (sym (same honest is)) (there (tries.later.honest honest) j held (tries.later.was_open honest is));
     leaves = λ honest j hand guards i may.
-        rw (lost_kind f lost) (by (tries.honest honest) j hand guards i (tries.crash honest i may));
+        rw (lost_kind f lost) (by (tries.later.honest honest) j hand guards i (tries.crash honest i may));
   }
     where
       there : is_honest mid → (j : Journal) → IsHeld meaning j old → is_open mid → HoldsIn shows j (image mid)
-      there honest j held is = subst (HoldsIn shows j) (sym (keeps.same honest is)) (held (keeps.was_open honest is))
+      there honest j held is = subst (HoldsIn shows j) (sym (keeps.same honest is)) (held (keeps.later.was_open honest is))
 
       carried : (j : Journal) (i : Image) → ((rows : Rows) → shows (image mid) rows → Unit {0} → shows i (settled_to site n rows))
           → HoldsIn shows j (image mid) → HoldsIn shows (Settled site n ∷ j) i

@@ -1,5 +1,5 @@
 -- What calls of a store, one after the other, make of what it keeps.
-use Rattle.std.proofs.Common.{◌≡◌, ℕ, ◌≤◌, ◌⊎◌, List, None, inl, inr, ap, subst, arith}
+use Rattle.std.proofs.Common.{◌≡◌, ◌⊎◌, List, None, inl, inr, ap, subst}
 use Rattle.upd_text.specs.declared.fault.Fault.{Fault}
 use Rattle.upd_text.specs.declared.fault.FaultKind.TheVariants.{NoMemory}
 use Rattle.upd_text.specs.Faults.{fault_at}
@@ -9,8 +9,9 @@ use Rattle.upd_records.specs.Fits.{AllFit}
 use Rattle.upd_core.specs.Library.{LibraryView}
 use Rattle.upd_compile.specs.declared.mode.Mode.{Mode}
 use Rattle.upd_row_store.specs.declared.meaning.Meaning.{Ghosts}
-use Rattle.upd_row_store.specs.Keeping.{IsLost, Keeps, MoreFailures, OfMemory, Tries}
+use Rattle.upd_row_store.specs.Keeping.{IsLost, Keeps, OfMemory, Tries}
 use Rattle.upd_row_store.specs.Tables.{committed}
+use Rattle.upd_row_store.proofs.StoreLemmas.{later_twice}
 use Rattle.upd_row_store.proofs.TableLemmas.{shows_committed, states_committed, runs_committed, marks_stay}
 use Rattle.upd_desk.specs.Arrivals.{ArrivalView}
 use Rattle.upd_desk.specs.Journal.{run_of}
@@ -36,14 +37,6 @@ commits_run mode a l cs rows leads = record {
 pub lost_memory : (f : Fault) → f ≡ fault_at NoMemory 0 → IsLost f
 lost_memory f is = OfMemory f (ap (λ g. g.kind) is) (ap (λ g. g.at) is)
 
--- ---- counts of failures
-
-pub more_before : (old mid new : ℕ) → old ≤ mid → MoreFailures mid new → MoreFailures old new
-more_before old mid new less more = grind arith
-
-pub more_after : (old mid new : ℕ) → MoreFailures old mid → mid ≤ new → MoreFailures old new
-more_after old mid new more less = grind arith
-
 module _ {Image : Type 0} (shows : Image → Rows → Type 0) where
   -- what a commit of such changes writes is what a new run makes of the image
   pub becomes_by : (mode : Mode) (a : ArrivalView) (cs : List ChangeView) (run : RunView) (before later : Image)
@@ -64,9 +57,7 @@ module _ {S : Type 0} {meaning : Ghosts S} where
   pub keeps_as_run : (mode : Mode) (a : ArrivalView) (old new : S) → Keeps meaning old new
       → TriesRun meaning mode a old new
   keeps_as_run mode a old new keeps = record {
-    honest = keeps.honest;
-    was_open = keeps.was_open;
-    counts = keeps.counts;
+    later = keeps.later;
     crash = λ honest i may. inl (keeps.crash honest i may);
   }
 
@@ -78,20 +69,18 @@ module _ {S : Type 0} {meaning : Ghosts S} where
       → AllFit cs rows × AddsRun mode a l rows (committed cs run rows))
       → TriesRun meaning mode a old new
   commit_as_run mode a cs run old mid new keeps tries makes = record {
-    honest = λ honest. keeps.honest (tries.honest honest);
-    was_open = λ honest is. keeps.was_open (tries.honest honest) (tries.was_open honest is);
-    counts = (let less = keeps.counts in let more = tries.counts in grind arith);
+    later = later_twice keeps.later tries.later;
     crash = λ honest i may. by honest i (tries.crash honest i may);
   }
     where
       by : is_honest new → (i : Image)
           → may_leave mid i ⊎ (is_open mid × ((rows : Rows) → shows (image mid) rows → AllFit cs rows → shows i (committed cs run rows)))
           → may_leave old i ⊎ (is_open old × Becomes shows mode a (image old) i)
-      by honest i (inl may) = inl (keeps.crash (tries.honest honest) i may)
+      by honest i (inl may) = inl (keeps.crash (tries.later.honest honest) i may)
       by honest i (inr (is, writes)) =
-          let before = tries.honest honest in
+          let before = tries.later.honest honest in
           let there = subst (λ j. (rows : Rows) → shows j rows → AllFit cs rows → shows i (committed cs run rows)) (keeps.same before is) writes in
-          inr (keeps.was_open before is, becomes_by shows mode a cs run (image old) i there (makes before is))
+          inr (keeps.later.was_open before is, becomes_by shows mode a cs run (image old) i there (makes before is))
 
   -- the same of a commit that was carried out
   pub commit_becomes : (mode : Mode) (a : ArrivalView) (cs : List ChangeView) (run : RunView) (old mid new : S)
@@ -102,8 +91,8 @@ module _ {S : Type 0} {meaning : Ghosts S} where
       → AllFit cs rows × AddsRun mode a l rows (committed cs run rows))
       → is_honest new → Becomes shows mode a (image old) (image new)
   commit_becomes mode a cs run old mid new keeps tries opens writes makes honest =
-      let before = tries.honest honest in
-      let is = tries.was_open honest (opens honest) in
+      let before = tries.later.honest honest in
+      let is = tries.later.was_open honest (opens honest) in
       becomes_by shows mode a cs run (image old) (image new)
       (subst (λ j. (rows : Rows) → shows j rows → AllFit cs rows → shows (image new) (committed cs run rows)) (keeps.same before is) (writes honest))
       (makes before)

@@ -52,7 +52,7 @@ module _ {S : Type 0} {meaning : Ghosts S} where
   -- what was held before calls that only read is held after them
   held_there : (old mid : S) → Keeps meaning old mid → is_honest mid → is_open mid → (j : Journal) → (is_open old → HoldsIn shows j (image old))
       → HoldsIn shows j (image mid)
-  held_there old mid keeps honest is j held = subst (HoldsIn shows j) (sym (keeps.same honest is)) (held (keeps.was_open honest is))
+  held_there old mid keeps honest is j held = subst (HoldsIn shows j) (sym (keeps.same honest is)) (held (keeps.later.was_open honest is))
 
   -- ---- a stored run
 
@@ -81,8 +81,8 @@ module _ {S : Type 0} {meaning : Ghosts S} where
       → work ≡ looked_at l (compiled mode a.bytes l))
       → is_honest new → (j : Journal) → (is_open old → HoldsIn shows j (image old)) → work ≡ work_of j a
   work_kept mode a work old mid new keeps tries asks opens looks honest j held =
-      let before = tries.honest honest in
-      let is = tries.was_open honest (opens honest) in
+      let before = tries.later.honest honest in
+      let is = tries.later.was_open honest (opens honest) in
       by is (asks before) (held_there old mid keeps before is j held)
     where
       by : is_open mid → IsAsked meaning mode a None mid → HoldsIn shows j (image mid) → work ≡ work_of j a
@@ -96,8 +96,8 @@ module _ {S : Type 0} {meaning : Ghosts S} where
       → length (altered l (outcome mode a l).library) ≤ work)
       → is_honest new → (j : Journal) → (is_open old → HoldsIn shows j (image old)) → length (altered (library_after j) (library_after (Came a ∷ j))) ≤ work
   least_kept mode a work old mid new keeps tries asks opens least honest j held =
-      let before = tries.honest honest in
-      let is = tries.was_open honest (opens honest) in
+      let before = tries.later.honest honest in
+      let is = tries.later.was_open honest (opens honest) in
       by is (asks before) (held_there old mid keeps before is j held)
     where
       by : is_open mid → IsAsked meaning mode a None mid → HoldsIn shows j (image mid) → length (altered (library_after j) (library_after (Came a ∷ j))) ≤ work
@@ -114,8 +114,8 @@ module _ {S : Type 0} {meaning : Ghosts S} where
       → next ≤ after + length (needed a.bytes l))
       → is_honest new → (j : Journal) → (is_open old → HoldsIn shows j (image old)) → next ≤ first + length (needed_by j a)
   reads_kept mode a first after next old mid new keeps tries asks opens none reads honest j held =
-      let before = tries.honest honest in
-      let is = tries.was_open honest (opens honest) in
+      let before = tries.later.honest honest in
+      let is = tries.later.was_open honest (opens honest) in
       by is (asks before) (held_there old mid keeps before is j held)
     where
       by : is_open mid → IsAsked meaning mode a None mid → HoldsIn shows j (image mid) → next ≤ first + length (needed_by j a)

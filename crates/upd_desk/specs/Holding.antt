@@ -1,5 +1,6 @@
 -- When a store holds what a desk owes after a journal, and what a crash may have left of it.
-use Rattle.std.specs.Prelude.{◌≡◌, ℕ, ◌≤◌, Bool, true, false, ◌⊎◌, if◌then◌else◌, List, [], ◌∷◌, ◌++◌, None, Result, Ok, Err, ◌+◌, length, IfErr, IfOk, OnOk}
+use Rattle.std.specs.Prelude.{◌≡◌, ℕ, ◌+◌, ◌≤◌, Bool, true, false, ◌⊎◌, if◌then◌else◌, List, [], ◌∷◌, ◌++◌, length, None, IsSome}
+use Rattle.std.specs.Prelude.{Result, Ok, Err, IfErr, IfOk, IsErr, IsOk, OnOk}
 use Rattle.std.specs.List.{Any}
 use Rattle.upd_text.specs.declared.fault.Fault.{Fault}
 use Rattle.upd_text.specs.declared.fault.FaultKind.{FaultKind}
@@ -10,7 +11,7 @@ use Rattle.upd_records.specs.Rows.{Rows, Shows, ShowsStates}
 use Rattle.upd_compile.specs.declared.mode.Mode.{Mode}
 use Rattle.upd_yank.specs.Affected.{altered}
 use Rattle.upd_row_store.specs.declared.meaning.Meaning.{Ghosts}
-use Rattle.upd_row_store.specs.Keeping.{IsLost, IsShown}
+use Rattle.upd_row_store.specs.Keeping.{IsLater, IsLost, IsShown, OpensOk, failures_after}
 use Rattle.upd_row_store.specs.Tables.{mark_at, run_at}
 use Rattle.upd_desk.specs.Arrivals.{ArrivalView, check_key}
 use Rattle.upd_desk.specs.Journal.{Event, Came, Settled, Journal, answer, kept, mark, run_of, library_after}
@@ -92,6 +93,17 @@ AreAnswers journal [] (result ∷ results) = ⊥
 AreAnswers journal (a ∷ later) [] = ⊥
 AreAnswers journal (a ∷ later) (result ∷ results) = IsAnswer journal a result × AreAnswers (after journal a result) later results
 
+-- the last of these answers is a reply
+abbrev pub EndsInReply : List (Result ReplyView Fault) → Type 0
+EndsInReply [] = ⊥
+EndsInReply (result ∷ []) = IsOk result
+EndsInReply (result ∷ results) = EndsInReply results
+
+-- the count of failures after them
+abbrev pub failures_after_all : List (Result ReplyView Fault) → ℕ → ℕ
+failures_after_all [] failures = failures
+failures_after_all (result ∷ results) failures = failures_after_all results (failures_after result failures)
+
 -- what is in hand after them
 abbrev pub in_hand_after_all : List Event → List ArrivalView → List (Result ReplyView Fault) → List Event
 in_hand_after_all in_hand [] results = in_hand
@@ -120,7 +132,7 @@ module _ {Image : Type 0} (shows : Image → Rows → Type 0) where
   IsLeft journal in_hand image = HoldsIn journal image ⊎ Any (λ e. HoldsIn (e ∷ journal) image) in_hand
 
 module _ {S : Type 0} (meaning : Ghosts S) where
-  open meaning use {Image, shows, image, is_open, is_honest, may_leave, failures_of, decks_read_of}
+  open meaning use {Image, shows, image, is_open, is_honest, may_leave, decks_read_of}
 
   -- the store holds what is expected after a journal, as far as it is open
   abbrev pub IsHeld : Journal → S → Type 0
@@ -170,16 +182,19 @@ module _ {S : Type 0} (meaning : Ghosts S) where
   -- A call that tries to keep a new run: a crash leaves nothing that it could not leave before, but for what the run makes of what the
   -- store kept.
   pub record TriesRun (mode : Mode) (a : ArrivalView) (old new : S) : Type 0 where
-    pub honest : is_honest new → is_honest old
-    pub was_open : is_honest new → is_open new → is_open old
-    pub counts : failures_of old ≤ failures_of new
+    pub later : IsLater meaning old new
     pub crash : is_honest new → (i : Image) → may_leave new i → may_leave old i ⊎ (is_open old × Becomes shows mode a (image old) i)
+
+  -- an arrival that has to change nothing: it is answered by a fault, or the store has a run under its key
+  abbrev pub IsIdle : ArrivalView → Result ReplyView Fault → S → Type 0
+  IsIdle a result s = IsErr result ⊎ ((rows : Rows) × IsShown meaning rows s × IsSome (run_at a.site a.number rows))
 
   -- what an arrival does to a desk over a store
   pub record Arrives (a : ArrivalView) (result : Result ReplyView Fault) (old new : S) : Type 0 where
-    pub honest : is_honest new → is_honest old
-    pub was_open : is_honest new → is_open new → is_open old
-    pub counts : failures_of old ≤ failures_of new
+    pub later : IsLater meaning old new
+    pub opens : OpensOk meaning result new
+    -- an arrival that has to change nothing leaves the image
+    pub same : is_honest new → is_open new → IsIdle a result old → image new ≡ image old
     -- the answer is the one that is expected after any journal that the store holds
     pub answers : is_honest new → (journal : Journal) → IsHeld journal old → IsAnswer journal a result
     -- and then the store holds the journal with this arrival
@@ -189,22 +204,33 @@ module _ {S : Type 0} (meaning : Ghosts S) where
     pub leaves : is_honest new → (journal : Journal) (in_hand : List Event) → Guards journal in_hand old → (i : Image) → may_leave new i
         → IsLeft shows (after journal a result) (in_hand_after a in_hand result) i
 
+  -- a settlement that has to change nothing: it is answered by a fault, or the site has settled so far already
+  abbrev pub IsIdleSettlement : List ℕ → ℕ → Result ℕ Fault → S → Type 0
+  IsIdleSettlement site n result s = IsErr result ⊎ ((rows : Rows) × IsShown meaning rows s × (n ≤ mark_at site rows))
+
   -- what a settlement does to a desk over a store
   pub record Settles (site : List ℕ) (n : ℕ) (result : Result ℕ Fault) (old new : S) : Type 0 where
-    pub honest : is_honest new → is_honest old
-    pub was_open : is_honest new → is_open new → is_open old
-    pub counts : failures_of old ≤ failures_of new
+    pub later : IsLater meaning old new
+    pub opens : OpensOk meaning result new
+    -- a settlement that has to change nothing leaves the image
+    pub same : is_honest new → is_open new → IsIdleSettlement site n result old → image new ≡ image old
     pub answers : is_honest new → (journal : Journal) → IsHeld journal old → IsOwed (mark_after journal site n) result
     pub holds : is_honest new → (journal : Journal) → IsHeld journal old → is_open new
         → HoldsIn shows (after_settlement journal site n result) (image new)
     pub leaves : is_honest new → (journal : Journal) (in_hand : List Event) → Guards journal in_hand old → (i : Image) → may_leave new i
         → IsLeft shows (after_settlement journal site n result) (in_hand_after_settlement site n in_hand result) i
 
+  -- each of these arrivals has to change nothing
+  abbrev pub AreIdle : List ArrivalView → List (Result ReplyView Fault) → S → Type 0
+  AreIdle [] results s = Unit {0}
+  AreIdle (a ∷ later) [] s = Unit {0}
+  AreIdle (a ∷ later) (result ∷ results) s = IsIdle a result s × AreIdle later results s
+
   -- what arrivals one after the other do to a desk over a store
   pub record RunAll (list : List ArrivalView) (results : List (Result ReplyView Fault)) (old new : S) : Type 0 where
-    pub honest : is_honest new → is_honest old
-    pub was_open : is_honest new → is_open new → is_open old
-    pub counts : failures_of old ≤ failures_of new
+    pub later : IsLater meaning old new
+    -- arrivals that have to change nothing leave the image
+    pub same : is_honest new → is_open new → AreIdle list results old → image new ≡ image old
     pub answers : is_honest new → (journal : Journal) → IsHeld journal old → AreAnswers journal list results
     pub holds : is_honest new → (journal : Journal) → IsHeld journal old → is_open new
         → HoldsIn shows (after_all journal list results) (image new)

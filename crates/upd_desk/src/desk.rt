@@ -1,15 +1,14 @@
 //! The desk over a store.
 
 ghost use Rattle.std.specs.Prelude.{◌≡◌, ◌+◌, ◌≤◌, [], Ok, IfErr, IfOk, OnErr};
-ghost use Rattle.std.specs.List.{All};
 ghost use Rattle.std.specs.Result.{result_map_both};
 ghost use Rattle.upd_desk.specs.Arrivals.{arrival_view};
 ghost use Rattle.upd_compile.specs.File.{compile_file_of};
 ghost use Rattle.upd_compile.specs.Listings.{card_listing, deck_listing, ident_listing, yank_listing};
 ghost use Rattle.upd_compile.specs.declared.mode.Mode.TheVariants.{Full};
-ghost use Rattle.upd_desk.specs.Holding.{Arrives, EachHeld, LooksAt, LooksAtAltered, ReadsNeeded};
-ghost use Rattle.upd_desk.specs.Holding.{ReadsNoneRefused, RunAll, Settles, Tells, work_after_all};
-ghost use Rattle.upd_row_store.specs.Keeping.{CountsFailure, Keeps};
+ghost use Rattle.upd_desk.specs.Holding.{Arrives, EachHeld, EndsInReply, LooksAt, LooksAtAltered, ReadsNeeded};
+ghost use Rattle.upd_desk.specs.Holding.{ReadsNoneRefused, RunAll, Settles, Tells, failures_after_all, work_after_all};
+ghost use Rattle.upd_row_store.specs.Keeping.{CountsFailure, Keeps, OpensOk};
 ghost use Rattle.upd_text.specs.Faults.{fault_at};
 ghost use Rattle.upd_text.specs.declared.fault.FaultKind.TheVariants.{NoMemory};
 
@@ -125,8 +124,10 @@ impl<S: RowStore> Desk<S> {
         ensures work { EachHeld S.Meaning self.old.store self.new.store
             (λ journal. IfOk result
             (λ answers. self.new.work ≡ work_after_all self.old.work journal list.now answers.items)) }
-        ensures failed { IfOk result
-            (λ answers. All (λ answer. CountsFailure S.Meaning answer self.old.store self.new.store) answers.items) }
+        ensures opens { IfOk result (λ answers. S.is_honest self.new.store → EndsInReply answers.items
+            → S.is_open self.new.store) }
+        ensures failed { IfOk result (λ answers. S.failures_of self.new.store
+            ≡ failures_after_all answers.items (S.failures_of self.old.store)) }
         ensures none { OnErr result (self.new.store ≡ self.old.store) }
         ensures idle { OnErr result (self.new.work ≡ self.old.work) }
         ensures err { IfErr result (λ fault. fault ≡ fault_at NoMemory 0) }
@@ -161,6 +162,7 @@ impl<S: RowStore> Desk<S> {
     pub fn full_compile(&mut self, alloc: Global) -> Result<CompileFile, Fault>
         ensures text { Tells S.Meaning (λ l. compile_file_of Full [] l l)
             (result_map_both (λ file. file) (λ fault. fault) result) self.old.store self.new.store }
+        ensures opens { OpensOk S.Meaning result self.new.store }
         ensures same { Keeps S.Meaning self.old.store self.new.store }
         ensures unread { S.decks_read_of self.new.store ≡ S.decks_read_of self.old.store }
         ensures idle { self.new.work ≡ self.old.work }
@@ -176,6 +178,7 @@ impl<S: RowStore> Desk<S> {
     /// The whole library, as the runs have made it. After NoMemory or Store, at 0, it can be asked again.
     pub fn library(&mut self, alloc: Global) -> Result<Library, Fault>
         ensures library { Tells S.Meaning (λ l. Ok l) result self.old.store self.new.store }
+        ensures opens { OpensOk S.Meaning result self.new.store }
         ensures same { Keeps S.Meaning self.old.store self.new.store }
         ensures idle { self.new.work ≡ self.old.work }
         ensures failed { CountsFailure S.Meaning result self.old.store self.new.store }
@@ -191,6 +194,7 @@ impl<S: RowStore> Desk<S> {
     pub fn deck_list(&mut self, alloc: Global, name: &Name) -> Result<Vec<u8>, Fault>
         ensures text { Tells S.Meaning (deck_listing name.now)
             (result_map_both (λ text. text.items) (λ fault. fault) result) self.old.store self.new.store }
+        ensures opens { OpensOk S.Meaning result self.new.store }
         ensures same { Keeps S.Meaning self.old.store self.new.store }
         ensures reads { EachHeld S.Meaning self.old.store self.new.store
             (λ journal. S.decks_read_of self.new.store ≤ S.decks_read_of self.old.store + 1) }
@@ -209,6 +213,7 @@ impl<S: RowStore> Desk<S> {
     pub fn card_list(&mut self, alloc: Global, card: CardRef) -> Result<Vec<u8>, Fault>
         ensures text { Tells S.Meaning (card_listing card)
             (result_map_both (λ text. text.items) (λ fault. fault) result) self.old.store self.new.store }
+        ensures opens { OpensOk S.Meaning result self.new.store }
         ensures same { Keeps S.Meaning self.old.store self.new.store }
         ensures reads { EachHeld S.Meaning self.old.store self.new.store
             (λ journal. S.decks_read_of self.new.store ≤ S.decks_read_of self.old.store + 1) }
@@ -226,6 +231,7 @@ impl<S: RowStore> Desk<S> {
     pub fn ident_list(&mut self, alloc: Global) -> Result<Vec<u8>, Fault>
         ensures text { Tells S.Meaning (λ l. Ok (ident_listing l))
             (result_map_both (λ text. text.items) (λ fault. fault) result) self.old.store self.new.store }
+        ensures opens { OpensOk S.Meaning result self.new.store }
         ensures same { Keeps S.Meaning self.old.store self.new.store }
         ensures reads { EachHeld S.Meaning self.old.store self.new.store
             (λ journal. S.decks_read_of self.new.store ≤ S.decks_read_of self.old.store) }
@@ -243,6 +249,7 @@ impl<S: RowStore> Desk<S> {
     pub fn yank_list(&mut self, alloc: Global) -> Result<Vec<u8>, Fault>
         ensures text { Tells S.Meaning (λ l. Ok (yank_listing l))
             (result_map_both (λ text. text.items) (λ fault. fault) result) self.old.store self.new.store }
+        ensures opens { OpensOk S.Meaning result self.new.store }
         ensures same { Keeps S.Meaning self.old.store self.new.store }
         ensures reads { EachHeld S.Meaning self.old.store self.new.store
             (λ journal. S.decks_read_of self.new.store ≤ S.decks_read_of self.old.store) }

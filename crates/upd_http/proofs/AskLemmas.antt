@@ -1,8 +1,9 @@
 -- Questions to the desk and their answers.
-use Rattle.std.proofs.Common.{◌≡◌, inl, inr, Result, Ok, Err, IfOk, IfErr, IsErr, refl}
+use Rattle.std.proofs.Common.{◌≡◌, ℕ, inl, inr, Result, Ok, Err, IfOk, IfErr, IsErr, refl}
 use Rattle.std.proofs.Common.{sym, ap, ◌∙◌}
 use Rattle.std.specs.Result.{result_map_both}
 use Rattle.upd_text.specs.declared.fault.Fault.{Fault}
+use Rattle.upd_row_store.specs.Keeping.{failures_after}
 use Rattle.upd_http.specs.Responses.{Response, fault_response, response_of}
 use Rattle.upd_http.specs.Serving.{AnswersTold, no_memory}
 use Rattle.upd_http.specs.Views.{answer_seen, response}
@@ -29,10 +30,11 @@ answered_fault {A = A} f result fault (Err e) is ok err = inr (fails result is, 
     fails (Ok x) is = absurd (ok_is_no_err is)
     fails (Err e) is = refl
 
--- a result that is seen another way fails alike
-pub fails_alike : {A B : Type 0} (seen : A → B) (P : Fault → Type 0) (result : Result A Fault) → IfErr result P → IfErr (result_map_both seen (λ e. e) result) P
-fails_alike seen P (Ok x) fails = tt
-fails_alike seen P (Err e) fails = fails
+-- a result that is seen another way counts alike
+pub fails_alike : {A B : Type 0} (seen : A → B) (old : ℕ) (result : Result A Fault) {new : ℕ} → new ≡ failures_after result old
+    → new ≡ failures_after (result_map_both seen (λ e. e) result) old
+fails_alike seen old (Ok x) counts = counts
+fails_alike seen old (Err e) counts = counts
 
 pub seen_ok : {A B : Type 0} (seen : A → B) (result : Result A Fault) (x : A) → result ≡ Ok x → result_map_both seen (λ e. e) result ≡ Ok (seen x)
 seen_ok seen result x is = ap (λ r. result_map_both seen (λ e. e) r) is

@@ -67,6 +67,8 @@ impl Meaning for ListStore {
 
     ghost failures_of = { λ _. 0 };
 
+    ghost disk_failures_of = { λ _. 0 };
+
     ghost decks_read_of = { λ s. s.decks_read };
 }
 

@@ -1,113 +1,97 @@
 -- What a store keeps, and what a crash leaves of it, over several calls.
-use Rattle.std.proofs.Common.{◌≡◌, ◌⊎◌, Result, Ok, Err, IfErr, OnErr, OnOk, inl, inr, refl, sym, ap, ◌∙◌, subst, rules, arith}
+use Rattle.std.proofs.Common.{◌≡◌, ℕ, ◌≤◌, ◌⊎◌, Result, Ok, Err, IfErr, OnErr, OnOk, inl, inr, refl, sym, ap, ◌∙◌, subst, rules, arith}
 use Rattle.std.specs.Result.{IsErrAnd}
 use Rattle.upd_text.specs.declared.fault.Fault.{Fault}
-use Rattle.upd_text.specs.declared.fault.FaultKind.TheVariants.{NoMemory, Store}
+use Rattle.upd_text.specs.declared.fault.FaultKind.TheVariants.{NoMemory}
 use Rattle.upd_text.specs.Faults.{fault_at}
 use Rattle.upd_core.specs.Library.{LibraryView}
 use Rattle.upd_records.specs.Rows.{Rows}
 use Rattle.upd_row_store.specs.declared.meaning.Meaning.{Ghosts}
-use Rattle.upd_row_store.specs.Keeping.{Keeps, LeavesLoad, LeavesRead, LeavesWrite, Tries, reads_after}
+use Rattle.upd_row_store.specs.Keeping.{IsLater, Keeps, LeavesLoad, LeavesRead, LeavesWrite, MoreFailures, Tries}
+use Rattle.upd_row_store.specs.Keeping.{failures_after, failures_with, reads_after}
 use Rattle.upd_row_store.proofs.KeepingLemmas.{lost_for_memory}
 
--- out of memory is no failure of a store, and no answer
-memory_counts : {A : Type 0} (P : Type 0) (r : Result A Fault) → IsErrAnd r (λ e. e ≡ fault_at NoMemory 0) → IfErr r (λ e. e.kind ≡ Store → P)
-memory_counts P (Ok x) is = search rules
-memory_counts P (Err e) is = λ store. absurd (let clash : NoMemory ≡ Store = sym (ap (λ g. g.kind) is) ∙ store in cc)
+-- out of memory counts none, and is no answer
+pub memory_counts : {A : Type 0} (n : ℕ) (r : Result A Fault) → IsErrAnd r (λ e. e ≡ fault_at NoMemory 0) → n ≡ failures_after r n
+memory_counts n (Ok x) is = search rules
+memory_counts n (Err e) is = sym (ap (λ f. failures_with f.kind n) is)
 
 opens_none : {A : Type 0} (P : Type 0) (r : Result A Fault) → IsErrAnd r (λ e. e ≡ fault_at NoMemory 0) → OnOk r P
 opens_none P (Ok x) is = search rules
 opens_none P (Err e) is = tt
 
+-- ---- counts of failures
+
+more_before : (old mid new : ℕ) → old ≤ mid → MoreFailures mid new → MoreFailures old new
+more_before old mid new less more = grind arith
+
+more_after : (old mid new : ℕ) → MoreFailures old mid → mid ≤ new → MoreFailures old new
+more_after old mid new more less = grind arith
+
+-- what is open after two calls, unless the count rose
+closed_by : {Mid New : Type 0} (old mid new : ℕ) → old ≤ mid → mid ≤ new → (Mid → New ⊎ MoreFailures mid new) → Mid ⊎ MoreFailures old mid
+    → New ⊎ MoreFailures old new
+closed_by old mid new first second closes (inr more) = inr (more_after old mid new more second)
+closed_by {New = New} old mid new first second closes (inl is) = by (closes is)
+  where
+    by : New ⊎ MoreFailures mid new → New ⊎ MoreFailures old new
+    by (inl still) = inl still
+    by (inr more) = inr (more_before old mid new first more)
+
 module _ {S : Type 0} {meaning : Ghosts S} where
-  open meaning use {Image, shows, image, is_open, is_honest, may_leave, decks_read_of}
+  open meaning use {Image, shows, image, is_open, is_honest, may_leave, failures_of, disk_failures_of, decks_read_of}
 
   -- nothing was called
+  pub later_still : (s : S) → IsLater meaning s s
+  later_still s = record { honest = λ h. h; was_open = λ h o. o; closes = λ h o. inl o; disk_counts = omega arith; counts = omega arith }
+
   pub keeps_still : (s : S) → Keeps meaning s s
-  keeps_still s = record { honest = λ h. h; was_open = λ h o. o; same = λ h o. refl; crash = λ h i may. may; counts = omega arith }
+  keeps_still s = record { later = later_still s; same = λ h o. refl; crash = λ h i may. may }
+
+  -- calls, then others
+  pub later_twice : {old mid new : S} → IsLater meaning old mid → IsLater meaning mid new → IsLater meaning old new
+  later_twice {old} {mid} {new} a b = record {
+    honest = λ h. a.honest (b.honest h);
+    was_open = λ h o. a.was_open (b.honest h) (b.was_open h o);
+    closes = λ h o. closed_by (disk_failures_of old) (disk_failures_of mid) (disk_failures_of new) a.disk_counts b.disk_counts (b.closes h)
+        (a.closes (b.honest h) o);
+    disk_counts = omega (arith, a.disk_counts, b.disk_counts);
+    counts = omega (arith, a.counts, b.counts);
+  }
 
   -- two calls that read
   pub keeps_keeps : {old mid new : S} → Keeps meaning old mid → Keeps meaning mid new → Keeps meaning old new
   keeps_keeps a b = record {
-    honest = λ h. a.honest (b.honest h);
-    was_open = λ h o. a.was_open (b.honest h) (b.was_open h o);
-    same = λ h o. b.same h o ∙ a.same (b.honest h) (b.was_open h o);
-    crash = λ h i may. a.crash (b.honest h) i (b.crash h i may);
-    counts = omega (arith, a.counts, b.counts);
-  }
-
-  -- a call that reads, then one that tries to write
-  pub keeps_tries : {fits : Rows → Type 0} {write : Rows → Rows} {old mid new : S} → Keeps meaning old mid → Tries meaning fits write mid new
-      → Tries meaning fits write old new
-  keeps_tries {fits} {write} {old} {mid} {new} a b = record {
-    honest = λ h. a.honest (b.honest h);
-    was_open = λ h o. a.was_open (b.honest h) (b.was_open h o);
-    crash = λ h i may. from (b.honest h) i (b.crash h i may);
-    counts = omega (arith, a.counts, b.counts);
-  }
-    where
-      Written : S → Image → Type 0
-      Written s i = is_open s × ((rows : Rows) → shows (image s) rows → fits rows → shows i (write rows))
-
-      from : is_honest mid → (i : Image) → may_leave mid i ⊎ Written mid i → may_leave old i ⊎ Written old i
-      from h i (inl may) = inl (a.crash h i may)
-      from h i (inr written) = inr (
-        a.was_open h written.0,
-        subst (λ j. (rows : Rows) → shows j rows → fits rows → shows i (write rows)) (a.same h written.0) written.1,
-      )
-
-  -- a call that tries to write, then one that reads
-  pub tries_keeps : {fits : Rows → Type 0} {write : Rows → Rows} {old mid new : S} → Tries meaning fits write old mid → Keeps meaning mid new
-      → Tries meaning fits write old new
-  tries_keeps a b = record {
-    honest = λ h. a.honest (b.honest h);
-    was_open = λ h o. a.was_open (b.honest h) (b.was_open h o);
-    crash = λ h i may. a.crash (b.honest h) i (b.crash h i may);
-    counts = omega (arith, a.counts, b.counts);
+    later = later_twice a.later b.later;
+    same = λ h o. b.same h o ∙ a.same (b.later.honest h) (b.later.was_open h o);
+    crash = λ h i may. a.crash (b.later.honest h) i (b.crash h i may);
   }
 
   -- a call that reads tries no more than any write
   pub keeps_as_tries : {fits : Rows → Type 0} {write : Rows → Rows} {old new : S} → Keeps meaning old new → Tries meaning fits write old new
-  keeps_as_tries a = record { honest = a.honest; was_open = a.was_open; crash = λ h i may. inl (a.crash h i may); counts = a.counts }
-
-  -- a write of fewer tables, which does the same to them
-  pub tries_weaker : {fits fewer : Rows → Type 0} {write other : Rows → Rows} {old new : S} → ((rows : Rows) → fewer rows → fits rows)
-      → ((rows : Rows) → fewer rows → write rows ≡ other rows) → Tries meaning fits write old new → Tries meaning fewer other old new
-  tries_weaker {fits} {fewer} {write} {other} {old} {new} fit same a = record {
-    honest = a.honest;
-    was_open = a.was_open;
-    crash = λ h i may. from i (a.crash h i may);
-    counts = a.counts;
-  }
-    where
-      Written : (Rows → Type 0) → (Rows → Rows) → Image → Type 0
-      Written test change i = is_open old × ((rows : Rows) → shows (image old) rows → test rows → shows i (change rows))
-
-      from : (i : Image) → may_leave old i ⊎ Written fits write i → may_leave old i ⊎ Written fewer other i
-      from i (inl may) = inl may
-      from i (inr written) = inr (written.0, λ rows shown few. subst (λ r. shows i r) (same rows few) (written.1 rows shown (fit rows few)))
+  keeps_as_tries a = record { later = a.later; crash = λ h i may. inl (a.crash h i may) }
 
   -- ---- out of memory
 
   -- a read after which memory ran out
   pub read_lost : {A : Type 0} (r : Result A Fault) (old new : S) → IsErrAnd r (λ e. e ≡ fault_at NoMemory 0) → Keeps meaning old new
-      → decks_read_of new ≡ decks_read_of old → LeavesRead meaning r old new
-  read_lost r old new is same unread = record {
+      → failures_of new ≡ failures_of old → decks_read_of new ≡ decks_read_of old → LeavesRead meaning r old new
+  read_lost r old new is same unfailed unread = record {
     opens = λ honest. opens_none _ r is;
     same = same;
     lost = lost_for_memory r is;
-    failed = memory_counts _ r is;
+    failed = unfailed ∙ memory_counts (failures_of old) r is;
     unread = unread;
   }
 
   -- a load
   pub load_lost : (r : Result LibraryView Fault) (old new : S) → IsErrAnd r (λ e. e ≡ fault_at NoMemory 0) → Keeps meaning old new
-      → decks_read_of new ≡ decks_read_of old → LeavesLoad meaning r old new
-  load_lost r old new is same unread = record {
+      → failures_of new ≡ failures_of old → decks_read_of new ≡ decks_read_of old → LeavesLoad meaning r old new
+  load_lost r old new is same unfailed unread = record {
     opens = λ honest. opens_none _ r is;
     same = same;
     lost = lost_for_memory r is;
-    failed = memory_counts _ r is;
+    failed = unfailed ∙ memory_counts (failures_of old) r is;
     reads = by r is;
   }
     where
@@ -123,7 +107,7 @@ module _ {S : Type 0} {meaning : Ghosts S} where
     undone = λ honest opened. by r;
     crash = keeps_as_tries (keeps_still old);
     lost = lost_for_memory r is;
-    failed = memory_counts _ r is;
+    failed = memory_counts (failures_of old) r is;
     unread = refl;
   })
     where

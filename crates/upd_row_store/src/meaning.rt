@@ -29,6 +29,9 @@ pub trait Meaning {
     // How often it has failed.
     ghost failures_of: { Self → ℕ };
 
+    // How often the disk has failed under it.
+    ghost disk_failures_of: { Self → ℕ };
+
     // How many decks loads have read.
     ghost decks_read_of: { Self → ℕ };
 }

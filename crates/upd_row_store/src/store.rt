@@ -15,12 +15,13 @@ use crate::meaning::Meaning;
 use std::alloc::Global;
 use upd_core::{Actives, CardRef, Change, Library, Serial, States};
 use upd_records::{LibraryRows, RunRow};
-use upd_text::Fault;
+use upd_text::{Fault, FaultKind};
 
 /// Tables of rows that are changed by commits, each of which is all or nothing, also in a crash.
 ///
-/// Each call but `failures` and `decks_read` can answer NoMemory or Store, at 0. Nothing is changed then. A failure
-/// may close the store: from then on each call answers Store, and what it keeps is found when it is opened again.
+/// Each call but `failures` and `decks_read` can answer NoMemory or Store, at 0. Nothing is changed then. Only a failure
+/// of the disk closes the store: from then on each call answers Store, and what it keeps is found when it is opened
+/// again.
 pub trait RowStore: Meaning {
     /// The whole library, from its idents, cards, entries and targets.
     fn load(&mut self, alloc: Global) -> Result<Library, Fault>
@@ -39,10 +40,14 @@ pub trait RowStore: Meaning {
             (λ l rows found. found.items ≡ decks_with cards.now l) }
         ensures leaves { LeavesRead Self.Meaning result self.old self.new };
 
-    /// The rows that a library is made of, in no order.
-    fn library_rows(&mut self, alloc: Global) -> Result<LibraryRows, Fault>
+    /// The rows that a library is made of, in no order. A store need not have this call: it answers NoMemory then, and a
+    /// store in memory over it keeps no rows.
+    fn library_rows(&mut self, _: Global) -> Result<LibraryRows, Fault>
         ensures found { FindsRows Self.Meaning result self.old self.new AreRowsOf }
-        ensures leaves { LeavesRead Self.Meaning result self.old self.new };
+        ensures leaves { LeavesRead Self.Meaning result self.old self.new }
+    {
+        Err(FaultKind::NoMemory.without_line())
+    }
 
     /// The status of each card and the count of each target that a live yank card has, by the keys of their tables.
     fn load_states(&mut self, alloc: Global) -> Result<States, Fault>
@@ -96,7 +101,7 @@ pub trait RowStore: Meaning {
         ensures leaves { LeavesWrite Self.Meaning (λ _. Unit {0}) (settled_to site.now number)
             result self.old self.new };
 
-    /// How often the store has failed, up to the greatest value.
+    /// How often a call has answered Store, up to the greatest value.
     fn failures(&self) -> u64
         ensures { result ≡ Self.failures_of self.now };
 

@@ -1,11 +1,13 @@
 -- Arrivals one after the other, and further ones behind them.
-use Rattle.std.proofs.Common.{◌≡◌, List, [], ◌∷◌, ◌++◌, length, Result, refl, sym, subst, arith}
+use Rattle.std.proofs.Common.{◌≡◌, List, [], ◌∷◌, ◌++◌, length, Result, refl, sym, ◌∙◌, subst, arith}
 use Rattle.upd_text.specs.declared.fault.Fault.{Fault}
 use Rattle.upd_row_store.specs.declared.meaning.Meaning.{Ghosts}
+use Rattle.upd_row_store.proofs.StoreLemmas.{later_still, later_twice}
 use Rattle.upd_desk.specs.Arrivals.{ArrivalView}
 use Rattle.upd_desk.specs.Journal.{Event, Journal}
 use Rattle.upd_desk.specs.Outcomes.{ReplyView}
-use Rattle.upd_desk.specs.Holding.{AreAnswers, RunAll, Arrives, HoldsIn, IsLeft, after, after_all, in_hand_after, in_hand_after_all}
+use Rattle.upd_desk.specs.Holding.{AreAnswers, AreIdle, RunAll, Arrives, HoldsIn, IsLeft, after, after_all, in_hand_after, in_hand_after_all}
+use Rattle.upd_desk.proofs.ArrivesLemmas.{idle_there}
 
 after_further : (j : Journal) (list more : List ArrivalView) (results further : List (Result ReplyView Fault)) → length results ≡ length list
     → after_all j (list ++ more) (results ++ further) ≡ after_all (after_all j list results) more further
@@ -28,15 +30,33 @@ answers_further j [] more (r ∷ results) further are then = absurd are
 answers_further j (a ∷ list) more [] further are then = absurd are
 answers_further j (a ∷ list) more (r ∷ results) further are then = (are.0, answers_further (after j a r) list more results further are.1 then)
 
+module _ {S : Type 0} (meaning : Ghosts S) where
+  open meaning use {image}
+
+  idle_further : (list more : List ArrivalView) (results further : List (Result ReplyView Fault)) (s : S) → length results ≡ length list
+      → AreIdle meaning (list ++ more) (results ++ further) s → AreIdle meaning list results s × AreIdle meaning more further s
+  idle_further [] more [] further s same idle = (tt, idle)
+  idle_further [] more (r ∷ results) further s same idle = absurd (omega (arith, same))
+  idle_further (a ∷ list) more [] further s same idle = absurd (omega (arith, same))
+  idle_further (a ∷ list) more (r ∷ results) further s same idle =
+      let both = idle_further list more results further s (omega (arith, same)) idle.1 in ((idle.0, both.0), both.1)
+
+  -- arrivals that have to change nothing have to change nothing of a store with the same image
+  all_idle_there : (list : List ArrivalView) (results : List (Result ReplyView Fault)) (old mid : S) → image mid ≡ image old
+      → AreIdle meaning list results old → AreIdle meaning list results mid
+  all_idle_there [] results old mid same idle = tt
+  all_idle_there (a ∷ list) [] old mid same idle = tt
+  all_idle_there (a ∷ list) (r ∷ results) old mid same idle =
+      (idle_there meaning a r old mid same idle.0, all_idle_there list results old mid same idle.1)
+
 module _ {S : Type 0} {meaning : Ghosts S} where
   open meaning use {Image, shows, image}
 
   -- no arrival does nothing
   pub none_arrived : (s : S) → RunAll meaning [] [] s s
   none_arrived s = record {
-    honest = λ honest. honest;
-    was_open = λ honest is. is;
-    counts = grind arith;
+    later = later_still s;
+    same = λ honest is idle. refl;
     answers = λ honest j held. tt;
     holds = λ honest j held is. held is;
     leaves = λ honest j hand guards i may. guards.left i may;
@@ -47,9 +67,8 @@ module _ {S : Type 0} {meaning : Ghosts S} where
       → Arrives meaning a result old new
       → RunAll meaning (a ∷ []) (result ∷ []) old new
   one_arrived a result old new went = record {
-    honest = went.honest;
-    was_open = went.was_open;
-    counts = went.counts;
+    later = went.later;
+    same = λ honest is idle. went.same honest is idle.0;
     answers = λ honest j held. (went.answers honest j held, tt);
     holds = went.holds;
     leaves = went.leaves;
@@ -61,17 +80,18 @@ module _ {S : Type 0} {meaning : Ghosts S} where
       → RunAll meaning more further mid new
       → RunAll meaning (list ++ more) (results ++ further) old new
   further_arrived list more results further old mid new same all went = record {
-    honest = λ honest. all.honest (went.honest honest);
-    was_open = λ honest is. all.was_open (went.honest honest) (went.was_open honest is);
-    counts = (let less = all.counts in let later = went.counts in grind arith);
-    answers = λ honest j held. answers_further j list more results further (all.answers (went.honest honest) j held)
-        (went.answers honest (after_all j list results) (all.holds (went.honest honest) j held));
+    later = later_twice all.later went.later;
+    same = λ honest is idle. let both = idle_further meaning list more results further old same idle in
+        let there = all.same (went.later.honest honest) (went.later.was_open honest is) both.0 in
+        went.same honest is (all_idle_there meaning more further old mid there both.1) ∙ there;
+    answers = λ honest j held. answers_further j list more results further (all.answers (went.later.honest honest) j held)
+        (went.answers honest (after_all j list results) (all.holds (went.later.honest honest) j held));
     holds = λ honest j held is. subst (λ k. HoldsIn shows k (image new)) (sym (after_further j list more results further same))
-        (went.holds honest (after_all j list results) (all.holds (went.honest honest) j held) is);
+        (went.holds honest (after_all j list results) (all.holds (went.later.honest honest) j held) is);
     leaves = λ honest j hand guards i may.
         left j hand (went.leaves honest (after_all j list results) (in_hand_after_all hand list results) (record {
-          shown = all.holds (went.honest honest) j guards.shown;
-          left = all.leaves (went.honest honest) j hand guards;
+          shown = all.holds (went.later.honest honest) j guards.shown;
+          left = all.leaves (went.later.honest honest) j hand guards;
         }) i may);
   }
     where

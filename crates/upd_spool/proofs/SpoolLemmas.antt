@@ -10,6 +10,8 @@ use Rattle.upd_text.specs.declared.fault.Fault.{Fault}
 use Rattle.upd_text.specs.declared.fault.FaultKind.{FaultKind}
 use Rattle.upd_text.specs.declared.fault.FaultKind.TheVariants.{NoMemory, Store, BadFrame, Read, Write}
 use Rattle.upd_row_store.specs.declared.meaning.Meaning.{Ghosts}
+use Rattle.upd_row_store.specs.Keeping.{MoreFailures, failures_with}
+use Rattle.upd_row_store.proofs.KeepingLemmas.{counts_more}
 use Rattle.upd_desk.specs.Answers.{answer_line, is_answered}
 use Rattle.upd_desk.specs.Arrivals.{ArrivalView}
 use Rattle.upd_desk.specs.Outcomes.{ReplyView}
@@ -26,6 +28,11 @@ use Rattle.upd_spool.proofs.FrameLemmas.{no_lf_no_frame}
 lost_kind : (kind : FaultKind) (fault : Fault) → GetsNoLine kind fault → is_lost kind ≡ true
 lost_kind kind fault (inl (lost, same)) = subst (λ k. is_lost k ≡ true) same lost
 lost_kind kind fault (inr (told, same)) = subst (λ k. is_lost k ≡ true) (sym same) refl
+
+-- an arrival that got no line for a failure of the store was counted
+store_counted : (fault : Fault) (old new : ℕ) → GetsNoLine Store fault → new ≡ failures_with fault.kind old → MoreFailures old new
+store_counted fault old new (inl (lost, is)) counts = counts_more {A = ReplyView} (Err fault) old new counts is
+store_counted fault old new (inr (told, clash)) counts = absurd (let is : Store ≡ NoMemory = clash in cc)
 
 read_further : (texts more taken : List ℕ) → (texts ++ []) ++ (more ++ taken) ≡ (texts ++ more) ++ taken
 read_further texts more taken = ap (λ l. l ++ (more ++ taken)) (append-nil texts) ∙ sym (append_assoc texts more taken)
@@ -122,7 +129,7 @@ module _ {S : Type 0} (meaning : Ghosts S) where
       answered = All-nil _;
       lost = missing.2;
     },
-    missing.3 refl,
+    store_counted missing.0 _ _ missing.2 missing.3,
   )
   line_missing NoMemory a old new output output' missing is input input' consumed =
       inr (
@@ -236,7 +243,7 @@ module _ {S : Type 0} {meaning : Ghosts S} where
       end.0,
       end.1,
       loses_more Store frames results end.0 end.1 few first end.2,
-      (let counts = first.handled.arrived.counts in let more = end.3 in grind (arith, rules)),
+      (let counts = first.handled.arrived.later.counts in let more = end.3 in grind (arith, rules)),
     )
     ends_further NoMemory frames results few first end = by end
       where

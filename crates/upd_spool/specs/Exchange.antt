@@ -4,9 +4,9 @@ use Rattle.std.specs.Io.KnownBytes.{Appends, Consumes, IsAtEnd}
 use Rattle.upd_io.specs.Fronts.{AppendsFront}
 use Rattle.upd_text.specs.declared.fault.Fault.{Fault}
 use Rattle.upd_text.specs.declared.fault.FaultKind.{FaultKind}
-use Rattle.upd_text.specs.declared.fault.FaultKind.TheVariants.{NoMemory, Store, BadFrame, CutFrame, Read, Write}
+use Rattle.upd_text.specs.declared.fault.FaultKind.TheVariants.{NoMemory, BadFrame, CutFrame, Read, Write}
 use Rattle.upd_row_store.specs.declared.meaning.Meaning.{Ghosts}
-use Rattle.upd_row_store.specs.Keeping.{MoreFailures}
+use Rattle.upd_row_store.specs.Keeping.{failures_with}
 use Rattle.upd_desk.specs.Answers.{answer_line, is_answered}
 use Rattle.upd_desk.specs.Arrivals.{ArrivalView}
 use Rattle.upd_desk.specs.Outcomes.{ReplyView}
@@ -55,7 +55,7 @@ module _ {S : Type 0} (meaning : Ghosts S) where
       × AppendsFront output output' (answer_line result)
   LeavesNoLine kind a old new output output' =
       (fault : Fault) × Arrives meaning a (Err fault) old new × GetsNoLine kind fault
-      × (kind ≡ Store → MoreFailures (failures_of old) (failures_of new)) × Appends output output' []
+      × (failures_of new ≡ failures_with fault.kind (failures_of old)) × Appends output output' []
 
   module _ (old new : S) (input input' output output' : Option (List ℕ)) where
     -- How one frame goes: it was answered, or the input has ended before it, or it ends the spool.

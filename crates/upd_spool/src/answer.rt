@@ -4,13 +4,12 @@ ghost use Rattle.std.specs.Io.KnownBytes.{Appends};
 ghost use Rattle.upd_desk.specs.Answers.{answer_line, is_answered};
 ghost use Rattle.upd_desk.specs.Holding.{Arrives};
 ghost use Rattle.upd_desk.specs.Outcomes.{ReplyView};
-ghost use Rattle.upd_row_store.specs.Keeping.{FailsMore};
+ghost use Rattle.upd_row_store.specs.Keeping.{failures_with};
 ghost use Rattle.upd_spool.specs.Exchange.{LeavesNoLine};
 ghost use Rattle.upd_spool.specs.Frames.{arrival_of};
 ghost use Rattle.upd_spool.specs.Spools.{GetsNoLine};
 ghost use Rattle.upd_io.specs.Fronts.{AppendsFront};
 ghost use Rattle.upd_text.specs.declared.fault.Fault.{Fault};
-ghost use Rattle.upd_text.specs.declared.fault.FaultKind.TheVariants.{Store};
 
 use crate::header::Header;
 use std::alloc::Global;
@@ -59,7 +58,7 @@ fn answer_text<S: RowStore>(
         × Arrives S.Meaning (arrival_of header.now run.now)
         (Err fault) desk.old.store desk.new.store
         × GetsNoLine kind fault
-        × (kind ≡ Store → FailsMore S.Meaning desk.old.store desk.new.store)) }
+        × (S.failures_of desk.new.store ≡ failures_with fault.kind (S.failures_of desk.old.store))) }
 {
     let number = u64::from(header.number);
     match desk.arrive(alloc, header.site, number, header.mode, run) {

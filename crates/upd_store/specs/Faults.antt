@@ -1,5 +1,5 @@
--- The fault of an error of SQLite, and whether it counts as a failure of the store.
-use Rattle.std.specs.Prelude.{◌≡◌, ◌⊎◌, ℕ, ◌+◌, ◌-◌, ◌^◌, min}
+-- The fault of an error of SQLite.
+use Rattle.std.specs.Prelude.{◌≡◌, ◌⊎◌}
 use Rattle.sqlite.specs.declared.error.ErrorCode.TheVariants.{OutOfMemory}
 use Rattle.sqlite.specs.declared.error.Error.{Error}
 use Rattle.sqlite.specs.declared.error.Error.TheVariants.{SqliteFailure}
@@ -12,11 +12,6 @@ use Rattle.upd_row_store.specs.Keeping.{IsLost}
 abbrev pub kind_for : Error → FaultKind
 kind_for (SqliteFailure OutOfMemory) = NoMemory
 kind_for _ = Store
-
--- the count of failures after a call that ended in a fault of this kind: a failure of the store adds one, up to the last value
-abbrev pub failures_after : FaultKind → ℕ → ℕ
-failures_after Store n = min (n + 1) (2 ^ 64 - 1)
-failures_after _ n = n
 
 -- the fault of a file that is not opened, made or migrated: that of a call of a store that is lost, or a failure of the store at the version in the file
 abbrev pub IsUnopened : Fault → Type 0

@@ -1,17 +1,18 @@
 //! Errors of SQLite as faults.
-ghost use Rattle.std.specs.Prelude.{◌≡◌, ◌≤◌, MatchResult};
+ghost use Rattle.std.specs.Prelude.{◌≡◌, ℕ, ◌≤◌, MatchResult};
 ghost use Rattle.upd_text.specs.declared.fault.FaultKind.TheVariants.{NoMemory, Store};
-ghost use Rattle.upd_row_store.specs.Keeping.{IsLost, MoreFailures};
-ghost use Rattle.upd_store.specs.Faults.{IsUnopened, failures_after, kind_for};
+ghost use Rattle.upd_row_store.specs.Keeping.{IsLost, failures_with};
+ghost use Rattle.upd_store.specs.Faults.{IsUnopened, kind_for};
 
 use sqlite::{Error, ErrorCode};
 use upd_text::{Fault, FaultKind};
 
-/// Out of memory.
+/// Out of memory. It counts as no failure of the store.
 pub(crate) fn no_memory() -> Fault
     ensures lost { IsLost result }
     ensures kind { result.kind ≡ NoMemory }
     ensures at { result.at ≡ 0 }
+    ensures count { (failures : ℕ) → failures ≡ failures_with result.kind failures }
 {
     FaultKind::NoMemory.without_line()
 }
@@ -54,8 +55,7 @@ pub(crate) fn refused(failures: &mut u64) -> Fault
     ensures lost { IsLost result }
     ensures kind { result.kind ≡ Store }
     ensures at { result.at ≡ 0 }
-    ensures count { failures.new ≡ failures_after Store failures.old }
-    ensures more { MoreFailures failures.old failures.new }
+    ensures count { failures.new ≡ failures_with result.kind failures.old }
     ensures grows { failures.old ≤ failures.new }
 {
     *failures = failures.saturating_add(1);
@@ -67,8 +67,7 @@ pub(crate) fn counted(error: Error, failures: &mut u64) -> Fault
     ensures lost { IsLost result }
     ensures kind { result.kind ≡ kind_for error }
     ensures at { result.at ≡ 0 }
-    ensures count { failures.new ≡ failures_after (kind_for error) failures.old }
-    ensures more { result.kind ≡ Store → MoreFailures failures.old failures.new }
+    ensures count { failures.new ≡ failures_with result.kind failures.old }
     ensures grows { failures.old ≤ failures.new }
 {
     let fault = fault_of(error);

@@ -53,6 +53,8 @@ impl<S: Rising> Meaning for SqlStore<S> {
 
     ghost failures_of = { λ s. s.failures };
 
+    ghost disk_failures_of = { λ s. (state S.Store s.conn).faults };
+
     ghost decks_read_of = { λ s. s.decks_read };
 }
 

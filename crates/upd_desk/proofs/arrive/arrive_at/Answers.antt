@@ -3,6 +3,7 @@ use Rattle.std.proofs.Common.{◌<◌, ◌≤◌, None, Some, Ok, Err, ap, sym, 
 use Rattle.std.proofs.lemmas.Bool.{false≢true}
 use Rattle.upd_core.specs.Library.{empty}
 use Rattle.upd_row_store.specs.Tables.{mark_at, run_at}
+use Rattle.upd_row_store.proofs.KeepingLemmas.{uncounted}
 use Rattle.upd_row_store.proofs.StoreLemmas.{keeps_keeps}
 use Rattle.upd_desk.proofs.ArrivesLemmas.{asked, changed_keeps, keeps_arrives, keeps_new, loses, loses_new, lost_kind}
 use Rattle.upd_desk.proofs.ArrivesLemmas.{refuses_unadmitted, refuses_changed, refuses_settled, tells_kept, unstored}
@@ -66,9 +67,9 @@ returns-in-Err-clause-arrives g c =
     c.in-Err.ensures)
 
 pub returns-in-Err-clause-failed : goal.returns-in-Err-clause-failed
-returns-in-Err-clause-failed g c is =
-    unstored _ _ c.in-Err.fault
-    (changed_keeps c.in_ok-mode.mode c.args.arrival.now empty c.in-Some.run' c.in-Err.fault (c.in-Err.ensures empty)) is
+returns-in-Err-clause-failed g c =
+    c.in_ok-kept.ensures.leaves.failed ∙ c.in_ok-mark.ensures.leaves.failed ∙ uncounted c.in-Err.fault.kind _
+    (unstored c.in-Err.fault (changed_keeps c.in_ok-mode.mode c.args.arrival.now empty c.in-Some.run' c.in-Err.fault (c.in-Err.ensures empty)))
 
 pub returns-in-Ok-keep_new-clause-arrives : goal.returns-in-Ok-keep_new-clause-arrives
 returns-in-Ok-keep_new-clause-arrives g c =

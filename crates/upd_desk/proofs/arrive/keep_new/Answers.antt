@@ -30,20 +30,20 @@ returns-in-Ok-clause-becomes g c =
 
 pub returns-in-Ok-clause-reply : goal.returns-in-Ok-clause-reply
 returns-in-Ok-clause-reply g c honest l made rows shown shows states =
-    (c.in_ok-outcome.ensures.found (c.in-Ok.ensures.leaves.crash.honest honest) l made rows shown shows states).reply
+    (c.in_ok-outcome.ensures.found (c.in-Ok.ensures.leaves.crash.later.honest honest) l made rows shown shows states).reply
 
 pub returns-in-Ok-clause-work : goal.returns-in-Ok-clause-work
 returns-in-Ok-clause-work g c honest l made rows shown shows states =
-    (c.in_ok-outcome.ensures.found (c.in-Ok.ensures.leaves.crash.honest honest) l made rows shown shows states).work
+    (c.in_ok-outcome.ensures.found (c.in-Ok.ensures.leaves.crash.later.honest honest) l made rows shown shows states).work
 
 pub returns-in-Ok-clause-least : goal.returns-in-Ok-clause-least
 returns-in-Ok-clause-least g c honest l made rows shown shows states =
-    (c.in_ok-outcome.ensures.found (c.in-Ok.ensures.leaves.crash.honest honest) l made rows shown shows states).least
+    (c.in_ok-outcome.ensures.found (c.in-Ok.ensures.leaves.crash.later.honest honest) l made rows shown shows states).least
 
 pub returns-in-Ok-clause-reads : goal.returns-in-Ok-clause-reads
 returns-in-Ok-clause-reads g c honest l made rows shown shows =
     read_no_more _ _ _ _ c.in-Ok.ensures.leaves.unread
-    (c.in_ok-outcome.ensures.reads (c.in-Ok.ensures.leaves.crash.honest honest) l made rows shown shows)
+    (c.in_ok-outcome.ensures.reads (c.in-Ok.ensures.leaves.crash.later.honest honest) l made rows shown shows)
 
 pub returns-in-Err-clause-tries : goal.returns-in-Err-clause-tries
 returns-in-Err-clause-tries g c =

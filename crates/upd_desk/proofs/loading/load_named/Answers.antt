@@ -12,7 +12,7 @@ returns-in_err-cards-clause-lost g c = lost_for_memory c.from_residual.result c.
 
 pub returns-in-Ok-clause-found : goal.returns-in-Ok-clause-found
 returns-in-Ok-clause-found g c honest l made rows shown shows =
-    let before = c.in-Ok.ensures.same.honest honest in
+    let before = c.in-Ok.ensures.same.later.honest honest in
     named_loaded c.args.run.now l c.in-Ok.part c.in_ok-cards.cards.items c.deref-in-Ok-true.result.now c.deref-in-Ok-true.ensures.value
     (c.in-Ok.ensures.found honest l made rows (c.in-Ok-true.ensures.there before rows shown) shows)
     (needs_standing c.args.run.now l c.in_ok-cards.cards.items c.requires.plain c.in_ok-cards.ensures (ap (list_any (is_yank_card l)) (sym c.deref.ensures.value)

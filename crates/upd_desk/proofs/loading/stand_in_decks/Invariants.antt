@@ -11,6 +11,7 @@ abbrev pub invariant-loop-card : goal.invariant-loop-card
 invariant-loop-card g l =
     Keeps g.S.Meaning
     l.initial.store l.store
+    × (g.S.Meaning.failures_of l.store ≡ g.S.Meaning.failures_of l.initial.store)
     × (g.S.Meaning.decks_read_of l.store ≡ g.S.Meaning.decks_read_of l.initial.store)
     × (g.S.Meaning.is_honest l.store → (rows : Rows) → g.S.Meaning.shows (g.S.Meaning.image l.initial.store) rows
     → g.S.Meaning.shows (g.S.Meaning.image l.store) rows)

@@ -6,7 +6,7 @@ use Rattle.upd_desk.proofs.outcome.applied_outcome.Goals as goal
 
 pub returns-in-Ok-clause-found : goal.returns-in-Ok-clause-found
 returns-in-Ok-clause-found g c honest lines l loaded reached read made of_run are rows shown shows states =
-    let before = c.in_ok-before.ensures.same.honest honest in
+    let before = c.in_ok-before.ensures.same.later.honest honest in
     let there = shown_there c.args.store.now c.states_of.new.self c.in_ok-states.ensures.leaves.same before (c.in_ok-states.ensures.leaves.opens before) rows shown in
     c.in-Ok.ensures.found lines l loaded reached read made of_run
     (c.in_ok-before.ensures.found honest l made rows there shows states) rows shows states

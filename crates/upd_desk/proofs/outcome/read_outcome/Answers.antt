@@ -10,7 +10,7 @@ use Rattle.upd_desk.proofs.outcome.read_outcome.Goals as goal
 
 pub returns-in-Ok-applied_outcome-clause-found : goal.returns-in-Ok-applied_outcome-clause-found
 returns-in-Ok-applied_outcome-clause-found g c honest l made rows shown shows states =
-    let before = c.in-Ok-applied_outcome.ensures.same.honest honest in
+    let before = c.in-Ok-applied_outcome.ensures.same.later.honest honest in
     let there = shown_there c.args.store.now c.load_needed.new.store c.in_ok-part.ensures.same before (c.in_ok-part.ensures.open before) rows shown in
     let run = c.in-Ok.ensures.ok l made (c.in_ok-part.ensures.found before l made rows shown shows) in
     c.in-Ok-applied_outcome.ensures.found honest c.args.run.now l c.in_ok-part.part run.0 c.requires.read made run.1
@@ -19,7 +19,7 @@ returns-in-Ok-applied_outcome-clause-found g c honest l made rows shown shows st
 pub returns-in-Ok-applied_outcome-clause-reads : goal.returns-in-Ok-applied_outcome-clause-reads
 returns-in-Ok-applied_outcome-clause-reads g c honest l made rows shown shows =
     read_no_more _ _ _ _ c.in-Ok-applied_outcome.ensures.unread
-    (c.in_ok-part.ensures.reads (c.in-Ok-applied_outcome.ensures.same.honest honest) l made rows shown shows)
+    (c.in_ok-part.ensures.reads (c.in-Ok-applied_outcome.ensures.same.later.honest honest) l made rows shown shows)
 
 pub returns-in-Ok-refused-clause-found : goal.returns-in-Ok-refused-clause-found
 returns-in-Ok-refused-clause-found g c honest l made rows shown shows states =

@@ -24,9 +24,9 @@ returns-then-number-mark-clause-settles g c =
 
 pub returns-in-Ok-clause-settles : goal.returns-in-Ok-clause-settles
 returns-in-Ok-clause-settles g c =
-    settles_after g.met.S.RowStore.leaves_image c.args.site.now c.args.number c.in-Ok.mark c.args.store.now c.mark.new.self
-    c.settle_to.new.self c.in_ok-mark.ensures.leaves.same c.in-Ok.ensures.leaves.crash c.in-Ok.ensures.leaves.opens (sym c.in_ok-check_key.ensures)
-    c.in-Ok.ensures.done
+    settles_after g.met.S.RowStore.leaves_image c.args.site.now c.args.number c.in_ok-mark.mark c.in-Ok.mark c.args.store.now c.mark.new.self
+    c.settle_to.new.self c.in_ok-mark.ensures.leaves.same c.in_ok-mark.ensures.found c.if-number-mark.false c.in-Ok.ensures.leaves.crash
+    c.in-Ok.ensures.leaves.opens (sym c.in_ok-check_key.ensures) c.in-Ok.ensures.done
 
 pub returns-in-Err-clause-settles : goal.returns-in-Err-clause-settles
 returns-in-Err-clause-settles g c =

@@ -1,7 +1,8 @@
 -- What is expected of the active cards that were loaded is expected of the library after each journal that the store holds.
-use Rattle.std.proofs.Common.{[], Ok, Err, ap, inl}
+use Rattle.std.proofs.Common.{[], Ok, Err, ap, inl, ◌∙◌}
 use Rattle.upd_compile.specs.File.{compile_file_of, file_of}
 use Rattle.upd_compile.specs.declared.mode.Mode.TheVariants.{Full}
+use Rattle.upd_row_store.proofs.KeepingLemmas.{uncounted}
 use Rattle.upd_desk.proofs.ArrivesLemmas.{unstored}
 use Rattle.upd_desk.proofs.MadeLemmas.{library_made}
 use Rattle.upd_desk.proofs.QueryLemmas.{compile_keeps, fails_owed, store_fails, tells_same}
@@ -27,6 +28,7 @@ pub returns-in_err-actives-clause-text : goal.returns-in_err-actives-clause-text
 returns-in_err-actives-clause-text g c honest journal held = rw (error_is _ _ c.from_residual.ensures.1) (inl c.in_err-actives.ensures.leaves.lost)
 
 pub returns-clause-failed : goal.returns-clause-failed
-returns-clause-failed g c is =
-    unstored _ _ c.in-Err.fault (compile_keeps Full [] c.in_ok-actives.actives c.in_ok-actives.actives c.in-Err.fault
-    (store_fails c.in-Err.fault (file_of Full [] c.in_ok-actives.actives c.in_ok-actives.actives) is c.in-Err.ensures)) is
+returns-clause-failed g c =
+    c.in_ok-actives.ensures.leaves.failed ∙ uncounted c.in-Err.fault.kind _
+    (λ is. unstored c.in-Err.fault (compile_keeps Full [] c.in_ok-actives.actives c.in_ok-actives.actives c.in-Err.fault
+    (store_fails c.in-Err.fault (file_of Full [] c.in_ok-actives.actives c.in_ok-actives.actives) is c.in-Err.ensures)) is)

@@ -19,12 +19,14 @@ returns-clause-text g c honest journal held = inl (lost_memory c.in-Err.fault c.
 
 pub returns-in-Ok-clause-reads : goal.returns-in-Ok-clause-reads
 returns-in-Ok-clause-reads g c honest =
-    of_held g.S.Meaning.shows (g.S.Meaning.image c.args.self.now.store) (c.in_ok-head.ensures.leaves.same.was_open honest (c.in_ok-head.ensures.leaves.opens honest))
+    of_held g.S.Meaning.shows (g.S.Meaning.image c.args.self.now.store)
+    (c.in_ok-head.ensures.leaves.same.later.was_open honest (c.in_ok-head.ensures.leaves.opens honest))
     (λ l made rows shown shows.
     none_read _ _ l c.in_ok-head.head made.sound (c.in_ok-head.ensures.found honest l made.sound made.whole rows shown shows) c.in_ok-head.ensures.leaves.reads)
 
 pub returns-clause-reads : goal.returns-clause-reads
 returns-clause-reads g c honest =
-    of_held g.S.Meaning.shows (g.S.Meaning.image c.args.self.now.store) (c.in_ok-head.ensures.leaves.same.was_open honest (c.in_ok-head.ensures.leaves.opens honest))
+    of_held g.S.Meaning.shows (g.S.Meaning.image c.args.self.now.store)
+    (c.in_ok-head.ensures.leaves.same.later.was_open honest (c.in_ok-head.ensures.leaves.opens honest))
     (λ l made rows shown shows.
     none_read _ _ l c.in_ok-head.head made.sound (c.in_ok-head.ensures.found honest l made.sound made.whole rows shown shows) c.in_ok-head.ensures.leaves.reads)

@@ -1,9 +1,10 @@
 -- After each arrival the answers so far are those that are expected for the arrivals so far, and there is room for the rest.
 use Rattle.std.proofs.Common.{◌≡◌, ◌+◌, [], ◌∷◌, ◌++◌, take, length, refl, sym, ap, ◌∙◌, rules, arith}
 use Rattle.std.proofs.lemmas.List.{length-take-le, length_push, take_more}
-use Rattle.std.proofs.lemmas.List.Elements.{All-nil}
 use Rattle.std.specs.Vec.{vec_len}
-use Rattle.upd_desk.proofs.RunAllLemmas.{counted_more, none_arrived, one_more, work_one_more}
+use Rattle.upd_row_store.specs.Keeping.{failures_after}
+use Rattle.upd_desk.specs.Holding.{failures_after_all}
+use Rattle.upd_desk.proofs.RunAllLemmas.{failures_more, none_arrived, one_more, opens_more, work_one_more}
 use Rattle.upd_desk.proofs.desk.Desk.run_all.Goals as goal
 
 pub loop-arrival-init : goal.loop-arrival-init
@@ -13,7 +14,8 @@ loop-arrival-init g c =
       c.in_ok-answers.ensures.len,
       (let room = c.in_ok-answers.ensures.capacity in grind (arith, rules)),
       rw empty (none_arrived c.args.self.now.store),
-      rw empty (All-nil _),
+      λ honest. rw empty (λ none. absurd none),
+      rw empty refl,
       λ honest journal held. refl,
     )
 
@@ -44,10 +46,12 @@ loop-arrival-preserved g c =
       (let room = c.loop-arrival.invariant.2 in let kept = c.push.ensures.capacity in grind (arith, rules)),
       rw (more, items) (one_more (take i list) before c.arrival-item.result c.arrive_one-answer.result c.args.self.now.store
           c.loop-arrival.self.store c.arrive_one-answer.new.self.store same all went),
-      rw items (counted_more _ _ _ before c.arrive_one-answer.result all.counts went.counts c.loop-arrival.invariant.4
-          c.arrive_one-answer.ensures.failed),
+      λ honest. rw items (opens_more before c.arrive_one-answer.result (went.opens honest)),
+      c.arrive_one-answer.ensures.failed ∙ ap (failures_after c.arrive_one-answer.result) c.loop-arrival.invariant.5
+          ∙ sym (failures_more before c.arrive_one-answer.result _)
+          ∙ ap (λ rs. failures_after_all rs (g.S.Meaning.failures_of c.args.self.now.store)) (sym items),
       rw (more, items) (work_one_more (take i list) before c.arrival-item.result c.arrive_one-answer.result c.args.self.now.store
           c.loop-arrival.self.store c.arrive_one-answer.new.self.store c.args.self.now.work c.loop-arrival.self.work
-          c.arrive_one-answer.new.self.work same all went c.loop-arrival.invariant.5 c.arrive_one-answer.ensures.work
+          c.arrive_one-answer.new.self.work same all went c.loop-arrival.invariant.6 c.arrive_one-answer.ensures.work
           c.arrive_one-answer.ensures.idle),
     )
