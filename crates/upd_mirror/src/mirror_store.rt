@@ -3,7 +3,7 @@
 ghost use Rattle.std.specs.Prelude.{◌≡◌, None, OnSome, true};
 ghost use Rattle.std.specs.Coded.{→_prop};
 ghost use Rattle.upd_records.specs.Rows.{Rows};
-ghost use Rattle.upd_row_store.specs.Keeping.{Keeps};
+ghost use Rattle.upd_row_store.specs.Keeping.{Keeps, failures_with};
 ghost use Rattle.upd_mirror.specs.Mirrored.{AgreesIfAny};
 
 use crate::made::of_rows;
@@ -12,7 +12,7 @@ use std::alloc::Global;
 use upd_core::{Actives, CardRef, Change, Library, Serial, States};
 use upd_records::{LibraryRows, RunRow};
 use upd_row_store::{Meaning, RowStore, reads_with};
-use upd_text::Fault;
+use upd_text::{Fault, FaultKind};
 
 /// A store that answers reads from its rows in memory, and writes to the store below.
 ///
@@ -24,6 +24,8 @@ pub struct MirrorStore<S: RowStore> {
     /// The last call of the store below succeeded: it is open.
     is_live: bool,
     has_committed: bool,
+    /// How often a call has answered Store.
+    failures: u64,
     /// The number of decks that were loaded.
     reads: u64,
     ghost live: { is_live ≡ true → S.is_honest inner → S.is_open inner } by { →_prop (→_prop (S.open_once inner)) },
@@ -37,6 +39,7 @@ impl<S: RowStore + Drop> Drop for MirrorStore<S> {
             mirror: _,
             is_live: _,
             has_committed: _,
+            failures: _,
             reads: _,
         } = self;
     }
@@ -47,13 +50,14 @@ impl<S: RowStore> MirrorStore<S> {
     pub fn new(inner: S) -> MirrorStore<S>
         ensures inner { result.inner ≡ inner }
         ensures mirror { result.mirror ≡ None }
-        ensures reads { result.reads ≡ 0 }
+        ensures counts { (result.failures ≡ 0) × (result.reads ≡ 0) }
     {
         MirrorStore {
             inner,
             mirror: None,
             is_live: false,
             has_committed: false,
+            failures: 0,
             reads: 0,
         }
     }
@@ -63,7 +67,7 @@ impl<S: RowStore> MirrorStore<S> {
         ensures same { Keeps S.Meaning self.old.inner self.new.inner }
         ensures shows { S.is_honest self.new.inner → S.is_open self.new.inner → (rows : Rows)
             → S.shows (S.image self.old.inner) rows → AgreesIfAny self.old.mirror rows → AgreesIfAny self.new.mirror rows }
-        ensures reads { self.new.reads ≡ self.old.reads }
+        ensures counts { (self.new.failures ≡ self.old.failures) × (self.new.reads ≡ self.old.reads) }
     {
         if self.mirror.is_some() {
             return;
@@ -86,9 +90,20 @@ impl<S: RowStore> MirrorStore<S> {
             mirror: _,
             is_live: _,
             has_committed: _,
+            failures: _,
             reads: _,
         } = self;
         inner
+    }
+}
+
+/// How often a call has answered Store, with one more fault; it stops at the last value.
+fn failures_with(failures: u64, fault: &Fault) -> u64
+    ensures { result ≡ failures_with fault.now.kind failures }
+{
+    match fault.kind {
+        FaultKind::Store => failures.saturating_add(1),
+        _ => failures,
     }
 }
 
@@ -143,7 +158,9 @@ impl<S: RowStore> Meaning for MirrorStore<S> {
 
     ghost may_leave = { λ s i. S.may_leave s.inner i.0 × (i.1 ≡ None) };
 
-    ghost failures_of = { λ s. S.failures_of s.inner };
+    ghost failures_of = { λ s. s.failures };
+
+    ghost disk_failures_of = { λ s. S.disk_failures_of s.inner };
 
     ghost decks_read_of = { λ s. s.reads };
 }
@@ -165,6 +182,7 @@ impl<S: RowStore> RowStore for MirrorStore<S> {
             }
             Err(fault) => {
                 self.is_live = false;
+                self.failures = failures_with(self.failures, &fault);
                 Err(fault)
             }
         }
@@ -184,6 +202,7 @@ impl<S: RowStore> RowStore for MirrorStore<S> {
             }
             Err(fault) => {
                 self.is_live = false;
+                self.failures = failures_with(self.failures, &fault);
                 Err(fault)
             }
         }
@@ -201,6 +220,7 @@ impl<S: RowStore> RowStore for MirrorStore<S> {
             }
             Err(fault) => {
                 self.is_live = false;
+                self.failures = failures_with(self.failures, &fault);
                 Err(fault)
             }
         }
@@ -214,6 +234,7 @@ impl<S: RowStore> RowStore for MirrorStore<S> {
             }
             Err(fault) => {
                 self.is_live = false;
+                self.failures = failures_with(self.failures, &fault);
                 Err(fault)
             }
         }
@@ -231,6 +252,7 @@ impl<S: RowStore> RowStore for MirrorStore<S> {
             }
             Err(fault) => {
                 self.is_live = false;
+                self.failures = failures_with(self.failures, &fault);
                 Err(fault)
             }
         }
@@ -248,6 +270,7 @@ impl<S: RowStore> RowStore for MirrorStore<S> {
             }
             Err(fault) => {
                 self.is_live = false;
+                self.failures = failures_with(self.failures, &fault);
                 Err(fault)
             }
         }
@@ -265,6 +288,7 @@ impl<S: RowStore> RowStore for MirrorStore<S> {
             }
             Err(fault) => {
                 self.is_live = false;
+                self.failures = failures_with(self.failures, &fault);
                 Err(fault)
             }
         }
@@ -283,6 +307,7 @@ impl<S: RowStore> RowStore for MirrorStore<S> {
             }
             Err(fault) => {
                 self.is_live = false;
+                self.failures = failures_with(self.failures, &fault);
                 Err(fault)
             }
         }
@@ -296,6 +321,7 @@ impl<S: RowStore> RowStore for MirrorStore<S> {
             }
             Err(fault) => {
                 self.is_live = false;
+                self.failures = failures_with(self.failures, &fault);
                 Err(fault)
             }
         }
@@ -314,6 +340,7 @@ impl<S: RowStore> RowStore for MirrorStore<S> {
             }
             Err(fault) => {
                 self.is_live = false;
+                self.failures = failures_with(self.failures, &fault);
                 Err(fault)
             }
         }
@@ -327,13 +354,14 @@ impl<S: RowStore> RowStore for MirrorStore<S> {
             }
             Err(fault) => {
                 self.is_live = false;
+                self.failures = failures_with(self.failures, &fault);
                 Err(fault)
             }
         }
     }
 
     fn failures(&self) -> u64 {
-        self.inner.failures()
+        self.failures
     }
 
     fn decks_read(&self) -> u64 {
