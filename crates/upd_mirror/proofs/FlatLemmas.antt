@@ -87,7 +87,7 @@ module _ {K A : Type 0} (has : K → A → Bool) (key : A → K) (itself : (x : 
   nothing [] each = refl
   nothing (y ∷ ys) each =
       absurd (let none : 0 ≡ count_by (λ x. true) (y ∷ filter (has (key y)) ys) =
-          (each (key y)).passes (λ x. true) ∙ ap (λ b. count_by (λ x. true) (cond b (y ∷ filter (has (key y)) ys) (filter (has (key y)) ys))) (itself y) in
+      (each (key y)).passes (λ x. true) ∙ ap (λ b. count_by (λ x. true) (cond b (y ∷ filter (has (key y)) ys) (filter (has (key y)) ys))) (itself y) in
       let one = count_cons (λ x. true) y (filter (has (key y)) ys) in omega (arith, none, one))
 
   front : (x : A) (xs : List A) (j : K) → filter (has j) (others x xs) ≡ others x (filter (has j) (x ∷ xs))

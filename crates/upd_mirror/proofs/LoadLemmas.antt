@@ -89,8 +89,8 @@ module _ {Z : Type 0} (entries : BTreeMap CardRef (Vec EntryRow Z)) (all : List 
       go true e later =
           let one : c ≡ x.card = one_ref c x.card e in
           let alone : list_any (λ r. same_ref r.card c) cards ≡ false = none_among c cards
-              (let more : count_by (λ r. same_ref c r.card) (x ∷ cards) ≡ 1 + count_by (λ r. same_ref c r.card) cards =
-              count_cons (λ r. same_ref c r.card) x cards ∙ ap (λ b. cond b 1 0 + count_by (λ r. same_ref c r.card) cards) e in omega (arith, more, few)) in
+          (let more : count_by (λ r. same_ref c r.card) (x ∷ cards) ≡ 1 + count_by (λ r. same_ref c r.card) cards =
+          count_cons (λ r. same_ref c r.card) x cards ∙ ap (λ b. cond b 1 0 + count_by (λ r. same_ref c r.card) cards) e in omega (arith, more, few)) in
           (λ i. filter (λ r. same_ref c r.card) (entries_at entries (sym one i))
           ++ (later ∙ ap (λ b. cond b (entries_at entries c) []) alone) i) ∙ append-nil (filter (λ r. same_ref c r.card) (entries_at entries c)) ∙ own c
           ∙ sym (ap (λ b. cond (b || list_any (λ r. same_ref r.card c) cards) (entries_at entries c) []) (ref_sym x.card c ∙ e))

@@ -80,7 +80,7 @@ homes_more old new rows r none put are c d =
     go true e =
         let one : r.card ≡ c = one_by_order r.card c e in
         let gone : list_any (λ x. (x.deck == d) && same_ref c x.card) rows ≡ false =
-            sym (are c d) ∙ ap (λ o. option_map_or (λ home. home == d) o false) (ap (get by_name old) (sym one) ∙ none) in
+        sym (are c d) ∙ ap (λ o. option_map_or (λ home. home == d) o false) (ap (get by_name old) (sym one) ∙ none) in
         second _ (r.deck == d) (same_ref c r.card) gone (sym (turned r.card c) ∙ e)
     go false e = third (is_home old c d) _ (same_ref c r.card) (are c d) (sym (turned r.card c) ∙ e) (r.deck == d)
 

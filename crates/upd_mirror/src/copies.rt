@@ -86,10 +86,7 @@ pub(crate) fn card_count(decks: &BTreeMap<Serial, Vec<CardRow>>) -> Option<u64>
 }
 
 /// The rows of a card's entries.
-fn own_entries<'a>(
-    entries: &'a BTreeMap<CardRef, Vec<EntryRow>>,
-    card: &CardRef,
-) -> &'a [EntryRow]
+fn own_entries<'a>(entries: &'a BTreeMap<CardRef, Vec<EntryRow>>, card: &CardRef) -> &'a [EntryRow]
     ensures { result.now ≡ entries_at entries.now card.now }
 {
     match entries.get(card) {

@@ -169,7 +169,9 @@ impl<S: RowStore> RowStore for MirrorStore<S> {
     ghost use Rattle.upd_mirror.specs.Overlaid.{left_over, none_agrees};
 
     fn load(&mut self, alloc: Global) -> Result<Library, Fault> {
-        if self.is_live && let Some(mirror) = &self.mirror {
+        if self.is_live
+            && let Some(mirror) = &self.mirror
+        {
             let library = mirror.library(alloc)?;
             self.reads = reads_with(self.reads, &library);
             return Ok(library);
@@ -189,7 +191,9 @@ impl<S: RowStore> RowStore for MirrorStore<S> {
     }
 
     fn load_decks(&mut self, alloc: Global, decks: &[Serial]) -> Result<Library, Fault> {
-        if self.is_live && let Some(mirror) = &self.mirror {
+        if self.is_live
+            && let Some(mirror) = &self.mirror
+        {
             let library = mirror.part(alloc, decks)?;
             self.reads = reads_with(self.reads, &library);
             return Ok(library);
@@ -209,7 +213,9 @@ impl<S: RowStore> RowStore for MirrorStore<S> {
     }
 
     fn decks_of(&mut self, alloc: Global, cards: &[CardRef]) -> Result<Vec<Serial>, Fault> {
-        if self.is_live && let Some(mirror) = &self.mirror {
+        if self.is_live
+            && let Some(mirror) = &self.mirror
+        {
             let decks = mirror.decks_of(alloc, cards)?;
             return Ok(decks);
         }
@@ -241,7 +247,9 @@ impl<S: RowStore> RowStore for MirrorStore<S> {
     }
 
     fn load_states(&mut self, alloc: Global) -> Result<States, Fault> {
-        if self.is_live && let Some(mirror) = &self.mirror {
+        if self.is_live
+            && let Some(mirror) = &self.mirror
+        {
             let states = mirror.states(alloc)?;
             return Ok(states);
         }
@@ -259,7 +267,9 @@ impl<S: RowStore> RowStore for MirrorStore<S> {
     }
 
     fn states_of(&mut self, alloc: Global, cards: &[CardRef]) -> Result<States, Fault> {
-        if self.is_live && let Some(mirror) = &self.mirror {
+        if self.is_live
+            && let Some(mirror) = &self.mirror
+        {
             let states = mirror.states_of(alloc, cards)?;
             return Ok(states);
         }
@@ -277,7 +287,9 @@ impl<S: RowStore> RowStore for MirrorStore<S> {
     }
 
     fn load_active(&mut self, alloc: Global) -> Result<Actives, Fault> {
-        if self.is_live && let Some(mirror) = &self.mirror {
+        if self.is_live
+            && let Some(mirror) = &self.mirror
+        {
             let actives = mirror.actives(alloc)?;
             return Ok(actives);
         }

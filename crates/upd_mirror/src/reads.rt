@@ -17,14 +17,18 @@ ghost use Rattle.upd_row_store.specs.PartRows.{AreOfDistinctCards, part_rows};
 ghost use Rattle.upd_row_store.specs.Tables.{AreByKey, AreRead, AreReadOf};
 ghost use Rattle.upd_mirror.specs.Mirrored.{Agrees};
 
-use crate::copies::{all_cards, all_entries, all_states, card_count, cards_of, entries_of, homes_of};
+use crate::copies::{
+    all_cards, all_entries, all_states, card_count, cards_of, entries_of, homes_of,
+};
 use crate::mirror::Mirror;
 use crate::tables::{put_status, status_of};
 use std::alloc::{AllocError, Global};
 use std::collections::BTreeMap;
 use upd_core::{Actives, CardRef, Library, Serial, States};
 use upd_records::LibraryRows;
-use upd_row_store::{assembled, assembled_active, assembled_with_rest, decks_by_age, states_by_key};
+use upd_row_store::{
+    assembled, assembled_active, assembled_with_rest, decks_by_age, states_by_key,
+};
 
 /// The cards of a map with their statuses.
 fn pairs_of(

@@ -84,11 +84,7 @@ fn drop_card(cards: &mut Vec<CardRow>, card: &CardRef)
 }
 
 /// Takes a card's row out of a deck.
-fn drop_card_of(
-    decks: &mut BTreeMap<Serial, Vec<CardRow>>,
-    deck: Serial,
-    card: &CardRef,
-)
+fn drop_card_of(decks: &mut BTreeMap<Serial, Vec<CardRow>>, deck: Serial, card: &CardRef)
     ensures { (d : ℕ) → cards_at decks.new d ≡ (if deck == d
         then filter (λ r. not (same_ref card.now r.card)) (cards_at decks.old d) else cards_at decks.old d) }
 {

@@ -16,8 +16,8 @@ returns c = λ rows are.
     let was = c.args.self.now in
     let none : get by_name was.homes row.card ≡ None = grind (arith, common_steps) in
     let put = subst (λ (r : CardRow). (card : CardRef) (d : ℕ) → is_home c.put_home.new.homes card d
-        ≡ cond (is_eq (by_name r.card card)) (r.deck == d) (is_home was.homes card d)) c.row.view_is
-        (when_ok _ c.ok.result _ c.ok.ensures.value c.in_ok-ok.was c.put_home.ensures) in
+    ≡ cond (is_eq (by_name r.card card)) (r.deck == d) (is_home was.homes card d)) c.row.view_is
+    (when_ok _ c.ok.result _ c.ok.ensures.value c.in_ok-ok.was c.put_home.ensures) in
     record {
       idents = are.idents;
       cards = one_more (λ d r. r.deck == d) (cards_at was.decks) (cards_at c.add_card.new.decks) rows.cards row (when_ok _ c.ok-2.result _ c.ok-2.ensures.value c.in_ok-ok-2.was c.add_card.ensures) are.cards;
