@@ -1,0 +1,6 @@
+mod RefLemmas
+mod KeptLemmas
+mod MirrorLemmas
+mod FlatLemmas
+mod ReadLemmas
+mod LoadLemmas

@@ -1,0 +1,189 @@
+//! What a store is asked for, from the rows in memory.
+
+ghost use Rattle.std.specs.Prelude.{◌≡◌, if◌then◌else◌, length, IfOk, IfSome, None, OnOk};
+ghost use Rattle.std.specs.BTreeMap.{IsOrdered, get};
+ghost use Rattle.std.specs.Option.{option_or};
+ghost use Rattle.std.specs.Ordering.{is_eq};
+ghost use Rattle.upd_text.specs.Order.{by_name};
+ghost use Rattle.upd_text.specs.declared.card_ref.CardRef.{CardRef};
+ghost use Rattle.upd_core.specs.Actives.{actives_of};
+ghost use Rattle.upd_core.specs.Library.{LibraryView};
+ghost use Rattle.upd_core.specs.Parts.{part_of};
+ghost use Rattle.upd_core.specs.Sound.{IsSound, IsWhole};
+ghost use Rattle.upd_records.specs.Rows.{Rows, Shows, ShowsStates};
+ghost use Rattle.upd_row_store.specs.Asked.{decks_with, is_asked};
+ghost use Rattle.upd_row_store.specs.Assembling.{AreRowsOf};
+ghost use Rattle.upd_row_store.specs.PartRows.{AreOfDistinctCards, part_rows};
+ghost use Rattle.upd_row_store.specs.Tables.{AreByKey, AreRead, AreReadOf};
+ghost use Rattle.upd_mirror.specs.Mirrored.{Agrees};
+
+use crate::copies::{
+    all_cards, all_entries, all_states, card_count, cards_of, entries_of, homes_of,
+};
+use crate::mirror::Mirror;
+use crate::tables::{put_status, status_of};
+use std::alloc::{AllocError, Global};
+use std::collections::BTreeMap;
+use upd_core::{Actives, CardRef, Library, Serial, States};
+use upd_records::LibraryRows;
+use upd_row_store::{
+    assembled, assembled_active, assembled_with_rest, decks_by_age, states_by_key,
+};
+
+/// The cards of a map with their statuses.
+fn pairs_of(
+    alloc: Global,
+    statuses: &BTreeMap<CardRef, bool>,
+) -> Result<Vec<(CardRef, bool)>, AllocError>
+    ensures pairs { IfOk result (λ pairs. pairs.items ≡ statuses.now.entries) }
+    ensures ordered { OnOk result (IsOrdered by_name statuses.now) }
+{
+    let mut pairs = Vec::with_capacity(alloc, statuses.len())?;
+    for (card, active) in statuses {
+        pairs.push((*card, *active))?;
+    }
+    Ok(pairs)
+}
+
+/// Adds the status of a card, if it has one.
+fn keep_status(
+    kept: &mut BTreeMap<CardRef, bool>,
+    statuses: &BTreeMap<CardRef, bool>,
+    card: &CardRef,
+) -> Result<(), AllocError>
+    ensures { OnOk result ((c : CardRef) → get by_name kept.new c ≡ (if is_eq (by_name card.now c)
+        then option_or (get by_name statuses.now card.now) (get by_name kept.old c) else get by_name kept.old c)) }
+{
+    match status_of(statuses, card) {
+        Some(active) => put_status(kept, *card, active),
+        None => Ok(()),
+    }
+}
+
+/// The statuses of these cards.
+fn statuses_of(
+    alloc: Global,
+    statuses: &BTreeMap<CardRef, bool>,
+    cards: &[CardRef],
+) -> Result<BTreeMap<CardRef, bool>, AllocError>
+    ensures { IfOk result (λ kept. (c : CardRef) → get by_name kept c
+        ≡ (if is_asked cards.now c then get by_name statuses.now c else None)) }
+{
+    let mut kept = BTreeMap::new(alloc);
+    for card in cards {
+        keep_status(&mut kept, statuses, card)?;
+    }
+    Ok(kept)
+}
+
+impl Mirror {
+    /// All statuses and counts, by their keys; memory alone can fail.
+    pub(crate) fn states(&self, alloc: Global) -> Result<States, AllocError>
+        ensures read { IfOk result (λ found. (rows : Rows) → Agrees self.now rows → AreRead rows found) }
+        ensures order { IfOk result AreByKey }
+    {
+        let states = pairs_of(alloc, &self.statuses)?;
+        let counts = Vec::from_slice(alloc, &self.counts)?;
+        Ok(states_by_key(States { states, counts }))
+    }
+
+    /// The statuses of those of these cards that have one, and all counts, by their keys; memory alone can fail.
+    pub(crate) fn states_of(&self, alloc: Global, cards: &[CardRef]) -> Result<States, AllocError>
+        ensures read { IfOk result (λ found. (rows : Rows) → Agrees self.now rows → AreReadOf cards.now rows found) }
+        ensures order { IfOk result AreByKey }
+    {
+        let kept = statuses_of(alloc, &self.statuses, cards)?;
+        let states = pairs_of(alloc, &kept)?;
+        let counts = Vec::from_slice(alloc, &self.counts)?;
+        Ok(states_by_key(States { states, counts }))
+    }
+
+    /// The rows that make the library; memory alone can fail.
+    fn library_rows(&self, alloc: Global) -> Result<LibraryRows, AllocError>
+        ensures { IfOk result (λ found. (rows : Rows) → Agrees self.now rows → AreRowsOf rows found) }
+    {
+        let idents = Vec::from_slice(alloc, &self.idents)?;
+        let cards = all_cards(alloc, &self.decks)?;
+        let entries = all_entries(alloc, &self.entries)?;
+        let targets = Vec::from_slice(alloc, &self.targets)?;
+        Ok(LibraryRows {
+            idents,
+            cards,
+            entries,
+            targets,
+        })
+    }
+
+    /// The rows that make the part of the library with the decks of these ages; memory alone can fail.
+    fn part_rows(&self, alloc: Global, ages: &[Serial]) -> Result<LibraryRows, AllocError>
+        ensures { IfOk result (λ found. (rows : Rows) → Agrees self.now rows → AreOfDistinctCards rows.cards
+            → AreRowsOf (part_rows ages.now rows) found) }
+    {
+        let idents = Vec::from_slice(alloc, &self.idents)?;
+        let cards = cards_of(alloc, &self.decks, ages)?;
+        let entries = entries_of(alloc, &self.entries, &cards)?;
+        let targets = Vec::from_slice(alloc, &self.targets)?;
+        Ok(LibraryRows {
+            idents,
+            cards,
+            entries,
+            targets,
+        })
+    }
+
+    /// The library; memory alone can fail.
+    pub(crate) fn library(&self, alloc: Global) -> Result<Library, AllocError>
+        ensures { (rows : Rows) → Agrees self.now rows → (l : LibraryView) → IsSound l → IsWhole l → Shows rows l
+            → IfOk result (λ found. found ≡ l) }
+    {
+        let rows = self.library_rows(alloc)?;
+        let library = assembled(alloc, rows)?;
+        Ok(library)
+    }
+
+    /// The library without the decks that aren't of these ages; memory alone can fail.
+    pub(crate) fn part(&self, alloc: Global, ages: &[Serial]) -> Result<Library, AllocError>
+        ensures { (rows : Rows) → Agrees self.now rows → (l : LibraryView) → IsSound l → IsWhole l → Shows rows l
+            → IfOk result (λ found. found ≡ part_of ages.now l) }
+    {
+        let rows = self.part_rows(alloc, ages)?;
+        let Some(cards) = self.card_count() else {
+            return Err(AllocError);
+        };
+        let library = assembled_with_rest(alloc, rows, cards, self.entry_count)?;
+        Ok(library)
+    }
+
+    /// The number of cards; none where it is no number of 64 bits.
+    fn card_count(&self) -> Option<u64>
+        ensures { IfSome result (λ count. (rows : Rows) → Agrees self.now rows → count ≡ length rows.cards) }
+    {
+        let count = card_count(&self.decks)?;
+        Some(count)
+    }
+
+    /// The decks other than `YANK$$$` that hold one of these cards; memory alone can fail.
+    pub(crate) fn decks_of(
+        &self,
+        alloc: Global,
+        cards: &[CardRef],
+    ) -> Result<Vec<Serial>, AllocError>
+        ensures { (rows : Rows) → Agrees self.now rows → (l : LibraryView) → IsSound l → Shows rows l
+            → IfOk result (λ found. found.items ≡ decks_with cards.now l) }
+    {
+        let ages = homes_of(alloc, &self.homes, cards)?;
+        Ok(decks_by_age(ages))
+    }
+
+    /// The active cards, by the statuses; memory alone can fail.
+    pub(crate) fn actives(&self, alloc: Global) -> Result<Actives, AllocError>
+        ensures { (rows : Rows) → Agrees self.now rows → (l : LibraryView) → IsSound l → Shows rows l → ShowsStates rows l
+            → IfOk result (λ found. found ≡ actives_of l) }
+    {
+        let idents = Vec::from_slice(alloc, &self.idents)?;
+        let cards = all_cards(alloc, &self.decks)?;
+        let states = all_states(alloc, &self.statuses)?;
+        let actives = assembled_active(alloc, idents, cards, states)?;
+        Ok(actives)
+    }
+}

@@ -1,0 +1,109 @@
+//! Random lists of runs over a store with its rows in memory, and over a plain one: both answer the same.
+use crate::answers::{Questions, answers};
+use std::alloc::Global;
+use std::test::Fail;
+use upd_desk::Desk;
+use upd_list_store::ListStore;
+use upd_mirror::MirrorStore;
+use upd_row_store::RowStore;
+use upd_testkit::asks::shown;
+use upd_testkit::check::{holds, same, same_text};
+use upd_testkit::random_runs::{DECKS, Dice, random_run};
+
+/// Two desks that get the same runs.
+#[derive(Drop)]
+struct Pair {
+    mirrored: Desk<MirrorStore<ListStore>>,
+    plain: Desk<ListStore>,
+    alloc: Global,
+}
+
+/// The reply of a desk to a run, or the fault in its place.
+fn reply<S: RowStore>(
+    alloc: Global,
+    desk: &mut Desk<S>,
+    number: u64,
+    text: &str,
+) -> Result<String, Fail> {
+    let mode = if number % 2 == 0 { "normal" } else { "quick" };
+    let reply = desk.arrive(alloc, "LYON", number, mode, text.as_bytes());
+    shown(alloc, reply.map(|reply| reply.text))
+}
+
+impl Pair {
+    /// Two desks over empty tables.
+    fn new(alloc: Global) -> Pair {
+        Pair {
+            mirrored: Desk::open(MirrorStore::new(ListStore::new(alloc))),
+            plain: Desk::open(ListStore::new(alloc)),
+            alloc,
+        }
+    }
+
+    /// Both get a run, and reply the same: whether it was accepted.
+    fn run(&mut self, number: u64, text: &str) -> Result<bool, Fail> {
+        let found = reply(self.alloc, &mut self.mirrored, number, text)?;
+        let wanted = reply(self.alloc, &mut self.plain, number, text)?;
+        same_text(text, &found, &wanted)?;
+        Ok(wanted.contains("accepted"))
+    }
+
+    /// Both stores answer the same, and have read as many decks. Then the rows in memory are read, or are let go.
+    fn compared(self, dice: &mut Dice) -> Result<Pair, Fail> {
+        let alloc = self.alloc;
+        let (mut mirrored, mut plain) = (self.mirrored.close(), self.plain.close());
+        let questions = Questions::new(alloc, dice)?;
+        let found = answers(alloc, &mut mirrored, &questions)?;
+        let wanted = answers(alloc, &mut plain, &questions)?;
+        same_text("the answers", &found, &wanted)?;
+        same("failures", mirrored.failures(), 0)?;
+        match dice.below(4) {
+            0 => mirrored.warm(alloc),
+            1 => mirrored = MirrorStore::new(mirrored.into_inner()),
+            _ => {}
+        }
+        Ok(Pair {
+            mirrored: Desk::open(mirrored),
+            plain: Desk::open(plain),
+            alloc,
+        })
+    }
+}
+
+/// A list of runs: the number of accepted ones.
+fn random_list(alloc: Global, dice: &mut Dice) -> Result<u32, Fail> {
+    let mut pair = Pair::new(alloc);
+    pair.run(1, DECKS)?;
+    let mut accepted: u32 = 0;
+    for number in 2..14 {
+        pair = pair.compared(dice)?;
+        let text = random_run(alloc, dice, number)?;
+        if pair.run(u64::from(number), text.as_str())? {
+            accepted = accepted.saturating_add(1);
+        }
+    }
+    pair.compared(dice)?;
+    Ok(accepted)
+}
+
+#[test]
+fn rows_in_memory_answer_as_the_tables(rt: HostRuntime) -> Result<(), Fail> {
+    let mut dice = Dice(1975);
+    let mut accepted: u32 = 0;
+    for _ in 0..100 {
+        accepted = accepted.saturating_add(random_list(rt.alloc(), &mut dice)?);
+    }
+    holds(("accepted runs", accepted), accepted > 400)
+}
+
+/// Both stores have read as many decks after some runs, of which the third is answered from memory.
+#[test]
+fn decks_in_memory_count_as_read(rt: HostRuntime) -> Result<(), Fail> {
+    let mut pair = Pair::new(rt.alloc());
+    pair.run(1, DECKS)?;
+    pair.run(2, "*IDENT X\n*INSERT P0.1\nNEW\n")?;
+    pair.run(3, "*IDENT Y\n*DELETE P1.1\n")?;
+    pair.run(4, "*IDENT Z\n*INSERT X.1\nMORE\n")?;
+    let (mirrored, plain) = (pair.mirrored.close(), pair.plain.close());
+    same("decks read", mirrored.decks_read(), plain.decks_read())
+}
