@@ -1,5 +1,6 @@
 //! Tests of the desk over lists and over SQLite: worked lists of runs, random lists beside the reference desk, the
-//! decks that it reads, row changes, and status updates at the limits of a library.
+//! decks that it reads, row changes, status updates at the limits of a library, and a store with its rows in memory beside
+//! the plain one.
 //!
 //! Expected values are worked by hand from `docs/rules.md` and `docs/protocol.md`, or come from the reference desk.
 #![tactic(auto)]
@@ -13,11 +14,15 @@ mod desk_times;
 #[cfg(test)]
 mod empty_stores;
 #[cfg(test)]
+mod mirrored_runs;
+#[cfg(test)]
 mod random_arrivals;
 #[cfg(test)]
 mod status_updates;
 #[cfg(test)]
 mod steps;
+#[cfg(test)]
+mod store_answers;
 #[cfg(test)]
 mod store_loads;
 #[cfg(test)]

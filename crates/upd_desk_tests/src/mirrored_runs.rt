@@ -1,5 +1,5 @@
 //! Random lists of runs over a store with its rows in memory, and over a plain one: both answer the same.
-use crate::answers::{Questions, answers};
+use crate::store_answers::{Questions, answers};
 use std::alloc::Global;
 use std::test::Fail;
 use upd_desk::Desk;
