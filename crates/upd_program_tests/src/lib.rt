@@ -6,6 +6,8 @@
 #[cfg(test)]
 mod console;
 #[cfg(test)]
+mod deck_commands;
+#[cfg(test)]
 mod library_files;
 #[cfg(test)]
 mod refusals;
