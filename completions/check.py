@@ -42,6 +42,7 @@ def completed(folder, shell, line):
 def asked(shell, commands):
     """Lines that a shell completes wrongly."""
     wanted = {"upd ": sorted(commands), "upd ser": ["serve"], "upd trial ": MODES, "upd run library.db LYON 1 ": MODES,
+              "upd try library.db ": MODES,
               "upd run library.db LYON ": []}
     wanted |= {f"upd {command} ": ["library.db"] for command in commands if command != "trial"}
     with tempfile.TemporaryDirectory() as folder:

@@ -1,5 +1,5 @@
 # fish completion of upd, to be installed as /etc/fish/completions/upd.fish
-set -l commands trial init run settle spool serve compile list history idents yanks migrate
+set -l commands trial init run settle spool serve compile list history idents yanks text correct try source migrate
 complete -c upd -f
 complete -c upd -n "not __fish_seen_subcommand_from $commands" -a trial -d 'apply a run to an empty library'
 complete -c upd -n "not __fish_seen_subcommand_from $commands" -a init -d 'make an empty library in a file'
@@ -12,10 +12,15 @@ complete -c upd -n "not __fish_seen_subcommand_from $commands" -a list -d 'list 
 complete -c upd -n "not __fish_seen_subcommand_from $commands" -a history -d 'list what is known of a card'
 complete -c upd -n "not __fish_seen_subcommand_from $commands" -a idents -d 'list all decks and correction sets'
 complete -c upd -n "not __fish_seen_subcommand_from $commands" -a yanks -d 'list the yank cards'
+complete -c upd -n "not __fish_seen_subcommand_from $commands" -a text -d 'write the text of a deck'
+complete -c upd -n "not __fish_seen_subcommand_from $commands" -a correct -d 'write the run that corrects decks to an edited text'
+complete -c upd -n "not __fish_seen_subcommand_from $commands" -a try -d 'write the reply that a run would get'
+complete -c upd -n "not __fish_seen_subcommand_from $commands" -a source -d 'write the compile file of one deck'
 complete -c upd -n "not __fish_seen_subcommand_from $commands" -a migrate -d 'migrate an older file to the present schema'
 set -l words '(count (commandline -opc))'
 complete -c upd -n "__fish_seen_subcommand_from trial; and test $words -eq 2" -a 'full quick normal'
 complete -c upd -n "__fish_seen_subcommand_from run; and test $words -eq 5" -a 'full quick normal'
-complete -c upd -n "__fish_seen_subcommand_from init run settle spool serve compile list history idents yanks migrate; and test $words -eq 2" -F
+complete -c upd -n "__fish_seen_subcommand_from try; and test $words -eq 3" -a 'full quick normal'
+complete -c upd -n "__fish_seen_subcommand_from init run settle spool serve compile list history idents yanks text correct try source migrate; and test $words -eq 2" -F
 complete -c upd -s h -l help -d 'show the words of a command'
 complete -c upd -s V -l version -d 'show the version'

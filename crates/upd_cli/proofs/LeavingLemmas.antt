@@ -55,3 +55,10 @@ pub number_unread : (read : Option ℕ) (fault : Fault) (ended : Result ℕ Faul
 number_unread (Some m) fault ended output told is passed = absurd (cc)
 number_unread None fault (Ok status) output told is passed = absurd passed
 number_unread None fault (Err e) output told is passed = (ap Err passed ∙ is, Appends-nil output)
+
+-- an input that isn't read ends a command as memory and the disk do
+pub unread_passed_fails : (result : Result ℕ Fault) (fault : Fault) → IsErrAnd result (λ e. e ≡ fault) → (fault ≡ no_memory) ⊎ (fault ≡ read_failed)
+    → IfErr result (λ f. exit_status f.kind ≡ 3)
+unread_passed_fails (Ok status) fault is why = tt
+unread_passed_fails (Err e) fault is (inl why) = ap (λ (f : Fault). exit_status f.kind) (is ∙ why)
+unread_passed_fails (Err e) fault is (inr why) = ap (λ (f : Fault). exit_status f.kind) (is ∙ why)

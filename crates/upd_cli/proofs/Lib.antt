@@ -2,6 +2,7 @@ pub mod StreamLemmas
 pub mod TrialLemmas
 pub mod CommandLemmas
 pub mod WordLemmas
+pub mod AppLemmas
 pub mod RequestLemmas
 pub mod TellingLemmas
 pub mod AskingLemmas

@@ -10,39 +10,42 @@ use Rattle.upd_text.specs.declared.fault.Fault.{Fault}
 use Rattle.upd_text.specs.declared.fault.FaultKind.{FaultKind}
 use Rattle.upd_cli.specs.Status.{no_memory, read_failed}
 use Rattle.upd_io.proofs.InputLemmas.{input_at_end, input_behind, some_input}
-use Rattle.upd_text.specs.declared.limits.TheConstants.{MAX_RUN_BYTES}
-use Rattle.upd_cli.specs.Streams.{IsRunOn}
+use Rattle.upd_cli.specs.Streams.{IsFrontOf, TakesFront}
 
--- what was read up to a bound, or to the end, is the run on the input
-run_read : (old new : Option (List ℕ)) (items : List ℕ) → Consumes old new items
-    → (length items ≡ MAX_RUN_BYTES + 1) ⊎ ((length items ≤ MAX_RUN_BYTES + 1) × IsAtEnd new) → IsRunOn old items
-run_read old new items consumed (inl full) =
+-- what was read up to a bound, or to the end, is the front of the input
+front_read : (most : ℕ) (old new : Option (List ℕ)) (items : List ℕ) → Consumes old new items
+    → (length items ≡ most) ⊎ ((length items ≤ most) × IsAtEnd new) → IsFrontOf most old items
+front_read most old new items consumed (inl full) =
     let (rest, left) = some_input new in
     (items ++ rest, input_behind old new items rest consumed left, sym (take-append_seam items rest) ∙ ap (λ n. take n (items ++ rest)) full)
-run_read old new items consumed (inr (few, ended)) = (
+front_read most old new items consumed (inr (few, ended)) = (
   items ++ [],
   input_behind old new items [] consumed (input_at_end new ended),
-  sym (take_all (MAX_RUN_BYTES + 1) items few) ∙ ap (take (MAX_RUN_BYTES + 1)) (sym (append-nil items)),
+  sym (take_all most items few) ∙ ap (take most) (sym (append-nil items)),
 )
 
 -- what was read into an empty vector up to a bound
-pub run_read_up_to : (old new : Option (List ℕ)) (first items taken : List ℕ) (len : ℕ) → first ≡ [] → items ≡ first ++ taken → Consumes old new taken
-    → len ≡ length items → len ≤ MAX_RUN_BYTES + 1 → (len < MAX_RUN_BYTES + 1 → IsAtEnd new) → IsRunOn old items
-run_read_up_to old new first items taken len empty grown consumed is most end =
+pub front_read_up_to : (most : ℕ) (old new : Option (List ℕ)) (first items taken : List ℕ) (len : ℕ) → first ≡ [] → items ≡ first ++ taken → Consumes old new taken
+    → len ≡ length items → len ≤ most → (len < most → IsAtEnd new) → IsFrontOf most old items
+front_read_up_to most old new first items taken len empty grown consumed is within end =
     let all : items ≡ taken = grown ∙ ap (λ l. l ++ taken) empty in
-    run_read old new items (subst (Consumes old new) (sym all) consumed) (by (cases_lt len (MAX_RUN_BYTES + 1)))
+    front_read most old new items (subst (Consumes old new) (sym all) consumed) (by (cases_lt len most))
   where
-    by : (len < MAX_RUN_BYTES + 1) ⊎ (MAX_RUN_BYTES + 1 ≤ len) → (length items ≡ MAX_RUN_BYTES + 1) ⊎ ((length items ≤ MAX_RUN_BYTES + 1) × IsAtEnd new)
-    by (inl few) = inr (omega (arith, is, most), end few)
-    by (inr many) = inl (omega (arith, is, most, many))
+    by : (len < most) ⊎ (most ≤ len) → (length items ≡ most) ⊎ ((length items ≤ most) × IsAtEnd new)
+    by (inl few) = inr (omega (arith, is, within), end few)
+    by (inr many) = inl (omega (arith, is, within, many))
 
 -- and no more than the bound was taken
-pub few_taken : (first items taken : List ℕ) (len : ℕ) → first ≡ [] → items ≡ first ++ taken → len ≡ length items → len ≤ MAX_RUN_BYTES + 1
-    → length taken ≤ MAX_RUN_BYTES + 1
-few_taken first items taken len empty grown is most =
+pub few_taken : (most : ℕ) (first items taken : List ℕ) (len : ℕ) → first ≡ [] → items ≡ first ++ taken → len ≡ length items → len ≤ most
+    → length taken ≤ most
+few_taken most first items taken len empty grown is within =
     let all = ap length (grown ∙ ap (λ l. l ++ taken) empty) in
-    omega (arith, all, is, most)
+    omega (arith, all, is, within)
 
 pub read_fails : (kind : FaultKind) (fault : Fault) → fault ≡ fault_at kind 0 → IsReadFailure kind → (fault ≡ no_memory) ⊎ (fault ≡ read_failed)
 read_fails kind fault is (inl memory) = inl (is ∙ ap (λ k. fault_at k 0) memory)
 read_fails kind fault is (inr read) = inr (is ∙ ap (λ k. fault_at k 0) read)
+
+-- no more was taken than a greater bound
+pub takes_more : (most more : ℕ) (old new : Option (List ℕ)) → most ≤ more → TakesFront most old new → TakesFront more old new
+takes_more most more old new less (front, few, consumed) = (front, omega (arith, less, few), consumed)

@@ -9,12 +9,13 @@ use Rattle.upd_desk.specs.Outcomes.{ReplyView}
 use Rattle.upd_io.specs.Numbers.{number_of}
 use Rattle.clap.specs.Words.{Text}
 use Rattle.upd_cli.specs.Command.{IsTold}
+use Rattle.upd_cli.specs.Correcting.{IsCorrected}
 use Rattle.upd_cli.specs.Operands.{IsNoAddress, card_read, deck_read}
 use Rattle.upd_cli.specs.Status.{exit_status, fault_line, no_memory}
 use Rattle.upd_cli.specs.Telling.{TellsLines, TellsMark, TellsRun, TellsText}
 use Rattle.upd_cli.specs.Words.{IsAskedFor}
 use Rattle.upd_cli.specs.declared.words.Request.{Request}
-use Rattle.upd_cli.specs.declared.words.Request.TheVariants.{Library, Serve, Unread}
+use Rattle.upd_cli.specs.declared.words.Request.TheVariants.{Library, Serve, Correct, Unread}
 use Rattle.upd_cli.specs.declared.words.Asked.{Asked}
 use Rattle.upd_cli.specs.declared.words.Asked.TheVariants as asks
 
@@ -48,7 +49,11 @@ Leaves (asks.Run site number mode) ended input input' output output' =
 Leaves (asks.Settle site number) ended input input' output output' =
     TellsNumbered ended output output' (number_of number.now) ((answer : Result ℕ Fault) × TellsMark site.now answer ended output output')
 Leaves asks.Spool ended input input' output output' = TellsLines ended input input' output output'
+Leaves (asks.Try mode) ended input input' output output' =
+    ((answer : Result ReplyView Fault) × TellsRun answer ended output output') ⊎ TellsNothing ended output output'
 Leaves (asks.List deck) ended input input' output output' = TellsRead ended output output' (deck_read deck.now)
+Leaves (asks.Text deck) ended input input' output output' = TellsRead ended output output' (deck_read deck.now)
+Leaves (asks.Source deck) ended input input' output output' = TellsRead ended output output' (deck_read deck.now)
 Leaves (asks.History card) ended input input' output output' = TellsRead ended output output' (card_read card.now)
 Leaves asks.Init ended input input' output output' = IsSilent ended output output'
 Leaves asks.Migrate ended input input' output output' = IsSilent ended output output'
@@ -77,6 +82,7 @@ IsServed address status faults faults' =
 abbrev pub IsDone : Request → ℕ → Option (List ℕ) → Option (List ℕ) → Option (List ℕ) → Option (List ℕ) → Option (List ℕ) → Option (List ℕ) → Type 0
 IsDone (Library file asked) status input input' output output' faults faults' = IsCarriedOut asked status input input' output output' faults faults'
 IsDone (Serve file address count) status input input' output output' faults faults' = Appends output output' [] × IsServed address.now status faults faults'
+IsDone (Correct file set) status input input' output output' faults faults' = IsCorrected status output output' faults faults'
 IsDone (Unread text) status input input' output output' faults faults' = Appends output output' []
 IsDone _ status input input' output output' faults faults' = Unit {0}
 

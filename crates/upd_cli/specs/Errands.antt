@@ -1,26 +1,46 @@
 -- What commands do at a desk: what they ask, what the desk answers, and how that is reported.
-use Rattle.std.specs.Prelude.{◌≡◌, ◌⊎◌, ℕ, List, [], Option, Result, Ok, IsErrAnd}
+use Rattle.std.specs.Prelude.{◌≡◌, ◌≤◌, ◌⊎◌, ℕ, List, [], length, Option, Result, Ok, IfOk, OnOk, IsErrAnd}
 use Rattle.std.specs.Io.KnownBytes.{Appends}
 use Rattle.std.specs.Result.{result_map_both}
 use Rattle.upd_text.specs.declared.fault.Fault.{Fault}
 use Rattle.upd_core.specs.Library.{LibraryView}
 use Rattle.upd_row_store.specs.declared.meaning.Meaning.{Ghosts}
 use Rattle.upd_row_store.specs.Keeping.{CountsFailure, Keeps}
-use Rattle.upd_compile.specs.File.{compile_file_of}
+use Rattle.upd_compile.specs.File.{FileView, compile_file_of}
 use Rattle.upd_compile.specs.Listings.{card_listing, deck_listing, ident_listing, yank_listing}
 use Rattle.upd_compile.specs.declared.mode.Mode.TheVariants as mode
-use Rattle.upd_desk.specs.Holding.{Arrives, Settles, Tells}
-use Rattle.upd_desk.specs.Outcomes.{ReplyView}
+use Rattle.upd_desk.specs.Holding.{Arrives, EachHeld, Settles, Tells}
+use Rattle.upd_desk.specs.Outcomes.{ReplyView, reply_on}
 use Rattle.upd_cli.specs.Status.{no_memory, read_failed}
 use Rattle.upd_cli.specs.Streams.{IsRunOn}
+use Rattle.upd_cli.specs.Correcting.{TellsCorrection}
 use Rattle.upd_cli.specs.Telling.{TellsMark, TellsRun, TellsText}
+use Rattle.upd_edit.specs.ActiveText.{active_text}
+use Rattle.upd_edit.specs.Source.{source}
+use Rattle.upd_edit.specs.Trying.{tried}
+use Rattle.upd_edit.specs.declared.editing.TheConstants.{MAX_TEXT_BYTES}
+use Rattle.upd_edit.specs.declared.editing.EditError.{EditError}
+use Rattle.upd_correct.specs.Correcting.{CorrectsTo}
+use Rattle.upd_desk.specs.Journal.{library_after}
+use Rattle.upd_cli.specs.declared.asking.Form.{Form}
+use Rattle.upd_cli.specs.declared.asking.Form.TheVariants.{Listing, Text, Source}
 use Rattle.upd_cli.specs.declared.asking.Question.{Question}
 use Rattle.upd_cli.specs.declared.asking.Question.TheVariants.{Compile, Deck, Card, Idents, Yanks}
 
+-- the bytes of a compile file
+abbrev pub file_text : Result FileView Fault → Result (List ℕ) Fault
+file_text file = result_map_both (λ f. f.bytes) (λ fault. fault) file
+
+-- a deck of a library in a form
+abbrev pub deck_in : Form → List ℕ → LibraryView → Result (List ℕ) Fault
+deck_in Listing name l = deck_listing name l
+deck_in Text name l = active_text name l
+deck_in Source name l = file_text (source name l)
+
 -- what a question is answered of a library
 abbrev pub answer_text : Question → LibraryView → Result (List ℕ) Fault
-answer_text Compile l = result_map_both (λ file. file.bytes) (λ fault. fault) (compile_file_of mode.Full [] l l)
-answer_text (Deck name) l = deck_listing name l
+answer_text Compile l = file_text (compile_file_of mode.Full [] l l)
+answer_text (Deck form name) l = deck_in form name l
 answer_text (Card card) l = card_listing card l
 answer_text Idents l = Ok (ident_listing l)
 answer_text Yanks l = Ok (yank_listing l)
@@ -37,6 +57,24 @@ module _ {S : Type 0} (meaning : Ghosts S) where
       × Arrives meaning (record { site = site; number = number; mode = mode; bytes = bytes }) answer old new
       × CountsFailure meaning answer old new × TellsRun answer result output output')
       ⊎ ((new ≡ old) × IsUnread result × Appends output output' [])
+
+  -- a run was tried, and the reply that it would get was told; nothing is changed
+  abbrev pub TriesRun : List ℕ → List ℕ → Result ℕ Fault → S → S → Option (List ℕ) → Option (List ℕ) → Type 0
+  TriesRun mode run result old new output output' =
+      (answer : Result ReplyView Fault) × Tells meaning (reply_on (tried mode run)) answer old new
+      × Keeps meaning old new × TellsRun answer result output output'
+
+  -- A run, if there is one, leads decks of the library to an edited text. Nothing is changed.
+  pub record IsCorrection (set text : List ℕ) (answer : Result (List ℕ) EditError) (old new : S) : Type 0 where
+    pub corrects : EachHeld meaning old new (λ journal. IfOk answer (CorrectsTo (library_after journal) set text))
+    pub short : OnOk answer (length text ≤ MAX_TEXT_BYTES)
+    pub same : Keeps meaning old new
+
+  -- an edited text was answered by a run, and the answer was told
+  abbrev pub CorrectsText : List ℕ → List ℕ → ℕ → S → S → Option (List ℕ) → Option (List ℕ) → Option (List ℕ) → Option (List ℕ) → Type 0
+  CorrectsText set text status old new output output' faults faults' =
+      (answer : Result (List ℕ) EditError) × IsCorrection set text answer old new
+      × TellsCorrection answer status output output' faults faults'
 
   -- a site was settled, and its mark was told
   abbrev pub SettlesSite : List ℕ → ℕ → Result ℕ Fault → S → S → Option (List ℕ) → Option (List ℕ) → Type 0

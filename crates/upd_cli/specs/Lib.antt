@@ -6,5 +6,6 @@ pub mod Operands
 pub mod Command
 pub mod Inputs
 pub mod Telling
+pub mod Correcting
 pub mod Errands
 pub mod Commands

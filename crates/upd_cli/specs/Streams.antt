@@ -8,6 +8,10 @@ use Rattle.upd_text.specs.declared.limits.TheConstants.{MAX_RUN_BYTES}
 abbrev pub TakesFront : ℕ → Option (List ℕ) → Option (List ℕ) → Type 0
 TakesFront most old new = (front : List ℕ) × (length front ≤ most) × Consumes old new front
 
+-- the bytes of an input up to this number: all of them where there are no more
+abbrev pub IsFrontOf : ℕ → Option (List ℕ) → List ℕ → Type 0
+IsFrontOf most known bytes = (all : List ℕ) × IsInput known all × (bytes ≡ take most all)
+
 -- the run on an input: all its bytes, or enough of them to show that the run is too long
 abbrev pub IsRunOn : Option (List ℕ) → List ℕ → Type 0
-IsRunOn known run = (all : List ℕ) × IsInput known all × (run ≡ take (MAX_RUN_BYTES + 1) all)
+IsRunOn known run = IsFrontOf (MAX_RUN_BYTES + 1) known run

@@ -10,7 +10,7 @@ use Rattle.clap.specs.declared.error.kind.ErrorKind.{ErrorKind}
 use Rattle.clap.specs.declared.error.kind.ErrorKind.TheVariants.{DisplayHelp, DisplayVersion}
 use Rattle.upd_cli.specs.Operands.{IsCount, SpellsCount}
 use Rattle.upd_cli.specs.declared.words.Request.{Request}
-use Rattle.upd_cli.specs.declared.words.Request.TheVariants.{Trial, Library, Serve, Shown, Unread}
+use Rattle.upd_cli.specs.declared.words.Request.TheVariants.{Trial, Library, Serve, Correct, Shown, Unread}
 use Rattle.upd_cli.specs.declared.words.Asked.{Asked}
 use Rattle.upd_cli.specs.declared.words.Asked.TheVariants as asks
 
@@ -44,6 +44,10 @@ upd_commands =
     ∷ (codes "history", word_of (codes "FILE") ∷ word_of (codes "CARD") ∷ [])
     ∷ (codes "idents", word_of (codes "FILE") ∷ [])
     ∷ (codes "yanks", word_of (codes "FILE") ∷ [])
+    ∷ (codes "text", word_of (codes "FILE") ∷ word_of (codes "DECK") ∷ [])
+    ∷ (codes "correct", word_of (codes "FILE") ∷ word_of (codes "SET") ∷ [])
+    ∷ (codes "try", word_of (codes "FILE") ∷ word_of (codes "MODE") ∷ [])
+    ∷ (codes "source", word_of (codes "FILE") ∷ word_of (codes "DECK") ∷ [])
     ∷ (codes "migrate", word_of (codes "FILE") ∷ [])
     ∷ []
 
@@ -57,8 +61,13 @@ abbrev pub upd_top : App
 upd_top = let app = new_app (codes "upd") in
     record app { top = record app.top { has_version = true; disable_help_subcommand = true; subcommand_required = true } }
 
+-- the program with some commands
+abbrev pub app_with : List (Text × List Operand) → App
+app_with commands = record { top = record upd_top.top { is_leaf = false }; subs = map (λ c. command_shape c.0 c.1) commands }
+
+-- the program with all its commands
 abbrev pub upd_app : App
-upd_app = record { top = record upd_top.top { is_leaf = false }; subs = map (λ c. command_shape c.0 c.1) upd_commands }
+upd_app = app_with upd_commands
 
 -- why the words are not read, if they are not: a mistake, or a request for help or the version
 abbrev pub word_faults : List Text → List ErrorKind
@@ -89,6 +98,9 @@ IsAskedBy name rows (asks.List deck) = (name ≡ codes "list") × (deck.now ≡ 
 IsAskedBy name rows (asks.History card) = (name ≡ codes "history") × (card.now ≡ operand_in (codes "CARD") rows)
 IsAskedBy name rows asks.Idents = name ≡ codes "idents"
 IsAskedBy name rows asks.Yanks = name ≡ codes "yanks"
+IsAskedBy name rows (asks.Text deck) = (name ≡ codes "text") × (deck.now ≡ operand_in (codes "DECK") rows)
+IsAskedBy name rows (asks.Try mode) = (name ≡ codes "try") × (mode.now ≡ operand_in (codes "MODE") rows)
+IsAskedBy name rows (asks.Source deck) = (name ≡ codes "source") × (deck.now ≡ operand_in (codes "DECK") rows)
 IsAskedBy name rows asks.Migrate = name ≡ codes "migrate"
 
 -- a command `serve` has a number of connections
@@ -102,6 +114,8 @@ IsRequest (name, rows) (Library file asked) = (file.now ≡ operand_in (codes "F
 IsRequest (name, rows) (Serve file address count) =
     (name ≡ codes "serve") × (file.now ≡ operand_in (codes "FILE") rows) × (address.now ≡ operand_in (codes "ADDRESS") rows)
     × IsCount (operand_in (codes "COUNT") rows) count
+IsRequest (name, rows) (Correct file set) =
+    (name ≡ codes "correct") × (file.now ≡ operand_in (codes "FILE") rows) × (set.now ≡ operand_in (codes "SET") rows)
 IsRequest _ _ = ⊥
 
 -- a request for a text: help or the version

@@ -1,6 +1,6 @@
 //! Commands that change a library: runs that arrive, and settlements.
 ghost use Rattle.std.specs.Prelude.{◌≡◌, ◌⊎◌, ◌+◌, ◌∷◌, ◌++◌, [], Err, IfErr, IfOk, Ok};
-ghost use Rattle.upd_cli.specs.Errands.{HandsIn, SettlesSite};
+ghost use Rattle.upd_cli.specs.Errands.{HandsIn, SettlesSite, TriesRun};
 ghost use Rattle.upd_cli.specs.Status.{exit_status};
 ghost use Rattle.upd_cli.specs.Streams.{TakesFront};
 ghost use Rattle.upd_cli.specs.Telling.{TellsMark, TellsRun, Writes};
@@ -12,6 +12,7 @@ use itoa::Buffer;
 use std::alloc::Global;
 use std::io::{Read, Write};
 use upd_desk::{Desk, Reply, fault_answer};
+use upd_edit::try_at;
 use upd_reply::settled_parts;
 use upd_row_store::RowStore;
 use upd_text::Fault;
@@ -34,6 +35,24 @@ pub(crate) fn hand_in<S: RowStore, R: Read, W: Write>(
 {
     let run = read_input(alloc, input)?;
     match desk.arrive(alloc, site, number, mode, &run) {
+        Ok(reply) => tell(&reply, output),
+        Err(fault) => tell_fault(alloc, fault, output),
+    }
+}
+
+/// The reply that a run would get goes to the output as a line, as `hand_in` writes it. Nothing is stored.
+pub(crate) fn try_run<S: RowStore, W: Write>(
+    alloc: Global,
+    desk: &mut Desk<S>,
+    mode: &str,
+    run: &[u8],
+    output: &mut W,
+) -> Result<u8, Fault>
+    ensures tells { TriesRun S.Meaning mode.now run.now
+        result desk.old.store desk.new.store (W.contents output.old) (W.contents output.new) }
+    ensures status { IfOk result (λ status. (status ≡ 0) ⊎ (status ≡ 1)) }
+{
+    match try_at(alloc, desk, mode, run) {
         Ok(reply) => tell(&reply, output),
         Err(fault) => tell_fault(alloc, fault, output),
     }

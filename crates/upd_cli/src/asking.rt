@@ -10,6 +10,7 @@ use std::alloc::Global;
 use std::io::Write;
 use upd_core::{CardRef, Name};
 use upd_desk::Desk;
+use upd_edit::{source_at, text_at};
 use upd_row_store::RowStore;
 use upd_text::Fault;
 
@@ -17,10 +18,20 @@ use upd_text::Fault;
 #[derive(Drop)]
 pub(crate) enum Question {
     Compile,
-    Deck(Name),
+    Deck(Form, Name),
     Card(CardRef),
     Idents,
     Yanks,
+}
+
+/// The form in which a deck is asked for.
+#[derive(Clone, Copy, Drop)]
+pub(crate) enum Form {
+    Listing,
+    /// The active cards as plain text.
+    Text,
+    /// The compile file of the deck alone.
+    Source,
 }
 
 /// The text that answers a question goes to the output. Nothing changes.
@@ -58,9 +69,29 @@ fn ask<S: RowStore>(
             Ok(file) => Ok(file.bytes),
             Err(fault) => Err(fault),
         },
-        Question::Deck(name) => desk.deck_list(alloc, name),
+        Question::Deck(form, name) => ask_deck(alloc, desk, *form, name),
         Question::Card(card) => desk.card_list(alloc, *card),
         Question::Idents => desk.ident_list(alloc),
         Question::Yanks => desk.yank_list(alloc),
+    }
+}
+
+/// A deck in a form. Nothing changes.
+fn ask_deck<S: RowStore>(
+    alloc: Global,
+    desk: &mut Desk<S>,
+    form: Form,
+    name: &Name,
+) -> Result<Vec<u8>, Fault>
+    ensures { IsAnswered S.Meaning (Question.Deck form name.now)
+        (result_map_both (λ text. text.items) (λ fault. fault) result) desk.old.store desk.new.store }
+{
+    match form {
+        Form::Listing => desk.deck_list(alloc, name),
+        Form::Text => text_at(alloc, desk, name),
+        Form::Source => match source_at(alloc, desk, name) {
+            Ok(file) => Ok(file.bytes),
+            Err(fault) => Err(fault),
+        },
     }
 }

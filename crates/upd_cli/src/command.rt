@@ -3,18 +3,20 @@ ghost use Rattle.std.specs.Prelude.{◌≡◌, ◌≢◌, ◌⊎◌, ◌+◌, �
 ghost use Rattle.std.specs.IoError.{error_kind};
 ghost use Rattle.upd_io.specs.Inputs.{IsInput};
 ghost use Rattle.upd_compile.specs.Modes.{mode_named};
-ghost use Rattle.upd_cli.specs.Command.{Answers, EndsTrial, GivesUnlessFailed, IsEnd, IsTold, IsToldOf, answer_to};
+ghost use Rattle.upd_cli.specs.Command.{Answers, EndsTrial, GivesUnlessFailed, IsTold, IsToldOf, answer_to};
+ghost use Rattle.upd_cli.specs.Correcting.{IsCorrected};
 ghost use Rattle.upd_cli.specs.Commands.{CarriesOut, IsCarriedOut, IsServed};
 ghost use Rattle.upd_cli.specs.Status.{exit_status, fault_line, no_memory, no_words_line};
 ghost use Rattle.upd_cli.specs.Streams.{TakesFront};
+ghost use Rattle.upd_edit.specs.declared.editing.TheConstants.{MAX_TEXT_BYTES};
 ghost use Rattle.upd_text.specs.declared.limits.TheConstants.{MAX_RUN_BYTES};
 ghost use Rattle.upd_cli.specs.Trial.{trial_named};
 ghost use Rattle.upd_cli.specs.Words.{command_word, operand_word, word_faults};
 ghost use Rattle.upd_cli.specs.Inputs.{HandsRunsIn, IsHandIn, IsSpoolCommand, ReadsInput};
 
-use crate::library::{carry_out, serve};
+use crate::library::{carry_out, correct_on, serve};
 use crate::operands::read_address;
-use crate::status::{DONE, FAILED, UNREAD, exit_status, write_fault};
+use crate::status::{FAILED, UNREAD, finish};
 use crate::streams::{read_input, write_out};
 use crate::trial_run::{read_mode, trial};
 use crate::words::{Asked, Request, read_words};
@@ -43,9 +45,12 @@ pub fn run_command<S: AsStr, R: Read, W: Write, E: Write>(
     ensures told { CarriesOut (map S.text words.entry.now) result (R.remaining input.old) (R.remaining input.new)
         (W.contents output.old) (W.contents output.new) (E.contents faults.old) (E.contents faults.new) }
     ensures unread { word_faults (map S.text words.entry.now) ≢ [] → IsToldOf (map S.text words.entry.now) result }
-    // Of a run that is too long, no more is read than shows it.
+    // Of a run that is too long, no more is read than shows it. So it is of an edited text.
     ensures front { command_word (map S.text words.entry.now) ≢ codes "spool"
+        → command_word (map S.text words.entry.now) ≢ codes "correct"
         → TakesFront (MAX_RUN_BYTES + 1) (R.remaining input.old) (R.remaining input.new) }
+    ensures text { command_word (map S.text words.entry.now) ≢ codes "spool"
+        → TakesFront (MAX_TEXT_BYTES + 1) (R.remaining input.old) (R.remaining input.new) }
     ensures waits { ¬ ReadsInput (map S.text words.entry.now) → input.new ≡ input.old }
     ensures silent { (result ≡ 2) ⊎ ((result ≡ 1) × ¬ HandsRunsIn (map S.text words.entry.now)) → output.new ≡ output.old }
     ensures clean { result ≡ 0 → faults.new ≡ faults.old }
@@ -65,6 +70,9 @@ pub fn run_command<S: AsStr, R: Read, W: Write, E: Write>(
                 count,
             },
         ) => carry_out_serving(rt, file, address, count, faults),
+        Ok(Request::Correct { file, set }) => {
+            carry_out_correction(rt, file, set, input, output, faults)
+        }
         Ok(Request::Shown(text)) => {
             let ended = write_out(output, text.as_bytes());
             finish(ended, faults)
@@ -126,6 +134,27 @@ fn carry_out_library<R: Read, W: Write, E: Write>(
     }
 }
 
+/// `correct`: the run for the edited text on the input goes to the output, or why there is none to `faults`.
+fn carry_out_correction<R: Read, W: Write, E: Write>(
+    rt: &HostRuntime,
+    file: &str,
+    set: &str,
+    input: &mut R,
+    output: &mut W,
+    faults: &mut E,
+) -> u8
+    ensures told { IsCorrected result (W.contents output.old) (W.contents output.new)
+        (E.contents faults.old) (E.contents faults.new) }
+    ensures front { TakesFront (MAX_TEXT_BYTES + 1) (R.remaining input.old) (R.remaining input.new) }
+    ensures silent { (result ≡ 1) ⊎ (result ≡ 2) → output.new ≡ output.old }
+    ensures clean { result ≡ 0 → faults.new ≡ faults.old }
+{
+    match correct_on(rt, file, set, input, output, faults) {
+        Ok(status) => status,
+        Err(fault) => finish(Err(fault), faults),
+    }
+}
+
 /// `serve`: an address that is not valid is a usage error.
 fn carry_out_serving<E: Write>(
     rt: &HostRuntime,
@@ -150,20 +179,6 @@ fn carry_out_serving<E: Write>(
     match serve(rt, file, reachable, count) {
         Ok(status) => status,
         Err(fault) => finish(Err(fault), faults),
-    }
-}
-
-/// The exit status of a command that ended so; the line of a fault is written first.
-fn finish<E: Write>(ended: Result<(), Fault>, faults: &mut E) -> u8
-    ensures told { IsEnd ended result (E.contents faults.old) (E.contents faults.new) }
-    ensures clean { result ≡ 0 → faults.new ≡ faults.old }
-{
-    match ended {
-        Ok(()) => DONE,
-        Err(fault) => match write_fault(faults, fault) {
-            Ok(()) => exit_status(fault.kind),
-            Err(_) => FAILED,
-        },
     }
 }
 

@@ -166,6 +166,71 @@ Example, after `upd init library.db`:
   upd yanks library.db",
 };
 
+pub(crate) const TEXT: Text = Text {
+    about: "Writes the active cards of a deck as plain text, to be edited",
+    more: "\
+Reads nothing, and writes a line for each active card, the deck's first line included; calls stay
+calls. Changes nothing. What it writes is a run that adds the deck to an empty library, and what
+`upd correct` takes once it is edited.
+
+Exit status: 0 done; 1 DECK is not a name, or there is no such deck; 2 the command line can't be
+read; 3 out of memory, or the library or a write failed. The fault is one line on standard error.
+
+Example, after `upd init library.db`:
+  printf '*DECK A\\nONE\\n' | upd run library.db LYON 1 full
+  upd text library.db A",
+};
+
+pub(crate) const CORRECT: Text = Text {
+    about: "Writes the run that corrects decks to the edited text on standard input",
+    more: "\
+Reads one or more decks as `upd text` writes them, edited, and writes a run: `*IDENT SET` and the
+corrections that lead each deck to exactly this text. A deck that isn't in the library is added.
+Cards that stay aren't touched, nor are inactive cards. Where nothing differs the run has no lines.
+Changes nothing: send the run with `upd run`.
+
+A text is refused where no run could lead to it. Each problem is one line on standard error, with the
+line and column of the text, as `LineLong 7:81 a line has at most 80 bytes`. Other faults, and a text
+of more than 4050000 bytes, are one line too.
+
+Exit status: 0 done; 1 the text is refused; 2 the command line can't be read; 3 out of memory, or the
+library, a read or a write failed.
+
+Example, after `upd init library.db`:
+  printf '*DECK A\\nONE\\n' | upd run library.db LYON 1 full
+  upd text library.db A | sed 's/ONE/TWO/' | upd correct library.db FIX > fix.run
+  upd run library.db LYON 2 full < fix.run",
+};
+
+pub(crate) const TRY: Text = Text {
+    about: "Writes the reply that the run on standard input would get now, and stores nothing",
+    more: "\
+Reads a run of at most 65536 bytes and writes the reply that `upd run` would write, a line of JSON,
+but for the site and the number: they are TRY and 1. Changes nothing, and no number is used.
+
+Exit status: 0 the run would be accepted; 1 refused; 2 the command line can't be read; 3 out of
+memory, or the library, a read or a write failed. A refusal is a line of JSON on standard output;
+any other fault is one line on standard error.
+
+Example, after `upd init library.db`:
+  printf '*DECK A\\nONE\\n' | upd try library.db full",
+};
+
+pub(crate) const SOURCE: Text = Text {
+    about: "Writes the compile file of one deck",
+    more: "\
+Reads nothing, and writes lines of 97 bytes: the deck's active cards, with its calls followed.
+Changes nothing. The compile file of a common deck has no lines.
+
+Exit status: 0 done; 1 DECK is not a name, there is no such deck, a call can't be followed, or the
+file would be too long; 2 the command line can't be read; 3 out of memory, or the library or a write
+failed. The fault is one line on standard error.
+
+Example, after `upd init library.db`:
+  printf '*DECK A\\nONE\\n' | upd run library.db LYON 1 full
+  upd source library.db A",
+};
+
 pub(crate) const MIGRATE: Text = Text {
     about: "Migrates the file of an older schema to the present schema",
     more: "\

@@ -7,6 +7,7 @@
 mod arriving;
 mod asking;
 mod command;
+mod correcting;
 mod help;
 mod library;
 mod operands;

@@ -1,26 +1,31 @@
 //! Commands on the library in a file: it is opened, something is done, and it is closed.
-ghost use Rattle.std.specs.Prelude.{◌≡◌, ◌⊎◌, ◌+◌, ℕ, List, Result, IfErr, IfOk};
-ghost use Rattle.upd_cli.specs.Commands.{Leaves, TellsNumbered, TellsRead};
+ghost use Rattle.std.specs.Prelude.{◌≡◌, ◌⊎◌, ◌+◌, ℕ, List, Result, IfErr, IfOk, OnErr};
+ghost use Rattle.upd_cli.specs.Commands.{Leaves, TellsNothing, TellsNumbered, TellsRead};
+ghost use Rattle.upd_cli.specs.Correcting.{IsCorrected};
 ghost use Rattle.upd_cli.specs.Inputs.{IsHandIn, IsSpoolCommand};
 ghost use Rattle.upd_cli.specs.Operands.{card_read, deck_read};
 ghost use Rattle.upd_cli.specs.Status.{exit_status};
 ghost use Rattle.upd_cli.specs.Streams.{TakesFront};
 ghost use Rattle.upd_cli.specs.Telling.{TellsLines, TellsMark, TellsRun, TellsText};
 ghost use Rattle.upd_desk.specs.Outcomes.{ReplyView};
+ghost use Rattle.upd_edit.specs.declared.editing.TheConstants.{MAX_TEXT_BYTES};
 ghost use Rattle.upd_store.specs.Faults.{IsUnopened};
 ghost use Rattle.upd_io.specs.Numbers.{number_of};
 ghost use Rattle.upd_text.specs.declared.fault.Fault.{Fault};
 ghost use Rattle.upd_text.specs.declared.limits.TheConstants.{MAX_RUN_BYTES};
 
-use crate::arriving::{hand_in, settle};
-use crate::asking::{Question, inquire};
+use crate::arriving::{hand_in, settle, try_run};
+use crate::asking::{Form, Question, inquire};
+use crate::correcting::correct_text;
 use crate::operands::{read_card, read_deck, read_number};
 use crate::status::DONE;
+use crate::streams::{read_front, read_input};
 use crate::words::Asked;
 use sqlite_disk::Unknown;
 use std::io::{Read, Write};
 use std::net::{SocketAddr, TcpListener};
 use upd_desk::Desk;
+use upd_edit::MAX_TEXT_BYTES;
 use upd_http::serve_on_within;
 use upd_migrate::migrate;
 use upd_spool::spool;
@@ -53,10 +58,13 @@ pub(crate) fn carry_out<R: Read, W: Write>(
         Asked::Settle { site, number } => settle_on(rt, file, site, number, output),
         Asked::Spool => spool_on(rt, file, input, output),
         Asked::Compile => answer_on(rt, file, &Question::Compile, output),
-        Asked::List { deck } => list_on(rt, file, deck, output),
+        Asked::List { deck } => deck_on(rt, file, Form::Listing, deck, output),
         Asked::History { card } => history_on(rt, file, card, output),
         Asked::Idents => answer_on(rt, file, &Question::Idents, output),
         Asked::Yanks => answer_on(rt, file, &Question::Yanks, output),
+        Asked::Text { deck } => deck_on(rt, file, Form::Text, deck, output),
+        Asked::Try { mode } => try_on(rt, file, mode, input, output),
+        Asked::Source { deck } => deck_on(rt, file, Form::Source, deck, output),
         Asked::Migrate => migrate_file(rt, file),
     }
 }
@@ -81,6 +89,53 @@ fn run_on<R: Read, W: Write>(
     let ended = hand_in(rt.alloc(), &mut desk, site, number, mode, input, output);
     close_desk(desk);
     ended
+}
+
+/// `try`: the input is read before the file is opened, so that it can come from a command on the same file.
+fn try_on<R: Read, W: Write>(
+    rt: &HostRuntime,
+    file: &str,
+    mode: &str,
+    input: &mut R,
+    output: &mut W,
+) -> Result<u8, Fault>
+    ensures leaves { ((answer : Result ReplyView Fault)
+        × TellsRun answer result (W.contents output.old) (W.contents output.new))
+        ⊎ TellsNothing result (W.contents output.old) (W.contents output.new) }
+    ensures front { TakesFront (MAX_RUN_BYTES + 1) (R.remaining input.old) (R.remaining input.new) }
+    ensures status { IfOk result (λ status. (status ≡ 0) ⊎ (status ≡ 1)) }
+{
+    let run = read_input(rt.alloc(), input)?;
+    let mut desk = open_desk(rt, file)?;
+    let ended = try_run(rt.alloc(), &mut desk, mode, &run, output);
+    close_desk(desk);
+    ended
+}
+
+/// `correct`: the input is read before the file is opened, as by `try`. Returns the exit status. Nothing is written after
+/// an error.
+pub(crate) fn correct_on<R: Read, W: Write, E: Write>(
+    rt: &HostRuntime,
+    file: &str,
+    set: &str,
+    input: &mut R,
+    output: &mut W,
+    faults: &mut E,
+) -> Result<u8, Fault>
+    ensures told { IfOk result (λ status. IsCorrected status (W.contents output.old) (W.contents output.new)
+        (E.contents faults.old) (E.contents faults.new)) }
+    ensures front { TakesFront (MAX_TEXT_BYTES + 1) (R.remaining input.old) (R.remaining input.new) }
+    ensures silent { IfOk result (λ status. (status ≡ 1) ⊎ (status ≡ 2) → output.new ≡ output.old) }
+    ensures clean { IfOk result (λ status. status ≡ 0 → faults.new ≡ faults.old) }
+    ensures none { OnErr result (output.new ≡ output.old) }
+    ensures quiet { OnErr result (faults.new ≡ faults.old) }
+    ensures failed { IfErr result (λ fault. exit_status fault.kind ≡ 3) }
+{
+    let text = read_front(rt.alloc(), input, MAX_TEXT_BYTES + 1)?;
+    let mut desk = open_desk(rt, file)?;
+    let status = correct_text(rt.alloc(), &mut desk, set, &text, output, faults);
+    close_desk(desk);
+    Ok(status)
 }
 
 /// `settle`: its number is read before the file is opened.
@@ -172,14 +227,20 @@ fn migrate_file(rt: &HostRuntime, file: &str) -> Result<u8, Fault>
     }
 }
 
-/// `list`: the deck's name is read before the file is opened.
-fn list_on<W: Write>(rt: &HostRuntime, file: &str, deck: &str, output: &mut W) -> Result<u8, Fault>
+/// `list`, `text` and `source`: the deck's name is read before the file is opened.
+fn deck_on<W: Write>(
+    rt: &HostRuntime,
+    file: &str,
+    form: Form,
+    deck: &str,
+    output: &mut W,
+) -> Result<u8, Fault>
     ensures leaves { TellsRead result (W.contents output.old) (W.contents output.new) (deck_read deck.now) }
     ensures status { IfOk result (λ status. status ≡ 0) }
     ensures silent { IfErr result (λ fault. exit_status fault.kind ≡ 1 → output.new ≡ output.old) }
 {
     match read_deck(deck) {
-        Ok(name) => answer_on(rt, file, &Question::Deck(name), output),
+        Ok(name) => answer_on(rt, file, &Question::Deck(form, name), output),
         Err(fault) => Err(fault),
     }
 }

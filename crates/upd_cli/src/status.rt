@@ -1,6 +1,7 @@
 //! Exit statuses and fault lines.
 ghost use Rattle.std.specs.Prelude.{◌≡◌, OnOk};
 ghost use Rattle.std.specs.Io.KnownBytes.{Appends};
+ghost use Rattle.upd_cli.specs.Command.{IsEnd};
 ghost use Rattle.upd_cli.specs.Status.{exit_status, fault_line};
 ghost use Rattle.upd_io.specs.Fronts.{AppendsFront};
 
@@ -49,4 +50,18 @@ pub(crate) fn write_fault<E: Write>(faults: &mut E, fault: Fault) -> io::Result<
         b"\n",
     ];
     write_parts(faults, &parts)
+}
+
+/// The exit status of a command that ended so; the line of a fault is written first.
+pub(crate) fn finish<E: Write>(ended: Result<(), Fault>, faults: &mut E) -> u8
+    ensures told { IsEnd ended result (E.contents faults.old) (E.contents faults.new) }
+    ensures clean { result ≡ 0 → faults.new ≡ faults.old }
+{
+    match ended {
+        Ok(()) => DONE,
+        Err(fault) => match write_fault(faults, fault) {
+            Ok(()) => exit_status(fault.kind),
+            Err(_) => FAILED,
+        },
+    }
 }

@@ -3,7 +3,7 @@ ghost use Rattle.std.specs.Prelude.{◌≡◌, ◌⊎◌, ◌+◌, IfErr, IfOk, 
 ghost use Rattle.std.specs.Io.KnownBytes.{Appends};
 ghost use Rattle.std.specs.List.{flat_map};
 ghost use Rattle.upd_cli.specs.Status.{no_memory, read_failed, write_failed};
-ghost use Rattle.upd_cli.specs.Streams.{IsRunOn, TakesFront};
+ghost use Rattle.upd_cli.specs.Streams.{IsFrontOf, IsRunOn, TakesFront};
 ghost use Rattle.upd_io.specs.Fronts.{AppendsFront};
 
 use std::alloc::Global;
@@ -12,14 +12,30 @@ use upd_io::{read_up_to, write_parts};
 use upd_text::limits::MAX_RUN_BYTES;
 use upd_text::{Fault, FaultKind};
 
-/// All bytes of an input, or the first `MAX_RUN_BYTES` and one more, which shows that it is too long.
+/// All bytes of a run on an input, or the first `MAX_RUN_BYTES` and one more, which shows that it is too long.
 pub(crate) fn read_input<R: Read>(alloc: Global, input: &mut R) -> Result<Vec<u8>, Fault>
     ensures ok { IfOk result (λ bytes. IsRunOn (R.remaining input.old) bytes.items) }
     ensures front { TakesFront (MAX_RUN_BYTES + 1) (R.remaining input.old) (R.remaining input.new) }
     ensures err { IfErr result (λ fault. (fault ≡ no_memory) ⊎ (fault ≡ read_failed)) }
 {
+    match read_front(alloc, input, MAX_RUN_BYTES + 1) {
+        Ok(bytes) => Ok(bytes),
+        Err(fault) => Err(fault),
+    }
+}
+
+/// The bytes of an input up to a number of them.
+pub(crate) fn read_front<R: Read>(
+    alloc: Global,
+    input: &mut R,
+    most: usize,
+) -> Result<Vec<u8>, Fault>
+    ensures ok { IfOk result (λ bytes. IsFrontOf most (R.remaining input.old) bytes.items) }
+    ensures front { TakesFront most (R.remaining input.old) (R.remaining input.new) }
+    ensures err { IfErr result (λ fault. (fault ≡ no_memory) ⊎ (fault ≡ read_failed)) }
+{
     let mut bytes = Vec::new(alloc);
-    match read_up_to(input, MAX_RUN_BYTES + 1, &mut bytes) {
+    match read_up_to(input, most, &mut bytes) {
         Ok(()) => Ok(bytes),
         Err(kind) => Err(kind.without_line()),
     }

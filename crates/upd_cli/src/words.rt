@@ -1,5 +1,5 @@
 //! What the words of a command line ask for.
-ghost use Rattle.std.specs.Prelude.{[], ◌∷◌, ◌≡◌, ◌≢◌, IfErr, IfOk, IfSome, IsSomeAnd, codes, false, map, true};
+ghost use Rattle.std.specs.Prelude.{[], ◌∷◌, ◌≡◌, ◌≢◌, IfErr, IfOk, IfSome, IsSomeAnd, codes, false, map, take, true};
 ghost use Rattle.clap.specs.Words.{Text, app_of, found_of, has_subcommand, kind_of, rows_of, rule_of, subcommand_rows_of};
 ghost use Rattle.clap.specs.declared.builder.command.Command.TheViews.{out-Command as fields_of};
 ghost use Rattle.clap.specs.declared.error.kind.ErrorKind.TheVariants.{OutOfMemory, ValueValidation};
@@ -7,7 +7,7 @@ ghost use Rattle.upd_cli.specs.Status.{no_memory};
 ghost use Rattle.clap.specs.Simple.{new_app};
 ghost use Rattle.upd_cli.specs.Operands.{IsCount, SpellsCount};
 ghost use Rattle.upd_cli.specs.Words.{HasCount, IsAskedBy, IsAskedFor, IsOneOf, IsPlain, IsRequest, IsUnreadRequest, command_shape, command_word};
-ghost use Rattle.upd_cli.specs.Words.{operand_in, operand_rule, operand_word, upd_app, upd_commands, upd_top, word_faults};
+ghost use Rattle.upd_cli.specs.Words.{app_with, operand_in, operand_rule, operand_word, upd_app, upd_commands, upd_top, word_faults};
 
 use crate::help;
 use clap::builder::ValueParser;
@@ -34,6 +34,11 @@ pub enum Request<'a> {
         file: &'a str,
         address: &'a str,
         count: u32,
+    },
+    /// `correct FILE SET`
+    Correct {
+        file: &'a str,
+        set: &'a str,
     },
     /// Help or the version, which goes to the output.
     Shown(String),
@@ -64,6 +69,15 @@ pub enum Asked<'a> {
     },
     Idents,
     Yanks,
+    Text {
+        deck: &'a str,
+    },
+    Try {
+        mode: &'a str,
+    },
+    Source {
+        deck: &'a str,
+    },
     Migrate,
 }
 
@@ -83,6 +97,28 @@ const COUNT_RANGE: ValueParser<'static> = ValueParser::Unsigned(1, 1_000_000);
 fn commands<'a>(alloc: Global) -> Result<Command<'a>, AllocError>
     ensures { IfOk result (λ c. app_of c ≡ upd_app) }
 {
+    const DECK: Operand = ("DECK", "the name of a deck", ValueParser::String);
+    const CARD: Operand = ("CARD", "a card, as A.2", ValueParser::String);
+    const SET: Operand = (
+        "SET",
+        "the name of a new correction set",
+        ValueParser::String,
+    );
+    first_commands(alloc)?
+        .subcommand(command(alloc, "history", help::HISTORY, &[FILE, CARD])?)?
+        .subcommand(command(alloc, "idents", help::IDENTS, &[FILE])?)?
+        .subcommand(command(alloc, "yanks", help::YANKS, &[FILE])?)?
+        .subcommand(command(alloc, "text", help::TEXT, &[FILE, DECK])?)?
+        .subcommand(command(alloc, "correct", help::CORRECT, &[FILE, SET])?)?
+        .subcommand(command(alloc, "try", help::TRY, &[FILE, MODE])?)?
+        .subcommand(command(alloc, "source", help::SOURCE, &[FILE, DECK])?)?
+        .subcommand(command(alloc, "migrate", help::MIGRATE, &[FILE])?)
+}
+
+/// The program with the first half of its commands.
+fn first_commands<'a>(alloc: Global) -> Result<Command<'a>, AllocError>
+    ensures { IfOk result (λ c. app_of c ≡ app_with (take 8 upd_commands)) }
+{
     const NUMBER: Operand = ("NUMBER", "1 to 999999999", ValueParser::String);
     const ADDRESS: Operand = (
         "ADDRESS",
@@ -99,7 +135,6 @@ fn commands<'a>(alloc: Global) -> Result<Command<'a>, AllocError>
         "the name of a deck, or YANK$$$",
         ValueParser::String,
     );
-    const CARD: Operand = ("CARD", "a card, as A.2", ValueParser::String);
     program(alloc)
         .subcommand(command(alloc, "trial", help::TRIAL, &[MODE])?)?
         .subcommand(command(alloc, "init", help::INIT, &[FILE])?)?
@@ -108,11 +143,7 @@ fn commands<'a>(alloc: Global) -> Result<Command<'a>, AllocError>
         .subcommand(command(alloc, "spool", help::SPOOL, &[FILE])?)?
         .subcommand(command(alloc, "serve", help::SERVE, &[FILE, ADDRESS, COUNT])?)?
         .subcommand(command(alloc, "compile", help::COMPILE, &[FILE])?)?
-        .subcommand(command(alloc, "list", help::LIST, &[FILE, DECK])?)?
-        .subcommand(command(alloc, "history", help::HISTORY, &[FILE, CARD])?)?
-        .subcommand(command(alloc, "idents", help::IDENTS, &[FILE])?)?
-        .subcommand(command(alloc, "yanks", help::YANKS, &[FILE])?)?
-        .subcommand(command(alloc, "migrate", help::MIGRATE, &[FILE])?)
+        .subcommand(command(alloc, "list", help::LIST, &[FILE, DECK])?)
 }
 
 /// The program before its first command.
@@ -182,6 +213,10 @@ fn read_request<'a>(matches: &ArgMatches<'a>) -> Request<'a>
             address: word(operands, "ADDRESS"),
             count: count(operands),
         },
+        Some(("correct", operands)) => Request::Correct {
+            file: word(operands, "FILE"),
+            set: word(operands, "SET"),
+        },
         Some((name, operands)) => Request::Library {
             file: word(operands, "FILE"),
             asked: read_asked(name, operands),
@@ -193,7 +228,7 @@ fn read_request<'a>(matches: &ArgMatches<'a>) -> Request<'a>
 /// What a command asks of a library.
 fn read_asked<'a>(name: &str, operands: &ArgMatches<'a>) -> Asked<'a>
     requires known { IsOneOf name.now upd_commands }
-    requires other { (name.now ≢ codes "trial") × (name.now ≢ codes "serve") }
+    requires other { (name.now ≢ codes "trial") × (name.now ≢ codes "serve") × (name.now ≢ codes "correct") }
     ensures { IsAskedBy name.now (rows_of (found_of operands.now)) result }
 {
     match name {
@@ -217,6 +252,15 @@ fn read_asked<'a>(name: &str, operands: &ArgMatches<'a>) -> Asked<'a>
         },
         "idents" => Asked::Idents,
         "yanks" => Asked::Yanks,
+        "text" => Asked::Text {
+            deck: word(operands, "DECK"),
+        },
+        "try" => Asked::Try {
+            mode: word(operands, "MODE"),
+        },
+        "source" => Asked::Source {
+            deck: word(operands, "DECK"),
+        },
         _ => Asked::Migrate,
     }
 }

@@ -9,6 +9,8 @@ mod command_streams;
 #[cfg(test)]
 mod console;
 #[cfg(test)]
+mod deck_commands;
+#[cfg(test)]
 mod library_files;
 #[cfg(test)]
 mod refusals;

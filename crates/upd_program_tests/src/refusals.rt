@@ -19,6 +19,8 @@ const OPERANDS: &[(&str, &[&str], &str)] = &[
     ),
     ("settle", &["LYON", "x"], "upd: BadNumber (24) at 0\n"),
     ("list", &["a"], "upd: BadName (5) at 0\n"),
+    ("text", &["a"], "upd: BadName (5) at 0\n"),
+    ("source", &["a"], "upd: BadName (5) at 0\n"),
     ("history", &["A"], "upd: BadCard (6) at 0\n"),
 ];
 
@@ -47,6 +49,10 @@ pub const COMMANDS: &[(&str, &[&str])] = &[
     ("history", &["A.2"]),
     ("idents", &[]),
     ("yanks", &[]),
+    ("text", &["A"]),
+    ("correct", &["A"]),
+    ("try", &["full"]),
+    ("source", &["A"]),
     ("migrate", &[]),
 ];
 

@@ -1,12 +1,17 @@
-use Rattle.upd_cli.specs.declared.asking.Question.TheVariants.{Deck, Card, Idents, Yanks}
+use Rattle.std.proofs.Common.{sym, subst}
+use Rattle.std.specs.Result.{result_map_both}
+use Rattle.upd_cli.specs.Errands.{IsAnswered}
+use Rattle.upd_cli.specs.declared.asking.Question.{Question}
+use Rattle.upd_cli.specs.declared.asking.Question.TheVariants.{Card, Idents, Yanks}
 use Rattle.upd_cli.proofs.AskingLemmas.{answered_as}
 use Rattle.upd_cli.proofs.asking.ask.Goals as goal
 
 pub returns-in-Deck : goal.returns-in-Deck
 returns-in-Deck g c =
-    answered_as
-    (λ text. text.items) c.deck_list.result c.args.question.now (Deck c.in-Deck.name) c.args.desk.now.store c.deck_list.new.self.store c.in-Deck.is
-    c.deck_list.ensures.text c.deck_list.ensures.same c.deck_list.ensures.failed
+    let P : Question → Type 0 =
+    λ q. IsAnswered g.S.Meaning q (result_map_both (λ text. text.items) (λ fault. fault) c.ask_deck.result)
+    c.args.desk.now.store c.ask_deck.new.desk.store in
+    subst P (sym c.in-Deck.is) c.ask_deck.ensures
 
 pub returns-in-Card : goal.returns-in-Card
 returns-in-Card g c =

@@ -1,16 +1,19 @@
-use Rattle.std.proofs.Common.{◌≡◌, inl, inr, arith, ℕ, List, codes, map, ap, sym, ◌∙◌, subst}
+use Rattle.std.proofs.Common.{◌≡◌, ◌+◌, inl, inr, arith, ℕ, List, codes, map, ap, sym, ◌∙◌, subst}
 use Rattle.clap.specs.Words.{Text}
 use Rattle.upd_compile.specs.Modes.{mode_named}
 use Rattle.std.proofs.KnownBytes.{Appends-nil}
 use Rattle.upd_io.proofs.InputLemmas.{some_input}
 use Rattle.upd_text.specs.declared.fault.Fault.{Fault}
+use Rattle.upd_edit.specs.declared.editing.TheConstants.{MAX_TEXT_BYTES}
+use Rattle.upd_text.specs.declared.limits.TheConstants.{MAX_RUN_BYTES}
 use Rattle.upd_cli.specs.Command.{Answers, IsTold, answer_to}
 use Rattle.upd_cli.specs.Status.{exit_status, fault_line}
 use Rattle.upd_cli.specs.Trial.{trial_named}
 use Rattle.upd_cli.specs.Words.{IsAskedFor, operand_word}
-use Rattle.upd_cli.specs.declared.words.Request.TheVariants.{Trial, Library, Serve}
+use Rattle.upd_cli.specs.declared.words.Request.TheVariants.{Trial, Library, Serve, Correct}
 use Rattle.upd_cli.proofs.CommandLemmas.{answered, answered_at_once}
-use Rattle.upd_cli.proofs.RequestLemmas.{begins_otherwise, none_of, of_library, serve_command, trial_command, trial_mode}
+use Rattle.upd_cli.proofs.RequestLemmas.{begins_otherwise, correct_command, none_of, of_library, serve_command, trial_command, trial_mode}
+use Rattle.upd_cli.proofs.StreamLemmas.{takes_more}
 use Rattle.upd_cli.proofs.command.run_command.Goals as goal
 
 pub returns-in-Ok-Trial-clause-trial : goal.returns-in-Ok-Trial-clause-trial
@@ -63,7 +66,19 @@ returns-in-Ok-Library-clause-front g c =
     let words : List Text = map g.S.AsStr.text c.args.words.now in
     let request = Library c.in-Ok-Library.file c.in-Ok-Library.asked in
     let asked : IsAskedFor words request = subst (IsAskedFor words) c.in-Ok-Library.field-0-is c.in-Ok-Library.ensures.ok in
-    λ other. c.carry_out_library.ensures.front (λ spools. other ((of_library words c.in-Ok-Library.file c.in-Ok-Library.asked asked).spools spools))
+    λ other edits. c.carry_out_library.ensures.front (λ spools. other ((of_library words c.in-Ok-Library.file c.in-Ok-Library.asked asked).spools spools))
+
+pub returns-in-Ok-Library-clause-text : goal.returns-in-Ok-Library-clause-text
+returns-in-Ok-Library-clause-text g c =
+    let words : List Text = map g.S.AsStr.text c.args.words.now in
+    let request = Library c.in-Ok-Library.file c.in-Ok-Library.asked in
+    let asked : IsAskedFor words request = subst (IsAskedFor words) c.in-Ok-Library.field-0-is c.in-Ok-Library.ensures.ok in
+    λ other. takes_more (MAX_RUN_BYTES + 1) (MAX_TEXT_BYTES + 1) (g.R.Read.remaining c.args.input.now) _ (omega arith)
+    (c.carry_out_library.ensures.front (λ spools. other ((of_library words c.in-Ok-Library.file c.in-Ok-Library.asked asked).spools spools)))
+
+pub returns-in-Ok-Trial-clause-text : goal.returns-in-Ok-Trial-clause-text
+returns-in-Ok-Trial-clause-text g c = λ other.
+    takes_more (MAX_RUN_BYTES + 1) (MAX_TEXT_BYTES + 1) (g.R.Read.remaining c.args.input.now) _ (omega arith) c.carry_out_trial-ended.ensures.front
 
 pub returns-in-Ok-Library-clause-waits : goal.returns-in-Ok-Library-clause-waits
 returns-in-Ok-Library-clause-waits g c =
@@ -71,7 +86,7 @@ returns-in-Ok-Library-clause-waits g c =
     let request = Library c.in-Ok-Library.file c.in-Ok-Library.asked in
     let asked : IsAskedFor words request = subst (IsAskedFor words) c.in-Ok-Library.field-0-is c.in-Ok-Library.ensures.ok in
     λ no. c.carry_out_library.ensures.waits
-    (λ may. no (asked.0, inr ((of_library words c.in-Ok-Library.file c.in-Ok-Library.asked asked).tells may)))
+    (λ may. no (asked.0, inr (inl ((of_library words c.in-Ok-Library.file c.in-Ok-Library.asked asked).tells may))))
 
 pub returns-in-Ok-Library-clause-silent : goal.returns-in-Ok-Library-clause-silent
 returns-in-Ok-Library-clause-silent g c =
@@ -97,6 +112,41 @@ returns-in-Ok-Serve-clause-unread g c =
     let request = Serve c.in-Ok-Serve.file c.in-Ok-Serve.address c.in-Ok-Serve.count in
     let asked : IsAskedFor words request = subst (IsAskedFor words) c.in-Ok-Serve.field-0-is c.in-Ok-Serve.ensures.ok in
     λ bad. absurd (bad asked.0)
+
+pub returns-in-Ok-Correct-clause-trial : goal.returns-in-Ok-Correct-clause-trial
+returns-in-Ok-Correct-clause-trial g c =
+    let words : List Text = map g.S.AsStr.text c.args.words.now in
+    let request = Correct c.in-Ok-Correct.file c.in-Ok-Correct.set in
+    let asked : IsAskedFor words request = subst (IsAskedFor words) c.in-Ok-Correct.field-0-is c.in-Ok-Correct.ensures.ok in
+    λ none is_trial. absurd (begins_otherwise (codes "correct") (λ (e : 116 ≡ 99). omega (arith, e))
+    (sym is_trial ∙ correct_command words c.in-Ok-Correct.file c.in-Ok-Correct.set asked))
+
+pub returns-in-Ok-Correct-clause-unread : goal.returns-in-Ok-Correct-clause-unread
+returns-in-Ok-Correct-clause-unread g c =
+    let words : List Text = map g.S.AsStr.text c.args.words.now in
+    let request = Correct c.in-Ok-Correct.file c.in-Ok-Correct.set in
+    let asked : IsAskedFor words request = subst (IsAskedFor words) c.in-Ok-Correct.field-0-is c.in-Ok-Correct.ensures.ok in
+    λ bad. absurd (bad asked.0)
+
+pub returns-in-Ok-Correct-clause-front : goal.returns-in-Ok-Correct-clause-front
+returns-in-Ok-Correct-clause-front g c =
+    let words : List Text = map g.S.AsStr.text c.args.words.now in
+    let request = Correct c.in-Ok-Correct.file c.in-Ok-Correct.set in
+    let asked : IsAskedFor words request = subst (IsAskedFor words) c.in-Ok-Correct.field-0-is c.in-Ok-Correct.ensures.ok in
+    λ other edits. absurd (edits (correct_command words c.in-Ok-Correct.file c.in-Ok-Correct.set asked))
+
+pub returns-in-Ok-Correct-clause-waits : goal.returns-in-Ok-Correct-clause-waits
+returns-in-Ok-Correct-clause-waits g c =
+    let words : List Text = map g.S.AsStr.text c.args.words.now in
+    let request = Correct c.in-Ok-Correct.file c.in-Ok-Correct.set in
+    let asked : IsAskedFor words request = subst (IsAskedFor words) c.in-Ok-Correct.field-0-is c.in-Ok-Correct.ensures.ok in
+    λ no. absurd (no (asked.0, inr (inr (correct_command words c.in-Ok-Correct.file c.in-Ok-Correct.set asked))))
+
+pub returns-in-Ok-Correct-clause-told : goal.returns-in-Ok-Correct-clause-told
+returns-in-Ok-Correct-clause-told g c =
+    let words : List Text = map g.S.AsStr.text c.args.words.now in
+    let request = Correct c.in-Ok-Correct.file c.in-Ok-Correct.set in
+    inl (request, subst (IsAskedFor words) c.in-Ok-Correct.field-0-is c.in-Ok-Correct.ensures.ok, c.carry_out_correction.ensures.told)
 
 pub returns-in-Err-clause-trial : goal.returns-in-Err-clause-trial
 returns-in-Err-clause-trial g c = λ none is_trial.

@@ -16,5 +16,11 @@ returns-in-Spool-clause-leaves g c =
     (g.W.Write.contents c.args.output.now) (g.W.Write.contents c.spool_on.new.output) in
     subst P (sym c.in-Spool.is) c.spool_on.ensures.leaves
 
+pub returns-in-Try-clause-leaves : goal.returns-in-Try-clause-leaves
+returns-in-Try-clause-leaves g c =
+    let P : Asked → Type 0 = λ asked. Leaves asked c.try_on.result (g.R.Read.remaining c.args.input.now) (g.R.Read.remaining c.try_on.new.input)
+    (g.W.Write.contents c.args.output.now) (g.W.Write.contents c.try_on.new.output) in
+    subst P (sym c.in-Try.is) c.try_on.ensures.leaves
+
 pub returns-in-Spool-clause-waits : goal.returns-in-Spool-clause-waits
 returns-in-Spool-clause-waits g c = λ no. absurd (no (subst IsHandIn (sym c.in-Spool.is) tt))

@@ -1,7 +1,7 @@
 use Rattle.std.proofs.Common.{refl, sym, ◌∙◌, subst}
 use Rattle.std.proofs.KnownBytes.{Appends-nil}
 use Rattle.upd_cli.specs.Commands.{TellsRead}
-use Rattle.upd_cli.proofs.library.list_on.Goals as goal
+use Rattle.upd_cli.proofs.library.deck_on.Goals as goal
 
 pub returns-in-Ok-clause-leaves : goal.returns-in-Ok-clause-leaves
 returns-in-Ok-clause-leaves g c =

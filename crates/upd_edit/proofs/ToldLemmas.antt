@@ -1,0 +1,59 @@
+-- What is made of the library that a desk returned is made of the library after each journal that its store holds.
+use Rattle.std.proofs.Common.{◌≡◌, inl, inr, false, List, [], ◌∷◌, ℕ, Option, Some, None, Result, Ok, Err, IsErrAnd, sym, subst, rules}
+use Rattle.std.specs.Result.{result_map_both}
+use Rattle.upd_text.specs.declared.fault.Fault.{Fault}
+use Rattle.upd_text.specs.declared.fault.FaultKind.TheVariants.{DeckUnknown}
+use Rattle.upd_text.specs.Outcome.{◌>>=◌, at_line, need}
+use Rattle.upd_core.specs.Library.{LibraryView, deck_of}
+use Rattle.upd_core.specs.Actives.{actives_of}
+use Rattle.upd_compile.specs.File.{compile_file_of}
+use Rattle.upd_compile.specs.declared.mode.Mode.TheVariants.{Quick}
+use Rattle.upd_row_store.specs.declared.meaning.Meaning.{Ghosts}
+use Rattle.upd_row_store.specs.Keeping.{IsLost}
+use Rattle.upd_desk.specs.Holding.{EachHeld, IsOwed, Tells, is_lost}
+use Rattle.upd_desk.specs.Journal.{library_after}
+use Rattle.upd_desk.specs.Made.{IsMade}
+use Rattle.upd_desk.proofs.MadeLemmas.{library_made}
+use Rattle.upd_desk.proofs.QueryLemmas.{compile_keeps}
+use Rattle.upd_edit.specs.Source.{source}
+
+module _ {S : Type 0} (meaning : Ghosts S) where
+  -- an answer that is right of the library that was returned
+  pub told_of : {A : Type 0} (defined : LibraryView → Result A Fault) (found : LibraryView) (result : Result A Fault) (old new : S)
+      → Tells meaning (λ l. Ok l) (Ok found) old new → (IsMade found → IsOwed (defined found) result) → Tells meaning defined result old new
+  told_of defined found result old new tells meets honest journal held =
+      let is : library_after journal ≡ found = cc (tells honest journal held) in
+      let IsRight : LibraryView → Type 0 = λ l. IsOwed (defined l) result in
+      subst IsRight (sym is) (meets (subst IsMade is (library_made journal)))
+
+  -- the same of any claim
+  pub held_of : (claim : LibraryView → Type 0) (found : LibraryView) (old new : S)
+      → Tells meaning (λ l. Ok l) (Ok found) old new → (IsMade found → claim found)
+      → EachHeld meaning old new (λ journal. claim (library_after journal))
+  held_of claim found old new tells meets honest journal held =
+      let is : library_after journal ≡ found = cc (tells honest journal held) in
+      subst claim (sym is) (meets (subst IsMade is (library_made journal)))
+
+  -- no library was returned
+  pub none_told : {A : Type 0} (defined : LibraryView → Result A Fault) (fault : Fault) (result : Result A Fault) (old new : S)
+      → IsErrAnd result (λ e. e ≡ fault) → Tells meaning (λ l. Ok l) (Err fault) old new → Tells meaning defined result old new
+  none_told defined fault (Ok x) old new is tells honest journal held = absurd is
+  none_told defined fault (Err e) old new is tells honest journal held = by (tells honest journal held)
+    where
+      by : IsOwed (Ok (library_after journal)) (Err fault) → IsOwed (defined (library_after journal)) (Err e)
+      by (inl lost) = inl (subst IsLost (sym is) lost)
+      by (inr met) = absurd (cc)
+
+-- an error is shown as it is
+pub shown_error : {X A : Type 0} (view : X → A) (result : Result X Fault) (fault : Fault) → IsErrAnd result (λ e. e ≡ fault)
+    → IsErrAnd (result_map_both view (λ f. f) result) (λ e. e ≡ fault)
+shown_error view (Ok x) fault is = absurd is
+shown_error view (Err e) fault is = is
+
+-- a source that is refused is no failure of a store
+pub source_keeps : (name : List ℕ) (l : LibraryView) (f : Fault) → source name l ≡ Err f → is_lost f.kind ≡ false
+source_keeps name l f is = by (deck_of name l) is
+  where
+    by : (o : Option ℕ) → (at_line 0 (need DeckUnknown o) >>= (λ deck. compile_file_of Quick (deck ∷ []) l l)) ≡ Err f → is_lost f.kind ≡ false
+    by (Some deck) e = compile_keeps Quick (deck ∷ []) (actives_of l) (actives_of l) f e
+    by None e = grind rules

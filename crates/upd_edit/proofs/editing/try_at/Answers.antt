@@ -1,0 +1,22 @@
+use Rattle.std.proofs.Common.{Ok, Err}
+use Rattle.upd_desk.specs.Outcomes.{reply_on}
+use Rattle.upd_desk.proofs.QueryLemmas.{fails_owed}
+use Rattle.upd_edit.specs.Trying.{tried}
+use Rattle.upd_edit.proofs.ToldLemmas.{none_told, told_of}
+use Rattle.upd_edit.proofs.editing.try_at.Goals as goal
+
+pub returns-in-Ok-clause-reply : goal.returns-in-Ok-clause-reply
+returns-in-Ok-clause-reply g c =
+    told_of g.S.Meaning (reply_on (tried c.args.mode.now c.args.run.now)) c.in_ok-library.library (Ok c.in-Ok.reply)
+    c.args.desk.now.store c.library.new.self.store c.in_ok-library.ensures.library (λ made. c.in-Ok.ensures made)
+
+pub returns-clause-reply : goal.returns-clause-reply
+returns-clause-reply g c =
+    told_of g.S.Meaning (reply_on (tried c.args.mode.now c.args.run.now)) c.in_ok-library.library (Err c.in-Err.fault)
+    c.args.desk.now.store c.library.new.self.store c.in_ok-library.ensures.library
+    (λ made. fails_owed c.in-Err.fault (reply_on (tried c.args.mode.now c.args.run.now) c.in_ok-library.library) (c.in-Err.ensures made))
+
+pub returns-in_err-library-clause-reply : goal.returns-in_err-library-clause-reply
+returns-in_err-library-clause-reply g c =
+    none_told g.S.Meaning (reply_on (tried c.args.mode.now c.args.run.now)) c.in_err-library.field-0.0 _
+    c.args.desk.now.store c.library.new.self.store c.from_residual.ensures.1 c.in_err-library.ensures.library

@@ -1,0 +1,4 @@
+pub mod ActiveText
+pub mod Source
+pub mod Trying
+pub mod RefusalLines

@@ -1,0 +1,51 @@
+-- The lines that report the refusals of an edited text.
+use Rattle.std.specs.Prelude.{List, [], ◌∷◌, ◌++◌, codes, decimal}
+use Rattle.std.specs.List.{flat_map}
+use Rattle.upd_text.specs.Units.{Bytes}
+use Rattle.upd_correct.specs.declared.refusal.Problem.{Problem}
+use Rattle.upd_correct.specs.declared.refusal.Problem.TheVariants.{BadByte, LineLong, Comment, Directive, NoDeck, FirstCard, OutOfUse, DeckTwice}
+use Rattle.upd_correct.specs.declared.refusal.Problem.TheVariants.{NameTaken, Reserved, BadName, TooManyLines, RunLong, Full}
+use Rattle.upd_correct.specs.declared.refusal.Refusal.{Refusal}
+
+-- the name of a problem: that of the fault which a run would meet, if there is one
+abbrev pub problem_name : Problem → Bytes
+problem_name BadByte = codes "BadByte"
+problem_name LineLong = codes "LineLong"
+problem_name Comment = codes "Comment"
+problem_name Directive = codes "Directive"
+problem_name NoDeck = codes "NoDeck"
+problem_name FirstCard = codes "FirstCard"
+problem_name OutOfUse = codes "OutOfUse"
+problem_name DeckTwice = codes "DeckTwice"
+problem_name NameTaken = codes "NameTaken"
+problem_name Reserved = codes "Reserved"
+problem_name BadName = codes "BadName"
+problem_name TooManyLines = codes "TooManyLines"
+problem_name RunLong = codes "RunLong"
+problem_name Full = codes "Full"
+
+-- what a problem is, in words
+abbrev pub problem_text : Problem → Bytes
+problem_text BadByte = codes "a line can't have this byte"
+problem_text LineLong = codes "a line has at most 80 bytes"
+problem_text Comment = codes "a run would drop this line as a comment"
+problem_text Directive = codes "a run would carry this line out as a directive"
+problem_text NoDeck = codes "no deck begins before this line"
+problem_text FirstCard = codes "the first card of a deck can't be changed"
+problem_text OutOfUse = codes "a yank takes this deck out of use, so no run can change its text"
+problem_text DeckTwice = codes "this deck is in the text twice"
+problem_text NameTaken = codes "this name is in use"
+problem_text Reserved = codes "the library keeps this name for itself"
+problem_text BadName = codes "the set's name is not a name"
+problem_text TooManyLines = codes "the run would have more than 2000 lines: correct it in parts"
+problem_text RunLong = codes "the run would have more than 65536 bytes: correct it in parts"
+problem_text Full = codes "the library has no room for this run"
+
+-- the line of a refusal: name, place and words, as `LineLong 7:81 a line has at most 80 bytes`
+abbrev pub refusal_line : Refusal → Bytes
+refusal_line r =
+    problem_name r.problem ++ 32 ∷ decimal r.line ++ 58 ∷ decimal r.column ++ 32 ∷ problem_text r.problem ++ 10 ∷ []
+
+-- the lines of refusals, in order
+abbrev pub refusal_lines : List Refusal → Bytes
+refusal_lines refusals = flat_map refusal_line refusals

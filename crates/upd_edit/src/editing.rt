@@ -1,0 +1,126 @@
+//! The same of the library that a desk holds. Nothing changes, and no number is used.
+ghost use Rattle.std.specs.Prelude.{◌≤◌, IfOk, OnOk, length};
+ghost use Rattle.std.specs.Result.{result_map_both};
+ghost use Rattle.upd_correct.specs.Correcting.{CorrectsTo};
+ghost use Rattle.upd_desk.specs.Holding.{EachHeld, Tells};
+ghost use Rattle.upd_desk.specs.Journal.{library_after};
+ghost use Rattle.upd_desk.specs.Outcomes.{reply_on};
+ghost use Rattle.upd_edit.specs.ActiveText.{active_text};
+ghost use Rattle.upd_edit.specs.Source.{source};
+ghost use Rattle.upd_edit.specs.Trying.{tried};
+ghost use Rattle.upd_row_store.specs.Keeping.{CountsFailure, Keeps};
+
+use crate::deck_source::source;
+use crate::deck_text::active_text;
+use std::alloc::Global;
+use upd_compile::CompileFile;
+use upd_core::Name;
+use upd_correct::{CorrectError, Refusal, correct};
+use upd_desk::{Arrival, Desk, Reply, reply_on};
+use upd_row_store::RowStore;
+use upd_text::limits::{MAX_CARDS, MAX_LINE_BYTES};
+use upd_text::{Fault, FaultKind};
+
+/// The longest edited text, in bytes: one of as many lines as a library has cards, all as long as a line can be.
+pub const MAX_TEXT_BYTES: usize = MAX_CARDS * (MAX_LINE_BYTES + 1);
+
+/// Why there is no run for an edited text.
+#[derive(Debug, Drop)]
+pub enum EditError {
+    /// Out of memory, a failure of the store, or a text of more than `MAX_TEXT_BYTES`, which is RunLong. All are at 0.
+    Failed(Fault),
+    /// The text is refused: all its problems, in order of line.
+    Refused(Vec<Refusal>),
+}
+
+/// The active cards of a deck as plain text, each with LF, the deck's first card included. DeckUnknown, at 0, where no
+/// held deck has the name; after NoMemory or Store, at 0, it can be asked again.
+pub fn text_at<S: RowStore>(
+    alloc: Global,
+    desk: &mut Desk<S>,
+    name: &Name,
+) -> Result<Vec<u8>, Fault>
+    ensures text { Tells S.Meaning (active_text name.now)
+        (result_map_both (λ text. text.items) (λ fault. fault) result) desk.old.store desk.new.store }
+    ensures same { Keeps S.Meaning desk.old.store desk.new.store }
+    ensures failed { CountsFailure S.Meaning result desk.old.store desk.new.store }
+{
+    let library = desk.library(alloc)?;
+    match active_text(alloc, &library, name) {
+        Ok(text) => Ok(text),
+        Err(fault) => Err(fault),
+    }
+}
+
+/// The compile file that has only one deck. DeckUnknown, at 0, where no held deck has the name; CallUnknown, CallDepth
+/// or CompileLong, at 0, where the walk meets one; after NoMemory or Store, at 0, it can be asked again.
+pub fn source_at<S: RowStore>(
+    alloc: Global,
+    desk: &mut Desk<S>,
+    name: &Name,
+) -> Result<CompileFile, Fault>
+    ensures file { Tells S.Meaning (source name.now)
+        (result_map_both (λ file. file) (λ fault. fault) result) desk.old.store desk.new.store }
+    ensures same { Keeps S.Meaning desk.old.store desk.new.store }
+    ensures failed { CountsFailure S.Meaning result desk.old.store desk.new.store }
+{
+    let library = desk.library(alloc)?;
+    match source(alloc, &library, name) {
+        Ok(file) => Ok(file),
+        Err(fault) => Err(fault),
+    }
+}
+
+/// The reply that a run would get now, from the site `TRY` under the number 1. BadMode or RunLong, at 0, by the
+/// admission checks; after NoMemory or Store, at 0, it can be asked again.
+pub fn try_at<S: RowStore>(
+    alloc: Global,
+    desk: &mut Desk<S>,
+    mode: &str,
+    run: &[u8],
+) -> Result<Reply, Fault>
+    ensures reply { Tells S.Meaning (reply_on (tried mode.now run.now)) result
+        desk.old.store desk.new.store }
+    ensures same { Keeps S.Meaning desk.old.store desk.new.store }
+{
+    let library = desk.library(alloc)?;
+    let arrival = Arrival {
+        site: "TRY",
+        number: 1,
+        mode,
+        bytes: run,
+    };
+    match reply_on(alloc, &library, &arrival) {
+        Ok(reply) => Ok(reply),
+        Err(fault) => Err(fault),
+    }
+}
+
+/// The run that leads decks to their edited texts under the name of a new set, as `upd_correct::correct` makes it.
+///
+/// After NoMemory or Store, at 0, it can be asked again.
+pub fn correct_at<S: RowStore>(
+    alloc: Global,
+    desk: &mut Desk<S>,
+    set: &[u8],
+    text: &[u8],
+) -> Result<Vec<u8>, EditError>
+    ensures corrects { EachHeld S.Meaning desk.old.store desk.new.store
+        (λ journal. IfOk result (λ run. CorrectsTo (library_after journal) set.now text.now run.items)) }
+    ensures short { OnOk result (length text.now ≤ MAX_TEXT_BYTES) }
+    ensures same { Keeps S.Meaning desk.old.store desk.new.store }
+{
+    if text.len() > MAX_TEXT_BYTES {
+        return Err(EditError::Failed(FaultKind::RunLong.without_line()));
+    }
+    match desk.library(alloc) {
+        Ok(library) => match correct(alloc, &library, set, text) {
+            Ok(run) => Ok(run),
+            Err(CorrectError::NoMemory) => Err(EditError::Failed(
+                FaultKind::NoMemory.without_line(),
+            )),
+            Err(CorrectError::Refused(refusals)) => Err(EditError::Refused(refusals)),
+        },
+        Err(fault) => Err(EditError::Failed(fault)),
+    }
+}

@@ -1,0 +1,15 @@
+//! What a programmer asks of a library in order to edit it: the text of a deck, its source, the run that corrects it,
+//! and what a run would do.
+//!
+//! Each call has a form over a `Library`, and a form over a desk that reads the library from its store.
+#![tactic(auto)]
+
+pub mod deck_source;
+pub mod deck_text;
+pub mod editing;
+pub mod refused;
+
+pub use deck_source::source;
+pub use deck_text::active_text;
+pub use editing::{EditError, MAX_TEXT_BYTES, correct_at, source_at, text_at, try_at};
+pub use refused::refusal_lines;
