@@ -28,13 +28,14 @@ use upd_desk::Desk;
 use upd_edit::MAX_TEXT_BYTES;
 use upd_http::serve_on_within;
 use upd_migrate::migrate;
+use upd_mirror::MirrorStore;
 use upd_spool::spool;
 use upd_store::SqlStore;
 use upd_store::file::{FileLibrary, close, connect, create};
 use upd_text::{Fault, FaultKind};
 
-/// A desk over the library in a file.
-type FileDesk = Desk<FileLibrary<Unknown>>;
+/// The library in a file, with its rows in memory once it has committed twice.
+type FileRows = MirrorStore<FileLibrary<Unknown>>;
 
 /// Carries out a command on the library in a file, and returns the exit status. Operands are read before the file is
 /// opened, and the file is opened before the input is read.
@@ -188,7 +189,9 @@ pub(crate) fn serve(
     ensures status { IfOk result (λ status. status ≡ 0) }
     ensures failed { IfErr result (λ fault. exit_status fault.kind ≡ 3) }
 {
-    let mut desk = open_desk(rt, file)?;
+    let mut rows = open_rows(rt, file)?;
+    rows.warm(rt.alloc());
+    let mut desk = Desk::open(rows);
     let ended = match TcpListener::bind(rt, address) {
         Ok(listener) => serve_on_within(rt.alloc(), rt, &listener, count, &mut desk),
         Err(_) => Err(FaultKind::Read.without_line()),
@@ -206,7 +209,7 @@ fn init_file(rt: &HostRuntime, file: &str) -> Result<u8, Fault>
 {
     match create(rt, file, Unknown) {
         Ok(library) => {
-            close_desk(Desk::open(library));
+            close_desk(Desk::open(MirrorStore::new(library)));
             Ok(DONE)
         }
         Err(fault) => Err(fault),
@@ -279,16 +282,25 @@ fn answer_on<W: Write>(
     ended
 }
 
-fn open_desk(rt: &HostRuntime, file: &str) -> Result<FileDesk, Fault>
+fn open_desk(rt: &HostRuntime, file: &str) -> Result<Desk<FileRows>, Fault>
+    ensures { IfErr result IsUnopened }
+{
+    match open_rows(rt, file) {
+        Ok(rows) => Ok(Desk::open(rows)),
+        Err(fault) => Err(fault),
+    }
+}
+
+fn open_rows(rt: &HostRuntime, file: &str) -> Result<FileRows, Fault>
     ensures { IfErr result IsUnopened }
 {
     match SqlStore::open(rt, file, false, Unknown) {
-        Ok(library) => Ok(Desk::open(library)),
+        Ok(library) => Ok(MirrorStore::new(library)),
         Err(fault) => Err(fault),
     }
 }
 
 /// Closes the library. If that fails, nothing is lost, since the log still has every commit: so the error is ignored.
-fn close_desk(desk: FileDesk) {
-    let _ = close(desk.close());
+fn close_desk(desk: Desk<FileRows>) {
+    let _ = close(desk.close().into_inner());
 }
