@@ -1,10 +1,13 @@
 -- The rows that are copied out of maps are those of the tables.
-use Rattle.std.proofs.Common.{◌≡◌, ℕ, ◌+◌, ◌≤◌, ◌==◌, Bool, true, false, not, cond, List, [], ◌∷◌, ◌++◌, length, refl, ap, sym, ◌∙◌, subst, arith}
+use Rattle.std.proofs.Common.{◌≡◌, ℕ, ◌+◌, ◌≤◌, ◌==◌, Bool, true, false, not, cond, List, [], ◌∷◌, ◌++◌, length, map, refl, ap, sym, ◌∙◌, subst, arith}
 use Rattle.std.proofs.Common.{append-nil}
 use Rattle.std.specs.Prelude.{◌&&◌, ◌||◌}
 use Rattle.std.specs.BTreeMap.{BTreeMap, IsOrdered}
 use Rattle.std.specs.Cmp.{tied_itself, unsigned_tied}
-use Rattle.std.specs.List.{count_by, filter, flat_map, list_any}
+use Rattle.std.specs.List.{count_by, filter, flat_map, list_any, sum_by}
+use Rattle.std.specs.List.Sorted.{IsPermutation}
+use Rattle.std.proofs.lemmas.List.Sorted.{sum_by-IsPermutation}
+use Rattle.std.proofs.lemmas.List.Sums.{sum_by-cons}
 use Rattle.std.specs.Ordering.{is_eq, nat_cmp}
 use Rattle.std.specs.declared.vec.Vec.{Vec}
 use Rattle.std.proofs.lemmas.Cmp.{nat_cmp_total}
@@ -13,7 +16,7 @@ use Rattle.std.proofs.lemmas.Map.Lookups.{exact_unsigned}
 use Rattle.upd_text.specs.Order.{by_name}
 use Rattle.upd_text.specs.declared.card_ref.CardRef.{CardRef}
 use Rattle.upd_core.specs.Edits.{is_among}
-use Rattle.upd_records.proofs.CountLemmas.{count_cons, same_of, same_trans}
+use Rattle.upd_records.proofs.CountLemmas.{count_append, count_cons, same_of, same_trans}
 use Rattle.upd_records.specs.Rows.{CardRow, EntryRow, IsSame, same_ref}
 use Rattle.upd_row_store.proofs.HolderLemmas.{any_same}
 use Rattle.upd_row_store.specs.Asked.{AreDecksOf, is_asked}
@@ -119,6 +122,26 @@ module _ {Z : Type 0} (entries : BTreeMap CardRef (Vec EntryRow Z)) (all : List 
           go : (b : Bool) → IsSame (cond b (entries_at entries c) []) (cond b (filter (λ r. same_ref c r.card) all) [])
           go true = are c
           go false = same_of [] [] refl
+
+-- ---- lists in another order
+
+count_flat : {A B : Type 0} (test : B → Bool) (f : A → List B) (xs : List A) → count_by test (flat_map f xs) ≡ sum_by (λ x. count_by test (f x)) xs
+count_flat test f [] = refl
+count_flat test f (x ∷ xs) = count_append test (f x) (flat_map f xs) ∙ ap (λ n. count_by test (f x) + n) (count_flat test f xs)
+    ∙ sym (sum_by-cons (λ y. count_by test (f y)) x xs)
+
+flat_mapped : {A B C : Type 0} (f : B → List C) (g : A → B) (xs : List A) → flat_map f (map g xs) ≡ flat_map (λ x. f (g x)) xs
+flat_mapped f g [] = refl
+flat_mapped f g (x ∷ xs) = ap (λ rest. f (g x) ++ rest) (flat_mapped f g xs)
+
+-- what is made of one element after the other, in another order
+pub same_in_turn : {A B C : Type 0} (f : B → List C) (g : A → B) (xs : List A) (ys : List B) → IsPermutation (map g xs) ys
+    → IsSame (flat_map f ys) (flat_map (λ x. f (g x)) xs)
+same_in_turn f g xs ys moved = record {
+  passes = λ test.
+      count_flat test f ys ∙ sum_by-IsPermutation (λ y. count_by test (f y)) (map g xs) ys moved ∙ sym (count_flat test f (map g xs))
+      ∙ ap (count_by test) (flat_mapped f g xs);
+}
 
 -- no card comes twice among some of the cards
 pub still_distinct : (keep : CardRow → Bool) (rows : List CardRow) → AreOfDistinctCards rows → AreOfDistinctCards (filter keep rows)

@@ -1,6 +1,6 @@
 //! A store over another store, with its rows in memory.
 
-ghost use Rattle.std.specs.Prelude.{◌≡◌, None, OnSome, true};
+ghost use Rattle.std.specs.Prelude.{◌≡◌, is_some, None, OnSome, true};
 ghost use Rattle.std.specs.Coded.{→_prop};
 ghost use Rattle.upd_records.specs.Rows.{Rows};
 ghost use Rattle.upd_row_store.specs.Keeping.{Keeps, failures_with};
@@ -60,6 +60,13 @@ impl<S: RowStore> MirrorStore<S> {
             failures: 0,
             reads: 0,
         }
+    }
+
+    /// Whether there are rows in memory.
+    pub fn has_rows(&self) -> bool
+        ensures { result ≡ is_some self.now.mirror }
+    {
+        self.mirror.is_some()
     }
 
     /// Reads the rows into memory, if they aren't there. Where they can't be read or kept, there are none.
