@@ -96,11 +96,22 @@ fn own_entries<'a>(entries: &'a BTreeMap<CardRef, Vec<EntryRow>>, card: &CardRef
     }
 }
 
+/// The cards of rows.
+fn cards_in(alloc: Global, rows: &[CardRow]) -> Result<Vec<CardRef>, AllocError>
+    ensures { IfOk result (λ cards. cards.items ≡ map (λ r. r.card) rows.now) }
+{
+    let mut cards = Vec::with_capacity(alloc, rows.len())?;
+    for row in rows {
+        cards.push(row.card)?;
+    }
+    Ok(cards)
+}
+
 /// The cards of rows, by name: whoever sorts their entries finds them in order.
 pub(crate) fn cards_by_name(alloc: Global, rows: &[CardRow]) -> Result<Vec<CardRef>, AllocError>
     ensures { IfOk result (λ cards. IsPermutation (map (λ r. r.card) rows.now) cards.items) }
 {
-    let mut cards: Vec<CardRef> = rows.iter().map(|row| row.card).collect(alloc)?;
+    let mut cards = cards_in(alloc, rows)?;
     cards.sort_unstable();
     Ok(cards)
 }
