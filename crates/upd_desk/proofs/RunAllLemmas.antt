@@ -1,5 +1,5 @@
 -- Arrivals one after the other: one more at the end.
-use Rattle.std.proofs.Common.{◌≡◌, ℕ, ◌≤◌, List, [], ◌∷◌, ◌++◌, length, Result, Ok, Err, IfOk, OnErr, OnOk, refl, sym, ◌∙◌, subst, rules, arith}
+use Rattle.std.proofs.Common.{◌≡◌, ℕ, List, [], ◌∷◌, ◌++◌, length, Result, Ok, Err, IfOk, OnErr, OnOk, refl, sym, ◌∙◌, subst, rules, arith}
 use Rattle.std.proofs.lemmas.Bool.{false≢true}
 use Rattle.upd_text.specs.declared.fault.Fault.{Fault}
 use Rattle.upd_row_store.specs.declared.meaning.Meaning.{Ghosts}

@@ -1,5 +1,5 @@
 -- The active cards out of rows of cards and statuses that show a library are those of the library.
-use Rattle.std.proofs.Common.{◌≡◌, ◌+◌, ◌<◌, ℕ, suc, Bool, true, false, ◌||◌, cond, List, [], ◌∷◌, ◌++◌, append-nil, length, map, slice_index_or, Some}
+use Rattle.std.proofs.Common.{◌≡◌, ◌+◌, ℕ, Bool, true, false, ◌||◌, cond, List, [], ◌∷◌, ◌++◌, append-nil, map, slice_index_or}
 use Rattle.std.proofs.Common.{refl, ap, sym, ◌∙◌, subst, arith}
 use Rattle.std.specs.Prelude.{◌==◌}
 use Rattle.std.proofs.lemmas.Bool.Decides.{Decides-eqb}
@@ -15,9 +15,9 @@ use Rattle.upd_core.specs.Actives.{ActiveCardView, ActiveDeckView, active_deck, 
 use Rattle.upd_core.specs.declared.ident.Ident.{Ident}
 use Rattle.upd_core.specs.Library.{CardView, DeckView, LibraryView, all_decks, name_of, ref_of}
 use Rattle.upd_core.specs.Sound.{AreRising, BeginsWithItsOwn, IsOfHeld, IsSound}
-use Rattle.upd_core.specs.Status.{is_active, live_targets, status_of}
+use Rattle.upd_core.specs.Status.{is_active, live_targets}
 use Rattle.upd_records.proofs.CountLemmas.{same_filter, same_trans}
-use Rattle.upd_records.specs.Rows.{CardRow, IsSame, Rows, Shows, ShowsStates, StateRow, card_rows, rows_of, same_ref, state_rows}
+use Rattle.upd_records.specs.Rows.{CardRow, IsSame, Rows, Shows, ShowsStates, StateRow, card_rows, same_ref, state_rows}
 use Rattle.upd_row_store.specs.Activating.{active_card, actives_from, actives_in, behind_yanks, is_active_in, with_active}
 use Rattle.upd_row_store.specs.Assembling.{AreByAge, AreByPlace, age_named}
 use Rattle.upd_row_store.proofs.AssembleLemmas.{age_found, cards_in_place, idents_in_place}

@@ -15,7 +15,7 @@ use Rattle.upd_core.specs.declared.ident.Ident.{Ident}
 use Rattle.upd_core.specs.declared.library.Place.{Place}
 use Rattle.upd_core.specs.declared.library.Rest.{Rest}
 use Rattle.upd_core.specs.Edits.{is_among}
-use Rattle.upd_core.specs.Library.{CardView, DeckView, LibraryView, all_decks, empty, place_of, ref_of}
+use Rattle.upd_core.specs.Library.{CardView, DeckView, LibraryView, all_decks, place_of, ref_of}
 use Rattle.upd_core.specs.Parts.{part_of}
 use Rattle.upd_core.specs.Sound.{AreApart, BeginsOn, BeginsWithItsOwn, HasNoTargets, IsOfHeld, IsSound, IsWhole, all_cards, is_held_deck, key_of}
 use Rattle.upd_records.proofs.CountLemmas.{count_cons, count_map, same_filter, same_of, same_trans}

@@ -1,4 +1,4 @@
-use Rattle.std.proofs.Common.{ℕ, List, Ok, refl, ap, sym, ◌∙◌}
+use Rattle.std.proofs.Common.{ℕ, List, refl, ap, sym, ◌∙◌}
 use Rattle.upd_core.specs.Library.{LibraryView}
 use Rattle.upd_apply.specs.Applying.{applied}
 use Rattle.upd_compile.specs.File.{compile_file_of}

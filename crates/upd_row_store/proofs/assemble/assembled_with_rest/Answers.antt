@@ -1,4 +1,4 @@
-use Rattle.std.proofs.Common.{ℕ, length, ap, sym, ◌∙◌, ◌≡◌, ◌-◌, arith}
+use Rattle.std.proofs.Common.{◌∙◌, ◌≡◌, arith}
 use Rattle.upd_core.specs.Parts.{part_of}
 use Rattle.upd_row_store.specs.PartRows.{part_rows}
 use Rattle.upd_row_store.proofs.RestLemmas.{part_shown, part_sound, parted, rest_made, rows_apart}
