@@ -1,5 +1,6 @@
 -- The tables of a mirror after one change.
-use Rattle.std.proofs.Common.{◌≡◌, ℕ, ◌+◌, ◌-◌, ◌==◌, nat_le, Bool, true, false, not, cond, if◌then◌else◌, IsTrue, List, [], ◌∷◌, ◌++◌, length, map, get_or, drop, ◌<◌}
+use Rattle.std.proofs.Common.{◌≡◌, ℕ, ◌+◌, ◌-◌, ◌==◌, nat_le, Bool, true, false, not, cond}
+use Rattle.std.proofs.Common.{if◌then◌else◌, IsTrue, List, [], ◌∷◌, ◌++◌, length, map, get_or, drop, ◌<◌}
 use Rattle.std.proofs.Common.{None, Some, Option, Result, Ok, Err, OnOk, IfOk, refl, ap, sym, ◌∙◌, subst, arith, append-nil}
 use Rattle.std.specs.Prelude.{◌&&◌, ◌||◌, ℤ, pos, negsuc, ◌^◌, ◌≤◌}
 use Rattle.std.specs.BTreeMap.{BTreeMap, get, is_at}
@@ -106,13 +107,15 @@ pub cards_left : {Z : Type 0} (old new : BTreeMap ℕ (Vec CardRow Z)) (homes : 
     → ((d : ℕ) → cards_at new d ≡ cond (is_home homes card d) (filter (λ r. not (same_ref card r.card)) (cards_at old d)) (cards_at old d))
     → AreHomes homes rows → AreCards old rows → AreCards new (filter (λ r. not (same_ref card r.card)) rows)
 cards_left old new homes rows card left known are d =
-    subst (λ xs. IsSame xs (filter (λ r. r.deck == d) (filter (λ r. not (same_ref card r.card)) rows))) (sym (left d)) (go (is_home homes card d) refl)
+    subst (λ xs. IsSame xs (filter (λ r. r.deck == d) (filter (λ r. not (same_ref card r.card)) rows))) (sym (left d)) (go
+    (is_home homes card d) refl)
   where
     go : (b : Bool) → is_home homes card d ≡ b → IsSame (cond b (filter (λ r. not (same_ref card r.card)) (cards_at old d)) (cards_at old d))
         (filter (λ r. r.deck == d) (filter (λ r. not (same_ref card r.card)) rows))
     go true e = subst (IsSame _) (sym (filter_twice (λ r. r.deck == d) (λ r. not (same_ref card r.card)) rows))
         (same_filter (λ r. not (same_ref card r.card)) (are d))
-    go false e = subst (IsSame (cards_at old d)) (sym (apart_stay (λ r. r.deck == d) (λ r. same_ref card r.card) rows (sym (known card d) ∙ e))) (are d)
+    go false e = subst (IsSame (cards_at old d)) (sym (apart_stay (λ r. r.deck == d) (λ r. same_ref card r.card) rows (sym (known card d)
+        ∙ e))) (are d)
 
 -- ---- moves
 
@@ -233,7 +236,8 @@ left_length gone [] = refl
 left_length gone (x ∷ xs) = go (gone x) (left_length gone xs)
   where
     go : (b : Bool) → length (filter (λ y. not (gone y)) xs) + length (filter gone xs) ≡ length xs
-        → length (cond (not b) (x ∷ filter (λ y. not (gone y)) xs) (filter (λ y. not (gone y)) xs)) + length (cond b (x ∷ filter gone xs) (filter gone xs))
+        → length (cond (not b) (x ∷ filter (λ y. not (gone y)) xs) (filter (λ y. not (gone y)) xs)) + length (cond b (x ∷ filter gone xs)
+        (filter gone xs))
         ≡ length (x ∷ xs)
     go true rest = grind (arith, rest)
     go false rest = grind (arith, rest)
@@ -281,11 +285,13 @@ state_put old new rows card active put are =
         (cond (is_eq (by_name card c)) [] (state_rows c (get by_name old c)) ++ record { card = card; active = active } ∷ [])
         (cond (is_eq (by_name card c)) [] (state_rows c (get by_name old c)))) (sym e ∙ turned card c)
         (subst (λ t. state_rows c (cond b (Some active) (get by_name old c)) ≡ cond b
-        (cond t [] (state_rows c (get by_name old c)) ++ record { card = card; active = active } ∷ []) (cond t [] (state_rows c (get by_name old c)))) (sym e)
+        (cond t [] (state_rows c (get by_name old c)) ++ record { card = card; active = active } ∷ []) (cond t [] (state_rows c
+        (get by_name old c)))) (sym e)
         (two b e))
       where
         two : (b : Bool) → is_eq (by_name card c) ≡ b → state_rows c (cond b (Some active) (get by_name old c))
-            ≡ cond b (cond b [] (state_rows c (get by_name old c)) ++ record { card = card; active = active } ∷ []) (cond b [] (state_rows c (get by_name old c)))
+            ≡ cond b (cond b [] (state_rows c (get by_name old c)) ++ record { card = card; active = active } ∷ []) (cond b [] (state_rows c
+            (get by_name old c)))
         two true e = ap (λ k. record { card = k; active = active } ∷ []) (sym (one_by_order card c e))
         two false e = refl
 
@@ -320,8 +326,10 @@ pub count_some : (target : Target) (n : ℕ) (old mid new : List (Target × ℕ)
     → IsSame new (map count_pair (filter (λ r. not (is_same target r.target)) rows ++ count_rows target n))
 count_some target n old mid new rows some is more are =
     subst (λ b. IsSame new (map count_pair (filter (λ r. not (is_same target r.target)) rows ++ cond b [] (record { target = target; n = n } ∷ []))))
-    (sym (some_at n some)) (subst (IsSame new) (sym (map-append count_pair (filter (λ r. not (is_same target r.target)) rows) (record { target = target; n = n } ∷ [])))
-    (subst (λ xs. IsSame xs (map count_pair (filter (λ r. not (is_same target r.target)) rows) ++ (target, n) ∷ [])) (sym (more ∙ ap (λ xs. xs ++ (target, n) ∷ []) is))
+    (sym (some_at n some)) (subst (IsSame new) (sym (map-append count_pair (filter (λ r. not (is_same target r.target)) rows)
+    (record { target = target; n = n } ∷ [])))
+    (subst (λ xs. IsSame xs (map count_pair (filter (λ r. not (is_same target r.target)) rows) ++ (target, n) ∷ [])) (sym (more
+    ∙ ap (λ xs. xs ++ (target, n) ∷ []) is))
     (same_append (counts_left target old rows are) (same_of ((target, n) ∷ []) ((target, n) ∷ []) refl))))
 
 -- ---- one change after the other
@@ -373,7 +381,8 @@ state_more old new rows card active none put are =
         ∙ sym (ap (λ o. state_rows c o ++ record { card = card; active = active } ∷ []) (ap (get by_name old) (sym one) ∙ none))
         ∙ sym (ap (λ b. cond b (state_rows c (get by_name old c) ++ record { card = card; active = active } ∷ []) (state_rows c (get by_name old c)))
         (sym (turned card c) ∙ e))
-    go c false e = sym (ap (λ b. cond b (state_rows c (get by_name old c) ++ record { card = card; active = active } ∷ []) (state_rows c (get by_name old c)))
+    go c false e = sym (ap (λ b. cond b (state_rows c (get by_name old c)
+        ++ record { card = card; active = active } ∷ []) (state_rows c (get by_name old c)))
         (sym (turned card c) ∙ e))
 
 -- ---- maps with no entries

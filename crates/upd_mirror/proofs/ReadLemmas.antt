@@ -1,15 +1,16 @@
 -- What is read from a mirror is in the tables that it agrees with.
-use Rattle.std.proofs.Common.{◌≡◌, ℕ, ◌+◌, ◌≤◌, ◌<◌, ◌==◌, Bool, true, false, not, cond, if◌then◌else◌, List, [], ◌∷◌, ◌++◌, length, map, get_or, take}
-use Rattle.std.proofs.Common.{Option, None, Some, refl, ap, sym, ◌∙◌, subst, arith, append-nil}
-use Rattle.std.specs.Prelude.{◌&&◌, ◌||◌}
+use Rattle.std.proofs.Common.{◌≡◌, ℕ, ◌+◌, ◌<◌, Bool, true, false}
+use Rattle.std.proofs.Common.{cond, List, [], ◌∷◌, ◌++◌, length, map, get_or, take}
+use Rattle.std.proofs.Common.{Option, None, Some, refl, ap, sym, ◌∙◌, subst}
+use Rattle.std.specs.Prelude.{◌||◌}
 use Rattle.std.specs.BTreeMap.{BTreeMap, IsOrdered, get}
-use Rattle.std.specs.List.{count_by, filter, flat_map, list_any}
+use Rattle.std.specs.List.{filter, flat_map}
 use Rattle.std.specs.Option.{option_map_or, option_or}
 use Rattle.std.specs.Ordering.{is_eq}
 use Rattle.upd_text.specs.Order.{by_name}
 use Rattle.upd_text.specs.declared.card_ref.CardRef.{CardRef}
-use Rattle.upd_records.proofs.CountLemmas.{same_map, same_of, same_trans}
-use Rattle.upd_records.specs.Rows.{IsSame, Rows, StateRow, same_ref, state_rows}
+use Rattle.upd_records.proofs.CountLemmas.{same_map, same_of}
+use Rattle.upd_records.specs.Rows.{IsSame, StateRow, same_ref, state_rows}
 use Rattle.upd_row_store.proofs.AskedLemmas.{cards_next}
 use Rattle.upd_row_store.specs.Asked.{is_asked}
 use Rattle.upd_row_store.specs.Tables.{state_pair}
@@ -17,7 +18,7 @@ use Rattle.upd_mirror.specs.Kept.{AreStatuses}
 use Rattle.upd_mirror.specs.Mirrored.{state_row}
 use Rattle.upd_mirror.proofs.FlatLemmas.{all_same}
 use Rattle.upd_mirror.proofs.KeptLemmas.{filter_alike, filter_twice}
-use Rattle.upd_mirror.proofs.RefLemmas.{one_by_order, one_ref, refs_exact, refs_total, same_by_order, turned}
+use Rattle.upd_mirror.proofs.RefLemmas.{one_by_order, one_ref, refs_exact, refs_total, same_by_order}
 
 -- ---- statuses
 
@@ -34,7 +35,8 @@ by_key : (rows : List StateRow) (card : CardRef)
     → filter (λ r. same_ref card r.card) rows ≡ filter (λ r. is_eq (by_name card r.card)) rows
 by_key rows card = ap (λ (f : StateRow → Bool). filter f rows) (λ i r. same_by_order card r.card i)
 
-state_of : (card : CardRef) (status : Option Bool) → state_rows card status ≡ option_map_or (λ active. record { card = card; active = active } ∷ []) status []
+state_of : (card : CardRef) (status : Option Bool) → state_rows card status
+    ≡ option_map_or (λ active. record { card = card; active = active } ∷ []) status []
 state_of card None = refl
 state_of card (Some active) = refl
 
@@ -54,7 +56,8 @@ pairs_same statuses rows up are =
 
 -- ---- statuses of some cards
 
-pub kept_next : (cards : List CardRef) (i : ℕ) (card : CardRef) (all : CardRef → Option Bool) (before after : CardRef → Option Bool) → i < length cards
+pub kept_next : (cards : List CardRef) (i : ℕ) (card : CardRef) (all : CardRef → Option Bool) (before after : CardRef → Option Bool)
+    → i < length cards
     → card ≡ get_or cards i card
     → ((c : CardRef) → after c ≡ cond (is_eq (by_name card c)) (option_or (all card) (before c)) (before c))
     → ((c : CardRef) → before c ≡ cond (is_asked (take i cards) c) (all c) None) → (c : CardRef)
@@ -114,7 +117,8 @@ asked_same cards all kept rows are keep c =
   where
     alike : (b : Bool) → is_asked cards c ≡ b → filter (λ r. is_asked cards r.card) (filter (λ r. same_ref c r.card) rows)
         ≡ cond b (filter (λ r. same_ref c r.card) rows) []
-    alike b e = filter_alike (λ r. is_asked cards r.card) (λ r. same_ref c r.card) b (λ r hit. ap (is_asked cards) (sym (one_ref c r.card hit)) ∙ e) rows
+    alike b e = filter_alike (λ r. is_asked cards r.card) (λ r. same_ref c r.card) b (λ r hit. ap (is_asked cards) (sym (one_ref c r.card hit))
+        ∙ e) rows
 
     go : (b : Bool) → is_asked cards c ≡ b → IsSame (state_rows c (cond b (get by_name all c) None))
         (filter (λ r. is_asked cards r.card) (filter (λ r. same_ref c r.card) rows))

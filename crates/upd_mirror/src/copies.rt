@@ -170,7 +170,8 @@ fn add_home(
     homes: &BTreeMap<CardRef, Serial>,
     card: &CardRef,
 ) -> Result<(), AllocError>
-    ensures { OnOk result ((d : ℕ) → is_among ages.new.items d ≡ (is_among ages.old.items d || is_home homes.now card.now d)) }
+    ensures { OnOk result ((d : ℕ) → is_among ages.new.items d
+        ≡ (is_among ages.old.items d || is_home homes.now card.now d)) }
 {
     if let Some(home) = home_of(homes, card) {
         ages.push(home)?;

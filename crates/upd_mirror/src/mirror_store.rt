@@ -73,7 +73,8 @@ impl<S: RowStore> MirrorStore<S> {
     pub fn warm(&mut self, alloc: Global)
         ensures same { Keeps S.Meaning self.old.inner self.new.inner }
         ensures shows { S.is_honest self.new.inner → S.is_open self.new.inner → (rows : Rows)
-            → S.shows (S.image self.old.inner) rows → AgreesIfAny self.old.mirror rows → AgreesIfAny self.new.mirror rows }
+            → S.shows (S.image self.old.inner) rows → AgreesIfAny self.old.mirror rows
+            → AgreesIfAny self.new.mirror rows }
         ensures counts { (self.new.failures ≡ self.old.failures) × (self.new.reads ≡ self.old.reads) }
     {
         if self.mirror.is_some() {
@@ -116,7 +117,8 @@ fn failures_with(failures: u64, fault: &Fault) -> u64
 
 /// The rows of a store in memory; none where they can't be read, or where they are not those of a library.
 fn made<S: RowStore>(inner: &mut S, alloc: Global) -> Option<Mirror>
-    ensures agrees { S.is_honest inner.new → S.is_open inner.new → (rows : Rows) → S.shows (S.image inner.old) rows → AgreesIfAny result rows }
+    ensures agrees { S.is_honest inner.new → S.is_open inner.new → (rows : Rows) → S.shows (S.image inner.old) rows
+        → AgreesIfAny result rows }
     ensures opens { S.is_honest inner.new → OnSome result (S.is_open inner.new) }
     ensures same { Keeps S.Meaning inner.old inner.new }
 {
@@ -127,7 +129,8 @@ fn made<S: RowStore>(inner: &mut S, alloc: Global) -> Option<Mirror>
 
 /// The rows of a store in memory, where they are wanted.
 fn made_where<S: RowStore>(inner: &mut S, alloc: Global, wanted: bool) -> Option<Mirror>
-    ensures agrees { S.is_honest inner.new → S.is_open inner.new → (rows : Rows) → S.shows (S.image inner.old) rows → AgreesIfAny result rows }
+    ensures agrees { S.is_honest inner.new → S.is_open inner.new → (rows : Rows) → S.shows (S.image inner.old) rows
+        → AgreesIfAny result rows }
     ensures same { Keeps S.Meaning inner.old inner.new }
 {
     if !wanted {

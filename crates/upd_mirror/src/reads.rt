@@ -178,7 +178,8 @@ impl Mirror {
 
     /// The active cards, by the statuses; memory alone can fail.
     pub(crate) fn actives(&self, alloc: Global) -> Result<Actives, AllocError>
-        ensures { (rows : Rows) → Agrees self.now rows → (l : LibraryView) → IsSound l → Shows rows l → ShowsStates rows l
+        ensures { (rows : Rows) → Agrees self.now rows → (l : LibraryView) → IsSound l → Shows rows l
+            → ShowsStates rows l
             → IfOk result (λ found. found ≡ actives_of l) }
     {
         let idents = Vec::from_slice(alloc, &self.idents)?;

@@ -1,6 +1,7 @@
 //! Rows in memory, one table at a time.
 
-ghost use Rattle.std.specs.Prelude.{◌≡◌, ◌==◌, ◌∷◌, ◌++◌, ℕ, [], None, Some, false, not, if◌then◌else◌, map, length, OnOk};
+ghost use Rattle.std.specs.Prelude.{◌≡◌, ◌==◌, ◌∷◌, ◌++◌, ℕ, [], None};
+ghost use Rattle.std.specs.Prelude.{Some, false, not, if◌then◌else◌, map, length, OnOk};
 ghost use Rattle.std.specs.BTreeMap.{get};
 ghost use Rattle.std.specs.List.{filter};
 ghost use Rattle.std.specs.Ordering.{is_eq};
@@ -244,7 +245,8 @@ pub(crate) fn add_entry(
     row: EntryRow,
 ) -> Result<(), AllocError>
     ensures { OnOk result ((c : CardRef) → entries_at entries.new c
-        ≡ (if is_eq (by_name row.card c) then entries_at entries.old row.card ++ row ∷ [] else entries_at entries.old c)) }
+        ≡ (if is_eq (by_name row.card c) then entries_at entries.old row.card
+        ++ row ∷ [] else entries_at entries.old c)) }
 {
     if let Some(own) = entries.get_mut(&row.card) {
         own.push(row)?;

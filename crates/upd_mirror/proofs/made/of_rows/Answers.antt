@@ -16,5 +16,6 @@ returns c = λ tables rows_are states_are.
     (subst (λ xs. IsSame xs tables.cards) (sym c.deref.ensures.value) rows_are.cards)
     (subst (λ xs. IsSame xs tables.entries) (sym c.deref-2.ensures.value) rows_are.entries)
     (same_of tables.targets tables.targets refl)
-    (subst (λ xs. IsSame (map state_row xs) tables.states) (sym c.deref-3.ensures.value) (states_read c.args.states.states.items tables.states states_are.states))
+    (subst (λ xs. IsSame (map state_row xs) tables.states) (sym c.deref-3.ensures.value)
+    (states_read c.args.states.states.items tables.states states_are.states))
     (same_of (map count_pair tables.counts) (map count_pair tables.counts) refl)

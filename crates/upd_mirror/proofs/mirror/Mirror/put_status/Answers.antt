@@ -9,6 +9,7 @@ returns c = λ rows are. record {
   entries = are.entries;
   entry_count = are.entry_count;
   targets = are.targets;
-  states = state_put c.args.self.now.statuses c.put_status.new.statuses rows.states c.args.card c.args.active (when_ok _ c.ok.result _ c.ok.ensures.value c.in_ok-ok.was c.put_status.ensures) are.states;
+  states = state_put c.args.self.now.statuses c.put_status.new.statuses rows.states c.args.card c.args.active
+      (when_ok _ c.ok.result _ c.ok.ensures.value c.in_ok-ok.was c.put_status.ensures) are.states;
   counts = are.counts;
 }
