@@ -8,7 +8,7 @@ ghost use Rattle.std.specs.Ordering.{nat_cmp};
 ghost use Rattle.upd_text.specs.Order.{by_name};
 ghost use Rattle.upd_core.specs.Edits.{is_among};
 ghost use Rattle.upd_row_store.specs.PartRows.{is_loaded};
-ghost use Rattle.upd_mirror.specs.Kept.{entries_at, is_home};
+ghost use Rattle.upd_mirror.specs.RowsByKey.{entries_at, is_home};
 ghost use Rattle.upd_mirror.specs.Mirrored.{state_row};
 
 use crate::tables::home_of;

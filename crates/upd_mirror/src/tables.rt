@@ -10,7 +10,7 @@ ghost use Rattle.upd_text.specs.declared.card_ref.CardRef.{CardRef};
 ghost use Rattle.upd_core.specs.Targets.{is_same};
 ghost use Rattle.upd_records.specs.Changes.{purged_row};
 ghost use Rattle.upd_records.specs.Rows.{IsSame, same_ref};
-ghost use Rattle.upd_mirror.specs.Kept.{cards_at, entries_at, is_home, moved_place, placed_row};
+ghost use Rattle.upd_mirror.specs.RowsByKey.{cards_at, entries_at, is_home, moved_place, placed_row};
 
 use std::alloc::{AllocError, Global};
 use std::collections::BTreeMap;

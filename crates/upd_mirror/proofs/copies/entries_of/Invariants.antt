@@ -1,6 +1,6 @@
 use Rattle.std.proofs.Common.{◌≡◌, take}
 use Rattle.std.specs.List.{flat_map}
-use Rattle.upd_mirror.specs.Kept.{entries_at}
+use Rattle.upd_mirror.specs.RowsByKey.{entries_at}
 use Rattle.upd_mirror.proofs.copies.entries_of.Given as goal
 
 abbrev pub invariant-loop-card : goal.invariant-loop-card

@@ -3,7 +3,8 @@ use Rattle.upd_records.proofs.CountLemmas.{same_of}
 use Rattle.upd_records.specs.Rows.{IsSame}
 use Rattle.upd_row_store.specs.Tables.{count_pair}
 use Rattle.upd_mirror.specs.Mirrored.{state_row}
-use Rattle.upd_mirror.proofs.MirrorLemmas.{agrees_same, states_read}
+use Rattle.upd_mirror.proofs.MirrorLemmas.{agrees_same}
+use Rattle.upd_mirror.proofs.StatusRowLemmas.{states_read}
 use Rattle.upd_mirror.proofs.made.of_rows.Goals as goal
 
 pub returns : goal.returns

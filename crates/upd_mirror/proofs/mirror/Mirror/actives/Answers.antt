@@ -1,7 +1,7 @@
 use Rattle.std.proofs.Common.{◌∙◌, subst, sym}
 use Rattle.upd_records.specs.Rows.{IsSame}
 use Rattle.upd_mirror.proofs.LoadLemmas.{cards_all}
-use Rattle.upd_mirror.proofs.ReadLemmas.{statuses_same}
+use Rattle.upd_mirror.proofs.StatusRowLemmas.{statuses_same}
 use Rattle.upd_mirror.proofs.mirror.Mirror.actives.Goals as goal
 
 pub returns : goal.returns

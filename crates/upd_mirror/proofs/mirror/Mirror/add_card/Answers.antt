@@ -6,9 +6,9 @@ use Rattle.upd_text.specs.declared.card_ref.CardRef.{CardRef}
 use Rattle.upd_records.proofs.CountLemmas.{same_trans}
 use Rattle.upd_records.specs.Rows.{CardRow}
 use Rattle.upd_text.specs.Order.{by_name}
-use Rattle.upd_mirror.proofs.KeptLemmas.{one_more}
+use Rattle.upd_mirror.proofs.KeyedLemmas.{one_more}
 use Rattle.upd_mirror.proofs.MirrorLemmas.{homes_more, when_ok}
-use Rattle.upd_mirror.specs.Kept.{cards_at, is_home}
+use Rattle.upd_mirror.specs.RowsByKey.{cards_at, is_home}
 use Rattle.upd_mirror.proofs.mirror.Mirror.add_card.Goals as goal
 
 pub returns : goal.returns

@@ -1,6 +1,6 @@
 use Rattle.std.proofs.Common.{◌≡◌, ◌++◌, ◌∷◌, [], subst, take}
 use Rattle.upd_mirror.specs.Mirrored.{Agrees}
-use Rattle.upd_mirror.proofs.KeptLemmas.{one_taken}
+use Rattle.upd_mirror.proofs.KeyedLemmas.{one_taken}
 use Rattle.upd_mirror.proofs.MirrorLemmas.{ok_value}
 use Rattle.upd_mirror.proofs.mirror.Mirror.add_cards.Goals as goal
 

@@ -1,6 +1,6 @@
 use Rattle.std.proofs.Common.{◌++◌, subst, take}
 use Rattle.upd_mirror.specs.Mirrored.{Agrees}
-use Rattle.upd_mirror.proofs.KeptLemmas.{one_taken}
+use Rattle.upd_mirror.proofs.KeyedLemmas.{one_taken}
 use Rattle.upd_mirror.proofs.mirror.Mirror.add_entries.Goals as goal
 
 pub loop-entry-preserved : goal.loop-entry-preserved

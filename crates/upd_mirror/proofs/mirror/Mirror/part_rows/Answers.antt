@@ -3,7 +3,7 @@ use Rattle.std.specs.List.Sorted.{IsPermutation}
 use Rattle.upd_records.proofs.CountLemmas.{same_trans}
 use Rattle.upd_records.specs.Rows.{IsSame}
 use Rattle.upd_row_store.specs.PartRows.{is_loaded, is_of}
-use Rattle.upd_mirror.specs.Kept.{entries_at}
+use Rattle.upd_mirror.specs.RowsByKey.{entries_at}
 use Rattle.upd_mirror.proofs.LoadLemmas.{cards_part, entries_part, same_in_turn, still_distinct}
 use Rattle.upd_mirror.proofs.mirror.Mirror.part_rows.Goals as goal
 

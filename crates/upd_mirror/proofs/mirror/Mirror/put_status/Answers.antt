@@ -1,4 +1,5 @@
-use Rattle.upd_mirror.proofs.MirrorLemmas.{state_put, when_ok}
+use Rattle.upd_mirror.proofs.MirrorLemmas.{when_ok}
+use Rattle.upd_mirror.proofs.StatusRowLemmas.{state_put}
 use Rattle.upd_mirror.proofs.mirror.Mirror.put_status.Goals as goal
 
 pub returns : goal.returns

@@ -17,7 +17,7 @@ use Rattle.std.proofs.lemmas.Map.Lookups.{CmpEqualImpliesEq}
 use Rattle.std.proofs.lemmas.Map.Views.{All-found}
 use Rattle.upd_records.proofs.CountLemmas.{count_cons, count_filter, same_filter, same_of}
 use Rattle.upd_records.specs.Rows.{IsSame}
-use Rattle.upd_mirror.proofs.KeptLemmas.{filter_alike, filter_twice, not_true}
+use Rattle.upd_mirror.proofs.KeyedLemmas.{filter_alike, filter_twice, not_true}
 
 -- ---- counts
 

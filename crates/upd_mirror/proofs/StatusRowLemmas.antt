@@ -1,6 +1,6 @@
--- What is read from a mirror is in the tables that it agrees with.
+-- Statuses in memory, by card, are those of the table: what is read of them, and what changes leave.
 use Rattle.std.proofs.Common.{◌≡◌, ℕ, ◌+◌, ◌<◌, Bool, true, false}
-use Rattle.std.proofs.Common.{cond, List, [], ◌∷◌, ◌++◌, length, map, get_or, take}
+use Rattle.std.proofs.Common.{cond, not, List, [], ◌∷◌, ◌++◌, length, map, get_or, take}
 use Rattle.std.proofs.Common.{Option, None, Some, refl, ap, sym, ◌∙◌, subst}
 use Rattle.std.specs.Prelude.{◌||◌}
 use Rattle.std.specs.BTreeMap.{BTreeMap, IsOrdered, get}
@@ -14,13 +14,13 @@ use Rattle.upd_records.specs.Rows.{IsSame, StateRow, same_ref, state_rows}
 use Rattle.upd_row_store.proofs.AskedLemmas.{cards_next}
 use Rattle.upd_row_store.specs.Asked.{is_asked}
 use Rattle.upd_row_store.specs.Tables.{state_pair}
-use Rattle.upd_mirror.specs.Kept.{AreStatuses}
+use Rattle.upd_mirror.specs.RowsByKey.{AreStatuses}
 use Rattle.upd_mirror.specs.Mirrored.{state_row}
-use Rattle.upd_mirror.proofs.FlatLemmas.{all_same}
-use Rattle.upd_mirror.proofs.KeptLemmas.{filter_alike, filter_twice}
-use Rattle.upd_mirror.proofs.RefLemmas.{one_by_order, one_ref, refs_exact, refs_total, same_by_order}
+use Rattle.upd_mirror.proofs.MapRowsLemmas.{all_same}
+use Rattle.upd_mirror.proofs.KeyedLemmas.{filter_alike, filter_twice, one_more, some_gone}
+use Rattle.upd_mirror.proofs.NameOrderLemmas.{alike, one_by_order, one_ref, refs_exact, refs_total, same_by_order, turned}
 
--- ---- statuses
+-- ---- all statuses
 
 -- the rows of a map of statuses
 made_rows : (es : List (CardRef × Bool)) → flat_map (λ e. record { card = e.0; active = e.1 } ∷ []) es ≡ map state_row es
@@ -124,3 +124,76 @@ asked_same cards all kept rows are keep c =
         (filter (λ r. is_asked cards r.card) (filter (λ r. same_ref c r.card) rows))
     go true e = subst (IsSame (state_rows c (get by_name all c))) (sym (alike true e)) (are c)
     go false e = subst (IsSame []) (sym (alike false e)) (same_of [] [] refl)
+
+-- ---- changes
+
+pub states_left : (old new : BTreeMap CardRef Bool) (rows : List StateRow) (card : CardRef)
+    → ((c : CardRef) → get by_name new c ≡ cond (is_eq (by_name card c)) None (get by_name old c)) → AreStatuses old rows
+    → AreStatuses new (filter (λ r. not (same_ref card r.card)) rows)
+states_left old new rows card left are =
+    some_gone (λ c x. same_ref c x.card) (λ c. state_rows c (get by_name old c)) (λ c. state_rows c (get by_name new c)) rows
+    (λ x. same_ref card x.card) (λ c. is_eq (by_name card c)) (λ c x. alike card c x.card)
+    (λ c. ap (state_rows c) (left c) ∙ go c (is_eq (by_name card c))) are
+  where
+    go : (c : CardRef) (b : Bool) → state_rows c (cond b None (get by_name old c)) ≡ cond b [] (state_rows c (get by_name old c))
+    go c true = refl
+    go c false = refl
+
+pub state_put : (old new : BTreeMap CardRef Bool) (rows : List StateRow) (card : CardRef) (active : Bool)
+    → ((c : CardRef) → get by_name new c ≡ cond (is_eq (by_name card c)) (Some active) (get by_name old c)) → AreStatuses old rows
+    → AreStatuses new (filter (λ r. not (same_ref card r.card)) rows ++ record { card = card; active = active } ∷ [])
+state_put old new rows card active put are =
+    one_more (λ c x. same_ref c x.card) mid (λ c. state_rows c (get by_name new c)) (filter (λ r. not (same_ref card r.card)) rows)
+    (record { card = card; active = active }) (λ c. ap (state_rows c) (put c) ∙ go c (is_eq (by_name card c)) refl)
+    (some_gone (λ c x. same_ref c x.card) (λ c. state_rows c (get by_name old c)) mid rows (λ x. same_ref card x.card) (λ c. is_eq (by_name card c))
+    (λ c x. alike card c x.card) (λ c. refl) are)
+  where
+    mid : CardRef → List StateRow
+    mid c = cond (is_eq (by_name card c)) [] (state_rows c (get by_name old c))
+
+    go : (c : CardRef) (b : Bool) → is_eq (by_name card c) ≡ b → state_rows c (cond b (Some active) (get by_name old c))
+        ≡ cond (same_ref c card) (cond (is_eq (by_name card c)) [] (state_rows c (get by_name old c)) ++ record { card = card; active = active } ∷ [])
+        (cond (is_eq (by_name card c)) [] (state_rows c (get by_name old c)))
+    go c b e =
+        subst (λ t. state_rows c (cond b (Some active) (get by_name old c)) ≡ cond t
+        (cond (is_eq (by_name card c)) [] (state_rows c (get by_name old c)) ++ record { card = card; active = active } ∷ [])
+        (cond (is_eq (by_name card c)) [] (state_rows c (get by_name old c)))) (sym e ∙ turned card c)
+        (subst (λ t. state_rows c (cond b (Some active) (get by_name old c)) ≡ cond b
+        (cond t [] (state_rows c (get by_name old c)) ++ record { card = card; active = active } ∷ []) (cond t [] (state_rows c
+        (get by_name old c)))) (sym e)
+        (two b e))
+      where
+        two : (b : Bool) → is_eq (by_name card c) ≡ b → state_rows c (cond b (Some active) (get by_name old c))
+            ≡ cond b (cond b [] (state_rows c (get by_name old c)) ++ record { card = card; active = active } ∷ []) (cond b [] (state_rows c
+            (get by_name old c)))
+        two true e = ap (λ k. record { card = k; active = active } ∷ []) (sym (one_by_order card c e))
+        two false e = refl
+
+-- one status more, of a card that has none
+pub state_more : (old new : BTreeMap CardRef Bool) (rows : List StateRow) (card : CardRef) (active : Bool) → get by_name old card ≡ None
+    → ((c : CardRef) → get by_name new c ≡ cond (is_eq (by_name card c)) (Some active) (get by_name old c)) → AreStatuses old rows
+    → AreStatuses new (rows ++ record { card = card; active = active } ∷ [])
+state_more old new rows card active none put are =
+    one_more (λ c x. same_ref c x.card) (λ c. state_rows c (get by_name old c)) (λ c. state_rows c (get by_name new c)) rows
+    (record { card = card; active = active }) (λ c. ap (state_rows c) (put c) ∙ go c (is_eq (by_name card c)) refl) are
+  where
+    go : (c : CardRef) (b : Bool) → is_eq (by_name card c) ≡ b → state_rows c (cond b (Some active) (get by_name old c))
+        ≡ cond (same_ref c card) (state_rows c (get by_name old c) ++ record { card = card; active = active } ∷ []) (state_rows c (get by_name old c))
+    go c true e =
+        let one = one_by_order card c e in
+        ap (λ k. record { card = k; active = active } ∷ []) (sym one)
+        ∙ sym (ap (λ o. state_rows c o ++ record { card = card; active = active } ∷ []) (ap (get by_name old) (sym one) ∙ none))
+        ∙ sym (ap (λ b. cond b (state_rows c (get by_name old c) ++ record { card = card; active = active } ∷ []) (state_rows c (get by_name old c)))
+        (sym (turned card c) ∙ e))
+    go c false e = sym (ap (λ b. cond b (state_rows c (get by_name old c)
+        ++ record { card = card; active = active } ∷ []) (state_rows c (get by_name old c)))
+        (sym (turned card c) ∙ e))
+
+-- ---- statuses that were read
+
+rows_back : (rows : List StateRow) → map state_row (map state_pair rows) ≡ rows
+rows_back [] = refl
+rows_back (r ∷ rows) = ap (λ rest. r ∷ rest) (rows_back rows)
+
+pub states_read : (pairs : List (CardRef × Bool)) (rows : List StateRow) → IsSame pairs (map state_pair rows) → IsSame (map state_row pairs) rows
+states_read pairs rows same = subst (IsSame (map state_row pairs)) (rows_back rows) (same_map state_row same)
