@@ -16,6 +16,8 @@ struct Pair {
     mirrored: Desk<MirrorStore<ListStore>>,
     plain: Desk<ListStore>,
     alloc: Global,
+    /// How often answers were compared that came from memory.
+    from_memory: u32,
 }
 
 /// The reply of a desk to a run, or the fault in its place.
@@ -37,6 +39,7 @@ impl Pair {
             mirrored: Desk::open(MirrorStore::new(ListStore::new(alloc))),
             plain: Desk::open(ListStore::new(alloc)),
             alloc,
+            from_memory: 0,
         }
     }
 
@@ -52,6 +55,9 @@ impl Pair {
     fn compared(self, dice: &mut Dice) -> Result<Pair, Fail> {
         let alloc = self.alloc;
         let (mut mirrored, mut plain) = (self.mirrored.close(), self.plain.close());
+        let from_memory = self
+            .from_memory
+            .saturating_add(u32::from(mirrored.has_rows()));
         let questions = Questions::new(alloc, dice)?;
         let found = answers(alloc, &mut mirrored, &questions)?;
         let wanted = answers(alloc, &mut plain, &questions)?;
@@ -66,12 +72,13 @@ impl Pair {
             mirrored: Desk::open(mirrored),
             plain: Desk::open(plain),
             alloc,
+            from_memory,
         })
     }
 }
 
-/// A list of runs: the number of accepted ones.
-fn random_list(alloc: Global, dice: &mut Dice) -> Result<u32, Fail> {
+/// A list of runs: the number of accepted ones, and how often answers came from memory.
+fn random_list(alloc: Global, dice: &mut Dice) -> Result<(u32, u32), Fail> {
     let mut pair = Pair::new(alloc);
     pair.run(1, DECKS)?;
     let mut accepted: u32 = 0;
@@ -82,21 +89,24 @@ fn random_list(alloc: Global, dice: &mut Dice) -> Result<u32, Fail> {
             accepted = accepted.saturating_add(1);
         }
     }
-    pair.compared(dice)?;
-    Ok(accepted)
+    let pair = pair.compared(dice)?;
+    Ok((accepted, pair.from_memory))
 }
 
 #[test]
 fn rows_in_memory_answer_as_the_tables(rt: HostRuntime) -> Result<(), Fail> {
     let mut dice = Dice(1975);
-    let mut accepted: u32 = 0;
-    for _ in 0..100 {
-        accepted = accepted.saturating_add(random_list(rt.alloc(), &mut dice)?);
+    let (mut accepted, mut from_memory): (u32, u32) = (0, 0);
+    for _ in 0..50 {
+        let (runs, answers) = random_list(rt.alloc(), &mut dice)?;
+        accepted = accepted.saturating_add(runs);
+        from_memory = from_memory.saturating_add(answers);
     }
-    holds(("accepted runs", accepted), accepted > 400)
+    holds(("accepted runs", accepted), accepted > 150)?;
+    holds(("answers from memory", from_memory), from_memory > 250)
 }
 
-/// Both stores have read as many decks after some runs, of which the third is answered from memory.
+/// Both stores have read as many decks after some runs, of which the last two are answered from memory.
 #[test]
 fn decks_in_memory_count_as_read(rt: HostRuntime) -> Result<(), Fail> {
     let mut pair = Pair::new(rt.alloc());
@@ -105,5 +115,6 @@ fn decks_in_memory_count_as_read(rt: HostRuntime) -> Result<(), Fail> {
     pair.run(3, "*IDENT Y\n*DELETE P1.1\n")?;
     pair.run(4, "*IDENT Z\n*INSERT X.1\nMORE\n")?;
     let (mirrored, plain) = (pair.mirrored.close(), pair.plain.close());
+    holds("there are rows in memory", mirrored.has_rows())?;
     same("decks read", mirrored.decks_read(), plain.decks_read())
 }

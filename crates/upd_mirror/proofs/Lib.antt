@@ -1,6 +1,6 @@
-mod RefLemmas
-mod KeptLemmas
+mod NameOrderLemmas
+mod KeyedLemmas
+mod MapRowsLemmas
+mod StatusRowLemmas
 mod MirrorLemmas
-mod FlatLemmas
-mod ReadLemmas
 mod LoadLemmas

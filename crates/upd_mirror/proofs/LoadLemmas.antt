@@ -1,10 +1,14 @@
 -- The rows that are copied out of maps are those of the tables.
-use Rattle.std.proofs.Common.{◌≡◌, ℕ, ◌+◌, ◌≤◌, ◌==◌, Bool, true, false, not, cond, List, [], ◌∷◌, ◌++◌, length, refl, ap, sym, ◌∙◌, subst, arith}
+use Rattle.std.proofs.Common.{◌≡◌, ℕ, ◌+◌, ◌≤◌, ◌==◌, Bool, true, false, cond, List}
+use Rattle.std.proofs.Common.{[], ◌∷◌, ◌++◌, map, refl, ap, sym, ◌∙◌, subst, arith}
 use Rattle.std.proofs.Common.{append-nil}
 use Rattle.std.specs.Prelude.{◌&&◌, ◌||◌}
 use Rattle.std.specs.BTreeMap.{BTreeMap, IsOrdered}
 use Rattle.std.specs.Cmp.{tied_itself, unsigned_tied}
-use Rattle.std.specs.List.{count_by, filter, flat_map, list_any}
+use Rattle.std.specs.List.{count_by, filter, flat_map, list_any, sum_by}
+use Rattle.std.specs.List.Sorted.{IsPermutation}
+use Rattle.std.proofs.lemmas.List.Sorted.{sum_by-IsPermutation}
+use Rattle.std.proofs.lemmas.List.Sums.{sum_by-cons}
 use Rattle.std.specs.Ordering.{is_eq, nat_cmp}
 use Rattle.std.specs.declared.vec.Vec.{Vec}
 use Rattle.std.proofs.lemmas.Cmp.{nat_cmp_total}
@@ -13,15 +17,15 @@ use Rattle.std.proofs.lemmas.Map.Lookups.{exact_unsigned}
 use Rattle.upd_text.specs.Order.{by_name}
 use Rattle.upd_text.specs.declared.card_ref.CardRef.{CardRef}
 use Rattle.upd_core.specs.Edits.{is_among}
-use Rattle.upd_records.proofs.CountLemmas.{count_cons, same_of, same_trans}
+use Rattle.upd_records.proofs.CountLemmas.{count_append, count_cons, same_of}
 use Rattle.upd_records.specs.Rows.{CardRow, EntryRow, IsSame, same_ref}
 use Rattle.upd_row_store.proofs.HolderLemmas.{any_same}
 use Rattle.upd_row_store.specs.Asked.{AreDecksOf, is_asked}
 use Rattle.upd_row_store.specs.PartRows.{AreOfDistinctCards, is_loaded, is_of}
-use Rattle.upd_mirror.specs.Kept.{AreCards, AreEntries, AreHomes, cards_at, entries_at, is_home}
-use Rattle.upd_mirror.proofs.FlatLemmas.{all_same, count_split, flat_same, none_both, own_key, same_by_key}
-use Rattle.upd_mirror.proofs.KeptLemmas.{filter_alike, filter_twice}
-use Rattle.upd_mirror.proofs.RefLemmas.{one_ref, refs_exact, refs_total, same_by_order, turned}
+use Rattle.upd_mirror.specs.RowsByKey.{AreCards, AreEntries, AreHomes, entries_at, is_home}
+use Rattle.upd_mirror.proofs.MapRowsLemmas.{all_same, count_split, flat_same, none_both, own_key, same_by_key}
+use Rattle.upd_mirror.proofs.KeyedLemmas.{filter_alike, filter_twice}
+use Rattle.upd_mirror.proofs.NameOrderLemmas.{one_ref, refs_exact, refs_total, same_by_order, turned}
 
 -- ---- cards
 
@@ -35,14 +39,16 @@ pub cards_all : {Z : Type 0} (decks : BTreeMap ℕ (Vec CardRow Z)) (rows : List
     → IsSame (flat_map (λ e. e.1.items) decks.entries) rows
 cards_all decks rows up are = all_same nat_cmp_total exact_unsigned (λ r. r.deck) (λ d r. r.deck == d) by_deck (λ d v. v.items) decks rows up are
 
-pub cards_part : {Z : Type 0} (ages : List ℕ) (decks : BTreeMap ℕ (Vec CardRow Z)) (rows : List CardRow) → IsOrdered nat_cmp decks → AreCards decks rows
+pub cards_part : {Z : Type 0} (ages : List ℕ) (decks : BTreeMap ℕ (Vec CardRow Z)) (rows : List CardRow) → IsOrdered nat_cmp decks
+    → AreCards decks rows
     → IsSame (flat_map (λ e. cond (is_loaded ages e.0) e.1.items []) decks.entries) (filter (λ r. is_loaded ages r.deck) rows)
 cards_part ages decks rows up are =
     flat_same nat_cmp_total exact_unsigned (λ r. r.deck) (λ d r. r.deck == d) by_deck (λ d v. v.items) (is_loaded ages) decks rows up are
 
 -- ---- entries
 
-pub entries_all : {Z : Type 0} (entries : BTreeMap CardRef (Vec EntryRow Z)) (rows : List EntryRow) → IsOrdered by_name entries → AreEntries entries rows
+pub entries_all : {Z : Type 0} (entries : BTreeMap CardRef (Vec EntryRow Z)) (rows : List EntryRow) → IsOrdered by_name entries
+    → AreEntries entries rows
     → IsSame (flat_map (λ e. e.1.items) entries.entries) rows
 entries_all entries rows up are =
     all_same refs_total refs_exact (λ r. r.card) (λ c r. same_ref c r.card) (λ c r. same_by_order c r.card) (λ c v. v.items) entries rows up are
@@ -84,15 +90,18 @@ module _ {Z : Type 0} (entries : BTreeMap CardRef (Vec EntryRow Z)) (all : List 
       go : (b : Bool) → same_ref c x.card ≡ b
           → filter (λ r. same_ref c r.card) (flat_map (λ r. entries_at entries r.card) cards)
           ≡ cond (list_any (λ r. same_ref r.card c) cards) (entries_at entries c) []
-          → filter (λ r. same_ref c r.card) (entries_at entries x.card) ++ filter (λ r. same_ref c r.card) (flat_map (λ r. entries_at entries r.card) cards)
+          → filter (λ r. same_ref c r.card) (entries_at entries x.card) ++ filter (λ r. same_ref c r.card) (flat_map
+          (λ r. entries_at entries r.card) cards)
           ≡ cond (same_ref x.card c || list_any (λ r. same_ref r.card c) cards) (entries_at entries c) []
       go true e later =
           let one : c ≡ x.card = one_ref c x.card e in
           let alone : list_any (λ r. same_ref r.card c) cards ≡ false = none_among c cards
           (let more : count_by (λ r. same_ref c r.card) (x ∷ cards) ≡ 1 + count_by (λ r. same_ref c r.card) cards =
-          count_cons (λ r. same_ref c r.card) x cards ∙ ap (λ b. cond b 1 0 + count_by (λ r. same_ref c r.card) cards) e in omega (arith, more, few)) in
+          count_cons (λ r. same_ref c r.card) x cards ∙ ap (λ b. cond b 1 0 + count_by (λ r. same_ref c r.card) cards) e in omega
+          (arith, more, few)) in
           (λ i. filter (λ r. same_ref c r.card) (entries_at entries (sym one i))
-          ++ (later ∙ ap (λ b. cond b (entries_at entries c) []) alone) i) ∙ append-nil (filter (λ r. same_ref c r.card) (entries_at entries c)) ∙ own c
+          ++ (later ∙ ap (λ b. cond b (entries_at entries c) []) alone) i) ∙ append-nil (filter (λ r. same_ref c r.card) (entries_at entries c))
+          ∙ own c
           ∙ sym (ap (λ b. cond (b || list_any (λ r. same_ref r.card c) cards) (entries_at entries c) []) (ref_sym x.card c ∙ e))
       go false e later =
           ap (λ xs. xs ++ filter (λ r. same_ref c r.card) (flat_map (λ r. entries_at entries r.card) cards))
@@ -113,12 +122,33 @@ module _ {Z : Type 0} (entries : BTreeMap CardRef (Vec EntryRow Z)) (all : List 
           ∙ ap (λ b. cond b (entries_at entries c) []) (any_same (λ r. same_ref r.card c) same)))
           (subst (IsSame (cond (list_any (λ r. same_ref r.card c) loaded) (entries_at entries c) []))
           (sym (filter_twice (λ r. same_ref c r.card) (is_of loaded) all ∙ filter_alike (is_of loaded) (λ r. same_ref c r.card)
-          (list_any (λ r. same_ref r.card c) loaded) (λ r hit. ap (λ card. list_any (λ x. same_ref x.card card) loaded) (sym (one_ref c r.card hit))) all))
+          (list_any (λ r. same_ref r.card c) loaded) (λ r hit. ap (λ card. list_any (λ x. same_ref x.card card) loaded) (sym
+          (one_ref c r.card hit))) all))
           (go (list_any (λ r. same_ref r.card c) loaded)))
         where
           go : (b : Bool) → IsSame (cond b (entries_at entries c) []) (cond b (filter (λ r. same_ref c r.card) all) [])
           go true = are c
           go false = same_of [] [] refl
+
+-- ---- lists in another order
+
+count_flat : {A B : Type 0} (test : B → Bool) (f : A → List B) (xs : List A) → count_by test (flat_map f xs) ≡ sum_by (λ x. count_by test (f x)) xs
+count_flat test f [] = refl
+count_flat test f (x ∷ xs) = count_append test (f x) (flat_map f xs) ∙ ap (λ n. count_by test (f x) + n) (count_flat test f xs)
+    ∙ sym (sum_by-cons (λ y. count_by test (f y)) x xs)
+
+flat_mapped : {A B C : Type 0} (f : B → List C) (g : A → B) (xs : List A) → flat_map f (map g xs) ≡ flat_map (λ x. f (g x)) xs
+flat_mapped f g [] = refl
+flat_mapped f g (x ∷ xs) = ap (λ rest. f (g x) ++ rest) (flat_mapped f g xs)
+
+-- what is made of one element after the other, in another order
+pub same_in_turn : {A B C : Type 0} (f : B → List C) (g : A → B) (xs : List A) (ys : List B) → IsPermutation (map g xs) ys
+    → IsSame (flat_map f ys) (flat_map (λ x. f (g x)) xs)
+same_in_turn f g xs ys moved = record {
+  passes = λ test.
+      count_flat test f ys ∙ sum_by-IsPermutation (λ y. count_by test (f y)) (map g xs) ys moved ∙ sym (count_flat test f (map g xs))
+      ∙ ap (count_by test) (flat_mapped f g xs);
+}
 
 -- no card comes twice among some of the cards
 pub still_distinct : (keep : CardRow → Bool) (rows : List CardRow) → AreOfDistinctCards rows → AreOfDistinctCards (filter keep rows)

@@ -1,5 +1,6 @@
 -- The tables of a mirror after one change.
-use Rattle.std.proofs.Common.{◌≡◌, ℕ, ◌+◌, ◌-◌, ◌==◌, nat_le, Bool, true, false, not, cond, if◌then◌else◌, IsTrue, List, [], ◌∷◌, ◌++◌, length, map, get_or, drop, ◌<◌}
+use Rattle.std.proofs.Common.{◌≡◌, ℕ, ◌+◌, ◌-◌, ◌==◌, nat_le, Bool, true, false, not, cond}
+use Rattle.std.proofs.Common.{if◌then◌else◌, IsTrue, List, [], ◌∷◌, ◌++◌, length, map, get_or, drop, ◌<◌}
 use Rattle.std.proofs.Common.{None, Some, Option, Result, Ok, Err, OnOk, IfOk, refl, ap, sym, ◌∙◌, subst, arith, append-nil}
 use Rattle.std.specs.Prelude.{◌&&◌, ◌||◌, ℤ, pos, negsuc, ◌^◌, ◌≤◌}
 use Rattle.std.specs.BTreeMap.{BTreeMap, get, is_at}
@@ -22,15 +23,15 @@ use Rattle.upd_records.proofs.EffectLemmas.{any_append}
 use Rattle.upd_core.specs.declared.change.Change.{Change}
 use Rattle.upd_records.specs.Changes.{change_view, done, done_all, moved_row, shifted}
 use Rattle.upd_records.specs.Fits.{AllFit, CanMove, Fits}
-use Rattle.upd_records.specs.Rows.{CardRow, CountRow, EntryRow, IsSame, Rows, StateRow, count_rows, same_ref, state_rows}
+use Rattle.upd_records.specs.Rows.{CardRow, CountRow, EntryRow, IsSame, Rows, count_rows, same_ref, state_rows}
 use Rattle.upd_row_store.proofs.AskedLemmas.{filter_made}
 use Rattle.upd_row_store.proofs.HolderLemmas.{any_same}
-use Rattle.upd_row_store.specs.Tables.{count_pair, state_pair}
-use Rattle.upd_mirror.specs.Mirrored.{Agrees, state_row}
+use Rattle.upd_row_store.specs.Tables.{count_pair}
+use Rattle.upd_mirror.specs.Mirrored.{Agrees}
 use Rattle.upd_mirror.specs.declared.mirror.Mirror.{Mirror}
-use Rattle.upd_mirror.specs.Kept.{AreCards, AreEntries, AreHomes, AreStatuses, cards_at, entries_at, is_home, moved_place, placed_row}
-use Rattle.upd_mirror.proofs.KeptLemmas.{any_gone, any_mapped, any_stays, apart_stay, filter_mapped, filter_twice, one_more, some_gone}
-use Rattle.upd_mirror.proofs.RefLemmas.{alike, one_by_order, turned}
+use Rattle.upd_mirror.specs.RowsByKey.{AreCards, AreEntries, AreHomes, AreStatuses, cards_at, entries_at, is_home, moved_place, placed_row}
+use Rattle.upd_mirror.proofs.KeyedLemmas.{any_gone, any_mapped, any_stays, apart_stay, filter_mapped, filter_twice, one_more, some_gone}
+use Rattle.upd_mirror.proofs.NameOrderLemmas.{alike, one_by_order, turned}
 
 and_left : (a b : Bool) → (a && b) ≡ true → a ≡ true
 and_left true b e = refl
@@ -106,13 +107,15 @@ pub cards_left : {Z : Type 0} (old new : BTreeMap ℕ (Vec CardRow Z)) (homes : 
     → ((d : ℕ) → cards_at new d ≡ cond (is_home homes card d) (filter (λ r. not (same_ref card r.card)) (cards_at old d)) (cards_at old d))
     → AreHomes homes rows → AreCards old rows → AreCards new (filter (λ r. not (same_ref card r.card)) rows)
 cards_left old new homes rows card left known are d =
-    subst (λ xs. IsSame xs (filter (λ r. r.deck == d) (filter (λ r. not (same_ref card r.card)) rows))) (sym (left d)) (go (is_home homes card d) refl)
+    subst (λ xs. IsSame xs (filter (λ r. r.deck == d) (filter (λ r. not (same_ref card r.card)) rows))) (sym (left d)) (go
+    (is_home homes card d) refl)
   where
     go : (b : Bool) → is_home homes card d ≡ b → IsSame (cond b (filter (λ r. not (same_ref card r.card)) (cards_at old d)) (cards_at old d))
         (filter (λ r. r.deck == d) (filter (λ r. not (same_ref card r.card)) rows))
     go true e = subst (IsSame _) (sym (filter_twice (λ r. r.deck == d) (λ r. not (same_ref card r.card)) rows))
         (same_filter (λ r. not (same_ref card r.card)) (are d))
-    go false e = subst (IsSame (cards_at old d)) (sym (apart_stay (λ r. r.deck == d) (λ r. same_ref card r.card) rows (sym (known card d) ∙ e))) (are d)
+    go false e = subst (IsSame (cards_at old d)) (sym (apart_stay (λ r. r.deck == d) (λ r. same_ref card r.card) rows (sym (known card d)
+        ∙ e))) (are d)
 
 -- ---- moves
 
@@ -233,7 +236,8 @@ left_length gone [] = refl
 left_length gone (x ∷ xs) = go (gone x) (left_length gone xs)
   where
     go : (b : Bool) → length (filter (λ y. not (gone y)) xs) + length (filter gone xs) ≡ length xs
-        → length (cond (not b) (x ∷ filter (λ y. not (gone y)) xs) (filter (λ y. not (gone y)) xs)) + length (cond b (x ∷ filter gone xs) (filter gone xs))
+        → length (cond (not b) (x ∷ filter (λ y. not (gone y)) xs) (filter (λ y. not (gone y)) xs)) + length (cond b (x ∷ filter gone xs)
+        (filter gone xs))
         ≡ length (x ∷ xs)
     go true rest = grind (arith, rest)
     go false rest = grind (arith, rest)
@@ -243,51 +247,6 @@ pub count_left : {Z : Type 0} (old : BTreeMap CardRef (Vec EntryRow Z)) (rows : 
 count_left old rows card count gone are is was =
     let same = same_length (are card) in
     omega (arith, left_length (λ r. same_ref card r.card) rows)
-
--- ---- statuses
-
-state_at : BTreeMap CardRef Bool → CardRef → List StateRow
-state_at statuses c = state_rows c (get by_name statuses c)
-
-pub states_left : (old new : BTreeMap CardRef Bool) (rows : List StateRow) (card : CardRef)
-    → ((c : CardRef) → get by_name new c ≡ cond (is_eq (by_name card c)) None (get by_name old c)) → AreStatuses old rows
-    → AreStatuses new (filter (λ r. not (same_ref card r.card)) rows)
-states_left old new rows card left are =
-    some_gone (λ c x. same_ref c x.card) (λ c. state_rows c (get by_name old c)) (λ c. state_rows c (get by_name new c)) rows
-    (λ x. same_ref card x.card) (λ c. is_eq (by_name card c)) (λ c x. alike card c x.card)
-    (λ c. ap (state_rows c) (left c) ∙ go c (is_eq (by_name card c))) are
-  where
-    go : (c : CardRef) (b : Bool) → state_rows c (cond b None (get by_name old c)) ≡ cond b [] (state_rows c (get by_name old c))
-    go c true = refl
-    go c false = refl
-
-pub state_put : (old new : BTreeMap CardRef Bool) (rows : List StateRow) (card : CardRef) (active : Bool)
-    → ((c : CardRef) → get by_name new c ≡ cond (is_eq (by_name card c)) (Some active) (get by_name old c)) → AreStatuses old rows
-    → AreStatuses new (filter (λ r. not (same_ref card r.card)) rows ++ record { card = card; active = active } ∷ [])
-state_put old new rows card active put are =
-    one_more (λ c x. same_ref c x.card) mid (λ c. state_rows c (get by_name new c)) (filter (λ r. not (same_ref card r.card)) rows)
-    (record { card = card; active = active }) (λ c. ap (state_rows c) (put c) ∙ go c (is_eq (by_name card c)) refl)
-    (some_gone (λ c x. same_ref c x.card) (λ c. state_rows c (get by_name old c)) mid rows (λ x. same_ref card x.card) (λ c. is_eq (by_name card c))
-    (λ c x. alike card c x.card) (λ c. refl) are)
-  where
-    mid : CardRef → List StateRow
-    mid c = cond (is_eq (by_name card c)) [] (state_rows c (get by_name old c))
-
-    go : (c : CardRef) (b : Bool) → is_eq (by_name card c) ≡ b → state_rows c (cond b (Some active) (get by_name old c))
-        ≡ cond (same_ref c card) (cond (is_eq (by_name card c)) [] (state_rows c (get by_name old c)) ++ record { card = card; active = active } ∷ [])
-        (cond (is_eq (by_name card c)) [] (state_rows c (get by_name old c)))
-    go c b e =
-        subst (λ t. state_rows c (cond b (Some active) (get by_name old c)) ≡ cond t
-        (cond (is_eq (by_name card c)) [] (state_rows c (get by_name old c)) ++ record { card = card; active = active } ∷ [])
-        (cond (is_eq (by_name card c)) [] (state_rows c (get by_name old c)))) (sym e ∙ turned card c)
-        (subst (λ t. state_rows c (cond b (Some active) (get by_name old c)) ≡ cond b
-        (cond t [] (state_rows c (get by_name old c)) ++ record { card = card; active = active } ∷ []) (cond t [] (state_rows c (get by_name old c)))) (sym e)
-        (two b e))
-      where
-        two : (b : Bool) → is_eq (by_name card c) ≡ b → state_rows c (cond b (Some active) (get by_name old c))
-            ≡ cond b (cond b [] (state_rows c (get by_name old c)) ++ record { card = card; active = active } ∷ []) (cond b [] (state_rows c (get by_name old c)))
-        two true e = ap (λ k. record { card = k; active = active } ∷ []) (sym (one_by_order card c e))
-        two false e = refl
 
 -- ---- counts
 
@@ -320,8 +279,10 @@ pub count_some : (target : Target) (n : ℕ) (old mid new : List (Target × ℕ)
     → IsSame new (map count_pair (filter (λ r. not (is_same target r.target)) rows ++ count_rows target n))
 count_some target n old mid new rows some is more are =
     subst (λ b. IsSame new (map count_pair (filter (λ r. not (is_same target r.target)) rows ++ cond b [] (record { target = target; n = n } ∷ []))))
-    (sym (some_at n some)) (subst (IsSame new) (sym (map-append count_pair (filter (λ r. not (is_same target r.target)) rows) (record { target = target; n = n } ∷ [])))
-    (subst (λ xs. IsSame xs (map count_pair (filter (λ r. not (is_same target r.target)) rows) ++ (target, n) ∷ [])) (sym (more ∙ ap (λ xs. xs ++ (target, n) ∷ []) is))
+    (sym (some_at n some)) (subst (IsSame new) (sym (map-append count_pair (filter (λ r. not (is_same target r.target)) rows)
+    (record { target = target; n = n } ∷ [])))
+    (subst (λ xs. IsSame xs (map count_pair (filter (λ r. not (is_same target r.target)) rows) ++ (target, n) ∷ [])) (sym (more
+    ∙ ap (λ xs. xs ++ (target, n) ∷ []) is))
     (same_append (counts_left target old rows are) (same_of ((target, n) ∷ []) ((target, n) ∷ []) refl))))
 
 -- ---- one change after the other
@@ -349,32 +310,6 @@ agrees_same m a b are idents cards entries targets states counts = record {
   states = λ card. same_trans (are.states card) (same_filter (λ r. same_ref card r.card) states);
   counts = same_trans are.counts counts;
 }
-
-rows_back : (rows : List StateRow) → map state_row (map state_pair rows) ≡ rows
-rows_back [] = refl
-rows_back (r ∷ rows) = ap (λ rest. r ∷ rest) (rows_back rows)
-
-pub states_read : (pairs : List (CardRef × Bool)) (rows : List StateRow) → IsSame pairs (map state_pair rows) → IsSame (map state_row pairs) rows
-states_read pairs rows same = subst (IsSame (map state_row pairs)) (rows_back rows) (same_map state_row same)
-
--- one status more, of a card that has none
-pub state_more : (old new : BTreeMap CardRef Bool) (rows : List StateRow) (card : CardRef) (active : Bool) → get by_name old card ≡ None
-    → ((c : CardRef) → get by_name new c ≡ cond (is_eq (by_name card c)) (Some active) (get by_name old c)) → AreStatuses old rows
-    → AreStatuses new (rows ++ record { card = card; active = active } ∷ [])
-state_more old new rows card active none put are =
-    one_more (λ c x. same_ref c x.card) (λ c. state_rows c (get by_name old c)) (λ c. state_rows c (get by_name new c)) rows
-    (record { card = card; active = active }) (λ c. ap (state_rows c) (put c) ∙ go c (is_eq (by_name card c)) refl) are
-  where
-    go : (c : CardRef) (b : Bool) → is_eq (by_name card c) ≡ b → state_rows c (cond b (Some active) (get by_name old c))
-        ≡ cond (same_ref c card) (state_rows c (get by_name old c) ++ record { card = card; active = active } ∷ []) (state_rows c (get by_name old c))
-    go c true e =
-        let one = one_by_order card c e in
-        ap (λ k. record { card = k; active = active } ∷ []) (sym one)
-        ∙ sym (ap (λ o. state_rows c o ++ record { card = card; active = active } ∷ []) (ap (get by_name old) (sym one) ∙ none))
-        ∙ sym (ap (λ b. cond b (state_rows c (get by_name old c) ++ record { card = card; active = active } ∷ []) (state_rows c (get by_name old c)))
-        (sym (turned card c) ∙ e))
-    go c false e = sym (ap (λ b. cond b (state_rows c (get by_name old c) ++ record { card = card; active = active } ∷ []) (state_rows c (get by_name old c)))
-        (sym (turned card c) ∙ e))
 
 -- ---- maps with no entries
 

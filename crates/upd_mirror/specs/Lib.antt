@@ -1,3 +1,3 @@
-pub mod Kept
+pub mod RowsByKey
 pub mod Mirrored
 pub mod Overlaid

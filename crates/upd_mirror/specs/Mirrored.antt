@@ -3,7 +3,7 @@ use Rattle.std.specs.Prelude.{◌≡◌, Bool, length, map, Option, Some, None}
 use Rattle.upd_text.specs.declared.card_ref.CardRef.{CardRef}
 use Rattle.upd_records.specs.Rows.{IsSame, Rows, StateRow}
 use Rattle.upd_row_store.specs.Tables.{count_pair}
-use Rattle.upd_mirror.specs.Kept.{AreCards, AreEntries, AreHomes, AreStatuses}
+use Rattle.upd_mirror.specs.RowsByKey.{AreCards, AreEntries, AreHomes, AreStatuses}
 use Rattle.upd_mirror.specs.declared.mirror.Mirror.{Mirror}
 
 -- A mirror agrees with tables where it has the rows of the library, the statuses and the counts, as often, in whatever order.

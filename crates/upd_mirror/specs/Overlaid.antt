@@ -1,5 +1,5 @@
 -- What a crash leaves of a store with rows in memory.
-use Rattle.std.specs.Prelude.{◌≡◌, refl, Option, None, Some}
+use Rattle.std.specs.Prelude.{◌≡◌, refl, Option, None}
 use Rattle.std.proofs.Common.{subst, sym}
 use Rattle.std.proofs.Math.Logic.{∥∥₁_map}
 use Rattle.upd_records.specs.Rows.{Rows}

@@ -3,11 +3,12 @@
 ghost use Rattle.std.specs.Prelude.{◌≡◌, ◌++◌, ◌||◌, ℕ, [], if◌then◌else◌, length, map, IfOk, IfSome, OnOk};
 ghost use Rattle.std.specs.BTreeMap.{IsOrdered};
 ghost use Rattle.std.specs.List.{flat_map, list_any};
+ghost use Rattle.std.specs.List.Sorted.{IsPermutation};
 ghost use Rattle.std.specs.Ordering.{nat_cmp};
 ghost use Rattle.upd_text.specs.Order.{by_name};
 ghost use Rattle.upd_core.specs.Edits.{is_among};
 ghost use Rattle.upd_row_store.specs.PartRows.{is_loaded};
-ghost use Rattle.upd_mirror.specs.Kept.{entries_at, is_home};
+ghost use Rattle.upd_mirror.specs.RowsByKey.{entries_at, is_home};
 ghost use Rattle.upd_mirror.specs.Mirrored.{state_row};
 
 use crate::tables::home_of;
@@ -95,17 +96,37 @@ fn own_entries<'a>(entries: &'a BTreeMap<CardRef, Vec<EntryRow>>, card: &CardRef
     }
 }
 
+/// The cards of rows.
+fn cards_in(alloc: Global, rows: &[CardRow]) -> Result<Vec<CardRef>, AllocError>
+    ensures { IfOk result (λ cards. cards.items ≡ map (λ r. r.card) rows.now) }
+{
+    let mut cards = Vec::with_capacity(alloc, rows.len())?;
+    for row in rows {
+        cards.push(row.card)?;
+    }
+    Ok(cards)
+}
+
+/// The cards of rows, by name: whoever sorts their entries finds them in order.
+pub(crate) fn cards_by_name(alloc: Global, rows: &[CardRow]) -> Result<Vec<CardRef>, AllocError>
+    ensures { IfOk result (λ cards. IsPermutation (map (λ r. r.card) rows.now) cards.items) }
+{
+    let mut cards = cards_in(alloc, rows)?;
+    cards.sort_unstable();
+    Ok(cards)
+}
+
 /// The rows of the entries of these cards.
 pub(crate) fn entries_of(
     alloc: Global,
     entries: &BTreeMap<CardRef, Vec<EntryRow>>,
-    cards: &[CardRow],
+    cards: &[CardRef],
 ) -> Result<Vec<EntryRow>, AllocError>
-    ensures { IfOk result (λ rows. rows.items ≡ flat_map (λ r. entries_at entries.now r.card) cards.now) }
+    ensures { IfOk result (λ rows. rows.items ≡ flat_map (entries_at entries.now) cards.now) }
 {
     let mut rows = Vec::new(alloc);
     for card in cards {
-        rows.extend_from_slice(own_entries(entries, &card.card))?;
+        rows.extend_from_slice(own_entries(entries, card))?;
     }
     Ok(rows)
 }
@@ -149,7 +170,8 @@ fn add_home(
     homes: &BTreeMap<CardRef, Serial>,
     card: &CardRef,
 ) -> Result<(), AllocError>
-    ensures { OnOk result ((d : ℕ) → is_among ages.new.items d ≡ (is_among ages.old.items d || is_home homes.now card.now d)) }
+    ensures { OnOk result ((d : ℕ) → is_among ages.new.items d
+        ≡ (is_among ages.old.items d || is_home homes.now card.now d)) }
 {
     if let Some(home) = home_of(homes, card) {
         ages.push(home)?;

@@ -2,10 +2,10 @@
 #![tactic(auto)]
 
 mod copies;
+mod from_memory;
 mod made;
 pub mod mirror;
 pub mod mirror_store;
-mod reads;
 mod tables;
 
 pub use mirror_store::MirrorStore;

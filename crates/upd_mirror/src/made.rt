@@ -2,6 +2,7 @@
 
 ghost use Rattle.std.specs.Prelude.{◌∷◌, ◌++◌, [], map, OnSome};
 ghost use Rattle.upd_records.specs.Rows.{IsSame, Rows};
+ghost use Rattle.upd_row_store.specs.Keeping.{Keeps};
 ghost use Rattle.upd_row_store.specs.Assembling.{AreRowsOf};
 ghost use Rattle.upd_row_store.specs.Tables.{AreRead, count_pair};
 ghost use Rattle.upd_mirror.specs.Mirrored.{Agrees, AgreesIfAny, state_row};
@@ -12,6 +13,7 @@ use std::alloc::Global;
 use std::collections::BTreeMap;
 use upd_core::{CardRef, Ident, States, Target};
 use upd_records::{CardRow, EntryRow, LibraryRows, TargetRow};
+use upd_row_store::RowStore;
 
 impl Mirror {
     /// A mirror of these idents, targets and counts, without cards. It does not allocate.
@@ -81,7 +83,7 @@ impl Mirror {
 }
 
 /// A mirror of rows that were read; none where memory runs out, or where a card has two rows or two statuses.
-pub(crate) fn of_rows(alloc: Global, rows: LibraryRows, states: States) -> Option<Mirror>
+fn of_rows(alloc: Global, rows: LibraryRows, states: States) -> Option<Mirror>
     ensures { (tables : Rows) → AreRowsOf tables rows → AreRead tables states → AgreesIfAny result tables }
 {
     let LibraryRows {
@@ -96,4 +98,38 @@ pub(crate) fn of_rows(alloc: Global, rows: LibraryRows, states: States) -> Optio
     mirror.add_entries(alloc, &entries)?;
     mirror.add_states(&states)?;
     Some(mirror)
+}
+
+/// The rows of a store in memory; none where they can't be read, or where they are not those of a library.
+pub(crate) fn made<S: RowStore>(inner: &mut S, alloc: Global) -> Option<Mirror>
+    ensures agrees { S.is_honest inner.new → S.is_open inner.new → (rows : Rows) → S.shows (S.image inner.old) rows
+        → AgreesIfAny result rows }
+    ensures opens { S.is_honest inner.new → OnSome result (S.is_open inner.new) }
+    ensures same { Keeps S.Meaning inner.old inner.new }
+{
+    let rows = inner.library_rows(alloc).ok()?;
+    let states = inner.load_states(alloc).ok()?;
+    of_rows(alloc, rows, states)
+}
+
+/// The rows of a store in memory, where they are wanted.
+pub(crate) fn made_where<S: RowStore>(inner: &mut S, alloc: Global, wanted: bool) -> Option<Mirror>
+    ensures agrees { S.is_honest inner.new → S.is_open inner.new → (rows : Rows) → S.shows (S.image inner.old) rows
+        → AgreesIfAny result rows }
+    ensures same { Keeps S.Meaning inner.old inner.new }
+{
+    if !wanted {
+        return None;
+    }
+    made(inner, alloc)
+}
+
+/// The first of two mirrors, or else the second.
+pub(crate) fn one_of(first: Option<Mirror>, second: Option<Mirror>) -> Option<Mirror>
+    ensures { (rows : Rows) → AgreesIfAny first rows → AgreesIfAny second rows → AgreesIfAny result rows }
+{
+    match first {
+        Some(mirror) => Some(mirror),
+        None => second,
+    }
 }

@@ -3,7 +3,8 @@
 ghost use Rattle.std.specs.Prelude.{◌≡◌, ◌==◌, ◌∷◌, ◌++◌, [], not, map, OnSome};
 ghost use Rattle.std.specs.List.{filter};
 ghost use Rattle.upd_records.specs.Changes.{change_view, done, done_all};
-ghost use Rattle.upd_records.specs.Changes.{CardGone, CardNew, CardsMoved, CountNow, EntriesGone, EntryNew, IdentNew, IdentPurged};
+ghost use Rattle.upd_records.specs.Changes.{CardGone, CardNew, CardsMoved, CountNow};
+ghost use Rattle.upd_records.specs.Changes.{EntriesGone, EntryNew, IdentNew, IdentPurged};
 ghost use Rattle.upd_records.specs.Changes.{StatusNow, TargetNew, TargetsGone};
 ghost use Rattle.upd_records.specs.Fits.{AllFit, Fits};
 ghost use Rattle.upd_records.specs.Rows.{Rows, same_ref};
@@ -107,14 +108,16 @@ impl Mirror {
     }
 
     fn put_status(&mut self, card: CardRef, active: bool) -> Option<()>
-        ensures { OnSome result ((rows : Rows) → Agrees self.old rows → Agrees self.new (done (StatusNow card active) rows)) }
+        ensures { OnSome result ((rows : Rows) → Agrees self.old rows
+            → Agrees self.new (done (StatusNow card active) rows)) }
     {
         put_status(&mut self.statuses, card, active).ok()?;
         Some(())
     }
 
     fn put_count(&mut self, target: Target, n: u32) -> Option<()>
-        ensures { OnSome result ((rows : Rows) → Agrees self.old rows → Agrees self.new (done (CountNow target n) rows)) }
+        ensures { OnSome result ((rows : Rows) → Agrees self.old rows
+            → Agrees self.new (done (CountNow target n) rows)) }
     {
         drop_count(&mut self.counts, target);
         if n == 0 {

@@ -1,12 +1,12 @@
 //! A store over another store, with its rows in memory.
 
-ghost use Rattle.std.specs.Prelude.{◌≡◌, None, OnSome, true};
+ghost use Rattle.std.specs.Prelude.{◌≡◌, is_some, None, true};
 ghost use Rattle.std.specs.Coded.{→_prop};
 ghost use Rattle.upd_records.specs.Rows.{Rows};
 ghost use Rattle.upd_row_store.specs.Keeping.{Keeps, failures_with};
 ghost use Rattle.upd_mirror.specs.Mirrored.{AgreesIfAny};
 
-use crate::made::of_rows;
+use crate::made::{made, made_where, one_of};
 use crate::mirror::{Mirror, carried};
 use std::alloc::Global;
 use upd_core::{Actives, CardRef, Change, Library, Serial, States};
@@ -62,11 +62,19 @@ impl<S: RowStore> MirrorStore<S> {
         }
     }
 
+    /// Whether there are rows in memory.
+    pub fn has_rows(&self) -> bool
+        ensures { result ≡ is_some self.now.mirror }
+    {
+        self.mirror.is_some()
+    }
+
     /// Reads the rows into memory, if they aren't there. Where they can't be read or kept, there are none.
     pub fn warm(&mut self, alloc: Global)
         ensures same { Keeps S.Meaning self.old.inner self.new.inner }
         ensures shows { S.is_honest self.new.inner → S.is_open self.new.inner → (rows : Rows)
-            → S.shows (S.image self.old.inner) rows → AgreesIfAny self.old.mirror rows → AgreesIfAny self.new.mirror rows }
+            → S.shows (S.image self.old.inner) rows → AgreesIfAny self.old.mirror rows
+            → AgreesIfAny self.new.mirror rows }
         ensures counts { (self.new.failures ≡ self.old.failures) × (self.new.reads ≡ self.old.reads) }
     {
         if self.mirror.is_some() {
@@ -104,38 +112,6 @@ fn failures_with(failures: u64, fault: &Fault) -> u64
     match fault.kind {
         FaultKind::Store => failures.saturating_add(1),
         _ => failures,
-    }
-}
-
-/// The rows of a store in memory; none where they can't be read, or where they are not those of a library.
-fn made<S: RowStore>(inner: &mut S, alloc: Global) -> Option<Mirror>
-    ensures agrees { S.is_honest inner.new → S.is_open inner.new → (rows : Rows) → S.shows (S.image inner.old) rows → AgreesIfAny result rows }
-    ensures opens { S.is_honest inner.new → OnSome result (S.is_open inner.new) }
-    ensures same { Keeps S.Meaning inner.old inner.new }
-{
-    let rows = inner.library_rows(alloc).ok()?;
-    let states = inner.load_states(alloc).ok()?;
-    of_rows(alloc, rows, states)
-}
-
-/// The rows of a store in memory, where they are wanted.
-fn made_where<S: RowStore>(inner: &mut S, alloc: Global, wanted: bool) -> Option<Mirror>
-    ensures agrees { S.is_honest inner.new → S.is_open inner.new → (rows : Rows) → S.shows (S.image inner.old) rows → AgreesIfAny result rows }
-    ensures same { Keeps S.Meaning inner.old inner.new }
-{
-    if !wanted {
-        return None;
-    }
-    made(inner, alloc)
-}
-
-/// The first of two mirrors, or else the second.
-fn one_of(first: Option<Mirror>, second: Option<Mirror>) -> Option<Mirror>
-    ensures { (rows : Rows) → AgreesIfAny first rows → AgreesIfAny second rows → AgreesIfAny result rows }
-{
-    match first {
-        Some(mirror) => Some(mirror),
-        None => second,
     }
 }
 

@@ -1,6 +1,7 @@
 //! Rows in memory, one table at a time.
 
-ghost use Rattle.std.specs.Prelude.{◌≡◌, ◌==◌, ◌∷◌, ◌++◌, ℕ, [], None, Some, false, not, if◌then◌else◌, map, length, OnOk};
+ghost use Rattle.std.specs.Prelude.{◌≡◌, ◌==◌, ◌∷◌, ◌++◌, ℕ, [], None};
+ghost use Rattle.std.specs.Prelude.{Some, false, not, if◌then◌else◌, map, length, OnOk};
 ghost use Rattle.std.specs.BTreeMap.{get};
 ghost use Rattle.std.specs.List.{filter};
 ghost use Rattle.std.specs.Ordering.{is_eq};
@@ -8,8 +9,8 @@ ghost use Rattle.upd_text.specs.Order.{by_name};
 ghost use Rattle.upd_text.specs.declared.card_ref.CardRef.{CardRef};
 ghost use Rattle.upd_core.specs.Targets.{is_same};
 ghost use Rattle.upd_records.specs.Changes.{purged_row};
-ghost use Rattle.upd_records.specs.Rows.{same_ref};
-ghost use Rattle.upd_mirror.specs.Kept.{cards_at, entries_at, is_home, moved_place, placed_row};
+ghost use Rattle.upd_records.specs.Rows.{IsSame, same_ref};
+ghost use Rattle.upd_mirror.specs.RowsByKey.{cards_at, entries_at, is_home, moved_place, placed_row};
 
 use std::alloc::{AllocError, Global};
 use std::collections::BTreeMap;
@@ -64,16 +65,25 @@ pub(crate) fn drop_count(counts: &mut Vec<(Target, u32)>, target: Target)
 
 // ---- cards, by deck
 
+/// Adds the row of a card, after those that are at its place or before it: rows that are by place stay so.
+fn insert_card(cards: &mut Vec<CardRow>, row: CardRow) -> Result<(), AllocError>
+    ensures { OnOk result (IsSame cards.new.items (cards.old.items ++ row ∷ [])) }
+{
+    let place = row.pos;
+    let at = cards.partition_point(|other| other.pos <= place);
+    cards.insert(at, row)?;
+    Ok(())
+}
+
 /// Adds the row of a card to those of its deck.
 pub(crate) fn add_card(
     decks: &mut BTreeMap<Serial, Vec<CardRow>>,
     row: CardRow,
 ) -> Result<(), AllocError>
-    ensures { OnOk result ((d : ℕ) → cards_at decks.new d
-        ≡ (if row.deck == d then cards_at decks.old d ++ row ∷ [] else cards_at decks.old d)) }
+    ensures { OnOk result ((d : ℕ) → IsSame (cards_at decks.new d)
+        (if row.deck == d then cards_at decks.old d ++ row ∷ [] else cards_at decks.old d)) }
 {
-    decks.entry(row.deck)?.or_default().push(row)?;
-    Ok(())
+    insert_card(decks.entry(row.deck)?.or_default(), row)
 }
 
 /// Takes a card's row away.
@@ -235,7 +245,8 @@ pub(crate) fn add_entry(
     row: EntryRow,
 ) -> Result<(), AllocError>
     ensures { OnOk result ((c : CardRef) → entries_at entries.new c
-        ≡ (if is_eq (by_name row.card c) then entries_at entries.old row.card ++ row ∷ [] else entries_at entries.old c)) }
+        ≡ (if is_eq (by_name row.card c) then entries_at entries.old row.card
+        ++ row ∷ [] else entries_at entries.old c)) }
 {
     if let Some(own) = entries.get_mut(&row.card) {
         own.push(row)?;

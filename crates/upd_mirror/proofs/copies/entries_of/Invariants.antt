@@ -1,7 +1,7 @@
 use Rattle.std.proofs.Common.{◌≡◌, take}
 use Rattle.std.specs.List.{flat_map}
-use Rattle.upd_mirror.specs.Kept.{entries_at}
+use Rattle.upd_mirror.specs.RowsByKey.{entries_at}
 use Rattle.upd_mirror.proofs.copies.entries_of.Given as goal
 
 abbrev pub invariant-loop-card : goal.invariant-loop-card
-invariant-loop-card l = l.rows.items ≡ flat_map (λ r. entries_at l.entries r.card) (take l.card-index l.cards)
+invariant-loop-card l = l.rows.items ≡ flat_map (entries_at l.entries) (take l.card-index l.cards)

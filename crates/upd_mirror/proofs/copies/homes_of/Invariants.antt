@@ -1,7 +1,7 @@
 use Rattle.std.proofs.Common.{◌≡◌, ℕ, take}
 use Rattle.std.specs.List.{list_any}
 use Rattle.upd_core.specs.Edits.{is_among}
-use Rattle.upd_mirror.specs.Kept.{is_home}
+use Rattle.upd_mirror.specs.RowsByKey.{is_home}
 use Rattle.upd_mirror.proofs.copies.homes_of.Given as goal
 
 abbrev pub invariant-loop-card : goal.invariant-loop-card

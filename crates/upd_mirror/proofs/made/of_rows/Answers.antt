@@ -3,7 +3,8 @@ use Rattle.upd_records.proofs.CountLemmas.{same_of}
 use Rattle.upd_records.specs.Rows.{IsSame}
 use Rattle.upd_row_store.specs.Tables.{count_pair}
 use Rattle.upd_mirror.specs.Mirrored.{state_row}
-use Rattle.upd_mirror.proofs.MirrorLemmas.{agrees_same, states_read}
+use Rattle.upd_mirror.proofs.MirrorLemmas.{agrees_same}
+use Rattle.upd_mirror.proofs.StatusRowLemmas.{states_read}
 use Rattle.upd_mirror.proofs.made.of_rows.Goals as goal
 
 pub returns : goal.returns
@@ -16,5 +17,6 @@ returns c = λ tables rows_are states_are.
     (subst (λ xs. IsSame xs tables.cards) (sym c.deref.ensures.value) rows_are.cards)
     (subst (λ xs. IsSame xs tables.entries) (sym c.deref-2.ensures.value) rows_are.entries)
     (same_of tables.targets tables.targets refl)
-    (subst (λ xs. IsSame (map state_row xs) tables.states) (sym c.deref-3.ensures.value) (states_read c.args.states.states.items tables.states states_are.states))
+    (subst (λ xs. IsSame (map state_row xs) tables.states) (sym c.deref-3.ensures.value)
+    (states_read c.args.states.states.items tables.states states_are.states))
     (same_of (map count_pair tables.counts) (map count_pair tables.counts) refl)

@@ -1,5 +1,5 @@
 use Rattle.std.proofs.Common.{refl}
-use Rattle.upd_mirror.specs.Kept.{placed_row}
+use Rattle.upd_mirror.specs.RowsByKey.{placed_row}
 use Rattle.upd_core.proofs.InPlaceLemmas.{map_over_more}
 use Rattle.upd_mirror.proofs.tables.move_cards.Goals as goal
 

@@ -1,5 +1,5 @@
 use Rattle.std.proofs.Common.{◌≡◌, map, take, drop, ◌++◌}
-use Rattle.upd_mirror.specs.Kept.{placed_row}
+use Rattle.upd_mirror.specs.RowsByKey.{placed_row}
 use Rattle.upd_mirror.proofs.tables.move_cards.Given as goal
 
 abbrev pub invariant-loop-row : goal.invariant-loop-row

@@ -1,13 +1,14 @@
-use Rattle.std.proofs.Common.{◌≡◌, ℕ, ◌==◌, cond, None, subst, arith}
+use Rattle.std.proofs.Common.{◌≡◌, ℕ, ◌==◌, ◌∷◌, ◌++◌, [], refl, cond, None, subst, arith}
 use Rattle.std.proofs.lemmas.Grind.{common_steps}
 use Rattle.std.specs.BTreeMap.{get}
 use Rattle.std.specs.Ordering.{is_eq}
 use Rattle.upd_text.specs.declared.card_ref.CardRef.{CardRef}
+use Rattle.upd_records.proofs.CountLemmas.{same_trans}
 use Rattle.upd_records.specs.Rows.{CardRow}
 use Rattle.upd_text.specs.Order.{by_name}
-use Rattle.upd_mirror.proofs.KeptLemmas.{one_more}
+use Rattle.upd_mirror.proofs.KeyedLemmas.{one_more}
 use Rattle.upd_mirror.proofs.MirrorLemmas.{homes_more, when_ok}
-use Rattle.upd_mirror.specs.Kept.{cards_at, is_home}
+use Rattle.upd_mirror.specs.RowsByKey.{cards_at, is_home}
 use Rattle.upd_mirror.proofs.mirror.Mirror.add_card.Goals as goal
 
 pub returns : goal.returns
@@ -20,7 +21,9 @@ returns c = λ rows are.
     (when_ok _ c.ok.result _ c.ok.ensures.value c.in_ok-ok.was c.put_home.ensures) in
     record {
       idents = are.idents;
-      cards = one_more (λ d r. r.deck == d) (cards_at was.decks) (cards_at c.add_card.new.decks) rows.cards row (when_ok _ c.ok-2.result _ c.ok-2.ensures.value c.in_ok-ok-2.was c.add_card.ensures) are.cards;
+      cards = λ d. same_trans (when_ok _ c.ok-2.result _ c.ok-2.ensures.value c.in_ok-ok-2.was c.add_card.ensures d)
+          (one_more (λ d r. r.deck == d) (cards_at was.decks) (λ d. cond (row.deck == d) (cards_at was.decks d ++ row ∷ []) (cards_at was.decks d))
+          rows.cards row (λ d. refl) are.cards d);
       homes = homes_more was.homes c.put_home.new.homes rows.cards row none put are.homes;
       entries = are.entries;
       entry_count = are.entry_count;

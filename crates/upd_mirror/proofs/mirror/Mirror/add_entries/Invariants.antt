@@ -4,4 +4,7 @@ use Rattle.upd_mirror.specs.Mirrored.{Agrees}
 use Rattle.upd_mirror.proofs.mirror.Mirror.add_entries.Given as goal
 
 abbrev pub invariant-loop-entry : goal.invariant-loop-entry
-invariant-loop-entry l = (rows : Rows) → Agrees l.initial.self rows → Agrees l.self (record rows { entries = rows.entries ++ take l.entry-index l.entries })
+invariant-loop-entry l = (rows : Rows) → Agrees l.initial.self rows → Agrees l.self (record rows {
+  entries = rows.entries
+      ++ take l.entry-index l.entries;
+})

@@ -2,7 +2,8 @@ use Rattle.std.proofs.Common.{◌≡◌, None, arith}
 use Rattle.std.proofs.lemmas.Grind.{common_steps}
 use Rattle.std.specs.BTreeMap.{get}
 use Rattle.upd_text.specs.Order.{by_name}
-use Rattle.upd_mirror.proofs.MirrorLemmas.{state_more, when_ok}
+use Rattle.upd_mirror.proofs.MirrorLemmas.{when_ok}
+use Rattle.upd_mirror.proofs.StatusRowLemmas.{state_more}
 use Rattle.upd_mirror.proofs.mirror.Mirror.add_state.Goals as goal
 
 pub returns : goal.returns

@@ -1,6 +1,6 @@
 use Rattle.std.proofs.Common.{◌++◌, map, subst, take}
 use Rattle.upd_mirror.specs.Mirrored.{Agrees, state_row}
-use Rattle.upd_mirror.proofs.KeptLemmas.{one_made}
+use Rattle.upd_mirror.proofs.KeyedLemmas.{one_made}
 use Rattle.upd_mirror.proofs.mirror.Mirror.add_states.Goals as goal
 
 pub loop-state-preserved : goal.loop-state-preserved

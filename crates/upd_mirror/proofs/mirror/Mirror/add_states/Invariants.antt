@@ -4,4 +4,7 @@ use Rattle.upd_mirror.specs.Mirrored.{Agrees, state_row}
 use Rattle.upd_mirror.proofs.mirror.Mirror.add_states.Given as goal
 
 abbrev pub invariant-loop-state : goal.invariant-loop-state
-invariant-loop-state l = (rows : Rows) → Agrees l.initial.self rows → Agrees l.self (record rows { states = rows.states ++ map state_row (take l.state-index l.states) })
+invariant-loop-state l = (rows : Rows) → Agrees l.initial.self rows → Agrees l.self (record rows {
+  states = rows.states
+      ++ map state_row (take l.state-index l.states);
+})

@@ -6,7 +6,8 @@ use Rattle.upd_mirror.proofs.mirror.Mirror.purge_ident.Goals as goal
 
 pub returns : goal.returns
 returns c = λ rows are. record {
-  idents = subst (λ xs. IsSame xs (map (purged_row c.args.age) rows.idents)) (sym c.purge_ident.ensures) (same_map (purged_row c.args.age) are.idents);
+  idents = subst (λ xs. IsSame xs (map (purged_row c.args.age) rows.idents)) (sym c.purge_ident.ensures) (same_map
+      (purged_row c.args.age) are.idents);
   cards = are.cards;
   homes = are.homes;
   entries = are.entries;

@@ -12,7 +12,8 @@ returns-then-n-eq0 c = λ rows are. record {
   entry_count = are.entry_count;
   targets = are.targets;
   states = are.states;
-  counts = count_none c.args.target c.args.n c.args.self.now.counts.items c.drop_count.new.counts.items rows.counts c.if-n-eq0.true c.drop_count.ensures are.counts;
+  counts = count_none c.args.target c.args.n c.args.self.now.counts.items c.drop_count.new.counts.items rows.counts c.if-n-eq0.true
+      c.drop_count.ensures are.counts;
 }
 
 pub returns : goal.returns
@@ -24,6 +25,7 @@ returns c = λ rows are. record {
   entry_count = are.entry_count;
   targets = are.targets;
   states = are.states;
-  counts = count_some c.args.target c.args.n c.args.self.now.counts.items c.drop_count.new.counts.items c.push.new.self.items rows.counts c.if-n-eq0.false
+  counts = count_some c.args.target c.args.n c.args.self.now.counts.items c.drop_count.new.counts.items c.push.new.self.items rows.counts
+      c.if-n-eq0.false
       c.drop_count.ensures (grind (arith, common_steps)) are.counts;
 }

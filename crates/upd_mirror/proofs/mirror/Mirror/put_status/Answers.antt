@@ -1,4 +1,5 @@
-use Rattle.upd_mirror.proofs.MirrorLemmas.{state_put, when_ok}
+use Rattle.upd_mirror.proofs.MirrorLemmas.{when_ok}
+use Rattle.upd_mirror.proofs.StatusRowLemmas.{state_put}
 use Rattle.upd_mirror.proofs.mirror.Mirror.put_status.Goals as goal
 
 pub returns : goal.returns
@@ -9,6 +10,7 @@ returns c = λ rows are. record {
   entries = are.entries;
   entry_count = are.entry_count;
   targets = are.targets;
-  states = state_put c.args.self.now.statuses c.put_status.new.statuses rows.states c.args.card c.args.active (when_ok _ c.ok.result _ c.ok.ensures.value c.in_ok-ok.was c.put_status.ensures) are.states;
+  states = state_put c.args.self.now.statuses c.put_status.new.statuses rows.states c.args.card c.args.active
+      (when_ok _ c.ok.result _ c.ok.ensures.value c.in_ok-ok.was c.put_status.ensures) are.states;
   counts = are.counts;
 }

@@ -4,7 +4,8 @@ use Rattle.upd_mirror.proofs.mirror.Mirror.shift_cards.Goals as goal
 pub returns : goal.returns
 returns c = λ rows are fit. record {
   idents = are.idents;
-  cards = cards_moved c.args.self.now.decks c.move_cards_of.new.decks c.args.deck c.args.from c.args.by.now rows.cards c.move_cards_of.ensures fit are.cards;
+  cards = cards_moved c.args.self.now.decks c.move_cards_of.new.decks c.args.deck c.args.from c.args.by.now rows.cards c.move_cards_of.ensures fit
+      are.cards;
   homes = homes_moved c.args.self.now.homes c.args.deck c.args.from c.args.by.now rows.cards are.homes;
   entries = are.entries;
   entry_count = are.entry_count;

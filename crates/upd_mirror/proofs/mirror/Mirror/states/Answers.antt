@@ -1,7 +1,7 @@
 use Rattle.std.proofs.Common.{◌∙◌, subst, sym, map}
 use Rattle.upd_records.specs.Rows.{IsSame}
 use Rattle.upd_row_store.specs.Tables.{count_pair, state_pair}
-use Rattle.upd_mirror.proofs.ReadLemmas.{pairs_same}
+use Rattle.upd_mirror.proofs.StatusRowLemmas.{pairs_same}
 use Rattle.upd_mirror.proofs.mirror.Mirror.states.Goals as goal
 
 pub returns-clause-read : goal.returns-clause-read

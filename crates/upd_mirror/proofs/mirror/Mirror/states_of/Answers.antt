@@ -2,7 +2,7 @@ use Rattle.std.proofs.Common.{◌∙◌, subst, sym, map, filter}
 use Rattle.upd_records.specs.Rows.{IsSame}
 use Rattle.upd_row_store.specs.Asked.{is_asked}
 use Rattle.upd_row_store.specs.Tables.{count_pair, state_pair}
-use Rattle.upd_mirror.proofs.ReadLemmas.{asked_same, pairs_same}
+use Rattle.upd_mirror.proofs.StatusRowLemmas.{asked_same, pairs_same}
 use Rattle.upd_mirror.proofs.mirror.Mirror.states_of.Goals as goal
 
 pub returns-clause-read : goal.returns-clause-read

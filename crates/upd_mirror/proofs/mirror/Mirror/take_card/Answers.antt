@@ -1,4 +1,5 @@
-use Rattle.upd_mirror.proofs.MirrorLemmas.{cards_left, homes_left, states_left}
+use Rattle.upd_mirror.proofs.MirrorLemmas.{cards_left, homes_left}
+use Rattle.upd_mirror.proofs.StatusRowLemmas.{states_left}
 use Rattle.upd_mirror.proofs.mirror.Mirror.take_card.Goals as goal
 
 pub returns : goal.returns

@@ -18,7 +18,7 @@ ghost use Rattle.upd_row_store.specs.Tables.{AreByKey, AreRead, AreReadOf};
 ghost use Rattle.upd_mirror.specs.Mirrored.{Agrees};
 
 use crate::copies::{
-    all_cards, all_entries, all_states, card_count, cards_of, entries_of, homes_of,
+    all_cards, all_entries, all_states, card_count, cards_by_name, cards_of, entries_of, homes_of,
 };
 use crate::mirror::Mirror;
 use crate::tables::{put_status, status_of};
@@ -121,7 +121,8 @@ impl Mirror {
     {
         let idents = Vec::from_slice(alloc, &self.idents)?;
         let cards = cards_of(alloc, &self.decks, ages)?;
-        let entries = entries_of(alloc, &self.entries, &cards)?;
+        let by_name = cards_by_name(alloc, &cards)?;
+        let entries = entries_of(alloc, &self.entries, &by_name)?;
         let targets = Vec::from_slice(alloc, &self.targets)?;
         Ok(LibraryRows {
             idents,
@@ -177,7 +178,8 @@ impl Mirror {
 
     /// The active cards, by the statuses; memory alone can fail.
     pub(crate) fn actives(&self, alloc: Global) -> Result<Actives, AllocError>
-        ensures { (rows : Rows) → Agrees self.now rows → (l : LibraryView) → IsSound l → Shows rows l → ShowsStates rows l
+        ensures { (rows : Rows) → Agrees self.now rows → (l : LibraryView) → IsSound l → Shows rows l
+            → ShowsStates rows l
             → IfOk result (λ found. found ≡ actives_of l) }
     {
         let idents = Vec::from_slice(alloc, &self.idents)?;

@@ -1,7 +1,7 @@
 use Rattle.std.specs.BTreeMap.{get}
 use Rattle.upd_text.specs.Order.{by_name}
-use Rattle.upd_mirror.proofs.ReadLemmas.{kept_next}
-use Rattle.upd_mirror.proofs.reads.statuses_of.Goals as goal
+use Rattle.upd_mirror.proofs.StatusRowLemmas.{kept_next}
+use Rattle.upd_mirror.proofs.from_memory.statuses_of.Goals as goal
 
 pub loop-card-preserved : goal.loop-card-preserved
 loop-card-preserved c =

@@ -1,10 +1,10 @@
 -- The rows of a map, one key after the other, are those of the table.
-use Rattle.std.proofs.Common.{◌≡◌, ℕ, zero, suc, ◌+◌, ◌≤◌, Bool, true, false, not, cond, List, [], ◌∷◌, ◌++◌, length, map, Option, None, Some}
+use Rattle.std.proofs.Common.{◌≡◌, ℕ, zero, suc, ◌+◌, ◌≤◌, Bool, true, false, not, cond, List, [], ◌∷◌, ◌++◌, length, Option, None, Some}
 use Rattle.std.proofs.Common.{refl, ap, sym, ◌∙◌, subst, arith, append-nil}
 use Rattle.std.specs.Prelude.{◌&&◌}
 use Rattle.std.specs.BTreeMap.{BTreeMap, IsOrdered, get, is_at}
 use Rattle.std.specs.Cmp.{IsTotalOrder, tied_itself}
-use Rattle.std.specs.List.{All, AllByRecursion, count_by, filter, flat_map}
+use Rattle.std.specs.List.{AllByRecursion, count_by, filter, flat_map}
 use Rattle.std.specs.List.Sorted.{IsStrictlySortedBy}
 use Rattle.std.specs.Map.{keys_of, lookup}
 use Rattle.std.specs.Option.{option_map_or}
@@ -15,9 +15,9 @@ use Rattle.std.proofs.lemmas.List.Elements.{filter-append, recursion_from_All}
 use Rattle.std.proofs.lemmas.Map.Keys.{sorted_head, sorted_tail}
 use Rattle.std.proofs.lemmas.Map.Lookups.{CmpEqualImpliesEq}
 use Rattle.std.proofs.lemmas.Map.Views.{All-found}
-use Rattle.upd_records.proofs.CountLemmas.{count_cons, count_filter, same_filter, same_of, same_trans}
+use Rattle.upd_records.proofs.CountLemmas.{count_cons, count_filter, same_filter, same_of}
 use Rattle.upd_records.specs.Rows.{IsSame}
-use Rattle.upd_mirror.proofs.KeptLemmas.{filter_alike, filter_twice, not_true}
+use Rattle.upd_mirror.proofs.KeyedLemmas.{filter_alike, filter_twice, not_true}
 
 -- ---- counts
 
@@ -59,7 +59,8 @@ count_none test (x ∷ xs) none = count_cons test x xs ∙ ap (λ b. cond b 1 0 
 -- rows that are as often as those with a key all have it
 pub own_key : {A : Type 0} (has : A → Bool) (xs ys : List A) → IsSame xs (filter has ys) → filter has xs ≡ xs
 own_key has xs ys same =
-    none_fails has xs (same.passes (λ x. not (has x)) ∙ count_filter (λ x. not (has x)) has ys ∙ count_none (λ x. has x && not (has x)) ys (λ x. apart (has x)))
+    none_fails has xs (same.passes (λ x. not (has x)) ∙ count_filter (λ x. not (has x)) has ys
+    ∙ count_none (λ x. has x && not (has x)) ys (λ x. apart (has x)))
   where
     apart : (b : Bool) → (b && not b) ≡ false
     apart true = refl
@@ -87,7 +88,8 @@ module _ {K A : Type 0} (has : K → A → Bool) (key : A → K) (itself : (x : 
   nothing [] each = refl
   nothing (y ∷ ys) each =
       absurd (let none : 0 ≡ count_by (λ x. true) (y ∷ filter (has (key y)) ys) =
-      (each (key y)).passes (λ x. true) ∙ ap (λ b. count_by (λ x. true) (cond b (y ∷ filter (has (key y)) ys) (filter (has (key y)) ys))) (itself y) in
+      (each (key y)).passes (λ x. true) ∙ ap (λ b. count_by (λ x. true) (cond b (y ∷ filter (has (key y)) ys) (filter (has (key y)) ys)))
+      (itself y) in
       let one = count_cons (λ x. true) y (filter (has (key y)) ys) in omega (arith, none, one))
 
   front : (x : A) (xs : List A) (j : K) → filter (has j) (others x xs) ≡ others x (filter (has j) (x ∷ xs))
@@ -143,7 +145,8 @@ module _ {K V R : Type 0} {cmp : K → K → Ordering} (total : IsTotalOrder cmp
   has_own r = is (key r) r ∙ ap is_eq (tied_itself total (key r))
 
   -- no later key is that of the first entry
-  none_later : (k : K) (e : K × V) (es : List (K × V)) → k ≡ e.0 → AllByRecursion (λ y. cmp e.0 y ≡ Less) (keys_of es) → lookup (is_at (cmp k)) es ≡ None
+  none_later : (k : K) (e : K × V) (es : List (K × V)) → k ≡ e.0 → AllByRecursion (λ y. cmp e.0 y ≡ Less) (keys_of es)
+      → lookup (is_at (cmp k)) es ≡ None
   none_later k e [] one above = refl
   none_later k e (f ∷ es) one above =
       ap (λ b. cond b (Some f.1) (lookup (is_at (cmp k)) es)) (ap (λ j. is_eq (cmp j f.0)) one ∙ ap is_eq above.0) ∙ none_later k e es one above.1
@@ -207,10 +210,12 @@ module _ {K V R : Type 0} {cmp : K → K → Ordering} (total : IsTotalOrder cmp
         own es found.1,
       )
 
-      each : (k : K) → IsSame (filter (has k) (flat_map (λ e. cond (p e.0) (rows e.0 e.1) []) m.entries)) (filter (has k) (filter (λ r. p (key r)) all))
+      each : (k : K) → IsSame (filter (has k) (flat_map (λ e. cond (p e.0) (rows e.0 e.1) []) m.entries)) (filter (has k) (filter (λ r. p
+          (key r)) all))
       each k = subst (λ zs. IsSame zs (filter (has k) (filter (λ r. p (key r)) all)))
           (sym (flat_at p k m.entries up (own m.entries (recursion_from_All _ _ (All-found total m up)))))
-          (subst (IsSame (cond (p k) (option_map_or (rows k) (get cmp m k) []) [])) (sym (filter_twice (has k) (λ r. p (key r)) all ∙ filter_alike (λ r. p (key r)) (has k) (p k) (λ r hit. ap p (sym (has_one k r hit))) all))
+          (subst (IsSame (cond (p k) (option_map_or (rows k) (get cmp m k) []) [])) (sym (filter_twice (has k) (λ r. p (key r)) all
+          ∙ filter_alike (λ r. p (key r)) (has k) (p k) (λ r hit. ap p (sym (has_one k r hit))) all))
           (go (p k)))
         where
           go : (b : Bool) → IsSame (cond b (option_map_or (rows k) (get cmp m k) []) []) (cond b (filter (has k) all) [])

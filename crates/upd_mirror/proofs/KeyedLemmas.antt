@@ -1,5 +1,6 @@
 -- Rows that are kept under keys stay those of a table when both change in the same way.
-use Rattle.std.proofs.Common.{◌≡◌, Bool, true, false, not, cond, List, [], ◌∷◌, ◌++◌, map, refl, ap, sym, ◌∙◌, subst, append-nil, append_assoc, ℕ, ◌+◌, ◌<◌, get_or, length, take}
+use Rattle.std.proofs.Common.{◌≡◌, Bool, true, false, not, cond, List, [], ◌∷◌, ◌++◌, map, refl}
+use Rattle.std.proofs.Common.{ap, sym, ◌∙◌, subst, append-nil, append_assoc, ℕ, ◌+◌, ◌<◌, get_or, length, take}
 use Rattle.std.specs.Prelude.{◌&&◌, ◌||◌}
 use Rattle.std.specs.List.{filter, list_any}
 use Rattle.std.proofs.lemmas.List.{map-append, take_more}
@@ -23,7 +24,8 @@ all_stay test gone [] stay = refl
 all_stay {A} test gone (x ∷ xs) stay = go (test x) (gone x) refl refl (all_stay test gone xs stay)
   where
     go : (t g : Bool) → test x ≡ t → gone x ≡ g → filter test (filter (λ y. not (gone y)) xs) ≡ filter test xs
-        → filter test (cond (not g) (x ∷ filter (λ y. not (gone y)) xs) (filter (λ y. not (gone y)) xs)) ≡ cond t (x ∷ filter test xs) (filter test xs)
+        → filter test (cond (not g) (x ∷ filter (λ y. not (gone y)) xs) (filter (λ y. not (gone y)) xs))
+        ≡ cond t (x ∷ filter test xs) (filter test xs)
     go true true is goes rest = not_true (gone x) goes (stay x is)
     go true false is goes rest = ap (λ t. cond t (x ∷ filter test (filter (λ y. not (gone y)) xs)) (filter test (filter (λ y. not (gone y)) xs))) is
         ∙ ap (λ ys. x ∷ ys) rest
@@ -55,9 +57,11 @@ apart_stay {A} test gone (x ∷ xs) apart = go (test x) (gone x) refl refl apart
 
     go : (t g : Bool) → test x ≡ t → gone x ≡ g → ((t && g) || list_any (λ y. test y && gone y) xs) ≡ false
         → (list_any (λ y. test y && gone y) xs ≡ false → Stay)
-        → filter test (cond (not g) (x ∷ filter (λ y. not (gone y)) xs) (filter (λ y. not (gone y)) xs)) ≡ cond t (x ∷ filter test xs) (filter test xs)
+        → filter test (cond (not g) (x ∷ filter (λ y. not (gone y)) xs) (filter (λ y. not (gone y)) xs))
+        ≡ cond t (x ∷ filter test xs) (filter test xs)
     go true true is goes none rest = absurd (cc)
-    go true false is goes none rest = ap (λ t. cond t (x ∷ filter test (filter (λ y. not (gone y)) xs)) (filter test (filter (λ y. not (gone y)) xs))) is
+    go true false is goes none rest = ap (λ t. cond t (x ∷ filter test (filter (λ y. not (gone y)) xs)) (filter test (filter (λ y. not
+        (gone y)) xs))) is
         ∙ ap (λ ys. x ∷ ys) (rest none)
     go false true is goes none rest = rest none
     go false false is goes none rest =
@@ -121,7 +125,8 @@ any_stays {A} test gone (x ∷ xs) stay = go (test x) (gone x) refl refl (any_st
     go t false is stays rest = (λ i. is i || rest i)
     go false true is goes rest = rest
 
-pub any_mapped : {A : Type 0} (test : A → Bool) (f : A → A) (xs : List A) → ((x : A) → test (f x) ≡ test x) → list_any test (map f xs) ≡ list_any test xs
+pub any_mapped : {A : Type 0} (test : A → Bool) (f : A → A) (xs : List A) → ((x : A) → test (f x) ≡ test x)
+    → list_any test (map f xs) ≡ list_any test xs
 any_mapped test f [] same = refl
 any_mapped test f (x ∷ xs) same = λ i. same x i || any_mapped test f xs same i
 
