@@ -3,7 +3,7 @@ use crate::empty_stores::{Fresh, adopted};
 use sqlite::MemStore;
 use std::alloc::Global;
 use std::test::Fail;
-use upd_core::{Library, States};
+use upd_core::{CardRef, Library, States};
 use upd_list_store::ListStore;
 use upd_row_store::RowStore;
 use upd_store::SqlStore;
