@@ -133,13 +133,13 @@ fn same_statuses(
     for card in cards {
         let name = name_at(library.idents(), card.ident).ok_or("no name")?;
         let number = card.number;
-        same_status(cache, other, CardRef { name, number })?;
+        same_status(cache, other, &CardRef { name, number })?;
     }
     Ok(())
 }
 
-fn same_status(cache: &Cache, other: &Cache, card: CardRef) -> Result<(), Fail> {
-    same(card, cache.active(card), other.active(card))
+fn same_status(cache: &Cache, other: &Cache, card: &CardRef) -> Result<(), Fail> {
+    same(*card, cache.active(*card), other.active(*card))
 }
 
 fn same_counts(cache: &Cache, other: &Cache, cards: &[Card]) -> Result<(), Fail> {

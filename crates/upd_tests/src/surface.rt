@@ -75,10 +75,11 @@ fn a_copy_is_the_same_library(rt: HostRuntime) -> Result<(), Fail> {
 }
 
 /// The statuses of A.2 and X.1, and whether Y.1 is a live yank card.
-fn statuses(library: &Library, live: &Live<'_>) -> Result<[Option<bool>; 3], Fail> {
+fn statuses(library: &Library) -> Result<[Option<bool>; 3], Fail> {
+    let live: Live<'_> = library.live_yanks()?;
     Ok([
-        library.status(live, card_ref("A.2")?),
-        library.status(live, card_ref("X.1")?),
+        library.status(&live, card_ref("A.2")?),
+        library.status(&live, card_ref("X.1")?),
         live.live_yank(card_ref("Y.1")?),
     ])
 }
@@ -86,7 +87,7 @@ fn statuses(library: &Library, live: &Live<'_>) -> Result<[Option<bool>; 3], Fai
 #[test]
 fn a_library_replays_statuses(rt: HostRuntime) -> Result<(), Fail> {
     let library = after(rt.alloc(), &[DECK, SET, YANK])?;
-    let found = statuses(&library, &library.live_yanks()?)?;
+    let found = statuses(&library)?;
     same("statuses", found, [Some(true), Some(false), Some(true)])
 }
 
