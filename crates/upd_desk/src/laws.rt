@@ -20,8 +20,16 @@ pub fn distinct_runs_are_first_arrivals()
 
 /// Tables without rows, as those of a library that has just been made, hold the empty journal.
 pub fn empty_tables_hold_the_empty_journal()
-    ensures { Holds [] (record { idents = []; cards = []; entries = []; targets = []; runs = []; states = [];
-        counts = []; settled = [] }) }
+    ensures { Holds [] (record {
+      idents = [];
+      cards = [];
+      entries = [];
+      targets = [];
+      runs = [];
+      states = [];
+      counts = [];
+      settled = [];
+    }) }
 {}
 
 /// A site's mark is the greatest number that it has settled, and 0 where it never did.
