@@ -13,10 +13,6 @@ use Rattle.upd_records.specs.Rows.{IsSame}
 pub not_true : {P : Type 0} (b : Bool) → b ≡ true → b ≡ false → P
 not_true b hit miss = absurd (let clash : true ≡ false = sym hit ∙ miss in cc)
 
-pub or_false : (b : Bool) → (b || false) ≡ b
-or_false true = refl
-or_false false = refl
-
 -- the rows that pass a test, of rows that none of which go
 pub all_stay : {A : Type 0} (test gone : A → Bool) (xs : List A) → ((x : A) → test x ≡ true → gone x ≡ false)
     → filter test (filter (λ x. not (gone x)) xs) ≡ filter test xs

@@ -164,10 +164,6 @@ still_distinct keep rows apart card =
 -- ---- decks
 
 module _ (d : ℕ) where
-  -- a card in deck d
-  abbrev is_row : CardRef → CardRow → Bool
-  is_row c r = (r.deck == d) && same_ref c r.card
-
   none_asked : (rows : List CardRow) → false ≡ list_any (λ r. (r.deck == d) && false) rows
   none_asked [] = refl
   none_asked (r ∷ rows) = none_asked rows ∙ ap (λ b. b || list_any (λ x. (x.deck == d) && false) rows) (and_false (r.deck == d))

@@ -33,10 +33,6 @@ use Rattle.upd_mirror.specs.RowsByKey.{AreCards, AreEntries, AreHomes, AreStatus
 use Rattle.upd_mirror.proofs.KeyedLemmas.{any_gone, any_mapped, any_stays, apart_stay, filter_mapped, filter_twice, one_more, some_gone}
 use Rattle.upd_mirror.proofs.NameOrderLemmas.{alike, one_by_order, turned}
 
-and_left : (a b : Bool) → (a && b) ≡ true → a ≡ true
-and_left true b e = refl
-and_left false b e = e
-
 and_right : (a b : Bool) → (a && b) ≡ true → b ≡ true
 and_right true b e = e
 and_right false b e = absurd (cc)
