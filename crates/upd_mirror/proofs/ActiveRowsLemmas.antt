@@ -93,9 +93,6 @@ later_above n m [] le above = tt
 later_above n m (e ∷ es) le above = (omega (arith, le, above.0), later_above n m es le above.1)
 
 module _ (idents : List Ident) (states : List StateRow) where
-  abbrev Grown : Type 0
-  Grown = ActiveDeckView
-
   same_ident : (d : ActiveDeckView) (r : CardRow) → (with_active idents states r d).ident ≡ d.ident
   same_ident d r = go (is_active_in states r.card)
     where
@@ -118,9 +115,6 @@ module _ (idents : List Ident) (states : List StateRow) where
       ∙ own_rows (with_active idents states r d) rows more (subst (λ n. AllByRecursion (λ x. x.deck ≡ n) rows) (sym (same_ident d r)) own.1)
 
   module _ {Z : Type 0} where
-    abbrev Own : ℕ × Vec CardRow Z → Type 0
-    Own e = AllByRecursion (λ r. r.deck ≡ e.0) e.1.items
-
     -- behind a deck come the decks of higher ages
     later_decks : (d : ActiveDeckView) (es : List (ℕ × Vec CardRow Z)) → AllByRecursion (λ e. d.ident < e.0) es
         → IsStrictlySortedBy nat_cmp (keys_of es)
@@ -134,9 +128,6 @@ module _ (idents : List Ident) (states : List StateRow) where
       where
         some_age : (e.0 == 0) ≡ false
         some_age = let positive : d.ident < e.0 = above.0 in grind (arith, nat_tests)
-
-        More : List CardRow
-        More = flat_map (λ f. f.1.items) es
 
         go : (rows : List CardRow) → e.1.items ≡ rows → AllByRecursion (λ r. r.deck ≡ e.0) e.1.items
             → actives_from idents states d (flat_map (λ f. f.1.items) es) ≡ d ∷ shown_decks idents states es
@@ -181,9 +172,6 @@ module _ (idents : List Ident) (states : List StateRow) where
     decks_shown [] up own = refl
     decks_shown (e ∷ es) up own = go (e.0 == 0) refl
       where
-        none : ActiveDeckView
-        none = record { ident = 0; cards = [] }
-
         above : AllByRecursion (λ f. e.0 < f.0) es
         above = keys_above e.0 es (sorted_head nat_cmp e.0 (keys_of es) up)
 
@@ -272,9 +260,6 @@ kept_pass P test so (x ∷ xs) = go (test x) refl (kept_pass P test so xs)
     go false e rest = rest
 
 module _ {Z : Type 0} where
-  abbrev flat : List (ℕ × Vec CardRow Z) → List CardRow
-  flat es = flat_map (λ e. e.1.items) es
-
   between : (a : CardRow) (es : List (ℕ × Vec CardRow Z)) → AllByRecursion (λ e. a.deck < e.0) es → IsStrictlySortedBy nat_cmp (keys_of es)
       → AllByRecursion (λ e. AllByRecursion (λ r. r.deck ≡ e.0) e.1.items) es → AllByRecursion (λ e. rise_from 0 e.1.items ≡ true) es
       → Steps a (flat_map (λ e. e.1.items) es)
