@@ -4,4 +4,3 @@ mod MapRowsLemmas
 mod StatusRowLemmas
 mod MirrorLemmas
 mod LoadLemmas
-mod ActiveRowsLemmas

@@ -1,4 +1,3 @@
-pub mod ActiveRows
 pub mod RowsByKey
 pub mod Mirrored
 pub mod Overlaid

@@ -1,7 +1,6 @@
 //! The rows of a store, kept in memory beside it.
 #![tactic(auto)]
 
-mod active_rows;
 mod copies;
 mod from_memory;
 mod made;
