@@ -4,3 +4,4 @@ mod MapRowsLemmas
 mod StatusRowLemmas
 mod MirrorLemmas
 mod LoadLemmas
+mod ActiveRowsLemmas

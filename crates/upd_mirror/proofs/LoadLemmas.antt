@@ -141,6 +141,10 @@ flat_mapped : {A B C : Type 0} (f : B → List C) (g : A → B) (xs : List A) �
 flat_mapped f g [] = refl
 flat_mapped f g (x ∷ xs) = ap (λ rest. f (g x) ++ rest) (flat_mapped f g xs)
 
+-- a list in another order
+pub same_moved : {A : Type 0} (xs ys : List A) → IsPermutation xs ys → IsSame ys xs
+same_moved xs ys moved = record { passes = λ test. sum_by-IsPermutation (λ x. cond (test x) 1 0) xs ys moved }
+
 -- what is made of one element after the other, in another order
 pub same_in_turn : {A B C : Type 0} (f : B → List C) (g : A → B) (xs : List A) (ys : List B) → IsPermutation (map g xs) ys
     → IsSame (flat_map f ys) (flat_map (λ x. f (g x)) xs)

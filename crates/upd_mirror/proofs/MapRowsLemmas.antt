@@ -151,7 +151,7 @@ module _ {K V R : Type 0} {cmp : K → K → Ordering} (total : IsTotalOrder cmp
   none_later k e (f ∷ es) one above =
       ap (λ b. cond b (Some f.1) (lookup (is_at (cmp k)) es)) (ap (λ j. is_eq (cmp j f.0)) one ∙ ap is_eq above.0) ∙ none_later k e es one above.1
 
-  flat_at : (p : K → Bool) (k : K) (es : List (K × V)) → IsStrictlySortedBy cmp (keys_of es)
+  pub flat_at : (p : K → Bool) (k : K) (es : List (K × V)) → IsStrictlySortedBy cmp (keys_of es)
       → AllByRecursion (λ e. filter (has e.0) (rows e.0 e.1) ≡ rows e.0 e.1) es
       → filter (has k) (flat_map (λ e. cond (p e.0) (rows e.0 e.1) []) es) ≡ cond (p k) (option_map_or (rows k) (lookup (is_at (cmp k)) es) []) []
   flat_at p k [] up own = same_either (p k) []

@@ -1,3 +1,4 @@
+pub mod ActiveRows
 pub mod RowsByKey
 pub mod Mirrored
 pub mod Overlaid

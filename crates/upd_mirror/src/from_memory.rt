@@ -17,6 +17,7 @@ ghost use Rattle.upd_row_store.specs.PartRows.{AreOfDistinctCards, part_rows};
 ghost use Rattle.upd_row_store.specs.Tables.{AreByKey, AreRead, AreReadOf};
 ghost use Rattle.upd_mirror.specs.Mirrored.{Agrees};
 
+use crate::active_rows::{active_decks, all_by_place, are_in_order};
 use crate::copies::{
     all_cards, all_entries, all_states, card_count, cards_by_name, cards_of, entries_of, homes_of,
 };
@@ -27,7 +28,8 @@ use std::collections::BTreeMap;
 use upd_core::{Actives, CardRef, Library, Serial, States};
 use upd_records::LibraryRows;
 use upd_row_store::{
-    assembled, assembled_active, assembled_with_rest, decks_by_age, states_by_key,
+    assembled, assembled_active, assembled_with_rest, by_age, decks_by_age, held_ages,
+    states_by_key,
 };
 
 /// The cards of a map with their statuses.
@@ -178,6 +180,21 @@ impl Mirror {
 
     /// The active cards, by the statuses; memory alone can fail.
     pub(crate) fn actives(&self, alloc: Global) -> Result<Actives, AllocError>
+        ensures { (rows : Rows) → Agrees self.now rows → (l : LibraryView) → IsSound l → Shows rows l
+            → ShowsStates rows l → IfOk result (λ found. found ≡ actives_of l) }
+    {
+        if !all_by_place(&self.decks) {
+            return self.actives_sorted(alloc);
+        }
+        are_in_order(&self.statuses);
+        let idents = by_age(Vec::from_slice(alloc, &self.idents)?);
+        let ages = held_ages(alloc, &idents)?;
+        let decks = active_decks(alloc, &self.decks, &ages, &self.statuses)?;
+        Ok(Actives { idents, decks })
+    }
+
+    /// The same of cards in any order: they are copied and sorted.
+    fn actives_sorted(&self, alloc: Global) -> Result<Actives, AllocError>
         ensures { (rows : Rows) → Agrees self.now rows → (l : LibraryView) → IsSound l → Shows rows l
             → ShowsStates rows l
             → IfOk result (λ found. found ≡ actives_of l) }

@@ -1,6 +1,7 @@
 //! The rows of a store, kept in memory beside it.
 #![tactic(auto)]
 
+mod active_rows;
 mod copies;
 mod from_memory;
 mod made;

@@ -8,6 +8,6 @@ mod PlaceLemmas
 mod AssembleLemmas
 pub mod HolderLemmas
 pub mod KeyLemmas
-mod ActiveLemmas
+pub mod ActiveLemmas
 mod RestLemmas
 pub mod AskedLemmas

@@ -19,7 +19,7 @@ use upd_core::{Card, CardRef, Deck, Entry, Ident, Library, Rest, Serial, Target}
 use upd_records::{CardRow, EntryRow, LibraryRows, TargetRow};
 use upd_text::Name;
 
-pub(crate) fn by_age(idents: Vec<Ident>) -> Vec<Ident>
+pub fn by_age(idents: Vec<Ident>) -> Vec<Ident>
     ensures permutation { IsPermutation idents.items result.items }
     ensures sorted { AreByAge result.items }
 {
@@ -100,7 +100,7 @@ fn targets_of(alloc: Global, rows: &[TargetRow], card: &CardRef) -> Result<Vec<T
 }
 
 /// The ages of held idents, by name.
-pub(crate) fn held_ages(
+pub fn held_ages(
     alloc: Global,
     idents: &[Ident],
 ) -> Result<BTreeMap<Name, Serial>, AllocError>
@@ -117,7 +117,7 @@ pub(crate) fn held_ages(
 }
 
 /// The serial of the held ident of a name, 0 where no ident has it.
-pub(crate) fn age_of(ages: &BTreeMap<Name, Serial>, name: &Name) -> Serial
+pub fn age_of(ages: &BTreeMap<Name, Serial>, name: &Name) -> Serial
     ensures { (idents : List Ident) → AreAgesOf idents ages.now → result ≡ age_named idents name.now }
 {
     match ages.get(name) {

@@ -1,14 +1,24 @@
-use Rattle.std.proofs.Common.{◌∙◌, subst, sym}
+use Rattle.std.proofs.Common.{◌≡◌, true, ◌∙◌, map, subst, sym, arith}
+use Rattle.std.proofs.lemmas.Grind.{common_steps}
+use Rattle.upd_records.proofs.CountLemmas.{same_trans}
 use Rattle.upd_records.specs.Rows.{IsSame}
-use Rattle.upd_mirror.proofs.LoadLemmas.{cards_all}
+use Rattle.upd_row_store.specs.Assembling.{AreAgesOf}
+use Rattle.upd_mirror.specs.Mirrored.{state_row}
+use Rattle.upd_mirror.proofs.ActiveRowsLemmas.{actives_shown}
+use Rattle.upd_mirror.proofs.LoadLemmas.{same_moved}
 use Rattle.upd_mirror.proofs.StatusRowLemmas.{statuses_same}
 use Rattle.upd_mirror.proofs.mirror.Mirror.actives.Goals as goal
 
 pub returns : goal.returns
 returns c = λ rows are l sound shows shown.
-    c.in_ok-actives.ensures rows l sound shows shown
-    (subst (λ xs. IsSame xs rows.idents) (sym (c.in_ok-idents.ensures.items ∙ c.deref.ensures.value)) are.idents)
-    (subst (λ xs. IsSame xs rows.cards) (sym c.in_ok-cards.ensures.rows)
-    (cards_all c.args.self.now.decks rows.cards c.in_ok-cards.ensures.ordered are.cards))
-    (subst (λ xs. IsSame xs rows.states) (sym c.in_ok-states.ensures.rows)
-    (statuses_same c.args.self.now.statuses rows.states c.in_ok-states.ensures.ordered are.states))
+    let was = c.args.self.now in
+    let idents = c.by_age-idents.result.items in
+    let yes : c.all_by_place.result ≡ true = grind (arith, common_steps) in
+    let same = same_trans (same_moved _ idents c.by_age-idents.ensures.permutation)
+    (subst (λ xs. IsSame xs rows.idents) (sym (c.in_ok-from_slice.ensures.items ∙ c.deref.ensures.value)) are.idents) in
+    let ages = subst (λ xs. AreAgesOf xs c.in_ok-ages.ages) c.deref-2.ensures.value c.in_ok-ages.ensures in
+    let decks = c.in_ok-decks.ensures.decks idents ages c.are_in_order.ensures in
+    (λ i. record { idents = idents; decks = decks i })
+    ∙ actives_shown was.decks idents (map state_row was.statuses.entries) rows l c.in_ok-decks.ensures.ordered are.cards
+    (sym c.all_by_place.ensures ∙ yes) same
+    c.by_age-idents.ensures.sorted (statuses_same was.statuses rows.states c.are_in_order.ensures are.states) sound shows shown

@@ -1,0 +1,27 @@
+-- The active cards of decks whose rows are in memory.
+use Rattle.std.specs.Prelude.{ℕ, ◌==◌, nat_le, Bool, true, ◌&&◌, ◌||◌, if◌then◌else◌, List, [], ◌∷◌, length}
+use Rattle.std.specs.List.{flat_map}
+use Rattle.std.specs.declared.vec.Vec.{Vec}
+use Rattle.upd_core.specs.Actives.{ActiveDeckView}
+use Rattle.upd_core.specs.declared.ident.Ident.{Ident}
+use Rattle.upd_records.specs.Rows.{CardRow, StateRow}
+use Rattle.upd_row_store.specs.Activating.{with_active}
+
+-- whether rows are by their places, the first one at `place` or later
+abbrev pub rise_from : ℕ → List CardRow → Bool
+rise_from place [] = true
+rise_from place (r ∷ rows) = nat_le place r.pos && rise_from r.pos rows
+
+module _ (idents : List Ident) (states : List StateRow) where
+  -- a deck with the active ones of these cards
+  abbrev pub with_rows : ActiveDeckView → List CardRow → ActiveDeckView
+  with_rows d [] = d
+  with_rows d (r ∷ rows) = with_rows (with_active idents states r d) rows
+
+  -- the active cards of a deck; none of a deck without cards, and of `YANK$$$`
+  abbrev pub shown_deck : ℕ → List CardRow → List ActiveDeckView
+  shown_deck age rows = if (age == 0) || (length rows == 0) then [] else with_rows (record { ident = age; cards = [] }) rows ∷ []
+
+  -- the active cards of all decks but `YANK$$$`
+  abbrev pub shown_decks : {Z : Type 0} → List (ℕ × Vec CardRow Z) → List ActiveDeckView
+  shown_decks es = flat_map (λ e. shown_deck e.0 e.1.items) es
