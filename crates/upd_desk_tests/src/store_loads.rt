@@ -3,7 +3,7 @@ use crate::empty_stores::{Fresh, adopted};
 use sqlite::MemStore;
 use std::alloc::Global;
 use std::test::Fail;
-use upd_core::{CardRef, Library, States};
+use upd_core::{CardRef, Library, States, Target};
 use upd_list_store::ListStore;
 use upd_row_store::RowStore;
 use upd_store::SqlStore;
@@ -13,6 +13,7 @@ use upd_testkit::check::{same, same_text};
 use upd_testkit::loaded_names::{decks_of_cards, loaded_names, replayed_names};
 use upd_testkit::reference_rows::{add_library, joined};
 use upd_testkit::session::Session;
+use upd_yank::Cache;
 
 /// A library after runs, in a store.
 fn after<S: Fresh>(alloc: Global, runs: &[&str]) -> Result<Session<S>, Fail> {
@@ -205,18 +206,71 @@ fn counts<S: Fresh>(alloc: Global) -> Result<(), Fail> {
     same_text("many cards", many.as_str(), wanted)
 }
 
+/// Sets V and W yank X; then V's yank card goes, W's goes, and V's comes again.
+const TWO_YANKS: [&str; 7] = [
+    "*DECK A\nONE\nTWO\nTHREE\n",
+    "*IDENT X\n*DELETE A.2\nNEW\n",
+    "*IDENT V\n*YANK X\n",
+    "*IDENT W\n*YANK X\n",
+    "*IDENT U\n*DELETE V.1\n",
+    "*IDENT T\n*DELETE W.1\n",
+    "*IDENT S\n*RESTORE V.1\n",
+];
+
+/// The counts that a store loads, and the count of set X that a cache has of what the store loads and of its library.
+fn loaded_counts<S: RowStore>(alloc: Global, store: &mut S) -> Result<(String, [u32; 2]), Fail> {
+    let states = store.load_states(alloc)?;
+    let loaded = Cache::of_rows(alloc, &states)?;
+    let library = store.load(alloc)?;
+    let built = Cache::build(alloc, &library)?;
+    let counts = [loaded.count(Target::Set(2)), built.count(Target::Set(2))];
+    Ok((count_lines(alloc, &states)?, counts))
+}
+
+/// The counts of live yank cards, a line each.
+fn count_lines(alloc: Global, states: &States) -> Result<String, Fail> {
+    let mut text = String::new(alloc);
+    for (target, count) in &states.counts {
+        write!(text, "{target:?}: {count}\n")?;
+    }
+    Ok(text)
+}
+
+/// After so many runs, these are the counts.
+fn is_counted<S: Fresh>(
+    alloc: Global,
+    runs: &[&str],
+    count: u32,
+    wanted: &str,
+) -> Result<(), Fail> {
+    let mut store = after::<S>(alloc, runs)?.desk.close();
+    let (text, counts) = loaded_counts(alloc, &mut store)?;
+    same_text("the counts", text.as_str(), wanted)?;
+    same("loaded, built", &counts, &[count, count])
+}
+
+fn counts_yanks<S: Fresh>(alloc: Global) -> Result<(), Fail> {
+    is_counted::<S>(alloc, &TWO_YANKS[..4], 2, "Set(2): 2\n")?;
+    is_counted::<S>(alloc, &TWO_YANKS[..5], 1, "Set(2): 1\n")?;
+    is_counted::<S>(alloc, &TWO_YANKS[..6], 0, "")?;
+    is_counted::<S>(alloc, &TWO_YANKS, 1, "Set(2): 1\n")?;
+    is_counted::<S>(alloc, &CHAIN, 1, "Set(2): 1\n")
+}
+
 #[test]
 fn lists_load_what_was_committed(rt: HostRuntime) -> Result<(), Fail> {
     loads::<ListStore>(rt.alloc())?;
     reads::<ListStore>(rt.alloc())?;
-    counts::<ListStore>(rt.alloc())
+    counts::<ListStore>(rt.alloc())?;
+    counts_yanks::<ListStore>(rt.alloc())
 }
 
 #[test]
 fn tables_of_sqlite_load_what_was_committed(rt: HostRuntime) -> Result<(), Fail> {
     loads::<SqlStore<MemStore>>(rt.alloc())?;
     reads::<SqlStore<MemStore>>(rt.alloc())?;
-    counts::<SqlStore<MemStore>>(rt.alloc())
+    counts::<SqlStore<MemStore>>(rt.alloc())?;
+    counts_yanks::<SqlStore<MemStore>>(rt.alloc())
 }
 
 /// The rows of a store's library, the mark of a site, and whether its first run is stored.

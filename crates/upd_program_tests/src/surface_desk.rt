@@ -188,7 +188,8 @@ const EMPTY: Arrival<'static> = Arrival {
 
 #[test]
 fn a_list_of_runs_is_answered(rt: HostRuntime) -> Result<(), Fail> {
-    let answers = desk(rt.alloc())?.run_all(rt.alloc(), &[EMPTY, EMPTY])?;
+    let mut desk = Desk::open(made(rt.alloc())?);
+    let answers = desk.run_all(rt.alloc(), &[EMPTY, EMPTY])?;
     let mut accepted: u32 = 0;
     for answer in &answers {
         accepted = accepted.saturating_add(u32::from(answer.is_ok()));

@@ -12,6 +12,7 @@ use upd_core::{Library, Serial};
 use upd_deck::read_run;
 use upd_testkit::applying::{card_ref, name};
 use upd_testkit::check::same_text;
+use upd_testkit::reference_rows::{add_library, joined};
 use upd_text::Fault;
 
 /// The run that introduces deck A with three lines.
@@ -22,7 +23,9 @@ pub const DECK_A: &str = "*DECK A\nONE\nTWO\nTHREE\n";
 pub enum Ask<'a> {
     /// A run: "accepted", or its fault.
     Run(&'a str),
-    /// The same for a run that is made of parts.
+    /// A run that is refused: its fault. The library stays as a copy of it was.
+    Refused(&'a str),
+    /// The same as `Run` for a run that is made of parts.
     Long(&'a [Part<'a>]),
     /// A run: the serials that it introduced and those to compile, and the cards that it touched.
     Applied(&'a str),
@@ -74,6 +77,7 @@ impl AskedLibrary {
     fn answer(&mut self, ask: Ask<'_>) -> Result<String, Fail> {
         match ask {
             Ask::Run(run) => self.run(run),
+            Ask::Refused(run) => self.refused(run),
             Ask::Long(parts) => self.long(parts),
             Ask::Applied(run) => self.applied(run),
             Ask::Changed(run) => self.changed(run),
@@ -103,6 +107,13 @@ impl AskedLibrary {
             Ok(_) => Ok(String::from_str(self.alloc(), "accepted")?),
             Err(fault) => fault_text(self.alloc(), fault),
         }
+    }
+
+    fn refused(&mut self, text: &str) -> Result<String, Fail> {
+        let before = rows_of(&self.library.copy()?)?;
+        let fault = self.run(text)?;
+        same_text(text, rows_of(&self.library)?.as_str(), before.as_str())?;
+        Ok(fault)
     }
 
     fn long(&mut self, parts: &[Part<'_>]) -> Result<String, Fail> {
@@ -158,6 +169,14 @@ impl AskedLibrary {
         purge_back(&mut self.library, age);
         Ok(String::new(self.alloc()))
     }
+}
+
+/// The rows of a library, as sorted lines.
+fn rows_of(library: &Library) -> Result<String, Fail> {
+    let alloc = library.allocator();
+    let mut lines = Vec::new(alloc);
+    add_library(&mut lines, library)?;
+    joined(alloc, lines)
 }
 
 fn fault_text(alloc: Global, fault: Fault) -> Result<String, Fail> {

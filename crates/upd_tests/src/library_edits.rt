@@ -5,7 +5,7 @@ use std::test::Fail;
 use upd_compile::{Mode, compile_active};
 use upd_core::ident::name_at;
 use upd_core::{Card, Deck, Entry, Kind, Library, Live, Place, Serial, Target};
-use upd_testkit::applying::{card_ref, name};
+use upd_testkit::applying::{applied, card_ref, name};
 use upd_testkit::check::same;
 use upd_text::limits::MAX_INTRODUCED;
 use upd_text::{CardRef, Fault};
@@ -218,6 +218,20 @@ fn check_taken(live: &Live<'_>, card: &Card) -> Result<(), Fail> {
     same("taken", &taken, &[true, false])?;
     let active = [live.is_good(1, card), live.is_active(1, card)];
     same("active", &active, &[false, false])
+}
+
+/// Whether the yanks of a library take a set, and one of its cards is a live yank card.
+fn taken(library: &Library) -> Result<(bool, Option<bool>), Fail> {
+    let live = library.live_yanks()?;
+    Ok((live.is_taken(1, 2), live.live_yank(card_ref("Y.1")?)))
+}
+
+#[test]
+fn a_library_without_yanks_has_no_live_ones(rt: HostRuntime) -> Result<(), Fail> {
+    let mut library = Library::new(rt.alloc());
+    same("empty", taken(&library)?, (false, None))?;
+    applied(&mut library, "*DECK A\nONE\n*IDENT X\n*DELETE A.2\n")?;
+    same("without yanks", taken(&library)?, (false, None))
 }
 
 #[test]

@@ -58,11 +58,11 @@ fn purges_that_are_refused(rt: HostRuntime) -> Result<(), Fail> {
     const ASKED: Asked = &[
         (Ask::Run(DECK_A), "accepted"),
         (Ask::Run("*IDENT X\n*INSERT A.2\nNEW\n"), "accepted"),
-        (Ask::Run("*PURGE X.A\n"), "RangeOrder (14) at 1"),
-        (Ask::Run("*SELPURGE A.A\n"), "DeckCard (15) at 1"),
-        (Ask::Run("*PURGE YANK$$$\n"), "Reserved (18) at 1"),
-        (Ask::Run("*PURGE *\n"), "BadName (5) at 1"),
-        (Ask::Run("*PURGE X\n*DELETE A.2\n"), "NoIdent (8) at 2"),
+        (Ask::Refused("*PURGE X.A\n"), "RangeOrder (14) at 1"),
+        (Ask::Refused("*SELPURGE A.A\n"), "DeckCard (15) at 1"),
+        (Ask::Refused("*PURGE YANK$$$\n"), "Reserved (18) at 1"),
+        (Ask::Refused("*PURGE *\n"), "BadName (5) at 1"),
+        (Ask::Refused("*PURGE X\n*DELETE A.2\n"), "NoIdent (8) at 2"),
         (Ask::Active, "A.2 X.1 A.3 A.4"),
     ];
     check(rt.alloc(), ASKED)
