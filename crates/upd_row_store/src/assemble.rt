@@ -100,10 +100,7 @@ fn targets_of(alloc: Global, rows: &[TargetRow], card: &CardRef) -> Result<Vec<T
 }
 
 /// The ages of held idents, by name.
-pub fn held_ages(
-    alloc: Global,
-    idents: &[Ident],
-) -> Result<BTreeMap<Name, Serial>, AllocError>
+pub fn held_ages(alloc: Global, idents: &[Ident]) -> Result<BTreeMap<Name, Serial>, AllocError>
     ensures { IfOk result (λ ages. AreAgesOf idents.now ages) }
 {
     let mut ages = BTreeMap::new(alloc);
