@@ -3,8 +3,7 @@ use std::alloc::Global;
 use std::test::Fail;
 use upd_desk::Desk;
 use upd_list_store::ListStore;
-use upd_row_store::RowStore;
-use upd_testkit::check::{holds, same};
+use upd_testkit::check::{holds, same_text};
 use upd_text::{Fault, FaultKind};
 
 /// What is asked of a desk: a run of the site LYON, with its number and mode; a settlement; a listing.
@@ -95,7 +94,7 @@ impl Twins {
         (Twins { first, second }, answer)
     }
 
-    /// Asks the first, and once more if memory is refused: both show the same then.
+    /// Asks the first, and once more if memory is refused: both have the same rows then.
     fn ask_first(self, alloc: Global, asked: Ask<'_>) -> Result<(Twins, Answer), Fail> {
         let (twins, answer) = self.put_first(alloc, asked);
         if answer.is_lost() {
@@ -115,41 +114,11 @@ impl Twins {
         Ok((Twins { first, second }, answer))
     }
 
-    /// Both give the same listing.
-    fn list_alike(self, alloc: Global, asked: Ask<'_>) -> Result<Twins, Fail> {
-        let (first, answer) = put_again(alloc, self.first, asked);
-        let (second, wanted) = put_again(alloc, self.second, asked);
-        holds(asked, answer.is(&wanted))?;
-        Ok(Twins { first, second })
-    }
-
-    /// Both show the same library, and the same runs are known to both.
+    /// Both have the same rows in all tables.
     pub fn are_alike(self, alloc: Global) -> Result<Twins, Fail> {
-        let mut twins = self;
-        for asked in [Ask::Idents, Ask::Yanks, Ask::Compile] {
-            twins = twins.list_alike(alloc, asked)?;
-        }
-        twins.have_the_same_mark(alloc)?;
-        twins.know_the_same(alloc)?;
-        Ok(twins)
-    }
-
-    fn have_the_same_mark(&mut self, alloc: Global) -> Result<(), Fail> {
-        let first = self.first.mark(alloc, "LYON")?;
-        let second = self.second.mark(alloc, "LYON")?;
-        same("the mark", &first, &second)
-    }
-
-    fn know_the_same(&mut self, alloc: Global) -> Result<(), Fail> {
-        for number in 1..=9 {
-            let first = self.first.kept_run(alloc, "LYON", number)?;
-            let second = self.second.kept_run(alloc, "LYON", number)?;
-            same(
-                "a run",
-                (number, first.is_some()),
-                (number, second.is_some()),
-            )?;
-        }
-        Ok(())
+        let first = format!(in alloc; "{:?}", self.first.tables())?;
+        let second = format!(in alloc; "{:?}", self.second.tables())?;
+        same_text("the tables", first.as_str(), second.as_str())?;
+        Ok(self)
     }
 }
