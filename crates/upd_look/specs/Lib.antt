@@ -1,1 +1,3 @@
 pub mod Blame
+pub mod IdentReport
+pub mod Replaced

@@ -5,6 +5,11 @@
 
 mod appending;
 pub mod deck_blame;
+pub mod ident_report;
 mod idents_by_serial;
+mod target_lines;
+pub mod worked_looks;
 
 pub use deck_blame::blame;
+pub use ident_report::show;
+pub use worked_looks::a_replaced_card_is_seen;
