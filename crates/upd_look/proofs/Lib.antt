@@ -1,0 +1,2 @@
+mod EscapeLemmas
+pub mod ExplainLemmas

@@ -1,3 +1,5 @@
 pub mod Blame
 pub mod IdentReport
+pub mod FaultTexts
+pub mod Escaped
 pub mod Replaced

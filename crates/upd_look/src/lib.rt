@@ -5,11 +5,15 @@
 
 mod appending;
 pub mod deck_blame;
+pub mod escaping;
+pub mod fault_texts;
 pub mod ident_report;
 mod idents_by_serial;
 mod target_lines;
 pub mod worked_looks;
 
 pub use deck_blame::blame;
+pub use escaping::escaped_texts_have_no_markup;
+pub use fault_texts::{each_fault_has_one_text, explain};
 pub use ident_report::show;
 pub use worked_looks::a_replaced_card_is_seen;
