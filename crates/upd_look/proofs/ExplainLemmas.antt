@@ -1,5 +1,5 @@
 -- Each fault is found by its name and by its number, and its text begins with both.
-use Rattle.std.proofs.Common.{◌≡◌, ◌<◌, ◌++◌, arith, List, [], ◌∷◌, ℕ, Bool, true, false, Option, Some, None, IsTrue, IsSome, if◌then◌else◌, refl, sym, subst}
+use Rattle.std.proofs.Common.{◌≡◌, ◌<◌, ◌++◌, arith, List, [], ◌∷◌, ℕ, Bool, true, false, Option, Some, IsTrue, IsSome, if◌then◌else◌, refl, sym, subst}
 use Rattle.std.specs.Prelude.{codes, decimal}
 use Rattle.std.specs.Fmt.{digits}
 use Rattle.std.specs.Option.{option_map}

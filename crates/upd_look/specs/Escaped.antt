@@ -1,6 +1,6 @@
 -- Texts in HTML.
 use Rattle.std.specs.Prelude.{◌==◌, Bool, true, false, not, ◌&&◌, ◌||◌, if◌then◌else◌, [], ◌∷◌, codes}
-use Rattle.std.specs.List.{flat_map, list_any}
+use Rattle.std.specs.List.{flat_map}
 use Rattle.upd_text.specs.Units.{Byte, Bytes}
 
 -- a byte of a text, or the entity that stands for it

@@ -1,5 +1,5 @@
 -- What an ident did: the cards that it added, what it switched, and what yanks it.
-use Rattle.std.specs.Prelude.{ℕ, ◌==◌, Bool, if◌then◌else◌, List, [], ◌∷◌, ◌++◌, codes, drop, length, Result, Ok}
+use Rattle.std.specs.Prelude.{◌==◌, Bool, if◌then◌else◌, List, [], ◌∷◌, ◌++◌, codes, drop, length, Result, Ok}
 use Rattle.std.specs.List.{filter, flat_map}
 use Rattle.upd_text.specs.declared.fault.Fault.{Fault}
 use Rattle.upd_text.specs.declared.fault.FaultKind.TheVariants.{IdentUnknown}

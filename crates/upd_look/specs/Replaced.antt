@@ -1,7 +1,6 @@
 -- The libraries of the examples: deck A of three lines, set X that replaces the first of them, and set Y that yanks X.
-use Rattle.std.specs.Prelude.{true, false, List, [], ◌∷◌, codes}
+use Rattle.std.specs.Prelude.{true, false, [], ◌∷◌, codes}
 use Rattle.upd_text.specs.Units.{Bytes, Number}
-use Rattle.upd_core.specs.declared.card.Entry.{Entry}
 use Rattle.upd_core.specs.declared.ident.Ident.{Ident}
 use Rattle.upd_core.specs.declared.ident.Kind.{Kind}
 use Rattle.upd_core.specs.declared.ident.Kind.TheVariants as kind

@@ -110,10 +110,10 @@ pub const FAULT_TEXTS: [&str; 33] = [
         from: reading the run; at the line\n\
         do: break the line\n",
     "BadName (5): a field is not a name, a pair or a range of names\n\
-        from: reading the run; at the line\n\
+        from: reading the run, at the line; or a question, at 0\n\
         do: compare the line with docs/rules.md, section 2; over HTTP, check that the client sent the line ends\n",
     "BadCard (6): a field is not a card reference\n\
-        from: reading the run; at the line\n\
+        from: reading the run, at the line; or a question, at 0\n\
         do: write the name, a point and the number, as A.2\n",
     "BadField (7): there is a field too many or too few, an empty one, or a second of *COMDECK other than NOPROP\n\
         from: reading the run; at the line\n\
@@ -170,7 +170,7 @@ pub const FAULT_TEXTS: [&str; 33] = [
         from: an arrival or a settlement; at 0\n\
         do: correct the command or the path; nothing was stored\n",
     "BadMode (25): the mode isn't full, quick or normal\n\
-        from: an arrival; at 0\n\
+        from: an arrival, or a run that is tried; at 0\n\
         do: correct the command or the path; nothing was stored\n",
     "RunChanged (26): the number was used for another run or mode\n\
         from: an arrival; at 0\n\
