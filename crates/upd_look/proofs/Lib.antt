@@ -1,2 +1,3 @@
+mod BlameLemmas
 mod EscapeLemmas
 pub mod ExplainLemmas

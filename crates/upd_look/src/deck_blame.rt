@@ -1,8 +1,11 @@
 //! Who switched the cards of a deck last.
 
-ghost use Rattle.std.specs.Prelude.{◌≡◌, ◌++◌, IfOk, OnOk};
+ghost use Rattle.std.specs.Prelude.{◌≡◌, ◌≤◌, ◌+◌, ◌++◌, ℕ, List, decimal, length, IfOk, OnOk};
 ghost use Rattle.std.specs.List.{flat_map};
 ghost use Rattle.std.specs.Result.{IsOkUnless};
+ghost use Rattle.upd_core.specs.Library.{CardView, name_of};
+ghost use Rattle.upd_core.specs.declared.ident.Ident.{Ident};
+ghost use Rattle.upd_core.specs.declared.target.Target.{Target};
 ghost use Rattle.upd_look.specs.Blame.{blame, blame_line, blame_lines, switcher};
 ghost use Rattle.upd_text.specs.Faults.{fault_at};
 ghost use Rattle.upd_text.specs.Outcome.{GivesAt};
@@ -95,3 +98,11 @@ fn switcher(live: &Live, deck: Serial, card: &Card) -> Serial
     }
     last
 }
+
+/// Where names have at most 9 bytes and the card's number at most 6 digits, the columns in front of a card's text have
+/// 32 bytes: texts begin in one column.
+pub fn texts_begin_in_one_column()
+    ensures { (idents : List Ident) (live : List Target) (deck : ℕ) (c : CardView) → length (name_of idents c.ident) ≤ 9
+        → length (decimal c.number) ≤ 6 → length (name_of idents (switcher live deck c)) ≤ 9
+        → length (blame_line idents live deck c) ≡ 33 + length c.text }
+{}

@@ -14,7 +14,7 @@ pub mod library_page;
 mod target_lines;
 pub mod worked_looks;
 
-pub use deck_blame::blame;
+pub use deck_blame::{blame, texts_begin_in_one_column};
 pub use escaping::escaped_texts_have_no_markup;
 pub use fault_texts::{each_fault_has_one_text, explain};
 pub use ident_report::show;
