@@ -1,0 +1,3 @@
+mod BlameLemmas
+mod EscapeLemmas
+pub mod ExplainLemmas

@@ -1,0 +1,6 @@
+pub mod Blame
+pub mod IdentReport
+pub mod FaultTexts
+pub mod Escaped
+pub mod LibraryPage
+pub mod Replaced
