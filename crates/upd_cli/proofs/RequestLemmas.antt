@@ -7,7 +7,7 @@ use Rattle.upd_cli.specs.Inputs.{IsHandIn, IsSpoolCommand}
 use Rattle.upd_cli.specs.Words.{IsAskedBy, IsAskedFor, IsRequest, command_word, operand_word, upd_app, word_faults}
 use Rattle.upd_cli.specs.declared.words.Asked.{Asked}
 use Rattle.upd_cli.specs.declared.words.Asked.TheVariants as asks
-use Rattle.upd_cli.specs.declared.words.Request.TheVariants.{Trial, Library, Serve, Correct}
+use Rattle.upd_cli.specs.declared.words.Request.TheVariants.{Trial, Library, Serve, Correct, Explain}
 
 -- a trial's mode is the operand of that name
 pub trial_mode : (words : List Text) (mode : Bor (List ℕ)) → IsAskedFor words (Trial mode) → mode.now ≡ operand_word (codes "MODE") words
@@ -46,6 +46,15 @@ correct_command words file set asked = of (subcommand_of upd_app words) asked.1
     of None is = absurd is
     of (Some (name, rows)) is = is.0
 
+-- nor is an explanation
+pub explain_command : (words : List Text) (fault : Bor (List ℕ)) → IsAskedFor words (Explain fault) → command_word words ≡ codes "explain"
+explain_command words fault asked = of (subcommand_of upd_app words) asked.1
+  where
+    of : (command : Option (Text × List Row)) → IsSomeAnd command (λ found. IsRequest found (Explain fault))
+        → unwrap_or (option_map (λ c. c.0) command) [] ≡ codes "explain"
+    of None is = absurd is
+    of (Some (name, rows)) is = is.0
+
 pub none_of : {X : Type 0} (o : Option X) → ¬ (o ≢ None) → o ≡ None
 none_of None some = refl
 none_of {X} (Some x) some = absurd (some (λ is. subst (λ (o : Option X). IsSomeAnd o (λ _. Unit {0})) is tt))
@@ -67,6 +76,9 @@ not_trial rows asks.Spool is = begins_otherwise (codes "spool") (λ (e : 116 ≡
 not_trial rows asks.Compile is = begins_otherwise (codes "compile") (λ (e : 116 ≡ 99). omega (arith, e)) is
 not_trial rows (asks.List deck) is = begins_otherwise (codes "list") (λ (e : 116 ≡ 108). omega (arith, e)) is.0
 not_trial rows (asks.History card) is = begins_otherwise (codes "history") (λ (e : 116 ≡ 104). omega (arith, e)) is.0
+not_trial rows (asks.Blame deck) is = begins_otherwise (codes "blame") (λ (e : 116 ≡ 98). omega (arith, e)) is.0
+not_trial rows (asks.Show ident) is = begins_otherwise (codes "show") (λ (e : 116 ≡ 115). omega (arith, e)) is.0
+not_trial rows asks.Page is = begins_otherwise (codes "page") (λ (e : 116 ≡ 112). omega (arith, e)) is
 not_trial rows asks.Idents is = begins_otherwise (codes "idents") (λ (e : 116 ≡ 105). omega (arith, e)) is
 not_trial rows asks.Yanks is = begins_otherwise (codes "yanks") (λ (e : 116 ≡ 121). omega (arith, e)) is
 not_trial rows (asks.Text deck) is = goes_on_otherwise 1 (codes "text") (λ (e : 114 ≡ 101). omega (arith, e)) is.0
@@ -80,6 +92,9 @@ tells name rows (asks.Run site number mode) is may = inl is.0
 tells name rows asks.Spool is may = inr (inl is)
 tells name rows (asks.Try mode) is may = inr (inr is.0)
 tells name rows (asks.Text deck) is may = absurd may
+tells name rows (asks.Blame deck) is may = absurd may
+tells name rows (asks.Show ident) is may = absurd may
+tells name rows asks.Page is may = absurd may
 tells name rows (asks.Source deck) is may = absurd may
 tells name rows asks.Init is may = absurd may
 tells name rows (asks.Settle site number) is may = absurd may
@@ -93,6 +108,9 @@ tells name rows asks.Migrate is may = absurd may
 spools : (name : Text) (rows : List Row) (asked : Asked) → IsAskedBy name rows asked → IsSpoolCommand asked → name ≡ codes "spool"
 spools name rows asks.Spool is may = is
 spools name rows (asks.Text deck) is may = absurd may
+spools name rows (asks.Blame deck) is may = absurd may
+spools name rows (asks.Show ident) is may = absurd may
+spools name rows asks.Page is may = absurd may
 spools name rows (asks.Try mode) is may = absurd may
 spools name rows (asks.Source deck) is may = absurd may
 spools name rows asks.Init is may = absurd may

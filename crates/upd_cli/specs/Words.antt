@@ -10,7 +10,7 @@ use Rattle.clap.specs.declared.error.kind.ErrorKind.{ErrorKind}
 use Rattle.clap.specs.declared.error.kind.ErrorKind.TheVariants.{DisplayHelp, DisplayVersion}
 use Rattle.upd_cli.specs.Operands.{IsCount, SpellsCount}
 use Rattle.upd_cli.specs.declared.words.Request.{Request}
-use Rattle.upd_cli.specs.declared.words.Request.TheVariants.{Trial, Library, Serve, Correct, Shown, Unread}
+use Rattle.upd_cli.specs.declared.words.Request.TheVariants.{Trial, Library, Serve, Correct, Explain, Shown, Unread}
 use Rattle.upd_cli.specs.declared.words.Asked.{Asked}
 use Rattle.upd_cli.specs.declared.words.Asked.TheVariants as asks
 
@@ -42,13 +42,17 @@ upd_commands =
     ∷ (codes "compile", word_of (codes "FILE") ∷ [])
     ∷ (codes "list", word_of (codes "FILE") ∷ word_of (codes "DECK") ∷ [])
     ∷ (codes "history", word_of (codes "FILE") ∷ word_of (codes "CARD") ∷ [])
+    ∷ (codes "blame", word_of (codes "FILE") ∷ word_of (codes "DECK") ∷ [])
+    ∷ (codes "show", word_of (codes "FILE") ∷ word_of (codes "IDENT") ∷ [])
     ∷ (codes "idents", word_of (codes "FILE") ∷ [])
     ∷ (codes "yanks", word_of (codes "FILE") ∷ [])
+    ∷ (codes "page", word_of (codes "FILE") ∷ [])
     ∷ (codes "text", word_of (codes "FILE") ∷ word_of (codes "DECK") ∷ [])
     ∷ (codes "correct", word_of (codes "FILE") ∷ word_of (codes "SET") ∷ [])
     ∷ (codes "try", word_of (codes "FILE") ∷ word_of (codes "MODE") ∷ [])
     ∷ (codes "source", word_of (codes "FILE") ∷ word_of (codes "DECK") ∷ [])
     ∷ (codes "migrate", word_of (codes "FILE") ∷ [])
+    ∷ (codes "explain", word_of (codes "FAULT") ∷ [])
     ∷ []
 
 -- a name is that of one of these commands
@@ -96,8 +100,11 @@ IsAskedBy name rows asks.Spool = name ≡ codes "spool"
 IsAskedBy name rows asks.Compile = name ≡ codes "compile"
 IsAskedBy name rows (asks.List deck) = (name ≡ codes "list") × (deck.now ≡ operand_in (codes "DECK") rows)
 IsAskedBy name rows (asks.History card) = (name ≡ codes "history") × (card.now ≡ operand_in (codes "CARD") rows)
+IsAskedBy name rows (asks.Blame deck) = (name ≡ codes "blame") × (deck.now ≡ operand_in (codes "DECK") rows)
+IsAskedBy name rows (asks.Show ident) = (name ≡ codes "show") × (ident.now ≡ operand_in (codes "IDENT") rows)
 IsAskedBy name rows asks.Idents = name ≡ codes "idents"
 IsAskedBy name rows asks.Yanks = name ≡ codes "yanks"
+IsAskedBy name rows asks.Page = name ≡ codes "page"
 IsAskedBy name rows (asks.Text deck) = (name ≡ codes "text") × (deck.now ≡ operand_in (codes "DECK") rows)
 IsAskedBy name rows (asks.Try mode) = (name ≡ codes "try") × (mode.now ≡ operand_in (codes "MODE") rows)
 IsAskedBy name rows (asks.Source deck) = (name ≡ codes "source") × (deck.now ≡ operand_in (codes "DECK") rows)
@@ -116,6 +123,7 @@ IsRequest (name, rows) (Serve file address count) =
     × IsCount (operand_in (codes "COUNT") rows) count
 IsRequest (name, rows) (Correct file set) =
     (name ≡ codes "correct") × (file.now ≡ operand_in (codes "FILE") rows) × (set.now ≡ operand_in (codes "SET") rows)
+IsRequest (name, rows) (Explain fault) = (name ≡ codes "explain") × (fault.now ≡ operand_in (codes "FAULT") rows)
 IsRequest _ _ = ⊥
 
 -- a request for a text: help or the version

@@ -142,6 +142,34 @@ Example, after `upd init library.db`:
   upd history library.db A.2",
 };
 
+pub(crate) const BLAME: Text = Text {
+    about: "Lists the cards of a deck with who switched each of them last",
+    more: "\
+Reads nothing, and writes a line for each card: A (active) or I (inactive), the card, the set that
+switched it last and isn't yanked, and the text. Changes nothing.
+
+Exit status: 0 done; 1 DECK is not a name, or there is no such deck; 2 the command line can't be
+read; 3 out of memory, or the library or a write failed. The fault is one line on standard error.
+
+Example, after `upd init library.db`:
+  printf '*DECK A\\nONE\\n' | upd run library.db LYON 1 full
+  upd blame library.db A",
+};
+
+pub(crate) const SHOW: Text = Text {
+    about: "Shows what a deck or a correction set did: its cards, what it switched, what it yanks",
+    more: "\
+Reads nothing, and writes a line for each card that IDENT added, switched off or on, or yanks with,
+and for each live card that yanks it. Changes nothing.
+
+Exit status: 0 done; 1 IDENT is not a name, or nothing of this name is held; 2 the command line can't
+be read; 3 out of memory, or the library or a write failed. The fault is one line on standard error.
+
+Example, after `upd init library.db`:
+  printf '*DECK A\\nONE\\n' | upd run library.db LYON 1 full
+  upd show library.db A",
+};
+
 pub(crate) const IDENTS: Text = Text {
     about: "Lists all decks and correction sets, the oldest first, purged ones included",
     more: "\
@@ -164,6 +192,19 @@ failed. The fault is one line on standard error.
 
 Example, after `upd init library.db`:
   upd yanks library.db",
+};
+
+pub(crate) const PAGE: Text = Text {
+    about: "Writes the library as one page for a browser",
+    more: "\
+Reads nothing, and writes HTML that stands alone: the directory, the decks with their cards, each
+card's history at a click, and the yanks. There is no script in it. Changes nothing.
+
+Exit status: 0 done; 2 the command line can't be read; 3 out of memory, or the library or a write
+failed. The fault is one line on standard error.
+
+Example, after `upd init library.db`:
+  upd page library.db > library.html",
 };
 
 pub(crate) const TEXT: Text = Text {
@@ -241,4 +282,16 @@ of memory, or the library failed. The fault is one line on standard error.
 
 Example:
   upd migrate library.db",
+};
+
+pub(crate) const EXPLAIN: Text = Text {
+    about: "Explains a fault: what it means, where it comes from, and what to do",
+    more: "\
+Reads nothing, and writes three lines. FAULT is a fault's name or its number.
+
+Exit status: 0 done; 1 no fault has this name or number, which is BadName; 2 the command line can't
+be read; 3 out of memory, or a write failed. The fault is one line on standard error.
+
+Example:
+  upd explain Store",
 };

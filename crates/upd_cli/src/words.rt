@@ -40,6 +40,10 @@ pub enum Request<'a> {
         file: &'a str,
         set: &'a str,
     },
+    /// `explain FAULT`
+    Explain {
+        fault: &'a str,
+    },
     /// Help or the version, which goes to the output.
     Shown(String),
     /// The words are not read: why, for the fault stream.
@@ -67,8 +71,15 @@ pub enum Asked<'a> {
     History {
         card: &'a str,
     },
+    Blame {
+        deck: &'a str,
+    },
+    Show {
+        ident: &'a str,
+    },
     Idents,
     Yanks,
+    Page,
     Text {
         deck: &'a str,
     },
@@ -90,6 +101,8 @@ const SITE: Operand = ("SITE", "1 to 8 of A-Z and 0-9", ValueParser::String);
 
 const MODE: Operand = ("MODE", "full, quick or normal", ValueParser::String);
 
+const DECK: Operand = ("DECK", "the name of a deck", ValueParser::String);
+
 /// The number of connections that a command may serve.
 const COUNT_RANGE: ValueParser<'static> = ValueParser::Unsigned(1, 1_000_000);
 
@@ -97,8 +110,28 @@ const COUNT_RANGE: ValueParser<'static> = ValueParser::Unsigned(1, 1_000_000);
 fn commands<'a>(alloc: Global) -> Result<Command<'a>, AllocError>
     ensures { IfOk result (λ c. app_of c ≡ upd_app) }
 {
-    const DECK: Operand = ("DECK", "the name of a deck", ValueParser::String);
+    const FAULT: Operand = (
+        "FAULT",
+        "the name or the number of a fault",
+        ValueParser::String,
+    );
+    second_commands(alloc)?
+        .subcommand(command(alloc, "try", help::TRY, &[FILE, MODE])?)?
+        .subcommand(command(alloc, "source", help::SOURCE, &[FILE, DECK])?)?
+        .subcommand(command(alloc, "migrate", help::MIGRATE, &[FILE])?)?
+        .subcommand(command(alloc, "explain", help::EXPLAIN, &[FAULT])?)
+}
+
+/// The program with its first sixteen commands.
+fn second_commands<'a>(alloc: Global) -> Result<Command<'a>, AllocError>
+    ensures { IfOk result (λ c. app_of c ≡ app_with (take 16 upd_commands)) }
+{
     const CARD: Operand = ("CARD", "a card, as A.2", ValueParser::String);
+    const IDENT: Operand = (
+        "IDENT",
+        "the name of a deck or a correction set",
+        ValueParser::String,
+    );
     const SET: Operand = (
         "SET",
         "the name of a new correction set",
@@ -106,16 +139,16 @@ fn commands<'a>(alloc: Global) -> Result<Command<'a>, AllocError>
     );
     first_commands(alloc)?
         .subcommand(command(alloc, "history", help::HISTORY, &[FILE, CARD])?)?
+        .subcommand(command(alloc, "blame", help::BLAME, &[FILE, DECK])?)?
+        .subcommand(command(alloc, "show", help::SHOW, &[FILE, IDENT])?)?
         .subcommand(command(alloc, "idents", help::IDENTS, &[FILE])?)?
         .subcommand(command(alloc, "yanks", help::YANKS, &[FILE])?)?
+        .subcommand(command(alloc, "page", help::PAGE, &[FILE])?)?
         .subcommand(command(alloc, "text", help::TEXT, &[FILE, DECK])?)?
-        .subcommand(command(alloc, "correct", help::CORRECT, &[FILE, SET])?)?
-        .subcommand(command(alloc, "try", help::TRY, &[FILE, MODE])?)?
-        .subcommand(command(alloc, "source", help::SOURCE, &[FILE, DECK])?)?
-        .subcommand(command(alloc, "migrate", help::MIGRATE, &[FILE])?)
+        .subcommand(command(alloc, "correct", help::CORRECT, &[FILE, SET])?)
 }
 
-/// The program with the first half of its commands.
+/// The program with its first eight commands.
 fn first_commands<'a>(alloc: Global) -> Result<Command<'a>, AllocError>
     ensures { IfOk result (λ c. app_of c ≡ app_with (take 8 upd_commands)) }
 {
@@ -130,7 +163,7 @@ fn first_commands<'a>(alloc: Global) -> Result<Command<'a>, AllocError>
         "how many connections are served, 1 to 1000000",
         COUNT_RANGE,
     );
-    const DECK: Operand = (
+    const ANY_DECK: Operand = (
         "DECK",
         "the name of a deck, or YANK$$$",
         ValueParser::String,
@@ -143,7 +176,7 @@ fn first_commands<'a>(alloc: Global) -> Result<Command<'a>, AllocError>
         .subcommand(command(alloc, "spool", help::SPOOL, &[FILE])?)?
         .subcommand(command(alloc, "serve", help::SERVE, &[FILE, ADDRESS, COUNT])?)?
         .subcommand(command(alloc, "compile", help::COMPILE, &[FILE])?)?
-        .subcommand(command(alloc, "list", help::LIST, &[FILE, DECK])?)
+        .subcommand(command(alloc, "list", help::LIST, &[FILE, ANY_DECK])?)
 }
 
 /// The program before its first command.
@@ -217,6 +250,9 @@ fn read_request<'a>(matches: &ArgMatches<'a>) -> Request<'a>
             file: word(operands, "FILE"),
             set: word(operands, "SET"),
         },
+        Some(("explain", operands)) => Request::Explain {
+            fault: word(operands, "FAULT"),
+        },
         Some((name, operands)) => Request::Library {
             file: word(operands, "FILE"),
             asked: read_asked(name, operands),
@@ -228,7 +264,8 @@ fn read_request<'a>(matches: &ArgMatches<'a>) -> Request<'a>
 /// What a command asks of a library.
 fn read_asked<'a>(name: &str, operands: &ArgMatches<'a>) -> Asked<'a>
     requires known { IsOneOf name.now upd_commands }
-    requires other { (name.now ≢ codes "trial") × (name.now ≢ codes "serve") × (name.now ≢ codes "correct") }
+    requires other { (name.now ≢ codes "trial") × (name.now ≢ codes "serve") × (name.now ≢ codes "correct")
+        × (name.now ≢ codes "explain") }
     ensures { IsAskedBy name.now (rows_of (found_of operands.now)) result }
 {
     match name {
@@ -250,8 +287,15 @@ fn read_asked<'a>(name: &str, operands: &ArgMatches<'a>) -> Asked<'a>
         "history" => Asked::History {
             card: word(operands, "CARD"),
         },
+        "blame" => Asked::Blame {
+            deck: word(operands, "DECK"),
+        },
+        "show" => Asked::Show {
+            ident: word(operands, "IDENT"),
+        },
         "idents" => Asked::Idents,
         "yanks" => Asked::Yanks,
+        "page" => Asked::Page,
         "text" => Asked::Text {
             deck: word(operands, "DECK"),
         },

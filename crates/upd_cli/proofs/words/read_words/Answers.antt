@@ -6,7 +6,7 @@ use Rattle.clap.specs.declared.error.kind.ErrorKind.{ErrorKind}
 use Rattle.clap.specs.declared.error.kind.ErrorKind.TheVariants.{OutOfMemory}
 use Rattle.upd_cli.specs.Words.{HasCount, IsAskedFor, IsOneOf, IsRequest, IsUnreadRequest, upd_app, upd_commands, word_faults}
 use Rattle.upd_cli.specs.declared.words.Request.{Request}
-use Rattle.upd_cli.specs.declared.words.Request.TheVariants.{Trial, Library, Serve, Correct, Shown, Unread}
+use Rattle.upd_cli.specs.declared.words.Request.TheVariants.{Trial, Library, Serve, Correct, Explain, Shown, Unread}
 use Rattle.upd_cli.proofs.CountLemmas.{read_counts}
 use Rattle.upd_cli.proofs.WordLemmas.{known_command}
 use Rattle.upd_cli.proofs.words.read_words.Goals as goal
@@ -23,6 +23,7 @@ asked_command words command (Trial mode) same none is = (none, rw same is)
 asked_command words command (Library file asked) same none is = (none, rw same is)
 asked_command words command (Serve file address count) same none is = (none, rw same is)
 asked_command words command (Correct file set) same none is = (none, rw same is)
+asked_command words command (Explain fault) same none is = (none, rw same is)
 asked_command words None (Shown text) same none is = absurd is
 asked_command words (Some (name, rows)) (Shown text) same none is = absurd is
 asked_command words None (Unread text) same none is = absurd is
@@ -33,6 +34,7 @@ asked_told words kind (Trial mode) among is = absurd is
 asked_told words kind (Library file asked) among is = absurd is
 asked_told words kind (Serve file address count) among is = absurd is
 asked_told words kind (Correct file set) among is = absurd is
+asked_told words kind (Explain fault) among is = absurd is
 asked_told words kind (Shown text) among is = (kind, among, is)
 asked_told words kind (Unread text) among is = (kind, among, is)
 
