@@ -1,5 +1,5 @@
 -- How `correct` reports its answer: the run on the output, or on the fault stream why there is none.
-use Rattle.std.specs.Prelude.{◌≡◌, ◌⊎◌, ℕ, List, [], Option, Result, Ok, Err}
+use Rattle.std.specs.Prelude.{◌⊎◌, ℕ, List, [], Option, Result, Ok, Err}
 use Rattle.std.specs.Io.KnownBytes.{Appends}
 use Rattle.upd_text.specs.declared.fault.Fault.{Fault}
 use Rattle.upd_correct.specs.declared.refusal.Refusal.{Refusal}

@@ -1,5 +1,5 @@
 use Rattle.std.proofs.Common.{ap}
-use Rattle.upd_cli.specs.declared.asking.Form.TheVariants.{Listing, Text, Source}
+use Rattle.upd_cli.specs.declared.asking.Form.TheVariants.{Listing, Text}
 use Rattle.upd_cli.specs.declared.asking.Question.TheVariants.{Deck}
 use Rattle.upd_cli.proofs.AskingLemmas.{answered_as}
 use Rattle.upd_cli.proofs.asking.ask_deck.Goals as goal

@@ -1,7 +1,6 @@
-use Rattle.std.proofs.Common.{ℕ, List, Ok, Err, subst, sym}
+use Rattle.std.proofs.Common.{ℕ, List, Ok, Err, subst}
 use Rattle.std.proofs.KnownBytes.{Appends-nil}
 use Rattle.upd_correct.specs.declared.refusal.Refusal.{Refusal}
-use Rattle.upd_edit.specs.RefusalLines.{refusal_lines}
 use Rattle.upd_edit.specs.declared.editing.EditError.TheVariants.{Failed, Refused}
 use Rattle.upd_cli.specs.Correcting.{IsRefusedBy, TellsCorrection}
 use Rattle.upd_cli.specs.Errands.{IsCorrection}
