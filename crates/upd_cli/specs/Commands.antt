@@ -4,9 +4,11 @@ use Rattle.std.specs.Io.KnownBytes.{Appends}
 use Rattle.std.specs.Net.Grammar.{IsSocketText}
 use Rattle.std.specs.declared.net.socket_addr.SocketAddr.{SocketAddr}
 use Rattle.upd_text.specs.declared.fault.Fault.{Fault}
-use Rattle.upd_text.specs.declared.fault.FaultKind.TheVariants.{BadNumber}
+use Rattle.upd_text.specs.declared.fault.FaultKind.TheVariants.{BadName, BadNumber}
 use Rattle.upd_desk.specs.Outcomes.{ReplyView}
 use Rattle.upd_io.specs.Numbers.{number_of}
+use Rattle.upd_look.specs.FaultTexts.{explained}
+use Rattle.upd_text.specs.Outcome.{at_line, need}
 use Rattle.clap.specs.Words.{Text}
 use Rattle.upd_cli.specs.Command.{IsTold}
 use Rattle.upd_cli.specs.Correcting.{IsCorrected}
@@ -15,7 +17,7 @@ use Rattle.upd_cli.specs.Status.{exit_status, fault_line, no_memory}
 use Rattle.upd_cli.specs.Telling.{TellsLines, TellsMark, TellsRun, TellsText}
 use Rattle.upd_cli.specs.Words.{IsAskedFor}
 use Rattle.upd_cli.specs.declared.words.Request.{Request}
-use Rattle.upd_cli.specs.declared.words.Request.TheVariants.{Library, Serve, Correct, Unread}
+use Rattle.upd_cli.specs.declared.words.Request.TheVariants.{Library, Serve, Correct, Explain, Unread}
 use Rattle.upd_cli.specs.declared.words.Asked.{Asked}
 use Rattle.upd_cli.specs.declared.words.Asked.TheVariants as asks
 
@@ -54,6 +56,8 @@ Leaves (asks.Try mode) ended input input' output output' =
 Leaves (asks.List deck) ended input input' output output' = TellsRead ended output output' (deck_read deck.now)
 Leaves (asks.Text deck) ended input input' output output' = TellsRead ended output output' (deck_read deck.now)
 Leaves (asks.Source deck) ended input input' output output' = TellsRead ended output output' (deck_read deck.now)
+Leaves (asks.Blame deck) ended input input' output output' = TellsRead ended output output' (deck_read deck.now)
+Leaves (asks.Show ident) ended input input' output output' = TellsRead ended output output' (deck_read ident.now)
 Leaves (asks.History card) ended input input' output output' = TellsRead ended output output' (card_read card.now)
 Leaves asks.Init ended input input' output output' = IsSilent ended output output'
 Leaves asks.Migrate ended input input' output output' = IsSilent ended output output'
@@ -63,6 +67,15 @@ Leaves _ ended input input' output output' = (answer : Result (List ℕ) Fault) 
 abbrev pub IsEndOf : Result ℕ Fault → ℕ → Option (List ℕ) → Option (List ℕ) → Type 0
 IsEndOf (Ok meant) status faults faults' = (status ≡ meant) × Appends faults faults' []
 IsEndOf (Err fault) status faults faults' = IsTold (exit_status fault.kind) (fault_line fault) status faults faults'
+
+-- the explanation of the fault that a word names; another word is BadName
+abbrev pub explained_fault : List ℕ → Result (List ℕ) Fault
+explained_fault word = at_line 0 (need BadName (explained word))
+
+-- an explanation was reported, and output, fault stream and status tell how
+abbrev pub IsExplained : List ℕ → ℕ → Option (List ℕ) → Option (List ℕ) → Option (List ℕ) → Option (List ℕ) → Type 0
+IsExplained word status output output' faults faults' =
+    (ended : Result ℕ Fault) × TellsText (explained_fault word) ended output output' × IsEndOf ended status faults faults'
 
 -- a command on a library ended, and output, fault stream and status tell how
 abbrev pub IsCarriedOut : Asked → ℕ → Option (List ℕ) → Option (List ℕ) → Option (List ℕ) → Option (List ℕ) → Option (List ℕ) → Option (List ℕ) → Type 0
@@ -83,6 +96,7 @@ abbrev pub IsDone : Request → ℕ → Option (List ℕ) → Option (List ℕ) 
 IsDone (Library file asked) status input input' output output' faults faults' = IsCarriedOut asked status input input' output output' faults faults'
 IsDone (Serve file address count) status input input' output output' faults faults' = Appends output output' [] × IsServed address.now status faults faults'
 IsDone (Correct file set) status input input' output output' faults faults' = IsCorrected status output output' faults faults'
+IsDone (Explain fault) status input input' output output' faults faults' = IsExplained fault.now status output output' faults faults'
 IsDone (Unread text) status input input' output output' faults faults' = Appends output output' []
 IsDone _ status input input' output output' faults faults' = Unit {0}
 

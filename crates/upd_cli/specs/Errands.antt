@@ -21,11 +21,14 @@ use Rattle.upd_edit.specs.Trying.{tried}
 use Rattle.upd_edit.specs.declared.editing.TheConstants.{MAX_TEXT_BYTES}
 use Rattle.upd_edit.specs.declared.editing.EditError.{EditError}
 use Rattle.upd_correct.specs.Correcting.{CorrectsTo}
+use Rattle.upd_look.specs.Blame.{blame}
+use Rattle.upd_look.specs.IdentReport.{show}
+use Rattle.upd_look.specs.LibraryPage.{page}
 use Rattle.upd_desk.specs.Journal.{library_after}
 use Rattle.upd_cli.specs.declared.asking.Form.{Form}
-use Rattle.upd_cli.specs.declared.asking.Form.TheVariants.{Listing, Text, Source}
+use Rattle.upd_cli.specs.declared.asking.Form.TheVariants.{Listing, Blame, Text, Source}
 use Rattle.upd_cli.specs.declared.asking.Question.{Question}
-use Rattle.upd_cli.specs.declared.asking.Question.TheVariants.{Compile, Deck, Card, Idents, Yanks}
+use Rattle.upd_cli.specs.declared.asking.Question.TheVariants.{Compile, Deck, Card, Ident, Idents, Yanks, Page}
 
 -- the bytes of a compile file
 abbrev pub file_text : Result FileView Fault → Result (List ℕ) Fault
@@ -34,6 +37,7 @@ file_text file = result_map_both (λ f. f.bytes) (λ fault. fault) file
 -- a deck of a library in a form
 abbrev pub deck_in : Form → List ℕ → LibraryView → Result (List ℕ) Fault
 deck_in Listing name l = deck_listing name l
+deck_in Blame name l = blame name l
 deck_in Text name l = active_text name l
 deck_in Source name l = file_text (source name l)
 
@@ -42,8 +46,10 @@ abbrev pub answer_text : Question → LibraryView → Result (List ℕ) Fault
 answer_text Compile l = file_text (compile_file_of mode.Full [] l l)
 answer_text (Deck form name) l = deck_in form name l
 answer_text (Card card) l = card_listing card l
+answer_text (Ident name) l = show name l
 answer_text Idents l = Ok (ident_listing l)
 answer_text Yanks l = Ok (yank_listing l)
+answer_text Page l = Ok (page l)
 
 -- the input can't be read, or there is no memory for it
 abbrev pub IsUnread : Result ℕ Fault → Type 0

@@ -1,9 +1,10 @@
-//! Commands that ask: the compile file and the listings.
+//! Commands that ask: the compile file, the listings, and what is seen of a library.
 ghost use Rattle.std.specs.Prelude.{◌≡◌, IfErr, IfOk};
 ghost use Rattle.std.specs.Result.{result_map_both};
 ghost use Rattle.upd_cli.specs.Errands.{AsksQuestion, IsAnswered};
 ghost use Rattle.upd_cli.specs.Status.{exit_status};
 
+use crate::looking::{blame_at, page_at, show_at};
 use crate::status::DONE;
 use crate::streams::write_out;
 use std::alloc::Global;
@@ -20,14 +21,20 @@ pub(crate) enum Question {
     Compile,
     Deck(Form, Name),
     Card(CardRef),
+    /// What an ident did.
+    Ident(Name),
     Idents,
     Yanks,
+    /// The library as a page of HTML.
+    Page,
 }
 
 /// The form in which a deck is asked for.
 #[derive(Clone, Copy, Drop)]
 pub(crate) enum Form {
     Listing,
+    /// Each card with who switched it last.
+    Blame,
     /// The active cards as plain text.
     Text,
     /// The compile file of the deck alone.
@@ -71,8 +78,10 @@ fn ask<S: RowStore>(
         },
         Question::Deck(form, name) => ask_deck(alloc, desk, *form, name),
         Question::Card(card) => desk.card_list(alloc, *card),
+        Question::Ident(name) => show_at(alloc, desk, name),
         Question::Idents => desk.ident_list(alloc),
         Question::Yanks => desk.yank_list(alloc),
+        Question::Page => page_at(alloc, desk),
     }
 }
 
@@ -88,6 +97,7 @@ fn ask_deck<S: RowStore>(
 {
     match form {
         Form::Listing => desk.deck_list(alloc, name),
+        Form::Blame => blame_at(alloc, desk, name),
         Form::Text => text_at(alloc, desk, name),
         Form::Source => match source_at(alloc, desk, name) {
             Ok(file) => Ok(file.bytes),

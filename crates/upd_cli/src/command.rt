@@ -5,7 +5,7 @@ ghost use Rattle.upd_io.specs.Inputs.{IsInput};
 ghost use Rattle.upd_compile.specs.Modes.{mode_named};
 ghost use Rattle.upd_cli.specs.Command.{Answers, EndsTrial, GivesUnlessFailed, IsTold, IsToldOf, answer_to};
 ghost use Rattle.upd_cli.specs.Correcting.{IsCorrected};
-ghost use Rattle.upd_cli.specs.Commands.{CarriesOut, IsCarriedOut, IsServed};
+ghost use Rattle.upd_cli.specs.Commands.{CarriesOut, IsCarriedOut, IsExplained, IsServed};
 ghost use Rattle.upd_cli.specs.Status.{exit_status, fault_line, no_memory, no_words_line};
 ghost use Rattle.upd_cli.specs.Streams.{TakesFront};
 ghost use Rattle.upd_edit.specs.declared.editing.TheConstants.{MAX_TEXT_BYTES};
@@ -14,6 +14,7 @@ ghost use Rattle.upd_cli.specs.Trial.{trial_named};
 ghost use Rattle.upd_cli.specs.Words.{command_word, operand_word, word_faults};
 ghost use Rattle.upd_cli.specs.Inputs.{HandsRunsIn, IsHandIn, IsSpoolCommand, ReadsInput};
 
+use crate::explaining::explain_fault;
 use crate::library::{carry_out, correct_on, serve};
 use crate::operands::read_address;
 use crate::status::{FAILED, UNREAD, finish};
@@ -73,6 +74,7 @@ pub fn run_command<S: AsStr, R: Read, W: Write, E: Write>(
         Ok(Request::Correct { file, set }) => {
             carry_out_correction(rt, file, set, input, output, faults)
         }
+        Ok(Request::Explain { fault }) => carry_out_explaining(fault, output, faults),
         Ok(Request::Shown(text)) => {
             let ended = write_out(output, text.as_bytes());
             finish(ended, faults)
@@ -150,6 +152,19 @@ fn carry_out_correction<R: Read, W: Write, E: Write>(
     ensures clean { result ≡ 0 → faults.new ≡ faults.old }
 {
     match correct_on(rt, file, set, input, output, faults) {
+        Ok(status) => status,
+        Err(fault) => finish(Err(fault), faults),
+    }
+}
+
+/// `explain`: what is said of a fault goes to the output.
+fn carry_out_explaining<W: Write, E: Write>(fault: &str, output: &mut W, faults: &mut E) -> u8
+    ensures told { IsExplained fault.now result (W.contents output.old) (W.contents output.new)
+        (E.contents faults.old) (E.contents faults.new) }
+    ensures silent { (result ≡ 1) ⊎ (result ≡ 2) → output.new ≡ output.old }
+    ensures clean { result ≡ 0 → faults.new ≡ faults.old }
+{
+    match explain_fault(fault, output) {
         Ok(status) => status,
         Err(fault) => finish(Err(fault), faults),
     }

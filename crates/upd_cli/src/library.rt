@@ -61,8 +61,11 @@ pub(crate) fn carry_out<R: Read, W: Write>(
         Asked::Compile => answer_on(rt, file, &Question::Compile, output),
         Asked::List { deck } => deck_on(rt, file, Form::Listing, deck, output),
         Asked::History { card } => history_on(rt, file, card, output),
+        Asked::Blame { deck } => deck_on(rt, file, Form::Blame, deck, output),
+        Asked::Show { ident } => show_on(rt, file, ident, output),
         Asked::Idents => answer_on(rt, file, &Question::Idents, output),
         Asked::Yanks => answer_on(rt, file, &Question::Yanks, output),
+        Asked::Page => answer_on(rt, file, &Question::Page, output),
         Asked::Text { deck } => deck_on(rt, file, Form::Text, deck, output),
         Asked::Try { mode } => try_on(rt, file, mode, input, output),
         Asked::Source { deck } => deck_on(rt, file, Form::Source, deck, output),
@@ -244,6 +247,18 @@ fn deck_on<W: Write>(
 {
     match read_deck(deck) {
         Ok(name) => answer_on(rt, file, &Question::Deck(form, name), output),
+        Err(fault) => Err(fault),
+    }
+}
+
+/// `show`: the ident's name is read before the file is opened.
+fn show_on<W: Write>(rt: &HostRuntime, file: &str, ident: &str, output: &mut W) -> Result<u8, Fault>
+    ensures leaves { TellsRead result (W.contents output.old) (W.contents output.new) (deck_read ident.now) }
+    ensures status { IfOk result (λ status. status ≡ 0) }
+    ensures silent { IfErr result (λ fault. exit_status fault.kind ≡ 1 → output.new ≡ output.old) }
+{
+    match read_deck(ident) {
+        Ok(name) => answer_on(rt, file, &Question::Ident(name), output),
         Err(fault) => Err(fault),
     }
 }

@@ -2,7 +2,7 @@ use Rattle.std.proofs.Common.{sym, subst}
 use Rattle.std.specs.Result.{result_map_both}
 use Rattle.upd_cli.specs.Errands.{IsAnswered}
 use Rattle.upd_cli.specs.declared.asking.Question.{Question}
-use Rattle.upd_cli.specs.declared.asking.Question.TheVariants.{Card, Idents, Yanks}
+use Rattle.upd_cli.specs.declared.asking.Question.TheVariants.{Card, Ident, Idents, Yanks, Page}
 use Rattle.upd_cli.proofs.AskingLemmas.{answered_as}
 use Rattle.upd_cli.proofs.asking.ask.Goals as goal
 
@@ -18,6 +18,18 @@ returns-in-Card g c =
     answered_as
     (λ text. text.items) c.card_list.result c.args.question.now (Card c.in-Card.card) c.args.desk.now.store c.card_list.new.self.store c.in-Card.is
     c.card_list.ensures.text c.card_list.ensures.same c.card_list.ensures.failed
+
+pub returns-in-Ident : goal.returns-in-Ident
+returns-in-Ident g c =
+    answered_as
+    (λ text. text.items) c.show_at.result c.args.question.now (Ident c.in-Ident.name.now) c.args.desk.now.store c.show_at.new.desk.store c.in-Ident.is
+    c.show_at.ensures.text c.show_at.ensures.same c.show_at.ensures.failed
+
+pub returns-in-Page : goal.returns-in-Page
+returns-in-Page g c =
+    answered_as
+    (λ text. text.items) c.page_at.result c.args.question.now Page c.args.desk.now.store c.page_at.new.desk.store c.in-Page.is
+    c.page_at.ensures.text c.page_at.ensures.same c.page_at.ensures.failed
 
 pub returns-in-Idents : goal.returns-in-Idents
 returns-in-Idents g c =

@@ -10,9 +10,9 @@ use Rattle.upd_cli.specs.Command.{Answers, IsTold, answer_to}
 use Rattle.upd_cli.specs.Status.{exit_status, fault_line}
 use Rattle.upd_cli.specs.Trial.{trial_named}
 use Rattle.upd_cli.specs.Words.{IsAskedFor, operand_word}
-use Rattle.upd_cli.specs.declared.words.Request.TheVariants.{Trial, Library, Serve, Correct}
+use Rattle.upd_cli.specs.declared.words.Request.TheVariants.{Trial, Library, Serve, Correct, Explain}
 use Rattle.upd_cli.proofs.CommandLemmas.{answered, answered_at_once}
-use Rattle.upd_cli.proofs.RequestLemmas.{begins_otherwise, correct_command, none_of, of_library, serve_command, trial_command, trial_mode}
+use Rattle.upd_cli.proofs.RequestLemmas.{begins_otherwise, correct_command, explain_command, none_of, of_library, serve_command, trial_command, trial_mode}
 use Rattle.upd_cli.proofs.StreamLemmas.{takes_more}
 use Rattle.upd_cli.proofs.command.run_command.Goals as goal
 
@@ -147,6 +147,27 @@ returns-in-Ok-Correct-clause-told g c =
     let words : List Text = map g.S.AsStr.text c.args.words.now in
     let request = Correct c.in-Ok-Correct.file c.in-Ok-Correct.set in
     inl (request, subst (IsAskedFor words) c.in-Ok-Correct.field-0-is c.in-Ok-Correct.ensures.ok, c.carry_out_correction.ensures.told)
+
+pub returns-in-Ok-Explain-clause-trial : goal.returns-in-Ok-Explain-clause-trial
+returns-in-Ok-Explain-clause-trial g c =
+    let words : List Text = map g.S.AsStr.text c.args.words.now in
+    let request = Explain c.in-Ok-Explain.fault in
+    let asked : IsAskedFor words request = subst (IsAskedFor words) c.in-Ok-Explain.field-0-is c.in-Ok-Explain.ensures.ok in
+    λ none is_trial. absurd (begins_otherwise (codes "explain") (λ (e : 116 ≡ 101). omega (arith, e))
+    (sym is_trial ∙ explain_command words c.in-Ok-Explain.fault asked))
+
+pub returns-in-Ok-Explain-clause-unread : goal.returns-in-Ok-Explain-clause-unread
+returns-in-Ok-Explain-clause-unread g c =
+    let words : List Text = map g.S.AsStr.text c.args.words.now in
+    let request = Explain c.in-Ok-Explain.fault in
+    let asked : IsAskedFor words request = subst (IsAskedFor words) c.in-Ok-Explain.field-0-is c.in-Ok-Explain.ensures.ok in
+    λ bad. absurd (bad asked.0)
+
+pub returns-in-Ok-Explain-clause-told : goal.returns-in-Ok-Explain-clause-told
+returns-in-Ok-Explain-clause-told g c =
+    let words : List Text = map g.S.AsStr.text c.args.words.now in
+    let request = Explain c.in-Ok-Explain.fault in
+    inl (request, subst (IsAskedFor words) c.in-Ok-Explain.field-0-is c.in-Ok-Explain.ensures.ok, c.carry_out_explaining.ensures.told)
 
 pub returns-in-Err-clause-trial : goal.returns-in-Err-clause-trial
 returns-in-Err-clause-trial g c = λ none is_trial.
