@@ -43,8 +43,8 @@ def asked(shell, commands):
     """Lines that a shell completes wrongly."""
     wanted = {"upd ": sorted(commands), "upd ser": ["serve"], "upd trial ": MODES, "upd run library.db LYON 1 ": MODES,
               "upd try library.db ": MODES,
-              "upd run library.db LYON ": []}
-    wanted |= {f"upd {command} ": ["library.db"] for command in commands if command != "trial"}
+              "upd run library.db LYON ": [], "upd explain Set": ["Settled"]}
+    wanted |= {f"upd {command} ": ["library.db"] for command in commands if command not in ("trial", "explain")}
     with tempfile.TemporaryDirectory() as folder:
         (Path(folder) / "library.db").touch()
         found = {line: completed(folder, shell, line) for line in wanted}

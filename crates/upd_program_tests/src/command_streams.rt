@@ -220,9 +220,17 @@ const ABOUT: &[(&[&str], &str)] = &[
     (&["compile", "--help"], "Writes the compile file"),
     (&["list", "--help"], "Lists the cards of a deck"),
     (&["history", "--help"], "Lists what is known of a card"),
+    (&["blame", "--help"], "Lists the cards of a deck with who"),
+    (&["show", "--help"], "Shows what a deck or"),
     (&["idents", "--help"], "Lists all decks and"),
     (&["yanks", "--help"], "Lists the yank cards"),
+    (&["page", "--help"], "Writes the library as one page"),
+    (&["text", "--help"], "Writes the active cards of a deck"),
+    (&["correct", "--help"], "Writes the run that corrects decks"),
+    (&["try", "--help"], "Writes the reply that the run"),
+    (&["source", "--help"], "Writes the compile file of one"),
     (&["migrate", "--help"], "Migrates the file of an older"),
+    (&["explain", "--help"], "Explains a fault"),
 ];
 
 #[test]
