@@ -22,7 +22,7 @@ returns-in-Card g c =
 pub returns-in-Ident : goal.returns-in-Ident
 returns-in-Ident g c =
     answered_as
-    (λ text. text.items) c.show_at.result c.args.question.now (Ident c.in-Ident.name.now) c.args.desk.now.store c.show_at.new.desk.store c.in-Ident.is
+    (λ text. text.items) c.show_at.result c.args.question.now (Ident c.in-Ident.name) c.args.desk.now.store c.show_at.new.desk.store c.in-Ident.is
     c.show_at.ensures.text c.show_at.ensures.same c.show_at.ensures.failed
 
 pub returns-in-Page : goal.returns-in-Page

@@ -6,7 +6,7 @@ use Rattle.upd_edit.proofs.ToldLemmas.{none_told, shown_error, told_of}
 use Rattle.upd_look.specs.LibraryPage.{page}
 use Rattle.upd_cli.proofs.looking.page_at.Goals as goal
 
-as_answer : List ℕ → Result (List ℕ) Fault
+abbrev as_answer : List ℕ → Result (List ℕ) Fault
 as_answer text = Ok text
 
 pub returns-in-Ok-clause-text : goal.returns-in-Ok-clause-text
