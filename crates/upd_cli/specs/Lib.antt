@@ -8,5 +8,4 @@ pub mod Inputs
 pub mod Telling
 pub mod Correcting
 pub mod Errands
-pub mod Opened
 pub mod Commands
