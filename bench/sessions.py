@@ -5,8 +5,8 @@
 
 A session is a fenced block whose first line begins with `$ `. A command goes to the end of its here-document, if it has one. What follows, up to the next
 command, is what it writes to both streams. Several blanks count as one, and so does ` .. `, which replaces blanks. All sessions of a document are one shell in
-a new folder, with the executable (crates/upd/out/upd where none is named) on the path as `upd`. --write replaces the answers in the document by those that
-were given; read them before you keep them. The exit status is 1 where an answer differs, or a document has no session.
+a new folder, with the executable (crates/upd/out/upd where none is named) on the path as `upd`, and the scripts of examples/. --write replaces the answers
+in the document by those that were given; read them before you keep them. The exit status is 1 where an answer differs, or a document has no session.
 """
 
 import argparse
@@ -107,6 +107,8 @@ def main():
     given = parser.parse_args()
     with tempfile.TemporaryDirectory() as executables:
         (Path(executables) / "upd").symlink_to(there(given.executable))
+        for script in (Path(__file__).resolve().parent.parent / "examples").glob("*.sh"):
+            (Path(executables) / script.name).symlink_to(script)
         right = [held(document, executables, given.write) for document in given.documents]
     sys.exit(not all(right))
 

@@ -1,5 +1,5 @@
 //! The same of the library that a desk holds. Nothing changes, and no number is used.
-ghost use Rattle.std.specs.Prelude.{◌≤◌, IfOk, OnOk, length};
+ghost use Rattle.std.specs.Prelude.{◌≤◌, IfOk, Ok, OnOk, length};
 ghost use Rattle.std.specs.Result.{result_map_both};
 ghost use Rattle.upd_correct.specs.Correcting.{CorrectsTo};
 ghost use Rattle.upd_desk.specs.Holding.{EachHeld, Tells};
@@ -8,10 +8,12 @@ ghost use Rattle.upd_desk.specs.Outcomes.{reply_on};
 ghost use Rattle.upd_edit.specs.ActiveText.{active_text};
 ghost use Rattle.upd_edit.specs.Source.{source};
 ghost use Rattle.upd_edit.specs.Trying.{tried};
+ghost use Rattle.upd_edit.specs.Warnings.{warning_lines};
 ghost use Rattle.upd_row_store.specs.Keeping.{CountsFailure, Keeps};
 
 use crate::deck_source::source;
 use crate::deck_text::active_text;
+use crate::warnings::warning_lines;
 use std::alloc::Global;
 use upd_compile::CompileFile;
 use upd_core::Name;
@@ -92,6 +94,25 @@ pub fn try_at<S: RowStore>(
     };
     match reply_on(alloc, &library, &arrival) {
         Ok(reply) => Ok(reply),
+        Err(fault) => Err(fault),
+    }
+}
+
+/// The warnings of a run that is tried now, a line each, with LF. None where the run can't be read; after NoMemory or
+/// Store, at 0, it can be asked again.
+pub fn warnings_at<S: RowStore>(
+    alloc: Global,
+    desk: &mut Desk<S>,
+    run: &[u8],
+) -> Result<Vec<u8>, Fault>
+    ensures text { Tells S.Meaning (λ l. Ok (warning_lines run.now l))
+        (result_map_both (λ text. text.items) (λ fault. fault) result) desk.old.store desk.new.store }
+    ensures same { Keeps S.Meaning desk.old.store desk.new.store }
+    ensures failed { CountsFailure S.Meaning result desk.old.store desk.new.store }
+{
+    let library = desk.library(alloc)?;
+    match warning_lines(alloc, &library, run) {
+        Ok(text) => Ok(text),
         Err(fault) => Err(fault),
     }
 }

@@ -7,9 +7,15 @@
 pub mod deck_source;
 pub mod deck_text;
 pub mod editing;
+mod near_words;
 pub mod refused;
+pub mod warnings;
 
 pub use deck_source::source;
 pub use deck_text::active_text;
-pub use editing::{EditError, MAX_TEXT_BYTES, correct_at, source_at, text_at, try_at};
+pub use editing::{EditError, MAX_TEXT_BYTES, correct_at, source_at, text_at, try_at, warnings_at};
 pub use refused::refusal_lines;
+pub use warnings::warning_lines;
+
+#[cfg(test)]
+mod tests;

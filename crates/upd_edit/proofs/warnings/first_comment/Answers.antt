@@ -1,0 +1,13 @@
+use Rattle.std.proofs.Common.{rules}
+use Rattle.std.proofs.lemmas.Iterator.Search.{position_from_yields_List}
+use Rattle.std.proofs.lemmas.Iterator.Splits.{YieldsList-from_slice_split}
+use borrow.Author.Tests.{tests}
+use Rattle.upd_deck.specs.Reading.{is_feed}
+use Rattle.upd_text.specs.Lines.{is_comment}
+use Rattle.upd_edit.proofs.warnings.first_comment.Goals as goal
+
+pub returns-clause-first : goal.returns-clause-first
+returns-clause-first c =
+    position_from_yields_List is_comment _ _ c.position.result c.position.ensures.ran
+    (YieldsList-from_slice_split _ is_feed c.args.run.now c.split.ensures.rest c.split.ensures.done c.split.ensures.closure (λ x b q k. search (rules, tests)))
+    (λ x b q k. search (rules, tests))

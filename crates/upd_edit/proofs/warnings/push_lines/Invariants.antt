@@ -1,0 +1,9 @@
+use Rattle.std.proofs.Common.{◌≡◌, ◌++◌, drop}
+use Rattle.std.specs.List.{flat_map}
+use Rattle.upd_edit.specs.Warnings.{line_warnings}
+use Rattle.upd_edit.proofs.warnings.push_lines.Given as goal
+
+abbrev pub invariant-loop-line : goal.invariant-loop-line
+invariant-loop-line l =
+    l.text.items ++ flat_map (line_warnings l.library) (drop l.line-index l.lines)
+    ≡ l.initial.text.items ++ flat_map (line_warnings l.library) l.lines

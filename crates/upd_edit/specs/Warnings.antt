@@ -1,0 +1,117 @@
+-- The warnings of a run that is tried on a library.
+use Rattle.std.specs.Prelude.{ℕ, ◌+◌, ◌-◌, ◌==◌, nat_lt, Bool, not, ◌&&◌, if◌then◌else◌, List, [], ◌∷◌, ◌++◌, length, count_by, position, find, reverse}
+use Rattle.std.specs.Prelude.{codes, decimal, min, Option, Some, None, Result, Ok, Err}
+use Rattle.std.specs.List.{flat_map, slice_split}
+use Rattle.std.specs.Option.{option_and_then, option_map_or}
+use Rattle.std.specs.Str.{bytes_eq}
+use Rattle.upd_text.specs.declared.card_ref.CardRef.{CardRef}
+use Rattle.upd_text.specs.declared.fault.Fault.{Fault}
+use Rattle.upd_text.specs.Lines.{is_comment, is_starred, word}
+use Rattle.upd_text.specs.Units.{Bytes}
+use Rattle.upd_core.specs.declared.card.Entry.{Entry}
+use Rattle.upd_core.specs.declared.library.Place.{Place}
+use Rattle.upd_core.specs.declared.target.Target.{Target}
+use Rattle.upd_core.specs.Library.{CardView, LibraryView, card_in, cards_of, name_of, place_of}
+use Rattle.upd_core.specs.Serials.{Serial}
+use Rattle.upd_core.specs.Status.{is_taken, live_targets}
+use Rattle.upd_deck.specs.Items.{ItemView, LineView, Text, Delete, Restore}
+use Rattle.upd_deck.specs.Reading.{is_feed, reading}
+use Rattle.upd_edit.specs.NearWords.{near_word}
+
+-- a warning at a line, its words in parts: `upd: LINE: words` and LF
+abbrev pub warning : ℕ → List Bytes → Bytes
+warning line parts = codes "upd: " ++ decimal line ++ codes ": " ++ flat_map (λ part. part) parts ++ 10 ∷ []
+
+-- ---- comments
+
+-- the lines of a run, without their LFs
+abbrev pub lines_of : Bytes → List Bytes
+lines_of run = slice_split is_feed run
+
+-- the warning that a number of comments are dropped, by the index of the first: `dropped comments: 2, the first here`
+abbrev pub dropped_warning : ℕ → ℕ → Bytes
+dropped_warning count first = warning (first + 1) (codes "dropped comments: " ∷ decimal count ∷ codes ", the first here" ∷ [])
+
+-- the warning of the comments of a run
+abbrev pub comment_warning : Bytes → Bytes
+comment_warning run =
+    option_map_or (dropped_warning (count_by is_comment (lines_of run))) (position is_comment (lines_of run)) []
+
+-- ---- text that may be meant for a directive
+
+-- the warning of a word that may be meant for another: `*DELTE is text, not *DELETE`
+abbrev pub meant_warning : ℕ → Bytes → Bytes → Bytes
+meant_warning line word meant = warning line (codes "*" ∷ word ∷ codes " is text, not *" ∷ meant ∷ [])
+
+-- the warning of a text whose word may be meant for that of a directive or call
+abbrev pub text_warning : ℕ → Bytes → Bytes
+text_warning line text =
+    if is_starred text then option_map_or (meant_warning line (word text)) (near_word (word text)) [] else []
+
+-- ---- cards that are off already
+
+-- the last entry of a card of a deck that counts: of an ident that isn't taken there
+abbrev pub last_entry : List Target → Serial → CardView → Option Entry
+last_entry live deck card = find (λ e. not (is_taken live deck e.ident)) (reverse card.history)
+
+-- the name of the ident that switched a card off, if its last entry that counts does
+abbrev pub switched_off_by : LibraryView → Serial → CardView → Option Bytes
+switched_off_by l deck card =
+    option_and_then (λ e. if e.active then None else Some (name_of l.idents e.ident)) (last_entry (live_targets l) deck card)
+
+-- the same of the card that a reference names
+abbrev pub off_by : CardRef → LibraryView → Option Bytes
+off_by card l = option_and_then (λ p. option_and_then (switched_off_by l p.deck) (card_in p l)) (place_of card l)
+
+-- the warning of a card that an ident has switched off: `A.3 is off already, by X`
+abbrev pub off_by_warning : ℕ → CardRef → Bytes → Bytes
+off_by_warning line card set = warning line (card.name ∷ codes "." ∷ decimal card.number ∷ codes " is off already, by " ∷ set ∷ [])
+
+-- the warning of a card that is off already
+abbrev pub off_warning : ℕ → CardRef → LibraryView → Bytes
+off_warning line card l = option_map_or (off_by_warning line card) (off_by card l) []
+
+-- ---- wide ranges
+
+-- the number of the cards from one place to another of a deck
+abbrev pub cards_between : Option Place → Option Place → LibraryView → ℕ
+cards_between (Some p) (Some q) l = if p.deck == q.deck then min (length (cards_of p.deck l)) (q.index + 1) - p.index else 0
+cards_between p q l = 0
+
+-- the most cards of a range that isn't wide
+abbrev pub narrow : ℕ
+narrow = 20
+
+-- the warning of a wide range: `the range has 27 cards`
+abbrev pub wide_warning : ℕ → CardRef → CardRef → LibraryView → Bytes
+wide_warning line first last l =
+    let count = cards_between (place_of first l) (place_of last l) l in
+    if nat_lt narrow count then warning line (codes "the range has " ∷ decimal count ∷ codes " cards" ∷ []) else []
+
+-- ---- lines and runs
+
+-- the warnings of the ends of a range that are off already
+abbrev pub ends_warnings : ℕ → CardRef → CardRef → LibraryView → Bytes
+ends_warnings line first last l =
+    off_warning line first l
+    ++ (if bytes_eq first.name last.name && (first.number == last.number) then [] else off_warning line last l)
+
+-- the warnings of an item, with the text of its line
+abbrev pub item_warnings : LibraryView → ℕ → Bytes → ItemView → Bytes
+item_warnings l line text Text = text_warning line text
+item_warnings l line text (Delete first last) = ends_warnings line first last l ++ wide_warning line first last l
+item_warnings l line text (Restore first last) = wide_warning line first last l
+item_warnings l line text _ = []
+
+-- the warnings of a line
+abbrev pub line_warnings : LibraryView → LineView → Bytes
+line_warnings l line = item_warnings l line.number line.text line.item
+
+-- the warnings of a run by its reading: of its comments, and then of its lines in order; none where it can't be read
+abbrev pub read_warnings : Bytes → Result (List LineView) Fault → LibraryView → Bytes
+read_warnings run (Err fault) l = []
+read_warnings run (Ok lines) l = comment_warning run ++ flat_map (line_warnings l) lines
+
+-- the warnings of a run that is tried on a library
+abbrev pub warning_lines : Bytes → LibraryView → Bytes
+warning_lines run l = read_warnings run (reading run) l
