@@ -70,7 +70,7 @@ new_name() {
 wanted_name() {
     base=${1##*/}
     base=${base#.}
-    printf '%s\n' "${base%%.*}" | tr 'a-z' 'A-Z' | tr -c 'A-Z0-9+*/()$=\n-' '-' | cut -c 1-9 | sed 's/^$/-/'
+    printf '%s\n' "${base%%.*}" | tr '[:lower:]' '[:upper:]' | tr -c 'A-Z0-9+*/()$=\n-' '-' | cut -c 1-9 | sed 's/^$/-/'
 }
 
 # The lines of a file, without blanks at their ends.
