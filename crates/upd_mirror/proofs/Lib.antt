@@ -5,4 +5,3 @@ mod StatusRowLemmas
 mod MirrorLemmas
 mod LoadLemmas
 mod ActiveRowsLemmas
-mod MovedIdentLemmas

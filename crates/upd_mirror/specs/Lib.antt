@@ -2,4 +2,3 @@ pub mod ActiveRows
 pub mod RowsByKey
 pub mod Mirrored
 pub mod Overlaid
-pub mod MovedIdents

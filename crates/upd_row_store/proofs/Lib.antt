@@ -11,4 +11,3 @@ pub mod KeyLemmas
 pub mod ActiveLemmas
 mod RestLemmas
 pub mod AskedLemmas
-pub mod MovableLemmas

@@ -4,4 +4,3 @@ pub mod Assembling
 pub mod Asked
 pub mod Activating
 pub mod PartRows
-pub mod Movable

@@ -15,4 +15,3 @@ pub mod SizeLemmas
 pub mod Turns
 pub mod CommitLemmas
 pub mod MarkLemmas
-pub mod MovingLemmas

@@ -9,4 +9,3 @@ pub mod First
 pub mod Making
 pub mod Wanted
 pub mod Sizes
-pub mod Doable
