@@ -21,14 +21,14 @@ sys.dont_write_bytecode = True
 from needs import add_executable, there, tools  # noqa: E402
 
 HOSTILE = [
-    "<script>document.title = 'taken'</script>",
-    "</script><script>document.title = 'taken'</script>",
-    "</pre></details></body><h1 onclick=alert(1)>taken</h1>",
-    "<img src=x onerror=\"document.title = 'taken'\">",
+    "<script>document.title = 'seized'</script>",
+    "</script><script>document.title = 'seized'</script>",
+    "</pre></details></body><h1 onclick=alert(1)>seized</h1>",
+    "<img src=x onerror=\"document.title = 'seized'\">",
     "<style>body { display: none }</style>",
     "<!-- a comment that would not end",
     "&lt;not an element&gt; &amp; &#60;b&#62; &copy &quot;",
-    "\" onmouseover=\"document.title='taken'\" x=\"",
+    "\" onmouseover=\"document.title='seized'\" x=\"",
     "' onmouseover='alert(1)'",
     "<a href=javascript:alert(1)>a</a>",
     "]]> <![CDATA[ <?php ?> {{7*7}} ${7*7}",
@@ -80,7 +80,7 @@ def differences(upd, folder, picture):
     text = "".join(seen.text)
     wrong = [f"an element {tag}" for tag in sorted(seen.elements - ELEMENTS)] + [f"an attribute {name}" for name in seen.events]
     wrong += [f"not shown as it is: {line}" for line in [*HOSTILE, "<b>NEW</b>"] if line not in text]
-    wrong += ["another title"] if "Program library" not in text or text.count("taken") != deck.count("taken") else []
+    wrong += ["another title"] if "Program library" not in text or text.count("seized") != deck.count("seized") else []
     if picture:
         subprocess.run([*OPEN, f"--screenshot={picture}", "--window-size=1000,1200", file.as_uri()], capture_output=True, check=True)
     return wrong
