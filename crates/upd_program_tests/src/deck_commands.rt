@@ -145,3 +145,58 @@ fn a_run_that_is_tried_is_not_stored(rt: HostRuntime) -> Result<(), Fail> {
     answers_of(&rt, &file, "idents", &[], (0, IDENTS, ""))?;
     remove(&rt, &file)
 }
+
+const BLAME: &str = "\
+A A.1               A           *DECK A
+I A.2               X           ONE
+A X.1               X           NEW
+A A.3               A           TWO
+A A.4               A           THREE
+";
+
+const REPORT: &str = "IDENT X set\nYANKED Y.1 set X\nDECK A\noff A.2 ONE\nI X.1 NEW\n";
+
+/// The page of a library begins and ends as HTML does, and has an escaped text of a card.
+fn is_page(rt: &HostRuntime, file: &str, text: &str) -> Result<(), Fail> {
+    let page = ask(rt, &["page", file], &mut b"".as_slice())?;
+    same("the status", page.status, 0)?;
+    let html = std::str::from_utf8(&page.output)?;
+    let found = (
+        html.starts_with("<!DOCTYPE html>\n"),
+        html.contains(text),
+        html.ends_with("</html>\n"),
+    );
+    same("beginning, text, end", found, (true, true, true))
+}
+
+#[test]
+fn a_library_is_looked_at(rt: HostRuntime) -> Result<(), Fail> {
+    let file = library(&rt, "look")?;
+    accepts(&rt, &file, "1", "quick", b"*DECK A\nONE\nTWO\nTHREE\n")?;
+    accepts(&rt, &file, "2", "quick", b"*IDENT X\n*DELETE A.2\nNEW\n")?;
+    answers_of(&rt, &file, "blame", &["A"], (0, BLAME, ""))?;
+    accepts(&rt, &file, "3", "quick", b"*IDENT Y\n*YANK X\n")?;
+    answers_of(&rt, &file, "show", &["X"], (0, REPORT, ""))?;
+    let unknown = (1, "", "upd: IdentUnknown (11) at 0\n");
+    answers_of(&rt, &file, "show", &["Q"], unknown)?;
+    accepts(&rt, &file, "4", "quick", b"*DECK B\n<b>&\n")?;
+    is_page(&rt, &file, "&lt;b&gt;&amp;")?;
+    remove(&rt, &file)
+}
+
+/// The first bytes of what is said of a fault.
+fn explained(rt: &HostRuntime, word: &str, start: &str) -> Result<(), Fail> {
+    let found = ask(rt, &["explain", word], &mut b"".as_slice())?;
+    same("the status", found.status, 0)?;
+    let text = std::str::from_utf8(&found.output)?;
+    same(word, text.starts_with(start), true)
+}
+
+#[test]
+fn a_fault_is_explained(rt: HostRuntime) -> Result<(), Fail> {
+    explained(&rt, "Settled", "Settled (27): ")?;
+    explained(&rt, "27", "Settled (27): ")?;
+    let none = (1, "", "upd: BadName (5) at 0\n");
+    answers(&rt, &["explain", "settled"], b"", none)?;
+    answers(&rt, &["explain", "34"], b"", none)
+}

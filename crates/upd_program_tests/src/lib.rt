@@ -1,8 +1,11 @@
-//! Tests of whole command lines on a library in a file, which is made in the folder of temporary files.
+//! Tests of whole command lines, over memory and on a library in a file, which is made in the folder of temporary files;
+//! and each public call of stores, the desk, its wire and the program once, by its path (`surface_desk`, `surface_wire`).
 //!
 //! Expected values are worked by hand from `docs/protocol.md`.
 #![tactic(auto)]
 
+#[cfg(test)]
+mod command_streams;
 #[cfg(test)]
 mod console;
 #[cfg(test)]
@@ -13,3 +16,9 @@ mod library_files;
 mod refusals;
 #[cfg(test)]
 mod site_commands;
+#[cfg(test)]
+mod surface_desk;
+#[cfg(test)]
+mod surface_wire;
+#[cfg(test)]
+mod written_store;

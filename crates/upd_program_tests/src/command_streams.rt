@@ -1,0 +1,328 @@
+//! Whole command lines over readers and writers in memory.
+use crate::console::{Answer, answers, ask, is_answer};
+use std::alloc::Global;
+use std::io;
+use std::io::ErrorKind;
+use std::test::Fail;
+use upd_cli::{report_words, run_command, trial};
+use upd_compile::Mode;
+use upd_testkit::check::same;
+use upd_testkit::fake_streams::{Endless, Narrow, Pieces};
+
+fn run_words(rt: &HostRuntime, words: &[&str], mut run: &[u8]) -> Result<Answer, Fail> {
+    ask(rt, words, &mut run)
+}
+
+const INSERTION: &str = "*DECK A\nONE\nTWO\nTHREE\n*IDENT X\n*INSERT A.2\nNEW\n";
+
+const INSERTED: &str = "\
+ONE                                                                              A             2
+NEW                                                                              X             1
+TWO                                                                              A             3
+THREE                                                                            A             4
+";
+
+const FULL: &[&str] = &["trial", "full"];
+
+const FULL_LINE: &[&str] = &["upd", "trial", "full"];
+
+const CYCLE: &str = "*COMDECK C\n*CALL C\n*DECK A\n*CALL C\n";
+
+/// A command line and a run, the exit status, and what is written on the output and on the fault stream.
+type Case = (
+    &'static [&'static str],
+    &'static str,
+    u8,
+    &'static str,
+    &'static str,
+);
+
+fn check(rt: &HostRuntime, cases: &[Case]) -> Result<(), Fail> {
+    for case in cases {
+        is_answered(rt, *case)?;
+    }
+    Ok(())
+}
+
+fn is_answered(rt: &HostRuntime, case: Case) -> Result<(), Fail> {
+    let (words, run, status, output, faults) = case;
+    answers(rt, words, run.as_bytes(), (status, output, faults))
+}
+
+#[test]
+fn runs_give_compile_files_or_refusals(rt: HostRuntime) -> Result<(), Fail> {
+    const NORMAL: &[&str] = &["trial", "normal"];
+    const QUICK: &[&str] = &["trial", "quick"];
+    const CASES: &[Case] = &[
+        (FULL, INSERTION, 0, INSERTED, ""),
+        (NORMAL, INSERTION, 0, INSERTED, ""),
+        (QUICK, INSERTION, 0, "", ""),
+        (FULL, "", 0, "", ""),
+        (FULL, "HELLO\n", 1, "", "upd: TextNowhere (9) at 1\n"),
+        (
+            &["trial", "Full"],
+            "HELLO\n",
+            1,
+            "",
+            "upd: BadMode (25) at 0\n",
+        ),
+        (FULL, "*DECK A\nX\x07\n", 1, "", "upd: BadByte (3) at 2\n"),
+        (FULL, CYCLE, 1, "", "upd: CallDepth (21) at 0\n"),
+        (QUICK, CYCLE, 0, "", ""),
+    ];
+    check(&rt, CASES)
+}
+
+#[test]
+fn the_mode_is_looked_at_before_the_input(rt: HostRuntime) -> Result<(), Fail> {
+    const SLOW: &[&str] = &["trial", "slow"];
+    let mut input = Pieces::failing(INSERTION.as_bytes(), 1, 1, ErrorKind::Other);
+    let found = ask(&rt, SLOW, &mut input)?;
+    is_answer(&found, (1, "", "upd: BadMode (25) at 0\n"))?;
+    same("reads", input.reads, 0)
+}
+
+#[test]
+fn a_run_that_is_too_long_is_not_read_to_its_end(rt: HostRuntime) -> Result<(), Fail> {
+    let mut input = Endless { given: 0 };
+    let found = ask(&rt, FULL, &mut input)?;
+    is_answer(&found, (1, "", "upd: RunLong (1) at 0\n"))?;
+    same("bytes", input.given, 65_537)
+}
+
+#[test]
+fn bytes_that_come_singly_are_the_same_run(rt: HostRuntime) -> Result<(), Fail> {
+    let found = ask(&rt, FULL, &mut Pieces::new(INSERTION.as_bytes(), 1))?;
+    is_answer(&found, (0, INSERTED, ""))
+}
+
+/// The answer if read number `fails_at` of the run fails in this way.
+fn run_failing(rt: &HostRuntime, fails_at: usize, kind: ErrorKind) -> Result<Answer, Fail> {
+    ask(
+        rt,
+        FULL,
+        &mut Pieces::failing(INSERTION.as_bytes(), 1, fails_at, kind),
+    )
+}
+
+/// A read that is out of memory is a failed read as any other.
+#[test]
+fn a_failed_read_ends_the_run(rt: HostRuntime) -> Result<(), Fail> {
+    for fails_at in 1..=INSERTION.len() {
+        for kind in [ErrorKind::Other, ErrorKind::OutOfMemory] {
+            let found = run_failing(&rt, fails_at, kind)?;
+            is_answer(&found, (3, "", "upd: Read (32) at 0\n"))?;
+        }
+    }
+    Ok(())
+}
+
+/// The first bytes of a text of ASCII.
+fn front_of(text: &str, room: usize) -> Result<&str, Fail> {
+    Ok(text.get(..room).ok_or("not that many bytes")?)
+}
+
+/// The answer if the writer of the output has this room.
+fn run_into(rt: &HostRuntime, room: usize) -> Answer {
+    let mut output = Narrow::new(rt.alloc(), room);
+    let mut faults = Vec::new(rt.alloc());
+    let mut run = INSERTION.as_bytes();
+    let status = run_command(rt, FULL_LINE, &mut run, &mut output, &mut faults);
+    Answer {
+        status,
+        output: output.taken,
+        faults,
+    }
+}
+
+#[test]
+fn a_failed_write_leaves_the_front_of_the_output(rt: HostRuntime) -> Result<(), Fail> {
+    for room in 0..INSERTED.len() {
+        let found = run_into(&rt, room);
+        is_answer(
+            &found,
+            (3, front_of(INSERTED, room)?, "upd: Write (33) at 0\n"),
+        )?;
+    }
+    Ok(())
+}
+
+/// The answer if the writer of the fault has this room.
+fn fault_into(rt: &HostRuntime, room: usize) -> Answer {
+    let mut output = Vec::new(rt.alloc());
+    let mut faults = Narrow::new(rt.alloc(), room);
+    let mut run = b"HELLO".as_slice();
+    let status = run_command(rt, FULL_LINE, &mut run, &mut output, &mut faults);
+    Answer {
+        status,
+        output,
+        faults: faults.taken,
+    }
+}
+
+#[test]
+fn a_fault_that_cannot_be_written_has_status_3(rt: HostRuntime) -> Result<(), Fail> {
+    const FAULT: &str = "upd: TextNowhere (9) at 1\n";
+    for room in 0..FAULT.len() {
+        let found = fault_into(&rt, room);
+        is_answer(&found, (3, "", front_of(FAULT, room)?))?;
+    }
+    Ok(())
+}
+
+const TRIAL_HELP: &str = "\
+Applies the run on standard input to an empty library and writes its compile file
+
+Usage: upd trial <MODE>
+
+Arguments:
+  <MODE>  full, quick or normal
+
+Options:
+  -h, --help  Print help
+
+Reads a run of at most 65536 bytes and writes the compile file, in lines of 97 bytes. Stores nothing.
+
+Exit status: 0 done; 1 the run is refused; 2 the command line can't be read; 3 out of memory, or a
+read or a write failed. The fault is one line on standard error.
+
+Example:
+  printf '*DECK A\\nONE\\n' | upd trial full
+";
+
+/// Words are answered by a text on the output that begins like this, and by nothing else.
+fn writes(rt: &HostRuntime, words: &[&str], front: &str) -> Result<(), Fail> {
+    let found = run_words(rt, words, b"")?;
+    let begins = found.output.starts_with(front.as_bytes());
+    let is_silent = found.faults.is_empty();
+    same(front, (found.status, is_silent, begins), (0, true, true))
+}
+
+#[test]
+fn words_that_ask_for_a_text_get_it_on_the_output(rt: HostRuntime) -> Result<(), Fail> {
+    const CASES: &[Case] = &[
+        (&["--version"], "", 0, "upd 1.0\n", ""),
+        (&["trial", "--help"], "", 0, TRIAL_HELP, ""),
+    ];
+    check(&rt, CASES)?;
+    let front =
+        "Keeps a library of program source in a file, and changes it by runs from many sites\n";
+    writes(&rt, &["--help"], front)
+}
+
+/// The words of each command that ask for its help, and how that begins.
+const ABOUT: &[(&[&str], &str)] = &[
+    (&["init", "--help"], "Makes an empty library"),
+    (&["run", "--help"], "Sends the run on standard input"),
+    (&["settle", "--help"], "Settles a site's runs"),
+    (&["spool", "--help"], "Sends the runs of a spool"),
+    (&["serve", "--help"], "Serves COUNT HTTP connections"),
+    (&["compile", "--help"], "Writes the compile file"),
+    (&["list", "--help"], "Lists the cards of a deck"),
+    (&["history", "--help"], "Lists what is known of a card"),
+    (&["blame", "--help"], "Lists the cards of a deck with who"),
+    (&["show", "--help"], "Shows what a deck or"),
+    (&["idents", "--help"], "Lists all decks and"),
+    (&["yanks", "--help"], "Lists the yank cards"),
+    (&["page", "--help"], "Writes the library as one page"),
+    (&["text", "--help"], "Writes the active cards of a deck"),
+    (&["correct", "--help"], "Writes the run that corrects decks"),
+    (&["try", "--help"], "Writes the reply that the run"),
+    (&["source", "--help"], "Writes the compile file of one"),
+    (&["migrate", "--help"], "Migrates the file of an older"),
+    (&["explain", "--help"], "Explains a fault"),
+];
+
+#[test]
+fn each_command_has_its_own_help(rt: HostRuntime) -> Result<(), Fail> {
+    for (words, front) in ABOUT {
+        writes(&rt, words, front)?;
+    }
+    Ok(())
+}
+
+const NO_MODE: &str = "\
+error: the following required arguments were not provided:
+  <MODE>
+
+Usage: upd trial <MODE>
+
+For more information, try '--help'.
+";
+
+const ONE_MORE: &str = "\
+error: unexpected argument 'A' found
+
+Usage: upd trial <MODE>
+
+For more information, try '--help'.
+";
+
+const MISSPELT: &str = "\
+error: unrecognized subcommand 'trail'
+
+  tip: a similar subcommand exists: 'trial'
+
+Usage: upd <COMMAND>
+
+For more information, try '--help'.
+";
+
+/// Words are not a command line: the text on the fault stream begins like this.
+fn complains(rt: &HostRuntime, words: &[&str], front: &str) -> Result<(), Fail> {
+    let found = run_words(rt, words, b"")?;
+    let begins = found.faults.starts_with(front.as_bytes());
+    let is_silent = found.output.is_empty();
+    same(front, (found.status, is_silent, begins), (2, true, true))
+}
+
+#[test]
+fn mistakes_are_reported_on_the_fault_stream(rt: HostRuntime) -> Result<(), Fail> {
+    const CASES: &[Case] = &[
+        (&["trial"], "", 2, "", NO_MODE),
+        (&["trial", "full", "A"], "", 2, "", ONE_MORE),
+        (&["trail", "full"], "", 2, "", MISSPELT),
+    ];
+    check(&rt, CASES)?;
+    let front = "error: 'upd' requires a subcommand but one was not provided\n";
+    complains(&rt, &[], front)
+}
+
+/// An error of the words has this status and this line.
+fn is_reported(faults: &mut Vec<u8>, kind: ErrorKind, status: u8, line: &str) -> Result<(), Fail> {
+    faults.clear();
+    let found = report_words(&io::Error::from(kind), faults);
+    same(line, &found, &status)?;
+    same(line, faults.as_slice(), line.as_bytes())
+}
+
+#[test]
+fn words_that_cannot_be_read_are_reported(rt: HostRuntime) -> Result<(), Fail> {
+    let mut faults = Vec::new(rt.alloc());
+    let line = "error: the words of the command line can't be read as text\n";
+    is_reported(&mut faults, ErrorKind::InvalidData, 2, line)?;
+    let line = "upd: NoMemory (28) at 0\n";
+    is_reported(&mut faults, ErrorKind::OutOfMemory, 3, line)
+}
+
+/// A trial of a run has these bytes in this number of lines.
+fn is_tried(
+    alloc: Global,
+    (mode, run, wanted, lines): (Mode, &str, &str, u32),
+) -> Result<(), Fail> {
+    let file = trial(alloc, mode, run.as_bytes())?;
+    same(run, file.bytes.as_slice(), wanted.as_bytes())?;
+    same("the lines", &file.lines, &lines)
+}
+
+#[test]
+fn trials_are_calls(rt: HostRuntime) -> Result<(), Fail> {
+    const TRIALS: &[(Mode, &str, &str, u32)] = &[
+        (Mode::Full, INSERTION, INSERTED, 4),
+        (Mode::Quick, INSERTION, "", 0),
+    ];
+    for tried in TRIALS {
+        is_tried(rt.alloc(), *tried)?;
+    }
+    Ok(())
+}

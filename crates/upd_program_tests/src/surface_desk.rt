@@ -1,0 +1,223 @@
+//! Each public call of stores, the desk, its wire and the program once, by its path, with an answer worked by hand.
+use crate::console::fresh;
+use crate::written_store::WrittenStore;
+use sqlite::{Connection, MemStore};
+use sqlite_disk::Unknown;
+use std::alloc::Global;
+use std::fs;
+use std::test::Fail;
+use upd_cli::{run_command, trial};
+use upd_compile::{CompileFile, Mode};
+use upd_core::Library;
+use upd_desk::{Arrival, Desk, Reply};
+use upd_migrate::migrate;
+use upd_rows::{ListStore, RowStore, RunRow, SqlStore, load_rows};
+use upd_testkit::applying::{applied, card_ref, name};
+use upd_testkit::check::{holds, same, same_text};
+use upd_wire::{serve_one, spool};
+
+const DECK: &str = "*DECK A\nONE\n";
+
+/// The compile line of the card A.2: 97 bytes.
+const LINE: &str =
+    "ONE                                                                              A             2\n";
+
+fn is_line(file: &CompileFile) -> Result<(), Fail> {
+    same("lines", file.lines, 1)?;
+    same_text("the line", std::str::from_utf8(&file.bytes)?, LINE)
+}
+
+/// The row of run 1 of site LYON.
+fn row(alloc: Global) -> Result<RunRow, Fail> {
+    Ok(RunRow {
+        site: String::from_str(alloc, "LYON")?,
+        number: 1,
+        mode: 0,
+        bytes: Vec::from_slice(alloc, DECK.as_bytes())?,
+        accepted: true,
+        reply: Vec::from_slice(alloc, b"{}")?,
+    })
+}
+
+/// Commits the run that introduces deck A, whose key is free.
+fn commit_deck<S: RowStore>(alloc: Global, store: &mut S) -> Result<(), Fail> {
+    let mut library = Library::new(alloc);
+    let changes = applied(&mut library, DECK)?.changes;
+    let run = row(alloc)?;
+    match store.kept_run(alloc, &run.site, run.number)? {
+        Some(_) => return Err("the key is taken".into()),
+        None => {}
+    }
+    store.commit(alloc, &changes, run)?;
+    Ok(())
+}
+
+/// The number of decks of a load, of a load of deck 1, and of the decks that hold A.2.
+fn loads<S: RowStore>(alloc: Global, store: &mut S) -> Result<[usize; 3], Fail> {
+    Ok([
+        store.load(alloc)?.decks().len(),
+        store.load_decks(alloc, &[1])?.decks().len(),
+        store.decks_of(alloc, &[card_ref("A.2")?])?.len(),
+    ])
+}
+
+/// The number of decks with active cards, and of all statuses and that of A.2. The run commits no status.
+fn statuses<S: RowStore>(alloc: Global, store: &mut S) -> Result<[usize; 3], Fail> {
+    Ok([
+        store.load_active(alloc)?.decks.len(),
+        store.load_states(alloc)?.states.len(),
+        store.states_of(alloc, &[card_ref("A.2")?])?.states.len(),
+    ])
+}
+
+/// The run is stored until its site settles it.
+fn is_settled<S: RowStore>(alloc: Global, store: &mut S) -> Result<(), Fail> {
+    let run = store.kept_run(alloc, "LYON", 1)?.ok_or("no run")?;
+    same("the run", run.bytes.as_slice(), DECK.as_bytes())?;
+    same("the mark", store.mark(alloc, "LYON")?, 0)?;
+    same("the new mark", store.settle_to(alloc, "LYON", 1)?, 1)?;
+    holds("no run", store.kept_run(alloc, "LYON", 1)?.is_none())
+}
+
+/// Each call of a store answers as it should.
+fn answers<S: RowStore>(alloc: Global, store: &mut S) -> Result<(), Fail> {
+    commit_deck(alloc, store)?;
+    same("loads", loads(alloc, store)?, [1, 1, 1])?;
+    same("statuses", statuses(alloc, store)?, [1, 0, 0])?;
+    is_settled(alloc, store)?;
+    same("counts", (store.failures(), store.decks_read()), (0, 2))
+}
+
+#[test]
+fn a_store_over_lists_answers(rt: HostRuntime) -> Result<(), Fail> {
+    answers(rt.alloc(), &mut ListStore::new(rt.alloc()))
+}
+
+#[test]
+fn a_store_written_to_the_list_of_calls_answers(rt: HostRuntime) -> Result<(), Fail> {
+    answers(rt.alloc(), &mut WrittenStore::new(rt.alloc()))
+}
+
+fn made(alloc: Global) -> Result<SqlStore<MemStore>, Fail> {
+    match SqlStore::init(Connection::open_in_memory(alloc)?) {
+        Ok(store) => Ok(store),
+        Err((fault, _)) => Err(fault.into()),
+    }
+}
+
+fn adopted(conn: Connection<MemStore>) -> Result<SqlStore<MemStore>, Fail> {
+    match SqlStore::adopt(conn) {
+        Ok(store) => Ok(store),
+        Err((fault, _)) => Err(fault.into()),
+    }
+}
+
+#[test]
+fn a_store_over_sqlite_answers(rt: HostRuntime) -> Result<(), Fail> {
+    answers(
+        rt.alloc(),
+        &mut adopted(made(rt.alloc())?.into_connection())?,
+    )
+}
+
+#[test]
+fn rows_of_a_connection_are_loaded_and_migrated(rt: HostRuntime) -> Result<(), Fail> {
+    let mut store = made(rt.alloc())?;
+    commit_deck(rt.alloc(), &mut store)?;
+    let mut conn = store.into_connection();
+    migrate(rt.alloc(), &mut conn)?;
+    let library: Library = load_rows(rt.alloc(), &mut conn)?;
+    same("cards", library.cards_of(1).len(), 2)
+}
+
+/// No library is opened at a path without a file, and none is made.
+#[test]
+fn a_missing_file_is_not_opened(rt: HostRuntime) -> Result<(), Fail> {
+    let path = fresh(&rt, "surface")?;
+    let is_opened = SqlStore::open(&rt, path.as_str(), true, Unknown).is_ok();
+    let is_made = fs::exists(&rt, path.as_str())?;
+    same("opened, made", (is_opened, is_made), (false, false))
+}
+
+/// A desk over lists with deck A.
+fn desk(alloc: Global) -> Result<Desk<ListStore>, Fail> {
+    let mut desk = Desk::open(ListStore::new(alloc));
+    let reply: Reply = desk.arrive(alloc, "LYON", 1, "quick", DECK.as_bytes())?;
+    let wanted = "{\"compile\":\"\",\"idents\":[\"A\"],\"lines\":0,\"mode\":\"quick\",\"run\":1,\
+\"site\":\"LYON\",\"state\":\"accepted\"}";
+    same_text("the reply", std::str::from_utf8(&reply.text)?, wanted)?;
+    same("accepted, work", (reply.accepted, desk.work()), (true, 2))?;
+    Ok(desk)
+}
+
+/// The listings of deck A, of its line, of the idents and of the yanks.
+fn listings(alloc: Global, desk: &mut Desk<ListStore>) -> Result<[Vec<u8>; 4], Fail> {
+    Ok([
+        desk.deck_list(alloc, &name("A")?)?,
+        desk.card_list(alloc, card_ref("A.2")?)?,
+        desk.ident_list(alloc)?,
+        desk.yank_list(alloc)?,
+    ])
+}
+
+const LISTINGS: [&str; 4] = [
+    "DECK A\nA A.1 *DECK A\nA A.2 ONE\n",
+    "CARD A.2\nDECK A\nTEXT ONE\nSTATUS active\nENTRY A on\n",
+    "1 A deck held\n",
+    "",
+];
+
+#[test]
+fn a_desk_answers(rt: HostRuntime) -> Result<(), Fail> {
+    let mut desk = desk(rt.alloc())?;
+    is_line(&desk.full_compile(rt.alloc())?)?;
+    for (found, wanted) in listings(rt.alloc(), &mut desk)?.iter().zip(LISTINGS) {
+        same_text("a listing", std::str::from_utf8(found)?, wanted)?;
+    }
+    same("the mark", desk.settle_site(rt.alloc(), "LYON", 1)?, 1)?;
+    same("the mark", desk.close().mark(rt.alloc(), "LYON")?, 1)
+}
+
+/// Run 1 of site PARIS, which is empty.
+const EMPTY: Arrival<'static> = Arrival {
+    site: "PARIS",
+    number: 1,
+    mode: "full",
+    bytes: b"",
+};
+
+#[test]
+fn a_list_of_runs_is_answered(rt: HostRuntime) -> Result<(), Fail> {
+    let mut desk = Desk::open(made(rt.alloc())?);
+    let answers = desk.run_all(rt.alloc(), &[EMPTY, EMPTY])?;
+    let mut accepted: u32 = 0;
+    for answer in &answers {
+        accepted = accepted.saturating_add(u32::from(answer.is_ok()));
+    }
+    same("answers, accepted", (answers.len(), accepted), (2, 2))
+}
+
+#[test]
+fn a_request_and_a_spool_are_answered(rt: HostRuntime) -> Result<(), Fail> {
+    let mut desk = desk(rt.alloc())?;
+    let mut output = Vec::new(rt.alloc());
+    let mut request = b"GET /idents HTTP/1.1\r\n\r\n".as_slice();
+    serve_one(rt.alloc(), &mut request, &mut output, &mut desk)?;
+    let wanted = "HTTP/1.1 200 OK\r\nContent-Type: text/plain\r\nContent-Length: 14\r\n\
+Connection: close\r\n\r\n1 A deck held\n";
+    same_text("the answer", std::str::from_utf8(&output)?, wanted)?;
+    let mut frames = b"RUN LYON 2 quick 0\n\n".as_slice();
+    let frames = spool(rt.alloc(), &mut frames, &mut output, &mut desk)?;
+    same("frames", frames, 1)
+}
+
+#[test]
+fn a_trial_is_a_call_and_a_command(rt: HostRuntime) -> Result<(), Fail> {
+    is_line(&trial(rt.alloc(), Mode::Full, DECK.as_bytes())?)?;
+    let (mut output, mut faults) = (Vec::new(rt.alloc()), Vec::new(rt.alloc()));
+    let words = ["upd", "trial", "full"];
+    let mut input = DECK.as_bytes();
+    let status: u8 = run_command(&rt, &words, &mut input, &mut output, &mut faults);
+    same("the status, faults", (status, faults.len()), (0, 0))?;
+    same_text("the output", std::str::from_utf8(&output)?, LINE)
+}
