@@ -18,7 +18,7 @@ pub(crate) fn ident_at(idents: &[Ident], age: Serial) -> Option<&Ident>
 }
 
 /// The name of the ident with a serial; empty where there is no such ident.
-pub(crate) fn name_of(idents: &[Ident], age: Serial) -> &[u8]
+pub fn name_of(idents: &[Ident], age: Serial) -> &[u8]
     ensures { result.now ≡ name_of idents.now age }
 {
     match ident_at(idents, age) {

@@ -1,4 +1,4 @@
-//! The four listings. Each line ends with LF.
+//! The four listings, and the lines that they are made of. Each line ends with LF.
 
 ghost use Rattle.std.specs.Prelude.{◌≡◌, ◌∷◌, ◌++◌, [], ℕ, List, if◌then◌else◌, codes, drop, OnOk, IfOk, not};
 ghost use Rattle.std.specs.List.{flat_map, list_any};
@@ -182,7 +182,8 @@ fn push_fields(
     push_parts(text, &[&card.text, b"\nSTATUS ", status, b"\n"])
 }
 
-fn push_entries(
+/// Appends the lines of a card's history in a deck.
+pub fn push_entries(
     text: &mut Vec<u8>,
     idents: &[Ident],
     live: &Live,
@@ -261,7 +262,12 @@ fn push_yanks(
     Ok(())
 }
 
-fn push_targets(text: &mut Vec<u8>, idents: &[Ident], targets: &[Target]) -> Result<(), AllocError>
+/// Appends the lines of targets, as the listing of the yanks has them.
+pub fn push_targets(
+    text: &mut Vec<u8>,
+    idents: &[Ident],
+    targets: &[Target],
+) -> Result<(), AllocError>
     ensures { OnOk result (text.new.items ≡ text.old.items ++ flat_map (target_line idents.now) targets.now) }
 {
     for target in targets {
@@ -270,7 +276,12 @@ fn push_targets(text: &mut Vec<u8>, idents: &[Ident], targets: &[Target]) -> Res
     Ok(())
 }
 
-fn push_target(text: &mut Vec<u8>, idents: &[Ident], target: Target) -> Result<(), AllocError>
+/// Appends the line of a target.
+pub fn push_target(
+    text: &mut Vec<u8>,
+    idents: &[Ident],
+    target: Target,
+) -> Result<(), AllocError>
     ensures { OnOk result (text.new.items ≡ text.old.items ++ target_line idents.now target) }
 {
     match target {
@@ -329,7 +340,7 @@ fn is_purged(idents: &[Ident], age: Serial) -> bool
 }
 
 /// The name of the deck with a serial.
-fn deck_name(idents: &[Ident], age: Serial) -> &[u8]
+pub fn deck_name(idents: &[Ident], age: Serial) -> &[u8]
     ensures { result.now ≡ deck_name idents.now age }
 {
     if age == 0 {
@@ -339,8 +350,8 @@ fn deck_name(idents: &[Ident], age: Serial) -> &[u8]
     }
 }
 
-/// A line of a card: a status, its reference and its text.
-fn push_card(
+/// Appends a line of a card: a word, its reference and its text.
+pub fn push_card(
     text: &mut Vec<u8>,
     status: &[u8],
     idents: &[Ident],
@@ -354,8 +365,12 @@ fn push_card(
     push_parts(text, &[b" ", &card.text, b"\n"])
 }
 
-/// The reference of a card.
-fn push_card_name(text: &mut Vec<u8>, idents: &[Ident], card: &Card) -> Result<(), AllocError>
+/// Appends the reference of a card.
+pub fn push_card_name(
+    text: &mut Vec<u8>,
+    idents: &[Ident],
+    card: &Card,
+) -> Result<(), AllocError>
     ensures { OnOk result (text.new.items ≡ text.old.items ++ card_name idents.now card.now) }
 {
     push_parts(text, &[name_of(idents, card.ident), b"."])?;

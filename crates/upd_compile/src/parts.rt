@@ -6,7 +6,7 @@ ghost use Rattle.std.specs.List.{flat_map};
 use std::alloc::AllocError;
 
 /// Appends parts in order.
-pub(crate) fn push_parts(text: &mut Vec<u8>, parts: &[&[u8]]) -> Result<(), AllocError>
+pub fn push_parts(text: &mut Vec<u8>, parts: &[&[u8]]) -> Result<(), AllocError>
     ensures { OnOk result (text.new.items ≡ text.old.items ++ flat_map (λ part. part.now) parts.now) }
 {
     for part in parts {

@@ -1,57 +1,19 @@
-//! Appending to a text: parts in order, references of cards, lines of cards, fields in columns.
+//! Appending to a text: lines of decks, and fields in columns.
 
 ghost use Rattle.std.specs.Prelude.{◌≡◌, ◌≤◌, ◌∷◌, ◌++◌, [], if◌then◌else◌, codes, OnOk};
-ghost use Rattle.std.specs.List.{flat_map};
 ghost use Rattle.upd_compile.specs.File.{blanks, from_left};
 ghost use Rattle.upd_compile.specs.Listings.{card_name, deck_name, line_of};
 ghost use Rattle.upd_core.specs.Status.{is_active};
 
-use crate::idents_by_serial::{deck_name, name_of};
-use itoa::Buffer;
 use std::alloc::AllocError;
+use upd_compile::listings::{deck_name, push_card_name};
+use upd_compile::parts::push_parts;
 use upd_core::{Card, Ident, Live, Serial};
 
 /// The widest column.
 pub(crate) const MAX_COLUMN: usize = 18;
 
 const BLANKS: &[u8; MAX_COLUMN] = &[b' '; MAX_COLUMN];
-
-/// Appends parts in order.
-pub(crate) fn push_parts(text: &mut Vec<u8>, parts: &[&[u8]]) -> Result<(), AllocError>
-    ensures { OnOk result (text.new.items ≡ text.old.items ++ flat_map (λ part. part.now) parts.now) }
-{
-    for part in parts {
-        text.extend_from_slice(part)?;
-    }
-    Ok(())
-}
-
-/// Appends the reference of a card.
-pub(crate) fn push_card_name(
-    text: &mut Vec<u8>,
-    idents: &[Ident],
-    card: &Card,
-) -> Result<(), AllocError>
-    ensures { OnOk result (text.new.items ≡ text.old.items ++ card_name idents.now card.now) }
-{
-    push_parts(text, &[name_of(idents, card.ident), b"."])?;
-    text.extend_from_slice(Buffer::new().format(card.number).as_bytes())
-}
-
-/// Appends a line of a card: a word, its reference and its text.
-pub(crate) fn push_card(
-    text: &mut Vec<u8>,
-    word: &[u8],
-    idents: &[Ident],
-    card: &Card,
-) -> Result<(), AllocError>
-    ensures { OnOk result (text.new.items
-        ≡ text.old.items ++ line_of (word.now ∷ card_name idents.now card.now ∷ card.now.text ∷ [])) }
-{
-    push_parts(text, &[word, b" "])?;
-    push_card_name(text, idents, card)?;
-    push_parts(text, &[b" ", &card.text, b"\n"])
-}
 
 /// Appends the line of a deck's name.
 pub(crate) fn push_deck_line(

@@ -11,9 +11,10 @@ ghost use Rattle.upd_text.specs.Faults.{fault_at};
 ghost use Rattle.upd_text.specs.Outcome.{GivesAt};
 ghost use Rattle.upd_text.specs.declared.fault.FaultKind.TheVariants.{NoMemory};
 
-use crate::appending::{push_card_column, push_column, push_parts, status_letter};
-use crate::idents_by_serial::name_of;
+use crate::appending::{push_card_column, push_column, status_letter};
 use std::alloc::{AllocError, Global};
+use upd_compile::idents::name_of;
+use upd_compile::parts::push_parts;
 use upd_core::{Card, Ident, Library, Live, Name, Serial};
 use upd_text::{Fault, FaultKind};
 

@@ -11,9 +11,10 @@ ghost use Rattle.upd_text.specs.Faults.{fault_at};
 ghost use Rattle.upd_text.specs.Outcome.{GivesAt};
 ghost use Rattle.upd_text.specs.declared.fault.FaultKind.TheVariants.{NoMemory};
 
-use crate::appending::{push_card, push_card_name, push_deck_line, push_parts, status_letter};
-use crate::target_lines::{push_target, push_targets};
+use crate::appending::{push_deck_line, status_letter};
 use std::alloc::{AllocError, Global};
+use upd_compile::listings::{push_card, push_card_name, push_target, push_targets};
+use upd_compile::parts::push_parts;
 use upd_core::{Card, Deck, Entry, Ident, Kind, Library, Live, Name, Serial, Target};
 use upd_text::{Fault, FaultKind};
 

@@ -9,9 +9,7 @@ pub mod deck_blame;
 pub mod escaping;
 pub mod fault_texts;
 pub mod ident_report;
-mod idents_by_serial;
 pub mod library_page;
-mod target_lines;
 pub mod worked_looks;
 
 pub use deck_blame::{blame, texts_begin_in_one_column};

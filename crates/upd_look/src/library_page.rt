@@ -3,21 +3,20 @@
 ghost use Rattle.std.specs.Prelude.{◌≡◌, ◌++◌, IfOk, OnOk};
 ghost use Rattle.std.specs.List.{flat_map};
 ghost use Rattle.std.specs.Result.{IsOkUnless};
-ghost use Rattle.upd_compile.specs.Listings.{entry_line};
 ghost use Rattle.upd_look.specs.LibraryPage.{block, card_item, card_summary, deck_item, deck_summary};
 ghost use Rattle.upd_look.specs.LibraryPage.{element, end_part, history_lines, page, page_head, start_part};
 ghost use Rattle.upd_core.specs.Library.{all_decks};
 ghost use Rattle.upd_text.specs.Faults.{fault_at};
 ghost use Rattle.upd_text.specs.declared.fault.FaultKind.TheVariants.{NoMemory};
 
-use crate::appending::{push_deck_line, push_parts, status_letter};
+use crate::appending::{push_deck_line, status_letter};
 use crate::deck_blame::push_blame_line;
 use crate::escaping::push_escaped;
-use crate::idents_by_serial::name_of;
-use crate::target_lines::push_targets;
 use std::alloc::{AllocError, Global};
+use upd_compile::listings::{push_entries, push_targets};
+use upd_compile::parts::push_parts;
 use upd_compile::{list_idents, list_yanks};
-use upd_core::{Card, Deck, Entry, Ident, Library, Live, Serial};
+use upd_core::{Card, Deck, Ident, Library, Live, Serial};
 use upd_text::Fault;
 
 /// What the page begins with: its style, and how its lines are read. It names nothing outside of the page.
@@ -209,41 +208,4 @@ fn push_history(
 {
     push_entries(text, idents, live, deck, &card.history)?;
     push_targets(text, idents, &card.targets)
-}
-
-fn push_entries(
-    text: &mut Vec<u8>,
-    idents: &[Ident],
-    live: &Live,
-    deck: Serial,
-    history: &[Entry],
-) -> Result<(), AllocError>
-    ensures { OnOk result (text.new.items
-        ≡ text.old.items ++ flat_map (entry_line idents.now live.now.targets deck) history.now) }
-{
-    for entry in history {
-        push_entry(text, idents, live, deck, entry)?;
-    }
-    Ok(())
-}
-
-fn push_entry(
-    text: &mut Vec<u8>,
-    idents: &[Ident],
-    live: &Live,
-    deck: Serial,
-    entry: &Entry,
-) -> Result<(), AllocError>
-    ensures { OnOk result (text.new.items ≡ text.old.items ++ entry_line idents.now live.now.targets deck entry.now) }
-{
-    let status: &[u8] = if entry.active { b" on" } else { b" off" };
-    let end: &[u8] = if live.is_taken(deck, entry.ident) {
-        b" taken\n"
-    } else {
-        b"\n"
-    };
-    push_parts(
-        text,
-        &[b"ENTRY ", name_of(idents, entry.ident), status, end],
-    )
 }

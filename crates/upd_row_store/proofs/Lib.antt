@@ -11,3 +11,4 @@ pub mod KeyLemmas
 pub mod ActiveLemmas
 mod RestLemmas
 pub mod AskedLemmas
+pub mod MovableLemmas

@@ -114,3 +114,20 @@ module _ {S : Type 0} {meaning : Ghosts S} where
       by : {A : Type 0} (r : Result A Fault) → OnErr r (image old ≡ image old)
       by (Ok x) = tt
       by (Err e) = refl
+
+  -- a write whose tables have to meet more
+  pub write_narrower : {A : Type 0} (fits narrower : Rows → Type 0) (write : Rows → Rows) (r : Result A Fault) (old new : S)
+      → ((rows : Rows) → narrower rows → fits rows) → LeavesWrite meaning fits write r old new → LeavesWrite meaning narrower write r old new
+  write_narrower fits narrower write r old new enough left = record {
+    opens = left.opens;
+    undone = left.undone;
+    crash = record { later = left.crash.later; crash = λ honest i may. by i (left.crash.crash honest i may) };
+    lost = left.lost;
+    failed = left.failed;
+    unread = left.unread;
+  }
+    where
+      by : (i : Image) → may_leave old i ⊎ (is_open old × ((rows : Rows) → shows (image old) rows → fits rows → shows i (write rows)))
+          → may_leave old i ⊎ (is_open old × ((rows : Rows) → shows (image old) rows → narrower rows → shows i (write rows)))
+      by i (inl may) = inl may
+      by i (inr wrote) = inr (wrote.0, λ rows shown fits. wrote.1 rows shown (enough rows fits))

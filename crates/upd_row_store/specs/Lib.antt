@@ -4,3 +4,4 @@ pub mod Assembling
 pub mod Asked
 pub mod Activating
 pub mod PartRows
+pub mod Movable

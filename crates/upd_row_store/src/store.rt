@@ -7,13 +7,15 @@ ghost use Rattle.upd_records.specs.Fits.{AllFit};
 ghost use Rattle.upd_row_store.specs.Asked.{decks_with};
 ghost use Rattle.upd_row_store.specs.Assembling.{AreRowsOf};
 ghost use Rattle.upd_row_store.specs.Keeping.{FindsLibrary, FindsRows, IsShown, LeavesLoad, LeavesRead, LeavesWrite};
+ghost use Rattle.upd_row_store.specs.Movable.{AllMoveListed};
 ghost use Rattle.upd_core.specs.Parts.{part_of};
 ghost use Rattle.upd_row_store.specs.Tables.{AreByKey, AreRead, AreReadOf, committed, mark_at, run_at, settled_to};
 
 use crate::asked::states_among;
 use crate::meaning::Meaning;
 use std::alloc::Global;
-use upd_core::{Actives, CardRef, Change, Library, Serial, States};
+use std::collections::BTreeMap;
+use upd_core::{Actives, CardRef, Change, Library, Name, Serial, States};
 use upd_records::{LibraryRows, RunRow};
 use upd_text::{Fault, FaultKind};
 
@@ -92,6 +94,25 @@ pub trait RowStore: Meaning {
             → IsShown Self.Meaning (committed (map change_view changes.now) run rows) self.new) }
         ensures leaves { LeavesWrite Self.Meaning (AllFit (map change_view changes.now)) (committed (map change_view changes.now) run)
             result self.old self.new };
+
+    /// Carries out row changes as `commit` does, where it is known which cards they move: each is of an ident in
+    /// `movable`, and its number is the one there or a later one. A store may look for these cards only.
+    fn commit_moving(
+        &mut self,
+        alloc: Global,
+        changes: &[Change],
+        run: RunRow,
+        movable: &BTreeMap<Name, u32>,
+    ) -> Result<(), Fault>
+        ensures done { Self.is_honest self.new → OnOk result ((rows : Rows) → IsShown Self.Meaning rows self.old
+            → AllFit (map change_view changes.now) rows → AllMoveListed movable.now (map change_view changes.now) rows
+            → IsShown Self.Meaning (committed (map change_view changes.now) run rows) self.new) }
+        ensures leaves { LeavesWrite Self.Meaning (λ rows. AllFit (map change_view changes.now) rows
+            × AllMoveListed movable.now (map change_view changes.now) rows)
+            (committed (map change_view changes.now) run) result self.old self.new }
+    {
+        self.commit(alloc, changes, run)
+    }
 
     /// Settles a site's runs up to a number, and answers the site's mark afterwards.
     fn settle_to(&mut self, alloc: Global, site: &str, number: u64) -> Result<u64, Fault>

@@ -1,9 +1,0 @@
-use Rattle.std.proofs.Common.{◌≡◌, ◌++◌, drop}
-use Rattle.std.specs.List.{flat_map}
-use Rattle.upd_compile.specs.Listings.{entry_line}
-use Rattle.upd_look.proofs.library_page.push_entries.Given as goal
-
-abbrev pub invariant-loop-entry : goal.invariant-loop-entry
-invariant-loop-entry l =
-    l.text.items ++ flat_map (entry_line l.idents l.live.targets l.deck) (drop l.entry-index l.history)
-    ≡ l.initial.text.items ++ flat_map (entry_line l.idents l.live.targets l.deck) l.history
