@@ -111,9 +111,9 @@ VisitsMore-none flags work i h = record {
 }
 
 -- some, and then one more
-pub VisitsMore-then : (positions : List ℕ) (i : ℕ) (a b c : List Bool) (x y z : List ℕ) → VisitsMore (is_in positions) a b x y
+pub VisitsMore-then : (positions : List ℕ) (i : ℕ) {a b c : List Bool} {x y z : List ℕ} → VisitsMore (is_in positions) a b x y
     → VisitsMore (λ k. i == k) b c y z → VisitsMore (is_in (positions ++ i ∷ [])) a c x z
-VisitsMore-then positions i a b c x y z first then = record {
+VisitsMore-then positions i {a = a} {x = x} first then = record {
   visits_more = λ k. then.visits_more k
       ∙ rw (first.visits_more k, first.same_length, is_in-push positions i k) (flags-then (is_flagged a k) (is_in positions k) (i == k) (nat_lt k (length a)));
   opened = λ k.

@@ -8,8 +8,7 @@ pub loop-position-preserved : goal.loop-position-preserved
 loop-position-preserved c =
     let positions = c.args.positions.now in
     let i = c.loop-position.position-index in
-    let more = VisitsMore-then (take i positions) (slice_index positions i) _ _ _
-            _ _ _ c.loop-position.invariant c.in_ok-visit.ensures in
+    let more = VisitsMore-then (take i positions) (slice_index positions i) c.loop-position.invariant c.in_ok-visit.ensures in
     rw (take_more positions i 0 c.loop-position-test.true) more
 
 pub returns : goal.returns
