@@ -14,6 +14,7 @@ pub mod SoundNumberLemmas
 pub mod SoundOutcomeLemmas
 pub mod SoundRunLemmas
 pub mod SoundStepLemmas
+pub mod SoundSwitchLemmas
 pub mod SoundYankLemmas
 pub mod KeptCardLemmas
 pub mod ReadLineLemmas

@@ -28,8 +28,9 @@ use Rattle.upd_laws.proofs.SoundIdentLemmas.{continues_same, continues_on}
 use Rattle.upd_laws.proofs.SoundYankLemmas.{sets_are, pairs_are, decks_are}
 use Rattle.upd_laws.proofs.SoundEditLemmas.{purged_sound}
 use Rattle.upd_laws.proofs.SoundLeadLemmas.{step_goes, step_rests, step_within}
-use Rattle.upd_laws.proofs.SoundStepLemmas.{set_sound, deck_begun_sound, after_sound, before_sound, switched_sound, put_sound, yank_put_sound, others_found}
+use Rattle.upd_laws.proofs.SoundStepLemmas.{set_sound, deck_begun_sound, after_sound, before_sound, put_sound, yank_put_sound, others_found}
 use Rattle.upd_laws.proofs.SoundStepLemmas.{purged_in_all_sound, ended_sound}
+use Rattle.upd_laws.proofs.SoundSwitchLemmas.{switched_sound}
 
 -- ---- a line
 

@@ -1,14 +1,12 @@
 -- Each line keeps a state sound.
-use Rattle.std.proofs.Common.{◌≡◌, ℕ, ◌+◌, ◌-◌, ◌<◌, ◌≤◌, Bool, true, false, not, ◌||◌, List, [], ◌∷◌, ◌++◌, map, length, take, drop, inl, inr, refl, sym}
+use Rattle.std.proofs.Common.{◌≡◌, ℕ, ◌+◌, ◌-◌, ◌<◌, ◌≤◌, Bool, true, false, List, [], ◌∷◌, length, inl, inr, refl, sym}
 use Rattle.std.proofs.Common.{ap, ◌∙◌, subst, arith}
-use Rattle.std.proofs.lemmas.Bool.Decides.{nat_tests}
 use Rattle.std.proofs.lemmas.List.Edits.{length-insert}
 use Rattle.std.proofs.lemmas.Option.{slice_get_within}
-use Rattle.std.specs.Prelude.{Option, Some, None, is_some, Result, Ok, ◌==◌, ◌⊎◌, nat_lt, insert, IsTrue}
+use Rattle.std.specs.Prelude.{Option, Some, None, is_some, Result, Ok, ◌==◌, ◌⊎◌, insert, IsTrue}
 use Rattle.std.specs.Option.{IfSome}
-use Rattle.std.specs.List.{AllByRecursion, AllZip}
+use Rattle.std.specs.List.{AllByRecursion}
 use Rattle.upd_text.specs.declared.card_ref.CardRef.{CardRef}
-use Rattle.upd_core.specs.declared.card.Entry.{Entry}
 use Rattle.upd_text.specs.declared.fault.FaultKind.{FaultKind}
 use Rattle.upd_text.specs.declared.fault.FaultKind.TheVariants as fault
 use Rattle.upd_core.specs.declared.ident.Ident.{Ident}
@@ -16,7 +14,7 @@ use Rattle.upd_core.specs.declared.ident.Kind.{Kind}
 use Rattle.upd_core.specs.declared.ident.Kind.TheVariants as kind
 use Rattle.upd_core.specs.declared.library.Place.{Place}
 use Rattle.upd_core.specs.declared.target.Target.{Target}
-use Rattle.upd_core.specs.Edits.{introduced, next_age, new_card, entered, with_deck, with_card, with_yank, with_entries, purged_in}
+use Rattle.upd_core.specs.Edits.{introduced, next_age, new_card, with_deck, with_card, with_yank, purged_in}
 use Rattle.upd_core.specs.Library.{CardView, DeckView, LibraryView, all_decks, cards_of, held_named, is_deck, is_deck_kind, place_of}
 use Rattle.upd_text.specs.Outcome.{refuse_if}
 use Rattle.upd_core.specs.Sound.{AreAgedFrom, all_cards, is_held, is_held_deck, stands, IsSound}
@@ -25,19 +23,19 @@ use Rattle.upd_apply.specs.declared.CurrentSet.{CurrentSet}
 use Rattle.upd_apply.specs.declared.state.InsertPoint.{InsertPoint}
 use Rattle.upd_apply.specs.declared.state.InsertPoint.TheVariants.{Nowhere, End, Inside}
 use Rattle.upd_apply.specs.declared.state.State.{State}
-use Rattle.upd_apply.specs.Step.{new_name, set_begun, deck_begun, behind, is_deck_card, placed_after, placed_before, switched, text_put, yank_put, ended}
+use Rattle.upd_apply.specs.Step.{new_name, set_begun, deck_begun, is_deck_card, placed_after, placed_before, text_put, yank_put, ended}
 use Rattle.upd_apply.specs.Step.{purged_in_all}
 use Rattle.upd_apply.specs.Names.{is_reserved, known_deck, known_ident}
 use Rattle.upd_apply.specs.Purges.{AgesIn, pair_ages, pairs_purged}
 use Rattle.upd_laws.specs.Soundness.{IsNext, IsCurrentSet, IsHandSound, IsAtEnd, IsInside, IsSpotSound, IsSoundState}
 use Rattle.upd_laws.proofs.SoundOutcomeLemmas.{each_all, through, through_need, through_refusal, through_grown, holds_of}
-use Rattle.upd_laws.proofs.SoundListLemmas.{same_number, is_same_number, other_number, any_last, all_append, all_weaker, HasMore, zip_all, zip_length}
+use Rattle.upd_laws.proofs.SoundListLemmas.{is_same_number, other_number, any_last, all_append, all_weaker, HasMore}
 use Rattle.upd_laws.proofs.SoundIdentLemmas.{held_within, held_more, held_last, held_deck_last, held_deck_held, not_some}
-use Rattle.upd_laws.proofs.SoundCardLemmas.{IsEntered, entered_some, idents_with, yanks_with, yanks_kept, standing_with, cards_with, standing, more_with_card}
-use Rattle.upd_laws.proofs.SoundCardLemmas.{more_with_yank, more_with_deck, zip_with_entries}
-use Rattle.upd_laws.proofs.SoundYankLemmas.{same_ident, AreYanked}
-use Rattle.upd_laws.proofs.SoundEditLemmas.{none_beyond, introduced_sound, cards_below, deck_sound, card_sound, yank_sound, entries_sound, purged_in_sound}
-use Rattle.upd_laws.proofs.SoundNumberLemmas.{next_first, next_own, next_other, next_entered, next_new}
+use Rattle.upd_laws.proofs.SoundCardLemmas.{idents_with, yanks_with, standing_with, cards_with, standing, more_with_card}
+use Rattle.upd_laws.proofs.SoundCardLemmas.{more_with_yank, more_with_deck}
+use Rattle.upd_laws.proofs.SoundYankLemmas.{AreYanked}
+use Rattle.upd_laws.proofs.SoundEditLemmas.{none_beyond, introduced_sound, cards_below, deck_sound, card_sound, yank_sound, purged_in_sound}
+use Rattle.upd_laws.proofs.SoundNumberLemmas.{next_first, next_own, next_other, next_new}
 use Rattle.upd_core.proofs.ApartLemmas.{all_front}
 use Rattle.upd_core.proofs.FoundLemmas.{card_of_place, flat}
 
@@ -153,10 +151,10 @@ deck_begun_sound name sort noprop text s t deck sound h =
 -- ---- the insertion point
 
 -- a card that is found is in the deck that is named
-place_within : (card : CardRef) (l : LibraryView) (p : Place) → IsSound l → place_of card l ≡ Some p → p.index < length (cards_of p.deck l)
+pub place_within : (card : CardRef) (l : LibraryView) (p : Place) → IsSound l → place_of card l ≡ Some p → p.index < length (cards_of p.deck l)
 place_within card l p sound e = let found = card_of_place l card p sound e in slice_get_within (cards_of p.deck l) p.index found.0 found.1
 
-behind_within : (n i : ℕ) → i < n → n - (i + 1) < n
+pub behind_within : (n i : ℕ) → i < n → n - (i + 1) < n
 behind_within n i h = omega arith
 
 pub after_sound : (card : CardRef) (s t : State) → IsSoundState s → placed_after card s ≡ Ok t → IsSoundState t
@@ -194,74 +192,6 @@ before_sound card s t sound h =
 
     up : (n i : ℕ) → i < n → 0 < i → n - (i + 1) + 1 < n
     up n i a b = omega arith
-
--- ---- entries
-
-not_or : (a b : Bool) → (not a || b) ≡ false → a ≡ true
-not_or true b e = refl
-not_or false b e = absurd (cc)
-
-or_not : (a b : Bool) → (not a || b) ≡ false → b ≡ false
-or_not true b e = e
-or_not false b e = absurd (cc)
-
-pub switched_sound : (active : Bool) (first last : CardRef) (s t : State) → IsSoundState s → switched active first last s ≡ Ok t → IsSoundState t
-switched_sound active first last s t sound h =
-    through_need fault.NoIdent s.current_set _ t (IsSoundState t) h (λ current_set e h1.
-    through_need fault.CardUnknown (place_of first s.library) _ t (IsSoundState t) h1 (λ p f h2.
-    through_need fault.CardUnknown (place_of last s.library) _ t (IsSoundState t) h2 (λ q g h3.
-    through_refusal (not (p.deck == q.deck) || nat_lt q.index p.index) fault.RangeOrder _ t (IsSoundState t) h3 (λ k h4.
-    through_refusal (is_deck_card p) fault.DeckCard _ t (IsSoundState t) h4 (λ n h5.
-    through_grown (with_entries p.deck p.index q.index (record { ident = current_set.ident; active = active }) s.library) _ t (IsSoundState t) h5 (λ h6.
-    holds_of IsSoundState _ t h6 (after current_set p q e
-    (same_number p.deck q.deck (not_or (p.deck == q.deck) (nat_lt q.index p.index) k))
-    (in_order p q (or_not (p.deck == q.deck) (nat_lt q.index p.index) k))
-    (place_within last s.library q sound.library g))))))))
-  where
-    in_order : (p q : Place) → nat_lt q.index p.index ≡ false → p.index ≤ q.index
-    in_order p q e = grind (arith, nat_tests)
-
-    after : (current_set : CurrentSet) (p q : Place) → s.current_set ≡ Some current_set → p.deck ≡ q.deck → p.index ≤ q.index → q.index < length (cards_of q.deck s.library)
-        → IsSoundState (record s {
-          library = with_entries p.deck p.index q.index (record { ident = current_set.ident; active = active }) s.library;
-          insert_point = Inside q.deck (behind q s.library);
-        })
-    after current_set p q e deck order within =
-        let was : IsCurrentSet current_set s.library = subst (λ o. IsHandSound o s.library) e sound.current_set in
-        record {
-          library = entries_sound p.deck p.index q.index entry s.library sound.library order was.held was.youngest;
-          current_set = subst (λ o. IsHandSound o l) (sym e) (record {
-            held = subst (λ idents. IsTrue (is_held idents current_set.ident)) (sym (idents_with p.deck change s.library)) was.held;
-            youngest = yanks_kept (λ (c : CardView). c.ident ≤ current_set.ident) p.deck change s.library
-                (zip_all (IsEntered entry) (λ (c : CardView). c.ident ≤ current_set.ident) (λ c. c.ident ≤ current_set.ident) s.library.yanks _
-                (λ x y r h. rw (same_ident entry x y r) h) (some s.library.yanks) was.youngest) was.youngest;
-            next = next_entered current_set.ident current_set.next entry s.library l (zip_with_entries p.deck p.index q.index entry s.library order) was.next;
-          });
-          insert_point = record { in_hand = ap is_some e; within = inr (subst (λ d. behind q s.library < length (cards_of d l)) deck same_deck) };
-        }
-      where
-        entry : Entry
-        entry = record { ident = current_set.ident; active = active }
-
-        change : List CardView → List CardView
-        change cards = take p.index cards ++ map (entered entry) (drop p.index (take (q.index + 1) cards)) ++ drop (q.index + 1) cards
-
-        l : LibraryView
-        l = with_entries p.deck p.index q.index entry s.library
-
-        some : (cards : List CardView) → AllZip (IsEntered entry) cards (change cards)
-        some cards = entered_some entry p.index (q.index + 1) cards (omega arith)
-
-        inside : q.index < length (cards_of p.deck s.library)
-        inside = subst (λ d. q.index < length (cards_of d s.library)) (sym deck) within
-
-        same_length : length (cards_of p.deck l) ≡ length (cards_of q.deck s.library)
-        same_length =
-            ap length (cards_with p.deck change s.library (standing p.deck s.library q.index inside)) ∙ zip_length (IsEntered entry) _ _
-            (some (cards_of p.deck s.library)) ∙ ap (λ d. length (cards_of d s.library)) deck
-
-        same_deck : behind q s.library < length (cards_of p.deck l)
-        same_deck = rw same_length (behind_within (length (cards_of q.deck s.library)) q.index within)
 
 -- ---- text
 

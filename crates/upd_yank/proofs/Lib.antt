@@ -6,11 +6,13 @@ pub mod FindLemmas
 pub mod KeptLemmas
 pub mod WorkLemmas
 pub mod StateLemmas
+pub mod SoundCascadeLemmas
 pub mod RightLemmas
 pub mod LeftLemmas
 pub mod RowLemmas
 pub mod ReachLemmas
 pub mod UnflippedLemmas
+pub mod ChangedRowLemmas
 pub mod StatusChangeLemmas
 pub mod WholeLemmas
 pub mod OnlyLemmas

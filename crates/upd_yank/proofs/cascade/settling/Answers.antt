@@ -2,7 +2,7 @@ use Rattle.std.proofs.Common.{ap, sym, ◌∙◌, subst}
 use Rattle.upd_core.specs.declared.library.Rest.{Rest}
 use Rattle.upd_core.specs.TargetCounts.{count_in, count_on}
 use Rattle.upd_yank.proofs.LeftLemmas.{left_found}
-use Rattle.upd_yank.proofs.RightLemmas.{views_are}
+use Rattle.upd_yank.proofs.SoundCascadeLemmas.{views_are}
 use Rattle.upd_yank.specs.Affected.{is_touched}
 use Rattle.upd_core.specs.Counted.{others_of, yanks_of}
 use Rattle.upd_yank.specs.Cascade.{ArePut, live_now, views}
