@@ -2,7 +2,6 @@
 use crate::follower::Follower;
 use std::alloc::Global;
 use std::test::Fail;
-use upd_core::CardRef;
 use upd_list_store::ListStore;
 use upd_row_store::RowStore;
 use upd_testkit::check::{holds, same, same_text};
