@@ -1,5 +1,5 @@
 //! Frames that are not valid, and answers that are not replies.
-use crate::spool_streams::ended;
+use crate::spool_streams::{desk, ended};
 use std::alloc::Global;
 use std::test::Fail;
 use upd_desk::Desk;
@@ -24,10 +24,6 @@ const NOWHERE: &str = "{\"at\":1,\"fault\":9,\"mode\":\"full\",\"name\":\"TextNo
 
 const FULL_EMPTY: &str = "{\"compile\":\"\",\"idents\":[],\"lines\":0,\"mode\":\"full\",\"run\":2,\
 \"site\":\"LYON\",\"state\":\"accepted\"}\n";
-
-fn desk(alloc: Global) -> Desk<ListStore> {
-    Desk::open(ListStore::new(alloc))
-}
 
 /// A spool on a desk: what comes out, and how it ends.
 fn comes_out(

@@ -19,7 +19,8 @@ pub fn ended(alloc: Global, end: Result<u32, Fault>) -> Result<String, Fail> {
     }
 }
 
-fn desk(alloc: Global) -> Desk<ListStore> {
+/// A desk over an empty library.
+pub fn desk(alloc: Global) -> Desk<ListStore> {
     Desk::open(ListStore::new(alloc))
 }
 
