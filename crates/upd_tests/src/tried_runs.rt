@@ -1,58 +1,44 @@
 //! Warnings of runs that are tried on a small library.
 
-use crate::warning_lines;
 use std::alloc::Global;
-use std::process::Abort;
 use std::test::Fail;
-use upd_apply::apply;
 use upd_core::Library;
-use upd_deck::read_run;
-
-/// The library that runs lead to, from the empty one.
-fn library_of(alloc: Global, runs: &[&[u8]]) -> Result<Library, Fail> {
-    let mut library = Library::new(alloc);
-    for run in runs {
-        let run = read_run(alloc, run)?;
-        let _ = apply(alloc, &mut library, &run)?;
-    }
-    Ok(library)
-}
+use upd_edit::warning_lines;
+use upd_testkit::applying::after;
+use upd_testkit::check::same_text;
 
 /// Deck A of 25 lines, of which X has replaced the second, A.3, and switched A.4 off; Y has yanked W, which had switched
 /// A.5 off.
 fn small(alloc: Global) -> Result<Library, Fail> {
-    library_of(
+    after(
         alloc,
         &[
-            b"*DECK A\n1\n2\n3\n4\n5\n6\n7\n8\n9\n10\n11\n12\n13\n14\n15\n16\n17\n18\n19\n20\n21\n22\n23\n24\n25\n",
-            b"*IDENT W\n*DELETE A.5\n",
-            b"*IDENT X\n*DELETE A.3\nTWO\n*DELETE A.4\n",
-            b"*IDENT Y\n*YANK W\n",
+            "*DECK A\n1\n2\n3\n4\n5\n6\n7\n8\n9\n10\n11\n12\n13\n14\n15\n16\n17\n18\n19\n20\n21\n22\n23\n24\n25\n",
+            "*IDENT W\n*DELETE A.5\n",
+            "*IDENT X\n*DELETE A.3\nTWO\n*DELETE A.4\n",
+            "*IDENT Y\n*YANK W\n",
         ],
     )
 }
 
-fn expect_warnings(rt: &impl Abort, alloc: Global, run: &[u8], wanted: &[u8]) -> Result<(), Fail> {
+fn expect_warnings(alloc: Global, run: &[u8], wanted: &str) -> Result<(), Fail> {
     let library = small(alloc)?;
     let found = warning_lines(alloc, &library, run)?;
-    assert_eq!(rt; found.as_slice(), wanted);
-    Ok(())
+    same_text("the warnings", std::str::from_utf8(&found)?, wanted)
 }
 
 #[test]
 fn cards_that_are_off_already_are_reported(rt: HostRuntime) -> Result<(), Fail> {
     let alloc = rt.alloc();
     expect_warnings(
-        &rt,
         alloc,
         b"*IDENT Z\n*DELETE A.3\nOTHER\n",
-        b"upd: 2: A.3 is off already, by X\n",
+        "upd: 2: A.3 is off already, by X\n",
     )?;
     expect_warnings(
-        &rt,
         alloc,
         b"*IDENT Z\n*DELETE A.3,A.4\n*DELETE A.2,A.6\n*DELETE A.5\n*DELETE X.1\n*RESTORE A.3\n",
-        b"upd: 2: A.3 is off already, by X\nupd: 2: A.4 is off already, by X\n",
+        "upd: 2: A.3 is off already, by X\nupd: 2: A.4 is off already, by X\n",
     )
 }
 
@@ -60,10 +46,9 @@ fn cards_that_are_off_already_are_reported(rt: HostRuntime) -> Result<(), Fail> 
 fn wide_ranges_are_reported(rt: HostRuntime) -> Result<(), Fail> {
     let alloc = rt.alloc();
     expect_warnings(
-        &rt,
         alloc,
         b"*IDENT Z\n*DELETE A.7,A.26\n*DELETE A.6,A.26\n*RESTORE A.2,A.21\n*DELETE A.26,A.2\n*DELETE A.2,Q.1\n",
-        b"upd: 3: the range has 21 cards\nupd: 4: the range has 21 cards\n",
+        "upd: 3: the range has 21 cards\nupd: 4: the range has 21 cards\n",
     )
 }
 
@@ -71,18 +56,16 @@ fn wide_ranges_are_reported(rt: HostRuntime) -> Result<(), Fail> {
 fn text_that_may_be_meant_for_a_directive_is_reported(rt: HostRuntime) -> Result<(), Fail> {
     let alloc = rt.alloc();
     expect_warnings(
-        &rt,
         alloc,
         b"*IDENT Z\n*INSERT A.2\n*delete A.3\n*DELTE A.3\n*DLEETE A.3\n*DELETTE\n*DEKETE,A.3\n*d A.3\n*CAL C\n",
-        b"upd: 3: *delete is text, not *DELETE\nupd: 4: *DELTE is text, not *DELETE\nupd: 5: *DLEETE is text, not *DELETE\n\
+        "upd: 3: *delete is text, not *DELETE\nupd: 4: *DELTE is text, not *DELETE\nupd: 5: *DLEETE is text, not *DELETE\n\
 upd: 6: *DELETTE is text, not *DELETE\nupd: 7: *DEKETE is text, not *DELETE\nupd: 8: *d is text, not *D\n\
 upd: 9: *CAL is text, not *CALL\n",
     )?;
     expect_warnings(
-        &rt,
         alloc,
         b"*IDENT Z\n*INSERT A.2\n* DELETE A.3\n*DLTE A.3\n*E A.3\n*DELETED A.3\n*\n*READ\n**\nDELTE\n *DELTE\n",
-        b"upd: 6: *DELETED is text, not *DELETE\n",
+        "upd: 6: *DELETED is text, not *DELETE\n",
     )
 }
 
@@ -90,11 +73,10 @@ upd: 9: *CAL is text, not *CALL\n",
 fn comments_are_reported_and_unread_runs_have_no_warnings(rt: HostRuntime) -> Result<(), Fail> {
     let alloc = rt.alloc();
     expect_warnings(
-        &rt,
         alloc,
         b"*IDENT Z\n*/ one\n*INSERT A.2\n*/two\n*delete\n*/",
-        b"upd: 2: dropped comments: 3, the first here\nupd: 5: *delete is text, not *DELETE\n",
+        "upd: 2: dropped comments: 3, the first here\nupd: 5: *delete is text, not *DELETE\n",
     )?;
-    expect_warnings(&rt, alloc, b"", b"")?;
-    expect_warnings(&rt, alloc, b"*/ one\n*DELETE\n", b"")
+    expect_warnings(alloc, b"", "")?;
+    expect_warnings(alloc, b"*/ one\n*DELETE\n", "")
 }
