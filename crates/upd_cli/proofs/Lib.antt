@@ -7,6 +7,5 @@ pub mod RequestLemmas
 pub mod TellingLemmas
 pub mod AskingLemmas
 pub mod LeavingLemmas
-pub mod SpoolingLemmas
 pub mod PassedLemmas
 pub mod CountLemmas

@@ -18,6 +18,6 @@ mod streams;
 mod trial_run;
 mod words;
 
-pub use command::{report_words, run_command};
+pub use command::{report_words, run_command, run_command_from};
 pub use trial_run::trial;
 pub use words::{serve_is_read, trial_is_read};

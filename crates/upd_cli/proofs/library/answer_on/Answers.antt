@@ -1,9 +1,12 @@
-use Rattle.std.proofs.Common.{Err}
-use Rattle.std.proofs.KnownBytes.{Appends-nil}
-use Rattle.upd_cli.proofs.CommandLemmas.{error_is}
+use Rattle.std.proofs.Common.{inl, inr}
+use Rattle.upd_cli.proofs.LeavingLemmas.{passed_tells_nothing}
 use Rattle.upd_cli.proofs.library.answer_on.Goals as goal
 
 pub returns-in_err-desk-clause-leaves : goal.returns-in_err-desk-clause-leaves
 returns-in_err-desk-clause-leaves g c =
-    let fault = c.in_err-desk.field-0.0 in
-    (Err fault, (error_is c.from_residual.result fault c.from_residual.ensures.1, Appends-nil (g.W.Write.contents c.args.output.now)))
+    inr (passed_tells_nothing c.from_residual.result c.in_err-desk.field-0.0 (g.W.Write.contents c.args.output.now)
+    c.from_residual.ensures.1 c.in_err-desk.ensures.unopened)
+
+pub returns-clause-leaves : goal.returns-clause-leaves
+returns-clause-leaves g c =
+    inl (c.in_ok-desk.desk.store, c.inquire-ended.new.desk.store, c.in_ok-desk.ensures.opened, c.inquire-ended.ensures.asks)

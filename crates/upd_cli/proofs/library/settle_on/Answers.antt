@@ -13,10 +13,10 @@ returns-in_err-desk-clause-leaves g c =
     number_read (number_of c.args.number.now) c.in_ok-number.number c.from_residual-in_err-desk.result (g.W.Write.contents c.args.output.now)
     (g.W.Write.contents c.args.output.now) _ (sym c.in_ok-number.was ∙ c.read_number.ensures)
     (inr (passed_tells_nothing c.from_residual-in_err-desk.result c.in_err-desk.field-0.0 (g.W.Write.contents c.args.output.now)
-    c.from_residual-in_err-desk.ensures.1 c.in_err-desk.ensures))
+    c.from_residual-in_err-desk.ensures.1 c.in_err-desk.ensures.unopened))
 
 pub returns-clause-leaves : goal.returns-clause-leaves
 returns-clause-leaves g c =
-    let (answer, settles, counts, tells) = c.settle-ended.ensures.tells in
     number_read (number_of c.args.number.now) c.in_ok-number.number c.settle-ended.result (g.W.Write.contents c.args.output.now)
-    (g.W.Write.contents c.settle-ended.new.output) _ (sym c.in_ok-number.was ∙ c.read_number.ensures) (inl (answer, tells))
+    (g.W.Write.contents c.settle-ended.new.output) _ (sym c.in_ok-number.was ∙ c.read_number.ensures)
+    (inl (c.in_ok-desk.desk.store, c.settle-ended.new.desk.store, c.in_ok-desk.ensures.opened, c.settle-ended.ensures.tells))

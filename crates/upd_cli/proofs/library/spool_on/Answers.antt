@@ -1,19 +1,20 @@
-use Rattle.std.proofs.Common.{ℕ, Result, subst, sym}
-use Rattle.upd_text.specs.declared.fault.Fault.{Fault}
-use Rattle.upd_cli.specs.Telling.{TellsLines}
-use Rattle.upd_cli.proofs.CommandLemmas.{error_is}
-use Rattle.upd_cli.proofs.SpoolingLemmas.{lines_before, unopened_tells_no_lines}
+use Rattle.std.proofs.Common.{inl, inr, refl}
+use Rattle.std.proofs.KnownBytes.{Appends-nil}
+use Rattle.upd_cli.proofs.LeavingLemmas.{passed_unopened}
 use Rattle.upd_cli.proofs.library.spool_on.Goals as goal
 
 pub returns-in_err-desk-clause-leaves : goal.returns-in_err-desk-clause-leaves
 returns-in_err-desk-clause-leaves g c =
-    let fault = c.in_err-desk.field-0.0 in
-    let input = g.R.Read.remaining c.args.input.now in
-    let output = g.W.Write.contents c.args.output.now in
-    let IsLeft : Result ℕ Fault → Type 0 = λ r. TellsLines r input input output output in
-    subst IsLeft (sym (error_is c.from_residual.result fault c.from_residual.ensures.1))
-    (unopened_tells_no_lines fault input output c.in_err-desk.ensures)
+    inr (
+      passed_unopened c.from_residual.result c.in_err-desk.field-0.0 c.from_residual.ensures.1 c.in_err-desk.ensures.unopened,
+      refl,
+      Appends-nil (g.W.Write.contents c.args.output.now),
+    )
+
+pub returns-in-Ok-clause-leaves : goal.returns-in-Ok-clause-leaves
+returns-in-Ok-clause-leaves g c =
+    inl (c.in_ok-desk.desk.store, c.spool-ended.new.desk.store, c.in_ok-desk.ensures.opened, refl, _, c.in-Ok.ensures)
 
 pub returns-in-Err-clause-leaves : goal.returns-in-Err-clause-leaves
-returns-in-Err-clause-leaves g c = lines_before _ _ _ (g.R.Read.remaining c.args.input.now) _ (g.W.Write.contents c.args.output.now) _
-    c.in-Err.fault c.in-Err.ensures
+returns-in-Err-clause-leaves g c =
+    inl (c.in_ok-desk.desk.store, c.spool-ended.new.desk.store, c.in_ok-desk.ensures.opened, c.in-Err.ensures)

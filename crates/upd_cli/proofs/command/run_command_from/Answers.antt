@@ -14,7 +14,7 @@ use Rattle.upd_cli.specs.declared.words.Request.TheVariants.{Trial, Library, Ser
 use Rattle.upd_cli.proofs.CommandLemmas.{answered, answered_at_once}
 use Rattle.upd_cli.proofs.RequestLemmas.{begins_otherwise, correct_command, explain_command, none_of, of_library, serve_command, trial_command, trial_mode}
 use Rattle.upd_cli.proofs.StreamLemmas.{takes_more}
-use Rattle.upd_cli.proofs.command.run_command.Goals as goal
+use Rattle.upd_cli.proofs.command.run_command_from.Goals as goal
 
 pub returns-in-Ok-Trial-clause-trial : goal.returns-in-Ok-Trial-clause-trial
 returns-in-Ok-Trial-clause-trial g c =
