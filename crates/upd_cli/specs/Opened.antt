@@ -18,7 +18,7 @@ use Rattle.upd_store.specs.Version.{HasVersion}
 use Rattle.upd_migrate.specs.Migrated.{HasKnown, MayMigrate, Migrates}
 
 -- The connection to a file was migrated; after a fault the file is as before.
-pub record MigratesFile (held : Image) (ended : Result ℕ Fault) (old new : State) : Type 0 where
+pub record MigratesFile (held : Image) (ended : Result (Unit {0}) Fault) (old new : State) : Type 0 where
   pub found : HasCleanDisk old → FindsIn held old
   pub done : HasCleanDisk new → IsTrue new.is_open → OnOk ended (Migrates old new)
   pub known : HasCleanDisk new → IsTrue new.is_open → OnOk ended (HasKnown old.committed)
@@ -58,7 +58,7 @@ module _ {S C : Type 0} (meaning : Ghosts S) (conn_of : S → C) (state : C → 
   MakesLibrary = (made : S) × IsMadeIn made
 
   -- a connection to the file was migrated
-  abbrev pub MigratesLibrary : Result ℕ Fault → Type 0
+  abbrev pub MigratesLibrary : Result (Unit {0}) Fault → Type 0
   MigratesLibrary ended = (old : C) × (new : C) × MigratesFile held ended (state old) (state new)
 
   -- the library in the file was opened, and this was done to the store over it

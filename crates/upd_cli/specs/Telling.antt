@@ -7,7 +7,8 @@ use Rattle.upd_desk.specs.Answers.{IsUntold, answer_line, is_answered}
 use Rattle.upd_desk.specs.Arrivals.{is_site}
 use Rattle.upd_desk.specs.Outcomes.{ReplyView}
 use Rattle.upd_io.specs.Fronts.{AppendsFront}
-use Rattle.upd_cli.specs.Status.{write_failed}
+use Rattle.upd_cli.specs.Command.{IsTold}
+use Rattle.upd_cli.specs.Status.{exit_status, fault_line, write_failed}
 
 -- These bytes went to the output, and the command ends with this status; or the write failed, and at most a beginning of them is there.
 abbrev pub Writes : ℕ → List ℕ → Result ℕ Fault → Option (List ℕ) → Option (List ℕ) → Type 0
@@ -35,3 +36,16 @@ TellsMark site (Err fault) result output output' = (result ≡ Err fault) × App
 abbrev pub TellsText : Result (List ℕ) Fault → Result ℕ Fault → Option (List ℕ) → Option (List ℕ) → Type 0
 TellsText (Ok text) result output output' = Writes 0 text result output output'
 TellsText (Err fault) result output output' = (result ≡ Err fault) × Appends output output' []
+
+-- the warnings of a run are reported behind its answer, with the status of that; or the fault by which there is no answer is reported by its line
+abbrev pub IsWarned : List ℕ → Result ℕ Fault → ℕ → Option (List ℕ) → Option (List ℕ) → Type 0
+IsWarned warnings (Ok meant) status faults faults' = IsTold meant warnings status faults faults'
+IsWarned warnings (Err fault) status faults faults' = IsTold (exit_status fault.kind) (fault_line fault) status faults faults'
+
+-- A run that was tried is reported by its answer on the output and by its warnings on the fault stream. Where the warnings can't be made, the line of that fault
+-- is reported, and nothing is on the output.
+abbrev pub TellsTried : Result ReplyView Fault → Result (List ℕ) Fault → ℕ → Option (List ℕ) → Option (List ℕ) → Option (List ℕ) → Option (List ℕ) → Type 0
+TellsTried answer (Ok warnings) status output output' faults faults' =
+    (ended : Result ℕ Fault) × TellsRun answer ended output output' × IsWarned warnings ended status faults faults'
+TellsTried answer (Err fault) status output output' faults faults' =
+    IsTold (exit_status fault.kind) (fault_line fault) status faults faults' × Appends output output' []

@@ -8,6 +8,7 @@ mod arriving;
 mod asking;
 mod command;
 mod correcting;
+mod errands;
 mod explaining;
 mod help;
 mod library;
