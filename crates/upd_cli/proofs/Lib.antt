@@ -7,6 +7,7 @@ pub mod RequestLemmas
 pub mod TellingLemmas
 pub mod AskingLemmas
 pub mod LeavingLemmas
-pub mod SpoolingLemmas
+pub mod TriedLemmas
+pub mod DoneLemmas
 pub mod PassedLemmas
 pub mod CountLemmas

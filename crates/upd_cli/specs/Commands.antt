@@ -1,67 +1,33 @@
--- How commands on the library in a file end, and what they leave on the output.
-use Rattle.std.specs.Prelude.{◌≡◌, ◌⊎◌, ℕ, List, [], Option, Some, None, Result, Ok, Err, IfErr, IfOk, IsErrAnd}
+-- How commands end: what they do to the library in a file, and what they leave on the output and the fault stream.
+use Rattle.std.specs.Prelude.{◌≡◌, ◌≤◌, ◌⊎◌, ℕ, List, [], length, Option, Result, Ok, Err, IfErr, IsErrAnd, OnOk}
 use Rattle.std.specs.Io.KnownBytes.{Appends}
 use Rattle.std.specs.Net.Grammar.{IsSocketText}
 use Rattle.std.specs.declared.net.socket_addr.SocketAddr.{SocketAddr}
-use Rattle.upd_text.specs.declared.fault.Fault.{Fault}
-use Rattle.upd_text.specs.declared.fault.FaultKind.TheVariants.{BadName, BadNumber}
-use Rattle.upd_desk.specs.Outcomes.{ReplyView}
-use Rattle.upd_io.specs.Numbers.{number_of}
-use Rattle.upd_look.specs.FaultTexts.{explained}
-use Rattle.upd_text.specs.Outcome.{at_line, need}
+use Rattle.sqlite_wal.specs.Recovery.{Image}
+use Rattle.sqlite.specs.State.{State}
 use Rattle.clap.specs.Words.{Text}
-use Rattle.upd_cli.specs.Command.{IsTold}
-use Rattle.upd_cli.specs.Correcting.{IsCorrected}
-use Rattle.upd_cli.specs.Operands.{IsNoAddress, card_read, deck_read}
+use Rattle.upd_text.specs.declared.fault.Fault.{Fault}
+use Rattle.upd_text.specs.declared.fault.FaultKind.TheVariants.{BadName}
+use Rattle.upd_text.specs.Outcome.{at_line, need}
+use Rattle.upd_row_store.specs.declared.meaning.Meaning.{Ghosts}
+use Rattle.upd_store.specs.Faults.{IsUnopened}
+use Rattle.upd_http.specs.Serving.{Made, LeadsThrough}
+use Rattle.upd_look.specs.FaultTexts.{explained}
+use Rattle.upd_io.specs.Inputs.{IsInput}
+use Rattle.upd_edit.specs.declared.editing.TheConstants.{MAX_TEXT_BYTES}
+use Rattle.upd_cli.specs.Command.{Answers, IsEnd, IsTold, answer_to}
+use Rattle.upd_cli.specs.Errands.{CorrectsText, DoesErrand, TriesRun}
+use Rattle.upd_cli.specs.Opened.{IsWarmed, MakesLibrary, MigratesLibrary, OnFile}
+use Rattle.upd_cli.specs.Operands.{IsNoAddress, errand_of}
 use Rattle.upd_cli.specs.Status.{exit_status, fault_line, no_memory}
-use Rattle.upd_cli.specs.Telling.{TellsLines, TellsMark, TellsRun, TellsText}
+use Rattle.upd_cli.specs.Streams.{IsFrontOf, IsRunOn}
+use Rattle.upd_cli.specs.Telling.{TellsText}
+use Rattle.upd_cli.specs.Trial.{trial_named}
 use Rattle.upd_cli.specs.Words.{IsAskedFor}
-use Rattle.upd_cli.specs.declared.words.Request.{Request}
-use Rattle.upd_cli.specs.declared.words.Request.TheVariants.{Library, Serve, Correct, Explain, Unread}
+use Rattle.upd_cli.specs.declared.errands.Errand.{Errand}
 use Rattle.upd_cli.specs.declared.words.Asked.{Asked}
-use Rattle.upd_cli.specs.declared.words.Asked.TheVariants as asks
-
--- the fault of a NUMBER that is not valid
-abbrev pub no_number : Fault
-no_number = record { kind = BadNumber; at = 0 }
-
-module _ (ended : Result ℕ Fault) (output output' : Option (List ℕ)) where
-  -- nothing was told, since memory, the store or a read failed
-  abbrev pub TellsNothing : Type 0
-  TellsNothing = IsErrAnd ended (λ fault. exit_status fault.kind ≡ 3) × Appends output output' []
-
-  -- a command with a NUMBER reported this; a NUMBER that is not valid is refused, and nothing is asked
-  abbrev pub TellsNumbered : Option ℕ → Type 0 → Type 0
-  TellsNumbered (Some number) told = told ⊎ TellsNothing
-  TellsNumbered None told = (ended ≡ Err no_number) × Appends output output' []
-
-  -- a command with a DECK or CARD reported this; one that is not valid is refused, and nothing is asked
-  abbrev pub TellsRead : {A : Type 0} → Result A Fault → Type 0
-  TellsRead (Ok read) = (answer : Result (List ℕ) Fault) × TellsText answer ended output output'
-  TellsRead (Err fault) = (ended ≡ Err fault) × Appends output output' []
-
-  -- a command without an answer: all was done, or memory, the store, a read or a write failed
-  abbrev pub IsSilent : Type 0
-  IsSilent = IfOk ended (λ status. status ≡ 0) × IfErr ended (λ fault. exit_status fault.kind ≡ 3) × Appends output output' []
-
--- What a command leaves on the output, as it ends: an answer to what it asks, and `spool` the lines of answers to the frames of its input.
-abbrev pub Leaves : Asked → Result ℕ Fault → Option (List ℕ) → Option (List ℕ) → Option (List ℕ) → Option (List ℕ) → Type 0
-Leaves (asks.Run site number mode) ended input input' output output' =
-    TellsNumbered ended output output' (number_of number.now) ((answer : Result ReplyView Fault) × TellsRun answer ended output output')
-Leaves (asks.Settle site number) ended input input' output output' =
-    TellsNumbered ended output output' (number_of number.now) ((answer : Result ℕ Fault) × TellsMark site.now answer ended output output')
-Leaves asks.Spool ended input input' output output' = TellsLines ended input input' output output'
-Leaves (asks.Try mode) ended input input' output output' =
-    ((answer : Result ReplyView Fault) × TellsRun answer ended output output') ⊎ TellsNothing ended output output'
-Leaves (asks.List deck) ended input input' output output' = TellsRead ended output output' (deck_read deck.now)
-Leaves (asks.Text deck) ended input input' output output' = TellsRead ended output output' (deck_read deck.now)
-Leaves (asks.Source deck) ended input input' output output' = TellsRead ended output output' (deck_read deck.now)
-Leaves (asks.Blame deck) ended input input' output output' = TellsRead ended output output' (deck_read deck.now)
-Leaves (asks.Show ident) ended input input' output output' = TellsRead ended output output' (deck_read ident.now)
-Leaves (asks.History card) ended input input' output output' = TellsRead ended output output' (card_read card.now)
-Leaves asks.Init ended input input' output output' = IsSilent ended output output'
-Leaves asks.Migrate ended input input' output output' = IsSilent ended output output'
-Leaves _ ended input input' output output' = (answer : Result (List ℕ) Fault) × TellsText answer ended output output'
+use Rattle.upd_cli.specs.declared.words.Request.{Request}
+use Rattle.upd_cli.specs.declared.words.Request.TheVariants.{Trial, Init, Library, Serve, Correct, Try, Migrate, Explain, Shown, Unread}
 
 -- the exit status of a command that ended so; its fault, if any, is reported by its line
 abbrev pub IsEndOf : Result ℕ Fault → ℕ → Option (List ℕ) → Option (List ℕ) → Type 0
@@ -77,31 +43,85 @@ abbrev pub IsExplained : List ℕ → ℕ → Option (List ℕ) → Option (List
 IsExplained word status output output' faults faults' =
     (ended : Result ℕ Fault) × TellsText (explained_fault word) ended output output' × IsEndOf ended status faults faults'
 
--- a command on a library ended, and output, fault stream and status tell how
-abbrev pub IsCarriedOut : Asked → ℕ → Option (List ℕ) → Option (List ℕ) → Option (List ℕ) → Option (List ℕ) → Option (List ℕ) → Option (List ℕ) → Type 0
-IsCarriedOut asked status input input' output output' faults faults' =
-    (ended : Result ℕ Fault) × Leaves asked ended input input' output output' × IsEndOf ended status faults faults'
+-- memory, the store or a read failed before anything was told: the line of that is reported, and nothing is on the output
+abbrev pub FailsFirst : ℕ → Option (List ℕ) → Option (List ℕ) → Option (List ℕ) → Option (List ℕ) → Type 0
+FailsFirst status output output' faults faults' =
+    (fault : Fault) × (exit_status fault.kind ≡ 3) × IsTold 3 (fault_line fault) status faults faults' × Appends output output' []
 
--- how `serve` ended: an ADDRESS that is not valid is a mistake in the command line; else connections were served, or the failure is reported by its line
-abbrev pub IsServed : List ℕ → ℕ → Option (List ℕ) → Option (List ℕ) → Type 0
-IsServed address status faults faults' =
-    (IsNoAddress address × ((status ≡ 2) ⊎ (status ≡ 3)))
-    ⊎ ((place : SocketAddr) × IsSocketText address place
-    × (ended : Result ℕ Fault) × IfOk ended (λ meant. meant ≡ 0) × IfErr ended (λ fault. exit_status fault.kind ≡ 3)
-    × IsEndOf ended status faults faults')
+-- a command with no answer ended: all was done, or the line of what failed is reported
+abbrev pub EndsSilently : Result (Unit {0}) Fault → ℕ → Option (List ℕ) → Option (List ℕ) → Type 0
+EndsSilently ended status faults faults' = IfErr ended (λ fault. exit_status fault.kind ≡ 3) × IsEnd ended status faults faults'
 
--- How a request was carried out: a command on a library and `serve` as is defined, and words that can't be read leave nothing on the output.
--- Of a trial the clause `trial` of `run_command` speaks, and of help and the version none does.
-abbrev pub IsDone : Request → ℕ → Option (List ℕ) → Option (List ℕ) → Option (List ℕ) → Option (List ℕ) → Option (List ℕ) → Option (List ℕ) → Type 0
-IsDone (Library file asked) status input input' output output' faults faults' = IsCarriedOut asked status input input' output output' faults faults'
-IsDone (Serve file address count) status input input' output output' faults faults' = Appends output output' [] × IsServed address.now status faults faults'
-IsDone (Correct file set) status input input' output output' faults faults' = IsCorrected status output output' faults faults'
-IsDone (Explain fault) status input input' output output' faults faults' = IsExplained fault.now status output output' faults faults'
-IsDone (Unread text) status input input' output output' faults faults' = Appends output output' []
-IsDone _ status input input' output output' faults faults' = Unit {0}
+-- The store over the file: its meaning, its connection, the state of a connection, and what the file held before.
+module _ {S C : Type 0} (meaning : Ghosts S) (conn_of : S → C) (state : C → State) (held : Image) where
+  -- An errand ended: the desk of the library in the file did it. Where an operand is not valid, or the file can't be opened, nothing is read or told.
+  abbrev pub LeavesErrand : Result Errand Fault → Result ℕ Fault → Option (List ℕ) → Option (List ℕ) → Option (List ℕ) → Option (List ℕ) → Type 0
+  LeavesErrand (Ok errand) ended input input' output output' =
+      OnFile meaning conn_of state held (λ old new. DoesErrand meaning errand ended old new input input' output output')
+      ⊎ (IsErrAnd ended IsUnopened × (input' ≡ input) × Appends output output' [])
+  LeavesErrand (Err fault) ended input input' output output' = (ended ≡ Err fault) × (input' ≡ input) × Appends output output' []
 
--- What the words ask for was carried out; or there was no memory to read them, and that is reported.
-abbrev pub CarriesOut : List Text → ℕ → Option (List ℕ) → Option (List ℕ) → Option (List ℕ) → Option (List ℕ) → Option (List ℕ) → Option (List ℕ) → Type 0
-CarriesOut words status input input' output output' faults faults' =
-    ((request : Request) × IsAskedFor words request × IsDone request status input input' output output' faults faults')
-    ⊎ (IsTold 3 (fault_line no_memory) status faults faults' × Appends output output' [])
+  -- how a command that asks a desk ends, and what it leaves on the output
+  abbrev pub Leaves : Asked → Result ℕ Fault → Option (List ℕ) → Option (List ℕ) → Option (List ℕ) → Option (List ℕ) → Type 0
+  Leaves asked ended input input' output output' = LeavesErrand (errand_of asked) ended input input' output output'
+
+  -- a command that asks a desk ended, and output, fault stream and status tell how
+  abbrev pub IsCarriedOut : Asked → ℕ → Option (List ℕ) → Option (List ℕ) → Option (List ℕ) → Option (List ℕ) → Option (List ℕ) → Option (List ℕ) → Type 0
+  IsCarriedOut asked status input input' output output' faults faults' =
+      (ended : Result ℕ Fault) × Leaves asked ended input input' output output' × IsEndOf ended status faults faults'
+
+  -- an edited text was answered by the desk of the library in the file; or that failed
+  abbrev pub IsCorrected : List ℕ → ℕ → Option (List ℕ) → Option (List ℕ) → Option (List ℕ) → Option (List ℕ) → Option (List ℕ) → Type 0
+  IsCorrected set status input output output' faults faults' =
+      ((text : List ℕ) × IsFrontOf (MAX_TEXT_BYTES + 1) input text
+      × OnFile meaning conn_of state held (λ old new. CorrectsText meaning set text status old new output output' faults faults'))
+      ⊎ FailsFirst status output output' faults faults'
+
+  -- a run was tried at the desk of the library in the file; or that failed
+  abbrev pub IsTried : List ℕ → ℕ → Option (List ℕ) → Option (List ℕ) → Option (List ℕ) → Option (List ℕ) → Option (List ℕ) → Type 0
+  IsTried mode status input output output' faults faults' =
+      ((run : List ℕ) × IsRunOn input run
+      × OnFile meaning conn_of state held (λ old new. TriesRun meaning mode run status old new output output' faults faults'))
+      ⊎ FailsFirst status output output' faults faults'
+
+  -- an empty library was made in the file; or that failed
+  abbrev pub IsInitialized : ℕ → Option (List ℕ) → Option (List ℕ) → Type 0
+  IsInitialized status faults faults' = (ended : Result (Unit {0}) Fault) × OnOk ended (MakesLibrary meaning conn_of state held) × EndsSilently ended status faults faults'
+
+  -- the file was migrated; or that failed
+  abbrev pub IsMigrated : ℕ → Option (List ℕ) → Option (List ℕ) → Type 0
+  IsMigrated status faults faults' = (ended : Result (Unit {0}) Fault)
+      × (MigratesLibrary meaning conn_of state held ended ⊎ IsErrAnd ended IsUnopened) × EndsSilently ended status faults faults'
+
+  -- at most this number of connections were served over the library in the file, all of them unless a read failed
+  abbrev pub ServesFile : ℕ → Result (Unit {0}) Fault → Type 0
+  ServesFile count ended = (made : List Made) × (length made ≤ count) × OnOk ended (length made ≡ count)
+      × OnFile meaning conn_of state held (λ old new. (warm : S) × IsWarmed meaning old warm × LeadsThrough meaning made warm new)
+
+  -- connections were served at an address; or that failed; an ADDRESS that is not valid is a mistake in the command line
+  abbrev pub IsServed : List ℕ → ℕ → ℕ → Option (List ℕ) → Option (List ℕ) → Type 0
+  IsServed address count status faults faults' =
+      (IsNoAddress address × ((status ≡ 2) ⊎ (status ≡ 3)))
+      ⊎ ((place : SocketAddr) × IsSocketText address place × (ended : Result (Unit {0}) Fault)
+      × (ServesFile count ended ⊎ IsErrAnd ended IsUnopened) × EndsSilently ended status faults faults')
+
+  -- how a request was carried out
+  abbrev pub IsDone : Request → ℕ → Option (List ℕ) → Option (List ℕ) → Option (List ℕ) → Option (List ℕ) → Option (List ℕ) → Option (List ℕ) → Type 0
+  IsDone (Trial mode) status input input' output output' faults faults' =
+      (run : List ℕ) × IsInput input run × Answers (answer_to (trial_named mode.now run)) status output output' faults faults'
+  IsDone (Init file) status input input' output output' faults faults' = Appends output output' [] × IsInitialized status faults faults'
+  IsDone (Library file asked) status input input' output output' faults faults' = IsCarriedOut asked status input input' output output' faults faults'
+  IsDone (Serve file address count) status input input' output output' faults faults' =
+      Appends output output' [] × IsServed address.now count status faults faults'
+  IsDone (Correct file set) status input input' output output' faults faults' = IsCorrected set.now status input output output' faults faults'
+  IsDone (Try file mode) status input input' output output' faults faults' = IsTried mode.now status input output output' faults faults'
+  IsDone (Migrate file) status input input' output output' faults faults' = Appends output output' [] × IsMigrated status faults faults'
+  IsDone (Explain fault) status input input' output output' faults faults' = IsExplained fault.now status output output' faults faults'
+  IsDone (Shown text) status input input' output output' faults faults' = (status ≡ 0) ⊎ (status ≡ 3)
+  IsDone (Unread text) status input input' output output' faults faults' = Appends output output' [] × ((status ≡ 2) ⊎ (status ≡ 3))
+
+  -- What the words ask for was carried out; or there was no memory to read them, and that is reported.
+  abbrev pub CarriesOut : List Text → ℕ → Option (List ℕ) → Option (List ℕ) → Option (List ℕ) → Option (List ℕ) → Option (List ℕ) → Option (List ℕ) → Type 0
+  CarriesOut words status input input' output output' faults faults' =
+      ((request : Request) × IsAskedFor words request × IsDone request status input input' output output' faults faults')
+      ⊎ (IsTold 3 (fault_line no_memory) status faults faults' × Appends output output' [])

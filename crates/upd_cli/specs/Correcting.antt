@@ -23,8 +23,3 @@ TellsCorrection (Err (Failed fault)) status output output' faults faults' =
     IsTold (exit_status fault.kind) (fault_line fault) status faults faults' × Appends output output' []
 TellsCorrection (Err (Refused refusals)) status output output' faults faults' =
     IsRefusedBy refusals.items status faults faults' × Appends output output' []
-
--- a text was answered, and output, fault stream and status tell how
-abbrev pub IsCorrected : ℕ → Option (List ℕ) → Option (List ℕ) → Option (List ℕ) → Option (List ℕ) → Type 0
-IsCorrected status output output' faults faults' =
-    (answer : Result (List ℕ) EditError) × TellsCorrection answer status output output' faults faults'

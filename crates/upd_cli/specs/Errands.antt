@@ -1,5 +1,5 @@
 -- What commands do at a desk: what they ask, what the desk answers, and how that is reported.
-use Rattle.std.specs.Prelude.{◌≡◌, ◌≤◌, ◌⊎◌, ℕ, List, [], length, Option, Result, Ok, IfOk, OnOk, IsErrAnd}
+use Rattle.std.specs.Prelude.{◌≡◌, ◌≤◌, ◌⊎◌, ℕ, List, [], length, Option, Result, Ok, Err, IfOk, OnOk, IsErrAnd}
 use Rattle.std.specs.Io.KnownBytes.{Appends}
 use Rattle.std.specs.Result.{result_map_both}
 use Rattle.upd_text.specs.declared.fault.Fault.{Fault}
@@ -14,10 +14,11 @@ use Rattle.upd_desk.specs.Outcomes.{ReplyView, reply_on}
 use Rattle.upd_cli.specs.Status.{no_memory, read_failed}
 use Rattle.upd_cli.specs.Streams.{IsRunOn}
 use Rattle.upd_cli.specs.Correcting.{TellsCorrection}
-use Rattle.upd_cli.specs.Telling.{TellsMark, TellsRun, TellsText}
+use Rattle.upd_cli.specs.Telling.{TellsMark, TellsRun, TellsText, TellsTried}
 use Rattle.upd_edit.specs.ActiveText.{active_text}
 use Rattle.upd_edit.specs.Source.{source}
 use Rattle.upd_edit.specs.Trying.{tried}
+use Rattle.upd_edit.specs.Warnings.{warning_lines}
 use Rattle.upd_edit.specs.declared.editing.TheConstants.{MAX_TEXT_BYTES}
 use Rattle.upd_edit.specs.declared.editing.EditError.{EditError}
 use Rattle.upd_correct.specs.Correcting.{CorrectsTo}
@@ -25,6 +26,9 @@ use Rattle.upd_look.specs.Blame.{blame}
 use Rattle.upd_look.specs.IdentReport.{show}
 use Rattle.upd_look.specs.LibraryPage.{page}
 use Rattle.upd_desk.specs.Journal.{library_after}
+use Rattle.upd_spool.specs.Spools.{Ends}
+use Rattle.upd_cli.specs.declared.errands.Errand.{Errand}
+use Rattle.upd_cli.specs.declared.errands.Errand.TheVariants as errand
 use Rattle.upd_cli.specs.declared.asking.Form.{Form}
 use Rattle.upd_cli.specs.declared.asking.Form.TheVariants.{Listing, Blame, Text, Source}
 use Rattle.upd_cli.specs.declared.asking.Question.{Question}
@@ -64,11 +68,17 @@ module _ {S : Type 0} (meaning : Ghosts S) where
       × CountsFailure meaning answer old new × TellsRun answer result output output')
       ⊎ ((new ≡ old) × IsUnread result × Appends output output' [])
 
-  -- a run was tried, and the reply that it would get was told; nothing is changed
-  abbrev pub TriesRun : List ℕ → List ℕ → Result ℕ Fault → S → S → Option (List ℕ) → Option (List ℕ) → Type 0
-  TriesRun mode run result old new output output' =
-      (answer : Result ReplyView Fault) × Tells meaning (reply_on (tried mode run)) answer old new
-      × Keeps meaning old new × TellsRun answer result output output'
+  -- a run was tried: here are the reply that it would get and its warnings, and nothing is changed
+  pub record IsTriedAs (mode run : List ℕ) (answer : Result ReplyView Fault) (warnings : Result (List ℕ) Fault) (old new : S) : Type 0 where
+    pub reply : Tells meaning (reply_on (tried mode run)) answer old new
+    pub warns : Tells meaning (λ l. Ok (warning_lines run l)) warnings old new
+    pub same : Keeps meaning old new
+
+  -- a run was tried, and its reply and its warnings were told
+  abbrev pub TriesRun : List ℕ → List ℕ → ℕ → S → S → Option (List ℕ) → Option (List ℕ) → Option (List ℕ) → Option (List ℕ) → Type 0
+  TriesRun mode run status old new output output' faults faults' =
+      (answer : Result ReplyView Fault) × (warnings : Result (List ℕ) Fault) × IsTriedAs mode run answer warnings old new
+      × TellsTried answer warnings status output output' faults faults'
 
   -- A run, if there is one, leads decks of the library to an edited text. Nothing is changed.
   pub record IsCorrection (set text : List ℕ) (answer : Result (List ℕ) EditError) (old new : S) : Type 0 where
@@ -97,3 +107,17 @@ module _ {S : Type 0} (meaning : Ghosts S) where
   -- a question was answered, and the answer was told
   abbrev pub AsksQuestion : Question → Result ℕ Fault → S → S → Option (List ℕ) → Option (List ℕ) → Type 0
   AsksQuestion question result old new output output' = (answer : Result (List ℕ) Fault) × IsAnswered question answer old new × TellsText answer result output output'
+
+  -- a spool was read to its end, and status 0 stands for any number of frames; or it ended by a fault
+  abbrev pub EndsSpool : Result ℕ Fault → S → S → Option (List ℕ) → Option (List ℕ) → Option (List ℕ) → Option (List ℕ) → Type 0
+  EndsSpool (Ok status) old new input input' output output' =
+      (status ≡ 0) × ((count : ℕ) × Ends meaning old new input input' output output' (Ok count))
+  EndsSpool (Err fault) old new input input' output output' = Ends meaning old new input input' output output' (Err fault)
+
+  -- an errand was done at the desk of a library, and what the desk answered was told
+  abbrev pub DoesErrand : Errand → Result ℕ Fault → S → S → Option (List ℕ) → Option (List ℕ) → Option (List ℕ) → Option (List ℕ) → Type 0
+  DoesErrand (errand.Run site number mode) result old new input input' output output' =
+      HandsIn site.now number mode.now input result old new output output'
+  DoesErrand (errand.Settle site number) result old new input input' output output' = SettlesSite site.now number result old new output output'
+  DoesErrand errand.Spool result old new input input' output output' = EndsSpool result old new input input' output output'
+  DoesErrand (errand.Ask question) result old new input input' output output' = AsksQuestion question result old new output output'

@@ -8,4 +8,5 @@ pub mod Inputs
 pub mod Telling
 pub mod Correcting
 pub mod Errands
+pub mod Opened
 pub mod Commands

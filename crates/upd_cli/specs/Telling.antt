@@ -1,19 +1,14 @@
 -- How an answer of the desk is reported: by its bytes on the output and an exit status, or by a fault that the caller puts on the fault stream.
-use Rattle.std.specs.Prelude.{◌≡◌, ◌⊎◌, ℕ, ◌+◌, if◌then◌else◌, Bool, true, false, IsTrue, List, [], ◌∷◌, ◌++◌, length, Option, Result, Ok, Err, IsErrAnd}
-use Rattle.std.specs.Io.KnownBytes.{Appends, Consumes, IsAtEnd}
-use Rattle.std.specs.List.{All}
+use Rattle.std.specs.Prelude.{◌≡◌, ◌⊎◌, ℕ, if◌then◌else◌, IsTrue, List, [], ◌∷◌, ◌++◌, Option, Result, Ok, Err, IsErrAnd}
+use Rattle.std.specs.Io.KnownBytes.{Appends}
 use Rattle.upd_text.specs.declared.fault.Fault.{Fault}
-use Rattle.upd_text.specs.declared.fault.FaultKind.{FaultKind}
-use Rattle.upd_text.specs.declared.fault.FaultKind.TheVariants.{NoMemory, Store, BadFrame, CutFrame, Read, Write}
 use Rattle.upd_reply.specs.Texts.{settled_text}
 use Rattle.upd_desk.specs.Answers.{IsUntold, answer_line, is_answered}
-use Rattle.upd_desk.specs.Arrivals.{ArrivalView, is_site}
+use Rattle.upd_desk.specs.Arrivals.{is_site}
 use Rattle.upd_desk.specs.Outcomes.{ReplyView}
-use Rattle.upd_spool.specs.Frames.{IsFrame, frames_text}
-use Rattle.upd_spool.specs.Spools.{answer_lines}
-use Rattle.upd_store.specs.Faults.{IsUnopened}
 use Rattle.upd_io.specs.Fronts.{AppendsFront}
-use Rattle.upd_cli.specs.Status.{write_failed}
+use Rattle.upd_cli.specs.Command.{IsTold}
+use Rattle.upd_cli.specs.Status.{exit_status, fault_line, write_failed}
 
 -- These bytes went to the output, and the command ends with this status; or the write failed, and at most a beginning of them is there.
 abbrev pub Writes : ℕ → List ℕ → Result ℕ Fault → Option (List ℕ) → Option (List ℕ) → Type 0
@@ -42,38 +37,15 @@ abbrev pub TellsText : Result (List ℕ) Fault → Result ℕ Fault → Option (
 TellsText (Ok text) result output output' = Writes 0 text result output output'
 TellsText (Err fault) result output output' = (result ≡ Err fault) × Appends output output' []
 
--- whether a fault ends a spool: the others are answers to its frames
-abbrev pub ends_spools : FaultKind → Bool
-ends_spools NoMemory = true
-ends_spools Store = true
-ends_spools BadFrame = true
-ends_spools CutFrame = true
-ends_spools Read = true
-ends_spools Write = true
-ends_spools _ = false
+-- the warnings of a run are reported behind its answer, with the status of that; or the fault by which there is no answer is reported by its line
+abbrev pub IsWarned : List ℕ → Result ℕ Fault → ℕ → Option (List ℕ) → Option (List ℕ) → Type 0
+IsWarned warnings (Ok meant) status faults faults' = IsTold meant warnings status faults faults'
+IsWarned warnings (Err fault) status faults faults' = IsTold (exit_status fault.kind) (fault_line fault) status faults faults'
 
--- what is out behind whole lines: a beginning of the next answer's line where the write failed, and else nothing
-abbrev pub IsBegun : FaultKind → List ℕ → Type 0
-IsBegun Write front = (answer : Result ReplyView Fault) × (rest : List ℕ) × IsTrue (is_answered answer) × (answer_line answer ≡ front ++ rest)
-IsBegun kind front = front ≡ []
-
--- the fault is at the frame behind those that were answered; or the file wasn't opened, and none was
-abbrev pub IsAtFrame : Fault → List (Result ReplyView Fault) → Type 0
-IsAtFrame fault answers = (fault.at ≡ length answers + 1) ⊎ ((answers ≡ []) × IsUnopened fault)
-
--- Each frame at the front of an input was answered. Of what stands behind them so much was taken.
-pub record AnswersFrames (frames : List ArrivalView) (answers : List (Result ReplyView Fault)) (taken : List ℕ) (input input' : Option (List ℕ)) : Type 0 where
-  pub are_frames : All IsFrame frames
-  pub read : Consumes input input' (frames_text frames ++ taken)
-  pub each : length answers ≡ length frames
-  pub answered : All (λ answer. IsTrue (is_answered answer)) answers
-
--- the answers to the frames of an input are reported by their lines, one after the other; a fault that ended them may have left a prefix of one more
-abbrev pub TellsLines : Result ℕ Fault → Option (List ℕ) → Option (List ℕ) → Option (List ℕ) → Option (List ℕ) → Type 0
-TellsLines (Ok status) input input' output output' =
-    (frames : List ArrivalView) × (answers : List (Result ReplyView Fault)) × AnswersFrames frames answers [] input input' × IsAtEnd input'
-    × (status ≡ 0) × Appends output output' (answer_lines answers)
-TellsLines (Err fault) input input' output output' =
-    (frames : List ArrivalView) × (answers : List (Result ReplyView Fault)) × (taken : List ℕ) × AnswersFrames frames answers taken input input'
-    × (front : List ℕ) × IsTrue (ends_spools fault.kind) × IsAtFrame fault answers × IsBegun fault.kind front
-    × Appends output output' (answer_lines answers ++ front)
+-- A run that was tried is reported by its answer on the output and by its warnings on the fault stream. Where the warnings can't be made, the line of that fault
+-- is reported, and nothing is on the output.
+abbrev pub TellsTried : Result ReplyView Fault → Result (List ℕ) Fault → ℕ → Option (List ℕ) → Option (List ℕ) → Option (List ℕ) → Option (List ℕ) → Type 0
+TellsTried answer (Ok warnings) status output output' faults faults' =
+    (ended : Result ℕ Fault) × TellsRun answer ended output output' × IsWarned warnings ended status faults faults'
+TellsTried answer (Err fault) status output output' faults faults' =
+    IsTold (exit_status fault.kind) (fault_line fault) status faults faults' × Appends output output' []

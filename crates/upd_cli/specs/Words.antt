@@ -10,7 +10,7 @@ use Rattle.clap.specs.declared.error.kind.ErrorKind.{ErrorKind}
 use Rattle.clap.specs.declared.error.kind.ErrorKind.TheVariants.{DisplayHelp, DisplayVersion}
 use Rattle.upd_cli.specs.Operands.{IsCount, SpellsCount}
 use Rattle.upd_cli.specs.declared.words.Request.{Request}
-use Rattle.upd_cli.specs.declared.words.Request.TheVariants.{Trial, Library, Serve, Correct, Explain, Shown, Unread}
+use Rattle.upd_cli.specs.declared.words.Request.TheVariants.{Trial, Init, Library, Serve, Correct, Try, Migrate, Explain, Shown, Unread}
 use Rattle.upd_cli.specs.declared.words.Asked.{Asked}
 use Rattle.upd_cli.specs.declared.words.Asked.TheVariants as asks
 
@@ -88,43 +88,72 @@ operand_word name words = unwrap_or (option_and_then (first_of name) (option_map
 abbrev pub operand_in : Text → List Row → Text
 operand_in name rows = unwrap_or (first_of name rows) []
 
--- what is asked of a library by the command of this name with these operands
+-- the command that asks this of the desk of a library
+abbrev pub asked_name : Asked → Text
+asked_name (asks.Run site number mode) = codes "run"
+asked_name (asks.Settle site number) = codes "settle"
+asked_name asks.Spool = codes "spool"
+asked_name asks.Compile = codes "compile"
+asked_name (asks.List deck) = codes "list"
+asked_name (asks.History card) = codes "history"
+asked_name (asks.Blame deck) = codes "blame"
+asked_name (asks.Show ident) = codes "show"
+asked_name asks.Idents = codes "idents"
+asked_name asks.Yanks = codes "yanks"
+asked_name asks.Page = codes "page"
+asked_name (asks.Text deck) = codes "text"
+asked_name (asks.Source deck) = codes "source"
+
+-- its operands beside FILE, if it has any, are those in the matches
+abbrev pub HasOperands : List Row → Asked → Type 0
+HasOperands rows (asks.Run site number mode) =
+    (site.now ≡ operand_in (codes "SITE") rows) × (number.now ≡ operand_in (codes "NUMBER") rows) × (mode.now ≡ operand_in (codes "MODE") rows)
+HasOperands rows (asks.Settle site number) = (site.now ≡ operand_in (codes "SITE") rows) × (number.now ≡ operand_in (codes "NUMBER") rows)
+HasOperands rows (asks.List deck) = deck.now ≡ operand_in (codes "DECK") rows
+HasOperands rows (asks.History card) = card.now ≡ operand_in (codes "CARD") rows
+HasOperands rows (asks.Blame deck) = deck.now ≡ operand_in (codes "DECK") rows
+HasOperands rows (asks.Show ident) = ident.now ≡ operand_in (codes "IDENT") rows
+HasOperands rows (asks.Text deck) = deck.now ≡ operand_in (codes "DECK") rows
+HasOperands rows (asks.Source deck) = deck.now ≡ operand_in (codes "DECK") rows
+HasOperands rows _ = Unit {0}
+
+-- what is asked of the desk of a library by the command of this name with these operands
 abbrev pub IsAskedBy : Text → List Row → Asked → Type 0
-IsAskedBy name rows asks.Init = name ≡ codes "init"
-IsAskedBy name rows (asks.Run site number mode) =
-    (name ≡ codes "run") × (site.now ≡ operand_in (codes "SITE") rows) × (number.now ≡ operand_in (codes "NUMBER") rows)
-    × (mode.now ≡ operand_in (codes "MODE") rows)
-IsAskedBy name rows (asks.Settle site number) =
-    (name ≡ codes "settle") × (site.now ≡ operand_in (codes "SITE") rows) × (number.now ≡ operand_in (codes "NUMBER") rows)
-IsAskedBy name rows asks.Spool = name ≡ codes "spool"
-IsAskedBy name rows asks.Compile = name ≡ codes "compile"
-IsAskedBy name rows (asks.List deck) = (name ≡ codes "list") × (deck.now ≡ operand_in (codes "DECK") rows)
-IsAskedBy name rows (asks.History card) = (name ≡ codes "history") × (card.now ≡ operand_in (codes "CARD") rows)
-IsAskedBy name rows (asks.Blame deck) = (name ≡ codes "blame") × (deck.now ≡ operand_in (codes "DECK") rows)
-IsAskedBy name rows (asks.Show ident) = (name ≡ codes "show") × (ident.now ≡ operand_in (codes "IDENT") rows)
-IsAskedBy name rows asks.Idents = name ≡ codes "idents"
-IsAskedBy name rows asks.Yanks = name ≡ codes "yanks"
-IsAskedBy name rows asks.Page = name ≡ codes "page"
-IsAskedBy name rows (asks.Text deck) = (name ≡ codes "text") × (deck.now ≡ operand_in (codes "DECK") rows)
-IsAskedBy name rows (asks.Try mode) = (name ≡ codes "try") × (mode.now ≡ operand_in (codes "MODE") rows)
-IsAskedBy name rows (asks.Source deck) = (name ≡ codes "source") × (deck.now ≡ operand_in (codes "DECK") rows)
-IsAskedBy name rows asks.Migrate = name ≡ codes "migrate"
+IsAskedBy name rows asked = (name ≡ asked_name asked) × HasOperands rows asked
 
 -- a command `serve` has a number of connections
 abbrev pub HasCount : Text × List Row → Type 0
 HasCount (name, rows) = name ≡ codes "serve" → SpellsCount (operand_in (codes "COUNT") rows)
 
+-- the command that a request is for
+abbrev pub request_name : Request → Text
+request_name (Trial mode) = codes "trial"
+request_name (Init file) = codes "init"
+request_name (Library file asked) = asked_name asked
+request_name (Serve file address count) = codes "serve"
+request_name (Correct file set) = codes "correct"
+request_name (Try file mode) = codes "try"
+request_name (Migrate file) = codes "migrate"
+request_name (Explain fault) = codes "explain"
+request_name _ = []
+
+-- its operands are those in the matches; a text for words that are not read is for no command
+abbrev pub AreOperands : List Row → Request → Type 0
+AreOperands rows (Trial mode) = mode.now ≡ operand_in (codes "MODE") rows
+AreOperands rows (Init file) = file.now ≡ operand_in (codes "FILE") rows
+AreOperands rows (Library file asked) = (file.now ≡ operand_in (codes "FILE") rows) × HasOperands rows asked
+AreOperands rows (Serve file address count) =
+    (file.now ≡ operand_in (codes "FILE") rows) × (address.now ≡ operand_in (codes "ADDRESS") rows)
+    × IsCount (operand_in (codes "COUNT") rows) count
+AreOperands rows (Correct file set) = (file.now ≡ operand_in (codes "FILE") rows) × (set.now ≡ operand_in (codes "SET") rows)
+AreOperands rows (Try file mode) = (file.now ≡ operand_in (codes "FILE") rows) × (mode.now ≡ operand_in (codes "MODE") rows)
+AreOperands rows (Migrate file) = file.now ≡ operand_in (codes "FILE") rows
+AreOperands rows (Explain fault) = fault.now ≡ operand_in (codes "FAULT") rows
+AreOperands rows _ = ⊥
+
 -- the request of the command of this name with these operands
 abbrev pub IsRequest : Text × List Row → Request → Type 0
-IsRequest (name, rows) (Trial mode) = (name ≡ codes "trial") × (mode.now ≡ operand_in (codes "MODE") rows)
-IsRequest (name, rows) (Library file asked) = (file.now ≡ operand_in (codes "FILE") rows) × IsAskedBy name rows asked
-IsRequest (name, rows) (Serve file address count) =
-    (name ≡ codes "serve") × (file.now ≡ operand_in (codes "FILE") rows) × (address.now ≡ operand_in (codes "ADDRESS") rows)
-    × IsCount (operand_in (codes "COUNT") rows) count
-IsRequest (name, rows) (Correct file set) =
-    (name ≡ codes "correct") × (file.now ≡ operand_in (codes "FILE") rows) × (set.now ≡ operand_in (codes "SET") rows)
-IsRequest (name, rows) (Explain fault) = (name ≡ codes "explain") × (fault.now ≡ operand_in (codes "FAULT") rows)
-IsRequest _ _ = ⊥
+IsRequest (name, rows) request = (name ≡ request_name request) × AreOperands rows request
 
 -- a request for a text: help or the version
 abbrev pub AsksText : ErrorKind → Type 0
@@ -140,11 +169,10 @@ IsUnreadRequest kind _ = ⊥
 abbrev pub IsCommand : List Text → Request → Type 0
 IsCommand words request = (word_faults words ≡ []) × IsSomeAnd (subcommand_of upd_app words) (λ command. IsRequest command request)
 
--- the request is what the words ask for
+-- the request is what the words ask for: a command, or what clap says of words that it does not read
 abbrev pub IsAskedFor : List Text → Request → Type 0
-IsAskedFor words (Shown text) = (kind : ErrorKind) × IsAmong kind (word_faults words) × AsksText kind
-IsAskedFor words (Unread text) = (kind : ErrorKind) × IsAmong kind (word_faults words) × ¬ (AsksText kind)
-IsAskedFor words request = IsCommand words request
+IsAskedFor words request =
+    IsCommand words request ⊎ ((kind : ErrorKind) × IsAmong kind (word_faults words) × IsUnreadRequest kind request)
 
 -- a word that does not begin with a hyphen
 abbrev pub IsPlain : Text → Type 0

@@ -1,18 +1,19 @@
 //! Commands that change a library: runs that arrive, and settlements.
-ghost use Rattle.std.specs.Prelude.{◌≡◌, ◌⊎◌, ◌+◌, ◌∷◌, ◌++◌, [], Err, IfErr, IfOk, Ok};
+ghost use Rattle.std.specs.Prelude.{◌≡◌, ◌≢◌, ◌⊎◌, ◌+◌, ◌∷◌, ◌++◌, [], Err, IfErr, IfOk, Ok};
+ghost use Rattle.upd_cli.specs.Command.{IsTold};
 ghost use Rattle.upd_cli.specs.Errands.{HandsIn, SettlesSite, TriesRun};
 ghost use Rattle.upd_cli.specs.Status.{exit_status};
 ghost use Rattle.upd_cli.specs.Streams.{TakesFront};
-ghost use Rattle.upd_cli.specs.Telling.{TellsMark, TellsRun, Writes};
+ghost use Rattle.upd_cli.specs.Telling.{TellsMark, TellsRun, TellsTried, Writes};
 ghost use Rattle.upd_text.specs.declared.limits.TheConstants.{MAX_RUN_BYTES};
 
-use crate::status::{DONE, REFUSED};
-use crate::streams::{read_input, write_parts_out};
+use crate::status::{DONE, FAILED, REFUSED, finish};
+use crate::streams::{read_input, write_out, write_parts_out};
 use itoa::Buffer;
 use std::alloc::Global;
 use std::io::{Read, Write};
 use upd_desk::{Desk, Reply, fault_answer};
-use upd_edit::try_at;
+use upd_edit::{try_at, warnings_at};
 use upd_reply::settled_parts;
 use upd_row_store::RowStore;
 use upd_text::Fault;
@@ -34,25 +35,73 @@ pub(crate) fn hand_in<S: RowStore, R: Read, W: Write>(
     ensures status { IfOk result (λ status. (status ≡ 0) ⊎ (status ≡ 1)) }
 {
     let run = read_input(alloc, input)?;
-    match desk.arrive(alloc, site, number, mode, &run) {
-        Ok(reply) => tell(&reply, output),
-        Err(fault) => tell_fault(alloc, fault, output),
-    }
+    let answer = desk.arrive(alloc, site, number, mode, &run);
+    tell_answer(alloc, answer, output)
 }
 
-/// The reply that a run would get goes to the output as a line, as `hand_in` writes it. Nothing is stored.
-pub(crate) fn try_run<S: RowStore, W: Write>(
+/// The reply that a run would get goes to the output as a line, as `hand_in` writes it, and its warnings to the fault
+/// stream behind it. Both are made before either is written. Nothing is stored. Returns the exit status.
+pub(crate) fn try_run<S: RowStore, W: Write, E: Write>(
     alloc: Global,
     desk: &mut Desk<S>,
     mode: &str,
     run: &[u8],
     output: &mut W,
+    faults: &mut E,
+) -> u8
+    ensures tells { TriesRun S.Meaning mode.now run.now result desk.old.store desk.new.store
+        (W.contents output.old) (W.contents output.new) (E.contents faults.old) (E.contents faults.new) }
+    ensures status { result ≢ 2 }
+{
+    let answer = try_at(alloc, desk, mode, run);
+    match warnings_at(alloc, desk, run) {
+        Ok(warnings) => tell_tried(alloc, answer, &warnings, output, faults),
+        Err(fault) => finish(Err(fault), faults),
+    }
+}
+
+/// Writes the answer to a run that was tried, and its warnings behind it. Returns the exit status.
+fn tell_tried<W: Write, E: Write>(
+    alloc: Global,
+    answer: Result<Reply, Fault>,
+    warnings: &[u8],
+    output: &mut W,
+    faults: &mut E,
+) -> u8
+    ensures tells { TellsTried answer (Ok warnings.now) result (W.contents output.old) (W.contents output.new)
+        (E.contents faults.old) (E.contents faults.new) }
+    ensures status { result ≢ 2 }
+{
+    match tell_answer(alloc, answer, output) {
+        Ok(status) => warn(warnings, status, faults),
+        Err(fault) => finish(Err(fault), faults),
+    }
+}
+
+/// Writes warnings, if there are any, and returns the exit status: the given one, or that of a write that failed.
+fn warn<E: Write>(warnings: &[u8], status: u8, faults: &mut E) -> u8
+    ensures told { IsTold status warnings.now result (E.contents faults.old) (E.contents faults.new) }
+    ensures status { (result ≡ status) ⊎ (result ≡ 3) }
+{
+    if warnings.is_empty() {
+        return status;
+    }
+    match write_out(faults, warnings) {
+        Ok(()) => status,
+        Err(_) => FAILED,
+    }
+}
+
+/// A reply goes to the output as a line. So does the text of a fault, except NoMemory and Store.
+fn tell_answer<W: Write>(
+    alloc: Global,
+    answer: Result<Reply, Fault>,
+    output: &mut W,
 ) -> Result<u8, Fault>
-    ensures tells { TriesRun S.Meaning mode.now run.now
-        result desk.old.store desk.new.store (W.contents output.old) (W.contents output.new) }
+    ensures tells { TellsRun answer result (W.contents output.old) (W.contents output.new) }
     ensures status { IfOk result (λ status. (status ≡ 0) ⊎ (status ≡ 1)) }
 {
-    match try_at(alloc, desk, mode, run) {
+    match answer {
         Ok(reply) => tell(&reply, output),
         Err(fault) => tell_fault(alloc, fault, output),
     }

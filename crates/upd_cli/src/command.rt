@@ -4,34 +4,41 @@ ghost use Rattle.std.specs.IoError.{error_kind};
 ghost use Rattle.upd_io.specs.Inputs.{IsInput};
 ghost use Rattle.upd_compile.specs.Modes.{mode_named};
 ghost use Rattle.upd_cli.specs.Command.{Answers, EndsTrial, GivesUnlessFailed, IsTold, IsToldOf, answer_to};
-ghost use Rattle.upd_cli.specs.Correcting.{IsCorrected};
-ghost use Rattle.upd_cli.specs.Commands.{CarriesOut, IsCarriedOut, IsExplained, IsServed};
+ghost use Rattle.sqlite.specs.Files.{file_state};
+ghost use Rattle.sqlite_wal.specs.Files.{image_at};
+ghost use Rattle.upd_cli.specs.Commands.{CarriesOut, IsCarriedOut, IsCorrected, IsDone, IsExplained, IsServed, IsTried};
 ghost use Rattle.upd_cli.specs.Status.{exit_status, fault_line, no_memory, no_words_line};
 ghost use Rattle.upd_cli.specs.Streams.{TakesFront};
 ghost use Rattle.upd_edit.specs.declared.editing.TheConstants.{MAX_TEXT_BYTES};
 ghost use Rattle.upd_text.specs.declared.limits.TheConstants.{MAX_RUN_BYTES};
 ghost use Rattle.upd_cli.specs.Trial.{trial_named};
 ghost use Rattle.upd_cli.specs.Words.{command_word, operand_word, word_faults};
-ghost use Rattle.upd_cli.specs.Inputs.{HandsRunsIn, IsHandIn, IsSpoolCommand, ReadsInput};
+ghost use Rattle.upd_cli.specs.Inputs.{HandsRunsIn, IsHandIn, IsSpoolCommand, IsSpoolRequest, IsTryRequest, ReadsFor};
+ghost use Rattle.upd_cli.specs.Inputs.{ReadsInput, TellsRefusals, TriesRunIn, most_read};
 
 use crate::explaining::explain_fault;
-use crate::library::{carry_out, correct_on, serve};
+use crate::library::{
+    FileRows, correct_on, errand_on, init_file, migrate_file, serve, try_on,
+};
 use crate::operands::read_address;
 use crate::status::{FAILED, UNREAD, finish};
 use crate::streams::{read_input, write_out};
 use crate::trial_run::{read_mode, trial};
 use crate::words::{Asked, Request, read_words};
+use sqlite::{Start, Unknown};
 use std::alloc::{AllocError, Global};
 use std::convert::AsStr;
 use std::io;
 use std::io::{ErrorKind, Read, Write};
 use upd_compile::CompileFile;
 use upd_io::write_parts;
+use upd_row_store::Meaning;
 use upd_text::Fault;
 
 /// Carries out the command line `words`, the program's own name first, and returns the exit status: 0 where all is
 /// done; 1 for a refusal, whose line goes to `faults`, or to the output where the desk refuses the run of `run`; 2
 /// where the words are not a command line, and `faults` says why; 3 where memory, the store, a read or a write failed.
+/// `try` writes its warnings to `faults`, whatever the status is.
 pub fn run_command<S: AsStr, R: Read, W: Write, E: Write>(
     rt: &HostRuntime,
     words: &[S],
@@ -43,7 +50,8 @@ pub fn run_command<S: AsStr, R: Read, W: Write, E: Write>(
         → (run : List ℕ) × IsInput (R.remaining input.old) run
         × Answers (answer_to (trial_named (operand_word (codes "MODE") (map S.text words.entry.now)) run)) result
         (W.contents output.old) (W.contents output.new) (E.contents faults.old) (E.contents faults.new) }
-    ensures told { CarriesOut (map S.text words.entry.now) result (R.remaining input.old) (R.remaining input.new)
+    ensures told { CarriesOut ⟦<FileRows<Unknown> as Meaning>⟧ (λ rows. rows.inner.conn) file_state (image_at ⟦<Unknown as Start>⟧.Start)
+        (map S.text words.entry.now) result (R.remaining input.old) (R.remaining input.new)
         (W.contents output.old) (W.contents output.new) (E.contents faults.old) (E.contents faults.new) }
     ensures unread { word_faults (map S.text words.entry.now) ≢ [] → IsToldOf (map S.text words.entry.now) result }
     // Of a run that is too long, no more is read than shows it. So it is of an edited text.
@@ -54,33 +62,89 @@ pub fn run_command<S: AsStr, R: Read, W: Write, E: Write>(
         → TakesFront (MAX_TEXT_BYTES + 1) (R.remaining input.old) (R.remaining input.new) }
     ensures waits { ¬ ReadsInput (map S.text words.entry.now) → input.new ≡ input.old }
     ensures silent { (result ≡ 2) ⊎ ((result ≡ 1) × ¬ HandsRunsIn (map S.text words.entry.now)) → output.new ≡ output.old }
-    ensures clean { result ≡ 0 → faults.new ≡ faults.old }
+    // `try` may have written warnings.
+    ensures clean { ¬ TriesRunIn (map S.text words.entry.now) → result ≡ 0 → faults.new ≡ faults.old }
+{
+    run_command_from(rt, Unknown, words, input, output, faults)
+}
+
+/// `run_command` where the file and its log held this when they are opened. No code can read it: it is there for the
+/// contract, which says what a command does with a library that a file holds. `Unknown` stands for any contents.
+pub fn run_command_from<St: Start, S: AsStr, R: Read, W: Write, E: Write>(
+    rt: &HostRuntime,
+    start: St,
+    words: &[S],
+    input: &mut R,
+    output: &mut W,
+    faults: &mut E,
+) -> u8
+    ensures trial { word_faults (map S.text words.entry.now) ≡ [] → command_word (map S.text words.entry.now) ≡ codes "trial"
+        → (run : List ℕ) × IsInput (R.remaining input.old) run
+        × Answers (answer_to (trial_named (operand_word (codes "MODE") (map S.text words.entry.now)) run)) result
+        (W.contents output.old) (W.contents output.new) (E.contents faults.old) (E.contents faults.new) }
+    ensures told { CarriesOut ⟦<FileRows<St> as Meaning>⟧ (λ rows. rows.inner.conn) file_state (image_at St.Start)
+        (map S.text words.entry.now) result (R.remaining input.old) (R.remaining input.new)
+        (W.contents output.old) (W.contents output.new) (E.contents faults.old) (E.contents faults.new) }
+    ensures unread { word_faults (map S.text words.entry.now) ≢ [] → IsToldOf (map S.text words.entry.now) result }
+    // Of a run that is too long, no more is read than shows it. So it is of an edited text.
+    ensures front { command_word (map S.text words.entry.now) ≢ codes "spool"
+        → command_word (map S.text words.entry.now) ≢ codes "correct"
+        → TakesFront (MAX_RUN_BYTES + 1) (R.remaining input.old) (R.remaining input.new) }
+    ensures text { command_word (map S.text words.entry.now) ≢ codes "spool"
+        → TakesFront (MAX_TEXT_BYTES + 1) (R.remaining input.old) (R.remaining input.new) }
+    ensures waits { ¬ ReadsInput (map S.text words.entry.now) → input.new ≡ input.old }
+    ensures silent { (result ≡ 2) ⊎ ((result ≡ 1) × ¬ HandsRunsIn (map S.text words.entry.now)) → output.new ≡ output.old }
+    // `try` may have written warnings.
+    ensures clean { ¬ TriesRunIn (map S.text words.entry.now) → result ≡ 0 → faults.new ≡ faults.old }
 {
     match read_words(rt.alloc(), words) {
-        Ok(Request::Trial { mode }) => {
+        Ok(request) => carry_out(rt, start, &request, input, output, faults),
+        Err(fault) => finish(Err(fault), faults),
+    }
+}
+
+/// Carries out what the words of a command line ask for, and returns the exit status.
+fn carry_out<St: Start, R: Read, W: Write, E: Write>(
+    rt: &HostRuntime,
+    start: St,
+    request: &Request<'_>,
+    input: &mut R,
+    output: &mut W,
+    faults: &mut E,
+) -> u8
+    ensures done { IsDone ⟦<FileRows<St> as Meaning>⟧ (λ rows. rows.inner.conn) file_state (image_at St.Start)
+        request.now result (R.remaining input.old) (R.remaining input.new)
+        (W.contents output.old) (W.contents output.new) (E.contents faults.old) (E.contents faults.new) }
+    ensures front { ¬ IsSpoolRequest request.now
+        → TakesFront (most_read request.now) (R.remaining input.old) (R.remaining input.new) }
+    ensures waits { ¬ ReadsFor request.now → input.new ≡ input.old }
+    ensures silent { (result ≡ 2) ⊎ ((result ≡ 1) × ¬ TellsRefusals request.now) → output.new ≡ output.old }
+    ensures clean { ¬ IsTryRequest request.now → result ≡ 0 → faults.new ≡ faults.old }
+{
+    match request {
+        Request::Trial { mode } => {
             let ended = carry_out_trial(rt.alloc(), mode, input, output);
             finish(ended, faults)
         }
-        Ok(Request::Library { file, asked }) => {
-            carry_out_library(rt, file, &asked, input, output, faults)
+        Request::Init { file } => finish(init_file(rt, file, start), faults),
+        Request::Library { file, asked } => {
+            carry_out_errand(rt, file, start, asked, input, output, faults)
         }
-        Ok(
-            Request::Serve {
-                file,
-                address,
-                count,
-            },
-        ) => carry_out_serving(rt, file, address, count, faults),
-        Ok(Request::Correct { file, set }) => {
-            carry_out_correction(rt, file, set, input, output, faults)
+        Request::Serve {
+            file,
+            address,
+            count,
+        } => carry_out_serving(rt, file, start, address, *count, faults),
+        Request::Correct { file, set } => {
+            carry_out_correction(rt, file, start, set, input, output, faults)
         }
-        Ok(Request::Explain { fault }) => carry_out_explaining(fault, output, faults),
-        Ok(Request::Shown(text)) => {
-            let ended = write_out(output, text.as_bytes());
-            finish(ended, faults)
+        Request::Try { file, mode } => {
+            carry_out_trying(rt, file, start, mode, input, output, faults)
         }
-        Ok(Request::Unread(text)) => tell_unread(&[text.as_bytes()], faults),
-        Err(fault) => finish(Err(fault), faults),
+        Request::Migrate { file } => finish(migrate_file(rt, file, start), faults),
+        Request::Explain { fault } => carry_out_explaining(fault, output, faults),
+        Request::Shown(text) => finish(write_out(output, text.as_bytes()), faults),
+        Request::Unread(text) => tell_unread(&[text.as_bytes()], faults),
     }
 }
 
@@ -114,44 +178,70 @@ fn tell_unread<E: Write>(text: &[&[u8]], faults: &mut E) -> u8
     }
 }
 
-/// A command on the library in a file.
-fn carry_out_library<R: Read, W: Write, E: Write>(
+/// A command that asks the desk of the library in a file.
+fn carry_out_errand<St: Start, R: Read, W: Write, E: Write>(
     rt: &HostRuntime,
     file: &str,
+    start: St,
     asked: &Asked<'_>,
     input: &mut R,
     output: &mut W,
     faults: &mut E,
 ) -> u8
-    ensures told { IsCarriedOut asked.now result (R.remaining input.old) (R.remaining input.new)
+    ensures told { IsCarriedOut ⟦<FileRows<St> as Meaning>⟧ (λ rows. rows.inner.conn) file_state (image_at St.Start)
+        asked.now result (R.remaining input.old) (R.remaining input.new)
         (W.contents output.old) (W.contents output.new) (E.contents faults.old) (E.contents faults.new) }
     ensures front { ¬ IsSpoolCommand asked.now → TakesFront (MAX_RUN_BYTES + 1) (R.remaining input.old) (R.remaining input.new) }
     ensures waits { ¬ IsHandIn asked.now → input.new ≡ input.old }
     ensures silent { (result ≡ 2) ⊎ ((result ≡ 1) × ¬ IsHandIn asked.now) → output.new ≡ output.old }
     ensures clean { result ≡ 0 → faults.new ≡ faults.old }
 {
-    match carry_out(rt, file, asked, input, output) {
+    match errand_on(rt, file, start, asked, input, output) {
+        Ok(status) => status,
+        Err(fault) => finish(Err(fault), faults),
+    }
+}
+
+/// `try`: the reply that the run on the input would get goes to the output, and its warnings to `faults`.
+fn carry_out_trying<St: Start, R: Read, W: Write, E: Write>(
+    rt: &HostRuntime,
+    file: &str,
+    start: St,
+    mode: &str,
+    input: &mut R,
+    output: &mut W,
+    faults: &mut E,
+) -> u8
+    ensures told { IsTried ⟦<FileRows<St> as Meaning>⟧ (λ rows. rows.inner.conn) file_state (image_at St.Start)
+        mode.now result (R.remaining input.old) (W.contents output.old) (W.contents output.new)
+        (E.contents faults.old) (E.contents faults.new) }
+    ensures front { TakesFront (MAX_RUN_BYTES + 1) (R.remaining input.old) (R.remaining input.new) }
+    ensures status { result ≢ 2 }
+{
+    match try_on(rt, file, start, mode, input, output, faults) {
         Ok(status) => status,
         Err(fault) => finish(Err(fault), faults),
     }
 }
 
 /// `correct`: the run for the edited text on the input goes to the output, or why there is none to `faults`.
-fn carry_out_correction<R: Read, W: Write, E: Write>(
+fn carry_out_correction<St: Start, R: Read, W: Write, E: Write>(
     rt: &HostRuntime,
     file: &str,
+    start: St,
     set: &str,
     input: &mut R,
     output: &mut W,
     faults: &mut E,
 ) -> u8
-    ensures told { IsCorrected result (W.contents output.old) (W.contents output.new)
+    ensures told { IsCorrected ⟦<FileRows<St> as Meaning>⟧ (λ rows. rows.inner.conn) file_state (image_at St.Start)
+        set.now result (R.remaining input.old) (W.contents output.old) (W.contents output.new)
         (E.contents faults.old) (E.contents faults.new) }
     ensures front { TakesFront (MAX_TEXT_BYTES + 1) (R.remaining input.old) (R.remaining input.new) }
     ensures silent { (result ≡ 1) ⊎ (result ≡ 2) → output.new ≡ output.old }
     ensures clean { result ≡ 0 → faults.new ≡ faults.old }
 {
-    match correct_on(rt, file, set, input, output, faults) {
+    match correct_on(rt, file, start, set, input, output, faults) {
         Ok(status) => status,
         Err(fault) => finish(Err(fault), faults),
     }
@@ -171,14 +261,16 @@ fn carry_out_explaining<W: Write, E: Write>(fault: &str, output: &mut W, faults:
 }
 
 /// `serve`: an address that is not valid is a usage error.
-fn carry_out_serving<E: Write>(
+fn carry_out_serving<St: Start, E: Write>(
     rt: &HostRuntime,
     file: &str,
+    start: St,
     address: &str,
     count: u32,
     faults: &mut E,
 ) -> u8
-    ensures served { IsServed address.now result (E.contents faults.old) (E.contents faults.new) }
+    ensures served { IsServed ⟦<FileRows<St> as Meaning>⟧ (λ rows. rows.inner.conn) file_state (image_at St.Start)
+        address.now count result (E.contents faults.old) (E.contents faults.new) }
     ensures clean { result ≡ 0 → faults.new ≡ faults.old }
 {
     let Some(reachable) = read_address(address) else {
@@ -191,10 +283,7 @@ fn carry_out_serving<E: Write>(
             faults,
         );
     };
-    match serve(rt, file, reachable, count) {
-        Ok(status) => status,
-        Err(fault) => finish(Err(fault), faults),
-    }
+    finish(serve(rt, file, start, reachable, count), faults)
 }
 
 /// `trial MODE`: the compile file of the run on the input goes to the output.

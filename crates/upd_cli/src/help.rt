@@ -249,6 +249,10 @@ pub(crate) const TRY: Text = Text {
 Reads a run of at most 65536 bytes and writes the reply that `upd run` would write, a line of JSON,
 but for the site and the number: they are TRY and 1. Changes nothing, and no number is used.
 
+Warnings follow on standard error, a line each, with the number of the line of the run: comments,
+which are dropped, text that may be meant for a directive, a card that is off already, and a range
+of more than 20 cards. They don't change the exit status.
+
 Exit status: 0 the run would be accepted; 1 refused; 2 the command line can't be read; 3 out of
 memory, or the library, a read or a write failed. A refusal is a line of JSON on standard output;
 any other fault is one line on standard error.

@@ -8,6 +8,7 @@ mod arriving;
 mod asking;
 mod command;
 mod correcting;
+mod errands;
 mod explaining;
 mod help;
 mod library;
@@ -18,6 +19,6 @@ mod streams;
 mod trial_run;
 mod words;
 
-pub use command::{report_words, run_command};
+pub use command::{report_words, run_command, run_command_from};
 pub use trial_run::trial;
 pub use words::{serve_is_read, trial_is_read};

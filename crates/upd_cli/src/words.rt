@@ -24,7 +24,11 @@ pub enum Request<'a> {
     Trial {
         mode: &'a str,
     },
-    /// A command on the library in a file.
+    /// `init FILE`
+    Init {
+        file: &'a str,
+    },
+    /// A command that asks the desk of the library in a file.
     Library {
         file: &'a str,
         asked: Asked<'a>,
@@ -40,6 +44,15 @@ pub enum Request<'a> {
         file: &'a str,
         set: &'a str,
     },
+    /// `try FILE MODE`
+    Try {
+        file: &'a str,
+        mode: &'a str,
+    },
+    /// `migrate FILE`
+    Migrate {
+        file: &'a str,
+    },
     /// `explain FAULT`
     Explain {
         fault: &'a str,
@@ -50,10 +63,9 @@ pub enum Request<'a> {
     Unread(String),
 }
 
-/// What is asked of the library in a file, its operands as they were written.
+/// What is asked of the desk of a library, its operands as they were written.
 #[derive(Drop)]
 pub enum Asked<'a> {
-    Init,
     Run {
         site: &'a str,
         number: &'a str,
@@ -83,13 +95,9 @@ pub enum Asked<'a> {
     Text {
         deck: &'a str,
     },
-    Try {
-        mode: &'a str,
-    },
     Source {
         deck: &'a str,
     },
-    Migrate,
 }
 
 /// An operand's name, what help says of it, and what its word has to be.
@@ -241,6 +249,9 @@ fn read_request<'a>(matches: &ArgMatches<'a>) -> Request<'a>
         Some(("trial", operands)) => Request::Trial {
             mode: word(operands, "MODE"),
         },
+        Some(("init", operands)) => Request::Init {
+            file: word(operands, "FILE"),
+        },
         Some(("serve", operands)) => Request::Serve {
             file: word(operands, "FILE"),
             address: word(operands, "ADDRESS"),
@@ -249,6 +260,13 @@ fn read_request<'a>(matches: &ArgMatches<'a>) -> Request<'a>
         Some(("correct", operands)) => Request::Correct {
             file: word(operands, "FILE"),
             set: word(operands, "SET"),
+        },
+        Some(("try", operands)) => Request::Try {
+            file: word(operands, "FILE"),
+            mode: word(operands, "MODE"),
+        },
+        Some(("migrate", operands)) => Request::Migrate {
+            file: word(operands, "FILE"),
         },
         Some(("explain", operands)) => Request::Explain {
             fault: word(operands, "FAULT"),
@@ -261,15 +279,14 @@ fn read_request<'a>(matches: &ArgMatches<'a>) -> Request<'a>
     }
 }
 
-/// What a command asks of a library.
+/// What a command asks of the desk of a library.
 fn read_asked<'a>(name: &str, operands: &ArgMatches<'a>) -> Asked<'a>
     requires known { IsOneOf name.now upd_commands }
-    requires other { (name.now ≢ codes "trial") × (name.now ≢ codes "serve") × (name.now ≢ codes "correct")
-        × (name.now ≢ codes "explain") }
+    requires other { (name.now ≢ codes "trial") × (name.now ≢ codes "init") × (name.now ≢ codes "serve")
+        × (name.now ≢ codes "correct") × (name.now ≢ codes "try") × (name.now ≢ codes "migrate") × (name.now ≢ codes "explain") }
     ensures { IsAskedBy name.now (rows_of (found_of operands.now)) result }
 {
     match name {
-        "init" => Asked::Init,
         "run" => Asked::Run {
             site: word(operands, "SITE"),
             number: word(operands, "NUMBER"),
@@ -299,13 +316,9 @@ fn read_asked<'a>(name: &str, operands: &ArgMatches<'a>) -> Asked<'a>
         "text" => Asked::Text {
             deck: word(operands, "DECK"),
         },
-        "try" => Asked::Try {
-            mode: word(operands, "MODE"),
-        },
-        "source" => Asked::Source {
+        _ => Asked::Source {
             deck: word(operands, "DECK"),
         },
-        _ => Asked::Migrate,
     }
 }
 

@@ -136,6 +136,9 @@ fn a_run_that_is_tried_is_not_stored(rt: HostRuntime) -> Result<(), Fail> {
     for _ in 0..2 {
         answers(&rt, &words, b"*IDENT T\n*DELETE A.2\n", (0, TRIED, ""))?;
     }
+    let misspelt = b"*IDENT T\n*INSERT A.1\n*DELTE A.2\n";
+    let warning = "upd: 3: *DELTE is text, not *DELETE\n";
+    answers(&rt, &words, misspelt, (0, TRIED, warning))?;
     let refused =
         "{\"at\":1,\"fault\":9,\"mode\":\"quick\",\"name\":\"TextNowhere\",\"run\":1,\"site\":\"TRY\",\
 \"state\":\"refused\"}\n";

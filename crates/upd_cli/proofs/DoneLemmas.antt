@@ -1,0 +1,87 @@
+-- What was done for a request was done for the words that ask for it.
+use Rattle.std.proofs.Common.{◌≡◌, ◌≢◌, ◌⊎◌, ◌≤◌, ◌+◌, inl, inr, ℕ, List, [], codes, Bor, false, Option, sym, ◌∙◌, subst, arith}
+use Rattle.std.specs.Str.{bytes_eq}
+use Rattle.clap.specs.Words.{Text}
+use Rattle.clap.specs.declared.error.kind.ErrorKind.{ErrorKind}
+use Rattle.sqlite_wal.specs.Recovery.{Image}
+use Rattle.sqlite.specs.State.{State}
+use Rattle.upd_row_store.specs.declared.meaning.Meaning.{Ghosts}
+use Rattle.upd_io.specs.Inputs.{IsInput}
+use Rattle.upd_edit.specs.declared.editing.TheConstants.{MAX_TEXT_BYTES}
+use Rattle.upd_cli.specs.Command.{Answers, IsToldOf, answer_to}
+use Rattle.upd_cli.specs.Commands.{IsDone}
+use Rattle.upd_cli.specs.Inputs.{HandsRunsIn, IsCorrectRequest, IsSpoolRequest, IsTryRequest, ReadsFor, ReadsInput, TellsRefusals, TriesRunIn, most_read}
+use Rattle.upd_cli.specs.Trial.{trial_named}
+use Rattle.upd_cli.specs.Words.{IsAskedFor, IsCommand, command_word, operand_word, request_name, word_faults}
+use Rattle.upd_cli.specs.declared.words.Request.{Request}
+use Rattle.upd_cli.specs.declared.words.Request.TheVariants.{Trial, Correct, Shown, Unread}
+use Rattle.upd_cli.proofs.RequestLemmas.{corrects, mistake_status, none_among, not_trial, reads, spools, tells, text_status, trial_mode, trial_or_other, tries, unread_for_none}
+
+-- which words a request that has something to it is asked for by
+pub record IsAskedBut (words : List Text) (request : Request) : Type 0 where
+  pub spools : IsSpoolRequest request → command_word words ≡ codes "spool"
+  pub corrects : IsCorrectRequest request → command_word words ≡ codes "correct"
+  pub tries : IsTryRequest request → TriesRunIn words
+  pub tells : TellsRefusals request → HandsRunsIn words
+  pub reads : ReadsFor request → ReadsInput words
+
+pub asked_but : (words : List Text) (request : Request) → IsAskedFor words request → IsAskedBut words request
+asked_but words request (inl asked) = record {
+  spools = spools words request asked;
+  corrects = corrects words request asked;
+  tries = tries words request asked;
+  tells = tells words request asked;
+  reads = reads words request asked;
+}
+asked_but words request (inr (kind, among, is)) =
+    let none = unread_for_none kind request is in
+    record {
+      spools = λ it. absurd (none.spools it);
+      corrects = λ it. absurd (none.corrects it);
+      tries = λ it. absurd (none.tries it);
+      tells = λ it. absurd (none.tells it);
+      reads = λ it. absurd (none.reads it);
+    }
+
+-- no more is read than shows that an edited text is too long
+pub reads_text : (request : Request) → most_read request ≤ MAX_TEXT_BYTES + 1
+reads_text (Correct file set) = omega arith
+reads_text _ = omega arith
+
+module _ {S C : Type 0} (meaning : Ghosts S) (conn_of : S → C) (state : C → State) (held : Image) where
+  -- what was asked is this request
+  pub done_as : (request meant : Request) (status : ℕ) (input input' output output' faults faults' : Option (List ℕ)) → request ≡ meant
+      → IsDone meaning conn_of state held meant status input input' output output' faults faults'
+      → IsDone meaning conn_of state held request status input input' output output' faults faults'
+  done_as request meant status input input' output output' faults faults' is done =
+      subst (λ r. IsDone meaning conn_of state held r status input input' output output' faults faults') (sym is) done
+
+  pub trial_done : (words : List Text) (request : Request) (status : ℕ) (input input' output output' faults faults' : Option (List ℕ))
+      → IsAskedFor words request → IsDone meaning conn_of state held request status input input' output output' faults faults'
+      → word_faults words ≡ [] → command_word words ≡ codes "trial"
+      → (run : List ℕ) × IsInput input run
+      × Answers (answer_to (trial_named (operand_word (codes "MODE") words) run)) status output output' faults faults'
+  trial_done words request status input input' output output' faults faults' (inr told) done none is = absurd (none_among told.0 words none told.1)
+  trial_done words request status input input' output output' faults faults' (inl asked) done none is = by (trial_or_other request)
+    where
+      IsAnswered : List ℕ → List ℕ → Type 0
+      IsAnswered word run = Answers (answer_to (trial_named word run)) status output output' faults faults'
+      by : ((mode : Bor (List ℕ)) × (request ≡ Trial mode)) ⊎ (bytes_eq (codes "trial") (request_name request) ≡ false)
+          → (run : List ℕ) × IsInput input run × IsAnswered (operand_word (codes "MODE") words) run
+      by (inl (mode, same)) =
+          let (run, taken, answers) : IsDone meaning conn_of state held (Trial mode) status input input' output output' faults faults' =
+          subst (λ r. IsDone meaning conn_of state held r status input input' output output' faults faults') same done in
+          (run, taken, subst (λ word. IsAnswered word run) (trial_mode words mode (subst (IsCommand words) same asked)) answers)
+      by (inr apart) = absurd (not_trial words request asked apart is)
+
+  pub unread_done : (words : List Text) (request : Request) (status : ℕ) (input input' output output' faults faults' : Option (List ℕ))
+      → IsAskedFor words request → IsDone meaning conn_of state held request status input input' output output' faults faults'
+      → word_faults words ≢ [] → IsToldOf words status
+  unread_done words request status input input' output output' faults faults' (inl asked) done bad = absurd (bad asked.0)
+  unread_done words (Shown text) status input input' output output' faults faults' (inr (kind, among, is)) (inl zero) bad =
+      inr (kind, among, zero ∙ sym (text_status kind is))
+  unread_done words (Shown text) status input input' output output' faults faults' (inr (kind, among, is)) (inr three) bad = inl three
+  unread_done words (Unread text) status input input' output output' faults faults' (inr (kind, among, is)) (nothing, inl two) bad =
+      inr (kind, among, two ∙ sym (mistake_status kind is))
+  unread_done words (Unread text) status input input' output output' faults faults' (inr (kind, among, is)) (nothing, inr three) bad = inl three
+  unread_done words _ status input input' output output' faults faults' (inr (kind, among, is)) done bad = absurd is

@@ -1,0 +1,60 @@
+use Rattle.std.proofs.Common.{inl, inr, sym, subst}
+use Rattle.std.proofs.KnownBytes.{Appends-nil}
+use Rattle.upd_compile.specs.Modes.{mode_named}
+use Rattle.upd_cli.specs.Inputs.{ReadsFor}
+use Rattle.upd_cli.specs.Trial.{trial_named}
+use Rattle.upd_cli.proofs.CommandLemmas.{answered}
+use Rattle.upd_cli.proofs.DoneLemmas.{done_as}
+use Rattle.upd_cli.proofs.RequestLemmas.{none_of}
+use Rattle.upd_cli.proofs.command.carry_out.Goals as goal
+
+pub returns-in-Trial-clause-done : goal.returns-in-Trial-clause-done
+returns-in-Trial-clause-done g c =
+    let (run, is, ends) = c.carry_out_trial-ended.ensures.ends in
+    done_as _ _ _ _ c.args.request.now _ _ _ _ _ _ _ _ c.in-Trial.is (
+      run,
+      is,
+      answered c.carry_out_trial-ended.result _ (trial_named c.in-Trial.mode.now run) (g.W.Write.contents c.args.output.now)
+          (g.W.Write.contents c.carry_out_trial-ended.new.output) _ _ ends c.finish-in-Trial.ensures.told,
+    )
+
+pub returns-in-Init-clause-done : goal.returns-in-Init-clause-done
+returns-in-Init-clause-done g c =
+    done_as _ _ _ _ c.args.request.now _ _ _ _ _ _ _ _ c.in-Init.is (
+      Appends-nil (g.W.Write.contents c.args.output.now),
+      c.init_file.result,
+      c.init_file.ensures.made,
+      c.init_file.ensures.failed,
+      c.finish-in-Init.ensures.told,
+    )
+
+pub returns-in-Migrate-clause-done : goal.returns-in-Migrate-clause-done
+returns-in-Migrate-clause-done g c =
+    done_as _ _ _ _ c.args.request.now _ _ _ _ _ _ _ _ c.in-Migrate.is (
+      Appends-nil (g.W.Write.contents c.args.output.now),
+      c.migrate_file.result,
+      c.migrate_file.ensures.migrates,
+      c.migrate_file.ensures.failed,
+      c.finish-in-Migrate.ensures.told,
+    )
+
+pub returns-in-Library-clause-done : goal.returns-in-Library-clause-done
+returns-in-Library-clause-done g c = done_as _ _ _ _ c.args.request.now _ _ _ _ _ _ _ _ c.in-Library.is c.carry_out_errand.ensures.told
+
+pub returns-in-Serve-clause-done : goal.returns-in-Serve-clause-done
+returns-in-Serve-clause-done g c =
+    done_as _ _ _ _ c.args.request.now _ _ _ _ _ _ _ _ c.in-Serve.is
+    (Appends-nil (g.W.Write.contents c.args.output.now), c.carry_out_serving.ensures.served)
+
+pub returns-in-Correct-clause-done : goal.returns-in-Correct-clause-done
+returns-in-Correct-clause-done g c = done_as _ _ _ _ c.args.request.now _ _ _ _ _ _ _ _ c.in-Correct.is c.carry_out_correction.ensures.told
+
+pub returns-in-Try-clause-done : goal.returns-in-Try-clause-done
+returns-in-Try-clause-done g c = done_as _ _ _ _ c.args.request.now _ _ _ _ _ _ _ _ c.in-Try.is c.carry_out_trying.ensures.told
+
+pub returns-in-Explain-clause-done : goal.returns-in-Explain-clause-done
+returns-in-Explain-clause-done g c = done_as _ _ _ _ c.args.request.now _ _ _ _ _ _ _ _ c.in-Explain.is c.carry_out_explaining.ensures.told
+
+pub returns-in-Trial-clause-waits : goal.returns-in-Trial-clause-waits
+returns-in-Trial-clause-waits g c = λ no.
+    c.carry_out_trial-ended.ensures.waits (none_of (mode_named c.in-Trial.mode.now) (λ some. no (subst ReadsFor (sym c.in-Trial.is) some)))
