@@ -1,0 +1,2 @@
+mod ReadTexts
+mod Listing

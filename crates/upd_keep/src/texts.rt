@@ -1,0 +1,6 @@
+//! The SQL statements.
+
+pub(crate) const ALL_RUNS: &str =
+    "SELECT site, num, mode, body, accepted, reply FROM runs ORDER BY site, num";
+
+pub(crate) const ALL_MARKS: &str = "SELECT site, mark FROM settled ORDER BY site";

@@ -1,0 +1,2 @@
+pub mod RunLines
+pub mod SiteLines

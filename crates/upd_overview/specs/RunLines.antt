@@ -1,0 +1,53 @@
+-- One line for each stored run: its site, number and mode, and what its reply says.
+use Rattle.std.specs.Prelude.{ℕ, zero, suc, Bool, if◌then◌else◌, List, [], ◌∷◌, ◌++◌, codes, decimal, Option, Some, None, option_and_then}
+use Rattle.std.specs.List.{flat_map}
+use Rattle.std.specs.Option.{option_map_or}
+use Rattle.std.specs.Str.{is_utf8}
+use Rattle.serde_json.specs.Data.{Data, null, boolean, number, string, array, object, Items, no_items, item}
+use Rattle.serde_json.specs.Find.{as_array, get}
+use Rattle.serde_json.specs.Read.{read}
+use Rattle.upd_records.specs.Rows.{RunView}
+
+-- the value of a reply; bytes that are no text of JSON have none
+abbrev pub said : List ℕ → Option Data
+said reply = if is_utf8 reply then read reply else None
+
+-- a text as a word, with a blank before it; another value is no word
+abbrev pub word_of : Data → List ℕ
+word_of null = []
+word_of (boolean b) = []
+word_of (number n) = []
+word_of (string word) = 32 ∷ word
+word_of (array items) = []
+word_of (object ms) = []
+
+-- the texts of an array as words
+abbrev pub words_of : Items → List ℕ
+words_of no_items = []
+words_of (item d ds) = word_of d ++ words_of ds
+
+-- the idents that an accepted run introduced, as its reply says
+abbrev pub idents_said : Option Data → List ℕ
+idents_said value = option_map_or words_of (option_and_then as_array (option_and_then (get (codes "idents")) value)) []
+
+-- the name of a refusal, as the reply says
+abbrev pub refusal_said : Option Data → List ℕ
+refusal_said value = option_map_or word_of (option_and_then (get (codes "name")) value) (codes " refused")
+
+-- what became of a run: `accepted` and the idents, or the name of the refusal
+abbrev pub outcome : Bool → Option Data → List ℕ
+outcome accepted value = if accepted then codes " accepted" ++ idents_said value else refusal_said value
+
+-- the word of a mode by its number in the table
+abbrev pub mode_word : ℕ → List ℕ
+mode_word zero = codes "full"
+mode_word (suc zero) = codes "quick"
+mode_word (suc (suc n)) = codes "normal"
+
+-- the line of a run
+abbrev pub run_line : RunView → List ℕ
+run_line r = r.site ++ 32 ∷ decimal r.number ++ 32 ∷ mode_word r.mode ++ outcome r.accepted (said r.reply) ++ 10 ∷ []
+
+-- the lines of runs in order
+abbrev pub run_lines : List RunView → List ℕ
+run_lines runs = flat_map run_line runs
