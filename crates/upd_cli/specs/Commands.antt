@@ -17,17 +17,20 @@ use Rattle.upd_io.specs.Inputs.{IsInput}
 use Rattle.upd_edit.specs.declared.editing.TheConstants.{MAX_TEXT_BYTES}
 use Rattle.upd_cli.specs.Command.{Answers, IsEnd, IsTold, answer_to}
 use Rattle.upd_cli.specs.Errands.{CorrectsText, DoesErrand, TriesRun}
-use Rattle.upd_cli.specs.Opened.{IsWarmed, MakesLibrary, MigratesLibrary, OnFile}
+use Rattle.upd_cli.specs.Opened.{IsLibraryIn, IsWarmed, MakesLibrary, MigratesLibrary, OnFile}
 use Rattle.upd_cli.specs.Operands.{IsNoAddress, errand_of}
 use Rattle.upd_cli.specs.Status.{exit_status, fault_line, no_memory}
+use Rattle.upd_cli.specs.Stored.{ReportsList}
 use Rattle.upd_cli.specs.Streams.{IsFrontOf, IsRunOn}
 use Rattle.upd_cli.specs.Telling.{TellsText}
 use Rattle.upd_cli.specs.Trial.{trial_named}
 use Rattle.upd_cli.specs.Words.{IsAskedFor}
 use Rattle.upd_cli.specs.declared.errands.Errand.{Errand}
+use Rattle.upd_cli.specs.declared.stored.Stored.{Stored}
+use Rattle.upd_cli.specs.declared.stored.Stored.TheVariants as stored
 use Rattle.upd_cli.specs.declared.words.Asked.{Asked}
 use Rattle.upd_cli.specs.declared.words.Request.{Request}
-use Rattle.upd_cli.specs.declared.words.Request.TheVariants.{Trial, Init, Library, Serve, Correct, Try, Migrate, Explain, Shown, Unread}
+use Rattle.upd_cli.specs.declared.words.Request.TheVariants.{Trial, Init, Library, Serve, Correct, Try, Runs, Sites, Migrate, Explain, Shown, Unread}
 
 -- the exit status of a command that ended so; its fault, if any, is reported by its line
 abbrev pub IsEndOf : Result ℕ Fault → ℕ → Option (List ℕ) → Option (List ℕ) → Type 0
@@ -84,6 +87,17 @@ module _ {S C : Type 0} (meaning : Ghosts S) (conn_of : S → C) (state : C → 
       × OnFile meaning conn_of state held (λ old new. TriesRun meaning mode run status old new output output' faults faults'))
       ⊎ FailsFirst status output output' faults faults'
 
+  -- a list was asked of the library in the file, and the answer was told; or the file can't be opened, and nothing is told
+  abbrev pub LeavesList : Stored → Result ℕ Fault → Option (List ℕ) → Option (List ℕ) → Type 0
+  LeavesList list ended output output' =
+      ((old : C) × (new : C) × IsLibraryIn held (state old) × ReportsList list ended (state old) (state new) output output')
+      ⊎ (IsErrAnd ended IsUnopened × Appends output output' [])
+
+  -- a list was asked, and output, fault stream and status tell how
+  abbrev pub IsListed : Stored → ℕ → Option (List ℕ) → Option (List ℕ) → Option (List ℕ) → Option (List ℕ) → Type 0
+  IsListed list status output output' faults faults' =
+      (ended : Result ℕ Fault) × LeavesList list ended output output' × IsEndOf ended status faults faults'
+
   -- an empty library was made in the file; or that failed
   abbrev pub IsInitialized : ℕ → Option (List ℕ) → Option (List ℕ) → Type 0
   IsInitialized status faults faults' = (ended : Result (Unit {0}) Fault) × OnOk ended (MakesLibrary meaning conn_of state held) × EndsSilently ended status faults faults'
@@ -115,6 +129,8 @@ module _ {S C : Type 0} (meaning : Ghosts S) (conn_of : S → C) (state : C → 
       Appends output output' [] × IsServed address.now count status faults faults'
   IsDone (Correct file set) status input input' output output' faults faults' = IsCorrected set.now status input output output' faults faults'
   IsDone (Try file mode) status input input' output output' faults faults' = IsTried mode.now status input output output' faults faults'
+  IsDone (Runs file) status input input' output output' faults faults' = IsListed stored.Runs status output output' faults faults'
+  IsDone (Sites file) status input input' output output' faults faults' = IsListed stored.Sites status output output' faults faults'
   IsDone (Migrate file) status input input' output output' faults faults' = Appends output output' [] × IsMigrated status faults faults'
   IsDone (Explain fault) status input input' output output' faults faults' = IsExplained fault.now status output output' faults faults'
   IsDone (Shown text) status input input' output output' faults faults' = (status ≡ 0) ⊎ (status ≡ 3)

@@ -1,4 +1,5 @@
 pub mod Status
+pub mod Stored
 pub mod Streams
 pub mod Words
 pub mod Trial

@@ -27,6 +27,11 @@ pub record MigratesFile (held : Image) (ended : Result (Unit {0}) Fault) (old ne
   pub version : IfErr ended (λ e. HasCleanDisk new → (v : ℕ) → HasVersion v old.committed → (e.at ≡ v) ⊎ (e.at ≡ 0))
   pub crash : Survives old new (MayMigrate old)
 
+-- The connection is to a library that the file held.
+pub record IsLibraryIn (held : Image) (found : State) : Type 0 where
+  pub found : HasCleanDisk found → IsTrue found.is_open → FindsIn held found
+  pub ours : HasCleanDisk found → IsTrue found.is_open → found.committed.schema ≡ library_schema
+
 module _ {S : Type 0} (meaning : Ghosts S) where
   open meaning use {is_honest, is_open, may_leave}
 

@@ -10,7 +10,7 @@ use Rattle.clap.specs.declared.error.kind.ErrorKind.{ErrorKind}
 use Rattle.clap.specs.declared.error.kind.ErrorKind.TheVariants.{DisplayHelp, DisplayVersion}
 use Rattle.upd_cli.specs.Operands.{IsCount, SpellsCount}
 use Rattle.upd_cli.specs.declared.words.Request.{Request}
-use Rattle.upd_cli.specs.declared.words.Request.TheVariants.{Trial, Init, Library, Serve, Correct, Try, Migrate, Explain, Shown, Unread}
+use Rattle.upd_cli.specs.declared.words.Request.TheVariants.{Trial, Init, Library, Serve, Correct, Try, Runs, Sites, Migrate, Explain, Shown, Unread}
 use Rattle.upd_cli.specs.declared.words.Asked.{Asked}
 use Rattle.upd_cli.specs.declared.words.Asked.TheVariants as asks
 
@@ -51,6 +51,8 @@ upd_commands =
     ∷ (codes "correct", word_of (codes "FILE") ∷ word_of (codes "SET") ∷ [])
     ∷ (codes "try", word_of (codes "FILE") ∷ word_of (codes "MODE") ∷ [])
     ∷ (codes "source", word_of (codes "FILE") ∷ word_of (codes "DECK") ∷ [])
+    ∷ (codes "runs", word_of (codes "FILE") ∷ [])
+    ∷ (codes "sites", word_of (codes "FILE") ∷ [])
     ∷ (codes "migrate", word_of (codes "FILE") ∷ [])
     ∷ (codes "explain", word_of (codes "FAULT") ∷ [])
     ∷ []
@@ -133,6 +135,8 @@ request_name (Library file asked) = asked_name asked
 request_name (Serve file address count) = codes "serve"
 request_name (Correct file set) = codes "correct"
 request_name (Try file mode) = codes "try"
+request_name (Runs file) = codes "runs"
+request_name (Sites file) = codes "sites"
 request_name (Migrate file) = codes "migrate"
 request_name (Explain fault) = codes "explain"
 request_name _ = []
@@ -147,6 +151,8 @@ AreOperands rows (Serve file address count) =
     × IsCount (operand_in (codes "COUNT") rows) count
 AreOperands rows (Correct file set) = (file.now ≡ operand_in (codes "FILE") rows) × (set.now ≡ operand_in (codes "SET") rows)
 AreOperands rows (Try file mode) = (file.now ≡ operand_in (codes "FILE") rows) × (mode.now ≡ operand_in (codes "MODE") rows)
+AreOperands rows (Runs file) = file.now ≡ operand_in (codes "FILE") rows
+AreOperands rows (Sites file) = file.now ≡ operand_in (codes "FILE") rows
 AreOperands rows (Migrate file) = file.now ≡ operand_in (codes "FILE") rows
 AreOperands rows (Explain fault) = fault.now ≡ operand_in (codes "FAULT") rows
 AreOperands rows _ = ⊥

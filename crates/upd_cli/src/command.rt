@@ -6,7 +6,7 @@ ghost use Rattle.upd_compile.specs.Modes.{mode_named};
 ghost use Rattle.upd_cli.specs.Command.{Answers, EndsTrial, GivesUnlessFailed, IsTold, IsToldOf, answer_to};
 ghost use Rattle.sqlite.specs.Files.{file_state};
 ghost use Rattle.sqlite_wal.specs.Files.{image_at};
-ghost use Rattle.upd_cli.specs.Commands.{CarriesOut, IsCarriedOut, IsCorrected, IsDone, IsExplained, IsServed, IsTried};
+ghost use Rattle.upd_cli.specs.Commands.{CarriesOut, IsCarriedOut, IsCorrected, IsDone, IsExplained, IsListed, IsServed, IsTried};
 ghost use Rattle.upd_cli.specs.Status.{exit_status, fault_line, no_memory, no_words_line};
 ghost use Rattle.upd_cli.specs.Streams.{TakesFront};
 ghost use Rattle.upd_edit.specs.declared.editing.TheConstants.{MAX_TEXT_BYTES};
@@ -17,11 +17,10 @@ ghost use Rattle.upd_cli.specs.Inputs.{HandsRunsIn, IsHandIn, IsSpoolCommand, Is
 ghost use Rattle.upd_cli.specs.Inputs.{ReadsInput, TellsRefusals, TriesRunIn, most_read};
 
 use crate::explaining::explain_fault;
-use crate::library::{
-    FileRows, correct_on, errand_on, init_file, migrate_file, serve, try_on,
-};
+use crate::library::{FileRows, correct_on, errand_on, init_file, migrate_file, serve, try_on};
 use crate::operands::read_address;
 use crate::status::{FAILED, UNREAD, finish};
+use crate::stored::{Stored, list_on};
 use crate::streams::{read_input, write_out};
 use crate::trial_run::{read_mode, trial};
 use crate::words::{Asked, Request, read_words};
@@ -141,6 +140,12 @@ fn carry_out<St: Start, R: Read, W: Write, E: Write>(
         Request::Try { file, mode } => {
             carry_out_trying(rt, file, start, mode, input, output, faults)
         }
+        Request::Runs { file } => {
+            carry_out_listing(rt, file, start, Stored::Runs, output, faults)
+        }
+        Request::Sites { file } => {
+            carry_out_listing(rt, file, start, Stored::Sites, output, faults)
+        }
         Request::Migrate { file } => finish(migrate_file(rt, file, start), faults),
         Request::Explain { fault } => carry_out_explaining(fault, output, faults),
         Request::Shown(text) => finish(write_out(output, text.as_bytes()), faults),
@@ -242,6 +247,26 @@ fn carry_out_correction<St: Start, R: Read, W: Write, E: Write>(
     ensures clean { result ≡ 0 → faults.new ≡ faults.old }
 {
     match correct_on(rt, file, start, set, input, output, faults) {
+        Ok(status) => status,
+        Err(fault) => finish(Err(fault), faults),
+    }
+}
+
+/// `runs` and `sites`: a list of what the library in a file stores goes to the output.
+fn carry_out_listing<St: Start, W: Write, E: Write>(
+    rt: &HostRuntime,
+    file: &str,
+    start: St,
+    stored: Stored,
+    output: &mut W,
+    faults: &mut E,
+) -> u8
+    ensures told { IsListed ⟦<FileRows<St> as Meaning>⟧ (λ rows. rows.inner.conn) file_state (image_at St.Start)
+        stored result (W.contents output.old) (W.contents output.new) (E.contents faults.old) (E.contents faults.new) }
+    ensures silent { (result ≡ 1) ⊎ (result ≡ 2) → output.new ≡ output.old }
+    ensures clean { result ≡ 0 → faults.new ≡ faults.old }
+{
+    match list_on(rt, file, start, stored, output) {
         Ok(status) => status,
         Err(fault) => finish(Err(fault), faults),
     }

@@ -276,6 +276,35 @@ Example, after `upd init library.db`:
   upd source library.db A",
 };
 
+pub(crate) const RUNS: Text = Text {
+    about: "Lists the stored runs, by site and number",
+    more: "\
+Reads nothing, and writes a line for each stored run: the site, the number, the mode, and `accepted`
+with the idents that the run introduced, or the name of its refusal. Changes nothing. A settled run
+is no longer stored.
+
+Exit status: 0 done; 2 the command line can't be read; 3 out of memory, or the library or a write
+failed. The fault is one line on standard error.
+
+Example, after `upd init library.db`:
+  printf '*DECK A\\nONE\\n' | upd run library.db LYON 1 full
+  upd runs library.db",
+};
+
+pub(crate) const SITES: Text = Text {
+    about: "Lists the sites, each with its settled mark and its next number",
+    more: "\
+Reads nothing, and writes a line for each site that has a stored run or has settled: the site, its
+settled mark or 0, its greatest number, and the next one that is free. Changes nothing.
+
+Exit status: 0 done; 2 the command line can't be read; 3 out of memory, or the library or a write
+failed. The fault is one line on standard error.
+
+Example, after `upd init library.db`:
+  printf '*DECK A\\nONE\\n' | upd run library.db LYON 1 full
+  upd sites library.db",
+};
+
 pub(crate) const MIGRATE: Text = Text {
     about: "Migrates the file of an older schema to the present schema",
     more: "\

@@ -15,6 +15,7 @@ mod library;
 mod looking;
 mod operands;
 mod status;
+mod stored;
 mod streams;
 mod trial_run;
 mod words;

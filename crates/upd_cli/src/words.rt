@@ -49,6 +49,14 @@ pub enum Request<'a> {
         file: &'a str,
         mode: &'a str,
     },
+    /// `runs FILE`
+    Runs {
+        file: &'a str,
+    },
+    /// `sites FILE`
+    Sites {
+        file: &'a str,
+    },
     /// `migrate FILE`
     Migrate {
         file: &'a str,
@@ -126,6 +134,8 @@ fn commands<'a>(alloc: Global) -> Result<Command<'a>, AllocError>
     second_commands(alloc)?
         .subcommand(command(alloc, "try", help::TRY, &[FILE, MODE])?)?
         .subcommand(command(alloc, "source", help::SOURCE, &[FILE, DECK])?)?
+        .subcommand(command(alloc, "runs", help::RUNS, &[FILE])?)?
+        .subcommand(command(alloc, "sites", help::SITES, &[FILE])?)?
         .subcommand(command(alloc, "migrate", help::MIGRATE, &[FILE])?)?
         .subcommand(command(alloc, "explain", help::EXPLAIN, &[FAULT])?)
 }
@@ -265,6 +275,12 @@ fn read_request<'a>(matches: &ArgMatches<'a>) -> Request<'a>
             file: word(operands, "FILE"),
             mode: word(operands, "MODE"),
         },
+        Some(("runs", operands)) => Request::Runs {
+            file: word(operands, "FILE"),
+        },
+        Some(("sites", operands)) => Request::Sites {
+            file: word(operands, "FILE"),
+        },
         Some(("migrate", operands)) => Request::Migrate {
             file: word(operands, "FILE"),
         },
@@ -283,7 +299,8 @@ fn read_request<'a>(matches: &ArgMatches<'a>) -> Request<'a>
 fn read_asked<'a>(name: &str, operands: &ArgMatches<'a>) -> Asked<'a>
     requires known { IsOneOf name.now upd_commands }
     requires other { (name.now ≢ codes "trial") × (name.now ≢ codes "init") × (name.now ≢ codes "serve")
-        × (name.now ≢ codes "correct") × (name.now ≢ codes "try") × (name.now ≢ codes "migrate") × (name.now ≢ codes "explain") }
+        × (name.now ≢ codes "correct") × (name.now ≢ codes "try") × (name.now ≢ codes "runs") × (name.now ≢ codes "sites")
+        × (name.now ≢ codes "migrate") × (name.now ≢ codes "explain") }
     ensures { IsAskedBy name.now (rows_of (found_of operands.now)) result }
 {
     match name {

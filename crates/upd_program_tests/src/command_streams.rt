@@ -229,6 +229,8 @@ const ABOUT: &[(&[&str], &str)] = &[
     (&["correct", "--help"], "Writes the run that corrects decks"),
     (&["try", "--help"], "Writes the reply that the run"),
     (&["source", "--help"], "Writes the compile file of one"),
+    (&["runs", "--help"], "Lists the stored runs"),
+    (&["sites", "--help"], "Lists the sites"),
     (&["migrate", "--help"], "Migrates the file of an older"),
     (&["explain", "--help"], "Explains a fault"),
 ];

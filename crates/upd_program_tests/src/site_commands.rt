@@ -1,8 +1,9 @@
 //! What sites do with a library: they make it, send runs, settle, and ask.
-use crate::console::{accepts, answers, answers_of, fresh, library, remove};
+use crate::console::{accepts, answers, answers_of, ask, fresh, library, remove};
 use sqlite_disk::Unknown;
 use std::test::Fail;
 use upd_store::file::connect;
+use upd_testkit::check::same;
 
 const DECK: &[u8] = b"*DECK A\nONE\nTWO\nTHREE\n";
 
@@ -172,5 +173,31 @@ fn a_current_file_is_left_by_a_migration(rt: HostRuntime) -> Result<(), Fail> {
     accepts(&rt, &file, "1", "full", DECK)?;
     answers(&rt, &["migrate", &file], b"", (0, "", ""))?;
     answers(&rt, &["idents", &file], b"", (0, "1 A deck held\n", ""))?;
+    remove(&rt, &file)
+}
+
+/// The words have this exit status over an input.
+fn ends(rt: &HostRuntime, words: &[&str], mut input: &[u8], status: u8) -> Result<(), Fail> {
+    let found = ask(rt, words, &mut input)?;
+    same("the status", found.status, status)
+}
+
+#[test]
+fn stored_runs_and_sites_are_listed(rt: HostRuntime) -> Result<(), Fail> {
+    let file = library(&rt, "listed")?;
+    answers_of(&rt, &file, "runs", &[], (0, "", ""))?;
+    answers_of(&rt, &file, "sites", &[], (0, "", ""))?;
+    accepts(&rt, &file, "9", "quick", DECK)?;
+    ends(&rt, &["run", &file, "LYON", "10", "full"], b"HELLO\n", 1)?;
+    ends(&rt, &["settle", &file, "OSLO", "7"], b"", 0)?;
+    let runs = "LYON 9 quick accepted A\nLYON 10 full TextNowhere\n";
+    answers_of(&rt, &file, "runs", &[], (0, runs, ""))?;
+    answers_of(
+        &rt,
+        &file,
+        "sites",
+        &[],
+        (0, "LYON 0 10 11\nOSLO 7 7 8\n", ""),
+    )?;
     remove(&rt, &file)
 }

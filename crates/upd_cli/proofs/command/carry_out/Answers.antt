@@ -52,6 +52,12 @@ returns-in-Correct-clause-done g c = done_as _ _ _ _ c.args.request.now _ _ _ _ 
 pub returns-in-Try-clause-done : goal.returns-in-Try-clause-done
 returns-in-Try-clause-done g c = done_as _ _ _ _ c.args.request.now _ _ _ _ _ _ _ _ c.in-Try.is c.carry_out_trying.ensures.told
 
+pub returns-in-Runs-clause-done : goal.returns-in-Runs-clause-done
+returns-in-Runs-clause-done g c = done_as _ _ _ _ c.args.request.now _ _ _ _ _ _ _ _ c.in-Runs.is c.carry_out_listing-in-Runs.ensures.told
+
+pub returns-in-Sites-clause-done : goal.returns-in-Sites-clause-done
+returns-in-Sites-clause-done g c = done_as _ _ _ _ c.args.request.now _ _ _ _ _ _ _ _ c.in-Sites.is c.carry_out_listing-in-Sites.ensures.told
+
 pub returns-in-Explain-clause-done : goal.returns-in-Explain-clause-done
 returns-in-Explain-clause-done g c = done_as _ _ _ _ c.args.request.now _ _ _ _ _ _ _ _ c.in-Explain.is c.carry_out_explaining.ensures.told
 
