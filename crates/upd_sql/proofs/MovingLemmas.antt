@@ -14,7 +14,6 @@ use Rattle.std.proofs.lemmas.Map.Keys.{sorted_head}
 use Rattle.std.proofs.lemmas.Map.Text.{is_eq-slice_cmp}
 use Rattle.sqlite_keyed.proofs.ListLemmas.{all_map, all_weaker}
 use Rattle.sqlite.specs.declared.error.Error.{Error}
-use Rattle.sqlite.specs.Effect.{Database}
 use Rattle.sqlite.specs.State.{State}
 use Rattle.upd_text.specs.declared.card_ref.CardRef.{CardRef}
 use Rattle.upd_records.specs.Changes.{CardsMoved, moved_row}
@@ -145,9 +144,3 @@ module _ (deck from n : ℕ) where
         makes_as HoldsTables _ (Can movable) _ (with_others_moved es deck from n) a c r (λ it can. (can, can_next it.cards can.0))
         (λ it. ap (λ cards. record it { cards = cards }) (rows_next it.cards))
         (makes_then HoldsTables (Can movable) (CanMoveOf e deck from n) (with_others_moved (e ∷ es) deck from n) (with_moved e deck from n) a b c x r p q)
-
--- the same step with another value
-pub answers : {A X Y : Type 0} (Has : A → Database → Type 0) (F : A → Type 0) (f : A → A) (a b : State) (x : X) (y : Y) → Makes {X = Y} Has F f a b (Ok y)
-    → Makes {X = X} Has F f a b (Ok x)
-answers Has F f a b x y m =
-    record { steps = record { going = m.steps.going; kept = m.steps.kept; survives = m.steps.survives }; made = m.made }

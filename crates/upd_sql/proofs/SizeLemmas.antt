@@ -269,13 +269,6 @@ sizes_not s (Err e) err = record {
   made = λ clean. tt;
 }
 
--- nothing had to be run
-pub sizes_still : {X : Type 0} (s : State) (x : X) → KeepsSizes {X = X} s s (Ok x)
-sizes_still s x = record {
-  steps = record { going = λ clean inside. inside; kept = λ clean inside. record { was_open = λ o. o; committed = λ o. refl }; survives = survives_itself s _ };
-  made = λ clean inside n any h. h;
-}
-
 -- nothing is said of the numbers after rows were taken away
 pub sizes_lost : {A X : Type 0} (Has : A → Database → Type 0) (F : A → Type 0) (f : A → A) (change : Sizes → Sizes) (old new : State) (r : Result X Error)
     → Makes Has F f old new r

@@ -12,7 +12,6 @@ use Rattle.upd_sqlite.specs.Steps.{Makes}
 use Rattle.upd_sqlite.proofs.Chains.{makes_then, makes_as}
 use Rattle.upd_sql.specs.Doable.{AllCanBeDone, CanBeDone}
 use Rattle.upd_sql.specs.LibraryTables.{HoldsTables}
-use Rattle.upd_sql.proofs.Typed.{survives_itself}
 
 fits_push : (cs : List ChangeView) (d : ChangeView) (it : Rows) → AllFit (cs ++ d ∷ []) it → AllFit cs it × Fits d (done_all cs it)
 fits_push [] d it h = (tt, h.0)
@@ -34,13 +33,6 @@ can_push (Some movable) cs d it h =
 done_push : (cs : List ChangeView) (d : ChangeView) (it : Rows) → done d (done_all cs it) ≡ done_all (cs ++ d ∷ []) it
 done_push [] d it = refl
 done_push (c ∷ cs) d it = done_push cs d (done c it)
-
--- no change yet
-pub none_made : {X : Type 0} (movable : Option (BTreeMap (List ℕ) ℕ)) (s : State) (x : X) → Makes {X = X} HoldsTables (AllCanBeDone movable []) (done_all []) s s (Ok x)
-none_made movable s x = record {
-  steps = record { going = λ clean inside. inside; kept = λ clean inside. record { was_open = λ o. o; committed = λ o. refl }; survives = survives_itself s _ };
-  made = λ clean inside it fits h. h;
-}
 
 -- one change more
 pub one_made : {X Y : Type 0} (movable : Option (BTreeMap (List ℕ) ℕ)) (cs : List ChangeView) (d : ChangeView) (a b c : State) (x : X) (y : Y)
