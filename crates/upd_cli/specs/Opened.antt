@@ -28,9 +28,9 @@ pub record MigratesFile (held : Image) (ended : Result (Unit {0}) Fault) (old ne
   pub crash : Survives old new (MayMigrate old)
 
 -- The connection is to a library that the file held.
-pub record IsLibraryIn (held : Image) (found : State) : Type 0 where
-  pub found : HasCleanDisk found → IsTrue found.is_open → FindsIn held found
-  pub ours : HasCleanDisk found → IsTrue found.is_open → found.committed.schema ≡ library_schema
+pub record IsLibraryIn (held : Image) (opened : State) : Type 0 where
+  pub found : HasCleanDisk opened → IsTrue opened.is_open → FindsIn held opened
+  pub ours : HasCleanDisk opened → IsTrue opened.is_open → opened.committed.schema ≡ library_schema
 
 module _ {S : Type 0} (meaning : Ghosts S) where
   open meaning use {is_honest, is_open, may_leave}

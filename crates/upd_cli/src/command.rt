@@ -49,7 +49,7 @@ pub fn run_command<S: AsStr, R: Read, W: Write, E: Write>(
         → (run : List ℕ) × IsInput (R.remaining input.old) run
         × Answers (answer_to (trial_named (operand_word (codes "MODE") (map S.text words.entry.now)) run)) result
         (W.contents output.old) (W.contents output.new) (E.contents faults.old) (E.contents faults.new) }
-    ensures told { CarriesOut ⟦<FileRows<Unknown> as Meaning>⟧ (λ rows. rows.inner.conn) file_state (image_at ⟦<Unknown as Start>⟧.Start)
+    ensures told { CarriesOut ⟦<FileRows<Unknown> as Meaning>⟧ (λ rows. rows.inner.conn) file_state (image_at ⟦<Unknown as Start>⟧)
         (map S.text words.entry.now) result (R.remaining input.old) (R.remaining input.new)
         (W.contents output.old) (W.contents output.new) (E.contents faults.old) (E.contents faults.new) }
     ensures unread { word_faults (map S.text words.entry.now) ≢ [] → IsToldOf (map S.text words.entry.now) result }
