@@ -66,6 +66,7 @@ module _ {S C : Type 0} (meaning : Ghosts S) (conn_of : S → C) (state : C → 
     where
       IsAnswered : List ℕ → List ℕ → Type 0
       IsAnswered word run = Answers (answer_to (trial_named word run)) status output output' faults faults'
+
       by : ((mode : Bor (List ℕ)) × (request ≡ Trial mode)) ⊎ (bytes_eq (codes "trial") (request_name request) ≡ false)
           → (run : List ℕ) × IsInput input run × IsAnswered (operand_word (codes "MODE") words) run
       by (inl (mode, same)) =

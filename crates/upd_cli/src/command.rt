@@ -17,9 +17,7 @@ ghost use Rattle.upd_cli.specs.Inputs.{HandsRunsIn, IsHandIn, IsSpoolCommand, Is
 ghost use Rattle.upd_cli.specs.Inputs.{ReadsInput, TellsRefusals, TriesRunIn, most_read};
 
 use crate::explaining::explain_fault;
-use crate::library::{
-    FileRows, correct_on, errand_on, init_file, migrate_file, serve, try_on,
-};
+use crate::library::{FileRows, correct_on, errand_on, init_file, migrate_file, serve, try_on};
 use crate::operands::read_address;
 use crate::status::{FAILED, UNREAD, finish};
 use crate::streams::{read_input, write_out};
@@ -50,7 +48,7 @@ pub fn run_command<S: AsStr, R: Read, W: Write, E: Write>(
         → (run : List ℕ) × IsInput (R.remaining input.old) run
         × Answers (answer_to (trial_named (operand_word (codes "MODE") (map S.text words.entry.now)) run)) result
         (W.contents output.old) (W.contents output.new) (E.contents faults.old) (E.contents faults.new) }
-    ensures told { CarriesOut ⟦<FileRows<Unknown> as Meaning>⟧ (λ rows. rows.inner.conn) file_state (image_at ⟦<Unknown as Start>⟧.Start)
+    ensures told { CarriesOut ⟦<FileRows<Unknown> as Meaning>⟧ (λ rows. rows.inner.conn) file_state (image_at ⟦<Unknown as Start>⟧)
         (map S.text words.entry.now) result (R.remaining input.old) (R.remaining input.new)
         (W.contents output.old) (W.contents output.new) (E.contents faults.old) (E.contents faults.new) }
     ensures unread { word_faults (map S.text words.entry.now) ≢ [] → IsToldOf (map S.text words.entry.now) result }
