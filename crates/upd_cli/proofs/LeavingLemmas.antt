@@ -23,6 +23,10 @@ unopened_fails fault (inl (OfMemory f is at)) = ap exit_status is
 unopened_fails fault (inl (OfStore f is at)) = ap exit_status is
 unopened_fails fault (inr is) = ap exit_status is
 
+pub all_unopened_fail : {U : Type 0} (result : Result U Fault) → IfErr result IsUnopened → IfErr result (λ f. exit_status f.kind ≡ 3)
+all_unopened_fail (Ok u) unopened = tt
+all_unopened_fail (Err fault) unopened = unopened_fails fault unopened
+
 -- the same of a fault that `?` passes on
 pub passed_fails : {U : Type 0} (result : Result U Fault) (fault : Fault) → IsErrAnd result (λ e. e ≡ fault) → IsUnopened fault
     → IfErr result (λ f. exit_status f.kind ≡ 3)

@@ -12,7 +12,7 @@ returns-in-Ok-clause-tells g c =
     (g.W.Write.contents c.tell_tried.new.output) (g.E.Write.contents c.args.faults.now) (g.E.Write.contents c.tell_tried.new.faults) in (
       c.try_at-answer.result,
       Ok c.in-Ok.warnings.items,
-      tried_as g.S.Meaning c.args.mode.now c.args.run'.now c.try_at-answer.result (Ok c.in-Ok.warnings.items)
+      tried_as g.S.Meaning c.args.mode.now c.args.run.now c.try_at-answer.result (Ok c.in-Ok.warnings.items)
           c.args.desk.now.store c.try_at-answer.new.desk.store c.warnings_at.new.desk.store
           c.try_at-answer.ensures.reply c.try_at-answer.ensures.same c.in-Ok.ensures.text c.in-Ok.ensures.same,
       subst TellsAll c.deref.ensures.value c.tell_tried.ensures.tells,
@@ -22,11 +22,10 @@ pub returns-in-Err-clause-tells : goal.returns-in-Err-clause-tells
 returns-in-Err-clause-tells g c = (
   c.try_at-answer.result,
   Err c.in-Err.fault,
-  tried_as g.S.Meaning c.args.mode.now c.args.run'.now c.try_at-answer.result (Err c.in-Err.fault)
+  tried_as g.S.Meaning c.args.mode.now c.args.run.now c.try_at-answer.result (Err c.in-Err.fault)
       c.args.desk.now.store c.try_at-answer.new.desk.store c.warnings_at.new.desk.store
       c.try_at-answer.ensures.reply c.try_at-answer.ensures.same c.in-Err.ensures.text c.in-Err.ensures.same,
-  c.finish.ensures.told,
-  Appends-nil (g.W.Write.contents c.args.output.now),
+  (c.finish.ensures.told, Appends-nil (g.W.Write.contents c.args.output.now)),
 )
 
 pub returns-in-Err-clause-status : goal.returns-in-Err-clause-status
