@@ -1,5 +1,6 @@
 use Rattle.std.proofs.Common.{inl}
-use Rattle.upd_cli.proofs.LeavingLemmas.{all_unopened_fail}
+use Rattle.std.proofs.lemmas.Result.{IfErr-weaker}
+use Rattle.upd_cli.proofs.LeavingLemmas.{unopened_fails}
 use Rattle.upd_cli.proofs.library.migrate_file.Goals as goal
 
 pub returns-in-Ok-clause-migrates : goal.returns-in-Ok-clause-migrates
@@ -18,4 +19,4 @@ returns-in-Ok-clause-migrates g c = inl (
 )
 
 pub returns-in-Ok-clause-failed : goal.returns-in-Ok-clause-failed
-returns-in-Ok-clause-failed g c = all_unopened_fail c.migrate-ended.result c.migrate-ended.ensures.unopened
+returns-in-Ok-clause-failed g c = IfErr-weaker c.migrate-ended.result _ _ unopened_fails c.migrate-ended.ensures.unopened

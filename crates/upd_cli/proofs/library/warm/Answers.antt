@@ -14,7 +14,7 @@ returns g c =
         counts = omega (arith, counts.0);
       };
       shows = λ honest is rows shown.
-          let IsShownIn = λ image. g.S.Meaning.shows image rows in
+          let IsShownIn = λ (image : g.S.Meaning.Image). g.S.Meaning.shows image rows in
           (subst IsShownIn (sym (same.same honest is)) shown.0, c.warm.ensures.shows honest is rows shown.0 shown.1);
       crash = λ honest i left. (same.crash honest i.0 left.0, left.1);
     }
