@@ -3,9 +3,9 @@
 
     python3 completions/check.py [--executable FILE]
 
-Each of them has the commands of `upd --help`, and no others. The man page has each command's words as its `--help` has them, and groff, which is
-required, formats it without a warning. bash, and fish where it is installed, are asked what they complete. The default executable is
-crates/upd/out/upd. The exit status is 1 where something differs.
+Each of them has the commands of `upd --help`, and no others. The man page has each command's words as its `--help` has them, and the faults that
+`upd explain` explains, in order of number. groff, which is required, formats it without a warning. bash, and fish where it is installed, are asked
+what they complete. The default executable is crates/upd/out/upd. The exit status is 1 where something differs.
 """
 
 import argparse
@@ -51,6 +51,12 @@ def asked(shell, commands):
     return [f"{shell}, {line!r}: {found[line]}, and not {names}" for line, names in wanted.items() if found[line] != names]
 
 
+def explained(upd):
+    """Each fault that `upd explain` explains by its number, as NAME (NUMBER)."""
+    texts = (subprocess.run([upd, "explain", str(number)], capture_output=True, check=False, text=True).stdout for number in range(1, 100))
+    return [text.split(":")[0] for text in texts if text]
+
+
 def groff_says():
     """The warnings of groff on the man page, in lines."""
     if not shutil.which("groff"):
@@ -84,12 +90,16 @@ def main():
         operands = " ".join(re.findall(r"<([A-Z]+)>", re.search(r"Usage: \S+ .*", said(upd, command, "--help"))[0]))
         if synopsis.get(command) != operands:
             wrong.append(f"man/upd.1, {command}: {synopsis.get(command)}, and not {operands}")
+    faults = explained(upd)
+    listed = [f"{name} ({number})" for name, number in re.findall(r'"(\w+)" " \((\d+)\)', page)]
+    if listed != faults:
+        wrong.append(f"man/upd.1, faults: {listed}, and not {faults}")
     shells = [shell for shell in ("bash", "fish") if shutil.which(shell)]
     wrong += [line for shell in shells for line in asked(shell, commands)]
     wrong += groff_says()
     for line in wrong:
         print(line)
-    print(f"{len(commands)} commands, {' and '.join(shells)} asked, {len(wrong)} differences")
+    print(f"{len(commands)} commands, {len(faults)} faults, {' and '.join(shells)} asked, {len(wrong)} differences")
     sys.exit(bool(wrong))
 
 

@@ -17,6 +17,3 @@ mod writer;
 
 pub use correcting::correct;
 pub use refusal::{CorrectError, Problem, Refusal};
-
-#[cfg(test)]
-mod tests;

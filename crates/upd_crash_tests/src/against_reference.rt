@@ -7,7 +7,7 @@ use upd_row_store::RowStore;
 use upd_store::SqlStore;
 use upd_testkit::asks::{Ask, Sent};
 use upd_testkit::check::{holds, same, same_text};
-use upd_testkit::random_runs::{DECKS, Dice, random_run};
+use upd_testkit::random_runs::{DECKS, Dice, LISTINGS, random_run};
 use upd_testkit::reference_rows::reference_tables;
 use upd_testkit::session::Session;
 use upd_text::Fault;
@@ -40,18 +40,6 @@ fn same_tables(session: Stored) -> Result<Stored, Fail> {
     same_text("the tables", found.as_str(), wanted.as_str())?;
     Ok(Session::over(opened(SqlStore::adopt(conn))?, reference))
 }
-
-const LISTINGS: [Ask<'static>; 9] = [
-    Ask::Idents,
-    Ask::Yanks,
-    Ask::Deck("P0"),
-    Ask::Deck("P1"),
-    Ask::Deck("P2"),
-    Ask::Deck("S1"),
-    Ask::Deck("YANK$$$"),
-    Ask::Card("P0.2"),
-    Ask::Compile,
-];
 
 const SITES: [&str; 3] = ["BASE", "LYON", "PARIS"];
 

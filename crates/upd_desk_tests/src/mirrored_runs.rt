@@ -1,19 +1,22 @@
 //! Random lists of runs over a store with its rows in memory, and over a plain one: both answer the same.
+use crate::empty_stores::Fresh;
 use crate::store_answers::{Questions, answers};
+use sqlite::MemStore;
 use std::alloc::Global;
 use std::test::Fail;
 use upd_desk::Desk;
 use upd_list_store::ListStore;
 use upd_mirror::MirrorStore;
 use upd_row_store::RowStore;
+use upd_store::SqlStore;
 use upd_testkit::asks::shown;
 use upd_testkit::check::{holds, same, same_text};
 use upd_testkit::random_runs::{DECKS, Dice, random_run};
 
 /// Two desks that get the same runs.
 #[derive(Drop)]
-struct Pair {
-    mirrored: Desk<MirrorStore<ListStore>>,
+struct Pair<S: Fresh> {
+    mirrored: Desk<MirrorStore<S>>,
     plain: Desk<ListStore>,
     alloc: Global,
     /// How often answers were compared that came from memory.
@@ -32,15 +35,15 @@ fn reply<S: RowStore>(
     shown(alloc, reply.map(|reply| reply.text))
 }
 
-impl Pair {
+impl<S: Fresh> Pair<S> {
     /// Two desks over empty tables.
-    fn new(alloc: Global) -> Pair {
-        Pair {
-            mirrored: Desk::open(MirrorStore::new(ListStore::new(alloc))),
+    fn new(alloc: Global) -> Result<Pair<S>, Fail> {
+        Ok(Pair {
+            mirrored: Desk::open(MirrorStore::new(S::fresh(alloc)?)),
             plain: Desk::open(ListStore::new(alloc)),
             alloc,
             from_memory: 0,
-        }
+        })
     }
 
     /// Both get a run, and reply the same: whether it was accepted.
@@ -52,7 +55,7 @@ impl Pair {
     }
 
     /// Both stores answer the same, and have read as many decks. Then the rows in memory are read, or are let go.
-    fn compared(self, dice: &mut Dice) -> Result<Pair, Fail> {
+    fn compared(self, dice: &mut Dice) -> Result<Pair<S>, Fail> {
         let alloc = self.alloc;
         let (mut mirrored, mut plain) = (self.mirrored.close(), self.plain.close());
         let from_memory = self
@@ -77,10 +80,10 @@ impl Pair {
     }
 }
 
-/// A list of runs: the number of accepted ones, and how often answers came from memory.
-fn random_list(alloc: Global, dice: &mut Dice) -> Result<(u32, u32), Fail> {
-    let mut pair = Pair::new(alloc);
-    pair.run(1, DECKS)?;
+/// A list of runs, after these decks: the number of accepted ones, and how often answers came from memory.
+fn random_list<S: Fresh>(alloc: Global, dice: &mut Dice, decks: &str) -> Result<(u32, u32), Fail> {
+    let mut pair = Pair::<S>::new(alloc)?;
+    pair.run(1, decks)?;
     let mut accepted: u32 = 0;
     for number in 2..14 {
         pair = pair.compared(dice)?;
@@ -98,7 +101,7 @@ fn rows_in_memory_answer_as_the_tables(rt: HostRuntime) -> Result<(), Fail> {
     let mut dice = Dice(1975);
     let (mut accepted, mut from_memory): (u32, u32) = (0, 0);
     for _ in 0..50 {
-        let (runs, answers) = random_list(rt.alloc(), &mut dice)?;
+        let (runs, answers) = random_list::<ListStore>(rt.alloc(), &mut dice, DECKS)?;
         accepted = accepted.saturating_add(runs);
         from_memory = from_memory.saturating_add(answers);
     }
@@ -106,10 +109,32 @@ fn rows_in_memory_answer_as_the_tables(rt: HostRuntime) -> Result<(), Fail> {
     holds(("answers from memory", from_memory), from_memory > 250)
 }
 
+/// The three decks, and a large one: only a small part of all cards moves in a run.
+fn decks_beside_a_large_one(alloc: Global) -> Result<String, Fail> {
+    let mut text = String::from_str(alloc, DECKS)?;
+    text.push_str("*DECK P3\n")?;
+    for line in 0..400 {
+        write!(text, "LINE {line}\n")?;
+    }
+    Ok(text)
+}
+
+#[test]
+fn cards_that_move_by_their_keys_answer_as_the_tables(rt: HostRuntime) -> Result<(), Fail> {
+    let mut dice = Dice(1976);
+    let decks = decks_beside_a_large_one(rt.alloc())?;
+    let mut accepted: u32 = 0;
+    for _ in 0..10 {
+        let (runs, _) = random_list::<SqlStore<MemStore>>(rt.alloc(), &mut dice, decks.as_str())?;
+        accepted = accepted.saturating_add(runs);
+    }
+    holds(("accepted runs", accepted), accepted > 30)
+}
+
 /// Both stores have read as many decks after some runs, of which the last two are answered from memory.
 #[test]
 fn decks_in_memory_count_as_read(rt: HostRuntime) -> Result<(), Fail> {
-    let mut pair = Pair::new(rt.alloc());
+    let mut pair = Pair::<ListStore>::new(rt.alloc())?;
     pair.run(1, DECKS)?;
     pair.run(2, "*IDENT X\n*INSERT P0.1\nNEW\n")?;
     pair.run(3, "*IDENT Y\n*DELETE P1.1\n")?;

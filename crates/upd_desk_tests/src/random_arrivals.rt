@@ -5,7 +5,7 @@ use upd_list_store::ListStore;
 use upd_row_store::RowStore;
 use upd_testkit::asks::{Ask, Sent};
 use upd_testkit::check::holds;
-use upd_testkit::random_runs::{DECKS, Dice, random_run};
+use upd_testkit::random_runs::{DECKS, Dice, LISTINGS, random_run};
 use upd_testkit::session::Session;
 
 const SITES: [&str; 3] = ["LYON", "PARIS", "lyon"];
@@ -75,20 +75,6 @@ fn random_step(session: &mut Session<impl RowStore>, dice: &mut Dice) -> Result<
     random_arrival(session, dice)
 }
 
-const LISTINGS: &[Ask<'static>] = &[
-    Ask::Idents,
-    Ask::Yanks,
-    Ask::Deck("P0"),
-    Ask::Deck("P1"),
-    Ask::Deck("P2"),
-    Ask::Deck("S1"),
-    Ask::Deck("YANK$$$"),
-    Ask::Card("P0.2"),
-    Ask::Card("S3.1"),
-    Ask::Card("Q.1"),
-    Ask::Compile,
-];
-
 /// A list of arrivals and settlements, and then listings: the number of accepted runs.
 fn random_list(session: &mut Session<impl RowStore>, dice: &mut Dice) -> Result<u32, Fail> {
     let mut accepted: u32 = 0;
@@ -97,7 +83,7 @@ fn random_list(session: &mut Session<impl RowStore>, dice: &mut Dice) -> Result<
             accepted = accepted.saturating_add(1);
         }
     }
-    session.ask_all(LISTINGS)?;
+    session.ask_all(&LISTINGS)?;
     Ok(accepted)
 }
 

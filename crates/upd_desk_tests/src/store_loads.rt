@@ -13,6 +13,7 @@ use upd_testkit::check::{same, same_text};
 use upd_testkit::loaded_names::{decks_of_cards, loaded_names, replayed_names};
 use upd_testkit::reference_rows::{add_library, joined};
 use upd_testkit::session::Session;
+use upd_testkit::stored_runs::is_stored;
 use upd_yank::Cache;
 
 /// A library after runs, in a store.
@@ -114,16 +115,6 @@ fn rows_are_loaded<S: RowStore>(
     let (part, rest) = part_and_rest(alloc, store)?;
     same_text("a part", part.as_str(), DECK_B)?;
     same("the rest", &rest, &(5, 5))
-}
-
-/// Whether a run is stored under a key.
-fn is_stored<S: RowStore>(
-    alloc: Global,
-    store: &mut S,
-    site: &str,
-    number: u64,
-) -> Result<bool, Fail> {
-    Ok(store.kept_run(alloc, site, number)?.is_some())
 }
 
 /// Run 2 is stored as it came, and no run that never came.

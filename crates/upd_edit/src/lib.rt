@@ -16,6 +16,3 @@ pub use deck_text::active_text;
 pub use editing::{EditError, MAX_TEXT_BYTES, correct_at, source_at, text_at, try_at, warnings_at};
 pub use refused::refusal_lines;
 pub use warnings::warning_lines;
-
-#[cfg(test)]
-mod tests;

@@ -111,13 +111,13 @@ pub const FAULT_TEXTS: [&str; 33] = [
         do: break the line\n",
     "BadName (5): a field is not a name, a pair or a range of names\n\
         from: reading the run, at the line; or a question, at 0\n\
-        do: compare the line with docs/rules.md, section 2; over HTTP, check that the client sent the line ends\n",
+        do: compare the line with those in man upd; over HTTP, check that the client sent the line ends\n",
     "BadCard (6): a field is not a card reference\n\
         from: reading the run, at the line; or a question, at 0\n\
         do: write the name, a point and the number, as A.2\n",
     "BadField (7): there is a field too many or too few, an empty one, or a second of *COMDECK other than NOPROP\n\
         from: reading the run; at the line\n\
-        do: compare the line with docs/rules.md, section 2\n",
+        do: compare the line with those in man upd\n",
     "NoIdent (8): a correction or a yank without a current set\n\
         from: a line of the run; at the line\n\
         do: put *IDENT NAME before it; a purge ends the current set\n",
@@ -183,7 +183,7 @@ pub const FAULT_TEXTS: [&str; 33] = [
         do: send it again\n",
     "Store (29): the file is no library, is in use, can't be written, has a second hard link, or is damaged\n\
         from: the library's file; at the schema that was found, or 0; in a spool at the frame\n\
-        do: look at docs/operating.md; migrate an older schema\n",
+        do: look at man upd; migrate an older schema\n",
     "BadFrame (30): the frame or request can't be read\n\
         from: a spool, at the frame; or a request over HTTP, at 0\n\
         do: correct it, and send it again\n",

@@ -18,6 +18,3 @@ pub use fault_texts::{each_fault_has_one_text, explain};
 pub use ident_report::show;
 pub use library_page::page;
 pub use worked_looks::a_replaced_card_is_seen;
-
-#[cfg(test)]
-mod tests;

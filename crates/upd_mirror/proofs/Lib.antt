@@ -5,3 +5,4 @@ mod StatusRowLemmas
 mod MirrorLemmas
 mod LoadLemmas
 mod ActiveRowsLemmas
+mod MovedIdentLemmas

@@ -2,3 +2,4 @@ pub mod ActiveRows
 pub mod RowsByKey
 pub mod Mirrored
 pub mod Overlaid
+pub mod MovedIdents

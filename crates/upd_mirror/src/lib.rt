@@ -7,6 +7,7 @@ mod from_memory;
 mod made;
 pub mod mirror;
 pub mod mirror_store;
+mod moved_idents;
 mod tables;
 
 pub use mirror_store::MirrorStore;

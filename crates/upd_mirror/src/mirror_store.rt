@@ -8,6 +8,7 @@ ghost use Rattle.upd_mirror.specs.Mirrored.{AgreesIfAny};
 
 use crate::made::{made, made_where, one_of};
 use crate::mirror::{Mirror, carried};
+use crate::moved_idents::commit_below;
 use std::alloc::Global;
 use upd_core::{Actives, CardRef, Change, Library, Serial, States};
 use upd_records::{LibraryRows, RunRow};
@@ -318,7 +319,7 @@ impl<S: RowStore> RowStore for MirrorStore<S> {
     fn commit(&mut self, alloc: Global, changes: &[Change], run: RunRow) -> Result<(), Fault> {
         let wanted = self.has_committed && self.mirror.is_none();
         let made = made_where(&mut self.inner, alloc, wanted);
-        match self.inner.commit(alloc, changes, run) {
+        match commit_below(&mut self.inner, alloc, &self.mirror, changes, run) {
             Ok(()) => {
                 self.is_live = true;
                 self.has_committed = true;

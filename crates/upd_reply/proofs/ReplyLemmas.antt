@@ -95,10 +95,10 @@ items_written (t ∷ u ∷ ts) shown =
     rw (escapes_are t shown.0, items_written (u ∷ ts) shown.1)
     (ap (λ rest. 34 ∷ rest) (sym (append_assoc (flat_map escaped t ++ codes "\"") (codes "," ++ listed (u ∷ ts)) (codes "]"))))
 
-pub accepted_written : {site mode : List ℕ} {n : ℕ} {names : List (List ℕ)} {file : List ℕ} {lines : ℕ} → AreShown site → AreShown mode
+pub accepted_written : (site mode : List ℕ) (n : ℕ) (names : List (List ℕ)) (file : List ℕ) (lines : ℕ) → AreShown site → AreShown mode
     → AllByRecursion AreShown names → AreShown file → compact_text (accepted_value site n mode names file lines) ≡ accepted_text site n mode names file lines
 unfolding serde_json_on_literals
-accepted_written {site = site} {mode = mode} {names = names} {file = file} site_shown mode_shown names_shown file_shown =
+accepted_written site mode n names file lines site_shown mode_shown names_shown file_shown =
     rw (
       escapes_are site site_shown,
       escapes_are mode mode_shown,

@@ -23,7 +23,7 @@ use Rattle.upd_sql.proofs.WriteTexts.{delete_card_tests, delete_entries_tests, d
 use Rattle.upd_sql.proofs.WriteTexts.{delete_mark_tests, delete_runs_tests}
 use Rattle.upd_sql.proofs.ReadTexts.{cards_of_deck_tests, ident_tests, run_of_key_tests, mark_of_site_tests}
 
-bytes_flip : (a b : List ℕ) → bytes_eq a b ≡ bytes_eq b a
+pub bytes_flip : (a b : List ℕ) → bytes_eq a b ≡ bytes_eq b a
 bytes_flip [] [] = refl
 bytes_flip [] (y ∷ b) = refl
 bytes_flip (x ∷ a) [] = refl

@@ -1,6 +1,6 @@
 -- What each text that writes makes of the tables.
 use Rattle.std.proofs.Common.{◌≡◌, ℕ, ◌+◌, ◌-◌, ◌<◌, ◌≤◌, ◌^◌, ◌==◌, nat_le, pos, negsuc, Bool, true, false, not, ◌&&◌, if◌then◌else◌, List, [], ◌∷◌, ◌++◌}
-use Rattle.std.proofs.Common.{map, filter, codes, Ok, refl, sym, ap, ◌∙◌, arith, IsTrue, length, ◌/◌}
+use Rattle.std.proofs.Common.{map, filter, codes, Ok, refl, sym, ap, ap₂, ◌∙◌, arith, IsTrue, length, ◌/◌, bytes_eq}
 use Rattle.std.specs.List.{AllByRecursion}
 use Rattle.sqlite_value.specs.declared.value.Value.TheVariants.{Null, Text}
 use Rattle.sqlite_value.specs.Order.{Row}
@@ -22,8 +22,9 @@ use Rattle.upd_sql.proofs.Casts.{cast_ident, cast_card, cast_entry, cast_target,
 use Rattle.sqlite_keyed.proofs.ListLemmas.{all_of, all_weaker}
 use Rattle.sqlite_rules.specs.Cast.{cast_all}
 use Rattle.upd_records.specs.Changes.{purged_row, moved_row}
-use Rattle.upd_sqlite.proofs.Tests.{eq_nat, ge_nat, add_nat, sub_nat, one_test, two_tests}
-use Rattle.upd_sql.proofs.Conditions.{passes, card_params, card_named, entry_named, target_named, state_named, count_named, mark_named, run_settled}
+use Rattle.upd_sqlite.proofs.Tests.{eq_nat, eq_text, ge_nat, add_nat, sub_nat, one_test, two_tests, three_tests}
+use Rattle.upd_sql.specs.RowEdits.{covers, with_moved}
+use Rattle.upd_sql.proofs.Conditions.{bytes_flip, passes, card_params, card_named, entry_named, target_named, state_named, count_named, mark_named, run_settled}
 use Rattle.upd_sql.proofs.WriteTexts as text
 
 module _ (old new : State) (count : ℕ) (it : Rows) (h : HoldsTables it old.now) where
@@ -173,6 +174,46 @@ module _ (old new : State) (count : ℕ) (it : Rows) (h : HoldsTables it old.now
       each r fits = rw (holds_there deck from by r)
           (moves_to deck from (λ p. p + by) (λ v. eval_all text.move_back_news ((num deck ∷ num from ∷ num by ∷ []) ∷ (Null ∷ v) ∷ [])) r
           (λ there. sums r (fits there)) _ refl)
+
+  -- the tests of the text that moves the cards of an ident
+  holds_of : (e : List ℕ × ℕ) (deck from by : ℕ) (r : CardRow)
+      → passes (Text e.0 ∷ num e.1 ∷ num deck ∷ num from ∷ num by ∷ []) text.move_back_of_tests (card_row r)
+      ≡ (covers e r.card && ((r.deck == deck) && nat_le from r.pos))
+  holds_of e deck from by r =
+      ap₂ ◌&&◌ (eq_text r.card.name e.0 ∙ bytes_flip r.card.name e.0) (three_tests (ge_nat r.card.number e.1) (eq_nat r.deck deck) (ge_nat r.pos from))
+      ∙ grouped (bytes_eq e.0 r.card.name) (nat_le e.1 r.card.number) ((r.deck == deck) && nat_le from r.pos)
+    where
+      grouped : (a b c : Bool) → (a && (b && c)) ≡ ((a && b) && c)
+      grouped true b c = refl
+      grouped false b c = refl
+
+  pub cards_moved_of : (e : List ℕ × ℕ) (deck from by : ℕ)
+      → AllByRecursion (λ r. IsTrue (covers e r.card) → IsTrue ((r.deck == deck) && nat_le from r.pos) → r.pos + by < 2 ^ 32) it.cards
+      → Executes text.move_back_of (Text e.0 ∷ num e.1 ∷ num deck ∷ num from ∷ num by ∷ []) old new (Ok count)
+      → HoldsTables (with_moved e deck from by it) new.now
+  cards_moved_of e deck from by fits ran =
+      changes 2 4 (codes "cards") card_columns (1 ∷ 2 ∷ []) refl refl (λ _ _. refl) card_row (stored it) it.cards refl text.move_back_of
+      (Text e.0 ∷ num e.1 ∷ num deck ∷ num from ∷ num by ∷ []) text.move_back_of_plain old new count ran h
+      text.move_back_of_tests text.move_back_of_news text.move_back_of_is refl refl (λ r. if covers e r.card then moved_row deck from (pos by) r else r)
+      (all_weaker _ _ each it.cards fits)
+    where
+      params : Row
+      params = Text e.0 ∷ num e.1 ∷ num deck ∷ num from ∷ num by ∷ []
+
+      sums : (r : CardRow) → r.pos + by < 2 ^ 32 → eval_all text.move_back_of_news (params ∷ (Null ∷ card_row r) ∷ []) ≡ card_row (record r { pos = r.pos + by })
+      sums r low = ap (λ v. Text r.card.name ∷ num r.card.number ∷ num r.deck ∷ v ∷ Text r.body ∷ []) (add_nat r.pos by (omega arith))
+
+      each : (r : CardRow) → (IsTrue (covers e r.card) → IsTrue ((r.deck == deck) && nat_le from r.pos) → r.pos + by < 2 ^ 32)
+          → (if passes params text.move_back_of_tests (card_row r) then cast_all card_columns (eval_all text.move_back_of_news (params ∷ (Null ∷ card_row r) ∷ []))
+          else card_row r) ≡ card_row (if covers e r.card then moved_row deck from (pos by) r else r)
+      each r fits = rw (holds_of e deck from by r) (by_ident (covers e r.card) refl)
+        where
+          by_ident : (a : Bool) → covers e r.card ≡ a
+              → (if a && ((r.deck == deck) && nat_le from r.pos) then cast_all card_columns (eval_all text.move_back_of_news (params ∷ (Null ∷ card_row r) ∷ []))
+              else card_row r) ≡ card_row (if a then moved_row deck from (pos by) r else r)
+          by_ident true is = moves_to deck from (λ p. p + by) (λ v. eval_all text.move_back_of_news (params ∷ (Null ∷ v) ∷ [])) r
+              (λ there. sums r (fits is there)) _ refl
+          by_ident false is = refl
 
   pub cards_moved_up : (deck from by : ℕ) → AllByRecursion (λ r. IsTrue ((r.deck == deck) && nat_le from r.pos) → (by + 1 ≤ r.pos) × (r.pos < 2 ^ 32)) it.cards
       → Executes text.move_up (num deck ∷ num from ∷ num (by + 1) ∷ []) old new (Ok count)

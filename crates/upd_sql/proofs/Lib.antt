@@ -15,3 +15,4 @@ pub mod SizeLemmas
 pub mod Turns
 pub mod CommitLemmas
 pub mod MarkLemmas
+pub mod MovingLemmas

@@ -196,6 +196,12 @@ module _ (old new : State) (params : Row) (count : ℕ) (n : Sizes) (h : HoldsSi
       (rows_changed 2 4 (codes "cards") card_columns (1 ∷ 2 ∷ []) refl refl (λ _ _. refl) text.move_back text.move_back_plain old new params count ran
       h.all h.holds text.move_back_tests text.move_back_news text.move_back_is refl refl)
 
+  moved_of_sized : Executes text.move_back_of params old new (Ok count) → HoldsSizes n new.now
+  moved_of_sized ran =
+      other_cards n.cards _ (h.cards ∙ sym (length-map (rows_at 2 h.all) _))
+      (rows_changed 2 4 (codes "cards") card_columns (1 ∷ 2 ∷ []) refl refl (λ _ _. refl) text.move_back_of text.move_back_of_plain old new params count ran
+      h.all h.holds text.move_back_of_tests text.move_back_of_news text.move_back_of_is refl refl)
+
   moved_up_sized : Executes text.move_up params old new (Ok count) → HoldsSizes n new.now
   moved_up_sized ran =
       other_cards n.cards _ (h.cards ∙ sym (length-map (rows_at 2 h.all) _))
@@ -249,6 +255,9 @@ module _ {X : Type 0} (params : Row) (old new : State) (r : Result X Error) wher
   pub moved_back_sizes : Ran text.move_back params old new r → KeepsSizes old new r
   moved_back_sizes ran = sizes_from AnySizes (λ n. n) text.move_back params old new r ran (λ count n any h. moved_back_sized old new params count n h)
 
+  pub moved_of_sizes : Ran text.move_back_of params old new r → KeepsSizes old new r
+  moved_of_sizes ran = sizes_from AnySizes (λ n. n) text.move_back_of params old new r ran (λ count n any h. moved_of_sized old new params count n h)
+
   pub moved_up_sizes : Ran text.move_up params old new r → KeepsSizes old new r
   moved_up_sizes ran = sizes_from AnySizes (λ n. n) text.move_up params old new r ran (λ count n any h. moved_up_sized old new params count n h)
 
@@ -258,6 +267,13 @@ sizes_not s (Ok x) err = absurd (cc)
 sizes_not s (Err e) err = record {
   steps = record { going = λ clean. tt; kept = λ clean inside. record { was_open = λ o. o; committed = λ o. refl }; survives = survives_itself s _ };
   made = λ clean. tt;
+}
+
+-- nothing had to be run
+pub sizes_still : {X : Type 0} (s : State) (x : X) → KeepsSizes {X = X} s s (Ok x)
+sizes_still s x = record {
+  steps = record { going = λ clean inside. inside; kept = λ clean inside. record { was_open = λ o. o; committed = λ o. refl }; survives = survives_itself s _ };
+  made = λ clean inside n any h. h;
 }
 
 -- nothing is said of the numbers after rows were taken away

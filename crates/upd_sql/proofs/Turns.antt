@@ -1,13 +1,16 @@
 -- Changes one after another.
-use Rattle.std.proofs.Common.{◌≡◌, ℕ, ◌+◌, ◌<◌, List, [], ◌∷◌, ◌++◌, map, take, length, get_or, Ok, refl, sym, ap, ◌∙◌}
+use Rattle.std.proofs.Common.{◌≡◌, ℕ, ◌+◌, ◌<◌, List, [], ◌∷◌, ◌++◌, map, take, length, get_or, Ok, Option, None, Some, refl, sym, ap, ◌∙◌}
+use Rattle.std.specs.BTreeMap.{BTreeMap}
 use Rattle.std.proofs.lemmas.List.{take_more, map-append}
 use Rattle.sqlite.specs.State.{State}
 use Rattle.upd_core.specs.declared.change.Change.{Change}
 use Rattle.upd_records.specs.Changes.{ChangeView, done, done_all, change_view}
 use Rattle.upd_records.specs.Rows.{Rows}
 use Rattle.upd_records.specs.Fits.{Fits, AllFit}
+use Rattle.upd_row_store.specs.Movable.{AllMoveListed, MovesListed}
 use Rattle.upd_sqlite.specs.Steps.{Makes}
 use Rattle.upd_sqlite.proofs.Chains.{makes_then, makes_as}
+use Rattle.upd_sql.specs.Doable.{AllCanBeDone, CanBeDone}
 use Rattle.upd_sql.specs.LibraryTables.{HoldsTables}
 use Rattle.upd_sql.proofs.Typed.{survives_itself}
 
@@ -15,24 +18,38 @@ fits_push : (cs : List ChangeView) (d : ChangeView) (it : Rows) → AllFit (cs +
 fits_push [] d it h = (tt, h.0)
 fits_push (c ∷ cs) d it h = let more = fits_push cs d (done c it) h.1 in ((h.0, more.0), more.1)
 
+listed_push : (movable : BTreeMap (List ℕ) ℕ) (cs : List ChangeView) (d : ChangeView) (it : Rows) → AllMoveListed movable (cs ++ d ∷ []) it
+    → AllMoveListed movable cs it × MovesListed movable d (done_all cs it)
+listed_push movable [] d it h = (tt, h.0)
+listed_push movable (c ∷ cs) d it h = let more = listed_push movable cs d (done c it) h.1 in ((h.0, more.0), more.1)
+
+can_push : (movable : Option (BTreeMap (List ℕ) ℕ)) (cs : List ChangeView) (d : ChangeView) (it : Rows) → AllCanBeDone movable (cs ++ d ∷ []) it
+    → AllCanBeDone movable cs it × CanBeDone movable d (done_all cs it)
+can_push None cs d it h = fits_push cs d it h
+can_push (Some movable) cs d it h =
+    let fit = fits_push cs d it h.0 in
+    let listed = listed_push movable cs d it h.1 in
+    ((fit.0, listed.0), (fit.1, listed.1))
+
 done_push : (cs : List ChangeView) (d : ChangeView) (it : Rows) → done d (done_all cs it) ≡ done_all (cs ++ d ∷ []) it
 done_push [] d it = refl
 done_push (c ∷ cs) d it = done_push cs d (done c it)
 
 -- no change yet
-pub none_made : {X : Type 0} (s : State) (x : X) → Makes {X = X} HoldsTables (AllFit []) (done_all []) s s (Ok x)
-none_made s x = record {
+pub none_made : {X : Type 0} (movable : Option (BTreeMap (List ℕ) ℕ)) (s : State) (x : X) → Makes {X = X} HoldsTables (AllCanBeDone movable []) (done_all []) s s (Ok x)
+none_made movable s x = record {
   steps = record { going = λ clean inside. inside; kept = λ clean inside. record { was_open = λ o. o; committed = λ o. refl }; survives = survives_itself s _ };
   made = λ clean inside it fits h. h;
 }
 
 -- one change more
-pub one_made : {X Y : Type 0} (cs : List ChangeView) (d : ChangeView) (a b c : State) (x : X) (y : Y)
-    → Makes {X = X} HoldsTables (AllFit cs) (done_all cs) a b (Ok x) → Makes {X = Y} HoldsTables (Fits d) (done d) b c (Ok y)
-    → Makes {X = X} HoldsTables (AllFit (cs ++ d ∷ [])) (done_all (cs ++ d ∷ [])) a c (Ok x)
-one_made cs d a b c x y p q =
-    let whole = makes_as HoldsTables _ (AllFit (cs ++ d ∷ [])) _ (done_all (cs ++ d ∷ [])) a c (Ok y) (fits_push cs d) (done_push cs d)
-    (makes_then HoldsTables (AllFit cs) (Fits d) (done_all cs) (done d) a b c x (Ok y) p q) in
+pub one_made : {X Y : Type 0} (movable : Option (BTreeMap (List ℕ) ℕ)) (cs : List ChangeView) (d : ChangeView) (a b c : State) (x : X) (y : Y)
+    → Makes {X = X} HoldsTables (AllCanBeDone movable cs) (done_all cs) a b (Ok x)
+    → Makes {X = Y} HoldsTables (CanBeDone movable d) (done d) b c (Ok y)
+    → Makes {X = X} HoldsTables (AllCanBeDone movable (cs ++ d ∷ [])) (done_all (cs ++ d ∷ [])) a c (Ok x)
+one_made movable cs d a b c x y p q =
+    let whole = makes_as HoldsTables _ (AllCanBeDone movable (cs ++ d ∷ [])) _ (done_all (cs ++ d ∷ [])) a c (Ok y) (can_push movable cs d) (done_push cs d)
+    (makes_then HoldsTables (AllCanBeDone movable cs) (CanBeDone movable d) (done_all cs) (done d) a b c x (Ok y) p q) in
     record { steps = record { going = whole.steps.going; kept = whole.steps.kept; survives = whole.steps.survives }; made = whole.made }
 
 pub seen_more : (changes : List Change) (i : ℕ) (c : Change) → i < length changes → c ≡ get_or changes i c

@@ -267,6 +267,25 @@ pub move_back_plain : IsPlain (understood library_schema move_back)
 unfolding understood everything
 move_back_plain = (refl, refl)
 
+abbrev pub move_back_of : List ℕ
+move_back_of = sql.MOVE_BACK_OF.now
+
+abbrev pub move_back_of_tests : List Term
+move_back_of_tests = op2 (Compare Eq Binary) (col 1 1) (col 0 0) ∷ op2 (Compare Ge Binary) (col 1 2) (col 0 1) ∷ op2 (Compare Eq Binary) (col 1 3) (col 0 2)
+    ∷ op2 (Compare Ge Binary) (col 1 4) (col 0 3) ∷ []
+
+abbrev pub move_back_of_news : List Term
+move_back_of_news = col 1 1 ∷ col 1 2 ∷ col 1 3 ∷ op2 (Arith Add) (col 1 4) (col 0 4) ∷ col 1 5 ∷ []
+
+pub move_back_of_is : command_of (understood library_schema move_back_of)
+    ≡ Update 2 (record { lets = []; body = plain_query 4 move_back_of_tests (col 1 0 ∷ col 1 0 ∷ move_back_of_news) [] })
+unfolding understood everything
+move_back_of_is = refl
+
+pub move_back_of_plain : IsPlain (understood library_schema move_back_of)
+unfolding understood everything
+move_back_of_plain = (refl, refl)
+
 abbrev pub move_up : List ℕ
 move_up = sql.MOVE_UP.now
 

@@ -1,15 +1,18 @@
 //! Row changes, carried out by statements.
-ghost use Rattle.std.specs.Prelude.{◌≡◌, map};
+ghost use Rattle.std.specs.Prelude.{◌≡◌, map, option_copied, pos};
 ghost use Rattle.sqlite.specs.Held.{state};
 ghost use Rattle.upd_records.specs.Changes.{done, done_all, change_view, CardGone, CardsMoved, CountNow, StatusNow};
 ghost use Rattle.upd_records.specs.Fits.{AllFit, Fits};
+ghost use Rattle.upd_row_store.specs.Movable.{MovesListed};
 ghost use Rattle.upd_sqlite.specs.Steps.{Makes};
+ghost use Rattle.upd_sql.specs.Doable.{AllCanBeDone, CanBeDone};
 ghost use Rattle.upd_sql.specs.Sizes.{KeepsSizes, Sized, SizedAll};
 ghost use Rattle.upd_sql.specs.LibraryTables.{AnyTables, HoldsTables};
 
 use crate::writes;
 use sqlite::{Alter, Error, Transaction};
-use upd_core::{CardRef, Change, Serial, Target};
+use std::collections::BTreeMap;
+use upd_core::{CardRef, Change, Name, Serial, Target};
 
 /// Removes the card and its status.
 fn remove_card<S: Alter>(tx: &mut Transaction<'_, S>, card: &CardRef) -> Result<(), Error>
@@ -50,6 +53,27 @@ fn set_count<S: Alter>(tx: &mut Transaction<'_, S>, target: Target, n: u32) -> R
         return Ok(());
     }
     writes::insert_count(tx, target, n)
+}
+
+/// Moves the cards of a deck at a place and after it away from the front: those of one listed ident after those of
+/// another, each found by the key of its row.
+fn move_listed<S: Alter>(
+    tx: &mut Transaction<'_, S>,
+    movable: &BTreeMap<Name, u32>,
+    deck: Serial,
+    from: u32,
+    by: u64,
+) -> Result<(), Error>
+    ensures same_reference { tx.new.conn.ghost_name ≡ tx.old.conn.ghost_name }
+    ensures makes { Makes HoldsTables (λ it. Fits (CardsMoved deck from (pos by)) it
+        × MovesListed movable.now (CardsMoved deck from (pos by)) it) (done (CardsMoved deck from (pos by)))
+        (state S.Store tx.old.conn.now) (state S.Store tx.new.conn.now) result }
+    ensures sized { KeepsSizes (state S.Store tx.old.conn.now) (state S.Store tx.new.conn.now) result }
+{
+    for (ident, least) in movable {
+        writes::move_back_of(tx, ident, *least, deck, from, by)?;
+    }
+    Ok(())
 }
 
 /// Moves the cards of a deck at a place and after it.
@@ -99,6 +123,45 @@ fn carry_out<S: Alter>(tx: &mut Transaction<'_, S>, change: &Change) -> Result<(
     }
 }
 
+/// Carries out one change. Where it is known which cards may move, it looks for these only.
+fn carry_out_listed<S: Alter>(
+    tx: &mut Transaction<'_, S>,
+    movable: Option<&BTreeMap<Name, u32>>,
+    change: &Change,
+) -> Result<(), Error>
+    ensures same_reference { tx.new.conn.ghost_name ≡ tx.old.conn.ghost_name }
+    ensures makes { Makes HoldsTables (CanBeDone (option_copied movable.entry) (change_view change.now))
+        (done (change_view change.now)) (state S.Store tx.old.conn.now) (state S.Store tx.new.conn.now) result }
+    ensures sized { Sized (change_view change.now)
+        (state S.Store tx.old.conn.now) (state S.Store tx.new.conn.now) result }
+{
+    match (movable, change) {
+        (Some(movable), Change::CardsMoved { deck, from, by }) if *by >= 0 => {
+            move_listed(tx, movable, *deck, *from, by.unsigned_abs())
+        }
+        _ => carry_out(tx, change),
+    }
+}
+
+/// Carries out changes in order, inside a transaction. Where it is known which cards may move, it looks for these only.
+pub(crate) fn carry_out_moving<S: Alter>(
+    tx: &mut Transaction<'_, S>,
+    movable: Option<&BTreeMap<Name, u32>>,
+    changes: &[Change],
+) -> Result<(), Error>
+    ensures same_reference { tx.new.conn.ghost_name ≡ tx.old.conn.ghost_name }
+    ensures makes { Makes HoldsTables (AllCanBeDone (option_copied movable.entry) (map change_view changes.now))
+        (done_all (map change_view changes.now))
+        (state S.Store tx.old.conn.now) (state S.Store tx.new.conn.now) result }
+    ensures sized { SizedAll (map change_view changes.now)
+        (state S.Store tx.old.conn.now) (state S.Store tx.new.conn.now) result }
+{
+    for change in changes {
+        carry_out_listed(tx, movable, change)?;
+    }
+    Ok(())
+}
+
 /// Carries out changes in order, inside a transaction.
 pub fn carry_out_all<S: Alter>(tx: &mut Transaction<'_, S>, changes: &[Change]) -> Result<(), Error>
     ensures same_reference { tx.new.conn.ghost_name ≡ tx.old.conn.ghost_name }
@@ -107,8 +170,5 @@ pub fn carry_out_all<S: Alter>(tx: &mut Transaction<'_, S>, changes: &[Change]) 
     ensures sized { SizedAll (map change_view changes.now)
         (state S.Store tx.old.conn.now) (state S.Store tx.new.conn.now) result }
 {
-    for change in changes {
-        carry_out(tx, change)?;
-    }
-    Ok(())
+    carry_out_moving(tx, None, changes)
 }

@@ -84,6 +84,9 @@ pub(crate) const PURGE_IDENT: &str = "UPDATE idents SET held = 0 WHERE age = ?1"
 
 pub(crate) const MOVE_BACK: &str = "UPDATE cards SET pos = pos + ?3 WHERE deck = ?1 AND pos >= ?2";
 
+pub(crate) const MOVE_BACK_OF: &str =
+    "UPDATE cards SET pos = pos + ?5 WHERE ident = ?1 AND num >= ?2 AND deck = ?3 AND pos >= ?4";
+
 pub(crate) const MOVE_UP: &str = "UPDATE cards SET pos = pos - ?3 WHERE deck = ?1 AND pos >= ?2";
 
 // Rows read.

@@ -6,8 +6,8 @@ ghost use Rattle.upd_records.specs.Changes.{TargetNew, TargetsGone};
 ghost use Rattle.upd_records.specs.Fits.{Fits};
 ghost use Rattle.upd_row_store.specs.Tables.{with_run};
 ghost use Rattle.upd_sqlite.specs.Steps.{Makes};
-ghost use Rattle.upd_sql.specs.RowEdits.{with_count, with_mark, with_state, without_card, without_count, without_mark};
-ghost use Rattle.upd_sql.specs.RowEdits.{without_runs, without_state};
+ghost use Rattle.upd_sql.specs.RowEdits.{CanMoveOf, with_count, with_mark, with_moved, with_state, without_card};
+ghost use Rattle.upd_sql.specs.RowEdits.{without_count, without_mark, without_runs, without_state};
 ghost use Rattle.upd_sql.specs.Commits.{WasOpen};
 ghost use Rattle.upd_sql.specs.Sizes.{KeepsSizes, Sized};
 ghost use Rattle.upd_sql.specs.LibraryTables.{AnyTables, HoldsTables};
@@ -15,7 +15,7 @@ ghost use Rattle.upd_sql.specs.LibraryTables.{AnyTables, HoldsTables};
 use crate::texts;
 use crate::values::{self, blob, codes_of, flag, kind, name, number, text, wide};
 use sqlite::{Alter, Error, Transaction};
-use upd_core::{CardRef, Entry, Ident, Serial, Target};
+use upd_core::{CardRef, Entry, Ident, Name, Serial, Target};
 use upd_records::RunRow;
 use upd_sqlite::run;
 
@@ -323,6 +323,35 @@ pub(crate) fn move_back<S: Alter>(
         tx,
         texts::MOVE_BACK,
         &[number(deck), number(from), distance],
+    )
+}
+
+/// Moves the cards of a deck at a place and after it away from the front, only those of an ident from a number on.
+pub(crate) fn move_back_of<S: Alter>(
+    tx: &mut Transaction<'_, S>,
+    ident: &Name,
+    least: u32,
+    deck: Serial,
+    from: u32,
+    by: u64,
+) -> Result<(), Error>
+    ensures same_reference { tx.new.conn.ghost_name ≡ tx.old.conn.ghost_name }
+    ensures makes { Makes HoldsTables (CanMoveOf (ident.now, least) deck from by)
+        (with_moved (ident.now, least) deck from by) (state S.Store tx.old.conn.now)
+        (state S.Store tx.new.conn.now) result }
+    ensures sized { KeepsSizes (state S.Store tx.old.conn.now) (state S.Store tx.new.conn.now) result }
+{
+    let distance = wide(by)?;
+    run(
+        tx,
+        texts::MOVE_BACK_OF,
+        &[
+            name(ident),
+            number(least),
+            number(deck),
+            number(from),
+            distance,
+        ],
     )
 }
 

@@ -8,7 +8,8 @@ use crate::fault::{counted, no_memory, refused};
 use crate::sql_store::SqlStore;
 use sqlite::Connection;
 use std::alloc::Global;
-use upd_core::{Actives, CardRef, Change, Library, Serial, States};
+use std::collections::BTreeMap;
+use upd_core::{Actives, CardRef, Change, Library, Name, Serial, States};
 use upd_records::{LibraryRows, RunRow};
 use upd_row_store::{
     Meaning, RowStore, assembled, assembled_active, assembled_with_rest, decks_by_age, reads_with,
@@ -182,7 +183,28 @@ impl<S: Rising> RowStore for SqlStore<S> {
         }
         let sizes = sizes_after(self.sizes, changes);
         self.sizes = None;
-        match commit_changes(&mut self.conn, changes, &run) {
+        match commit_changes(&mut self.conn, None, changes, &run) {
+            Ok(()) => {
+                self.sizes = sizes;
+                Ok(())
+            }
+            Err(error) => Err(counted(error, &mut self.failures)),
+        }
+    }
+
+    fn commit_moving(
+        &mut self,
+        _: Global,
+        changes: &[Change],
+        run: RunRow,
+        movable: &BTreeMap<Name, u32>,
+    ) -> Result<(), Fault> {
+        if !is_ours(&self.conn) {
+            return Err(refused(&mut self.failures));
+        }
+        let sizes = sizes_after(self.sizes, changes);
+        self.sizes = None;
+        match commit_changes(&mut self.conn, Some(movable), changes, &run) {
             Ok(()) => {
                 self.sizes = sizes;
                 Ok(())

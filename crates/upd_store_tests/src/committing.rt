@@ -3,11 +3,10 @@ ghost use Rattle.std.specs.Prelude.{◌≡◌, IfOk};
 
 use std::alloc::Global;
 use std::test::Fail;
-use upd_apply::apply;
-use upd_core::{Change, Library};
-use upd_deck::read_run;
+use upd_core::Change;
 use upd_records::RunRow;
 use upd_row_store::RowStore;
+use upd_testkit::applying::applied;
 
 /// The row of a run that was accepted, with an empty reply.
 fn row_of(alloc: Global, site: &str, number: u64, text: &str) -> Result<RunRow, Fail>
@@ -40,12 +39,6 @@ pub fn commit<R: RowStore>(
     Ok(())
 }
 
-/// What a run changes in a library, to which it is applied.
-fn changes_of(alloc: Global, library: &mut Library, text: &str) -> Result<Vec<Change>, Fail> {
-    let run = read_run(alloc, text.as_bytes())?;
-    Ok(apply(alloc, library, &run)?.changes)
-}
-
 /// Applies a run to the library of the store, and commits what it changes.
 pub fn apply_and_commit<R: RowStore>(
     alloc: Global,
@@ -54,17 +47,8 @@ pub fn apply_and_commit<R: RowStore>(
     text: &str,
 ) -> Result<(), Fail> {
     let mut library = store.load(alloc)?;
-    let changes = changes_of(alloc, &mut library, text)?;
+    let changes = applied(&mut library, text)?.changes;
     commit(alloc, store, number, text, &changes)
-}
-
-/// The library that runs make of the empty one.
-pub fn applied(alloc: Global, runs: &[&str]) -> Result<Library, Fail> {
-    let mut library = Library::new(alloc);
-    for text in runs {
-        changes_of(alloc, &mut library, text)?;
-    }
-    Ok(library)
 }
 
 /// The bytes of the run that is stored under a number, or "none".

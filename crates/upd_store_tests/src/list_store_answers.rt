@@ -2,11 +2,10 @@
 use crate::follower::Follower;
 use std::alloc::Global;
 use std::test::Fail;
-use upd_core::CardRef;
 use upd_list_store::ListStore;
 use upd_row_store::RowStore;
 use upd_testkit::check::{holds, same, same_text};
-use upd_testkit::loaded_names::{decks_of_cards, loaded_names, replayed_names};
+use upd_testkit::stored_runs::is_stored;
 
 const DECK_A: &str = "*DECK A\nONE\nTWO\nTHREE\n";
 
@@ -52,31 +51,6 @@ fn parts_are_loaded<S: RowStore>(alloc: Global, store: &mut S) -> Result<(), Fai
     )
 }
 
-/// Decks A and B have serials 1 and 2, set X has 3.
-fn active_cards_are_loaded<S: RowStore>(alloc: Global, store: &mut S) -> Result<(), Fail> {
-    followed(alloc, store, &[DECK_A, DECK_B, SET_X])?;
-    same(
-        "the decks",
-        decks_of_cards(alloc, store)?.as_slice(),
-        [2].as_slice(),
-    )?;
-    let wanted = "1: A.1 X.1 A.2 A.3 A.4\n2: B.1 B.2\n";
-    same_text(
-        "the active cards",
-        loaded_names(alloc, store)?.as_str(),
-        wanted,
-    )?;
-    same("no deck is read", store.decks_read(), 0)?;
-    same("a part", sizes(alloc, store, &[2])?, [3, 1, 0, 2, 5, 5])?;
-    same("one deck is read", store.decks_read(), 1)?;
-    same_text(
-        "the replayed cards",
-        replayed_names(alloc, store)?.as_str(),
-        wanted,
-    )?;
-    same("all decks are read", store.decks_read(), 3)
-}
-
 /// The cards of the statuses that a store loads, in their order.
 fn cards_with_statuses<S: RowStore>(alloc: Global, store: &mut S) -> Result<String, Fail> {
     let mut text = String::new(alloc);
@@ -101,16 +75,6 @@ fn stored_bytes<S: RowStore>(alloc: Global, store: &mut S, number: u64) -> Resul
             .ok_or("no run")?
             .bytes,
     )
-}
-
-/// Whether a run is stored under a key.
-fn is_stored<S: RowStore>(
-    alloc: Global,
-    store: &mut S,
-    site: &str,
-    number: u64,
-) -> Result<bool, Fail> {
-    Ok(store.kept_run(alloc, site, number)?.is_some())
 }
 
 /// Whether runs 1, 2 and 3 of site SITE are stored, and run 2 of site OTHER.
@@ -159,12 +123,6 @@ fn runs_are_settled<S: RowStore>(alloc: Global, store: &mut S) -> Result<(), Fai
 fn lists_load_parts(rt: HostRuntime) -> Result<(), Fail> {
     let mut store = ListStore::new(rt.alloc());
     parts_are_loaded(rt.alloc(), &mut store)
-}
-
-#[test]
-fn lists_load_active_cards(rt: HostRuntime) -> Result<(), Fail> {
-    let mut store = ListStore::new(rt.alloc());
-    active_cards_are_loaded(rt.alloc(), &mut store)
 }
 
 #[test]

@@ -1,5 +1,5 @@
 //! Runs over tables of SQLite.
-use crate::committing::{applied, apply_and_commit, stored_run};
+use crate::committing::{apply_and_commit, stored_run};
 use sqlite::types::ValueRef;
 use sqlite::{Connection, MemStore, Row};
 use std::alloc::Global;
@@ -7,6 +7,7 @@ use std::test::Fail;
 use upd_core::{Ident, Kind, Library};
 use upd_row_store::RowStore;
 use upd_store::SqlStore;
+use upd_testkit::applying::after;
 use upd_testkit::check::{same, same_text};
 use upd_testkit::listings::listings;
 use upd_text::Fault;
@@ -70,7 +71,7 @@ fn lists_the_same(
 /// The stored library is the one that the runs make.
 fn has_the_runs(alloc: Global, store: &mut SqlStore<MemStore>) -> Result<(), Fail> {
     let found = store.load(alloc)?;
-    let wanted = applied(alloc, &RUNS)?;
+    let wanted = after(alloc, &RUNS)?;
     lists_the_same(alloc, "A", &found, &wanted)?;
     lists_the_same(alloc, "B", &found, &wanted)
 }
@@ -172,7 +173,7 @@ fn lists_its_line(alloc: Global, library: &Library) -> Result<bool, Fail> {
 fn one_deck_is_loaded(rt: HostRuntime) -> Result<(), Fail> {
     let alloc = rt.alloc();
     let part = made_of(alloc, &[DECK_A, DECK_B])?.load_decks(alloc, &[2])?;
-    let whole = applied(alloc, &[DECK_A, DECK_B])?;
+    let whole = after(alloc, &[DECK_A, DECK_B])?;
     lists_the_same(alloc, "B", &part, &whole)?;
     let is_listed = [
         lists_its_line(alloc, &part)?,

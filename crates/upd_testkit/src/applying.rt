@@ -1,4 +1,5 @@
 //! Names out of texts, and runs applied to a library.
+use std::alloc::Global;
 use std::test::Fail;
 use upd_apply::{Applied, apply};
 use upd_core::{CardRef, Library, Name};
@@ -17,4 +18,13 @@ pub fn applied(library: &mut Library, text: &str) -> Result<Applied, Fail> {
     let alloc = library.allocator();
     let run = read_run(alloc, text.as_bytes())?;
     Ok(apply(alloc, library, &run)?)
+}
+
+/// The library that runs make of the empty one.
+pub fn after(alloc: Global, runs: &[&str]) -> Result<Library, Fail> {
+    let mut library = Library::new(alloc);
+    for run in runs {
+        applied(&mut library, run)?;
+    }
+    Ok(library)
 }

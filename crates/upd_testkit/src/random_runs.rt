@@ -1,12 +1,28 @@
 //! Numbers and runs that look random, the same each time.
 ghost use Rattle.std.specs.Prelude.{◌<◌};
 
+use crate::asks::Ask;
 use std::alloc::Global;
 use std::test::Fail;
 
 /// Three decks, the third one common, on which the random runs act.
 pub const DECKS: &str =
     "*DECK P0\nONE\nTWO\nTHREE\n*DECK P1\nONE\nTWO\n*CALL P2\n*COMDECK P2\nONE\nTWO\nTHREE\n";
+
+/// Listings of what random runs may leave on these decks.
+pub const LISTINGS: [Ask<'static>; 11] = [
+    Ask::Idents,
+    Ask::Yanks,
+    Ask::Deck("P0"),
+    Ask::Deck("P1"),
+    Ask::Deck("P2"),
+    Ask::Deck("S1"),
+    Ask::Deck("YANK$$$"),
+    Ask::Card("P0.2"),
+    Ask::Card("S3.1"),
+    Ask::Card("Q.1"),
+    Ask::Compile,
+];
 
 /// Numbers that look random; the field is the seed.
 #[derive(Drop)]

@@ -1,5 +1,6 @@
 //! Tests of names and lines, of whole runs from their bytes to compile files and listings, of the edits of a library,
-//! statuses and limits, and of each public call below the stores once by its path (`surface`).
+//! statuses and limits, of edited texts, runs that are tried and looks, and of each public call below the stores once by
+//! its path (`surface`).
 //!
 //! Expected values are worked by hand from `docs/rules.md`, or come from a second implementation, as the files of
 //! `upd_examples` do. Tests are in crates of their own, since a crate with tests is proved once more with them.
@@ -14,16 +15,22 @@ mod common_deck_runs;
 #[cfg(test)]
 mod correction_runs;
 #[cfg(test)]
+mod edited_texts;
+#[cfg(test)]
 mod library_edits;
 #[cfg(test)]
 mod library_limits;
 #[cfg(test)]
 mod long_runs;
 #[cfg(test)]
+mod looks;
+#[cfg(test)]
 mod purge_runs;
 #[cfg(test)]
 mod surface;
 #[cfg(test)]
 mod texts_read;
+#[cfg(test)]
+mod tried_runs;
 #[cfg(test)]
 mod yank_runs;

@@ -13,6 +13,7 @@ use upd_core::{
     Name, Place, Serial, States, Target,
 };
 use upd_deck::{Item, Line, Run, read_run};
+use upd_testkit::applying::after;
 use upd_testkit::check::{holds, same, same_text};
 use upd_yank::Cache;
 
@@ -38,15 +39,6 @@ fn applied(library: &mut Library, text: &str) -> Result<Applied, Fail> {
     let alloc = library.allocator();
     let run = read_run(alloc, text.as_bytes())?;
     Ok(apply(alloc, library, &run)?)
-}
-
-/// The library after these runs.
-fn after(alloc: Global, runs: &[&str]) -> Result<Library, Fail> {
-    let mut library = Library::new(alloc);
-    for run in runs {
-        applied(&mut library, run)?;
-    }
-    Ok(library)
 }
 
 #[test]

@@ -107,7 +107,7 @@ fn worked_spool(alloc: Global) -> Result<(String, String), Fail> {
 }
 
 /// The number of whole frames in the first `bytes` bytes.
-pub fn whole_frames(bytes: usize) -> u32 {
+fn whole_frames(bytes: usize) -> u32 {
     let second = FIRST.len().saturating_add(SECOND.len());
     let third = second.saturating_add(THIRD.len());
     u32::from(bytes >= FIRST.len())
@@ -116,7 +116,7 @@ pub fn whole_frames(bytes: usize) -> u32 {
 }
 
 /// The answers to the first `frames` frames.
-pub fn answers_of(answers: &[u8], frames: u32) -> Result<&[u8], Fail> {
+fn answers_of(answers: &[u8], frames: u32) -> Result<&[u8], Fail> {
     let end = ANSWER_ENDS.get(frames as usize).ok_or("no such frame")?;
     Ok(answers.get(..*end).ok_or("no such answer")?)
 }
@@ -196,14 +196,14 @@ fn each_front_of_a_spool_answers_its_whole_frames(rt: HostRuntime) -> Result<(),
     Ok(())
 }
 
-/// A spool whose read of this number fails, after `whole` whole frames.
+/// A spool whose read of this number fails, after `whole` whole frames: the desk, which has stored their runs.
 fn read_fails(
     alloc: Global,
-    (text, fails_at): (&[u8], usize),
+    (text, fails_at, kind): (&[u8], usize, ErrorKind),
     whole: u32,
     wanted: &[u8],
-) -> Result<(), Fail> {
-    let mut input = Pieces::failing(text, 1, fails_at, ErrorKind::Other);
+) -> Result<Desk<ListStore>, Fail> {
+    let mut input = Pieces::failing(text, 1, fails_at, kind);
     let mut desk = Desk::open(ListStore::new(alloc));
     let mut output = Vec::new(alloc);
     let ended = spool(alloc, &mut input, &mut output, &mut desk);
@@ -213,20 +213,31 @@ fn read_fails(
     };
     same("the end", (fails_at, ended), (fails_at, Err(fault)))?;
     same("the answers", output.as_slice(), wanted)?;
-    stores(alloc, desk, whole)?;
+    stores(alloc, desk, whole)
+}
+
+/// The answers of the frames before are out, and only their runs are stored. The spool, sent again, is answered.
+fn each_read_fails(
+    alloc: Global,
+    text: &[u8],
+    answers: &[u8],
+    kind: ErrorKind,
+) -> Result<(), Fail> {
+    for fails_at in 1..=text.len().saturating_add(1) {
+        let whole = whole_frames(fails_at.saturating_sub(1));
+        let wanted = answers_of(answers, whole)?;
+        let desk = read_fails(alloc, (text, fails_at, kind), whole, wanted)?;
+        all_at_once(alloc, text, answers, desk)?;
+    }
     Ok(())
 }
 
-/// The answers of the frames before are out, and only their runs are stored.
 #[test]
 fn a_failed_read_stores_no_run_of_its_frame(rt: HostRuntime) -> Result<(), Fail> {
     let alloc = rt.alloc();
     let (text, answers) = worked_spool(alloc)?;
-    for fails_at in 1..=text.len().saturating_add(1) {
-        let whole = whole_frames(fails_at.saturating_sub(1));
-        let wanted = answers_of(answers.as_bytes(), whole)?;
-        let input = (text.as_bytes(), fails_at);
-        read_fails(alloc, input, whole, wanted)?;
+    for kind in [ErrorKind::Other, ErrorKind::Interrupted] {
+        each_read_fails(alloc, text.as_bytes(), answers.as_bytes(), kind)?;
     }
     Ok(())
 }
@@ -242,18 +253,17 @@ fn is_not_answered(alloc: Global, mut input: Pieces<'_>, kind: FaultKind) -> Res
     Ok(())
 }
 
+/// The request of a run of three bytes.
+const REQUEST: &[u8] =
+    b"POST /sites/LYON/runs/1/quick HTTP/1.1\r\nHost: lib\r\nContent-Length: 3\r\n\r\nabc";
+
 #[test]
 fn a_request_that_is_cut_or_cannot_be_read_stores_no_run(rt: HostRuntime) -> Result<(), Fail> {
     let alloc = rt.alloc();
-    for length in 0..QUICK.len() {
-        let front = Pieces::new(&QUICK.as_bytes()[..length], 1);
+    for length in 0..REQUEST.len() {
+        let front = Pieces::new(&REQUEST[..length], 1);
         is_not_answered(alloc, front, FaultKind::CutFrame)?;
-        let failing = Pieces::failing(
-            QUICK.as_bytes(),
-            1,
-            length.saturating_add(1),
-            ErrorKind::Other,
-        );
+        let failing = Pieces::failing(REQUEST, 1, length.saturating_add(1), ErrorKind::Other);
         is_not_answered(alloc, failing, FaultKind::Read)?;
     }
     Ok(())

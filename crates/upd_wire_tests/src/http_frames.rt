@@ -1,12 +1,11 @@
-//! Heads and bodies at their limits, and streams that fail.
+//! Heads and bodies at their limits, and a flush that fails.
 use crate::http_desk::{Lists, QUICK, QUICK_ANSWER, empty_desk, expect_read};
 use std::alloc::Global;
-use std::io::ErrorKind;
 use std::test::Fail;
 use upd_http::serve_one;
 use upd_testkit::check::same;
-use upd_testkit::fake_streams::{Held, Narrow, Pieces};
-use upd_text::{Fault, FaultKind};
+use upd_testkit::fake_streams::Held;
+use upd_text::FaultKind;
 
 const EMPTY_LISTING: &str =
     "HTTP/1.1 200 OK\r\nContent-Type: text/plain\r\nContent-Length: 0\r\nConnection: close\r\n\r\n";
@@ -165,82 +164,6 @@ fn bytes_after_the_body_are_ignored(rt: HostRuntime) -> Result<(), Fail> {
     let mut desk = empty_desk(alloc);
     let request = format!(in alloc; "{QUICK}GET /decks/NOPE HTTP/1.1\r\n\r\n")?;
     expect(alloc, &mut desk, &request, QUICK_ANSWER)
-}
-
-/// How a request ends that is read a byte at a time, and what is written.
-fn cut(alloc: Global, request: &[u8], fails_at: usize) -> (Result<(), Fault>, Vec<u8>) {
-    let mut desk = empty_desk(alloc);
-    let mut output = Vec::new(alloc);
-    let mut input = Pieces::failing(request, 1, fails_at, ErrorKind::Other);
-    let ended = serve_one(alloc, &mut input, &mut output, &mut desk);
-    (ended, output)
-}
-
-/// A request that is cut, or whose read of this number fails, is answered by nothing.
-fn is_not_answered(
-    alloc: Global,
-    request: &[u8],
-    fails_at: usize,
-    kind: FaultKind,
-) -> Result<(), Fail> {
-    let (ended, output) = cut(alloc, request, fails_at);
-    let cut_at = (request.len(), fails_at);
-    same(
-        "the end",
-        (cut_at, ended),
-        (cut_at, Err(kind.without_line())),
-    )?;
-    same("the answer", output.as_slice(), b"".as_slice())
-}
-
-/// Each request that ends too early is answered by nothing, and so is one that can't be read to its end.
-#[test]
-fn cut_requests_are_not_answered(rt: HostRuntime) -> Result<(), Fail> {
-    let alloc = rt.alloc();
-    let request =
-        b"POST /sites/LYON/runs/1/quick HTTP/1.1\r\nHost: lib\r\nContent-Length: 3\r\n\r\nabc";
-    for length in 0..request.len() {
-        is_not_answered(alloc, &request[..length], 0, FaultKind::CutFrame)?;
-        is_not_answered(alloc, request, length + 1, FaultKind::Read)?;
-    }
-    Ok(())
-}
-
-/// A writer takes `room` bytes of the answer: the desk.
-fn write_fails(alloc: Global, room: usize) -> Result<Lists, Fail> {
-    let mut desk = empty_desk(alloc);
-    let mut output = Narrow::new(alloc, room);
-    let ended = serve_one(alloc, &mut QUICK.as_bytes(), &mut output, &mut desk);
-    let wanted = QUICK_ANSWER.as_bytes().get(..room).ok_or("no front")?;
-    let fault = FaultKind::Write.without_line();
-    same("the end", (room, ended), (room, Err(fault)))?;
-    let found = (room, output.taken.as_slice());
-    same("the front", &found, &(room, wanted))?;
-    Ok(desk)
-}
-
-/// The number of the run is known with its mode, and its repeat has the reply.
-fn run_is_stored(alloc: Global, desk: &mut Lists) -> Result<(), Fail> {
-    expect(
-        alloc,
-        desk,
-        "POST /sites/LYON/runs/1/full HTTP/1.1\r\n\r\n",
-        "HTTP/1.1 409 Conflict\r\nContent-Type: application/json\r\nContent-Length: 39\r\n\
-Connection: close\r\n\r\n{\"at\":0,\"fault\":26,\"name\":\"RunChanged\"}",
-    )?;
-    expect(alloc, desk, QUICK, QUICK_ANSWER)
-}
-
-/// After a failed write a prefix of the answer is out. The run is stored: its repeat has the reply.
-#[test]
-fn failed_writes_leave_the_run_stored(rt: HostRuntime) -> Result<(), Fail> {
-    let alloc = rt.alloc();
-    let mut desk = write_fails(alloc, 0)?;
-    run_is_stored(alloc, &mut desk)?;
-    for room in 1..QUICK_ANSWER.len() {
-        write_fails(alloc, room)?;
-    }
-    Ok(())
 }
 
 /// A flush that fails is a failed write. The run is stored: its repeat has the reply.

@@ -1,5 +1,5 @@
 //! Frames that are not valid, and answers that are not replies.
-use crate::spool_streams::ended;
+use crate::spool_streams::{desk, ended};
 use std::alloc::Global;
 use std::test::Fail;
 use upd_desk::Desk;
@@ -24,10 +24,6 @@ const NOWHERE: &str = "{\"at\":1,\"fault\":9,\"mode\":\"full\",\"name\":\"TextNo
 
 const FULL_EMPTY: &str = "{\"compile\":\"\",\"idents\":[],\"lines\":0,\"mode\":\"full\",\"run\":2,\
 \"site\":\"LYON\",\"state\":\"accepted\"}\n";
-
-fn desk(alloc: Global) -> Desk<ListStore> {
-    Desk::open(ListStore::new(alloc))
-}
 
 /// A spool on a desk: what comes out, and how it ends.
 fn comes_out(
@@ -81,24 +77,6 @@ fn bad_headers_end_a_spool(rt: HostRuntime) -> Result<(), Fail> {
 }
 
 #[test]
-fn every_front_of_a_frame_is_cut(rt: HostRuntime) -> Result<(), Fail> {
-    let alloc = rt.alloc();
-    let mut desk = desk(alloc);
-    comes_out(alloc, &mut desk, "", "", "0")?;
-    for end in 1..FIRST.len() {
-        let front = FIRST.get(..end).ok_or("no front")?;
-        comes_out(alloc, &mut desk, front, "", "CutFrame (31) at 1")?;
-    }
-    comes_out(
-        alloc,
-        &mut desk,
-        "RUN LYON 1 full 65536\n",
-        "",
-        "CutFrame (31) at 1",
-    )
-}
-
-#[test]
 fn refusals_are_answers(rt: HostRuntime) -> Result<(), Fail> {
     let alloc = rt.alloc();
     let mut desk = desk(alloc);
@@ -124,13 +102,9 @@ fn refusals_are_answers(rt: HostRuntime) -> Result<(), Fail> {
 fn a_run_without_its_lf_is_as_good_as_not_sent(rt: HostRuntime) -> Result<(), Fail> {
     let alloc = rt.alloc();
     let mut desk = desk(alloc);
-    comes_out(
-        alloc,
-        &mut desk,
-        "RUN LYON 2 quick 0\n",
-        "",
-        "CutFrame (31) at 1",
-    )?;
+    for header in ["RUN LYON 1 full 65536\n", "RUN LYON 2 quick 0\n"] {
+        comes_out(alloc, &mut desk, header, "", "CutFrame (31) at 1")?;
+    }
     comes_out(
         alloc,
         &mut desk,

@@ -1,5 +1,4 @@
 //! The worked spool, whole and cut, over readers and writers that go byte by byte, hold back or fail.
-use crate::cut_input::{answers_of, whole_frames};
 use std::alloc::Global;
 use std::io::{ErrorKind, Read, Write};
 use std::test::Fail;
@@ -19,7 +18,8 @@ pub fn ended(alloc: Global, end: Result<u32, Fault>) -> Result<String, Fail> {
     }
 }
 
-fn desk(alloc: Global) -> Desk<ListStore> {
+/// A desk over an empty library.
+pub fn desk(alloc: Global) -> Desk<ListStore> {
     Desk::open(ListStore::new(alloc))
 }
 
@@ -87,28 +87,6 @@ fn a_spool_cut_in_a_run_is_sent_again(rt: HostRuntime) -> Result<(), Fail> {
     for (text, answers, end) in sent {
         comes_out(alloc, &mut at_once, text, answers, end)?;
         comes_out_in_bytes(alloc, &mut in_bytes, text, answers, end)?;
-    }
-    Ok(())
-}
-
-/// Read number `fails_at` is interrupted; the spool, sent again, is answered.
-fn read_fails(alloc: Global, text: &str, answers: &str, fails_at: usize) -> Result<(), Fail> {
-    let whole = whole_frames(fails_at.saturating_sub(1));
-    let mut desk = desk(alloc);
-    let mut output = Vec::new(alloc);
-    let mut input = Pieces::failing(text.as_bytes(), 1, fails_at, ErrorKind::Interrupted);
-    let end = format!(in alloc; "Read (32) at {}", whole.saturating_add(1))?;
-    ends(alloc, &mut desk, &mut input, &mut output, end.as_str())?;
-    let before = answers_of(answers.as_bytes(), whole)?;
-    same("the answers before", output.as_slice(), before)?;
-    comes_out(alloc, &mut desk, text.as_bytes(), answers.as_bytes(), "3")
-}
-
-#[test]
-fn each_read_may_fail(rt: HostRuntime) -> Result<(), Fail> {
-    let (text, answers) = worked(rt.alloc())?;
-    for fails_at in 1..text.len() + 2 {
-        read_fails(rt.alloc(), text.as_str(), answers.as_str(), fails_at)?;
     }
     Ok(())
 }

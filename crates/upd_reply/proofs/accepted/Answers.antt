@@ -11,4 +11,5 @@ returns c site mode idents file =
     ≡ accepted_value c.args.site.now c.args.number c.args.mode.now c.args.idents.now c.args.file.now c.args.lines
     = c.in_ok-value.ensures (all_utf8 _ idents) (utf8 _ file) in
     let no_float : has_float (view c.in_ok-value.value) ≡ false = rw (seen, no_float_items c.args.idents.now) refl in
-    c.in_ok-text.ensures.text no_float ∙ ap compact_text seen ∙ accepted_written site mode idents file
+    c.in_ok-text.ensures.text no_float ∙ ap compact_text seen
+    ∙ accepted_written c.args.site.now c.args.mode.now c.args.number c.args.idents.now c.args.file.now c.args.lines site mode idents file

@@ -1,13 +1,13 @@
-use Rattle.std.proofs.Common.{◌≡◌, IsTrue, Ok, not, true, map, refl, sym, ap, subst, ◌∙◌, rules, arith}
+use Rattle.std.proofs.Common.{◌≡◌, Ok, option_copied, true, map, refl, sym, subst, rules, arith}
 use Rattle.sqlite.specs.Held.{state}
 use Rattle.sqlite.specs.State.{HasCleanDisk, Survives}
 use Rattle.sqlite.proofs.Callers.{survives_begin}
 use Rattle.upd_records.specs.Changes.{change_view, done_all}
-use Rattle.upd_records.specs.Fits.{AllFit}
 use Rattle.upd_row_store.specs.Tables.{committed, with_run}
 use Rattle.upd_sqlite.specs.Steps.{Makes}
 use Rattle.upd_sqlite.proofs.Chains.{clean_before, makes_then, makes_as}
 use Rattle.upd_sql.specs.Commits.{MayCommit}
+use Rattle.upd_sql.specs.Doable.{AllCanBeDone}
 use Rattle.upd_sql.specs.Sizes.{AnySizes, HasSizes, HoldsSizes, SizedAll, TakeNone, sized_all}
 use Rattle.upd_sql.specs.LibraryTables.{HoldsTables, AnyTables}
 use Rattle.upd_sql.proofs.CommitLemmas.{crash_leaves}
@@ -18,21 +18,22 @@ pub returns-clause-crash : goal.returns-clause-crash
 returns-clause-crash g c =
     let old = state g.S.Store c.args.conn.now in
     let begun = record old { in_transaction = true } in
-    let mid = state g.S.Store c.carry_out_all.new.tx.conn.now in
+    let mid = state g.S.Store c.carry_out_moving.new.tx.conn.now in
     let last = state g.S.Store c.insert_run.new.tx.conn.now in
     let end = state g.S.Store c.commit.new.self.0 in
     let cs = map change_view c.args.changes.now in
-    let made : Makes {X = Unit {0}} HoldsTables (AllFit cs) (done_all cs) begun mid (Ok c.in_ok-carry_out_all.field-0) =
-    rw c.begin-tx.ensures.begun at c.in_ok-carry_out_all.ensures.makes in
-    let whole : Makes {X = Unit {0}} HoldsTables (AllFit cs) (committed cs c.args.row.now) begun last (Ok c.in_ok-insert_run.field-0) =
-    makes_as HoldsTables _ (AllFit cs) _ (committed cs c.args.row.now) begun last (Ok c.in_ok-insert_run.field-0) (λ it fits. (fits, tt)) (λ it. refl)
-    (makes_then HoldsTables (AllFit cs) AnyTables (done_all cs) (with_run c.args.row.now) begun mid last c.in_ok-carry_out_all.field-0
+    let Fits = AllCanBeDone (option_copied c.args.movable) cs in
+    let made : Makes {X = Unit {0}} HoldsTables Fits (done_all cs) begun mid (Ok c.in_ok-carry_out_moving.field-0) =
+    rw c.begin-tx.ensures.begun at c.in_ok-carry_out_moving.ensures.makes in
+    let whole : Makes {X = Unit {0}} HoldsTables Fits (committed cs c.args.row.now) begun last (Ok c.in_ok-insert_run.field-0) =
+    makes_as HoldsTables _ Fits _ (committed cs c.args.row.now) begun last (Ok c.in_ok-insert_run.field-0) (λ it fits. (fits, tt)) (λ it. refl)
+    (makes_then HoldsTables Fits AnyTables (done_all cs) (with_run c.args.row.now) begun mid last c.in_ok-carry_out_moving.field-0
     (Ok c.in_ok-insert_run.field-0) made c.in_ok-insert_run.ensures.makes) in
-    let left = crash_leaves (AllFit cs) (committed cs c.args.row.now) old last end c.in_ok-insert_run.field-0 c.begin-tx.ensures.rise
+    let left = crash_leaves Fits (committed cs c.args.row.now) old last end c.in_ok-insert_run.field-0 c.begin-tx.ensures.rise
     c.begin-tx.ensures.settled whole
     (λ clean. let early : HasCleanDisk mid = omega (arith, c.insert_run.ensures.makes.steps.survives.clean) in (made.steps.kept early refl).was_open
     (c.in_ok-insert_run.ensures.was_open clean (made.steps.going early refl))) c.commit.ensures.survives in
-    let P = MayCommit (AllFit cs) (committed cs c.args.row.now) old in
+    let P = MayCommit Fits (committed cs c.args.row.now) old in
     let same : c.commit.new.self.0 ≡ c.conn-2-1.given.0 = search rules in
     subst (λ h. Survives old (state g.S.Store h) P) same (survives_begin g.S.Store c.args.conn.now end P left)
 
@@ -40,12 +41,12 @@ pub returns-clause-sized : goal.returns-clause-sized
 returns-clause-sized g c clean =
     let old = state g.S.Store c.args.conn.now in
     let begun = record old { in_transaction = true } in
-    let mid = state g.S.Store c.carry_out_all.new.tx.conn.now in
+    let mid = state g.S.Store c.carry_out_moving.new.tx.conn.now in
     let last = state g.S.Store c.insert_run.new.tx.conn.now in
     let end = state g.S.Store c.commit.new.self.0 in
     let cs = map change_view c.args.changes.now in
-    let made : SizedAll {X = Unit {0}} cs begun mid (Ok c.in_ok-carry_out_all.field-0) = rw c.begin-tx.ensures.begun at c.in_ok-carry_out_all.ensures.sized in
-    let whole = makes_then HoldsSizes (λ _. TakeNone cs) AnySizes (sized_all cs) (λ n. n) begun mid last c.in_ok-carry_out_all.field-0
+    let made : SizedAll {X = Unit {0}} cs begun mid (Ok c.in_ok-carry_out_moving.field-0) = rw c.begin-tx.ensures.begun at c.in_ok-carry_out_moving.ensures.sized in
+    let whole = makes_then HoldsSizes (λ _. TakeNone cs) AnySizes (sized_all cs) (λ n. n) begun mid last c.in_ok-carry_out_moving.field-0
     (Ok c.in_ok-insert_run.field-0) made c.in_ok-insert_run.ensures.sized in
     let same : c.commit.new.self.0 ≡ c.conn-2-1.given.0 = search rules in
     let late : HasCleanDisk end = subst (λ h. HasCleanDisk (state g.S.Store h)) (sym same) clean in

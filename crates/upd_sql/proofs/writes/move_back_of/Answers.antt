@@ -1,0 +1,32 @@
+use Rattle.std.proofs.Common.{List, ℕ, [], ◌∷◌}
+use Rattle.sqlite_value.specs.declared.value.Value.TheVariants.{Text}
+use Rattle.sqlite.specs.Held.{state}
+use Rattle.upd_sql.specs.Encoded.{num}
+use Rattle.upd_sql.specs.RowEdits.{CanMoveOf, with_moved}
+use Rattle.upd_sql.proofs.Typed.{makes_from, makes_nothing}
+use Rattle.upd_sql.proofs.WriteTexts as text
+use Rattle.upd_sql.proofs.Effects.{cards_moved_of}
+use Rattle.upd_sql.proofs.SizeLemmas.{moved_of_sizes, sizes_not}
+use Rattle.upd_sql.proofs.writes.move_back_of.Goals as goal
+
+pub returns-clause-makes : goal.returns-clause-makes
+returns-clause-makes g c =
+    let old = state g.S.Store c.args.tx.now.conn.now in
+    let new = state g.S.Store c.run.new.tx.conn.now in
+    let e : List ℕ × ℕ = (c.args.ident.now, c.args.least) in
+    makes_from (CanMoveOf e c.args.deck c.args.from c.args.by) (with_moved e c.args.deck c.args.from c.args.by) text.move_back_of
+    (Text c.args.ident.now ∷ num c.args.least ∷ num c.args.deck ∷ num c.args.from ∷ num c.args.by ∷ []) old new c.run.result
+    (rw (c.in_ok-distance.ensures, c.name.ensures, c.number.ensures, c.number-2.ensures, c.number-3.ensures) at c.run.ensures.ran)
+    (λ count ran it fits h. cards_moved_of old new count it h e c.args.deck c.args.from c.args.by fits ran)
+
+pub returns-in_err-distance-clause-makes : goal.returns-in_err-distance-clause-makes
+returns-in_err-distance-clause-makes g c =
+    let e : List ℕ × ℕ = (c.args.ident.now, c.args.least) in
+    makes_nothing (CanMoveOf e c.args.deck c.args.from c.args.by) (with_moved e c.args.deck c.args.from c.args.by) (state g.S.Store c.args.tx.now.conn.now)
+    c.from_residual.result c.from_residual.ensures.0
+
+pub returns-clause-sized : goal.returns-clause-sized
+returns-clause-sized g c = moved_of_sizes _ (state g.S.Store c.args.tx.now.conn.now) (state g.S.Store c.run.new.tx.conn.now) c.run.result c.run.ensures.ran
+
+pub returns-in_err-distance-clause-sized : goal.returns-in_err-distance-clause-sized
+returns-in_err-distance-clause-sized g c = sizes_not (state g.S.Store c.args.tx.now.conn.now) c.from_residual.result c.from_residual.ensures.0

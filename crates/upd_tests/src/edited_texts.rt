@@ -1,0 +1,222 @@
+//! Runs for edited texts of small libraries.
+
+use std::alloc::Global;
+use std::test::Fail;
+use upd_core::Library;
+use upd_correct::{CorrectError, Problem, Refusal, correct};
+use upd_edit::active_text;
+use upd_testkit::applying::{after, applied, name};
+use upd_testkit::check::{holds, same, same_text};
+use upd_testkit::random_runs::Dice;
+
+/// Deck A of ONE, TWO, which is inactive, and THREE; and deck B, which is taken out of use.
+fn small(alloc: Global) -> Result<Library, Fail> {
+    after(
+        alloc,
+        &[
+            "*DECK A\nONE\nTWO\nTHREE\nFOUR\n*DECK B\n",
+            "*IDENT X\n*DELETE A.3\n*YANKDECK B\n",
+        ],
+    )
+}
+
+/// The run for a text, under the name Z.
+fn run_for(alloc: Global, library: &Library, text: &str) -> Result<String, Fail> {
+    match correct(alloc, library, b"Z", text.as_bytes()) {
+        Ok(run) => Ok(String::from_str(alloc, std::str::from_utf8(&run)?)?),
+        Err(_) => Err("the text is refused".into()),
+    }
+}
+
+fn expect_run(alloc: Global, text: &str, run: &str) -> Result<(), Fail> {
+    let found = run_for(alloc, &small(alloc)?, text)?;
+    same_text(text, found.as_str(), run)
+}
+
+/// A refusal.
+fn at(line: usize, column: usize, problem: Problem) -> Refusal {
+    Refusal {
+        line,
+        column,
+        problem,
+    }
+}
+
+/// The refusals of a text.
+fn refusals_of(alloc: Global, set: &str, text: &[u8]) -> Result<Vec<Refusal>, Fail> {
+    match correct(alloc, &small(alloc)?, set.as_bytes(), text) {
+        Ok(_) => Err("there is a run".into()),
+        Err(CorrectError::Refused(found)) => Ok(found),
+        Err(CorrectError::NoMemory) => Err("out of memory".into()),
+    }
+}
+
+fn expect_refusals(
+    alloc: Global,
+    set: &str,
+    text: &[u8],
+    refusals: &[Refusal],
+) -> Result<(), Fail> {
+    let found = refusals_of(alloc, set, text)?;
+    same("the refusals", found.as_slice(), refusals)
+}
+
+#[test]
+fn lines_are_replaced_and_added_and_a_deck_is_introduced(rt: HostRuntime) -> Result<(), Fail> {
+    expect_run(
+        rt.alloc(),
+        "*DECK A\nUN\nTHREE\nFOUR\nQUATRE\n*DECK C\nCINQ\n",
+        "*IDENT Z\n*DELETE A.2\nUN\n*INSERT A.5\nQUATRE\n*DECK C\nCINQ\n",
+    )
+}
+
+#[test]
+fn a_text_that_changes_nothing_gives_no_bytes(rt: HostRuntime) -> Result<(), Fail> {
+    expect_run(rt.alloc(), "*DECK A\nONE\nTHREE\nFOUR\n", "")
+}
+
+#[test]
+fn a_range_leaves_an_inactive_card_out(rt: HostRuntime) -> Result<(), Fail> {
+    expect_run(
+        rt.alloc(),
+        "*DECK A\nZERO\n",
+        "*IDENT Z\n*DELETE A.2\nZERO\n*DELETE A.4,A.5\n",
+    )
+}
+
+#[test]
+fn all_problems_are_named(rt: HostRuntime) -> Result<(), Fail> {
+    expect_refusals(
+        rt.alloc(),
+        "X",
+        b"AHEAD\n*DECK A\nA\x01\n*/ C\n*INSERT A.1\n*DECK A\n*DECK X\n*DECK YANK$$$\n*DECK B\n*DECK\n",
+        &[
+            at(0, 0, Problem::NameTaken),
+            at(1, 1, Problem::NoDeck),
+            at(3, 2, Problem::BadByte),
+            at(4, 1, Problem::Comment),
+            at(5, 1, Problem::Directive),
+            at(6, 1, Problem::DeckTwice),
+            at(7, 1, Problem::NameTaken),
+            at(8, 1, Problem::Reserved),
+            at(9, 1, Problem::OutOfUse),
+            at(10, 1, Problem::Directive),
+        ],
+    )
+}
+
+#[test]
+fn a_changed_first_card_and_a_long_line_are_refused(rt: HostRuntime) -> Result<(), Fail> {
+    let mut text = Vec::from_slice(rt.alloc(), b"*DECK  A\n")?;
+    text.extend_from_slice(&vec![in rt.alloc(); b'L'; 81]?)?;
+    expect_refusals(
+        rt.alloc(),
+        "Z",
+        &text,
+        &[at(1, 1, Problem::FirstCard), at(2, 81, Problem::LineLong)],
+    )
+}
+
+#[test]
+fn a_run_of_too_many_lines_is_refused(rt: HostRuntime) -> Result<(), Fail> {
+    let mut text = Vec::from_slice(rt.alloc(), b"*DECK A\n")?;
+    for _ in 0..2_000 {
+        text.extend_from_slice(b"L\n")?;
+    }
+    expect_refusals(rt.alloc(), "Z", &text, &[at(0, 0, Problem::TooManyLines)])
+}
+
+/// Some letters, changed at random.
+fn changed_lines(alloc: Global, lines: &[u8], dice: &mut Dice) -> Result<Vec<u8>, Fail> {
+    let mut changed = Vec::new(alloc);
+    for line in lines {
+        match dice.below(8) {
+            0 => {}
+            1 => changed.extend_from_slice(&[random_letter(dice), *line])?,
+            _ => changed.push(*line)?,
+        }
+    }
+    Ok(changed)
+}
+
+/// One of the letters A to D.
+fn random_letter(dice: &mut Dice) -> u8 {
+    let at = dice.below(4) as usize;
+    b"ABCD".get(at).copied().unwrap_or(b'A')
+}
+
+/// A deck whose lines are single letters.
+fn deck_text(alloc: Global, lines: &[u8]) -> Result<String, Fail> {
+    let mut text = String::from_str(alloc, "*DECK A\n")?;
+    for line in lines {
+        text.push(char::from(*line))?;
+        text.push('\n')?;
+    }
+    Ok(text)
+}
+
+/// Replaces a row of the table by the next one, of one letter more.
+fn extend_row(row: &mut [usize], letter: u8, lines: &[u8]) {
+    let mut diagonal: usize = 0;
+    let mut before: usize = 0;
+    for (cell, line) in row.iter_mut().zip(lines) {
+        let above = *cell;
+        let longest = if letter == *line {
+            diagonal.saturating_add(1)
+        } else {
+            above.max(before)
+        };
+        *cell = longest;
+        diagonal = above;
+        before = longest;
+    }
+}
+
+/// The length of a longest common subsequence, by one row of the usual table.
+fn common_length(alloc: Global, old: &[u8], new: &[u8]) -> Result<usize, Fail> {
+    let mut row = vec![in alloc; 0usize; new.len()]?;
+    for letter in old {
+        extend_row(&mut row, *letter, new);
+    }
+    Ok(row.last().copied().unwrap_or(0))
+}
+
+/// Deck A of some lines is led to others, by few directives.
+fn is_led(alloc: Global, old: &[u8], new: &[u8]) -> Result<(), Fail> {
+    let deck = deck_text(alloc, old)?;
+    let mut library = after(alloc, &[deck.as_str()])?;
+    let text = deck_text(alloc, new)?;
+    let run = run_for(alloc, &library, text.as_str())?;
+    applied(&mut library, run.as_str())?;
+    let found = active_text(alloc, &library, &name("A")?)?;
+    same_text("the deck", std::str::from_utf8(&found)?, text.as_str())?;
+    holds(
+        "few directives",
+        directives(run.as_str()) <= most_directives(alloc, old, new)?,
+    )
+}
+
+/// The number of directives of a run.
+fn directives(run: &str) -> usize {
+    run.bytes().filter(|byte| *byte == b'*').count()
+}
+
+/// Twice the lines of a shortest edit, and two.
+fn most_directives(alloc: Global, old: &[u8], new: &[u8]) -> Result<usize, Fail> {
+    let common = common_length(alloc, old, new)?;
+    let lines = old.len().saturating_add(new.len());
+    let changed = lines.saturating_sub(common.saturating_mul(2));
+    Ok(changed.saturating_mul(2).saturating_add(2))
+}
+
+#[test]
+fn runs_lead_to_random_texts_by_few_directives(rt: HostRuntime) -> Result<(), Fail> {
+    let alloc = rt.alloc();
+    let mut dice = Dice(7);
+    for _ in 0..40 {
+        let old = changed_lines(alloc, b"ABCDABBACADDBCABAADCABDB", &mut dice)?;
+        let new = changed_lines(alloc, &old, &mut dice)?;
+        is_led(alloc, &old, &new)?;
+    }
+    Ok(())
+}

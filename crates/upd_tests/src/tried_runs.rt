@@ -1,0 +1,82 @@
+//! Warnings of runs that are tried on a small library.
+
+use std::alloc::Global;
+use std::test::Fail;
+use upd_core::Library;
+use upd_edit::warning_lines;
+use upd_testkit::applying::after;
+use upd_testkit::check::same_text;
+
+/// Deck A of 25 lines, of which X has replaced the second, A.3, and switched A.4 off; Y has yanked W, which had switched
+/// A.5 off.
+fn small(alloc: Global) -> Result<Library, Fail> {
+    after(
+        alloc,
+        &[
+            "*DECK A\n1\n2\n3\n4\n5\n6\n7\n8\n9\n10\n11\n12\n13\n14\n15\n16\n17\n18\n19\n20\n21\n22\n23\n24\n25\n",
+            "*IDENT W\n*DELETE A.5\n",
+            "*IDENT X\n*DELETE A.3\nTWO\n*DELETE A.4\n",
+            "*IDENT Y\n*YANK W\n",
+        ],
+    )
+}
+
+fn expect_warnings(alloc: Global, run: &[u8], wanted: &str) -> Result<(), Fail> {
+    let library = small(alloc)?;
+    let found = warning_lines(alloc, &library, run)?;
+    same_text("the warnings", std::str::from_utf8(&found)?, wanted)
+}
+
+#[test]
+fn cards_that_are_off_already_are_reported(rt: HostRuntime) -> Result<(), Fail> {
+    let alloc = rt.alloc();
+    expect_warnings(
+        alloc,
+        b"*IDENT Z\n*DELETE A.3\nOTHER\n",
+        "upd: 2: A.3 is off already, by X\n",
+    )?;
+    expect_warnings(
+        alloc,
+        b"*IDENT Z\n*DELETE A.3,A.4\n*DELETE A.2,A.6\n*DELETE A.5\n*DELETE X.1\n*RESTORE A.3\n",
+        "upd: 2: A.3 is off already, by X\nupd: 2: A.4 is off already, by X\n",
+    )
+}
+
+#[test]
+fn wide_ranges_are_reported(rt: HostRuntime) -> Result<(), Fail> {
+    let alloc = rt.alloc();
+    expect_warnings(
+        alloc,
+        b"*IDENT Z\n*DELETE A.7,A.26\n*DELETE A.6,A.26\n*RESTORE A.2,A.21\n*DELETE A.26,A.2\n*DELETE A.2,Q.1\n",
+        "upd: 3: the range has 21 cards\nupd: 4: the range has 21 cards\n",
+    )
+}
+
+#[test]
+fn text_that_may_be_meant_for_a_directive_is_reported(rt: HostRuntime) -> Result<(), Fail> {
+    let alloc = rt.alloc();
+    expect_warnings(
+        alloc,
+        b"*IDENT Z\n*INSERT A.2\n*delete A.3\n*DELTE A.3\n*DLEETE A.3\n*DELETTE\n*DEKETE,A.3\n*d A.3\n*CAL C\n",
+        "upd: 3: *delete is text, not *DELETE\nupd: 4: *DELTE is text, not *DELETE\nupd: 5: *DLEETE is text, not *DELETE\n\
+upd: 6: *DELETTE is text, not *DELETE\nupd: 7: *DEKETE is text, not *DELETE\nupd: 8: *d is text, not *D\n\
+upd: 9: *CAL is text, not *CALL\n",
+    )?;
+    expect_warnings(
+        alloc,
+        b"*IDENT Z\n*INSERT A.2\n* DELETE A.3\n*DLTE A.3\n*E A.3\n*DELETED A.3\n*\n*READ\n**\nDELTE\n *DELTE\n",
+        "upd: 6: *DELETED is text, not *DELETE\n",
+    )
+}
+
+#[test]
+fn comments_are_reported_and_unread_runs_have_no_warnings(rt: HostRuntime) -> Result<(), Fail> {
+    let alloc = rt.alloc();
+    expect_warnings(
+        alloc,
+        b"*IDENT Z\n*/ one\n*INSERT A.2\n*/two\n*delete\n*/",
+        "upd: 2: dropped comments: 3, the first here\nupd: 5: *delete is text, not *DELETE\n",
+    )?;
+    expect_warnings(alloc, b"", "")?;
+    expect_warnings(alloc, b"*/ one\n*DELETE\n", "")
+}
