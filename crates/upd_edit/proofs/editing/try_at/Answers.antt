@@ -1,7 +1,7 @@
 use Rattle.std.proofs.Common.{Ok, Err, ◌∙◌}
 use Rattle.upd_row_store.specs.Keeping.{CountsFailure}
 use Rattle.upd_row_store.proofs.KeepingLemmas.{uncounted}
-use Rattle.upd_desk.specs.Outcomes.{reply_on}
+use Rattle.upd_desk.specs.Outcomes.{ReplyView, reply_on}
 use Rattle.upd_desk.proofs.ArrivesLemmas.{unstored}
 use Rattle.upd_desk.proofs.QueryLemmas.{fails_owed, store_fails}
 use Rattle.upd_edit.specs.Trying.{tried}
@@ -26,7 +26,7 @@ returns-in_err-library-clause-reply g c =
 
 pub returns-clause-failed : goal.returns-clause-failed
 returns-clause-failed g c =
-    held_of g.S.Meaning (λ l. CountsFailure g.S.Meaning (Err c.in-Err.fault) c.args.desk.now.store c.library.new.self.store) c.in_ok-library.library
+    held_of g.S.Meaning (λ l. CountsFailure g.S.Meaning {A = ReplyView} (Err c.in-Err.fault) c.args.desk.now.store c.library.new.self.store) c.in_ok-library.library
     c.args.desk.now.store c.library.new.self.store c.in_ok-library.ensures.library
     (λ made. c.in_ok-library.ensures.failed ∙ uncounted c.in-Err.fault.kind _
     (λ is. unstored c.in-Err.fault (reply_keeps c.args.mode.now c.args.run.now c.in_ok-library.library c.in-Err.fault
