@@ -3,7 +3,7 @@ use Rattle.std.proofs.Common.{◌≡◌, ℕ, suc, ◌+◌, ◌-◌, ◌^◌, �
 use Rattle.std.proofs.lemmas.Bool.Decides.{nat_tests}
 use Rattle.std.proofs.lemmas.List.{length-map}
 use Rattle.std.proofs.lemmas.List.Sums.{sum_by-append, sum_by-cons}
-use Rattle.std.specs.Prelude.{◌==◌, nat_le, sum_by, count_by, Option, Some}
+use Rattle.std.specs.Prelude.{◌==◌, ◌&&◌, nat_le, sum_by, count_by, Option, Some}
 use Rattle.std.specs.Option.{option_map_or}
 use Rattle.std.specs.List.{find, AllByRecursion}
 use Rattle.upd_text.specs.declared.limits.TheConstants.{MAX_HELD, MAX_INTRODUCED, MAX_CARDS, MAX_ENTRIES, MAX_TARGETS}
@@ -27,7 +27,7 @@ use Rattle.upd_correction_laws.proofs.DeckLemmas.{IsFor, all_still, others_of}
 use Rattle.upd_correction_laws.proofs.FrameLemmas.{with_deck_of}
 use Rattle.upd_correction_laws.proofs.LimitLemmas.{entries, entries_append}
 use Rattle.upd_correction_laws.proofs.RunLemmas.{all_for}
-use Rattle.upd_correct.specs.Growth.{added_by, cards_added_by, cards_gone_by, cards_of_new, gone_by}
+use Rattle.upd_correct.specs.Growth.{added_by, cards_added_by, cards_gone_by, cards_of_new, fits, gone_by, has_room}
 
 -- ---- sizes
 
@@ -330,3 +330,70 @@ room_within l e i c a b g n sound is within of_i of_a of_b of_g of_c of_n idents
   where
     sum : c ≡ capped (capped (cards_added_by e.corrections) + capped (cards_of_new e.added))
     sum = of_c ∙ ap (λ a. capped (a + b)) of_a ∙ ap (λ b. capped (capped (cards_added_by e.corrections) + b)) of_b
+
+-- ---- whether there is room
+
+-- a test of a sum that saturates is that of the sum
+same_test : (k n m x : ℕ) → m < 2 ^ 64 - 1 → x ≡ capped n → nat_le (k + x) m ≡ nat_le (k + n) m
+same_test k n m x small e = go (nat_le (k + x) m) refl (nat_le (k + n) m) refl
+  where
+    go : (b : Bool) → nat_le (k + x) m ≡ b → (c : Bool) → nat_le (k + n) m ≡ c → nat_le (k + x) m ≡ nat_le (k + n) m
+    go true f true g = f ∙ sym g
+    go false f false g = f ∙ sym g
+    go true f false g = absurd (grind (arith, nat_tests))
+    go false f true g = absurd (grind (arith, nat_tests))
+
+pub room_as_counted : (l : LibraryView) (e : Edit) (i c n a b g : ℕ) → i ≡ capped (length e.added + 1) → a ≡ capped (cards_added_by e.corrections)
+    → b ≡ capped (cards_of_new e.added) → g ≡ capped (cards_gone_by e.corrections) → c ≡ capped (a + b) → n ≡ capped (c + g) → fits l i c n ≡ has_room l e
+room_as_counted l e i c n a b g of_i of_a of_b of_g of_c of_n = λ j.
+    is_within_limits l && idents j && held j && cards j && entries j
+  where
+    one : i ≡ capped (1 + length e.added)
+    one = of_i ∙ ap capped (let e : length e.added + 1 ≡ 1 + length e.added = omega arith in e)
+
+    sum : c ≡ capped (cards_added_by e.corrections + cards_of_new e.added)
+    sum = omega (arith, of_a, of_b, of_c)
+
+    all : n ≡ capped (cards_added_by e.corrections + cards_of_new e.added + cards_gone_by e.corrections)
+    all = let s = sum in omega (arith, of_g, of_n, s)
+
+    idents : nat_le (length l.idents + i) MAX_INTRODUCED ≡ nat_le (length l.idents + (1 + length e.added)) MAX_INTRODUCED
+    idents = same_test (length l.idents) (1 + length e.added) MAX_INTRODUCED i (omega arith) one
+
+    held : nat_le (held_count l + i) MAX_HELD ≡ nat_le (held_count l + (1 + length e.added)) MAX_HELD
+    held = same_test (held_count l) (1 + length e.added) MAX_HELD i (omega arith) one
+
+    cards : nat_le (card_count l + c) MAX_CARDS ≡ nat_le (card_count l + (cards_added_by e.corrections + cards_of_new e.added)) MAX_CARDS
+    cards = same_test (card_count l) (cards_added_by e.corrections + cards_of_new e.added) MAX_CARDS c (omega arith) sum
+
+    entries : nat_le (entry_count l + n) MAX_ENTRIES
+        ≡ nat_le (entry_count l + (cards_added_by e.corrections + cards_of_new e.added + cards_gone_by e.corrections)) MAX_ENTRIES
+    entries = same_test (entry_count l) (cards_added_by e.corrections + cards_of_new e.added + cards_gone_by e.corrections) MAX_ENTRIES n (omega arith) all
+
+-- what a library that fits a growth has room for
+pub record HasPlace (l : LibraryView) (i c n : ℕ) : Type 0 where
+  pub limits : is_within_limits l ≡ true
+  pub idents : length l.idents + i ≤ MAX_INTRODUCED
+  pub held : held_count l + i ≤ MAX_HELD
+  pub cards : card_count l + c ≤ MAX_CARDS
+  pub entries : entry_count l + n ≤ MAX_ENTRIES
+
+and_five : (w a b c d : Bool) → (w && a && b && c && d) ≡ true → (w ≡ true) × (a ≡ true) × (b ≡ true) × (c ≡ true) × (d ≡ true)
+and_five true true true true true e = (refl, refl, refl, refl, refl)
+and_five true true true true false e = absurd (cc)
+and_five true true true false d e = absurd (cc)
+and_five true true false c d e = absurd (cc)
+and_five true false b c d e = absurd (cc)
+and_five false a b c d e = absurd (cc)
+
+pub has_place : (l : LibraryView) (i c n : ℕ) → fits l i c n ≡ true → HasPlace l i c n
+has_place l i c n e =
+    let parts = and_five (is_within_limits l) (nat_le (length l.idents + i) MAX_INTRODUCED) (nat_le (held_count l + i) MAX_HELD)
+    (nat_le (card_count l + c) MAX_CARDS) (nat_le (entry_count l + n) MAX_ENTRIES) e in
+    record {
+      limits = parts.0;
+      idents = is_small _ _ parts.1;
+      held = is_small _ _ parts.2;
+      cards = is_small _ _ parts.3;
+      entries = is_small _ _ parts.4;
+    }

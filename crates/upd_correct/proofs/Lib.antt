@@ -4,4 +4,6 @@ pub mod ScriptLemmas
 pub mod WriteLemmas
 pub mod GrowthLemmas
 pub mod PlanLemmas
+pub mod ReadDeckLemmas
 pub mod CorrectLemmas
+pub mod CauseLemmas

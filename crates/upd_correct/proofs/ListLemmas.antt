@@ -113,6 +113,11 @@ mapped_more f front xs i d within =
     append_assoc front (map f (take i xs)) (f (get_or xs i d) ∷ [])
     ∙ ap (λ x. front ++ x) (sym (ap (map f) (take_more xs i d within) ∙ map-append f (take i xs) (get_or xs i d ∷ [])))
 
+pub taken_count : {X A : Type 0} (f : X → A) (xs : List X) (i : ℕ) → i < length xs → length (map f (take i xs)) ≡ i
+taken_count f [] i within = absurd (omega (arith, within))
+taken_count f (x ∷ xs) zero within = refl
+taken_count f (x ∷ xs) (suc i) within = ap suc (taken_count f xs i (omega (arith, within)))
+
 pub all_mapped_at : {X A : Type 0} (P : A → Type 0) (f : X → A) (xs : List X) (i : ℕ) (d : X) → i < length xs → AllByRecursion P (map f xs)
     → P (f (get_or xs i d))
 all_mapped_at P f [] i d within all = absurd (omega (arith, within))

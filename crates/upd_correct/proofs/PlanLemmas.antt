@@ -2,11 +2,10 @@
 use Rattle.std.proofs.Common.{◌≡◌, ℕ, ◌+◌, ◌-◌, ◌<◌, Bool, true, false, cond, List, [], ◌∷◌, ◌++◌, map, length, take, drop, get_or, slice_get, refl, sym, ap, ◌∙◌, subst, arith}
 use Rattle.std.proofs.Common.{append_assoc, append-nil}
 use Rattle.std.proofs.lemmas.Bool.{ne_eqb}
-use Rattle.std.proofs.lemmas.List.{map-append, take_more}
 use Rattle.std.proofs.lemmas.List.Elements.{filter_more}
 use Rattle.std.proofs.lemmas.Option.{same_Some, slice_get_read}
 use Rattle.std.proofs.lemmas.Slice.Eq.{bytes_eq-Decides}
-use Rattle.std.specs.Prelude.{◌==◌, not, IsTrue, Option, Some, None, is_some}
+use Rattle.std.specs.Prelude.{◌==◌, not, ◌||◌, IsTrue, Option, Some, None, is_some}
 use Rattle.std.specs.Option.{option_map_or}
 use Rattle.std.specs.Str.{bytes_eq}
 use Rattle.std.specs.List.{find, flat_map, list_any, AllByRecursion, AllZip, Contains}
@@ -22,7 +21,7 @@ use Rattle.upd_apply.specs.Names.{is_reserved}
 use Rattle.upd_laws.proofs.SoundListLemmas.{all_each, all_map, all_weaker, apart_end, or_none_left, or_none_right, same_number}
 use Rattle.upd_correction_laws.specs.Corrections.{Correction, Edit, IsCorrectionOf, IsEditOf, IsNewDeckOf, NewDeck, Segment}
 use Rattle.upd_correction_laws.specs.Corrections.{new_deck_lines}
-use Rattle.upd_correction_laws.specs.RunLines.{IsSpelled}
+use Rattle.upd_correction_laws.specs.RunLines.{IsSpelled, RunLine}
 use Rattle.upd_correct.specs.Plans.{AreCorrectionsFor, IsCorrectionFor, IsEditedDeck, held_decks, new_decks}
 use Rattle.upd_correct.specs.Problems.{HasNoProblem, deck_problem, first_problem, name_problem, set_problem}
 use Rattle.upd_correct.specs.EditedText.{card_line, texts_of}
@@ -36,46 +35,57 @@ abbrev pub HasNoOwnProblem : LibraryView → List ℕ → NewDeck → Type 0
 HasNoOwnProblem l set d =
     option_map_or (λ deck. first_problem (live_targets l) deck d.first (cards_of deck l)) (deck_of d.name l) (name_problem l set d.name) ≡ None
 
-no_problem_parts : (l : LibraryView) (set : List ℕ) (earlier : List NewDeck) (d : NewDeck) → deck_problem l set earlier d ≡ None
-    → (list_any (λ e. bytes_eq e.name d.name) earlier ≡ false) × HasNoOwnProblem l set d
-no_problem_parts l set earlier d e = go (list_any (λ e. bytes_eq e.name d.name) earlier) refl
+no_problem_parts : (l : LibraryView) (set : List ℕ) (names : List (List ℕ)) (d : NewDeck) → deck_problem l set names d ≡ None
+    → (list_any (λ name. bytes_eq name d.name) names ≡ false) × HasNoOwnProblem l set d
+no_problem_parts l set names d e = go (list_any (λ name. bytes_eq name d.name) names) refl
   where
-    go : (b : Bool) → list_any (λ e. bytes_eq e.name d.name) earlier ≡ b
-        → (list_any (λ e. bytes_eq e.name d.name) earlier ≡ false) × HasNoOwnProblem l set d
+    go : (b : Bool) → list_any (λ name. bytes_eq name d.name) names ≡ b
+        → (list_any (λ name. bytes_eq name d.name) names ≡ false) × HasNoOwnProblem l set d
     go true f = let bad = rw f at e in absurd (cc)
     go false f = (f, rw f at e)
 
-pub all_own : (l : LibraryView) (set : List ℕ) (earlier decks : List NewDeck) → HasNoProblem l set earlier decks → AllByRecursion (HasNoOwnProblem l set) decks
-all_own l set earlier [] none = tt
-all_own l set earlier (d ∷ decks) none = ((no_problem_parts l set earlier d none.0).1, all_own l set (earlier ++ d ∷ []) decks none.1)
+pub all_own : (l : LibraryView) (set : List ℕ) (names : List (List ℕ)) (decks : List NewDeck) → HasNoProblem l set names decks
+    → AllByRecursion (HasNoOwnProblem l set) decks
+all_own l set names [] none = tt
+all_own l set names (d ∷ decks) none = ((no_problem_parts l set names d none.0).1, all_own l set (names ++ d.name ∷ []) decks none.1)
 
 same_bytes : (xs ys : List ℕ) → bytes_eq xs ys ≡ false → xs ≡ ys → ⊥
 same_bytes xs ys e same = let equal = (bytes_eq-Decides xs ys).1 same in absurd (cc)
 
-not_among : (name : List ℕ) (earlier : List NewDeck) → list_any (λ e. bytes_eq e.name name) earlier ≡ false
-    → AllByRecursion (λ y. name ≡ y → ⊥) (map (λ d. d.name) earlier)
+not_among : (name : List ℕ) (names : List (List ℕ)) → list_any (λ n. bytes_eq n name) names ≡ false → AllByRecursion (λ y. name ≡ y → ⊥) names
 not_among name [] e = tt
-not_among name (d ∷ earlier) e = (
-  λ same. same_bytes d.name name (or_none_left _ (list_any (λ e. bytes_eq e.name name) earlier) e) (sym same),
-  not_among name earlier (or_none_right (bytes_eq d.name name) _ e),
+not_among name (n ∷ names) e = (
+  λ same. same_bytes n name (or_none_left _ (list_any (λ n. bytes_eq n name) names) e) (sym same),
+  not_among name names (or_none_right (bytes_eq n name) _ e),
 )
 
-names_apart : (l : LibraryView) (set : List ℕ) (earlier decks : List NewDeck) → AreApart (map (λ d. d.name) earlier) → HasNoProblem l set earlier decks
-    → AreApart (map (λ d. d.name) (earlier ++ decks))
-names_apart l set earlier [] apart none = subst (λ ds. AreApart (map (λ (d : NewDeck). d.name) ds)) (sym (append-nil earlier)) apart
-names_apart l set earlier (d ∷ decks) apart none =
-    subst (λ ds. AreApart (map (λ (d : NewDeck). d.name) ds)) (append_assoc earlier (d ∷ []) decks)
-    (names_apart l set (earlier ++ d ∷ []) decks
-    (subst AreApart (sym (map-append (λ (d : NewDeck). d.name) earlier (d ∷ [])))
-    (apart_end d.name (map (λ d. d.name) earlier) apart (not_among d.name earlier (no_problem_parts l set earlier d none.0).0)))
-    none.1)
+names_apart : (l : LibraryView) (set : List ℕ) (names : List (List ℕ)) (decks : List NewDeck) → AreApart names → HasNoProblem l set names decks
+    → AreApart (names ++ map (λ d. d.name) decks)
+names_apart l set names [] apart none = subst AreApart (sym (append-nil names)) apart
+names_apart l set names (d ∷ decks) apart none =
+    subst AreApart (append_assoc names (d.name ∷ []) (map (λ d. d.name) decks))
+    (names_apart l set (names ++ d.name ∷ []) decks (apart_end d.name names apart (not_among d.name names (no_problem_parts l set names d none.0).0)) none.1)
 
 -- one more deck without a problem
-pub no_problem_more : (l : LibraryView) (set : List ℕ) (earlier decks : List NewDeck) (d : NewDeck) → HasNoProblem l set earlier decks
-    → deck_problem l set (earlier ++ decks) d ≡ None → HasNoProblem l set earlier (decks ++ d ∷ [])
-no_problem_more l set earlier [] d none e = (ap (λ ds. deck_problem l set ds d) (sym (append-nil earlier)) ∙ e, tt)
-no_problem_more l set earlier (f ∷ decks) d none e =
-    (none.0, no_problem_more l set (earlier ++ f ∷ []) decks d none.1 (ap (λ ds. deck_problem l set ds d) (append_assoc earlier (f ∷ []) decks) ∙ e))
+pub no_problem_more : (l : LibraryView) (set : List ℕ) (names : List (List ℕ)) (decks : List NewDeck) (d : NewDeck) → HasNoProblem l set names decks
+    → deck_problem l set (names ++ map (λ d. d.name) decks) d ≡ None → HasNoProblem l set names (decks ++ d ∷ [])
+no_problem_more l set names [] d none e = (ap (λ names. deck_problem l set names d) (sym (append-nil names)) ∙ e, tt)
+no_problem_more l set names (f ∷ decks) d none e = (
+  none.0,
+  no_problem_more l set (names ++ f.name ∷ []) decks d none.1
+      (ap (λ names. deck_problem l set names d) (append_assoc names (f.name ∷ []) (map (λ d. d.name) decks)) ∙ e),
+)
+
+-- the last deck gets lines
+pub no_problem_grown : (l : LibraryView) (set : List ℕ) (names : List (List ℕ)) (front : List NewDeck) (d : NewDeck) (lines : List RunLine)
+    → HasNoProblem l set names (front ++ d ∷ []) → HasNoProblem l set names (front ++ record d { lines = lines } ∷ [])
+no_problem_grown l set names [] d lines none = (none.0, tt)
+no_problem_grown l set names (f ∷ front) d lines none = (none.0, no_problem_grown l set (names ++ f.name ∷ []) front d lines none.1)
+
+-- a deck has a name where the name is among those of the decks
+pub any_named : (name : List ℕ) (decks : List NewDeck) → list_any (λ n. bytes_eq n name) (map (λ d. d.name) decks) ≡ list_any (λ d. bytes_eq d.name name) decks
+any_named name [] = refl
+any_named name (d ∷ decks) = ap (λ b. bytes_eq d.name name || b) (any_named name decks)
 
 -- ---- a held deck
 
@@ -324,12 +334,6 @@ correction_for l set decks i a d c within e none spelled held same script = reco
 
     own_lines : AllByRecursion IsSpelled (new_deck_lines d)
     own_lines = all_at (λ d. AllByRecursion IsSpelled (new_deck_lines d)) decks i d (all_each IsSpelled new_deck_lines decks spelled) at
-
-pub no_problem_next : (l : LibraryView) (set : List ℕ) (decks : List NewDeck) (i : ℕ) (d : NewDeck) → i < length decks → d ≡ get_or decks i d
-    → HasNoProblem l set [] (take i decks) → deck_problem l set (take i decks) d ≡ None → HasNoProblem l set [] (take (i + 1) decks)
-no_problem_next l set decks i d within e none one =
-    subst (HasNoProblem l set []) (sym (take_more decks i d within ∙ ap (λ (x : NewDeck). take i decks ++ x ∷ []) (sym e)))
-    (no_problem_more l set [] (take i decks) d none one)
 
 -- ---- a script for a held deck
 

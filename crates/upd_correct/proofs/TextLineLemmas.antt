@@ -3,7 +3,7 @@ use Rattle.std.proofs.Common.{◌≡◌, ℕ, zero, suc, ◌+◌, ◌<◌, Bool,
 use Rattle.std.proofs.Common.{append-nil, append_assoc}
 use Rattle.std.proofs.lemmas.List.{take_more}
 use Rattle.std.proofs.lemmas.List.Concat.{flat_map-append}
-use Rattle.std.specs.Prelude.{Ok}
+use Rattle.std.specs.Prelude.{None, Ok}
 use Rattle.std.specs.List.{flat_map, AllByRecursion, AllZip}
 use Rattle.upd_text.specs.Lines.{called, is_call}
 use Rattle.upd_deck.specs.Items.{ItemView, LineView, Text, Call}
@@ -16,7 +16,10 @@ use Rattle.upd_laws.proofs.SoundListLemmas.{all_append}
 use Rattle.upd_correction_laws.specs.Corrections.{IsCardItem, IsCardLine, NewDeck, first_line, new_deck_lines}
 use Rattle.upd_correction_laws.specs.RunLines.{IsSpelled, RunLine, written}
 use Rattle.upd_correct.specs.EditedText.{IsReadAs, begun_with, card_line, lines_in}
+use Rattle.upd_correct.specs.LineReads.{HasReading}
 use Rattle.upd_correct.specs.Plans.{IsEditedDeck}
+use Rattle.upd_correct.specs.Problems.{item_problem, line_problem}
+use Rattle.upd_correct.specs.Refusals.{head_by_item, head_read}
 
 -- ---- lines
 
@@ -117,6 +120,20 @@ read_card bytes read e is =
     let spelled = read_spelled bytes (read ∷ []) e in
     let own : IsSpelled (written read) = spelled.0 in
     (read, e, said_card read.text read.item is own.item)
+
+-- it has no problem alone, and begins no deck
+pub card_reading : (bytes : List ℕ) (read : LineView) → reading bytes ≡ Ok (read ∷ []) → IsCardItem read.item → HasReading bytes None None
+card_reading bytes read e is = (ap line_problem e ∙ no_problem read.item is, ap head_read e ∙ no_head read.text read.item is)
+  where
+    no_problem : (item : ItemView) → IsCardItem item → item_problem item ≡ None
+    no_problem Text is = refl
+    no_problem (Call name) is = refl
+    no_problem _ is = absurd is
+
+    no_head : (text : List ℕ) (item : ItemView) → IsCardItem item → head_by_item text item ≡ None
+    no_head text Text is = refl
+    no_head text (Call name) is = refl
+    no_head text _ is = absurd is
 
 -- ---- decks grow line by line
 

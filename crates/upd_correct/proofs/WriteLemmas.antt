@@ -1,10 +1,9 @@
 -- Lines are written one after another.
-use Rattle.std.proofs.Common.{◌≡◌, ℕ, ◌+◌, ◌<◌, ◌≤◌, false, List, [], ◌∷◌, ◌++◌, map, length, take, get_or, refl, sym, ap, ◌∙◌, subst, arith, append_assoc}
+use Rattle.std.proofs.Common.{◌≡◌, ℕ, ◌+◌, ◌<◌, false, List, [], ◌∷◌, ◌++◌, map, length, take, get_or, refl, sym, ap, ◌∙◌, subst, arith, append_assoc}
 use Rattle.std.proofs.Common.{length-append}
 use Rattle.std.proofs.lemmas.List.{map-append, take_more}
 use Rattle.std.proofs.lemmas.List.Concat.{flat_map-append}
 use Rattle.std.specs.Prelude.{◌==◌}
-use Rattle.upd_text.specs.declared.limits.TheConstants.{MAX_RUN_LINES}
 use Rattle.upd_core.specs.declared.ident.Ident.{Ident}
 use Rattle.upd_core.specs.Library.{CardView, ref_of}
 use Rattle.upd_correction_laws.specs.Corrections.{insertion}
@@ -15,7 +14,7 @@ pub writes_then : (a b c : RunView) (xs ys : List RunLine) → Writes a b xs →
 writes_then a b c xs ys first second = record {
   bytes = second.bytes ∙ ap (λ bytes. bytes ++ run_of ys) first.bytes ∙ append_assoc a.bytes (run_of xs) (run_of ys)
       ∙ ap (λ bytes. a.bytes ++ bytes) (sym (flat_map-append (λ (line : RunLine). line.text ++ 10 ∷ []) xs ys));
-  room = let x = first.room in let y = second.room in omega (arith, length-append xs ys);
+  count = let x = first.count in let y = second.count in omega (arith, length-append xs ys);
 }
 
 -- ---- one more of several
@@ -31,8 +30,3 @@ pub some_insertion : {X : Type 0} (g : X → RunLine) (idents : List Ident) (car
     → insertion idents card (map g xs) ≡ insert_line (ref_of idents card) ∷ map g xs
 some_insertion g idents card [] e = absurd (cc)
 some_insertion g idents card (x ∷ xs) e = refl
-
--- what is written to an empty run
-pub all_written : (run : RunView) (lines : List RunLine) → Writes (record { bytes = []; room = MAX_RUN_LINES }) run lines
-    → (run.bytes ≡ run_of lines) × (length lines ≤ MAX_RUN_LINES)
-all_written run lines is = (is.bytes, let room = is.room in omega arith)

@@ -1,8 +1,11 @@
 pub mod EditedText
 pub mod Scripts
 pub mod Problems
+pub mod Refusals
 pub mod LineReads
 pub mod Plans
+pub mod ReadDecks
 pub mod Writing
 pub mod Correcting
 pub mod Growth
+pub mod Causes

@@ -1,5 +1,5 @@
 -- Why an edited text is refused.
-use Rattle.std.specs.Prelude.{◌≡◌, ℕ, ◌+◌, ◌==◌, Bool, true, false, not, ◌||◌, if◌then◌else◌, List, [], ◌∷◌, ◌++◌, length, Option, Some, None, is_some, Result, Ok, Err}
+use Rattle.std.specs.Prelude.{◌≡◌, ℕ, ◌+◌, not, ◌||◌, if◌then◌else◌, List, [], ◌∷◌, ◌++◌, length, Option, Some, None, is_some, Result, Ok, Err}
 use Rattle.std.specs.Option.{option_map_or}
 use Rattle.std.specs.List.{list_any}
 use Rattle.std.specs.Str.{bytes_eq}
@@ -64,10 +64,10 @@ abbrev pub name_problem : LibraryView → Bytes → Bytes → Option Problem
 name_problem l set name =
     if is_reserved name then Some Reserved else if is_some (held_named name l.idents) || bytes_eq name set then Some NameTaken else None
 
--- what is wrong with a deck that follows others in the text
-abbrev pub deck_problem : LibraryView → Bytes → List NewDeck → NewDeck → Option Problem
-deck_problem l set earlier d =
-    if list_any (λ e. bytes_eq e.name d.name) earlier
+-- what is wrong with a deck that follows decks of these names in the text
+abbrev pub deck_problem : LibraryView → Bytes → List Bytes → NewDeck → Option Problem
+deck_problem l set names d =
+    if list_any (λ name. bytes_eq name d.name) names
     then Some DeckTwice
     else option_map_or (λ deck. first_problem (live_targets l) deck d.first (cards_of deck l)) (deck_of d.name l) (name_problem l set d.name)
 
@@ -78,7 +78,7 @@ set_problem l set =
     then (if is_reserved set then Some Reserved else if is_some (held_named set l.idents) then Some NameTaken else None)
     else Some BadName
 
--- no deck has a problem
-abbrev pub HasNoProblem : LibraryView → Bytes → List NewDeck → List NewDeck → Type 0
-HasNoProblem l set earlier [] = Unit {0}
-HasNoProblem l set earlier (d ∷ decks) = (deck_problem l set earlier d ≡ None) × HasNoProblem l set (earlier ++ d ∷ []) decks
+-- no deck has a problem, after decks of these names
+abbrev pub HasNoProblem : LibraryView → Bytes → List Bytes → List NewDeck → Type 0
+HasNoProblem l set names [] = Unit {0}
+HasNoProblem l set names (d ∷ decks) = (deck_problem l set names d ≡ None) × HasNoProblem l set (names ++ d.name ∷ []) decks

@@ -2,18 +2,19 @@
 use Rattle.std.specs.Prelude.{◌≡◌, ℕ, ◌+◌, ◌==◌, Bool, not, ◌||◌, List, ◌++◌, length}
 use Rattle.std.specs.List.{list_any}
 use Rattle.upd_text.specs.Units.{Bytes}
+use Rattle.upd_core.specs.Counts.{capped}
 use Rattle.upd_correction_laws.specs.Corrections.{Correction, Segment}
 use Rattle.upd_correction_laws.specs.RunLines.{RunLine, run_of}
 
--- A run so far: its bytes, and how many more lines it has room for.
+-- A run so far: its bytes, and the number of its lines, up to the greatest that a machine counts.
 pub record RunView : Type 0 where
   pub bytes : Bytes
-  pub room : ℕ
+  pub lines : ℕ
 
 -- Lines are appended to a run.
 pub record Writes (old new : RunView) (lines : List RunLine) : Type 0 where
   pub bytes : new.bytes ≡ old.bytes ++ run_of lines
-  pub room : new.room + length lines ≡ old.room
+  pub count : capped new.lines ≡ capped (old.lines + length lines)
 
 -- whether a segment changes its deck
 abbrev pub is_changed_segment : Segment → Bool

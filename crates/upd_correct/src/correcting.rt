@@ -1,8 +1,9 @@
 //! From an edited text to a run.
 
-ghost use Rattle.std.specs.Prelude.{◌≡◌, ◌≤◌, ℕ, [], List, length, map, false, None, IfOk, IsErr, IsTrue, OnOk};
+ghost use Rattle.std.specs.Prelude.{◌≡◌, ◌≤◌, ℕ, [], List, length, map, false, None, IfErr, IfOk, IsErr, IsTrue, OnOk};
 ghost use Rattle.std.specs.List.{AllByRecursion, list_any};
 ghost use Rattle.upd_text.specs.declared.limits.TheConstants.{MAX_RUN_BYTES, MAX_RUN_LINES};
+ghost use Rattle.upd_core.specs.Library.{LibraryView};
 ghost use Rattle.upd_core.specs.Limits.{is_within_limits};
 ghost use Rattle.upd_core.specs.Sound.{IsSound};
 ghost use Rattle.upd_core.specs.Status.{live_of};
@@ -10,21 +11,23 @@ ghost use Rattle.upd_laws.specs.ReadRuns.{HasLineTexts};
 ghost use Rattle.upd_correction_laws.specs.Corrected.{edited};
 ghost use Rattle.upd_correction_laws.specs.Corrections.{IsEditOf, edit_lines};
 ghost use Rattle.upd_correction_laws.specs.RunLines.{run_of};
+ghost use Rattle.upd_correct.specs.Causes.{IsCause, IsEditFor, IsRunProblem};
 ghost use Rattle.upd_correct.specs.Correcting.{CorrectsTo};
 ghost use Rattle.upd_correct.specs.EditedText.{HasDecks};
 ghost use Rattle.upd_correct.specs.Plans.{IsEditedDeck};
 ghost use Rattle.upd_correct.specs.Problems.{HasNoProblem, set_problem};
+ghost use Rattle.upd_correct.specs.Refusals.{refusals_at, refusals_of};
 ghost use Rattle.upd_correct.specs.Writing.{is_changed, is_changed_segment};
 
 use crate::edited_deck::{EditedDeck, read_decks, refuse};
-use crate::plan::{Correction, added_decks, check_decks, corrections_for, set_problem};
-use crate::refusal::{CorrectError, Problem};
+use crate::plan::{Correction, added_decks, corrections_for, set_problem};
+use crate::refusal::{CorrectError, Problem, Refusal};
 use crate::room::has_room;
 use crate::script::Segment;
-use crate::writer::{WriteError, write_run};
-use std::alloc::Global;
+use crate::writer::write_run;
+use std::alloc::{AllocError, Global};
 use upd_core::{Library, Live};
-use upd_text::limits::MAX_RUN_BYTES;
+use upd_text::limits::{MAX_RUN_BYTES, MAX_RUN_LINES};
 
 /// The run that leads the decks of an edited text to it, under the name of a new set. Where nothing changes, the run
 /// is empty.
@@ -37,23 +40,31 @@ pub fn correct(
     set: &[u8],
     text: &[u8],
 ) -> Result<Vec<u8>, CorrectError>
-    ensures { IsSound library.now → HasLineTexts library.now
+    ensures corrects { IsSound library.now → HasLineTexts library.now
         → IfOk result (λ run. CorrectsTo library.now set.now text.now run.items) }
+    ensures clean { OnOk result (refusals_of library.now set.now text.now ≡ []) }
+    ensures refused { IfErr result (IsCause library.now set.now text.now) }
 {
     let Ok(live) = library.live_yanks() else {
         return Err(CorrectError::NoMemory);
     };
+    let mut refusals = set_refusals(alloc, library, set)?;
+    let decks = read_decks(alloc, library, &live, set, text, &mut refusals)?;
+    if !refusals.is_empty() {
+        return Err(CorrectError::Refused(refusals));
+    }
+    run_for(alloc, library, &live, set, &decks)
+}
+
+/// The refusal of the name of a set, if there is a problem with it.
+fn set_refusals(alloc: Global, library: &Library, set: &[u8]) -> Result<Vec<Refusal>, AllocError>
+    ensures { IfOk result (λ refusals. refusals.items ≡ refusals_at 0 0 (set_problem library.now set.now)) }
+{
     let mut refusals = Vec::new(alloc);
     if let Some(problem) = set_problem(library, set) {
         refuse(&mut refusals, 0, 0, problem)?;
     }
-    let decks = read_decks(alloc, text, &mut refusals)?;
-    check_decks(library, &live, set, &decks, &mut refusals)?;
-    if !refusals.is_empty() {
-        refusals.sort_by_key(|refusal| refusal.line)?;
-        return Err(CorrectError::Refused(refusals));
-    }
-    run_for(alloc, library, &live, set, &decks)
+    Ok(refusals)
 }
 
 /// The run for decks without problems.
@@ -65,18 +76,22 @@ fn run_for(
     decks: &[EditedDeck],
 ) -> Result<Vec<u8>, CorrectError>
     requires { live.now ≡ live_of library.now }
-    ensures { (text : List ℕ) → IsSound library.now → HasLineTexts library.now
+    ensures corrects { (text : List ℕ) → IsSound library.now → HasLineTexts library.now
         → set_problem library.now set.now ≡ None → HasDecks text decks.now
         → AllByRecursion IsEditedDeck decks.now → HasNoProblem library.now set.now [] decks.now
         → IfOk result (λ run. CorrectsTo library.now set.now text run.items) }
+    ensures refused { (text : List ℕ) → refusals_of library.now set.now text ≡ [] → HasDecks text decks.now
+        → HasNoProblem library.now set.now [] decks.now → IfErr result (IsCause library.now set.now text) }
 {
     let corrections = corrections_for(alloc, library, live, decks)?;
     let added = added_decks(alloc, library, decks)?;
     if is_unchanged(&corrections, &added) {
         return Ok(Vec::new(alloc));
     }
-    let run = changed_run(alloc, library, set, &corrections, &added)?;
-    Ok(run)
+    match changed_run(alloc, library, set, &corrections, &added) {
+        Ok(run) => Ok(run),
+        Err(error) => Err(error),
+    }
 }
 
 /// The run that corrects decks and introduces others, if the limits allow it.
@@ -96,16 +111,22 @@ fn changed_run(
         → IsEditOf library.now (record { set = set.now; corrections = corrections.now; added = map (λ d. d.now) added.now })
         → OnOk result (IsTrue (is_within_limits (edited
         (record { set = set.now; corrections = corrections.now; added = map (λ d. d.now) added.now }) library.now))) }
+    ensures refused { (text : List ℕ) → refusals_of library.now set.now text ≡ []
+        → IsEditFor library.now set.now text
+        (record { set = set.now; corrections = corrections.now; added = map (λ d. d.now) added.now })
+        → IfErr result (IsCause library.now set.now text) }
 {
     if !has_room(library, corrections, added) {
         return refused(alloc, Problem::Full);
     }
-    match write_run(alloc, library.idents(), set, corrections, added) {
-        Ok(run) if run.len() <= MAX_RUN_BYTES => Ok(run),
-        Ok(_) => refused(alloc, Problem::RunLong),
-        Err(WriteError::TooManyLines) => refused(alloc, Problem::TooManyLines),
-        Err(WriteError::NoMemory) => Err(CorrectError::NoMemory),
+    let run = write_run(alloc, library.idents(), set, corrections, added)?;
+    if run.lines > MAX_RUN_LINES {
+        return refused(alloc, Problem::TooManyLines);
     }
+    if run.bytes.len() > MAX_RUN_BYTES {
+        return refused(alloc, Problem::RunLong);
+    }
+    Ok(run.bytes)
 }
 
 /// Whether these corrections and new decks change nothing.
@@ -144,7 +165,9 @@ fn is_changed_segment(segment: &Segment) -> bool
 
 /// The error of a run that can't be, for a problem that is not one of a line.
 fn refused(alloc: Global, problem: Problem) -> Result<Vec<u8>, CorrectError>
-    ensures { IsErr result }
+    ensures err { IsErr result }
+    ensures refused { (text set : List ℕ) (l : LibraryView) → refusals_of l set text ≡ [] → IsRunProblem l set text problem
+        → IfErr result (IsCause l set text) }
 {
     let mut refusals = Vec::new(alloc);
     refuse(&mut refusals, 0, 0, problem)?;

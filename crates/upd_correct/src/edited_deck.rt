@@ -1,25 +1,24 @@
 //! Decks of an edited text.
 
-ghost use Rattle.std.specs.Prelude.{◌≡◌, ◌++◌, ◌∷◌, [], false, List, map, IfOk, OnOk, OnErr};
-ghost use Rattle.std.specs.List.{flat_map, AllByRecursion, AllZip};
+ghost use Rattle.std.specs.Prelude.{◌≡◌, ◌+◌, ◌++◌, ◌∷◌, [], List, length, IfOk, OnOk, OnErr};
 ghost use Rattle.upd_text.specs.Units.{Bytes};
-ghost use Rattle.upd_correction_laws.specs.Corrections.{new_deck_lines};
-ghost use Rattle.upd_correct.specs.EditedText.{HasDecks, IsReadAs, card_line};
+ghost use Rattle.upd_core.specs.Status.{live_of};
+ghost use Rattle.upd_correct.specs.EditedText.{card_line, lines_in};
 ghost use Rattle.upd_correct.specs.LineReads.{IsTakenAs};
-ghost use Rattle.upd_correct.specs.Plans.{IsEditedDeck};
+ghost use Rattle.upd_correct.specs.ReadDecks.{AreReadFrom};
 
 use crate::edited_lines::cut_text;
+use crate::plan::check_deck;
 use crate::read_line::{LineRead, read_line};
 use crate::refusal::{Problem, Refusal};
 use std::alloc::{AllocError, Global};
 use std::marker::Model;
+use upd_core::{Library, Live};
 use upd_text::Name;
 
 /// A deck of an edited text.
 #[derive(Debug, Drop)]
 pub(crate) struct EditedDeck<'a> {
-    /// The number of its first line in the text, from 1.
-    pub(crate) number: usize,
     pub(crate) name: Name,
     pub(crate) common: bool,
     pub(crate) noprop: bool,
@@ -49,7 +48,6 @@ impl<'a> EditedDeck<'a> {
     /// A deck of one line.
     pub(crate) fn new(
         alloc: Global,
-        number: usize,
         name: Name,
         common: bool,
         noprop: bool,
@@ -58,7 +56,6 @@ impl<'a> EditedDeck<'a> {
         ensures { result ≡ record { name = name; common = common; noprop = noprop; first = first.now; lines = [] } }
     {
         EditedDeck {
-            number,
             name,
             common,
             noprop,
@@ -79,52 +76,44 @@ impl<'a> EditedDeck<'a> {
 /// The decks of an edited text. Each line with a problem adds a refusal.
 pub(crate) fn read_decks<'a>(
     alloc: Global,
+    library: &Library,
+    live: &Live,
+    set: &[u8],
     text: &'a [u8],
     refusals: &mut Vec<Refusal>,
 ) -> Result<Vec<EditedDeck<'a>>, AllocError>
-    ensures earlier { refusals.new.items ≡ [] → refusals.old.items ≡ [] }
-    ensures decks { refusals.new.items ≡ [] → IfOk result (λ decks. HasDecks text.now decks.items) }
-    ensures each { IfOk result (λ decks. AllByRecursion IsEditedDeck decks.items) }
+    requires { live.now ≡ live_of library.now }
+    ensures { IfOk result (λ decks.
+        AreReadFrom library.now set.now refusals.old.items (lines_in text.now) decks.items refusals.new.items) }
 {
     let lines = cut_text(alloc, text)?;
-    read_lines(alloc, &lines, refusals)
-}
-
-/// The decks that lines give. Each line with a problem adds a refusal.
-fn read_lines<'a>(
-    alloc: Global,
-    lines: &[&'a [u8]],
-    refusals: &mut Vec<Refusal>,
-) -> Result<Vec<EditedDeck<'a>>, AllocError>
-    ensures earlier { refusals.new.items ≡ [] → refusals.old.items ≡ [] }
-    ensures decks { refusals.new.items ≡ [] → IfOk result (λ decks.
-        AllZip IsReadAs (map (λ t. t.now) lines.now) (flat_map new_deck_lines decks.items)) }
-    ensures each { IfOk result (λ decks. AllByRecursion IsEditedDeck decks.items) }
-{
     let mut decks = Vec::new(alloc);
     for (i, line) in lines.iter().enumerate() {
-        let read = read_line(alloc, i + 1, line)?;
-        take_line(&mut decks, i + 1, read, refusals)?;
+        let read = read_line(alloc, line)?;
+        take_line(library, live, set, i + 1, read, &mut decks, refusals)?;
     }
     Ok(decks)
 }
 
-/// Adds a line to the decks that are read so far, or a refusal.
+/// Adds a line to the decks that are read so far, and a refusal if it has a problem.
 fn take_line<'a>(
-    decks: &mut Vec<EditedDeck<'a>>,
+    library: &Library,
+    live: &Live,
+    set: &[u8],
     number: usize,
     read: LineRead<'a>,
+    decks: &mut Vec<EditedDeck<'a>>,
     refusals: &mut Vec<Refusal>,
 ) -> Result<(), AllocError>
-    ensures earlier { refusals.new.items ≡ [] → refusals.old.items ≡ [] }
-    ensures decks { (lines : List Bytes) (bytes : Bytes) → refusals.new.items ≡ [] → IsTakenAs bytes read.entry
-        → AllZip IsReadAs lines (flat_map new_deck_lines decks.old.items)
-        → OnOk result (AllZip IsReadAs (lines ++ bytes ∷ []) (flat_map new_deck_lines decks.new.items)) }
-    ensures each { (bytes : Bytes) → IsTakenAs bytes read.entry → AllByRecursion IsEditedDeck decks.old.items
-        → OnOk result (AllByRecursion IsEditedDeck decks.new.items) }
+    requires { live.now ≡ live_of library.now }
+    ensures { (earlier : List Refusal) (lines : List Bytes) (bytes : Bytes) → number ≡ length lines + 1
+        → IsTakenAs bytes read.entry
+        → AreReadFrom library.now set.now earlier lines decks.old.items refusals.old.items
+        → OnOk result (AreReadFrom library.now set.now earlier (lines ++ bytes ∷ []) decks.new.items refusals.new.items) }
 {
     match read {
         LineRead::Head(deck) => {
+            check_deck(library, live, set, decks, &deck, number, refusals)?;
             decks.push(deck)?;
         }
         LineRead::Card(text) => match decks.pop() {

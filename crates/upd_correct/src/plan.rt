@@ -1,6 +1,6 @@
 //! Plans: the corrections of held decks, and the new decks.
 
-ghost use Rattle.std.specs.Prelude.{◌≡◌, ◌∷◌, [], ℕ, IsTrue, List, Some, None, IfOk, OnOk, map};
+ghost use Rattle.std.specs.Prelude.{◌≡◌, ◌∷◌, ◌++◌, [], ℕ, IsTrue, List, Some, None, IfOk, OnOk, map};
 ghost use Rattle.std.specs.List.{AllByRecursion, flat_map, list_any};
 ghost use Rattle.std.specs.Str.{bytes_eq};
 ghost use Rattle.upd_core.specs.Library.{cards_of};
@@ -11,6 +11,7 @@ ghost use Rattle.upd_correct.specs.EditedText.{card_line, texts_of};
 ghost use Rattle.upd_correct.specs.Plans.{AreCorrectionsFor, new_decks};
 ghost use Rattle.upd_correct.specs.Scripts.{IsScriptOf};
 ghost use Rattle.upd_correct.specs.Problems.{HasNoProblem, deck_problem, first_problem, name_problem, set_problem};
+ghost use Rattle.upd_correct.specs.Refusals.{refusals_at};
 
 use crate::edited_deck::{EditedDeck, refuse};
 use crate::matching::matches_of;
@@ -52,39 +53,22 @@ pub(crate) fn set_problem(library: &Library, set: &[u8]) -> Option<Problem>
     None
 }
 
-/// Adds a refusal for each deck with a problem.
-pub(crate) fn check_decks(
-    library: &Library,
-    live: &Live,
-    set: &[u8],
-    decks: &[EditedDeck],
-    refusals: &mut Vec<Refusal>,
-) -> Result<(), AllocError>
-    requires { live.now ≡ live_of library.now }
-    ensures earlier { refusals.new.items ≡ [] → refusals.old.items ≡ [] }
-    ensures none { refusals.new.items ≡ [] → OnOk result (HasNoProblem library.now set.now [] decks.now) }
-{
-    for (i, deck) in decks.iter().enumerate() {
-        check_deck(library, live, set, &decks[..i], deck, refusals)?;
-    }
-    Ok(())
-}
-
-/// Adds a refusal for a deck with a problem.
-fn check_deck(
+/// Adds a refusal for a deck with a problem, which follows others in the text and begins at a line.
+pub(crate) fn check_deck(
     library: &Library,
     live: &Live,
     set: &[u8],
     earlier: &[EditedDeck],
     deck: &EditedDeck,
+    line: usize,
     refusals: &mut Vec<Refusal>,
 ) -> Result<(), AllocError>
     requires { live.now ≡ live_of library.now }
-    ensures earlier { refusals.new.items ≡ [] → refusals.old.items ≡ [] }
-    ensures none { refusals.new.items ≡ [] → OnOk result (deck_problem library.now set.now earlier.now deck.now ≡ None) }
+    ensures { OnOk result (refusals.new.items ≡ refusals.old.items
+        ++ refusals_at line 1 (deck_problem library.now set.now (map (λ d. d.name) earlier.now) deck.now)) }
 {
     if let Some(problem) = deck_problem(library, live, set, earlier, deck) {
-        refuse(refusals, deck.number, 1, problem)?;
+        refuse(refusals, line, 1, problem)?;
     }
     Ok(())
 }
@@ -98,15 +82,22 @@ fn deck_problem(
     deck: &EditedDeck,
 ) -> Option<Problem>
     requires { live.now ≡ live_of library.now }
-    ensures { result ≡ deck_problem library.now set.now earlier.now deck.now }
+    ensures { result ≡ deck_problem library.now set.now (map (λ d. d.name) earlier.now) deck.now }
 {
-    if has_name(earlier, &deck.name) {
+    if is_among(earlier, &deck.name) {
         return Some(Problem::DeckTwice);
     }
     match library.deck_of(&deck.name) {
         Some(age) => first_problem(live, age, deck.first, library.cards_of(age)),
         None => name_problem(library, set, &deck.name),
     }
+}
+
+/// Whether a name is among those of these decks.
+fn is_among(decks: &[EditedDeck], name: &Name) -> bool
+    ensures { result ≡ list_any (λ n. bytes_eq n name.now) (map (λ d. d.name) decks.now) }
+{
+    has_name(decks, name)
 }
 
 /// Whether one of these decks has a name.

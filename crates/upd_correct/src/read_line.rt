@@ -26,11 +26,7 @@ pub(crate) enum LineRead<'a> {
 }
 
 /// Reads a line, given with its LF.
-pub(crate) fn read_line<'a>(
-    alloc: Global,
-    number: usize,
-    bytes: &'a [u8],
-) -> Result<LineRead<'a>, AllocError>
+pub(crate) fn read_line<'a>(alloc: Global, bytes: &'a [u8]) -> Result<LineRead<'a>, AllocError>
     ensures { IfOk result (IsTakenAs bytes.now) }
 {
     let run = match read_run(alloc, bytes) {
@@ -44,21 +40,21 @@ pub(crate) fn read_line<'a>(
     if lines.len() > 1 {
         return Ok(wrong(bytes, Problem::Directive));
     }
-    Ok(line_by_item(alloc, number, bytes, &lines[0]))
+    Ok(line_by_item(alloc, bytes, &lines[0]))
 }
 
 /// A line by its item.
-fn line_by_item<'a>(alloc: Global, number: usize, bytes: &[u8], line: &Line<'a>) -> LineRead<'a>
+fn line_by_item<'a>(alloc: Global, bytes: &[u8], line: &Line<'a>) -> LineRead<'a>
     ensures { reading bytes.now ≡ Ok (line.now ∷ []) → IsTakenAs bytes.now result }
 {
     match &line.item {
         Item::Text => LineRead::Card(line.text),
         Item::Call(_) => LineRead::Card(line.text),
-        Item::Deck(name) => LineRead::Head(EditedDeck::new(
-            alloc, number, *name, false, false, line.text,
-        )),
+        Item::Deck(name) => {
+            LineRead::Head(EditedDeck::new(alloc, *name, false, false, line.text))
+        }
         Item::CommonDeck { name, noprop } => {
-            LineRead::Head(EditedDeck::new(alloc, number, *name, true, *noprop, line.text))
+            LineRead::Head(EditedDeck::new(alloc, *name, true, *noprop, line.text))
         }
         _ => wrong(bytes, Problem::Directive),
     }

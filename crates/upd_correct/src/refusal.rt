@@ -1,5 +1,8 @@
 //! Refusals of edited texts.
 
+ghost use Rattle.std.specs.Prelude.{◌≡◌};
+ghost use Rattle.upd_correct.specs.declared.refusal.CorrectError.TheVariants.{NoMemory};
+
 use std::alloc::{AllocError, AllocFailed};
 
 /// Why a line of an edited text, or the text as a whole, is refused.
@@ -55,12 +58,16 @@ pub enum CorrectError {
 }
 
 impl From<AllocError> for CorrectError {
+    ghost from_gives = { λ _ error. error ≡ NoMemory };
+
     fn from(_error: AllocError) -> CorrectError {
         CorrectError::NoMemory
     }
 }
 
 impl<T: Drop> From<AllocFailed<T>> for CorrectError {
+    ghost from_gives = { λ _ error. error ≡ NoMemory };
+
     fn from(_error: AllocFailed<T>) -> CorrectError {
         CorrectError::NoMemory
     }

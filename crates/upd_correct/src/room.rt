@@ -7,7 +7,7 @@ ghost use Rattle.upd_core.specs.Limits.{card_count, entry_count, held_count, is_
 ghost use Rattle.upd_core.specs.Sound.{IsSound};
 ghost use Rattle.upd_correction_laws.specs.Corrected.{edited};
 ghost use Rattle.upd_correction_laws.specs.Corrections.{IsEditOf};
-ghost use Rattle.upd_correct.specs.Growth.{cards_added_by, cards_gone_by, cards_of_new, added_by, gone_by};
+ghost use Rattle.upd_correct.specs.Growth.{cards_added_by, cards_gone_by, cards_of_new, added_by, fits, gone_by, has_room};
 
 use crate::edited_deck::EditedDeck;
 use crate::plan::Correction;
@@ -18,11 +18,13 @@ use upd_text::limits::{MAX_CARDS, MAX_ENTRIES, MAX_HELD, MAX_INTRODUCED};
 
 /// Whether the library is within its limits after corrections and new decks.
 pub(crate) fn has_room(library: &Library, corrections: &[Correction], added: &[&EditedDeck]) -> bool
-    ensures { (set : List ℕ) → IsSound library.now
+    ensures within { (set : List ℕ) → IsSound library.now
         → IsEditOf library.now (record { set = set; corrections = corrections.now; added = map (λ d. d.now) added.now })
         → IsTrue result
         → IsTrue (is_within_limits (edited
         (record { set = set; corrections = corrections.now; added = map (λ d. d.now) added.now }) library.now)) }
+    ensures room { (set : List ℕ) → result ≡ has_room library.now
+        (record { set = set; corrections = corrections.now; added = map (λ d. d.now) added.now }) }
 {
     let idents = added.len().saturating_add(1);
     let cards = cards_added(corrections).saturating_add(cards_of_new(added));
@@ -32,11 +34,7 @@ pub(crate) fn has_room(library: &Library, corrections: &[Correction], added: &[&
 
 /// Whether the library is within its limits with this many more idents, cards and entries.
 fn fits(library: &Library, idents: usize, cards: usize, entries: usize) -> bool
-    ensures limits { IsTrue result → IsTrue (is_within_limits library.now) }
-    ensures idents { IsTrue result → length library.now.idents + idents ≤ MAX_INTRODUCED }
-    ensures held { IsTrue result → held_count library.now + idents ≤ MAX_HELD }
-    ensures cards { IsTrue result → card_count library.now + cards ≤ MAX_CARDS }
-    ensures entries { IsTrue result → entry_count library.now + entries ≤ MAX_ENTRIES }
+    ensures { result ≡ fits library.now idents cards entries }
 {
     if !library.is_within_limits() {
         return false;

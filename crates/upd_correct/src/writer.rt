@@ -1,9 +1,9 @@
 //! Writing runs.
 
-ghost use Rattle.std.specs.Prelude.{◌≡◌, ◌≤◌, ◌∷◌, [], ◌++◌, length, map, IfOk, OnOk};
+ghost use Rattle.std.specs.Prelude.{◌≡◌, ◌∷◌, [], ◌++◌, length, map, IfOk, OnOk};
 ghost use Rattle.std.specs.List.{flat_map};
-ghost use Rattle.upd_text.specs.declared.limits.TheConstants.{MAX_RUN_LINES};
 ghost use Rattle.upd_text.specs.Names.{card_text};
+ghost use Rattle.upd_core.specs.Counts.{capped};
 ghost use Rattle.upd_core.specs.Library.{ref_of};
 ghost use Rattle.upd_correction_laws.specs.Corrections.{deck_lines, deletion, edit_lines, insertion, new_deck_lines};
 ghost use Rattle.upd_correction_laws.specs.Corrections.{segment_lines};
@@ -15,38 +15,17 @@ use crate::edited_deck::EditedDeck;
 use crate::plan::Correction;
 use crate::script::Segment;
 use itoa::Buffer;
-use std::alloc::{AllocError, AllocFailed, Global};
+use std::alloc::{AllocError, Global};
 use std::marker::Model;
 use upd_core::card::card_ref;
 use upd_core::{Card, CardRef, Ident};
-use upd_text::limits::MAX_RUN_LINES;
-
-/// Why a run isn't written.
-#[derive(Debug, Drop)]
-pub(crate) enum WriteError {
-    NoMemory,
-    /// The run would have more than 2,000 lines.
-    TooManyLines,
-}
-
-impl From<AllocError> for WriteError {
-    fn from(_error: AllocError) -> WriteError {
-        WriteError::NoMemory
-    }
-}
-
-impl<T: Drop> From<AllocFailed<T>> for WriteError {
-    fn from(_error: AllocFailed<T>) -> WriteError {
-        WriteError::NoMemory
-    }
-}
 
 /// A run so far.
 #[derive(Debug, Drop)]
-struct RunText {
-    bytes: Vec<u8>,
-    /// How many more lines it may have.
-    room: usize,
+pub(crate) struct RunText {
+    pub(crate) bytes: Vec<u8>,
+    /// The number of its lines; it stays at the greatest value.
+    pub(crate) lines: usize,
 }
 
 impl Model for RunText {
@@ -54,26 +33,23 @@ impl Model for RunText {
 
     ghost Value = { RunView };
 
-    ghost view = { λ r. record { bytes = r.bytes.items; room = r.room } };
+    ghost view = { λ r. record { bytes = r.bytes.items; lines = r.lines } };
 }
 
 impl RunText {
     /// Appends the parts of a line, and LF.
-    fn push_line(&mut self, parts: &[&[u8]]) -> Result<(), WriteError>
+    fn push_line(&mut self, parts: &[&[u8]]) -> Result<(), AllocError>
         ensures { (line : RunLine) → line.text ≡ flat_map (λ part. part.now) parts.now
             → OnOk result (Writes self.old self.new (line ∷ [])) }
     {
-        if self.room == 0 {
-            return Err(WriteError::TooManyLines);
-        }
         push_parts(&mut self.bytes, parts)?;
         self.bytes.push(b'\n')?;
-        self.room -= 1;
+        self.lines = self.lines.saturating_add(1);
         Ok(())
     }
 
     /// Appends lines that become cards.
-    fn push_cards(&mut self, lines: &[&[u8]]) -> Result<(), WriteError>
+    fn push_cards(&mut self, lines: &[&[u8]]) -> Result<(), AllocError>
         ensures { OnOk result (Writes self.old self.new (map (λ t. card_line t.now) lines.now)) }
     {
         for line in lines {
@@ -88,7 +64,7 @@ impl RunText {
         idents: &[Ident],
         front: &[&Card],
         last: &Card,
-    ) -> Result<(), WriteError>
+    ) -> Result<(), AllocError>
         ensures { OnOk result (Writes self.old self.new
             (deletion idents.now (map (λ c. c.now) front.now) last.now ∷ [])) }
     {
@@ -109,7 +85,7 @@ impl RunText {
         idents: &[Ident],
         card: &Card,
         lines: &[&[u8]],
-    ) -> Result<(), WriteError>
+    ) -> Result<(), AllocError>
         ensures { OnOk result (Writes self.old self.new
             (insertion idents.now card.now (map (λ t. card_line t.now) lines.now))) }
     {
@@ -122,7 +98,7 @@ impl RunText {
     }
 
     /// Appends an `*INSERT`.
-    fn push_insert(&mut self, idents: &[Ident], card: &Card) -> Result<(), WriteError>
+    fn push_insert(&mut self, idents: &[Ident], card: &Card) -> Result<(), AllocError>
         ensures { OnOk result (Writes self.old self.new (insert_line (ref_of idents.now card.now) ∷ [])) }
     {
         let alloc = *self.bytes.allocator();
@@ -132,7 +108,7 @@ impl RunText {
     }
 
     /// Appends the lines for a segment.
-    fn push_segment(&mut self, idents: &[Ident], segment: &Segment) -> Result<(), WriteError>
+    fn push_segment(&mut self, idents: &[Ident], segment: &Segment) -> Result<(), AllocError>
         ensures { OnOk result (Writes self.old self.new (segment_lines idents.now segment.now)) }
     {
         if segment.goes {
@@ -149,7 +125,7 @@ impl RunText {
         &mut self,
         idents: &[Ident],
         correction: &Correction,
-    ) -> Result<(), WriteError>
+    ) -> Result<(), AllocError>
         ensures { OnOk result (Writes self.old self.new (deck_lines idents.now correction.now)) }
     {
         for segment in &correction.segments {
@@ -163,7 +139,7 @@ impl RunText {
         &mut self,
         idents: &[Ident],
         corrections: &[Correction],
-    ) -> Result<(), WriteError>
+    ) -> Result<(), AllocError>
         ensures { OnOk result (Writes self.old self.new (flat_map (deck_lines idents.now) corrections.now)) }
     {
         for correction in corrections {
@@ -173,7 +149,7 @@ impl RunText {
     }
 
     /// Appends the lines of a new deck.
-    fn push_deck(&mut self, deck: &EditedDeck) -> Result<(), WriteError>
+    fn push_deck(&mut self, deck: &EditedDeck) -> Result<(), AllocError>
         ensures { OnOk result (Writes self.old self.new (new_deck_lines deck.now)) }
     {
         self.push_line(&[deck.first])?;
@@ -182,7 +158,7 @@ impl RunText {
     }
 
     /// Appends the lines of new decks.
-    fn push_decks(&mut self, decks: &[&EditedDeck]) -> Result<(), WriteError>
+    fn push_decks(&mut self, decks: &[&EditedDeck]) -> Result<(), AllocError>
         ensures { OnOk result (Writes self.old self.new
             (flat_map new_deck_lines (map (λ d. d.now) decks.now))) }
     {
@@ -199,7 +175,7 @@ impl RunText {
         set: &[u8],
         corrections: &[Correction],
         added: &[&EditedDeck],
-    ) -> Result<(), WriteError>
+    ) -> Result<(), AllocError>
         ensures { OnOk result (Writes self.old self.new (edit_lines idents.now
             (record { set = set.now; corrections = corrections.now; added = map (λ d. d.now) added.now }))) }
     {
@@ -217,18 +193,18 @@ pub(crate) fn write_run(
     set: &[u8],
     corrections: &[Correction],
     added: &[&EditedDeck],
-) -> Result<Vec<u8>, WriteError>
-    ensures bytes { IfOk result (λ run. run.items ≡ run_of (edit_lines idents.now
+) -> Result<RunText, AllocError>
+    ensures bytes { IfOk result (λ run. run.bytes ≡ run_of (edit_lines idents.now
         (record { set = set.now; corrections = corrections.now; added = map (λ d. d.now) added.now }))) }
-    ensures few { OnOk result (length (edit_lines idents.now
-        (record { set = set.now; corrections = corrections.now; added = map (λ d. d.now) added.now })) ≤ MAX_RUN_LINES) }
+    ensures lines { IfOk result (λ run. capped run.lines ≡ capped (length (edit_lines idents.now
+        (record { set = set.now; corrections = corrections.now; added = map (λ d. d.now) added.now })))) }
 {
     let mut run = RunText {
         bytes: Vec::new(alloc),
-        room: MAX_RUN_LINES,
+        lines: 0,
     };
     run.push_edit(idents, set, corrections, added)?;
-    Ok(run.bytes)
+    Ok(run)
 }
 
 /// Appends parts in order.

@@ -4,3 +4,4 @@ pub mod Trying
 pub mod RefusalLines
 pub mod NearWords
 pub mod Warnings
+pub mod EditCauses

@@ -1,5 +1,5 @@
 -- The warnings of a run that is tried on a library.
-use Rattle.std.specs.Prelude.{ℕ, ◌+◌, ◌-◌, ◌==◌, nat_lt, Bool, not, ◌&&◌, if◌then◌else◌, List, [], ◌∷◌, ◌++◌, length, count_by, position, find, reverse}
+use Rattle.std.specs.Prelude.{ℕ, ◌+◌, ◌-◌, ◌==◌, nat_lt, not, ◌&&◌, if◌then◌else◌, List, [], ◌∷◌, ◌++◌, length, count_by, position, find, reverse}
 use Rattle.std.specs.Prelude.{codes, decimal, min, Option, Some, None, Result, Ok, Err}
 use Rattle.std.specs.List.{flat_map, slice_split}
 use Rattle.std.specs.Option.{option_and_then, option_map_or}

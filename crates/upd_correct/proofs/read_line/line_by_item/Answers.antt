@@ -4,15 +4,17 @@ use Rattle.upd_deck.specs.Items.{LineView}
 use Rattle.upd_deck.specs.LineFields.{seen}
 use Rattle.upd_deck.specs.Reading.{reading}
 use Rattle.upd_correction_laws.specs.Corrections.{IsCardItem}
-use Rattle.upd_correct.proofs.TextLineLemmas.{read_card}
+use Rattle.upd_correct.proofs.TextLineLemmas.{card_reading, read_card}
 use Rattle.upd_correct.proofs.read_line.line_by_item.Goals as goal
 
 pub returns-in-Text : goal.returns-in-Text
 returns-in-Text c e =
-    read_card c.args.bytes.now _ (subst (λ (v : LineView). reading c.args.bytes.now ≡ Ok (v ∷ [])) (sym c.line.view_is) e)
-    (subst (λ (item : Item). IsCardItem (seen item)) (sym c.in-Text.is) tt)
+    let read : reading c.args.bytes.now ≡ Ok (_ ∷ []) = subst (λ (v : LineView). reading c.args.bytes.now ≡ Ok (v ∷ [])) (sym c.line.view_is) e in
+    let item = subst (λ (item : Item). IsCardItem (seen item)) (sym c.in-Text.is) tt in
+    (card_reading c.args.bytes.now _ read item, read_card c.args.bytes.now _ read item)
 
 pub returns-in-Call : goal.returns-in-Call
 returns-in-Call c e =
-    read_card c.args.bytes.now _ (subst (λ (v : LineView). reading c.args.bytes.now ≡ Ok (v ∷ [])) (sym c.line.view_is) e)
-    (subst (λ (item : Item). IsCardItem (seen item)) (sym c.in-Call.is) tt)
+    let read : reading c.args.bytes.now ≡ Ok (_ ∷ []) = subst (λ (v : LineView). reading c.args.bytes.now ≡ Ok (v ∷ [])) (sym c.line.view_is) e in
+    let item = subst (λ (item : Item). IsCardItem (seen item)) (sym c.in-Call.is) tt in
+    (card_reading c.args.bytes.now _ read item, read_card c.args.bytes.now _ read item)

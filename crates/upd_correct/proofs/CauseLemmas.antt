@@ -1,0 +1,47 @@
+-- Why there is no run.
+use Rattle.std.proofs.Common.{◌≡◌, ℕ, ◌<◌, ◌≤◌, List, [], ◌∷◌, ◌++◌, length, refl, sym, ap, ◌∙◌, arith}
+use Rattle.std.specs.Prelude.{Option, Some, None, Result, Ok, Err, OnOk}
+use Rattle.upd_text.specs.declared.limits.TheConstants.{MAX_RUN_LINES}
+use Rattle.upd_core.specs.Counts.{capped}
+use Rattle.upd_core.specs.Library.{LibraryView}
+use Rattle.upd_correction_laws.specs.Corrections.{NewDeck}
+use Rattle.upd_correct.specs.declared.refusal.Problem.{Problem}
+use Rattle.upd_correct.specs.declared.refusal.Refusal.{Refusal}
+use Rattle.upd_correct.specs.Causes.{AreRefusals, OfText}
+use Rattle.upd_correct.specs.EditedText.{lines_in}
+use Rattle.upd_correct.specs.Problems.{set_problem}
+use Rattle.upd_correct.specs.ReadDecks.{AreReadFrom}
+use Rattle.upd_correct.specs.Refusals.{lines_refusals, refusals_at, refusals_of}
+
+pub on_ok : {A E P : Type 0} (result : Result A E) → P → OnOk result P
+on_ok (Ok x) p = p
+on_ok (Err e) p = tt
+
+-- what is read after the refusals of the set is all that is wrong
+pub all_refused : (l : LibraryView) (set text : List ℕ) (first refusals : List Refusal) (decks : List NewDeck) → first ≡ refusals_at 0 0 (set_problem l set)
+    → AreReadFrom l set first (lines_in text) decks refusals → refusals ≡ refusals_of l set text
+all_refused l set text first refusals decks of_set read =
+    read.refused ∙ ap (λ first. first ++ lines_refusals l set [] (lines_in text)) of_set
+
+pub some_refused : (l : LibraryView) (set text : List ℕ) (refusals : List Refusal) → 0 < length refusals → refusals ≡ refusals_of l set text
+    → AreRefusals l set text refusals
+some_refused l set text refusals some are = OfText (λ none. let e = ap length none in omega (arith, some, e)) are
+
+-- a set whose name is free has no refusal
+pub set_is_free : (l : LibraryView) (set text : List ℕ) → refusals_of l set text ≡ [] → set_problem l set ≡ None
+set_is_free l set text clean = go (set_problem l set) refl
+  where
+    go : (o : Option Problem) → set_problem l set ≡ o → set_problem l set ≡ None
+    go None e = e
+    go (Some problem) e = let bad : record { line = 0; column = 0; problem = problem } ∷ lines_refusals l set [] (lines_in text) ≡ [] =
+        ap (λ o. refusals_at 0 0 o ++ lines_refusals l set [] (lines_in text)) (sym e) ∙ clean in absurd (cc)
+
+pub many_lines : (n lines : ℕ) → capped n ≡ capped lines → MAX_RUN_LINES < n → MAX_RUN_LINES < lines
+many_lines n lines e more = omega arith
+
+pub few_lines : (n lines : ℕ) → capped n ≡ capped lines → n ≤ MAX_RUN_LINES → lines ≤ MAX_RUN_LINES
+few_lines n lines e few = omega arith
+
+pub no_items : (xs : List Refusal) → length xs ≡ 0 → xs ≡ []
+no_items [] e = refl
+no_items (x ∷ xs) e = absurd (omega (arith, e))

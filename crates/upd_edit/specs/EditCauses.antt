@@ -1,0 +1,20 @@
+-- Why there is no run for an edited text of a desk.
+use Rattle.std.specs.Prelude.{ℕ, ◌≤◌, length, Result, Ok, Err}
+use Rattle.upd_text.specs.Units.{Bytes}
+use Rattle.upd_core.specs.Library.{LibraryView}
+use Rattle.upd_row_store.specs.Keeping.{IsLost, failures_with}
+use Rattle.upd_correct.specs.Causes.{AreRefusals}
+use Rattle.upd_edit.specs.declared.editing.EditError.{EditError}
+use Rattle.upd_edit.specs.declared.editing.EditError.TheVariants.{Failed, Refused}
+use Rattle.upd_edit.specs.declared.editing.TheConstants.{MAX_TEXT_BYTES}
+
+-- a text that isn't too long is lost, or refused with its problems
+abbrev pub IsEditCause : LibraryView → Bytes → Bytes → EditError → Type 0
+IsEditCause l set text (Failed fault) = length text ≤ MAX_TEXT_BYTES → IsLost fault
+IsEditCause l set text (Refused refusals) = AreRefusals l set text refusals.items
+
+-- the count of failures after an edited text is corrected: only a failure of the store adds one
+abbrev pub failures_after_edit : {A : Type 0} → Result A EditError → ℕ → ℕ
+failures_after_edit (Ok run) failures = failures
+failures_after_edit (Err (Failed fault)) failures = failures_with fault.kind failures
+failures_after_edit (Err (Refused refusals)) failures = failures
