@@ -3,14 +3,18 @@
 //! Each answer is read in a transaction that is rolled back. Nothing changes.
 #![tactic(auto)]
 
+mod copying;
 mod kept;
 mod record;
 mod stored;
 mod texts;
+mod waiting;
 mod whole;
 
+pub use copying::{backup, whole_copy};
 pub use kept::Kept;
 pub use stored::{runs_text, sites_text, stored_kept};
+pub use waiting::{PATIENCE, is_free_within};
 
 #[cfg(test)]
 mod tests;

@@ -1,12 +1,17 @@
 //! The lines of a library in memory.
 
-use crate::{runs_text, sites_text};
+use crate::{backup, is_free_within, runs_text, sites_text};
 use sqlite::{Connection, MemStore};
+use sqlite_disk::Unknown;
 use std::alloc::Global;
 use std::test::Fail;
+use std::time::{Duration, Instant};
+use std::{env, fs, process};
 use upd_records::RunRow;
 use upd_row_store::RowStore;
 use upd_store::SqlStore;
+use upd_store::file::{connect, create};
+use upd_text::FaultKind;
 
 fn made(alloc: Global) -> Result<SqlStore<MemStore>, Fail> {
     match SqlStore::init(Connection::open_in_memory(alloc)?) {
@@ -96,4 +101,99 @@ fn an_empty_library_has_no_line(rt: HostRuntime) -> Result<(), Fail> {
     let mut conn = made(rt.alloc())?.into_connection();
     is_text(&runs_text(rt.alloc(), &mut conn)?, "")?;
     is_text(&sites_text(rt.alloc(), &mut conn)?, "")
+}
+
+/// A path for a file of this test and process, where no file is.
+fn fresh(rt: &HostRuntime, name: &str) -> Result<String, Fail> {
+    let file = format!(in rt.alloc(); "upd-keep-{}-{name}.db", process::id(rt.process()))?;
+    let path = env::temp_dir(rt)?.join(rt.alloc(), file.as_str())?;
+    let path = String::from_str(rt.alloc(), path.as_str())?;
+    remove(rt, path.as_str())?;
+    Ok(path)
+}
+
+fn remove(rt: &HostRuntime, path: &str) -> Result<(), Fail> {
+    let _ = fs::remove_file(rt, path);
+    let _ = fs::remove_file(rt, format!(in rt.alloc(); "{path}-wal")?.as_str());
+    Ok(())
+}
+
+/// Makes a library of one run in a file, and leaves that run in the log only.
+fn make_file(rt: &HostRuntime, path: &str) -> Result<(), Fail> {
+    let mut library = create(rt, path, Unknown)?;
+    let row = RunRow {
+        site: String::from_str(rt.alloc(), "LYON")?,
+        number: 1,
+        mode: 1,
+        bytes: Vec::new(rt.alloc()),
+        accepted: true,
+        reply: Vec::from_slice(rt.alloc(), EMPTY.as_bytes())?,
+    };
+    library.commit(rt.alloc(), &[], row)?;
+    drop(library);
+    Ok(())
+}
+
+fn runs_of_file(rt: &HostRuntime, path: &str) -> Result<Vec<u8>, Fail> {
+    let mut conn = connect(rt, path, Unknown)?;
+    let text = runs_text(rt.alloc(), &mut conn)?;
+    conn.close()?;
+    Ok(text)
+}
+
+#[test]
+fn a_copy_by_itself_has_what_the_log_had(rt: HostRuntime) -> Result<(), Fail> {
+    let (file, copy) = (fresh(&rt, "file")?, fresh(&rt, "copy")?);
+    make_file(&rt, file.as_str())?;
+    backup(&rt, connect(&rt, file.as_str(), Unknown)?, copy.as_str())?;
+    let wanted = "LYON 1 quick accepted\n";
+    is_text(&runs_of_file(&rt, copy.as_str())?, wanted)?;
+    is_text(&runs_of_file(&rt, file.as_str())?, wanted)?;
+    remove(&rt, file.as_str())?;
+    remove(&rt, copy.as_str())
+}
+
+#[test]
+fn a_copy_replaces_no_file(rt: HostRuntime) -> Result<(), Fail> {
+    let (file, other) = (fresh(&rt, "kept")?, fresh(&rt, "other")?);
+    make_file(&rt, file.as_str())?;
+    fs::write(&rt, other.as_str(), b"other")?;
+    match backup(&rt, connect(&rt, file.as_str(), Unknown)?, other.as_str()) {
+        Err(fault) if fault.kind == FaultKind::Write && fault.at == 0 => {}
+        _ => return Err("the file is replaced".into()),
+    }
+    is_text(&fs::read(&rt, other.as_str())?, "other")?;
+    remove(&rt, file.as_str())?;
+    remove(&rt, other.as_str())
+}
+
+#[test]
+fn a_file_in_use_is_waited_for(rt: HostRuntime) -> Result<(), Fail> {
+    let file = fresh(&rt, "used")?;
+    make_file(&rt, file.as_str())?;
+    let used = connect(&rt, file.as_str(), Unknown)?;
+    let start = Instant::now(&rt)?;
+    if is_free_within(&rt, file.as_str(), 1) || start.elapsed(&rt)? < Duration::from_secs(1) {
+        return Err("it is in use".into());
+    }
+    used.close()?;
+    if !is_free_within(&rt, file.as_str(), 0) {
+        return Err("it is free".into());
+    }
+    is_text(
+        &runs_of_file(&rt, file.as_str())?,
+        "LYON 1 quick accepted\n",
+    )?;
+    remove(&rt, file.as_str())
+}
+
+#[test]
+fn a_file_that_is_not_there_is_not_waited_for(rt: HostRuntime) -> Result<(), Fail> {
+    let file = fresh(&rt, "missing")?;
+    let start = Instant::now(&rt)?;
+    if is_free_within(&rt, file.as_str(), 60) && start.elapsed(&rt)? < Duration::from_secs(30) {
+        Ok(())
+    } else {
+        Err("it was waited for".into())
+    }
 }
