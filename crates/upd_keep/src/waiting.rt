@@ -1,42 +1,41 @@
-//! Waiting for a file that another program has open.
+//! Waiting for a library that another program has open.
 
 use os::RangeLock;
 use std::fs::{self, File, OpenOptions};
-use std::io;
 use std::os::fd::AsRawFd;
-use std::time::{Duration, Instant};
+use std::time::Duration;
+use std::{io, thread};
 
 /// How long a command waits for a library that is in use, in seconds.
-pub const PATIENCE: u64 = 5;
+pub const PATIENCE: u32 = 5;
 
-/// The bytes on which SQLite puts its locks.
+/// How often the lock is tried in a second.
+const TRIES: u32 = 50;
+
+/// The first of the bytes that SQLite locks.
 const LOCKED_AT: u64 = 1 << 30;
 
+/// The number of these bytes.
 const LOCKED_BYTES: u64 = 512;
 
-/// Waits until no other program has a database file open, for a number of seconds at most, and returns whether it is so.
-/// The lock is tried again and again, since nothing says when it is free. A file that is not there, or can't be opened, is
-/// not waited for.
-pub fn is_free_within(rt: &HostRuntime, path: &str, seconds: u64) -> bool {
+/// Waits until no other program has a database file open, for a number of seconds at most. Returns false where one still
+/// has. A file that is not there, or can't be opened, is not waited for.
+pub fn is_free_within(rt: &HostRuntime, path: &str, seconds: u32) -> bool {
     wait_for(rt, path, seconds).unwrap_or(true)
 }
 
-fn wait_for(rt: &HostRuntime, path: &str, seconds: u64) -> io::Result<bool> {
+fn wait_for(rt: &HostRuntime, path: &str, seconds: u32) -> io::Result<bool> {
     if !fs::metadata(rt, path)?.is_file() {
         return Ok(true);
     }
     let file = OpenOptions::new().read(true).write(true).open(rt, path)?;
-    let start = Instant::now(rt)?;
-    let patience = Duration::from_secs(seconds);
-    for _ in 0..u64::MAX {
+    for _ in 0..u64::from(seconds) * u64::from(TRIES) {
         if !is_in_use(&file) {
             return Ok(true);
         }
-        if start.elapsed(rt)? >= patience {
-            return Ok(false);
-        }
+        thread::sleep(rt, Duration::from_millis(u64::from(1000 / TRIES)));
     }
-    Ok(false)
+    Ok(!is_in_use(&file))
 }
 
 /// Whether another program, or another open of this one, has locked a database file.
