@@ -7,6 +7,7 @@ use Rattle.upd_text.specs.declared.fault.Fault.{Fault}
 use Rattle.upd_text.specs.declared.fault.FaultKind.{FaultKind}
 use Rattle.upd_text.specs.declared.fault.FaultKind.TheVariants.{NoMemory, Store, Read, Write}
 use Rattle.upd_row_store.specs.declared.meaning.Meaning.{Ghosts}
+use Rattle.upd_row_store.specs.Keeping.{IsLost}
 use Rattle.upd_row_store.specs.Keeping.IsLost.{OfMemory, OfStore}
 use Rattle.upd_store.specs.Faults.{IsUnopened}
 use Rattle.upd_cli.specs.Command.{IsTold}
@@ -23,9 +24,10 @@ unopened_fails fault (inl (OfMemory f is at)) = ap exit_status is
 unopened_fails fault (inl (OfStore f is at)) = ap exit_status is
 unopened_fails fault (inr is) = ap exit_status is
 
-pub all_unopened_fail : {U : Type 0} (result : Result U Fault) → IfErr result IsUnopened → IfErr result (λ f. exit_status f.kind ≡ 3)
-all_unopened_fail (Ok u) unopened = tt
-all_unopened_fail (Err fault) unopened = unopened_fails fault unopened
+-- so does a copy that can't be made
+pub backup_fails : (fault : Fault) → IsLost fault ⊎ (fault.kind ≡ Write) → exit_status fault.kind ≡ 3
+backup_fails fault (inl lost) = unopened_fails fault (inl lost)
+backup_fails fault (inr is) = ap exit_status is
 
 -- the same of a fault that `?` passes on
 pub passed_fails : {U : Type 0} (result : Result U Fault) (fault : Fault) → IsErrAnd result (λ e. e ≡ fault) → IsUnopened fault

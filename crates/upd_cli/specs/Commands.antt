@@ -30,7 +30,7 @@ use Rattle.upd_cli.specs.declared.stored.Stored.{Stored}
 use Rattle.upd_cli.specs.declared.stored.Stored.TheVariants as stored
 use Rattle.upd_cli.specs.declared.words.Asked.{Asked}
 use Rattle.upd_cli.specs.declared.words.Request.{Request}
-use Rattle.upd_cli.specs.declared.words.Request.TheVariants.{Trial, Init, Library, Serve, Correct, Try, Runs, Sites, Migrate, Explain, Shown, Unread}
+use Rattle.upd_cli.specs.declared.words.Request.TheVariants.{Trial, Init, Library, Serve, Correct, Try, Runs, Sites, Backup, Migrate, Explain, Shown, Unread}
 
 -- the exit status of a command that ended so; its fault, if any, is reported by its line
 abbrev pub IsEndOf : Result ℕ Fault → ℕ → Option (List ℕ) → Option (List ℕ) → Type 0
@@ -131,6 +131,8 @@ module _ {S C : Type 0} (meaning : Ghosts S) (conn_of : S → C) (state : C → 
   IsDone (Try file mode) status input input' output output' faults faults' = IsTried mode.now status input output output' faults faults'
   IsDone (Runs file) status input input' output output' faults faults' = IsListed stored.Runs status output output' faults faults'
   IsDone (Sites file) status input input' output output' faults faults' = IsListed stored.Sites status output output' faults faults'
+  IsDone (Backup file copy) status input input' output output' faults faults' =
+      Appends output output' [] × ((ended : Result (Unit {0}) Fault) × EndsSilently ended status faults faults')
   IsDone (Migrate file) status input input' output output' faults faults' = Appends output output' [] × IsMigrated status faults faults'
   IsDone (Explain fault) status input input' output output' faults faults' = IsExplained fault.now status output output' faults faults'
   IsDone (Shown text) status input input' output output' faults faults' = (status ≡ 0) ⊎ (status ≡ 3)

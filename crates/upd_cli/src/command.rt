@@ -17,7 +17,8 @@ ghost use Rattle.upd_cli.specs.Inputs.{HandsRunsIn, IsHandIn, IsSpoolCommand, Is
 ghost use Rattle.upd_cli.specs.Inputs.{ReadsInput, TellsRefusals, TriesRunIn, most_read};
 
 use crate::explaining::explain_fault;
-use crate::library::{FileRows, correct_on, errand_on, init_file, migrate_file, serve, try_on};
+use crate::library::{
+    backup_on, FileRows, correct_on, errand_on, init_file, migrate_file, serve, try_on};
 use crate::operands::read_address;
 use crate::status::{FAILED, UNREAD, finish};
 use crate::stored::{Stored, list_on};
@@ -146,6 +147,7 @@ fn carry_out<St: Start, R: Read, W: Write, E: Write>(
         Request::Sites { file } => {
             carry_out_listing(rt, file, start, Stored::Sites, output, faults)
         }
+        Request::Backup { file, copy } => finish(backup_on(rt, file, start, copy), faults),
         Request::Migrate { file } => finish(migrate_file(rt, file, start), faults),
         Request::Explain { fault } => carry_out_explaining(fault, output, faults),
         Request::Shown(text) => finish(write_out(output, text.as_bytes()), faults),

@@ -25,6 +25,7 @@ use std::net::{SocketAddr, TcpListener};
 use upd_desk::Desk;
 use upd_edit::MAX_TEXT_BYTES;
 use upd_http::serve_on_within;
+use upd_keep::backup;
 use upd_migrate::migrate;
 use upd_mirror::MirrorStore;
 use upd_row_store::{Meaning, RowStore};
@@ -181,6 +182,21 @@ pub(crate) fn init_file<St: Start>(rt: &HostRuntime, file: &str, start: St) -> R
             close_desk(Desk::open(MirrorStore::new(library)));
             Ok(())
         }
+        Err(fault) => Err(fault),
+    }
+}
+
+/// Makes a copy of the library in the file, whole, its log included.
+pub(crate) fn backup_on<St: Start>(
+    rt: &HostRuntime,
+    file: &str,
+    start: St,
+    copy: &str,
+) -> Result<(), Fault>
+    ensures { IfErr result (λ fault. exit_status fault.kind ≡ 3) }
+{
+    match SqlStore::open(rt, file, false, start) {
+        Ok(library) => backup(rt, library.into_connection(), copy),
         Err(fault) => Err(fault),
     }
 }

@@ -57,6 +57,11 @@ pub enum Request<'a> {
     Sites {
         file: &'a str,
     },
+    /// `backup FILE COPY`
+    Backup {
+        file: &'a str,
+        copy: &'a str,
+    },
     /// `migrate FILE`
     Migrate {
         file: &'a str,
@@ -126,6 +131,11 @@ const COUNT_RANGE: ValueParser<'static> = ValueParser::Unsigned(1, 1_000_000);
 fn commands<'a>(alloc: Global) -> Result<Command<'a>, AllocError>
     ensures { IfOk result (λ c. app_of c ≡ upd_app) }
 {
+    const COPY: Operand = (
+        "COPY",
+        "the file to be made, which must not exist",
+        ValueParser::String,
+    );
     const FAULT: Operand = (
         "FAULT",
         "the name or the number of a fault",
@@ -136,6 +146,7 @@ fn commands<'a>(alloc: Global) -> Result<Command<'a>, AllocError>
         .subcommand(command(alloc, "source", help::SOURCE, &[FILE, DECK])?)?
         .subcommand(command(alloc, "runs", help::RUNS, &[FILE])?)?
         .subcommand(command(alloc, "sites", help::SITES, &[FILE])?)?
+        .subcommand(command(alloc, "backup", help::BACKUP, &[FILE, COPY])?)?
         .subcommand(command(alloc, "migrate", help::MIGRATE, &[FILE])?)?
         .subcommand(command(alloc, "explain", help::EXPLAIN, &[FAULT])?)
 }
@@ -281,6 +292,10 @@ fn read_request<'a>(matches: &ArgMatches<'a>) -> Request<'a>
         Some(("sites", operands)) => Request::Sites {
             file: word(operands, "FILE"),
         },
+        Some(("backup", operands)) => Request::Backup {
+            file: word(operands, "FILE"),
+            copy: word(operands, "COPY"),
+        },
         Some(("migrate", operands)) => Request::Migrate {
             file: word(operands, "FILE"),
         },
@@ -300,7 +315,7 @@ fn read_asked<'a>(name: &str, operands: &ArgMatches<'a>) -> Asked<'a>
     requires known { IsOneOf name.now upd_commands }
     requires other { (name.now ≢ codes "trial") × (name.now ≢ codes "init") × (name.now ≢ codes "serve")
         × (name.now ≢ codes "correct") × (name.now ≢ codes "try") × (name.now ≢ codes "runs") × (name.now ≢ codes "sites")
-        × (name.now ≢ codes "migrate") × (name.now ≢ codes "explain") }
+        × (name.now ≢ codes "backup") × (name.now ≢ codes "migrate") × (name.now ≢ codes "explain") }
     ensures { IsAskedBy name.now (rows_of (found_of operands.now)) result }
 {
     match name {

@@ -1,2 +1,3 @@
 mod ReadTexts
 mod Listing
+mod Copies

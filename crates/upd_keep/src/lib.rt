@@ -1,16 +1,15 @@
-//! What whoever keeps a library asks of its file: the stored runs, and the sites.
+//! What whoever keeps a library asks of its file: the stored runs, the sites, and a whole copy.
 //!
-//! Each answer is read in a transaction that is rolled back. Nothing changes.
+//! Lists are read in a transaction that is rolled back. Nothing changes.
 #![tactic(auto)]
 
+mod copying;
 mod kept;
 mod record;
 mod stored;
 mod texts;
 mod whole;
 
+pub use copying::{backup, whole_copy};
 pub use kept::Kept;
 pub use stored::{runs_text, sites_text, stored_kept};
-
-#[cfg(test)]
-mod tests;

@@ -231,6 +231,7 @@ const ABOUT: &[(&[&str], &str)] = &[
     (&["source", "--help"], "Writes the compile file of one"),
     (&["runs", "--help"], "Lists the stored runs"),
     (&["sites", "--help"], "Lists the sites"),
+    (&["backup", "--help"], "Makes a whole copy"),
     (&["migrate", "--help"], "Migrates the file of an older"),
     (&["explain", "--help"], "Explains a fault"),
 ];

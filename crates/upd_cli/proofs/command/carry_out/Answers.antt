@@ -58,6 +58,15 @@ returns-in-Runs-clause-done g c = done_as _ _ _ _ c.args.request.now _ _ _ _ _ _
 pub returns-in-Sites-clause-done : goal.returns-in-Sites-clause-done
 returns-in-Sites-clause-done g c = done_as _ _ _ _ c.args.request.now _ _ _ _ _ _ _ _ c.in-Sites.is c.carry_out_listing-in-Sites.ensures.told
 
+pub returns-in-Backup-clause-done : goal.returns-in-Backup-clause-done
+returns-in-Backup-clause-done g c =
+    done_as _ _ _ _ c.args.request.now _ _ _ _ _ _ _ _ c.in-Backup.is (
+      Appends-nil (g.W.Write.contents c.args.output.now),
+      c.backup_on.result,
+      c.backup_on.ensures,
+      c.finish-in-Backup.ensures.told,
+    )
+
 pub returns-in-Explain-clause-done : goal.returns-in-Explain-clause-done
 returns-in-Explain-clause-done g c = done_as _ _ _ _ c.args.request.now _ _ _ _ _ _ _ _ c.in-Explain.is c.carry_out_explaining.ensures.told
 

@@ -6,7 +6,6 @@ use Rattle.clap.specs.declared.error.kind.ErrorKind.{ErrorKind}
 use Rattle.clap.specs.declared.error.kind.ErrorKind.TheVariants.{OutOfMemory}
 use Rattle.upd_cli.specs.Words.{HasCount, IsAskedFor, IsOneOf, IsRequest, IsUnreadRequest, upd_app, upd_commands, word_faults}
 use Rattle.upd_cli.specs.declared.words.Request.{Request}
-use Rattle.upd_cli.specs.declared.words.Request.TheVariants.{Trial, Library, Serve, Correct, Explain, Shown, Unread}
 use Rattle.upd_cli.proofs.CountLemmas.{read_counts}
 use Rattle.upd_cli.proofs.WordLemmas.{known_command}
 use Rattle.upd_cli.proofs.words.read_words.Goals as goal
@@ -19,24 +18,10 @@ is_free_upd = refl
 
 asked_command : (words : List Text) (command : Option (Text × List Row)) (request : Request) → subcommand_of upd_app words ≡ command
     → word_faults words ≡ [] → IsSomeAnd command (λ found. IsRequest found request) → IsAskedFor words request
-asked_command words command (Trial mode) same none is = (none, rw same is)
-asked_command words command (Library file asked) same none is = (none, rw same is)
-asked_command words command (Serve file address count) same none is = (none, rw same is)
-asked_command words command (Correct file set) same none is = (none, rw same is)
-asked_command words command (Explain fault) same none is = (none, rw same is)
-asked_command words None (Shown text) same none is = absurd is
-asked_command words (Some (name, rows)) (Shown text) same none is = absurd is
-asked_command words None (Unread text) same none is = absurd is
-asked_command words (Some (name, rows)) (Unread text) same none is = absurd is
+asked_command words command request same none is = inl (none, rw same is)
 
 asked_told : (words : List Text) (kind : ErrorKind) (request : Request) → IsAmong kind (word_faults words) → IsUnreadRequest kind request → IsAskedFor words request
-asked_told words kind (Trial mode) among is = absurd is
-asked_told words kind (Library file asked) among is = absurd is
-asked_told words kind (Serve file address count) among is = absurd is
-asked_told words kind (Correct file set) among is = absurd is
-asked_told words kind (Explain fault) among is = absurd is
-asked_told words kind (Shown text) among is = (kind, among, is)
-asked_told words kind (Unread text) among is = (kind, among, is)
+asked_told words kind request among is = inr (kind, among, is)
 
 among : (kind : ErrorKind) (kinds : List ErrorKind) → (kind ≡ OutOfMemory) ⊎ IsAmong kind kinds → kind ≢ OutOfMemory → IsAmong kind kinds
 among kind kinds (inl is) other = absurd (other is)

@@ -1,0 +1,109 @@
+//! A whole copy of a library's file, its log included.
+ghost use Rattle.std.specs.Prelude.{◌≡◌, ◌⊎◌, IfErr, IfOk, IsTrue};
+ghost use Rattle.sqlite.specs.Files.{file_state};
+ghost use Rattle.sqlite_wal.specs.Reads.{AreClean};
+ghost use Rattle.upd_row_store.specs.Keeping.{IsLost};
+ghost use Rattle.upd_keep.specs.Copying.{IsWholeCopy};
+ghost use Rattle.upd_text.specs.declared.fault.FaultKind.TheVariants.{Write};
+
+use sqlite::{Connection, FileStore, Files};
+use sqlite_disk::Disk;
+use std::alloc::Global;
+use std::fs::OpenOptions;
+use std::io::Write;
+use std::{fs, io};
+use upd_store::{fault_of, store_at};
+use upd_text::{Fault, FaultKind};
+
+/// All bytes of a file. The fault is NoMemory or Store, at 0.
+fn bytes_of<D: Disk>(alloc: Global, disk: &mut D) -> Result<Vec<u8>, Fault>
+    requires { IsTrue (D.Disk.is_usable disk.old) }
+    ensures read { IfOk result (λ bytes. IsTrue (D.Disk.is_clean disk.new) → bytes.items ≡ D.Disk.seen disk.old) }
+    ensures seen { D.Disk.seen disk.new ≡ D.Disk.seen disk.old }
+    ensures clean { IsTrue (D.Disk.is_clean disk.new) → IsTrue (D.Disk.is_clean disk.old) }
+    ensures lost { IfErr result IsLost }
+{
+    let Ok(len) = disk.len() else {
+        return Err(store_at(0));
+    };
+    let Ok(mut bytes) = vec![in alloc; 0u8; len] else {
+        return Err(FaultKind::NoMemory.without_line());
+    };
+    match disk.read_at(0, &mut bytes) {
+        Ok(()) => Ok(bytes),
+        Err(_) => Err(store_at(0)),
+    }
+}
+
+/// Copies the log into the file, and returns the file's bytes with the files. A file with these bytes and without a log
+/// is the whole database. Until the files are dropped they are locked. The fault is NoMemory or Store, at 0.
+pub fn whole_copy<D: Disk + Drop>(
+    alloc: Global,
+    conn: Connection<FileStore<D>>,
+) -> Result<(Vec<u8>, Files<D>), Fault>
+    ensures copied { IfOk result (λ r. AreClean D.Disk r.1.log r.1.db
+        → IsTrue (file_state conn).is_open × IsWholeCopy r.0.items (file_state conn).committed.trees) }
+    ensures lost { IfErr result IsLost }
+{
+    match conn.close_files() {
+        Ok(mut files) => match bytes_of(alloc, &mut files.db) {
+            Ok(bytes) => Ok((bytes, files)),
+            Err(fault) => Err(fault),
+        },
+        Err((error, store)) => {
+            drop(store.close());
+            Err(fault_of(error))
+        }
+    }
+}
+
+/// Makes a file that is a whole copy of a library's file. Write, at 0, where the copy or a log beside it exists, or where
+/// it can't be written; no part of it is left then. Else the faults of `whole_copy`.
+pub fn backup<D: Disk + Drop>(
+    rt: &HostRuntime,
+    conn: Connection<FileStore<D>>,
+    copy: &str,
+) -> Result<(), Fault>
+    ensures { IfErr result (λ fault. IsLost fault ⊎ (fault.kind ≡ Write)) }
+{
+    match whole_copy(rt.alloc(), conn) {
+        Ok((bytes, files)) => {
+            let written = write_new(rt, copy, &bytes);
+            drop(files);
+            match written {
+                Ok(()) => Ok(()),
+                Err(_) => Err(FaultKind::Write.without_line()),
+            }
+        }
+        Err(fault) => Err(fault),
+    }
+}
+
+/// Makes a file with these bytes, which has no log.
+fn write_new(rt: &HostRuntime, path: &str, bytes: &[u8]) -> io::Result<()> {
+    if has_log(rt, path)? {
+        return Err(io::Error::from(io::ErrorKind::AlreadyExists));
+    }
+    let mut file = OpenOptions::new()
+        .write(true)
+        .create_new(true)
+        .open(rt, path)?;
+    let filled = fill(&mut file, bytes);
+    if filled.is_err() {
+        let _ = fs::remove_file(rt, path);
+    }
+    filled
+}
+
+/// Whether there is anything under the name of a file's log.
+fn has_log(rt: &HostRuntime, path: &str) -> io::Result<bool> {
+    let Ok(log) = format!(in rt.alloc(); "{path}-wal") else {
+        return Err(io::Error::from(io::ErrorKind::OutOfMemory));
+    };
+    Ok(fs::symlink_metadata(rt, log.as_str()).is_ok())
+}
+
+fn fill(file: &mut fs::File, bytes: &[u8]) -> io::Result<()> {
+    file.write_all(bytes)?;
+    file.sync_all()
+}
