@@ -201,3 +201,18 @@ fn stored_runs_and_sites_are_listed(rt: HostRuntime) -> Result<(), Fail> {
     )?;
     remove(&rt, &file)
 }
+
+#[test]
+fn a_copy_is_a_library_by_itself(rt: HostRuntime) -> Result<(), Fail> {
+    let file = library(&rt, "original")?;
+    let copy = fresh(&rt, "copy")?;
+    accepts(&rt, &file, "999999999", "quick", DECK)?;
+    answers(&rt, &["backup", &file, &copy], b"", (0, "", ""))?;
+    let exists = (3, "", "upd: Write (33) at 0\n");
+    answers(&rt, &["backup", &file, &copy], b"", exists)?;
+    answers_of(&rt, &copy, "idents", &[], (0, "1 A deck held\n", ""))?;
+    let sites = "LYON 0 999999999 none\n";
+    answers_of(&rt, &copy, "sites", &[], (0, sites, ""))?;
+    remove(&rt, &copy)?;
+    remove(&rt, &file)
+}
