@@ -79,8 +79,8 @@ module _ {S C : Type 0} (meaning : Ghosts S) (conn_of : S → C) (state : C → 
       → IsAskedFor words request → IsDone meaning conn_of state held request status input input' output output' faults faults'
       → word_faults words ≢ [] → IsToldOf words status
   unread_done words request status input input' output output' faults faults' (inl asked) done bad = absurd (bad asked.0)
-  unread_done words (Shown text) status input input' output output' faults faults' (inr (kind, among, is)) (inl zero) bad =
-      inr (kind, among, zero ∙ sym (text_status kind is))
+  unread_done words (Shown text) status input input' output output' faults faults' (inr (kind, among, is)) (inl done_so) bad =
+      inr (kind, among, done_so ∙ sym (text_status kind is))
   unread_done words (Shown text) status input input' output output' faults faults' (inr (kind, among, is)) (inr three) bad = inl three
   unread_done words (Unread text) status input input' output output' faults faults' (inr (kind, among, is)) (nothing, inl two) bad =
       inr (kind, among, two ∙ sym (mistake_status kind is))

@@ -47,8 +47,8 @@ other_text a b apart same is =
     absurd (by (bytes_eq a b) (subst IsSame is same) apart)
   where
     by : (e : Bool) → e ≡ true → e ≡ false → ⊥
-    by true yes no = absurd (cc)
-    by false yes no = absurd (cc)
+    by true is other = absurd (cc)
+    by false is other = absurd (cc)
 
 asked_apart : (asked : Asked) → bytes_eq (codes "trial") (asked_name asked) ≡ false
 asked_apart asks.Spool = refl
@@ -99,8 +99,8 @@ reads words _ asked is = absurd is
 
 -- but for `correct`, no more is read than shows that a run is too long
 pub reads_run : (request : Request) → ¬ (IsCorrectRequest request) → most_read request ≡ MAX_RUN_BYTES + 1
-reads_run (Correct file set) no = absurd (no tt)
-reads_run _ no = refl
+reads_run (Correct file set) other = absurd (other tt)
+reads_run _ other = refl
 
 -- ---- words that are not read
 
@@ -123,9 +123,9 @@ text_status kind (inl is) = ap told_status is
 text_status kind (inr is) = ap told_status is
 
 pub mistake_status : (kind : ErrorKind) → ¬ (AsksText kind) → told_status kind ≡ 2
-mistake_status DisplayHelp no = absurd (no (inl refl))
-mistake_status DisplayVersion no = absurd (no (inr refl))
-mistake_status _ no = refl
+mistake_status DisplayHelp other = absurd (other (inl refl))
+mistake_status DisplayVersion other = absurd (other (inr refl))
+mistake_status _ other = refl
 
 -- words that are read have no faults
 pub none_among : (kind : ErrorKind) (words : List Text) → word_faults words ≡ [] → IsAmong kind (word_faults words) → ⊥

@@ -15,27 +15,21 @@ returns-in-Trial-clause-done g c =
       run,
       is,
       answered c.carry_out_trial-ended.result _ (trial_named c.in-Trial.mode.now run) (g.W.Write.contents c.args.output.now)
-          (g.W.Write.contents c.carry_out_trial-ended.new.output) _ _ ends c.finish-in-Trial.ensures.told,
+          (g.W.Write.contents c.carry_out_trial-ended.new.output) _ _ ends c.finish.ensures.told,
     )
 
 pub returns-in-Init-clause-done : goal.returns-in-Init-clause-done
 returns-in-Init-clause-done g c =
     done_as _ _ _ _ c.args.request.now _ _ _ _ _ _ _ _ c.in-Init.is (
       Appends-nil (g.W.Write.contents c.args.output.now),
-      c.init_file.result,
-      c.init_file.ensures.made,
-      c.init_file.ensures.failed,
-      c.finish-in-Init.ensures.told,
+      (c.init_file.result, c.init_file.ensures.made, (c.init_file.ensures.failed, c.finish.ensures.told)),
     )
 
 pub returns-in-Migrate-clause-done : goal.returns-in-Migrate-clause-done
 returns-in-Migrate-clause-done g c =
     done_as _ _ _ _ c.args.request.now _ _ _ _ _ _ _ _ c.in-Migrate.is (
       Appends-nil (g.W.Write.contents c.args.output.now),
-      c.migrate_file.result,
-      c.migrate_file.ensures.migrates,
-      c.migrate_file.ensures.failed,
-      c.finish-in-Migrate.ensures.told,
+      (c.migrate_file.result, c.migrate_file.ensures.migrates, (c.migrate_file.ensures.failed, c.finish.ensures.told)),
     )
 
 pub returns-in-Library-clause-done : goal.returns-in-Library-clause-done
@@ -53,18 +47,16 @@ pub returns-in-Try-clause-done : goal.returns-in-Try-clause-done
 returns-in-Try-clause-done g c = done_as _ _ _ _ c.args.request.now _ _ _ _ _ _ _ _ c.in-Try.is c.carry_out_trying.ensures.told
 
 pub returns-in-Runs-clause-done : goal.returns-in-Runs-clause-done
-returns-in-Runs-clause-done g c = done_as _ _ _ _ c.args.request.now _ _ _ _ _ _ _ _ c.in-Runs.is c.carry_out_listing-in-Runs.ensures.told
+returns-in-Runs-clause-done g c = done_as _ _ _ _ c.args.request.now _ _ _ _ _ _ _ _ c.in-Runs.is c.carry_out_listing.ensures.told
 
 pub returns-in-Sites-clause-done : goal.returns-in-Sites-clause-done
-returns-in-Sites-clause-done g c = done_as _ _ _ _ c.args.request.now _ _ _ _ _ _ _ _ c.in-Sites.is c.carry_out_listing-in-Sites.ensures.told
+returns-in-Sites-clause-done g c = done_as _ _ _ _ c.args.request.now _ _ _ _ _ _ _ _ c.in-Sites.is c.carry_out_listing.ensures.told
 
 pub returns-in-Backup-clause-done : goal.returns-in-Backup-clause-done
 returns-in-Backup-clause-done g c =
     done_as _ _ _ _ c.args.request.now _ _ _ _ _ _ _ _ c.in-Backup.is (
       Appends-nil (g.W.Write.contents c.args.output.now),
-      c.backup_on.result,
-      c.backup_on.ensures,
-      c.finish-in-Backup.ensures.told,
+      (c.backup_on.result, (c.backup_on.ensures, c.finish.ensures.told)),
     )
 
 pub returns-in-Explain-clause-done : goal.returns-in-Explain-clause-done

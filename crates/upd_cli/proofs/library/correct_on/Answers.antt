@@ -17,8 +17,10 @@ returns-clause-told g c =
     let IsRead : List ℕ → Type 0 = IsFrontOf (MAX_TEXT_BYTES + 1) (g.R.Read.remaining c.args.input.now) in (
       c.deref.result.now,
       subst IsRead (sym c.deref.ensures.value) c.in_ok-text.ensures.ok,
-      c.in_ok-desk.desk.store,
-      c.correct_text-status.new.desk.store,
-      c.in_ok-desk.ensures.opened,
-      c.correct_text-status.ensures.tells,
+      (
+        c.in_ok-desk.desk.store,
+        c.correct_text-status.new.desk.store,
+        c.in_ok-desk.ensures.opened,
+        c.correct_text-status.ensures.tells,
+      ),
     )

@@ -16,8 +16,10 @@ returns-clause-told g c =
     let IsRead : List ℕ → Type 0 = IsRunOn (g.R.Read.remaining c.args.input.now) in (
       c.deref.result.now,
       subst IsRead (sym c.deref.ensures.value) c.in_ok-run.ensures.ok,
-      c.in_ok-desk.desk.store,
-      c.try_run-status.new.desk.store,
-      c.in_ok-desk.ensures.opened,
-      c.try_run-status.ensures.tells,
+      (
+        c.in_ok-desk.desk.store,
+        c.try_run-status.new.desk.store,
+        c.in_ok-desk.ensures.opened,
+        c.try_run-status.ensures.tells,
+      ),
     )
