@@ -1,8 +1,10 @@
 use Rattle.std.proofs.Common.{inl, inr, sym, subst}
 use Rattle.std.proofs.KnownBytes.{Appends-nil}
 use Rattle.upd_compile.specs.Modes.{mode_named}
-use Rattle.upd_cli.specs.Inputs.{ReadsFor}
+use Rattle.upd_cli.specs.Inputs.{IsSpoolRequest, ReadsFor, most_read}
+use Rattle.upd_cli.specs.Streams.{TakesFront}
 use Rattle.upd_cli.specs.Trial.{trial_named}
+use Rattle.upd_cli.specs.declared.words.Request.{Request}
 use Rattle.upd_cli.proofs.CommandLemmas.{answered}
 use Rattle.upd_cli.proofs.DoneLemmas.{done_as}
 use Rattle.upd_cli.proofs.RequestLemmas.{none_of}
@@ -22,14 +24,14 @@ pub returns-in-Init-clause-done : goal.returns-in-Init-clause-done
 returns-in-Init-clause-done g c =
     done_as _ _ _ _ c.args.request.now _ _ _ _ _ _ _ _ c.in-Init.is (
       Appends-nil (g.W.Write.contents c.args.output.now),
-      (c.init_file.result, c.init_file.ensures.made, (c.init_file.ensures.failed, c.finish.ensures.told)),
+      (c.init_file.result, c.init_file.ensures.made, (c.init_file.ensures.failed, c.finish-in-Init.ensures.told)),
     )
 
 pub returns-in-Migrate-clause-done : goal.returns-in-Migrate-clause-done
 returns-in-Migrate-clause-done g c =
     done_as _ _ _ _ c.args.request.now _ _ _ _ _ _ _ _ c.in-Migrate.is (
       Appends-nil (g.W.Write.contents c.args.output.now),
-      (c.migrate_file.result, c.migrate_file.ensures.migrates, (c.migrate_file.ensures.failed, c.finish.ensures.told)),
+      (c.migrate_file.result, c.migrate_file.ensures.migrates, (c.migrate_file.ensures.failed, c.finish-in-Migrate.ensures.told)),
     )
 
 pub returns-in-Library-clause-done : goal.returns-in-Library-clause-done
@@ -50,13 +52,13 @@ pub returns-in-Runs-clause-done : goal.returns-in-Runs-clause-done
 returns-in-Runs-clause-done g c = done_as _ _ _ _ c.args.request.now _ _ _ _ _ _ _ _ c.in-Runs.is c.carry_out_listing.ensures.told
 
 pub returns-in-Sites-clause-done : goal.returns-in-Sites-clause-done
-returns-in-Sites-clause-done g c = done_as _ _ _ _ c.args.request.now _ _ _ _ _ _ _ _ c.in-Sites.is c.carry_out_listing.ensures.told
+returns-in-Sites-clause-done g c = done_as _ _ _ _ c.args.request.now _ _ _ _ _ _ _ _ c.in-Sites.is c.carry_out_listing-in-Sites.ensures.told
 
 pub returns-in-Backup-clause-done : goal.returns-in-Backup-clause-done
 returns-in-Backup-clause-done g c =
     done_as _ _ _ _ c.args.request.now _ _ _ _ _ _ _ _ c.in-Backup.is (
       Appends-nil (g.W.Write.contents c.args.output.now),
-      (c.backup_on.result, (c.backup_on.ensures, c.finish.ensures.told)),
+      (c.backup_on.result, (c.backup_on.ensures, c.finish-in-Backup.ensures.told)),
     )
 
 pub returns-in-Explain-clause-done : goal.returns-in-Explain-clause-done
@@ -65,3 +67,13 @@ returns-in-Explain-clause-done g c = done_as _ _ _ _ c.args.request.now _ _ _ _ 
 pub returns-in-Trial-clause-waits : goal.returns-in-Trial-clause-waits
 returns-in-Trial-clause-waits g c = λ no.
     c.carry_out_trial-ended.ensures.waits (none_of (mode_named c.in-Trial.mode.now) (λ some. no (subst ReadsFor (sym c.in-Trial.is) some)))
+
+pub returns-in-Unread-clause-done : goal.returns-in-Unread-clause-done
+returns-in-Unread-clause-done g c =
+    done_as _ _ _ _ c.args.request.now _ _ _ _ _ _ _ _ c.in-Unread.is (Appends-nil (g.W.Write.contents c.args.output.now), c.tell_unread.ensures)
+
+pub returns-in-Library-clause-front : goal.returns-in-Library-clause-front
+returns-in-Library-clause-front g c = λ other.
+    let IsTaken : Request → Type 0 =
+    λ request. TakesFront (most_read request) (g.R.Read.remaining c.args.input.now) (g.R.Read.remaining c.carry_out_errand.new.input) in
+    subst IsTaken (sym c.in-Library.is) (c.carry_out_errand.ensures.front (λ is. other (subst IsSpoolRequest (sym c.in-Library.is) is)))
