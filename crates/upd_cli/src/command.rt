@@ -18,7 +18,8 @@ ghost use Rattle.upd_cli.specs.Inputs.{ReadsInput, TellsRefusals, TriesRunIn, mo
 
 use crate::explaining::explain_fault;
 use crate::library::{
-    backup_on, FileRows, correct_on, errand_on, init_file, migrate_file, serve, try_on};
+    FileRows, backup_on, correct_on, errand_on, init_file, migrate_file, serve, try_on,
+};
 use crate::operands::read_address;
 use crate::status::{FAILED, UNREAD, finish};
 use crate::stored::{Stored, list_on};

@@ -277,11 +277,7 @@ pub fn push_targets(
 }
 
 /// Appends the line of a target.
-pub fn push_target(
-    text: &mut Vec<u8>,
-    idents: &[Ident],
-    target: Target,
-) -> Result<(), AllocError>
+pub fn push_target(text: &mut Vec<u8>, idents: &[Ident], target: Target) -> Result<(), AllocError>
     ensures { OnOk result (text.new.items ≡ text.old.items ++ target_line idents.now target) }
 {
     match target {
@@ -366,11 +362,7 @@ pub fn push_card(
 }
 
 /// Appends the reference of a card.
-pub fn push_card_name(
-    text: &mut Vec<u8>,
-    idents: &[Ident],
-    card: &Card,
-) -> Result<(), AllocError>
+pub fn push_card_name(text: &mut Vec<u8>, idents: &[Ident], card: &Card) -> Result<(), AllocError>
     ensures { OnOk result (text.new.items ≡ text.old.items ++ card_name idents.now card.now) }
 {
     push_parts(text, &[name_of(idents, card.ident), b"."])?;
