@@ -106,7 +106,7 @@ not_help name other = of (bytes_eq (codes "help") name) refl
     of false is = refl
     of true is =
         let same : codes "help" ≡ name = (bytes_eq-Decides (codes "help") name).0 is in
-        absurd (true≢false (subst (λ text. bytes_eq text (codes "help") ≡ false) (sym same) other))
+        absurd (true≢false (subst IsOther (sym same) other))
 
 other_answers : (stop : Option (Text × List Text)) → IfSome stop (λ p. IsOther p.0) → IfSome stop (λ p. answers_to p.0 (label_of help_shape) ≡ false)
 other_answers None other = tt
