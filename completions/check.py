@@ -3,8 +3,8 @@
 
     python3 completions/check.py [--executable FILE]
 
-Each of them has the commands of `upd --help`, and no others. The man page has each command's words as its `--help` has them, and the faults that
-`upd explain` explains, in order of number. groff, which is required, formats it without a warning. bash, and fish where it is installed, are asked
+Each of them has the commands of `upd --help`, and no others. `upd help` writes what `--help` writes. The man page has each command's words as its
+`--help` has them, and the faults that `upd explain` explains, in order of number. groff, which is required, formats it without a warning. bash, and fish where it is installed, are asked
 what they complete. The default executable is crates/upd/out/upd. The exit status is 1 where something differs.
 """
 
@@ -43,8 +43,8 @@ def asked(shell, commands):
     """Lines that a shell completes wrongly."""
     wanted = {"upd ": sorted(commands), "upd ser": ["serve"], "upd trial ": MODES, "upd run library.db LYON 1 ": MODES,
               "upd try library.db ": MODES,
-              "upd run library.db LYON ": [], "upd explain Set": ["Settled"]}
-    wanted |= {f"upd {command} ": ["library.db"] for command in commands if command not in ("trial", "explain")}
+              "upd run library.db LYON ": [], "upd explain Set": ["Settled"], "upd help ": sorted(commands)}
+    wanted |= {f"upd {command} ": ["library.db"] for command in commands if command not in ("trial", "explain", "help")}
     with tempfile.TemporaryDirectory() as folder:
         (Path(folder) / "library.db").touch()
         found = {line: completed(folder, shell, line) for line in wanted}
@@ -79,14 +79,18 @@ def main():
     zsh = (ROOT / "completions/_upd").read_text()
     fish = (ROOT / "completions/upd.fish").read_text()
     found = {
-        "man/upd.1, synopsis": list(synopsis),
-        "man/upd.1, commands": re.findall(r'^\.BI ([a-z]+) "', page, re.M),
-        "upd.bash": re.search(r'1,\*\) words="([a-z ]+) --help', bash)[1].split(),
+        "man/upd.1, synopsis": re.findall(r"^\.B upd ([a-z]+)\n\.R?I ", page, re.M),
+        "man/upd.1, commands": re.findall(r'^\.B[IR] ([a-z]+) " ', page, re.M),
+        "upd.bash": re.search(r'commands="([a-z ]+)"', bash)[1].split(),
         "_upd": re.findall(r"^        '([a-z]+):", zsh, re.M),
         "upd.fish": re.findall(r"-a ([a-z]+) -d", fish),
     }
     wrong = [where for where, names in found.items() if names != commands]
-    for command in commands:
+    if said(upd, "help") != said(upd, "--help"):
+        wrong.append("upd help: not what upd --help writes")
+    for command in [name for name in commands if name != "help"]:
+        if said(upd, "help", command) != said(upd, command, "--help"):
+            wrong.append(f"upd help {command}: not what upd {command} --help writes")
         operands = " ".join(re.findall(r"<([A-Z]+)>", re.search(r"Usage: \S+ .*", said(upd, command, "--help"))[0]))
         if synopsis.get(command) != operands:
             wrong.append(f"man/upd.1, {command}: {synopsis.get(command)}, and not {operands}")

@@ -6,7 +6,7 @@ use Rattle.upd_text.specs.declared.fault.Fault.{Fault}
 use Rattle.upd_text.specs.declared.fault.FaultKind.{FaultKind}
 use Rattle.upd_text.specs.declared.fault.FaultKind.TheVariants.{Write}
 use Rattle.upd_compile.specs.File.{FileView}
-use Rattle.upd_cli.specs.Command.{Answers, EndsTrial, IsEnd, LeavesOutput, answer_to}
+use Rattle.upd_cli.specs.Command.{Answers, EndsTrial, IsEnd, LeavesOutput, answer_to, ending}
 use Rattle.upd_cli.specs.Status.{exit_status, fault_line, no_memory}
 use Rattle.upd_io.proofs.FrontLemmas.{front_all}
 
@@ -21,11 +21,12 @@ nothing_left Write output output' bytes nothing = ([], bytes, refl, nothing)
 nothing_left _ output output' bytes nothing = nothing
 
 pub answered : {U : Type 0} (ended : Result U Fault) (status : ℕ) (defined : Result FileView Fault) (output output' faults faults' : Option (List ℕ))
-    → EndsTrial ended output output' defined → IsEnd ended status faults faults' → Answers (answer_to defined) status output output' faults faults'
+    → EndsTrial ended output output' defined → IsEnd ended status faults faults'
+    → Answers (answer_to defined) (ending status output output' faults faults')
 answered (Ok u) status (Ok file) output output' faults faults' ends told = inl (told.0, ends, told.1)
 answered (Ok u) status (Err fault) output output' faults faults' ends told = absurd ends
 answered (Err fault) status defined output output' faults faults' (inl refused) (inl told) =
-    let IsAnswered : Result FileView Fault → Type 0 = λ d. Answers (answer_to d) status output output' faults faults' in
+    let IsAnswered : Result FileView Fault → Type 0 = λ d. Answers (answer_to d) (ending status output output' faults faults') in
     subst IsAnswered (sym refused.0) (inl (told.0, refused.1, told.1))
 answered (Err fault) status defined output output' faults faults' (inl refused) (inr unsaid) =
     inr (unsaid.0, (fault, inr (ap (λ d. (answer_to d).faults) refused.0), nothing_left fault.kind output output' (answer_to defined).output refused.1, unsaid.1))
@@ -35,7 +36,13 @@ answered (Err fault) status defined output output' faults faults' (inr failed) (
 
 -- before anything was read or written, memory was wanting
 pub answered_at_once : (defined : Result FileView Fault) (fault : Fault) (status : ℕ) (output faults faults' : Option (List ℕ)) → fault ≡ no_memory
-    → IsEnd {U = Unit {0}} (Err fault) status faults faults' → Answers (answer_to defined) status output output faults faults'
+    → IsEnd {U = Unit {0}} (Err fault) status faults faults' → Answers (answer_to defined) (ending status output output faults faults')
 answered_at_once defined fault status output faults faults' is told =
     answered {U = Unit {0}} (Err fault) status defined output output faults faults'
     (inr (ap (λ f. exit_status f.kind) is, nothing_left fault.kind output output (answer_to defined).output (Appends-nil output))) told
+
+-- then the status is 3
+pub memory_status : (fault : Fault) (status : ℕ) (faults faults' : Option (List ℕ)) → fault ≡ no_memory
+    → IsEnd {U = Unit {0}} (Err fault) status faults faults' → status ≡ 3
+memory_status fault status faults faults' is (inl told) = told.0 ∙ ap (λ (f : Fault). exit_status f.kind) is
+memory_status fault status faults faults' is (inr told) = told.0

@@ -8,7 +8,7 @@ use Rattle.sqlite.specs.State.{State}
 use Rattle.upd_row_store.specs.declared.meaning.Meaning.{Ghosts}
 use Rattle.upd_io.specs.Inputs.{IsInput}
 use Rattle.upd_edit.specs.declared.editing.TheConstants.{MAX_TEXT_BYTES}
-use Rattle.upd_cli.specs.Command.{Answers, IsToldOf, answer_to}
+use Rattle.upd_cli.specs.Command.{Answers, Ending, IsToldOf, answer_to}
 use Rattle.upd_cli.specs.Commands.{IsDone}
 use Rattle.upd_cli.specs.Inputs.{HandsRunsIn, IsCorrectRequest, IsSpoolRequest, IsTryRequest, ReadsFor, ReadsInput, TellsRefusals, TriesRunIn, most_read}
 use Rattle.upd_cli.specs.Trial.{trial_named}
@@ -50,39 +50,32 @@ reads_text _ = omega arith
 
 module _ {S C : Type 0} (meaning : Ghosts S) (conn_of : S → C) (state : C → State) (held : Image) where
   -- what was asked is this request
-  pub done_as : (request meant : Request) (status : ℕ) (input input' output output' faults faults' : Option (List ℕ)) → request ≡ meant
-      → IsDone meaning conn_of state held meant status input input' output output' faults faults'
-      → IsDone meaning conn_of state held request status input input' output output' faults faults'
-  done_as request meant status input input' output output' faults faults' is done =
-      subst (λ r. IsDone meaning conn_of state held r status input input' output output' faults faults') (sym is) done
+  pub done_as : (request meant : Request) (input input' : Option (List ℕ)) (end : Ending) → request ≡ meant
+      → IsDone meaning conn_of state held meant input input' end → IsDone meaning conn_of state held request input input' end
+  done_as request meant input input' end is done = subst (λ r. IsDone meaning conn_of state held r input input' end) (sym is) done
 
-  pub trial_done : (words : List Text) (request : Request) (status : ℕ) (input input' output output' faults faults' : Option (List ℕ))
-      → IsAskedFor words request → IsDone meaning conn_of state held request status input input' output output' faults faults'
-      → word_faults words ≡ [] → command_word words ≡ codes "trial"
-      → (run : List ℕ) × IsInput input run
-      × Answers (answer_to (trial_named (operand_word (codes "MODE") words) run)) status output output' faults faults'
-  trial_done words request status input input' output output' faults faults' (inr told) done none is = absurd (none_among told.0 words none told.1)
-  trial_done words request status input input' output output' faults faults' (inl asked) done none is = by (trial_or_other request)
+  pub trial_done : (words : List Text) (request : Request) (input input' : Option (List ℕ)) (end : Ending) → IsAskedFor words request
+      → IsDone meaning conn_of state held request input input' end → word_faults words ≡ [] → command_word words ≡ codes "trial"
+      → (run : List ℕ) × IsInput input run × Answers (answer_to (trial_named (operand_word (codes "MODE") words) run)) end
+  trial_done words request input input' end (inr told) done none is = absurd (none_among told.0 words none told.1)
+  trial_done words request input input' end (inl asked) done none is = by (trial_or_other request)
     where
       IsAnswered : List ℕ → List ℕ → Type 0
-      IsAnswered word run = Answers (answer_to (trial_named word run)) status output output' faults faults'
+      IsAnswered word run = Answers (answer_to (trial_named word run)) end
 
       by : ((mode : Bor (List ℕ)) × (request ≡ Trial mode)) ⊎ (bytes_eq (codes "trial") (request_name request) ≡ false)
           → (run : List ℕ) × IsInput input run × IsAnswered (operand_word (codes "MODE") words) run
       by (inl (mode, same)) =
-          let (run, taken, answers) : IsDone meaning conn_of state held (Trial mode) status input input' output output' faults faults' =
-          subst (λ r. IsDone meaning conn_of state held r status input input' output output' faults faults') same done in
+          let (run, taken, answers) : IsDone meaning conn_of state held (Trial mode) input input' end =
+          subst (λ r. IsDone meaning conn_of state held r input input' end) same done in
           (run, taken, subst (λ word. IsAnswered word run) (trial_mode words mode (subst (IsCommand words) same asked)) answers)
       by (inr apart) = absurd (not_trial words request asked apart is)
 
-  pub unread_done : (words : List Text) (request : Request) (status : ℕ) (input input' output output' faults faults' : Option (List ℕ))
-      → IsAskedFor words request → IsDone meaning conn_of state held request status input input' output output' faults faults'
-      → word_faults words ≢ [] → IsToldOf words status
-  unread_done words request status input input' output output' faults faults' (inl asked) done bad = absurd (bad asked.0)
-  unread_done words (Shown text) status input input' output output' faults faults' (inr (kind, among, is)) (inl done_so) bad =
-      inr (kind, among, done_so ∙ sym (text_status kind is))
-  unread_done words (Shown text) status input input' output output' faults faults' (inr (kind, among, is)) (inr three) bad = inl three
-  unread_done words (Unread text) status input input' output output' faults faults' (inr (kind, among, is)) (nothing, inl two) bad =
-      inr (kind, among, two ∙ sym (mistake_status kind is))
-  unread_done words (Unread text) status input input' output output' faults faults' (inr (kind, among, is)) (nothing, inr three) bad = inl three
-  unread_done words _ status input input' output output' faults faults' (inr (kind, among, is)) done bad = absurd is
+  pub unread_done : (words : List Text) (request : Request) (input input' : Option (List ℕ)) (end : Ending) → IsAskedFor words request
+      → IsDone meaning conn_of state held request input input' end → word_faults words ≢ [] → IsToldOf words end.status
+  unread_done words request input input' end (inl asked) done bad = absurd (bad asked.0)
+  unread_done words (Shown text) input input' end (inr (kind, among, is)) (inl done_so) bad = inr (kind, among, done_so ∙ sym (text_status kind is))
+  unread_done words (Shown text) input input' end (inr (kind, among, is)) (inr three) bad = inl three
+  unread_done words (Unread text) input input' end (inr (kind, among, is)) (nothing, inl two) bad = inr (kind, among, two ∙ sym (mistake_status kind is))
+  unread_done words (Unread text) input input' end (inr (kind, among, is)) (nothing, inr three) bad = inl three
+  unread_done words _ input input' end (inr (kind, among, is)) done bad = absurd is

@@ -10,7 +10,7 @@ use Rattle.upd_row_store.specs.declared.meaning.Meaning.{Ghosts}
 use Rattle.upd_row_store.specs.Keeping.{IsLost}
 use Rattle.upd_row_store.specs.Keeping.IsLost.{OfMemory, OfStore}
 use Rattle.upd_store.specs.Faults.{IsUnopened}
-use Rattle.upd_cli.specs.Command.{IsTold}
+use Rattle.upd_cli.specs.Command.{IsTold, ending}
 use Rattle.upd_cli.specs.Commands.{FailsFirst, Leaves, LeavesErrand}
 use Rattle.upd_cli.specs.Errands.{IsUnread}
 use Rattle.upd_cli.specs.Operands.{errand_of}
@@ -62,7 +62,7 @@ told_no_mistake kind line status faults faults' (inr told) is = absurd (omega (a
 
 -- a failure is reported, and nothing is on the output
 pub fails_first : (fault : Fault) (status : ℕ) (output faults faults' : Option (List ℕ)) → exit_status fault.kind ≡ 3
-    → IsTold (exit_status fault.kind) (fault_line fault) status faults faults' → FailsFirst status output output faults faults'
+    → IsTold (exit_status fault.kind) (fault_line fault) status faults faults' → FailsFirst (ending status output output faults faults')
 fails_first fault status output faults faults' failed told =
     (fault, failed, subst (λ meant. IsTold meant (fault_line fault) status faults faults') failed told, Appends-nil output)
 

@@ -1,6 +1,7 @@
 pub mod StreamLemmas
 pub mod TrialLemmas
 pub mod CommandLemmas
+pub mod HelpLemmas
 pub mod WordLemmas
 pub mod AppLemmas
 pub mod RequestLemmas

@@ -3,6 +3,7 @@ use Rattle.std.proofs.Common.{◌≡◌, ℕ, ◌+◌, ◌⊎◌, ◌<◌, ◌�
 use Rattle.std.proofs.lemmas.Bool.{cases_lt}
 use Rattle.std.proofs.lemmas.List.{take_all}
 use Rattle.std.proofs.Math.Seq.{take-append_seam}
+use Rattle.std.proofs.KnownBytes.{Consumes-nil}
 use Rattle.std.specs.Io.KnownBytes.{Consumes, IsAtEnd}
 use Rattle.upd_io.specs.Inputs.{IsReadFailure}
 use Rattle.upd_text.specs.Faults.{fault_at}
@@ -49,3 +50,9 @@ read_fails kind fault is (inr read) = inr (is ∙ ap (λ k. fault_at k 0) read)
 -- no more was taken than a greater bound
 pub takes_more : (most more : ℕ) (old new : Option (List ℕ)) → most ≤ more → TakesFront most old new → TakesFront more old new
 takes_more most more old new less (front, few, consumed) = (front, omega (arith, less, few), consumed)
+
+-- nothing was taken
+pub takes_nothing : (most : ℕ) (known : Option (List ℕ)) → TakesFront most known known
+takes_nothing most known =
+    let none : 0 ≤ most = omega arith in
+    ([], none, Consumes-nil known)

@@ -1,16 +1,18 @@
 -- The command lines of `trial` are read, and a command that was entered is one of the program's.
-use Rattle.std.proofs.Common.{◌≡◌, ◌⊎◌, inl, inr, if◌then◌else◌, Bool, true, false, List, [], ◌∷◌, ◌++◌, codes, drop, find, Option, Some, None, IfSome, option_and_then, option_map, refl, take}
+use Rattle.std.proofs.Common.{◌≡◌, ◌⊎◌, inl, inr, if◌then◌else◌, Bool, true, false, List, [], ◌∷◌, ◌++◌, ◌||◌, codes, drop, find, get_or, length, Option, Some, None, IfSome, option_and_then, option_map, refl, subst, sym, take, true≢false}
 use Rattle.clap.specs.Faults.{fault_of}
 use Rattle.clap.specs.Lexer.{long_of, short_of}
-use Rattle.clap.specs.Simple.{argument_words, built, label_of, names_of, rows_at}
+use Rattle.clap.specs.Simple.{argument_words, built, label_of, names_of, new_shape, rows_at}
 use Rattle.clap.specs.Walk.{answers_to, stop_after}
 use Rattle.clap.specs.Words.{App, Shape, Text, subcommand_of}
 use Rattle.clap.specs.declared.builder.value_parser.ValueParser.{ValueParser}
 use Rattle.clap.specs.declared.builder.value_parser.ValueParser.TheVariants.{String}
 use Rattle.clap.specs.ValueTests.{accepts}
 use Rattle.clap.specs.Values.{refused_kind}
+use Rattle.std.proofs.lemmas.Slice.Eq.{bytes_eq-Decides}
 use Rattle.std.specs.Str.{bytes_eq}
 use Rattle.clap.proofs.OnLiterals.{clap_on_literals}
+use Rattle.upd_cli.proofs.HelpLemmas.{IsOther, other_named}
 use Rattle.upd_cli.specs.Words.{IsOneOf, IsPlain, command_shape, command_word, operand_word, upd_app, upd_commands, word_faults}
 
 pub plain_read : (name mode : Text) → IsPlain mode → word_faults (name ∷ codes "trial" ∷ mode ∷ []) ≡ []
@@ -63,9 +65,15 @@ abbrev IsNamedIn : Text → List Shape → Type 0
 IsNamedIn name [] = ⊥
 IsNamedIn name (shape ∷ shapes) = (name ≡ shape.name) ⊎ IsNamedIn name shapes
 
-found_name : (test : Shape → Bool) (shapes : List Shape) → IfSome (find test shapes) (λ shape. IsNamedIn shape.name shapes)
-found_name test [] = tt
-found_name test (shape ∷ shapes) = of (test shape) (find test shapes) (found_name test shapes)
+-- a shape that a test finds, but for the last, which does not pass it
+found_name : (test : Shape → Bool) (shapes : List Shape) (last : Shape) → test last ≡ false
+    → IfSome (find test (shapes ++ last ∷ [])) (λ shape. IsNamedIn shape.name shapes)
+found_name test [] last other = of (test last) other
+  where
+    of : (b : Bool) → b ≡ false → IfSome (if b then Some last else None) (λ s. IsNamedIn s.name [])
+    of true is = absurd (true≢false is)
+    of false is = tt
+found_name test (shape ∷ shapes) last other = of (test shape) (find test (shapes ++ last ∷ [])) (found_name test shapes last other)
   where
     later : (o : Option Shape) → IfSome o (λ s. IsNamedIn s.name shapes) → IfSome o (λ s. IsNamedIn s.name (shape ∷ shapes))
     later None h = tt
@@ -76,15 +84,35 @@ found_name test (shape ∷ shapes) = of (test shape) (find test shapes) (found_n
     of true o h = inl refl
     of false o h = later o h
 
-entered_name : (shapes : List Shape) (stop : Option (Text × List Text))
-    → IfSome (option_and_then (λ p. option_map (λ s. rows_at s p.1) (find (λ s. answers_to p.0 (label_of s)) shapes)) stop) (λ c. IsNamedIn c.0 shapes)
-entered_name shapes None = tt
-entered_name shapes (Some p) = of (find (λ s. answers_to p.0 (label_of s)) shapes) (found_name (λ s. answers_to p.0 (label_of s)) shapes)
+entered_name : (shapes : List Shape) (last : Shape) (stop : Option (Text × List Text)) → IfSome stop (λ p. answers_to p.0 (label_of last) ≡ false)
+    → IfSome (option_and_then (λ p. option_map (λ s. rows_at s p.1) (find (λ s. answers_to p.0 (label_of s)) (shapes ++ last ∷ []))) stop)
+    (λ c. IsNamedIn c.0 shapes)
+entered_name shapes last None other = tt
+entered_name shapes last (Some p) other =
+    of (find (λ s. answers_to p.0 (label_of s)) (shapes ++ last ∷ [])) (found_name (λ s. answers_to p.0 (label_of s)) shapes last other)
   where
     of : (o : Option Shape) → IfSome o (λ s. IsNamedIn s.name shapes) → IfSome (option_map (λ s. rows_at s p.1) o) (λ c. IsNamedIn c.0 shapes)
     of None h = tt
     of (Some s) h = h
 
-pub known_command : (words : List Text) → IfSome (subcommand_of upd_app words) (λ command. IsOneOf command.0 upd_commands)
-known_command words =
-    entered_name (built upd_app).subs (stop_after (built upd_app).top.rules (names_of (built upd_app)) (argument_words upd_app words))
+-- `help`, which clap has added behind the program's commands, does not answer to another name
+abbrev help_shape : Shape
+help_shape = get_or (built upd_app).subs (length upd_commands) (new_shape [])
+
+not_help : (name : Text) → IsOther name → answers_to name (label_of help_shape) ≡ false
+not_help name other = of (bytes_eq (codes "help") name) refl
+  where
+    of : (b : Bool) → bytes_eq (codes "help") name ≡ b → (b || false) ≡ false
+    of false is = refl
+    of true is =
+        let same : codes "help" ≡ name = (bytes_eq-Decides (codes "help") name).0 is in
+        absurd (true≢false (subst IsOther (sym same) other))
+
+other_answers : (stop : Option (Text × List Text)) → IfSome stop (λ p. IsOther p.0) → IfSome stop (λ p. answers_to p.0 (label_of help_shape) ≡ false)
+other_answers None other = tt
+other_answers (Some p) other = not_help p.0 other
+
+pub known_command : (words : List Text) → word_faults words ≡ [] → IfSome (subcommand_of upd_app words) (λ command. IsOneOf command.0 upd_commands)
+known_command words none =
+    let stop = stop_after (built upd_app).top.rules (names_of (built upd_app)) (argument_words upd_app words) in
+    entered_name (take (length upd_commands) (built upd_app).subs) help_shape stop (other_answers stop (other_named words none))

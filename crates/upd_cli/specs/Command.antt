@@ -18,6 +18,19 @@ pub record Answer : Type 0 where
   pub output : List ℕ
   pub faults : List ℕ
 
+-- How a command ended: its exit status, and what output and fault stream tell that they held before it and after it.
+pub record Ending : Type 0 where
+  pub status : ℕ
+  pub output : Option (List ℕ)
+  pub output' : Option (List ℕ)
+  pub faults : Option (List ℕ)
+  pub faults' : Option (List ℕ)
+
+-- the ending with this status, of which output and fault stream tell this
+abbrev pub ending : ℕ → Option (List ℕ) → Option (List ℕ) → Option (List ℕ) → Option (List ℕ) → Ending
+ending status output output' faults faults' =
+    record { status = status; output = output; output' = output'; faults = faults; faults' = faults' }
+
 -- a compile file goes to the output, a refusal to the fault stream
 abbrev pub answer_to : Result FileView Fault → Answer
 answer_to (Ok file) = record { status = 0; output = file.bytes; faults = [] }
@@ -35,16 +48,16 @@ LeavesOutput _ output output' bytes = Appends output output' []
 
 -- A command failed: memory, a read or a write did, or the line of the defined refusal couldn't be written. The line of what failed, or a beginning
 -- of it, is all that stands on the fault stream.
-abbrev pub CommandFails : Answer → Option (List ℕ) → Option (List ℕ) → Option (List ℕ) → Option (List ℕ) → Type 0
-CommandFails answer output output' faults faults' =
-    (fault : Fault) × ((exit_status fault.kind ≡ 3) ⊎ (answer.faults ≡ fault_line fault)) × LeavesOutput fault.kind output output' answer.output
-    × AppendsFront faults faults' (fault_line fault)
+abbrev pub CommandFails : Answer → Ending → Type 0
+CommandFails answer end =
+    (fault : Fault) × ((exit_status fault.kind ≡ 3) ⊎ (answer.faults ≡ fault_line fault))
+    × LeavesOutput fault.kind end.output end.output' answer.output × AppendsFront end.faults end.faults' (fault_line fault)
 
 -- The command ended with this answer, as far as output and fault stream tell what they hold; or memory, a read or a write failed.
-abbrev pub Answers : Answer → ℕ → Option (List ℕ) → Option (List ℕ) → Option (List ℕ) → Option (List ℕ) → Type 0
-Answers answer status output output' faults faults' =
-    ((status ≡ answer.status) × Appends output output' answer.output × Appends faults faults' answer.faults)
-    ⊎ ((status ≡ 3) × CommandFails answer output output' faults faults')
+abbrev pub Answers : Answer → Ending → Type 0
+Answers answer end =
+    ((end.status ≡ answer.status) × Appends end.output end.output' answer.output × Appends end.faults end.faults' answer.faults)
+    ⊎ ((end.status ≡ 3) × CommandFails answer end)
 
 -- A compile file is the defined one, a refusal is the defined one; or memory or a read failed.
 abbrev pub GivesUnlessFailed : Result FileView Fault → Result FileView Fault → Type 0

@@ -15,7 +15,7 @@ use Rattle.upd_http.specs.Serving.{Made, LeadsThrough}
 use Rattle.upd_look.specs.FaultTexts.{explained}
 use Rattle.upd_io.specs.Inputs.{IsInput}
 use Rattle.upd_edit.specs.declared.editing.TheConstants.{MAX_TEXT_BYTES}
-use Rattle.upd_cli.specs.Command.{Answers, IsEnd, IsTold, answer_to}
+use Rattle.upd_cli.specs.Command.{Answers, Ending, IsEnd, IsTold, answer_to}
 use Rattle.upd_cli.specs.Errands.{CorrectsText, DoesErrand, TriesRun}
 use Rattle.upd_cli.specs.Opened.{IsLibraryIn, IsWarmed, MakesLibrary, MigratesLibrary, OnFile}
 use Rattle.upd_cli.specs.Operands.{IsNoAddress, errand_of}
@@ -42,14 +42,14 @@ abbrev pub explained_fault : List ℕ → Result (List ℕ) Fault
 explained_fault word = at_line 0 (need BadName (explained word))
 
 -- an explanation was reported, and output, fault stream and status tell how
-abbrev pub IsExplained : List ℕ → ℕ → Option (List ℕ) → Option (List ℕ) → Option (List ℕ) → Option (List ℕ) → Type 0
-IsExplained word status output output' faults faults' =
-    (ended : Result ℕ Fault) × TellsText (explained_fault word) ended output output' × IsEndOf ended status faults faults'
+abbrev pub IsExplained : List ℕ → Ending → Type 0
+IsExplained word end =
+    (ended : Result ℕ Fault) × TellsText (explained_fault word) ended end.output end.output' × IsEndOf ended end.status end.faults end.faults'
 
 -- memory, the store or a read failed before anything was told: the line of that is reported, and nothing is on the output
-abbrev pub FailsFirst : ℕ → Option (List ℕ) → Option (List ℕ) → Option (List ℕ) → Option (List ℕ) → Type 0
-FailsFirst status output output' faults faults' =
-    (fault : Fault) × (exit_status fault.kind ≡ 3) × IsTold 3 (fault_line fault) status faults faults' × Appends output output' []
+abbrev pub FailsFirst : Ending → Type 0
+FailsFirst end =
+    (fault : Fault) × (exit_status fault.kind ≡ 3) × IsTold 3 (fault_line fault) end.status end.faults end.faults' × Appends end.output end.output' []
 
 -- a command with no answer ended: all was done, or the line of what failed is reported
 abbrev pub EndsSilently : Result (Unit {0}) Fault → ℕ → Option (List ℕ) → Option (List ℕ) → Type 0
@@ -69,23 +69,22 @@ module _ {S C : Type 0} (meaning : Ghosts S) (conn_of : S → C) (state : C → 
   Leaves asked ended input input' output output' = LeavesErrand (errand_of asked) ended input input' output output'
 
   -- a command that asks a desk ended, and output, fault stream and status tell how
-  abbrev pub IsCarriedOut : Asked → ℕ → Option (List ℕ) → Option (List ℕ) → Option (List ℕ) → Option (List ℕ) → Option (List ℕ) → Option (List ℕ) → Type 0
-  IsCarriedOut asked status input input' output output' faults faults' =
-      (ended : Result ℕ Fault) × Leaves asked ended input input' output output' × IsEndOf ended status faults faults'
+  abbrev pub IsCarriedOut : Asked → Option (List ℕ) → Option (List ℕ) → Ending → Type 0
+  IsCarriedOut asked input input' end =
+      (ended : Result ℕ Fault) × Leaves asked ended input input' end.output end.output' × IsEndOf ended end.status end.faults end.faults'
 
   -- an edited text was answered by the desk of the library in the file; or that failed
-  abbrev pub IsCorrected : List ℕ → ℕ → Option (List ℕ) → Option (List ℕ) → Option (List ℕ) → Option (List ℕ) → Option (List ℕ) → Type 0
-  IsCorrected set status input output output' faults faults' =
+  abbrev pub IsCorrected : List ℕ → Option (List ℕ) → Ending → Type 0
+  IsCorrected set input end =
       ((text : List ℕ) × IsFrontOf (MAX_TEXT_BYTES + 1) input text
-      × OnFile meaning conn_of state held (λ old new. CorrectsText meaning set text status old new output output' faults faults'))
-      ⊎ FailsFirst status output output' faults faults'
+      × OnFile meaning conn_of state held (λ old new. CorrectsText meaning set text old new end))
+      ⊎ FailsFirst end
 
   -- a run was tried at the desk of the library in the file; or that failed
-  abbrev pub IsTried : List ℕ → ℕ → Option (List ℕ) → Option (List ℕ) → Option (List ℕ) → Option (List ℕ) → Option (List ℕ) → Type 0
-  IsTried mode status input output output' faults faults' =
-      ((run : List ℕ) × IsRunOn input run
-      × OnFile meaning conn_of state held (λ old new. TriesRun meaning mode run status old new output output' faults faults'))
-      ⊎ FailsFirst status output output' faults faults'
+  abbrev pub IsTried : List ℕ → Option (List ℕ) → Ending → Type 0
+  IsTried mode input end =
+      ((run : List ℕ) × IsRunOn input run × OnFile meaning conn_of state held (λ old new. TriesRun meaning mode run old new end))
+      ⊎ FailsFirst end
 
   -- a list was asked of the library in the file, and the answer was told; or the file can't be opened, and nothing is told
   abbrev pub LeavesList : Stored → Result ℕ Fault → Option (List ℕ) → Option (List ℕ) → Type 0
@@ -94,9 +93,8 @@ module _ {S C : Type 0} (meaning : Ghosts S) (conn_of : S → C) (state : C → 
       ⊎ (IsErrAnd ended IsUnopened × Appends output output' [])
 
   -- a list was asked, and output, fault stream and status tell how
-  abbrev pub IsListed : Stored → ℕ → Option (List ℕ) → Option (List ℕ) → Option (List ℕ) → Option (List ℕ) → Type 0
-  IsListed list status output output' faults faults' =
-      (ended : Result ℕ Fault) × LeavesList list ended output output' × IsEndOf ended status faults faults'
+  abbrev pub IsListed : Stored → Ending → Type 0
+  IsListed list end = (ended : Result ℕ Fault) × LeavesList list ended end.output end.output' × IsEndOf ended end.status end.faults end.faults'
 
   -- an empty library was made in the file; or that failed
   abbrev pub IsInitialized : ℕ → Option (List ℕ) → Option (List ℕ) → Type 0
@@ -119,27 +117,25 @@ module _ {S C : Type 0} (meaning : Ghosts S) (conn_of : S → C) (state : C → 
       ⊎ ((place : SocketAddr) × IsSocketText address place × (ended : Result (Unit {0}) Fault)
       × (ServesFile count ended ⊎ IsErrAnd ended IsUnopened) × EndsSilently ended status faults faults')
 
-  -- how a request was carried out
-  abbrev pub IsDone : Request → ℕ → Option (List ℕ) → Option (List ℕ) → Option (List ℕ) → Option (List ℕ) → Option (List ℕ) → Option (List ℕ) → Type 0
-  IsDone (Trial mode) status input input' output output' faults faults' =
-      (run : List ℕ) × IsInput input run × Answers (answer_to (trial_named mode.now run)) status output output' faults faults'
-  IsDone (Init file) status input input' output output' faults faults' = Appends output output' [] × IsInitialized status faults faults'
-  IsDone (Library file asked) status input input' output output' faults faults' = IsCarriedOut asked status input input' output output' faults faults'
-  IsDone (Serve file address count) status input input' output output' faults faults' =
-      Appends output output' [] × IsServed address.now count status faults faults'
-  IsDone (Correct file set) status input input' output output' faults faults' = IsCorrected set.now status input output output' faults faults'
-  IsDone (Try file mode) status input input' output output' faults faults' = IsTried mode.now status input output output' faults faults'
-  IsDone (Runs file) status input input' output output' faults faults' = IsListed stored.Runs status output output' faults faults'
-  IsDone (Sites file) status input input' output output' faults faults' = IsListed stored.Sites status output output' faults faults'
-  IsDone (Backup file copy) status input input' output output' faults faults' =
-      Appends output output' [] × ((ended : Result (Unit {0}) Fault) × EndsSilently ended status faults faults')
-  IsDone (Migrate file) status input input' output output' faults faults' = Appends output output' [] × IsMigrated status faults faults'
-  IsDone (Explain fault) status input input' output output' faults faults' = IsExplained fault.now status output output' faults faults'
-  IsDone (Shown text) status input input' output output' faults faults' = (status ≡ 0) ⊎ (status ≡ 3)
-  IsDone (Unread text) status input input' output output' faults faults' = Appends output output' [] × ((status ≡ 2) ⊎ (status ≡ 3))
+  -- how a request was carried out over an input
+  abbrev pub IsDone : Request → Option (List ℕ) → Option (List ℕ) → Ending → Type 0
+  IsDone (Trial mode) input input' end = (run : List ℕ) × IsInput input run × Answers (answer_to (trial_named mode.now run)) end
+  IsDone (Init file) input input' end = Appends end.output end.output' [] × IsInitialized end.status end.faults end.faults'
+  IsDone (Library file asked) input input' end = IsCarriedOut asked input input' end
+  IsDone (Serve file address count) input input' end = Appends end.output end.output' [] × IsServed address.now count end.status end.faults end.faults'
+  IsDone (Correct file set) input input' end = IsCorrected set.now input end
+  IsDone (Try file mode) input input' end = IsTried mode.now input end
+  IsDone (Runs file) input input' end = IsListed stored.Runs end
+  IsDone (Sites file) input input' end = IsListed stored.Sites end
+  IsDone (Backup file copy) input input' end =
+      Appends end.output end.output' [] × ((ended : Result (Unit {0}) Fault) × EndsSilently ended end.status end.faults end.faults')
+  IsDone (Migrate file) input input' end = Appends end.output end.output' [] × IsMigrated end.status end.faults end.faults'
+  IsDone (Explain fault) input input' end = IsExplained fault.now end
+  IsDone (Shown text) input input' end = (end.status ≡ 0) ⊎ (end.status ≡ 3)
+  IsDone (Unread text) input input' end = Appends end.output end.output' [] × ((end.status ≡ 2) ⊎ (end.status ≡ 3))
 
   -- What the words ask for was carried out; or there was no memory to read them, and that is reported.
-  abbrev pub CarriesOut : List Text → ℕ → Option (List ℕ) → Option (List ℕ) → Option (List ℕ) → Option (List ℕ) → Option (List ℕ) → Option (List ℕ) → Type 0
-  CarriesOut words status input input' output output' faults faults' =
-      ((request : Request) × IsAskedFor words request × IsDone request status input input' output output' faults faults')
-      ⊎ (IsTold 3 (fault_line no_memory) status faults faults' × Appends output output' [])
+  abbrev pub CarriesOut : List Text → Option (List ℕ) → Option (List ℕ) → Ending → Type 0
+  CarriesOut words input input' end =
+      ((request : Request) × IsAskedFor words request × IsDone request input input' end)
+      ⊎ (IsTold 3 (fault_line no_memory) end.status end.faults end.faults' × Appends end.output end.output' [])

@@ -6,7 +6,7 @@ use Rattle.upd_correct.specs.declared.refusal.Refusal.{Refusal}
 use Rattle.upd_edit.specs.RefusalLines.{refusal_lines}
 use Rattle.upd_edit.specs.declared.editing.EditError.{EditError}
 use Rattle.upd_edit.specs.declared.editing.EditError.TheVariants.{Failed, Refused}
-use Rattle.upd_cli.specs.Command.{IsEnd, IsTold}
+use Rattle.upd_cli.specs.Command.{Ending, IsEnd, IsTold}
 use Rattle.upd_cli.specs.Status.{exit_status, fault_line, no_memory}
 use Rattle.upd_cli.specs.Telling.{Writes}
 
@@ -16,10 +16,10 @@ IsRefusedBy refusals status faults faults' =
     IsTold 1 (refusal_lines refusals) status faults faults' ⊎ IsTold 3 (fault_line no_memory) status faults faults'
 
 -- the run is on the output, or the write failed and is reported; refusals and failures are reported by their lines, and then nothing is on the output
-abbrev pub TellsCorrection : Result (List ℕ) EditError → ℕ → Option (List ℕ) → Option (List ℕ) → Option (List ℕ) → Option (List ℕ) → Type 0
-TellsCorrection (Ok run) status output output' faults faults' =
-    (ended : Result ℕ Fault) × Writes 0 run ended output output' × IsEnd ended status faults faults'
-TellsCorrection (Err (Failed fault)) status output output' faults faults' =
-    IsTold (exit_status fault.kind) (fault_line fault) status faults faults' × Appends output output' []
-TellsCorrection (Err (Refused refusals)) status output output' faults faults' =
-    IsRefusedBy refusals.items status faults faults' × Appends output output' []
+abbrev pub TellsCorrection : Result (List ℕ) EditError → Ending → Type 0
+TellsCorrection (Ok run) end =
+    (ended : Result ℕ Fault) × Writes 0 run ended end.output end.output' × IsEnd ended end.status end.faults end.faults'
+TellsCorrection (Err (Failed fault)) end =
+    IsTold (exit_status fault.kind) (fault_line fault) end.status end.faults end.faults' × Appends end.output end.output' []
+TellsCorrection (Err (Refused refusals)) end =
+    IsRefusedBy refusals.items end.status end.faults end.faults' × Appends end.output end.output' []

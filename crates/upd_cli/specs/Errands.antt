@@ -11,6 +11,7 @@ use Rattle.upd_compile.specs.Listings.{card_listing, deck_listing, ident_listing
 use Rattle.upd_compile.specs.declared.mode.Mode.TheVariants as mode
 use Rattle.upd_desk.specs.Holding.{Arrives, EachHeld, Settles, Tells}
 use Rattle.upd_desk.specs.Outcomes.{ReplyView, reply_on}
+use Rattle.upd_cli.specs.Command.{Ending}
 use Rattle.upd_cli.specs.Status.{no_memory, read_failed}
 use Rattle.upd_cli.specs.Streams.{IsRunOn}
 use Rattle.upd_cli.specs.Correcting.{TellsCorrection}
@@ -75,10 +76,10 @@ module _ {S : Type 0} (meaning : Ghosts S) where
     pub same : Keeps meaning old new
 
   -- a run was tried, and its reply and its warnings were told
-  abbrev pub TriesRun : List ℕ → List ℕ → ℕ → S → S → Option (List ℕ) → Option (List ℕ) → Option (List ℕ) → Option (List ℕ) → Type 0
-  TriesRun mode run status old new output output' faults faults' =
+  abbrev pub TriesRun : List ℕ → List ℕ → S → S → Ending → Type 0
+  TriesRun mode run old new end =
       (answer : Result ReplyView Fault) × (warnings : Result (List ℕ) Fault) × IsTriedAs mode run answer warnings old new
-      × TellsTried answer warnings status output output' faults faults'
+      × TellsTried answer warnings end
 
   -- A run, if there is one, leads decks of the library to an edited text. Nothing is changed.
   pub record IsCorrection (set text : List ℕ) (answer : Result (List ℕ) EditError) (old new : S) : Type 0 where
@@ -87,10 +88,8 @@ module _ {S : Type 0} (meaning : Ghosts S) where
     pub same : Keeps meaning old new
 
   -- an edited text was answered by a run, and the answer was told
-  abbrev pub CorrectsText : List ℕ → List ℕ → ℕ → S → S → Option (List ℕ) → Option (List ℕ) → Option (List ℕ) → Option (List ℕ) → Type 0
-  CorrectsText set text status old new output output' faults faults' =
-      (answer : Result (List ℕ) EditError) × IsCorrection set text answer old new
-      × TellsCorrection answer status output output' faults faults'
+  abbrev pub CorrectsText : List ℕ → List ℕ → S → S → Ending → Type 0
+  CorrectsText set text old new end = (answer : Result (List ℕ) EditError) × IsCorrection set text answer old new × TellsCorrection answer end
 
   -- a site was settled, and its mark was told
   abbrev pub SettlesSite : List ℕ → ℕ → Result ℕ Fault → S → S → Option (List ℕ) → Option (List ℕ) → Type 0

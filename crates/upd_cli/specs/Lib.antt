@@ -11,3 +11,4 @@ pub mod Correcting
 pub mod Errands
 pub mod Opened
 pub mod Commands
+pub mod CommandLine

@@ -7,7 +7,7 @@ use Rattle.upd_desk.specs.Answers.{IsUntold, answer_line, is_answered}
 use Rattle.upd_desk.specs.Arrivals.{is_site}
 use Rattle.upd_desk.specs.Outcomes.{ReplyView}
 use Rattle.upd_io.specs.Fronts.{AppendsFront}
-use Rattle.upd_cli.specs.Command.{IsTold}
+use Rattle.upd_cli.specs.Command.{Ending, IsTold}
 use Rattle.upd_cli.specs.Status.{exit_status, fault_line, write_failed}
 
 -- These bytes went to the output, and the command ends with this status; or the write failed, and at most a beginning of them is there.
@@ -44,8 +44,8 @@ IsWarned warnings (Err fault) status faults faults' = IsTold (exit_status fault.
 
 -- A run that was tried is reported by its answer on the output and by its warnings on the fault stream. Where the warnings can't be made, the line of that fault
 -- is reported, and nothing is on the output.
-abbrev pub TellsTried : Result ReplyView Fault → Result (List ℕ) Fault → ℕ → Option (List ℕ) → Option (List ℕ) → Option (List ℕ) → Option (List ℕ) → Type 0
-TellsTried answer (Ok warnings) status output output' faults faults' =
-    (ended : Result ℕ Fault) × TellsRun answer ended output output' × IsWarned warnings ended status faults faults'
-TellsTried answer (Err fault) status output output' faults faults' =
-    IsTold (exit_status fault.kind) (fault_line fault) status faults faults' × Appends output output' []
+abbrev pub TellsTried : Result ReplyView Fault → Result (List ℕ) Fault → Ending → Type 0
+TellsTried answer (Ok warnings) end =
+    (ended : Result ℕ Fault) × TellsRun answer ended end.output end.output' × IsWarned warnings ended end.status end.faults end.faults'
+TellsTried answer (Err fault) end =
+    IsTold (exit_status fault.kind) (fault_line fault) end.status end.faults end.faults' × Appends end.output end.output' []

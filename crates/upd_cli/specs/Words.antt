@@ -63,10 +63,9 @@ abbrev pub IsOneOf : Text → List (Text × List Operand) → Type 0
 IsOneOf name [] = ⊥
 IsOneOf name (command ∷ commands) = (name ≡ command.0) ⊎ IsOneOf name commands
 
--- the program before its first command, without a command `help`
+-- the program before its first command; `clap` adds a command `help`
 abbrev pub upd_top : App
-upd_top = let app = new_app (codes "upd") in
-    record app { top = record app.top { has_version = true; disable_help_subcommand = true; subcommand_required = true } }
+upd_top = let app = new_app (codes "upd") in record app { top = record app.top { has_version = true; subcommand_required = true } }
 
 -- the program with some commands
 abbrev pub app_with : List (Text × List Operand) → App

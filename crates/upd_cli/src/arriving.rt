@@ -1,6 +1,6 @@
 //! Commands that change a library: runs that arrive, and settlements.
 ghost use Rattle.std.specs.Prelude.{◌≡◌, ◌≢◌, ◌⊎◌, ◌+◌, ◌∷◌, ◌++◌, [], Err, IfErr, IfOk, Ok};
-ghost use Rattle.upd_cli.specs.Command.{IsTold};
+ghost use Rattle.upd_cli.specs.Command.{IsTold, ending};
 ghost use Rattle.upd_cli.specs.Errands.{HandsIn, SettlesSite, TriesRun};
 ghost use Rattle.upd_cli.specs.Status.{exit_status};
 ghost use Rattle.upd_cli.specs.Streams.{TakesFront};
@@ -49,8 +49,8 @@ pub(crate) fn try_run<S: RowStore, W: Write, E: Write>(
     output: &mut W,
     faults: &mut E,
 ) -> u8
-    ensures tells { TriesRun S.Meaning mode.now run.now result desk.old.store desk.new.store
-        (W.contents output.old) (W.contents output.new) (E.contents faults.old) (E.contents faults.new) }
+    ensures tells { TriesRun S.Meaning mode.now run.now desk.old.store desk.new.store
+        (ending result (W.contents output.old) (W.contents output.new) (E.contents faults.old) (E.contents faults.new)) }
     ensures status { result ≢ 2 }
 {
     let answer = try_at(alloc, desk, mode, run);
@@ -68,8 +68,8 @@ fn tell_tried<W: Write, E: Write>(
     output: &mut W,
     faults: &mut E,
 ) -> u8
-    ensures tells { TellsTried answer (Ok warnings.now) result (W.contents output.old) (W.contents output.new)
-        (E.contents faults.old) (E.contents faults.new) }
+    ensures tells { TellsTried answer (Ok warnings.now)
+        (ending result (W.contents output.old) (W.contents output.new) (E.contents faults.old) (E.contents faults.new)) }
     ensures status { result ≢ 2 }
 {
     match tell_answer(alloc, answer, output) {

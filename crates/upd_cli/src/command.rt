@@ -1,20 +1,19 @@
 //! Carries out a command line over any input, output and fault stream.
-ghost use Rattle.std.specs.Prelude.{◌≡◌, ◌≢◌, ◌⊎◌, ◌+◌, ℕ, IfErr, List, None, codes, map, []};
+ghost use Rattle.std.specs.Prelude.{◌≡◌, ◌≢◌, ◌⊎◌, ◌+◌, ℕ, IfErr, List, None, map};
 ghost use Rattle.std.specs.IoError.{error_kind};
 ghost use Rattle.upd_io.specs.Inputs.{IsInput};
 ghost use Rattle.upd_compile.specs.Modes.{mode_named};
-ghost use Rattle.upd_cli.specs.Command.{Answers, EndsTrial, GivesUnlessFailed, IsTold, IsToldOf, answer_to};
+ghost use Rattle.upd_cli.specs.Command.{EndsTrial, GivesUnlessFailed, IsTold, ending};
+ghost use Rattle.upd_cli.specs.CommandLine.{RunsCommand};
 ghost use Rattle.sqlite.specs.Files.{file_state};
 ghost use Rattle.sqlite_wal.specs.Files.{image_at};
-ghost use Rattle.upd_cli.specs.Commands.{CarriesOut, IsCarriedOut, IsCorrected, IsDone, IsExplained, IsListed, IsServed, IsTried};
+ghost use Rattle.upd_cli.specs.Commands.{IsCarriedOut, IsCorrected, IsDone, IsExplained, IsListed, IsServed, IsTried};
 ghost use Rattle.upd_cli.specs.Status.{exit_status, fault_line, no_memory, no_words_line};
-ghost use Rattle.upd_cli.specs.Streams.{TakesFront};
+ghost use Rattle.upd_cli.specs.Streams.{TakesFront, stream};
 ghost use Rattle.upd_edit.specs.declared.editing.TheConstants.{MAX_TEXT_BYTES};
 ghost use Rattle.upd_text.specs.declared.limits.TheConstants.{MAX_RUN_BYTES};
 ghost use Rattle.upd_cli.specs.Trial.{trial_named};
-ghost use Rattle.upd_cli.specs.Words.{command_word, operand_word, word_faults};
-ghost use Rattle.upd_cli.specs.Inputs.{HandsRunsIn, IsHandIn, IsSpoolCommand, IsSpoolRequest, IsTryRequest, ReadsFor};
-ghost use Rattle.upd_cli.specs.Inputs.{ReadsInput, TellsRefusals, TriesRunIn, most_read};
+ghost use Rattle.upd_cli.specs.Inputs.{IsHandIn, IsSpoolCommand, IsSpoolRequest, IsTryRequest, ReadsFor, TellsRefusals, most_read};
 
 use crate::explaining::explain_fault;
 use crate::library::{
@@ -47,24 +46,9 @@ pub fn run_command<S: AsStr, R: Read, W: Write, E: Write>(
     output: &mut W,
     faults: &mut E,
 ) -> u8
-    ensures trial { word_faults (map S.text words.entry.now) ≡ [] → command_word (map S.text words.entry.now) ≡ codes "trial"
-        → (run : List ℕ) × IsInput (R.remaining input.old) run
-        × Answers (answer_to (trial_named (operand_word (codes "MODE") (map S.text words.entry.now)) run)) result
-        (W.contents output.old) (W.contents output.new) (E.contents faults.old) (E.contents faults.new) }
-    ensures told { CarriesOut ⟦<FileRows<Unknown> as Meaning>⟧ (λ rows. rows.inner.conn) file_state (image_at ⟦<Unknown as Start>⟧)
-        (map S.text words.entry.now) result (R.remaining input.old) (R.remaining input.new)
-        (W.contents output.old) (W.contents output.new) (E.contents faults.old) (E.contents faults.new) }
-    ensures unread { word_faults (map S.text words.entry.now) ≢ [] → IsToldOf (map S.text words.entry.now) result }
-    // Of a run that is too long, no more is read than shows it. So it is of an edited text.
-    ensures front { command_word (map S.text words.entry.now) ≢ codes "spool"
-        → command_word (map S.text words.entry.now) ≢ codes "correct"
-        → TakesFront (MAX_RUN_BYTES + 1) (R.remaining input.old) (R.remaining input.new) }
-    ensures text { command_word (map S.text words.entry.now) ≢ codes "spool"
-        → TakesFront (MAX_TEXT_BYTES + 1) (R.remaining input.old) (R.remaining input.new) }
-    ensures waits { ¬ ReadsInput (map S.text words.entry.now) → input.new ≡ input.old }
-    ensures silent { (result ≡ 2) ⊎ ((result ≡ 1) × ¬ HandsRunsIn (map S.text words.entry.now)) → output.new ≡ output.old }
-    // `try` may have written warnings.
-    ensures clean { ¬ TriesRunIn (map S.text words.entry.now) → result ≡ 0 → faults.new ≡ faults.old }
+    ensures { RunsCommand ⟦<FileRows<Unknown> as Meaning>⟧ (λ rows. rows.inner.conn) file_state (image_at ⟦<Unknown as Start>⟧)
+        (map S.text words.entry.now) result (stream R.remaining input.old input.new)
+        (stream W.contents output.old output.new) (stream E.contents faults.old faults.new) }
 {
     run_command_from(rt, Unknown, words, input, output, faults)
 }
@@ -79,24 +63,9 @@ pub fn run_command_from<St: Start, S: AsStr, R: Read, W: Write, E: Write>(
     output: &mut W,
     faults: &mut E,
 ) -> u8
-    ensures trial { word_faults (map S.text words.entry.now) ≡ [] → command_word (map S.text words.entry.now) ≡ codes "trial"
-        → (run : List ℕ) × IsInput (R.remaining input.old) run
-        × Answers (answer_to (trial_named (operand_word (codes "MODE") (map S.text words.entry.now)) run)) result
-        (W.contents output.old) (W.contents output.new) (E.contents faults.old) (E.contents faults.new) }
-    ensures told { CarriesOut ⟦<FileRows<St> as Meaning>⟧ (λ rows. rows.inner.conn) file_state (image_at St.Start)
-        (map S.text words.entry.now) result (R.remaining input.old) (R.remaining input.new)
-        (W.contents output.old) (W.contents output.new) (E.contents faults.old) (E.contents faults.new) }
-    ensures unread { word_faults (map S.text words.entry.now) ≢ [] → IsToldOf (map S.text words.entry.now) result }
-    // Of a run that is too long, no more is read than shows it. So it is of an edited text.
-    ensures front { command_word (map S.text words.entry.now) ≢ codes "spool"
-        → command_word (map S.text words.entry.now) ≢ codes "correct"
-        → TakesFront (MAX_RUN_BYTES + 1) (R.remaining input.old) (R.remaining input.new) }
-    ensures text { command_word (map S.text words.entry.now) ≢ codes "spool"
-        → TakesFront (MAX_TEXT_BYTES + 1) (R.remaining input.old) (R.remaining input.new) }
-    ensures waits { ¬ ReadsInput (map S.text words.entry.now) → input.new ≡ input.old }
-    ensures silent { (result ≡ 2) ⊎ ((result ≡ 1) × ¬ HandsRunsIn (map S.text words.entry.now)) → output.new ≡ output.old }
-    // `try` may have written warnings.
-    ensures clean { ¬ TriesRunIn (map S.text words.entry.now) → result ≡ 0 → faults.new ≡ faults.old }
+    ensures { RunsCommand ⟦<FileRows<St> as Meaning>⟧ (λ rows. rows.inner.conn) file_state (image_at St.Start)
+        (map S.text words.entry.now) result (stream R.remaining input.old input.new)
+        (stream W.contents output.old output.new) (stream E.contents faults.old faults.new) }
 {
     match read_words(rt.alloc(), words) {
         Ok(request) => carry_out(rt, start, &request, input, output, faults),
@@ -114,8 +83,8 @@ fn carry_out<St: Start, R: Read, W: Write, E: Write>(
     faults: &mut E,
 ) -> u8
     ensures done { IsDone ⟦<FileRows<St> as Meaning>⟧ (λ rows. rows.inner.conn) file_state (image_at St.Start)
-        request.now result (R.remaining input.old) (R.remaining input.new)
-        (W.contents output.old) (W.contents output.new) (E.contents faults.old) (E.contents faults.new) }
+        request.now (R.remaining input.old) (R.remaining input.new)
+        (ending result (W.contents output.old) (W.contents output.new) (E.contents faults.old) (E.contents faults.new)) }
     ensures front { ¬ IsSpoolRequest request.now
         → TakesFront (most_read request.now) (R.remaining input.old) (R.remaining input.new) }
     ensures waits { ¬ ReadsFor request.now → input.new ≡ input.old }
@@ -197,8 +166,8 @@ fn carry_out_errand<St: Start, R: Read, W: Write, E: Write>(
     faults: &mut E,
 ) -> u8
     ensures told { IsCarriedOut ⟦<FileRows<St> as Meaning>⟧ (λ rows. rows.inner.conn) file_state (image_at St.Start)
-        asked.now result (R.remaining input.old) (R.remaining input.new)
-        (W.contents output.old) (W.contents output.new) (E.contents faults.old) (E.contents faults.new) }
+        asked.now (R.remaining input.old) (R.remaining input.new)
+        (ending result (W.contents output.old) (W.contents output.new) (E.contents faults.old) (E.contents faults.new)) }
     ensures front { ¬ IsSpoolCommand asked.now → TakesFront (MAX_RUN_BYTES + 1) (R.remaining input.old) (R.remaining input.new) }
     ensures waits { ¬ IsHandIn asked.now → input.new ≡ input.old }
     ensures silent { (result ≡ 2) ⊎ ((result ≡ 1) × ¬ IsHandIn asked.now) → output.new ≡ output.old }
@@ -221,8 +190,8 @@ fn carry_out_trying<St: Start, R: Read, W: Write, E: Write>(
     faults: &mut E,
 ) -> u8
     ensures told { IsTried ⟦<FileRows<St> as Meaning>⟧ (λ rows. rows.inner.conn) file_state (image_at St.Start)
-        mode.now result (R.remaining input.old) (W.contents output.old) (W.contents output.new)
-        (E.contents faults.old) (E.contents faults.new) }
+        mode.now (R.remaining input.old)
+        (ending result (W.contents output.old) (W.contents output.new) (E.contents faults.old) (E.contents faults.new)) }
     ensures front { TakesFront (MAX_RUN_BYTES + 1) (R.remaining input.old) (R.remaining input.new) }
     ensures status { result ≢ 2 }
 {
@@ -243,8 +212,8 @@ fn carry_out_correction<St: Start, R: Read, W: Write, E: Write>(
     faults: &mut E,
 ) -> u8
     ensures told { IsCorrected ⟦<FileRows<St> as Meaning>⟧ (λ rows. rows.inner.conn) file_state (image_at St.Start)
-        set.now result (R.remaining input.old) (W.contents output.old) (W.contents output.new)
-        (E.contents faults.old) (E.contents faults.new) }
+        set.now (R.remaining input.old)
+        (ending result (W.contents output.old) (W.contents output.new) (E.contents faults.old) (E.contents faults.new)) }
     ensures front { TakesFront (MAX_TEXT_BYTES + 1) (R.remaining input.old) (R.remaining input.new) }
     ensures silent { (result ≡ 1) ⊎ (result ≡ 2) → output.new ≡ output.old }
     ensures clean { result ≡ 0 → faults.new ≡ faults.old }
@@ -265,7 +234,7 @@ fn carry_out_listing<St: Start, W: Write, E: Write>(
     faults: &mut E,
 ) -> u8
     ensures told { IsListed ⟦<FileRows<St> as Meaning>⟧ (λ rows. rows.inner.conn) file_state (image_at St.Start)
-        stored result (W.contents output.old) (W.contents output.new) (E.contents faults.old) (E.contents faults.new) }
+        stored (ending result (W.contents output.old) (W.contents output.new) (E.contents faults.old) (E.contents faults.new)) }
     ensures silent { (result ≡ 1) ⊎ (result ≡ 2) → output.new ≡ output.old }
     ensures clean { result ≡ 0 → faults.new ≡ faults.old }
 {
@@ -277,8 +246,8 @@ fn carry_out_listing<St: Start, W: Write, E: Write>(
 
 /// `explain`: what is said of a fault goes to the output.
 fn carry_out_explaining<W: Write, E: Write>(fault: &str, output: &mut W, faults: &mut E) -> u8
-    ensures told { IsExplained fault.now result (W.contents output.old) (W.contents output.new)
-        (E.contents faults.old) (E.contents faults.new) }
+    ensures told { IsExplained fault.now
+        (ending result (W.contents output.old) (W.contents output.new) (E.contents faults.old) (E.contents faults.new)) }
     ensures silent { (result ≡ 1) ⊎ (result ≡ 2) → output.new ≡ output.old }
     ensures clean { result ≡ 0 → faults.new ≡ faults.old }
 {

@@ -1,5 +1,6 @@
 //! `correct`: from an edited text to a run on the output.
 ghost use Rattle.std.specs.Prelude.{◌≡◌, ◌⊎◌, Ok};
+ghost use Rattle.upd_cli.specs.Command.{ending};
 ghost use Rattle.upd_cli.specs.Correcting.{IsRefusedBy, TellsCorrection};
 ghost use Rattle.upd_cli.specs.Errands.{CorrectsText};
 
@@ -23,8 +24,8 @@ pub(crate) fn correct_text<S: RowStore, W: Write, E: Write>(
     output: &mut W,
     faults: &mut E,
 ) -> u8
-    ensures tells { CorrectsText S.Meaning set.now text.now result desk.old.store desk.new.store
-        (W.contents output.old) (W.contents output.new) (E.contents faults.old) (E.contents faults.new) }
+    ensures tells { CorrectsText S.Meaning set.now text.now desk.old.store desk.new.store
+        (ending result (W.contents output.old) (W.contents output.new) (E.contents faults.old) (E.contents faults.new)) }
     ensures silent { (result ≡ 1) ⊎ (result ≡ 2) → output.new ≡ output.old }
     ensures clean { result ≡ 0 → faults.new ≡ faults.old }
 {
@@ -37,8 +38,8 @@ pub(crate) fn correct_text<S: RowStore, W: Write, E: Write>(
 
 /// Writes a run, or the line of a write that failed. Returns the exit status.
 fn write_run<W: Write, E: Write>(run: &[u8], output: &mut W, faults: &mut E) -> u8
-    ensures tells { TellsCorrection (Ok run.now) result (W.contents output.old) (W.contents output.new)
-        (E.contents faults.old) (E.contents faults.new) }
+    ensures tells { TellsCorrection (Ok run.now)
+        (ending result (W.contents output.old) (W.contents output.new) (E.contents faults.old) (E.contents faults.new)) }
     ensures status { (result ≡ 0) ⊎ (result ≡ 3) }
     ensures clean { result ≡ 0 → faults.new ≡ faults.old }
 {

@@ -4,6 +4,7 @@
 //! own (docs/decisions.md, D-56).
 #![tactic(auto)]
 
+mod app;
 mod arriving;
 mod asking;
 mod command;

@@ -2,6 +2,7 @@
 ghost use Rattle.std.specs.Prelude.{◌≡◌, ◌≢◌, ◌≤◌, ◌⊎◌, ◌+◌, ℕ, List, length, IfErr, IfOk, IsErrAnd, OnErr, OnOk};
 ghost use Rattle.sqlite.specs.Files.{file_state};
 ghost use Rattle.sqlite_wal.specs.Files.{image_at};
+ghost use Rattle.upd_cli.specs.Command.{ending};
 ghost use Rattle.upd_cli.specs.Commands.{Leaves, ServesFile};
 ghost use Rattle.upd_cli.specs.Errands.{CorrectsText, TriesRun};
 ghost use Rattle.upd_cli.specs.Inputs.{IsHandIn, IsSpoolCommand};
@@ -79,8 +80,8 @@ pub(crate) fn try_on<St: Start, R: Read, W: Write, E: Write>(
 ) -> Result<u8, Fault>
     ensures told { IfOk result (λ status. (run : List ℕ) × IsRunOn (R.remaining input.old) run
         × OnFile ⟦<FileRows<St> as Meaning>⟧ (λ rows. rows.inner.conn) file_state (image_at St.Start)
-        (λ old new. TriesRun ⟦<FileRows<St> as Meaning>⟧ mode.now run status old new (W.contents output.old) (W.contents output.new)
-        (E.contents faults.old) (E.contents faults.new))) }
+        (λ old new. TriesRun ⟦<FileRows<St> as Meaning>⟧ mode.now run old new
+        (ending status (W.contents output.old) (W.contents output.new) (E.contents faults.old) (E.contents faults.new)))) }
     ensures front { TakesFront (MAX_RUN_BYTES + 1) (R.remaining input.old) (R.remaining input.new) }
     ensures status { IfOk result (λ status. status ≢ 2) }
     ensures none { OnErr result (output.new ≡ output.old) }
@@ -107,8 +108,8 @@ pub(crate) fn correct_on<St: Start, R: Read, W: Write, E: Write>(
 ) -> Result<u8, Fault>
     ensures told { IfOk result (λ status. (text : List ℕ) × IsFrontOf (MAX_TEXT_BYTES + 1) (R.remaining input.old) text
         × OnFile ⟦<FileRows<St> as Meaning>⟧ (λ rows. rows.inner.conn) file_state (image_at St.Start)
-        (λ old new. CorrectsText ⟦<FileRows<St> as Meaning>⟧ set.now text status old new (W.contents output.old) (W.contents output.new)
-        (E.contents faults.old) (E.contents faults.new))) }
+        (λ old new. CorrectsText ⟦<FileRows<St> as Meaning>⟧ set.now text old new
+        (ending status (W.contents output.old) (W.contents output.new) (E.contents faults.old) (E.contents faults.new)))) }
     ensures front { TakesFront (MAX_TEXT_BYTES + 1) (R.remaining input.old) (R.remaining input.new) }
     ensures silent { IfOk result (λ status. (status ≡ 1) ⊎ (status ≡ 2) → output.new ≡ output.old) }
     ensures clean { IfOk result (λ status. status ≡ 0 → faults.new ≡ faults.old) }

@@ -210,38 +210,55 @@ fn words_that_ask_for_a_text_get_it_on_the_output(rt: HostRuntime) -> Result<(),
     writes(&rt, &["--help"], front)
 }
 
-/// The words of each command that ask for its help, and how that begins.
-const ABOUT: &[(&[&str], &str)] = &[
-    (&["init", "--help"], "Makes an empty library"),
-    (&["run", "--help"], "Sends the run on standard input"),
-    (&["settle", "--help"], "Settles a site's runs"),
-    (&["spool", "--help"], "Sends the runs of a spool"),
-    (&["serve", "--help"], "Serves COUNT HTTP connections"),
-    (&["compile", "--help"], "Writes the compile file"),
-    (&["list", "--help"], "Lists the cards of a deck"),
-    (&["history", "--help"], "Lists what is known of a card"),
-    (&["blame", "--help"], "Lists the cards of a deck with who"),
-    (&["show", "--help"], "Shows what a deck or"),
-    (&["idents", "--help"], "Lists all decks and"),
-    (&["yanks", "--help"], "Lists the yank cards"),
-    (&["page", "--help"], "Writes the library as one page"),
-    (&["text", "--help"], "Writes the active cards of a deck"),
-    (&["correct", "--help"], "Writes the run that corrects decks"),
-    (&["try", "--help"], "Writes the reply that the run"),
-    (&["source", "--help"], "Writes the compile file of one"),
-    (&["runs", "--help"], "Lists the stored runs"),
-    (&["sites", "--help"], "Lists the sites"),
-    (&["backup", "--help"], "Makes a whole copy"),
-    (&["migrate", "--help"], "Migrates the file of an older"),
-    (&["explain", "--help"], "Explains a fault"),
+/// Each command, and how its help begins.
+const ABOUT: &[(&str, &str)] = &[
+    ("init", "Makes an empty library"),
+    ("run", "Sends the run on standard input"),
+    ("settle", "Settles a site's runs"),
+    ("spool", "Sends the runs of a spool"),
+    ("serve", "Serves COUNT HTTP connections"),
+    ("compile", "Writes the compile file"),
+    ("list", "Lists the cards of a deck"),
+    ("history", "Lists what is known of a card"),
+    ("blame", "Lists the cards of a deck with who"),
+    ("show", "Shows what a deck or"),
+    ("idents", "Lists all decks and"),
+    ("yanks", "Lists the yank cards"),
+    ("page", "Writes the library as one page"),
+    ("text", "Writes the active cards of a deck"),
+    ("correct", "Writes the run that corrects decks"),
+    ("try", "Writes the reply that the run"),
+    ("source", "Writes the compile file of one"),
+    ("runs", "Lists the stored runs"),
+    ("sites", "Lists the sites"),
+    ("backup", "Makes a whole copy"),
+    ("migrate", "Migrates the file of an older"),
+    ("explain", "Explains a fault"),
 ];
 
 #[test]
 fn each_command_has_its_own_help(rt: HostRuntime) -> Result<(), Fail> {
-    for (words, front) in ABOUT {
-        writes(&rt, words, front)?;
+    for (name, front) in ABOUT {
+        writes(&rt, &[*name, "--help"], front)?;
     }
     Ok(())
+}
+
+/// `help` and these words write what the words of the option write.
+fn is_help(rt: &HostRuntime, words: &[&str], option: &[&str]) -> Result<(), Fail> {
+    let wanted = run_words(rt, option, b"")?;
+    let text = std::str::from_utf8(&wanted.output)?;
+    answers(rt, words, b"", (0, text, ""))
+}
+
+#[test]
+fn help_is_a_command_too(rt: HostRuntime) -> Result<(), Fail> {
+    answers(&rt, &["help", "trial"], b"", (0, TRIAL_HELP, ""))?;
+    is_help(&rt, &["help"], &["--help"])?;
+    for (name, _) in ABOUT {
+        is_help(&rt, &["help", *name], &[*name, "--help"])?;
+    }
+    complains(&rt, &["help", "nonsense"], "error: unrecognized subcommand 'nonsense'\n")
 }
 
 const NO_MODE: &str = "\

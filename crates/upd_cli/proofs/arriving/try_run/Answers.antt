@@ -1,5 +1,6 @@
 use Rattle.std.proofs.Common.{ℕ, List, Ok, Err, subst}
 use Rattle.std.proofs.KnownBytes.{Appends-nil}
+use Rattle.upd_cli.specs.Command.{ending}
 use Rattle.upd_cli.specs.Telling.{TellsTried}
 use Rattle.upd_cli.proofs.LeavingLemmas.{told_no_mistake}
 use Rattle.upd_cli.proofs.TriedLemmas.{tried_as}
@@ -8,8 +9,8 @@ use Rattle.upd_cli.proofs.arriving.try_run.Goals as goal
 pub returns-in-Ok-clause-tells : goal.returns-in-Ok-clause-tells
 returns-in-Ok-clause-tells g c =
     let TellsAll : List ℕ → Type 0 =
-    λ warnings. TellsTried c.try_at-answer.result (Ok warnings) c.tell_tried.result (g.W.Write.contents c.args.output.now)
-    (g.W.Write.contents c.tell_tried.new.output) (g.E.Write.contents c.args.faults.now) (g.E.Write.contents c.tell_tried.new.faults) in (
+    λ warnings. TellsTried c.try_at-answer.result (Ok warnings) (ending c.tell_tried.result (g.W.Write.contents c.args.output.now)
+    (g.W.Write.contents c.tell_tried.new.output) (g.E.Write.contents c.args.faults.now) (g.E.Write.contents c.tell_tried.new.faults)) in (
       c.try_at-answer.result,
       Ok c.in-Ok.warnings.items,
       tried_as g.S.Meaning c.args.mode.now c.args.run.now c.try_at-answer.result (Ok c.in-Ok.warnings.items)

@@ -13,7 +13,7 @@ use Rattle.upd_cli.proofs.command.carry_out.Goals as goal
 pub returns-in-Trial-clause-done : goal.returns-in-Trial-clause-done
 returns-in-Trial-clause-done g c =
     let (run, is, ends) = c.carry_out_trial-ended.ensures.ends in
-    done_as _ _ _ _ c.args.request.now _ _ _ _ _ _ _ _ c.in-Trial.is (
+    done_as _ _ _ _ c.args.request.now _ _ _ _ c.in-Trial.is (
       run,
       is,
       answered c.carry_out_trial-ended.result _ (trial_named c.in-Trial.mode.now run) (g.W.Write.contents c.args.output.now)
@@ -22,47 +22,47 @@ returns-in-Trial-clause-done g c =
 
 pub returns-in-Init-clause-done : goal.returns-in-Init-clause-done
 returns-in-Init-clause-done g c =
-    done_as _ _ _ _ c.args.request.now _ _ _ _ _ _ _ _ c.in-Init.is (
+    done_as _ _ _ _ c.args.request.now _ _ _ _ c.in-Init.is (
       Appends-nil (g.W.Write.contents c.args.output.now),
       (c.init_file.result, c.init_file.ensures.made, (c.init_file.ensures.failed, c.finish-in-Init.ensures.told)),
     )
 
 pub returns-in-Migrate-clause-done : goal.returns-in-Migrate-clause-done
 returns-in-Migrate-clause-done g c =
-    done_as _ _ _ _ c.args.request.now _ _ _ _ _ _ _ _ c.in-Migrate.is (
+    done_as _ _ _ _ c.args.request.now _ _ _ _ c.in-Migrate.is (
       Appends-nil (g.W.Write.contents c.args.output.now),
       (c.migrate_file.result, c.migrate_file.ensures.migrates, (c.migrate_file.ensures.failed, c.finish-in-Migrate.ensures.told)),
     )
 
 pub returns-in-Library-clause-done : goal.returns-in-Library-clause-done
-returns-in-Library-clause-done g c = done_as _ _ _ _ c.args.request.now _ _ _ _ _ _ _ _ c.in-Library.is c.carry_out_errand.ensures.told
+returns-in-Library-clause-done g c = done_as _ _ _ _ c.args.request.now _ _ _ _ c.in-Library.is c.carry_out_errand.ensures.told
 
 pub returns-in-Serve-clause-done : goal.returns-in-Serve-clause-done
 returns-in-Serve-clause-done g c =
-    done_as _ _ _ _ c.args.request.now _ _ _ _ _ _ _ _ c.in-Serve.is
+    done_as _ _ _ _ c.args.request.now _ _ _ _ c.in-Serve.is
     (Appends-nil (g.W.Write.contents c.args.output.now), c.carry_out_serving.ensures.served)
 
 pub returns-in-Correct-clause-done : goal.returns-in-Correct-clause-done
-returns-in-Correct-clause-done g c = done_as _ _ _ _ c.args.request.now _ _ _ _ _ _ _ _ c.in-Correct.is c.carry_out_correction.ensures.told
+returns-in-Correct-clause-done g c = done_as _ _ _ _ c.args.request.now _ _ _ _ c.in-Correct.is c.carry_out_correction.ensures.told
 
 pub returns-in-Try-clause-done : goal.returns-in-Try-clause-done
-returns-in-Try-clause-done g c = done_as _ _ _ _ c.args.request.now _ _ _ _ _ _ _ _ c.in-Try.is c.carry_out_trying.ensures.told
+returns-in-Try-clause-done g c = done_as _ _ _ _ c.args.request.now _ _ _ _ c.in-Try.is c.carry_out_trying.ensures.told
 
 pub returns-in-Runs-clause-done : goal.returns-in-Runs-clause-done
-returns-in-Runs-clause-done g c = done_as _ _ _ _ c.args.request.now _ _ _ _ _ _ _ _ c.in-Runs.is c.carry_out_listing.ensures.told
+returns-in-Runs-clause-done g c = done_as _ _ _ _ c.args.request.now _ _ _ _ c.in-Runs.is c.carry_out_listing.ensures.told
 
 pub returns-in-Sites-clause-done : goal.returns-in-Sites-clause-done
-returns-in-Sites-clause-done g c = done_as _ _ _ _ c.args.request.now _ _ _ _ _ _ _ _ c.in-Sites.is c.carry_out_listing-in-Sites.ensures.told
+returns-in-Sites-clause-done g c = done_as _ _ _ _ c.args.request.now _ _ _ _ c.in-Sites.is c.carry_out_listing-in-Sites.ensures.told
 
 pub returns-in-Backup-clause-done : goal.returns-in-Backup-clause-done
 returns-in-Backup-clause-done g c =
-    done_as _ _ _ _ c.args.request.now _ _ _ _ _ _ _ _ c.in-Backup.is (
+    done_as _ _ _ _ c.args.request.now _ _ _ _ c.in-Backup.is (
       Appends-nil (g.W.Write.contents c.args.output.now),
       (c.backup_on.result, (c.backup_on.ensures, c.finish-in-Backup.ensures.told)),
     )
 
 pub returns-in-Explain-clause-done : goal.returns-in-Explain-clause-done
-returns-in-Explain-clause-done g c = done_as _ _ _ _ c.args.request.now _ _ _ _ _ _ _ _ c.in-Explain.is c.carry_out_explaining.ensures.told
+returns-in-Explain-clause-done g c = done_as _ _ _ _ c.args.request.now _ _ _ _ c.in-Explain.is c.carry_out_explaining.ensures.told
 
 pub returns-in-Trial-clause-waits : goal.returns-in-Trial-clause-waits
 returns-in-Trial-clause-waits g c = λ no.
@@ -70,7 +70,7 @@ returns-in-Trial-clause-waits g c = λ no.
 
 pub returns-in-Unread-clause-done : goal.returns-in-Unread-clause-done
 returns-in-Unread-clause-done g c =
-    done_as _ _ _ _ c.args.request.now _ _ _ _ _ _ _ _ c.in-Unread.is (Appends-nil (g.W.Write.contents c.args.output.now), c.tell_unread.ensures)
+    done_as _ _ _ _ c.args.request.now _ _ _ _ c.in-Unread.is (Appends-nil (g.W.Write.contents c.args.output.now), c.tell_unread.ensures)
 
 pub returns-in-Library-clause-front : goal.returns-in-Library-clause-front
 returns-in-Library-clause-front g c = λ other.

@@ -2,6 +2,7 @@ use Rattle.std.proofs.Common.{ℕ, List, Ok, Err, subst}
 use Rattle.std.proofs.KnownBytes.{Appends-nil}
 use Rattle.upd_correct.specs.declared.refusal.Refusal.{Refusal}
 use Rattle.upd_edit.specs.declared.editing.EditError.TheVariants.{Failed, Refused}
+use Rattle.upd_cli.specs.Command.{ending}
 use Rattle.upd_cli.specs.Correcting.{IsRefusedBy, TellsCorrection}
 use Rattle.upd_cli.specs.Errands.{IsCorrection}
 use Rattle.upd_cli.proofs.correcting.correct_text.Goals as goal
@@ -11,8 +12,8 @@ returns-in-Ok-clause-tells g c =
     let IsRight : List ℕ → Type 0 =
     λ set. IsCorrection g.S.Meaning set c.args.text.now (Ok c.in-Ok.run'.items) c.args.desk.now.store c.correct_at.new.desk.store in
     let IsTold : List ℕ → Type 0 =
-    λ run. TellsCorrection (Ok run) c.write_run.result (g.W.Write.contents c.args.output.now) (g.W.Write.contents c.write_run.new.output)
-    (g.E.Write.contents c.args.faults.now) (g.E.Write.contents c.write_run.new.faults) in (
+    λ run. TellsCorrection (Ok run) (ending c.write_run.result (g.W.Write.contents c.args.output.now) (g.W.Write.contents c.write_run.new.output)
+    (g.E.Write.contents c.args.faults.now) (g.E.Write.contents c.write_run.new.faults)) in (
       Ok c.in-Ok.run'.items,
       subst IsRight c.as_bytes.ensures.value
           (record { corrects = c.in-Ok.ensures.corrects; short = c.in-Ok.ensures.short; same = c.in-Ok.ensures.same }),

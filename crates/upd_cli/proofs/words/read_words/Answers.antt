@@ -35,7 +35,7 @@ counted (Some found) IsMade counts made = made counts
 
 pub returns-in-Ok-clause-ok : goal.returns-in-Ok-clause-ok
 returns-in-Ok-clause-ok g c =
-    let app_is : app_of c.in_ok-commands.field-0 ≡ upd_app = c.in_ok-commands.ensures in
+    let app_is : app_of c.in_ok-program.field-0 ≡ upd_app = c.in_ok-program.ensures in
     let words : List Text = map g.S.AsStr.text c.args.words.now in
     let none : word_faults words ≡ [] = sym (ap (λ (a : App). fault_of a words) app_is) ∙ c.in-Ok.ensures.kinds (ap is_simple_and_free app_is ∙ is_free_upd) in
     let rows : subcommand_rows_of c.in-Ok.matches ≡ subcommand_of upd_app words = (c.in-Ok.ensures.matches (ap is_simple app_is ∙ is_simple_upd)).1
@@ -50,13 +50,15 @@ read_request-requires-clause-known g c =
     let words : List Text = map g.S.AsStr.text c.args.words.now in
     let IsKnown : Option (Text × List Row) → Type 0 = λ o. IfSome o (λ command. IsOneOf command.0 upd_commands) in
     let rows : subcommand_rows_of c.in-Ok.matches ≡ subcommand_of upd_app words =
-    (c.in-Ok.ensures.matches (ap is_simple c.in_ok-commands.ensures ∙ is_simple_upd)).1
-    ∙ ap (λ (a : App). subcommand_of a words) c.in_ok-commands.ensures in
-    subst IsKnown (sym rows) (known_command words)
+    (c.in-Ok.ensures.matches (ap is_simple c.in_ok-program.ensures ∙ is_simple_upd)).1
+    ∙ ap (λ (a : App). subcommand_of a words) c.in_ok-program.ensures in
+    let none : word_faults words ≡ [] =
+    sym (ap (λ (a : App). fault_of a words) c.in_ok-program.ensures) ∙ c.in-Ok.ensures.kinds (ap is_simple_and_free c.in_ok-program.ensures ∙ is_free_upd) in
+    subst IsKnown (sym rows) (known_command words none)
 
 pub returns-in-Err-clause-ok : goal.returns-in-Err-clause-ok
 returns-in-Err-clause-ok g c =
-    let app_is : app_of c.in_ok-commands.field-0 ≡ upd_app = c.in_ok-commands.ensures in
+    let app_is : app_of c.in_ok-program.field-0 ≡ upd_app = c.in_ok-program.ensures in
     let words : List Text = map g.S.AsStr.text c.args.words.now in
     let kinds : HasKind (word_faults words) c.in-Err.error =
     let P : App → Type 0 = λ a. HasKind (fault_of a words) c.in-Err.error in

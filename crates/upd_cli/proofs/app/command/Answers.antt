@@ -5,7 +5,7 @@ use Rattle.clap.specs.Simple.{new_app}
 use Rattle.clap.specs.declared.builder.value_parser.ValueParser.{ValueParser}
 use Rattle.clap.specs.Words.{Rule, with_rule}
 use Rattle.upd_cli.specs.Words.{Operand, command_shape, operand_rule}
-use Rattle.upd_cli.proofs.words.command.Goals as goal
+use Rattle.upd_cli.proofs.app.command.Goals as goal
 
 -- an operand as it is written in the program
 abbrev Written : Type 0

@@ -1,6 +1,6 @@
 use Rattle.std.proofs.lemmas.Result.{IfOk-weaker}
 use Rattle.upd_cli.proofs.AppLemmas.{with_command}
-use Rattle.upd_cli.proofs.words.commands.Goals as goal
+use Rattle.upd_cli.proofs.app.program.Goals as goal
 
 pub returns : goal.returns
 returns c =

@@ -1,10 +1,10 @@
 use Rattle.std.proofs.lemmas.Result.{IfOk-weaker}
 use Rattle.upd_cli.proofs.AppLemmas.{with_command}
-use Rattle.upd_cli.proofs.words.first_commands.Goals as goal
+use Rattle.upd_cli.proofs.app.second_commands.Goals as goal
 
 pub returns : goal.returns
 returns c =
-    let app1 = with_command c.program.result c.in_ok-command.field-0 c.in_ok-subcommand.field-0 c.program.ensures c.in_ok-command.ensures.app c.in_ok-command.ensures.local c.in_ok-subcommand.ensures in
+    let app1 = with_command c.in_ok-first_commands.field-0 c.in_ok-command.field-0 c.in_ok-subcommand.field-0 c.in_ok-first_commands.ensures c.in_ok-command.ensures.app c.in_ok-command.ensures.local c.in_ok-subcommand.ensures in
     let app2 = with_command c.in_ok-subcommand.field-0 c.in_ok-command-2.field-0 c.in_ok-subcommand-2.field-0 app1 c.in_ok-command-2.ensures.app c.in_ok-command-2.ensures.local c.in_ok-subcommand-2.ensures in
     let app3 = with_command c.in_ok-subcommand-2.field-0 c.in_ok-command-3.field-0 c.in_ok-subcommand-3.field-0 app2 c.in_ok-command-3.ensures.app c.in_ok-command-3.ensures.local c.in_ok-subcommand-3.ensures in
     let app4 = with_command c.in_ok-subcommand-3.field-0 c.in_ok-command-4.field-0 c.in_ok-subcommand-4.field-0 app3 c.in_ok-command-4.ensures.app c.in_ok-command-4.ensures.local c.in_ok-subcommand-4.ensures in

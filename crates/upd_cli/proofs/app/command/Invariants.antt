@@ -3,7 +3,7 @@ use Rattle.clap.specs.Simple.{new_app}
 use Rattle.clap.specs.Words.{app_of}
 use Rattle.clap.specs.declared.builder.command.Command.TheViews.{out-Command as fields_of}
 use Rattle.upd_cli.specs.Words.{command_shape}
-use Rattle.upd_cli.proofs.words.command.Given as goal
+use Rattle.upd_cli.proofs.app.command.Given as goal
 
 abbrev pub invariant-loop-operand_name : goal.invariant-loop-operand_name
 invariant-loop-operand_name l = record {
