@@ -57,12 +57,9 @@ word_cut word rest none =
 -- bytes that all pass a test don't pass another
 pub none_of_all : (test other : ℕ → Bool) → ((b : ℕ) → test b ≡ true → other b ≡ false) → (bytes : List ℕ) → list_all test bytes ≡ true → NonePass other bytes
 none_of_all test other apart [] all = tt
-none_of_all test other apart (b ∷ bytes) all = more (test b) refl (list_all test bytes) refl all
-  where
-    more : (here : Bool) → test b ≡ here → (later : Bool) → list_all test bytes ≡ later → (here && later) ≡ true → NonePass other (b ∷ bytes)
-    more true e true f ok = (apart b e, none_of_all test other apart bytes f)
-    more true e false f ok = absurd (cc)
-    more false e later f ok = absurd (cc)
+none_of_all test other apart (b ∷ bytes) all =
+    let parts = and_parts (test b) (list_all test bytes) all in
+    (apart b parts.0, none_of_all test other apart bytes parts.1)
 
 -- a byte that passes a test which another byte fails is not that byte
 other_byte : (test : ℕ → Bool) (c : ℕ) → test c ≡ false → (b : ℕ) → test b ≡ true → (b == c) ≡ false
@@ -98,10 +95,10 @@ none_in_card test card ok name point digit =
 
 line_of_three : (s n t : List ℕ) → line_of (s ∷ n ∷ t ∷ []) ≡ (s ++ 32 ∷ (n ++ 32 ∷ t)) ++ 10 ∷ []
 line_of_three s n t =
-    ap (λ x. s ++ ((32 ∷ (n ++ 32 ∷ x)) ++ 10 ∷ [])) (append-nil t) ∙ sym (append_assoc s (32 ∷ (n ++ 32 ∷ t)) (10 ∷ []))
+    rw (append-nil t) refl
 
 line_of_two : (s n : List ℕ) → line_of (s ∷ n ∷ []) ≡ (s ++ 32 ∷ n) ++ 10 ∷ []
-line_of_two s n = ap (λ x. s ++ ((32 ∷ x) ++ 10 ∷ [])) (append-nil n) ∙ sym (append_assoc s (32 ∷ n) (10 ∷ []))
+line_of_two s n = rw (append-nil n) refl
 
 -- a line with its LF at its end alone
 pub record IsFedLine (line : List ℕ) : Type 0 where
@@ -122,8 +119,8 @@ card_body_fed active card text ok allowed = by active
         (none_in_card is_feed card ok (no_feed_name card.name) refl (other_byte is_digit 10 refl)) (refl, no_feed_text text allowed)
 
     by : (active : Bool) → HasNoFeed (status_word active ++ 32 ∷ (card_text card ++ 32 ∷ text))
-    by true = (refl, refl, rest)
-    by false = (refl, refl, rest)
+    by true = (refl, (refl, rest))
+    by false = (refl, (refl, rest))
 
 pub card_line_fed : (active : Bool) (card : CardRef) (text : List ℕ) → IsReference card → list_all is_allowed text ≡ true
     → IsFedLine (line_of (status_word active ∷ card_text card ∷ text ∷ []))
@@ -188,7 +185,7 @@ head_of word rest name fed blank rest_fed read = record {
 pub deck_head : (name : List ℕ) → is_name name ≡ true → bytes_eq name yank_name ≡ false → IsHead (line_of (codes "DECK" ∷ name ∷ [])) name
 deck_head name named other =
     subst (λ line. IsHead line name) (sym (line_of_two (codes "DECK") name))
-    (head_of (codes "DECK") name name (refl, refl, refl, refl, tt) (refl, refl, refl, refl, tt) (no_feed_name name (name_bytes name named))
+    (head_of (codes "DECK") name name (no_feed_name (codes "DECK") refl) (no_blank_name (codes "DECK") refl) (no_feed_name name (name_bytes name named))
     (name_read name named other))
 
 pub common_head : (name : List ℕ) (noprop : Bool) → is_name name ≡ true → bytes_eq name yank_name ≡ false
@@ -197,15 +194,15 @@ common_head name noprop named other = by noprop
   where
     plain : IsHead (line_of (codes "COMDECK" ∷ name ∷ [])) name
     plain = subst (λ line. IsHead line name) (sym (line_of_two (codes "COMDECK") name))
-        (head_of (codes "COMDECK") name name (refl, refl, refl, refl, refl, refl, refl, tt) (refl, refl, refl, refl, refl, refl, refl, tt)
+        (head_of (codes "COMDECK") name name (no_feed_name (codes "COMDECK") refl) (no_blank_name (codes "COMDECK") refl)
         (no_feed_name name (name_bytes name named))
         (ap (λ o. option_map_or name_before o (deck_name_read name)) (name_whole name (name_bytes name named)) ∙ name_read name named other))
 
     quiet : IsHead (line_of (codes "COMDECK" ∷ name ∷ codes "NOPROP" ∷ [])) name
     quiet = subst (λ line. IsHead line name) (sym (line_of_three (codes "COMDECK") name (codes "NOPROP")))
-        (head_of (codes "COMDECK") (name ++ 32 ∷ codes "NOPROP") name (refl, refl, refl, refl, refl, refl, refl, tt) (refl, refl, refl, refl, refl, refl, refl, tt)
+        (head_of (codes "COMDECK") (name ++ 32 ∷ codes "NOPROP") name (no_feed_name (codes "COMDECK") refl) (no_blank_name (codes "COMDECK") refl)
         (all_append (λ b. is_feed b ≡ false) name (32 ∷ codes "NOPROP") (no_feed_name name (name_bytes name named))
-        (refl, refl, refl, refl, refl, refl, refl, tt))
+        (refl, no_feed_name (codes "NOPROP") refl))
         (ap (λ o. option_map_or name_before o (deck_name_read (name ++ 32 ∷ codes "NOPROP")))
         (word_cut name (codes "NOPROP") (no_blank_name name (name_bytes name named))) ∙ name_read name named other))
 

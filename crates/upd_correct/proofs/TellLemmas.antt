@@ -1,6 +1,6 @@
 -- The listing of a held deck is read, and tells its name and its cards.
-use Rattle.std.proofs.Common.{◌≡◌, ℕ, ◌-◌, ◌==◌, ◌≤◌, nat_lt, Bool, true, false, cond, List, [], ◌∷◌, ◌++◌, map, length, slice_get}
-use Rattle.std.proofs.Common.{Option, Some, None, is_some, unwrap_or, position, Ok, refl, sym, ap, ◌∙◌, subst, arith}
+use Rattle.std.proofs.Common.{◌≡◌, ℕ, ◌+◌, ◌-◌, ◌==◌, ◌≤◌, nat_lt, Bool, true, false, cond, List, [], ◌∷◌, ◌++◌, map, length, slice_get}
+use Rattle.std.proofs.Common.{Option, Some, None, is_some, unwrap_or, position, Result, Ok, refl, sym, ap, ◌∙◌, subst, arith}
 use Rattle.std.proofs.lemmas.Bool.Decides.{nat_tests}
 use Rattle.std.proofs.lemmas.List.{length-map}
 use Rattle.std.proofs.lemmas.Slice.Eq.{bytes_eq-Decides}
@@ -8,6 +8,7 @@ use Rattle.std.specs.List.{find, flat_map, list_all, AllByRecursion, Contains}
 use Rattle.std.specs.Option.{option_map, option_map_or}
 use Rattle.std.specs.Prelude.{IsTrue}
 use Rattle.std.specs.Str.{bytes_eq}
+use Rattle.upd_text.specs.declared.fault.Fault.{Fault}
 use Rattle.upd_text.specs.declared.fault.FaultKind.TheVariants.{DeckUnknown}
 use Rattle.upd_text.specs.declared.limits.TheConstants.{MAX_CARDS}
 use Rattle.upd_text.specs.Names.{IsReference, is_name, yank_name}
@@ -25,7 +26,7 @@ use Rattle.upd_laws.specs.ReadRuns.{HasLineTexts, IsOfRun}
 use Rattle.upd_laws.proofs.SoundListLemmas.{all_weaker}
 use Rattle.upd_correct.specs.EditedText.{lines_in}
 use Rattle.upd_correct.proofs.ListLemmas.{all_contained}
-use Rattle.upd_correct.proofs.PlanLemmas.{deck_ident}
+use Rattle.upd_correct.proofs.PlanLemmas.{IsDeckIdent, deck_ident}
 use Rattle.upd_correct.specs.ListedDeck.{TellDeck, as_listed, bad_card, bad_line, listed_card, listed_name}
 use Rattle.upd_correct.proofs.ListedLemmas.{IsFedLine, IsHead, all_read, card_line_fed, card_line_read, common_head, deck_head, fed_first, fed_lines, none_other}
 
@@ -50,11 +51,12 @@ card_listable l c sound made is =
 pub found_all : (P : CardView → Type 0) (test : DeckView → Bool) (decks : List DeckView) → AllByRecursion P (flat_map (λ d. d.cards) decks)
     → AllByRecursion P (option_map_or (λ d. d.cards) (find test decks) [])
 found_all P test [] all = tt
-found_all P test (d ∷ decks) all = go (test d) refl
+found_all P test (d ∷ decks) all = go (test d) refl (found_all P test decks (all_back P d.cards (flat_map (λ d. d.cards) decks) all))
   where
-    go : (b : Bool) → test d ≡ b → AllByRecursion P (option_map_or (λ d. d.cards) (find test (d ∷ decks)) [])
-    go true e = rw e (all_front P d.cards (flat_map (λ d. d.cards) decks) all)
-    go false e = rw e (found_all P test decks (all_back P d.cards (flat_map (λ d. d.cards) decks) all))
+    go : (b : Bool) → test d ≡ b → AllByRecursion P (option_map_or (λ d. d.cards) (find test decks) [])
+        → AllByRecursion P (option_map_or (λ d. d.cards) (find test (d ∷ decks)) [])
+    go true e later = rw e (all_front P d.cards (flat_map (λ d. d.cards) decks) all)
+    go false e later = rw e later
 
 pub cards_listable : (l : LibraryView) (deck : ℕ) → IsSound l → HasLineTexts l → AllByRecursion (IsListable l.idents) (cards_of deck l)
 cards_listable l deck sound made =
@@ -94,7 +96,7 @@ tells : (l : LibraryView) (name head : List ℕ) (deck : ℕ) → IsHead head na
     → TellDeck l name deck (lines_in (head ++ flat_map (deck_line l.idents (live_targets l) deck) (cards_of deck l)))
 tells l name head deck is listable few = subst (TellDeck l name deck) (sym lines) (record {
   read = rw is.read (ap (option_map (λ i. i + 2)) none_bad);
-  name = ap (λ o. unwrap_or o []) is.read;
+  named = ap (λ o. unwrap_or o []) is.read;
   cards = all_read line (as_listed l deck) (cards_of deck l) reads;
 })
   where
@@ -115,7 +117,7 @@ tells l name head deck is listable few = subst (TellDeck l name deck) (sym lines
     none_bad : bad_card (map line (cards_of deck l)) ≡ None
     none_bad =
         let short : nat_lt MAX_CARDS (length (map line (cards_of deck l))) ≡ false =
-        ap (nat_lt MAX_CARDS) (length-map line (cards_of deck l)) ∙ at_most (length (cards_of deck l)) few in
+        ap (nat_lt MAX_CARDS) (length-map (cards_of deck l) line) ∙ at_most (length (cards_of deck l)) few in
         rw short (none_other line (as_listed l deck) (cards_of deck l) reads)
       where
         at_most : (n : ℕ) → n ≤ MAX_CARDS → nat_lt MAX_CARDS n ≡ false
@@ -130,7 +132,7 @@ listing_tells l name listing deck sound made held few is =
     i : Ident
     i = (deck_ident l name deck held).0
 
-    is_ident : _
+    is_ident : IsDeckIdent l name deck i
     is_ident = (deck_ident l name deck held).1
 
     at : IsAt 1 deck l.idents i × (i.name ≡ name)
@@ -156,5 +158,5 @@ listing_tells l name listing deck sound made held few is =
     whole : deck_listing name l ≡ Ok (text deck)
     whole = ap (λ o. at_line 0 (need DeckUnknown o) >>= (λ age. Ok (text age))) listed
 
-    same : Ok (text deck) ≡ Ok listing → text deck ≡ listing
+    same : (let a : Result (List ℕ) Fault = Ok (text deck) in a) ≡ Ok listing → text deck ≡ listing
     same e = cc

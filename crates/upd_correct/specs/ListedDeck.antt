@@ -144,5 +144,5 @@ as_listed l deck c = record { active = is_active (live_targets l) deck c; card =
 -- The lines of a listing are read, and tell the name of a deck and its cards: of each whether it is active, its reference and its text.
 pub record TellDeck (l : LibraryView) (name : Bytes) (deck : Serial) (lines : List Bytes) : Type 0 where
   pub read : bad_line lines ≡ None
-  pub name : name_listed lines ≡ name
+  pub named : name_listed lines ≡ name
   pub cards : cards_listed lines ≡ map (as_listed l deck) (cards_of deck l)

@@ -21,7 +21,7 @@ pub record IsRead (listing text : Bytes) : Type 0 where
 -- A run is that of the edited text in the library that a listing stands for.
 pub record IsListedRun (listing set text run : Bytes) : Type 0 where
   pub read : IsRead listing text
-  pub run : IsRunFor (library_of (lines_in listing)) set text run
+  pub made : IsRunFor (library_of (lines_in listing)) set text run
 
 -- Memory runs out at any time. Otherwise a line is the first that isn't one of a listing; or, where the listing is read,
 -- a line is the first that begins another deck; or, where no line does, the text is refused in the library that the listing stands for.
