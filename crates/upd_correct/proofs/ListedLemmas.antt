@@ -13,12 +13,13 @@ use Rattle.upd_text.specs.Lines.{is_blank}
 use Rattle.upd_text.specs.Names.{IsReference, card_of, card_text, is_digit, is_name, is_name_byte, yank_name}
 use Rattle.upd_text.proofs.CardRefLemmas.{card_of-card_text, numeral_model}
 use Rattle.upd_text.specs.declared.card_ref.CardRef.{CardRef}
+use Rattle.upd_core.specs.First.{index_from}
 use Rattle.upd_deck.specs.Reading.{is_allowed, is_feed}
 use Rattle.upd_compile.specs.Listings.{line_of, word_if}
 use Rattle.upd_correct.specs.EditedText.{lines_in}
 use Rattle.upd_correct.proofs.TextLineLemmas.{HasNoFeed, lines_from_feed}
 use Rattle.upd_laws.proofs.SoundListLemmas.{all_append}
-use Rattle.upd_correct.specs.ListedDeck.{ListedView, card_in_line, card_in_words, cut_word, deck_name_read, line_text, listed_as, listed_card, listed_name}
+use Rattle.upd_correct.specs.ListedDeck.{ListedView, is_other, card_in_line, card_in_words, cut_word, deck_name_read, line_text, listed_as, listed_card, listed_name}
 use Rattle.upd_correct.specs.ListedDeck.{name_before, name_in_line, name_in_words, status_read}
 
 -- ---- cutting at the first byte that passes a test
@@ -226,17 +227,9 @@ pub all_read : {A : Type 0} (f : A → List ℕ) (g : A → ListedView) (xs : Li
 all_read f g [] reads = refl
 all_read f g (x ∷ xs) reads = rw reads.0 (ap (λ ys. g x ∷ ys) (all_read f g xs reads.1))
 
-pub none_other : {A : Type 0} (f : A → List ℕ) (g : A → ListedView) (xs : List A) → AllByRecursion (λ x. listed_card (f x) ≡ Some (g x)) xs
-    → position (λ line. not (is_some (listed_card line))) (map f xs) ≡ None
-none_other f g xs reads = of _ _ (at_end xs reads)
-  where
-    of : (at n : ℕ) → at ≡ n → cond (nat_lt at n) (Some at) None ≡ None
-    of at n e = grind (arith, nat_tests)
-
-    more : (here : Bool) (at n : ℕ) → here ≡ false → at ≡ n → cond (not here) (1 + at) 0 ≡ suc n
-    more here at n other e = grind (arith, nat_tests)
-
-    at_end : (ys : List _) → AllByRecursion (λ x. listed_card (f x) ≡ Some (g x)) ys
-        → position_or_len (λ line. not (is_some (listed_card line))) (map f ys) ≡ length (map f ys)
-    at_end [] reads = refl
-    at_end (y ∷ ys) reads = more _ _ _ (rw reads.0 refl) (at_end ys reads.1)
+pub none_other : {A : Type 0} (f : A → List ℕ) (g : A → ListedView) (n : ℕ) (xs : List A) → AllByRecursion (λ x. listed_card (f x) ≡ Some (g x)) xs
+    → index_from is_other n (map f xs) ≡ None
+none_other f g n [] reads = refl
+none_other f g n (x ∷ xs) reads =
+    let read : is_other (f x) ≡ false = ap (λ o. not (is_some o)) reads.0 in
+    rw read (none_other f g (n + 1) xs reads.1)

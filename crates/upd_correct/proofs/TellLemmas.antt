@@ -118,7 +118,7 @@ tells l name head deck is listable few = subst (TellDeck l name deck) (sym lines
     none_bad =
         let short : nat_lt MAX_CARDS (length (map line (cards_of deck l))) ≡ false =
         ap (nat_lt MAX_CARDS) (length-map (cards_of deck l) line) ∙ at_most (length (cards_of deck l)) few in
-        rw short (none_other line (as_listed l deck) (cards_of deck l) reads)
+        rw short (none_other line (as_listed l deck) 0 (cards_of deck l) reads)
       where
         at_most : (n : ℕ) → n ≤ MAX_CARDS → nat_lt MAX_CARDS n ≡ false
         at_most n few = grind (arith, nat_tests)

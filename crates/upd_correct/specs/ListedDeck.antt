@@ -1,6 +1,6 @@
 -- A deck that is known by its listing alone.
 use Rattle.std.specs.Prelude.{◌≡◌, ℕ, ◌+◌, length, nat_lt, Bool, true, false, not, ◌&&◌, if◌then◌else◌}
-use Rattle.std.specs.Prelude.{List, [], ◌∷◌, codes, map, position, Option, Some, None, is_some, unwrap_or}
+use Rattle.std.specs.Prelude.{List, [], ◌∷◌, codes, map, Option, Some, None, is_some, unwrap_or}
 use Rattle.std.specs.List.{after_first, before_first, filter_map, list_any}
 use Rattle.std.specs.Option.{option_and_then, option_map, option_map_or}
 use Rattle.std.specs.Str.{bytes_eq}
@@ -12,6 +12,7 @@ use Rattle.upd_text.specs.Units.{Bytes}
 use Rattle.upd_core.specs.declared.ident.Ident.{Ident}
 use Rattle.upd_core.specs.declared.ident.Kind.TheVariants.{Deck, Set}
 use Rattle.upd_core.specs.Edits.{entered, introduced, new_card, with_deck}
+use Rattle.upd_core.specs.First.{index_from}
 use Rattle.upd_core.specs.Library.{CardView, LibraryView, cards_of, empty, held_named, ident_of, ref_of}
 use Rattle.upd_core.specs.Status.{is_active, live_targets}
 use Rattle.upd_core.specs.Serials.{Serial}
@@ -112,9 +113,13 @@ library_listed name cards =
 
 -- ---- listings
 
+-- whether a line isn't that of a card
+abbrev pub is_other : Bytes → Bool
+is_other line = not (is_some (listed_card line))
+
 -- the index of the first of some lines that isn't the line of a card, or of the first that is too much
 abbrev pub bad_card : List Bytes → Option ℕ
-bad_card lines = if nat_lt MAX_CARDS (length lines) then Some MAX_CARDS else position (λ line. not (is_some (listed_card line))) lines
+bad_card lines = if nat_lt MAX_CARDS (length lines) then Some MAX_CARDS else index_from is_other 0 lines
 
 -- the number of the first line that isn't one of a listing
 abbrev pub bad_line : List Bytes → Option ℕ

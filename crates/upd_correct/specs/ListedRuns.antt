@@ -1,7 +1,8 @@
 -- The run that is made from a deck's listing, or why there is none.
-use Rattle.std.specs.Prelude.{◌≡◌, ℕ, ◌+◌, position, Option, Some, None}
+use Rattle.std.specs.Prelude.{◌≡◌, ℕ, ◌+◌, Option, Some, None}
 use Rattle.upd_text.specs.Units.{Bytes}
 use Rattle.upd_core.specs.Counts.{capped}
+use Rattle.upd_core.specs.First.{index_from}
 use Rattle.upd_correct.specs.Causes.{AreRefusals}
 use Rattle.upd_correct.specs.EditedText.{lines_in}
 use Rattle.upd_correct.specs.Runs.{IsRunFor, begins_other}
@@ -11,7 +12,7 @@ use Rattle.upd_correct.specs.ListedDeck.{bad_line, library_of, name_listed}
 
 -- the index of the first line of a text that begins a deck other than the listed one
 abbrev pub other_deck : Bytes → Bytes → Option ℕ
-other_deck listing text = position (begins_other (name_listed (lines_in listing))) (lines_in text)
+other_deck listing text = index_from (begins_other (name_listed (lines_in listing))) 0 (lines_in text)
 
 -- A listing is read, and a text begins no deck but the listed one.
 pub record IsRead (listing text : Bytes) : Type 0 where

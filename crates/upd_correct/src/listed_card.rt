@@ -1,10 +1,11 @@
 //! The lines of a deck's listing.
 
-ghost use Rattle.std.specs.Prelude.{◌≡◌, is_some, map, not, position, IfOk};
+ghost use Rattle.std.specs.Prelude.{◌≡◌, map, IfOk};
 ghost use Rattle.std.specs.Option.{option_map};
 ghost use Rattle.std.specs.List.{filter_map};
 ghost use Rattle.upd_correct.specs.ListedDeck.{bad_card, common_name_read, cut_word, deck_name_read, line_text};
-ghost use Rattle.upd_correct.specs.ListedDeck.{listed_card, listed_name, status_read};
+ghost use Rattle.upd_correct.specs.ListedDeck.{is_other, listed_card, listed_name, status_read};
+ghost use Rattle.upd_core.specs.First.{index_from};
 
 use std::alloc::{AllocError, Global};
 use std::marker::Model;
@@ -57,7 +58,7 @@ pub(crate) fn bad_card(lines: &[&[u8]]) -> Option<usize>
 
 /// The index of the first line that isn't that of a card.
 fn other_line(lines: &[&[u8]]) -> Option<usize>
-    ensures { result ≡ position (λ line. not (is_some (listed_card line))) (map (λ t. t.now) lines.now) }
+    ensures { result ≡ index_from is_other 0 (map (λ t. t.now) lines.now) }
 {
     for (i, line) in lines.iter().enumerate() {
         if listed_card(line).is_none() {

@@ -1,6 +1,7 @@
 //! Decks of an edited text other than the one that may be edited.
 
-ghost use Rattle.std.specs.Prelude.{◌≡◌, position, IfOk};
+ghost use Rattle.std.specs.Prelude.{◌≡◌, IfOk};
+ghost use Rattle.upd_core.specs.First.{index_from};
 ghost use Rattle.upd_correct.specs.EditedText.{lines_in};
 ghost use Rattle.upd_correct.specs.Runs.{begins_other};
 
@@ -11,7 +12,7 @@ use upd_text::Name;
 
 /// The index of the first line of an edited text that begins a deck of another name.
 pub(crate) fn first_other(alloc: Global, name: &Name, text: &[u8]) -> Result<Option<usize>, AllocError>
-    ensures { IfOk result (λ found. found ≡ position (begins_other name.now) (lines_in text.now)) }
+    ensures { IfOk result (λ found. found ≡ index_from (begins_other name.now) 0 (lines_in text.now)) }
 {
     let lines = cut_text(alloc, text)?;
     for (i, line) in lines.iter().enumerate() {
