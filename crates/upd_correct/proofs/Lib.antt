@@ -10,3 +10,4 @@ pub mod CauseLemmas
 pub mod RunLemmas
 pub mod ListedLemmas
 pub mod TellLemmas
+mod CountLemmas
