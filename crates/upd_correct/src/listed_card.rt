@@ -1,11 +1,12 @@
 //! The lines of a deck's listing.
 
-ghost use Rattle.std.specs.Prelude.{◌≡◌, map, IfOk};
+ghost use Rattle.std.specs.Prelude.{◌≡◌, ◌<◌, ◌≤◌, length, map, IfOk, IfSome};
 ghost use Rattle.std.specs.Option.{option_map};
 ghost use Rattle.std.specs.List.{filter_map};
 ghost use Rattle.upd_correct.specs.ListedDeck.{bad_card, common_name_read, cut_word, deck_name_read, line_text};
 ghost use Rattle.upd_correct.specs.ListedDeck.{is_other, listed_card, listed_name, status_read};
 ghost use Rattle.upd_core.specs.First.{index_from};
+ghost use Rattle.upd_text.specs.declared.limits.TheConstants.{MAX_CARDS};
 
 use std::alloc::{AllocError, Global};
 use std::marker::Model;
@@ -47,7 +48,8 @@ pub(crate) fn listed_cards<'a>(
 
 /// The index of the first line that isn't that of a card, or of the first that is too much for a library.
 pub(crate) fn bad_card(lines: &[&[u8]]) -> Option<usize>
-    ensures { result ≡ bad_card (map (λ t. t.now) lines.now) }
+    ensures first { result ≡ bad_card (map (λ t. t.now) lines.now) }
+    ensures within { IfSome result (λ i. i ≤ MAX_CARDS) }
 {
     if lines.len() > MAX_CARDS {
         Some(MAX_CARDS)
@@ -58,7 +60,8 @@ pub(crate) fn bad_card(lines: &[&[u8]]) -> Option<usize>
 
 /// The index of the first line that isn't that of a card.
 fn other_line(lines: &[&[u8]]) -> Option<usize>
-    ensures { result ≡ index_from is_other 0 (map (λ t. t.now) lines.now) }
+    ensures first { result ≡ index_from is_other 0 (map (λ t. t.now) lines.now) }
+    ensures within { IfSome result (λ i. i < length lines.now) }
 {
     for (i, line) in lines.iter().enumerate() {
         if listed_card(line).is_none() {
