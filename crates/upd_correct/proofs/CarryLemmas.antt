@@ -1,7 +1,7 @@
 -- Corrections of a deck carry over to a deck whose cards have the same references, texts and statuses.
-use Rattle.std.proofs.Common.{◌≡◌, ℕ, ◌+◌, ◌==◌, Bool, true, false, not, ◌||◌, List, [], ◌∷◌, ◌++◌, map, length, refl, sym, ap, ◌∙◌, subst}
+use Rattle.std.proofs.Common.{◌≡◌, ℕ, suc, ◌+◌, ◌==◌, Bool, true, false, not, ◌||◌, List, [], ◌∷◌, ◌++◌, map, length, refl, sym, ap, ◌∙◌, subst}
 use Rattle.std.proofs.lemmas.Option.{same_Some}
-use Rattle.std.specs.List.{filter, flat_map, list_any, AllByRecursion, AllZip}
+use Rattle.std.specs.List.{filter, flat_map, fold, list_any, AllByRecursion, AllZip}
 use Rattle.std.specs.Option.{option_map_or}
 use Rattle.std.specs.Prelude.{IsTrue, Option, Some, None, is_some, sum_by, if◌then◌else◌}
 use Rattle.std.specs.Str.{bytes_eq}
@@ -41,7 +41,7 @@ zip_length : {A B : Type 0} (R : A → B → Type 0) (xs : List A) (ys : List B)
 zip_length R [] [] zip = refl
 zip_length R [] (y ∷ ys) zip = absurd zip
 zip_length R (x ∷ xs) [] zip = absurd zip
-zip_length R (x ∷ xs) (y ∷ ys) zip = ap (λ n. n + 1) (zip_length R xs ys zip.1)
+zip_length R (x ∷ xs) (y ∷ ys) zip = ap (λ n. suc n) (zip_length R xs ys zip.1)
 
 zip_back : {A B : Type 0} (R : A → B → Type 0) (P : B → Type 0) (Q : A → Type 0) (xs : List A) (ys : List B) → ((x : A) (y : B) → R x y → P y → Q x)
     → AllZip R xs ys → AllByRecursion P ys → AllByRecursion Q xs
@@ -57,12 +57,17 @@ flat_same R f g [] (y ∷ ys) step zip = absurd zip
 flat_same R f g (x ∷ xs) [] step zip = absurd zip
 flat_same R f g (x ∷ xs) (y ∷ ys) step zip = λ i. step x y zip.0 i ++ flat_same R f g xs ys step zip.1 i
 
+total_same : {A B : Type 0} (R : A → B → Type 0) (f : A → ℕ) (g : B → ℕ) (n : ℕ) (xs : List A) (ys : List B) → ((x : A) (y : B) → R x y → f x ≡ g y)
+    → AllZip R xs ys → fold (λ a x. a + f x) n xs ≡ fold (λ a y. a + g y) n ys
+total_same R f g n [] [] step zip = refl
+total_same R f g n [] (y ∷ ys) step zip = absurd zip
+total_same R f g n (x ∷ xs) [] step zip = absurd zip
+total_same R f g n (x ∷ xs) (y ∷ ys) step zip =
+    total_same R f g (n + f x) xs ys step zip.1 ∙ ap (λ k. fold (λ a y. a + g y) (n + k) ys) (step x y zip.0)
+
 sum_same : {A B : Type 0} (R : A → B → Type 0) (f : A → ℕ) (g : B → ℕ) (xs : List A) (ys : List B) → ((x : A) (y : B) → R x y → f x ≡ g y)
     → AllZip R xs ys → sum_by f xs ≡ sum_by g ys
-sum_same R f g [] [] step zip = refl
-sum_same R f g [] (y ∷ ys) step zip = absurd zip
-sum_same R f g (x ∷ xs) [] step zip = absurd zip
-sum_same R f g (x ∷ xs) (y ∷ ys) step zip = λ i. step x y zip.0 i + sum_same R f g xs ys step zip.1 i
+sum_same R f g xs ys step zip = total_same R f g 0 xs ys step zip
 
 any_same : {A B : Type 0} (R : A → B → Type 0) (f : A → Bool) (g : B → Bool) (xs : List A) (ys : List B) → ((x : A) (y : B) → R x y → f x ≡ g y)
     → AllZip R xs ys → list_any f xs ≡ list_any g ys
@@ -144,15 +149,16 @@ module _ (l m : LibraryView) (d e : ℕ) where
   filtered [] [] zip = refl
   filtered [] (y ∷ ys) zip = absurd zip
   filtered (x ∷ xs) [] zip = absurd zip
-  filtered (x ∷ xs) (y ∷ ys) zip = go (is_active (live_targets m) e y) refl
+  filtered (x ∷ xs) (y ∷ ys) zip = go (is_active (live_targets m) e y) refl (filtered xs ys zip.1)
     where
       alike : AreAlike l m d e x y
       alike = zip.0
 
       go : (b : Bool) → is_active (live_targets m) e y ≡ b
+          → map (λ c. c.text) (filter (is_active (live_targets l) d) xs) ≡ map (λ c. c.text) (filter (is_active (live_targets m) e) ys)
           → map (λ c. c.text) (filter (is_active (live_targets l) d) (x ∷ xs)) ≡ map (λ c. c.text) (filter (is_active (live_targets m) e) (y ∷ ys))
-      go true f = let g : is_active (live_targets l) d x ≡ true = alike.active ∙ f in rw (f, g) (λ i. alike.text i ∷ filtered xs ys zip.1 i)
-      go false f = let g : is_active (live_targets l) d x ≡ false = alike.active ∙ f in rw (f, g) (filtered xs ys zip.1)
+      go true f later = let g : is_active (live_targets l) d x ≡ true = alike.active ∙ f in rw (f, g) (λ i. alike.text i ∷ later i)
+      go false f later = let g : is_active (live_targets l) d x ≡ false = alike.active ∙ f in rw (f, g) later
 
   segment_texts_same : (t s : Segment) → IsCarried t s → segment_texts (live_targets l) d t ≡ segment_texts (live_targets m) e s
   segment_texts_same t s alike = go s.goes refl

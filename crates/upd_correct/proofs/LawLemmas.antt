@@ -4,9 +4,9 @@ use Rattle.std.proofs.lemmas.Bool.Decides.{nat_tests}
 use Rattle.std.proofs.lemmas.Slice.Eq.{bytes_eq-Decides}
 use Rattle.std.specs.List.{flat_map, AllByRecursion, AllZip}
 use Rattle.std.specs.Option.{option_map_or}
-use Rattle.std.specs.Prelude.{IsTrue, Some, None, is_some, Ok}
+use Rattle.std.specs.Prelude.{◌⊎◌, IsTrue, Some, None, is_some, Ok}
 use Rattle.std.specs.Str.{bytes_eq}
-use Rattle.upd_text.specs.declared.limits.TheConstants.{MAX_CARDS, MAX_ENTRIES, MAX_RUN_LINES, MAX_TARGETS}
+use Rattle.upd_text.specs.declared.limits.TheConstants.{MAX_CARDS, MAX_ENTRIES, MAX_HELD, MAX_INTRODUCED, MAX_RUN_LINES, MAX_TARGETS}
 use Rattle.upd_core.specs.First.{index_from}
 use Rattle.upd_core.specs.Library.{LibraryView, cards_of, deck_of}
 use Rattle.upd_core.specs.Limits.{card_count, entry_count, held_count, is_within_limits, target_count}
@@ -26,7 +26,7 @@ use Rattle.upd_correct.specs.ListedRuns.{IsListedRun}
 use Rattle.upd_correct.specs.Plans.{IsCorrectionFor, held_decks, new_decks}
 use Rattle.upd_correct.specs.Problems.{set_problem}
 use Rattle.upd_correct.specs.Refusals.{head_by_item, head_read}
-use Rattle.upd_correct.specs.Runs.{IsRunFor, IsRunOf, begins_other}
+use Rattle.upd_correct.specs.Runs.{IsNothing, IsRunFor, IsRunOf, begins_other}
 use Rattle.upd_correct.proofs.CarryLemmas.{AreAlike, CarriedCorrections, added_sum, changed_same, corrections_carried, gone_sum, lines_same, no_problem_carried}
 use Rattle.upd_correct.proofs.CorrectLemmas.{IsPlanOf, nothing_corrects, run_corrects}
 use Rattle.upd_correct.proofs.GrowthLemmas.{edit_within, has_place}
@@ -94,7 +94,9 @@ none_new l name a (d ∷ decks) held named =
 -- ---- the run
 
 few_targets : (l : LibraryView) → is_within_limits l ≡ true → target_count l ≤ MAX_TARGETS
-few_targets l within = of _ _ _ _ (nat_le (target_count l) MAX_TARGETS) refl within
+few_targets l within =
+    of (nat_le (length l.idents) MAX_INTRODUCED) (nat_le (held_count l) MAX_HELD) (nat_le (card_count l) MAX_CARDS) (nat_le (entry_count l) MAX_ENTRIES)
+    (nat_le (target_count l) MAX_TARGETS) refl within
   where
     small : (n : ℕ) → nat_le n MAX_TARGETS ≡ true → n ≤ MAX_TARGETS
     small n e = grind (arith, nat_tests)
@@ -163,7 +165,9 @@ module _ (l m : LibraryView) (deck e : ℕ) (name : List ℕ) (held_l : deck_of 
       lines = λ i.
           (ident_line set ∷ lines_same l m deck e all.carried made.corrections all.alike i) ++ flat_map new_deck_lines ((none_l ∙ sym none_m) i)
 
-      by : _ → CorrectsTo l set text run
+      by : IsNothing made.corrections (new_decks m made.decks) run
+          ⊎ IsRunOf m (record { set = set; corrections = made.corrections; added = new_decks m made.decks }) run
+          → CorrectsTo l set text run
       by (inl nothing) = subst (CorrectsTo l set text) (sym nothing.0)
           (nothing_corrects l set text made.decks all.carried plan none_l (changed_same l m deck e all.carried made.corrections all.alike ∙ nothing.2))
       by (inr is) =

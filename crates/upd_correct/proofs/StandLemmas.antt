@@ -70,12 +70,11 @@ is_held_by None e = absurd (cc)
 found_last : (test : Ident → Bool) (idents : List Ident) (i : Ident) → is_some (find test idents) ≡ false → test i ≡ true
     → find test (idents ++ i ∷ []) ≡ Some i
 found_last test [] i none is = find_first test i [] is
-found_last test (j ∷ idents) i none is = go (test j) refl
+found_last test (j ∷ idents) i none is = go (test j) refl (λ none. found_last test idents i none is)
   where
-    go : (b : Bool) → test j ≡ b → find test ((j ∷ idents) ++ i ∷ []) ≡ Some i
-    go true e = let bad : true ≡ false = ap is_some (sym (find_first test j idents e)) ∙ none in absurd (cc)
-    go false e =
-        find_later test j (idents ++ i ∷ []) e ∙ found_last test idents i (ap is_some (sym (find_later test j idents e)) ∙ none) is
+    go : (b : Bool) → test j ≡ b → (is_some (find test idents) ≡ false → find test (idents ++ i ∷ []) ≡ Some i) → find test ((j ∷ idents) ++ i ∷ []) ≡ Some i
+    go true e later = let bad : true ≡ false = ap is_some (sym (find_first test j idents e)) ∙ none in absurd (cc)
+    go false e later = find_later test j (idents ++ i ∷ []) e ∙ later (ap is_some (sym (find_later test j idents e)) ∙ none)
 
 one_held : (c : ListedView) (l : LibraryView) → IsHeld (with_ident c l) c.card.name
 one_held c l = go (is_some (held_named c.card.name l.idents)) refl
