@@ -11,3 +11,6 @@ pub mod RunLemmas
 pub mod ListedLemmas
 pub mod TellLemmas
 mod CountLemmas
+mod CarryLemmas
+mod StandLemmas
+mod LawLemmas
