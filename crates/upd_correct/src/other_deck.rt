@@ -11,7 +11,11 @@ use std::alloc::{AllocError, Global};
 use upd_text::Name;
 
 /// The index of the first line of an edited text that begins a deck of another name.
-pub(crate) fn first_other(alloc: Global, name: &Name, text: &[u8]) -> Result<Option<usize>, AllocError>
+pub(crate) fn first_other(
+    alloc: Global,
+    name: &Name,
+    text: &[u8],
+) -> Result<Option<usize>, AllocError>
     ensures { IfOk result (λ found. found ≡ index_from (begins_other name.now) 0 (lines_in text.now)) }
 {
     let lines = cut_text(alloc, text)?;

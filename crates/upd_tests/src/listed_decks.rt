@@ -11,7 +11,8 @@ use upd_testkit::check::{same, same_text};
 use upd_testkit::random_runs::Dice;
 
 /// The listing of deck A, which sets X and Y have changed.
-const LISTING: &str = "DECK A\nA A.1 *DECK A\nA A.2 ONE\nI A.3 TWO\nA X.1  indented\nA Y.1 \nA A.4 THREE\n";
+const LISTING: &str =
+    "DECK A\nA A.1 *DECK A\nA A.2 ONE\nI A.3 TWO\nA X.1  indented\nA Y.1 \nA A.4 THREE\n";
 
 /// The run for a text, under the name Z.
 fn run_for(alloc: Global, listing: &[u8], text: &str) -> Result<String, Fail> {
@@ -55,7 +56,10 @@ fn an_unchanged_text_gives_no_bytes(rt: HostRuntime) -> Result<(), Fail> {
 
 #[test]
 fn common_decks_have_listings_too(rt: HostRuntime) -> Result<(), Fail> {
-    for listing in ["COMDECK C\nA C.1 *COMDECK C\n", "COMDECK C NOPROP\nA C.1 *COMDECK C\n"] {
+    for listing in [
+        "COMDECK C\nA C.1 *COMDECK C\n",
+        "COMDECK C NOPROP\nA C.1 *COMDECK C\n",
+    ] {
         let run = run_for(rt.alloc(), listing.as_bytes(), "*COMDECK C\nONE\n")?;
         same_text("the run", run.as_str(), "*IDENT Z\n*INSERT C.1\nONE\n")?;
     }

@@ -52,10 +52,10 @@ returns-then-is_unchanged-clause-made c text given decks_are none = record {
   corrections = c.in_ok-corrections.corrections.items;
   for = c.in_ok-corrections.ensures c.args.set.now none (all_spelled _ _ given);
   bytes = inl (
-      c.new.ensures.items,
-      no_new_decks (λ (d : Bor NewDeck). d.now) c.deref-2.result.now c.args.library.now c.args.decks.now
-          (ap (map (λ (d : Bor NewDeck). d.now)) c.deref-2.ensures.value ∙ c.in_ok-added.ensures) (c.is_unchanged.ensures.added c.if-is_unchanged.true),
-      ap (list_any is_changed) (sym c.deref.ensures.value) ∙ c.is_unchanged.ensures.corrections c.if-is_unchanged.true,
+    c.new.ensures.items,
+    no_new_decks (λ (d : Bor NewDeck). d.now) c.deref-2.result.now c.args.library.now c.args.decks.now
+        (ap (map (λ (d : Bor NewDeck). d.now)) c.deref-2.ensures.value ∙ c.in_ok-added.ensures) (c.is_unchanged.ensures.added c.if-is_unchanged.true),
+    ap (list_any is_changed) (sym c.deref.ensures.value) ∙ c.is_unchanged.ensures.corrections c.if-is_unchanged.true,
   );
 }
 
