@@ -9,3 +9,6 @@ pub mod Writing
 pub mod Correcting
 pub mod Growth
 pub mod Causes
+pub mod Runs
+pub mod ListedDeck
+pub mod ListedRuns

@@ -17,6 +17,7 @@ ghost use Rattle.upd_correct.specs.EditedText.{HasDecks};
 ghost use Rattle.upd_correct.specs.Plans.{IsEditedDeck};
 ghost use Rattle.upd_correct.specs.Problems.{HasNoProblem, set_problem};
 ghost use Rattle.upd_correct.specs.Refusals.{refusals_at, refusals_of};
+ghost use Rattle.upd_correct.specs.Runs.{IsRunFor};
 ghost use Rattle.upd_correct.specs.Writing.{is_changed, is_changed_segment};
 
 use crate::edited_deck::{EditedDeck, read_decks, refuse};
@@ -42,6 +43,7 @@ pub fn correct(
 ) -> Result<Vec<u8>, CorrectError>
     ensures corrects { IsSound library.now → HasLineTexts library.now
         → IfOk result (λ run. CorrectsTo library.now set.now text.now run.items) }
+    ensures made { IfOk result (λ run. IsRunFor library.now set.now text.now run.items) }
     ensures clean { OnOk result (refusals_of library.now set.now text.now ≡ []) }
     ensures refused { IfErr result (IsCause library.now set.now text.now) }
 {
@@ -80,6 +82,8 @@ fn run_for(
         → set_problem library.now set.now ≡ None → HasDecks text decks.now
         → AllByRecursion IsEditedDeck decks.now → HasNoProblem library.now set.now [] decks.now
         → IfOk result (λ run. CorrectsTo library.now set.now text run.items) }
+    ensures made { (text : List ℕ) → HasDecks text decks.now → AllByRecursion IsEditedDeck decks.now
+        → HasNoProblem library.now set.now [] decks.now → IfOk result (λ run. IsRunFor library.now set.now text run.items) }
     ensures refused { (text : List ℕ) → refusals_of library.now set.now text ≡ [] → HasDecks text decks.now
         → HasNoProblem library.now set.now [] decks.now → IfErr result (IsCause library.now set.now text) }
 {

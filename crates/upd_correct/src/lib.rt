@@ -1,13 +1,17 @@
 //! From an edited text to a correction run.
 //!
 //! `correct` is the entry point: it compares decks of a library with their edited texts, and writes the run that leads
-//! each of these decks to its text.
+//! each of these decks to its text. `correct_listed` does it for a deck that is known by its listing alone.
 #![tactic(auto)]
 
 pub mod correcting;
 mod edited_deck;
 mod edited_lines;
+mod listed_card;
+pub mod listed_deck;
+pub mod listed_laws;
 mod matching;
+mod other_deck;
 mod plan;
 mod read_line;
 pub mod refusal;
@@ -16,4 +20,5 @@ mod script;
 mod writer;
 
 pub use correcting::correct;
+pub use listed_deck::{ListedError, correct_listed};
 pub use refusal::{CorrectError, Problem, Refusal};

@@ -21,6 +21,8 @@ mod library_edits;
 #[cfg(test)]
 mod library_limits;
 #[cfg(test)]
+mod listed_decks;
+#[cfg(test)]
 mod long_runs;
 #[cfg(test)]
 mod looks;

@@ -20,6 +20,15 @@ returns-clause-corrects c sound made =
     (subst (HasDecks c.args.text.now) decks (read.given none)) (subst (AllByRecursion IsEditedDeck) decks read.each)
     (subst (HasNoProblem c.args.library.now c.args.set.now []) decks (read.none none))
 
+pub returns-clause-made : goal.returns-clause-made
+returns-clause-made c =
+    let none : c.read_decks.new.refusals.items ≡ [] =
+    no_items c.read_decks.new.refusals.items (grind (arith, nat_tests, c.read_decks.new.refusals.ok, c.is_empty.ensures, c.if-not-is_empty.false)) in
+    let read = c.in_ok-decks.ensures in
+    let decks = sym c.deref.ensures.value in
+    c.run_for.ensures.made c.args.text.now (subst (HasDecks c.args.text.now) decks (read.given none)) (subst (AllByRecursion IsEditedDeck) decks read.each)
+    (subst (HasNoProblem c.args.library.now c.args.set.now []) decks (read.none none))
+
 pub returns-clause-refused : goal.returns-clause-refused
 returns-clause-refused c =
     let none : c.read_decks.new.refusals.items ≡ [] =

@@ -1,0 +1,166 @@
+//! Runs that are made from listings.
+
+use std::alloc::Global;
+use std::test::Fail;
+use upd_compile::list_deck;
+use upd_core::Library;
+use upd_correct::{ListedError, Problem, Refusal, correct, correct_listed};
+use upd_edit::active_text;
+use upd_testkit::applying::{after, name};
+use upd_testkit::check::{same, same_text};
+use upd_testkit::random_runs::Dice;
+
+/// The listing of deck A, which sets X and Y have changed.
+const LISTING: &str =
+    "DECK A\nA A.1 *DECK A\nA A.2 ONE\nI A.3 TWO\nA X.1  indented\nA Y.1 \nA A.4 THREE\n";
+
+/// The run for a text, under the name Z.
+fn run_for(alloc: Global, listing: &[u8], text: &str) -> Result<String, Fail> {
+    match correct_listed(alloc, listing, b"Z", text.as_bytes()) {
+        Ok(run) => Ok(String::from_str(alloc, std::str::from_utf8(&run)?)?),
+        Err(_) => Err("the text is refused".into()),
+    }
+}
+
+/// Why there is no run: what is wrong with the listing, or with the text.
+fn cause(alloc: Global, listing: &str, text: &str) -> Result<ListedError, Fail> {
+    match correct_listed(alloc, listing.as_bytes(), b"Z", text.as_bytes()) {
+        Ok(_) => Err("there is a run".into()),
+        Err(error) => Ok(error),
+    }
+}
+
+#[test]
+fn a_listing_is_enough_for_a_run(rt: HostRuntime) -> Result<(), Fail> {
+    let run = run_for(
+        rt.alloc(),
+        LISTING.as_bytes(),
+        "*DECK A\nUN\n indented\n\nTHREE\nFOUR\n",
+    )?;
+    same_text(
+        "the run",
+        run.as_str(),
+        "*IDENT Z\n*DELETE A.2\nUN\n*INSERT A.4\nFOUR\n",
+    )
+}
+
+#[test]
+fn an_unchanged_text_gives_no_bytes(rt: HostRuntime) -> Result<(), Fail> {
+    let run = run_for(
+        rt.alloc(),
+        LISTING.as_bytes(),
+        "*DECK A\nONE\n indented\n\nTHREE\n",
+    )?;
+    same_text("the run", run.as_str(), "")
+}
+
+#[test]
+fn common_decks_have_listings_too(rt: HostRuntime) -> Result<(), Fail> {
+    for listing in [
+        "COMDECK C\nA C.1 *COMDECK C\n",
+        "COMDECK C NOPROP\nA C.1 *COMDECK C\n",
+    ] {
+        let run = run_for(rt.alloc(), listing.as_bytes(), "*COMDECK C\nONE\n")?;
+        same_text("the run", run.as_str(), "*IDENT Z\n*INSERT C.1\nONE\n")?;
+    }
+    Ok(())
+}
+
+/// Texts that aren't listings of decks, and the first line that shows it.
+const OTHERS: [(&str, usize); 14] = [
+    ("", 1),
+    ("DECK A", 1),
+    ("DECK a\n", 1),
+    ("DECK A \n", 1),
+    ("DECK A NOPROP\n", 1),
+    ("COMDECK A PROP\n", 1),
+    ("DECK YANK$$$\nA Y.1 *YANK X\n", 1),
+    ("1 A deck held\n2 X set held\n", 1),
+    ("CARD A.1\nDECK A\n", 1),
+    ("DECK A\nA A.1 *DECK A", 2),
+    ("DECK A\nA A.1 *DECK A\nB A.2 ONE\n", 3),
+    ("DECK A\nA A.1 *DECK A\nA A.2\n", 3),
+    ("DECK A\nA A.1 *DECK A\nA A.0 ONE\n", 3),
+    ("DECK A\nA A.1 *DECK A\n\nA A.2 ONE\n", 3),
+];
+
+#[test]
+fn what_is_no_listing_is_refused_at_its_line(rt: HostRuntime) -> Result<(), Fail> {
+    for (listing, line) in OTHERS {
+        match cause(rt.alloc(), listing, "*DECK A\n")? {
+            ListedError::NotListing(found) => same(listing, found, line)?,
+            _ => return Err("another cause".into()),
+        }
+    }
+    Ok(())
+}
+
+#[test]
+fn only_the_listed_deck_can_be_edited(rt: HostRuntime) -> Result<(), Fail> {
+    match cause(rt.alloc(), LISTING, "*DECK A\nONE\n*DECK B\nTWO\n")? {
+        ListedError::OtherDeck(line) => same("the line", line, 3),
+        _ => Err("another cause".into()),
+    }
+}
+
+#[test]
+fn a_changed_first_card_is_refused(rt: HostRuntime) -> Result<(), Fail> {
+    let refusal = Refusal {
+        line: 1,
+        column: 1,
+        problem: Problem::FirstCard,
+    };
+    match cause(rt.alloc(), LISTING, "*DECK  A\nONE\n")? {
+        ListedError::Refused(found) => same("the refusals", found.as_slice(), &[refusal]),
+        _ => Err("another cause".into()),
+    }
+}
+
+/// A text of a deck A, with some of its lines left out, doubled or replaced.
+fn changed_text(alloc: Global, text: &[u8], dice: &mut Dice) -> Result<Vec<u8>, Fail> {
+    let mut changed = Vec::from_slice(alloc, b"*DECK A\n")?;
+    for line in text.split(|&byte| byte == b'\n').skip(1) {
+        match dice.below(6) {
+            0 => {}
+            1 => changed.extend_from_slice(b"OTHER\n")?,
+            _ => {
+                changed.extend_from_slice(line)?;
+                changed.push(b'\n')?;
+            }
+        }
+    }
+    Ok(changed)
+}
+
+/// The run from the listing of deck A is the run from the library.
+fn runs_agree(alloc: Global, library: &Library, text: &[u8]) -> Result<(), Fail> {
+    let listing = list_deck(alloc, library, &name("A")?).map_err(|_| "no listing")?;
+    let Ok(whole) = correct(alloc, library, b"Z", text) else {
+        return Err("the library refuses the text".into());
+    };
+    let Ok(listed) = correct_listed(alloc, &listing, b"Z", text) else {
+        return Err("the listing refuses the text".into());
+    };
+    same("the run", listed.as_slice(), whole.as_slice())
+}
+
+#[test]
+fn random_edits_give_the_run_that_the_library_gives(rt: HostRuntime) -> Result<(), Fail> {
+    let alloc = rt.alloc();
+    let mut dice = Dice(11);
+    let library = after(
+        alloc,
+        &[
+            "*DECK B\nELSE\n*DECK A\nA\nB\nC\nD\nE\nF\nG\nH\n",
+            "*IDENT X\n*INSERT A.4\nXA\nXB\n*DELETE A.6,A.7\n*INSERT B.2\nXC\n",
+            "*IDENT Y\n*DELETE X.1\nYA\n*BEFORE A.2\nYB\nYC\n*DELETE A.9\n",
+            "*IDENT V\n*YANK X\n",
+        ],
+    )?;
+    let text = active_text(alloc, &library, &name("A")?).map_err(|_| "no text")?;
+    for _ in 0..60 {
+        let edited = changed_text(alloc, &text, &mut dice)?;
+        runs_agree(alloc, &library, &edited)?;
+    }
+    Ok(())
+}
