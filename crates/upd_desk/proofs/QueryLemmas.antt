@@ -1,17 +1,22 @@
 -- What a query of a desk tells.
-use Rattle.std.proofs.Common.{◌≡◌, ℕ, nat_lt, Bool, true, false, ◌⊎◌, if◌then◌else◌, List, [], ◌∷◌, take, Option, Some, None, Result, Ok, Err}
+use Rattle.std.proofs.Common.{◌≡◌, ℕ, nat_lt, Bool, true, false, ◌⊎◌, if◌then◌else◌, List, [], ◌∷◌, ◌++◌, take, Option, Some, None, Result, Ok, Err}
 use Rattle.std.proofs.Common.{inl, inr, refl, ap, sym, ◌∙◌, subst, rules}
 use Rattle.std.specs.Prelude.{count_by}
 use Rattle.std.specs.List.{enumerate_from, filter_map, flat_map}
 use Rattle.upd_text.specs.declared.fault.Fault.{Fault}
 use Rattle.upd_text.specs.declared.fault.FaultKind.{FaultKind}
-use Rattle.upd_text.specs.declared.fault.FaultKind.TheVariants.{CallDepth, CallUnknown, CompileLong, NoMemory, Store}
-use Rattle.upd_text.specs.Outcome.{FailsAt, FailsOf}
+use Rattle.upd_text.specs.declared.fault.FaultKind.TheVariants.{CallDepth, CallUnknown, CardUnknown, CompileLong, DeckUnknown, NoMemory, Store}
+use Rattle.upd_text.specs.declared.card_ref.CardRef.{CardRef}
+use Rattle.upd_text.specs.Faults.{fault_at}
+use Rattle.upd_text.specs.Outcome.{◌>>=◌, FailsAt, FailsOf, at_line, need}
 use Rattle.upd_text.specs.declared.limits.TheConstants.{MAX_COMPILE_LINES, MAX_CALLS, MAX_DEPTH}
 use Rattle.upd_core.specs.Actives.{ActivesView}
-use Rattle.upd_core.specs.Library.{LibraryView}
+use Rattle.upd_core.specs.Library.{CardView, LibraryView, card_in, cards_of, place_of}
+use Rattle.upd_core.specs.Status.{live_targets}
+use Rattle.upd_core.specs.declared.library.Place.{Place}
 use Rattle.upd_compile.specs.Chosen.{chosen}
 use Rattle.upd_compile.specs.File.{FileView, event_fault, event_line, file_of, is_follow, is_line, walk_faults}
+use Rattle.upd_compile.specs.Listings.{card_lines, card_listing, deck_heading, deck_line, deck_listing, listed_deck}
 use Rattle.upd_compile.specs.Walk.{WalkEvent, Line, Follow, Depth, Unknown, walk}
 use Rattle.upd_compile.specs.declared.mode.Mode.{Mode}
 use Rattle.upd_records.specs.Rows.{Rows, Shows, ShowsStates}
@@ -65,7 +70,7 @@ module _ {S : Type 0} {meaning : Ghosts S} where
 
 -- ---- compile files
 
-at_zero : FaultKind → Fault
+abbrev at_zero : FaultKind → Fault
 at_zero kind = record { kind = kind; at = 0 }
 
 -- the fault of an event is one that a compile file can meet
@@ -124,11 +129,40 @@ compile_keeps mode named before after f is = by (compile_met mode named before a
     by (inr (inl met)) = ap (λ g. is_lost g.kind) met
     by (inr (inr met)) = ap (λ g. is_lost g.kind) met
 
--- a compile file that fails was lost, or met one of the faults of a walk
-pub compile_faults : (mode : Mode) (named : List ℕ) (before after : ActivesView) (f : Fault) → FailsAt f (file_of mode named before after)
-    → IsLost f ⊎ IsFileFault f
-compile_faults mode named before after f fails = by (fails_owed f (file_of mode named before after) fails)
+-- ---- faults
+
+-- what fails by a definition was lost, or met what the definition can meet
+pub faults_by : {A Met : Type 0} (f : Fault) (defined : Result A Fault) → (defined ≡ Err f → Met) → FailsAt f defined → IsLost f ⊎ Met
+faults_by {A} {Met} f defined met fails = by (fails_owed f defined fails)
   where
-    by : IsLost f ⊎ (file_of mode named before after ≡ Err f) → IsLost f ⊎ IsFileFault f
+    by : IsLost f ⊎ (defined ≡ Err f) → IsLost f ⊎ Met
     by (inl lost) = inl lost
-    by (inr met) = inr (compile_met mode named before after f met)
+    by (inr is) = inr (met is)
+
+-- the listing of a deck is refused where there is no deck with the name
+pub deck_met : (name : List ℕ) (l : LibraryView) (f : Fault) → deck_listing name l ≡ Err f → f ≡ fault_at DeckUnknown 0
+deck_met name l f is = by (listed_deck name l) is
+  where
+    by : (o : Option ℕ)
+        → (at_line 0 (need DeckUnknown o) >>= (λ age. Ok (deck_heading l.idents age
+        ++ flat_map (deck_line l.idents (live_targets l) age) (cards_of age l)))) ≡ Err f
+        → f ≡ fault_at DeckUnknown 0
+    by None is = sym (cc is)
+    by (Some age) is = absurd (cc)
+
+-- the listing of a card is refused where there is no such card
+pub card_met : (card : CardRef) (l : LibraryView) (f : Fault) → card_listing card l ≡ Err f → f ≡ fault_at CardUnknown 0
+card_met card l f is = by (place_of card l) is
+  where
+    lines : Place → CardView → Result (List ℕ) Fault
+    lines place c = Ok (card_lines l.idents (live_targets l) place.deck c)
+
+    by_card : (place : Place) (o : Option CardView) → (at_line 0 (need CardUnknown o) >>= lines place) ≡ Err f → f ≡ fault_at CardUnknown 0
+    by_card place None is = sym (cc is)
+    by_card place (Some c) is = absurd (cc)
+
+    by : (o : Option Place)
+        → (at_line 0 (need CardUnknown o) >>= (λ place. at_line 0 (need CardUnknown (card_in place l)) >>= lines place)) ≡ Err f
+        → f ≡ fault_at CardUnknown 0
+    by None is = sym (cc is)
+    by (Some place) is = by_card place (card_in place l) is

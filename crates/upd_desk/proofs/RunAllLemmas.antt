@@ -92,6 +92,10 @@ module _ {S : Type 0} (meaning : Ghosts S) where
   idle_more (b ∷ list) (r ∷ results) a result s same idle =
       let both = idle_more list results a result s (omega (arith, same)) idle.1 in ((idle.0, both.0), both.1)
 
+  -- no arrival reads nothing
+  pub none_read_by : (s : S) → ReadsNeededByAll meaning [] [] s s
+  none_read_by s honest j held none = omega arith
+
 module _ {S : Type 0} {meaning : Ghosts S} where
   open meaning use {Image, shows, image, is_open, is_honest, decks_read_of}
 
@@ -150,10 +154,6 @@ module _ {S : Type 0} {meaning : Ghosts S} where
           → later ≡ work_after (work_after_all work j list results) (after_all j list results) a r
       by (Ok reply) looked none = looked
       by (Err f) none stays = stays ∙ earlier (went.later.honest honest) j held
-
-  -- no arrival reads nothing
-  pub none_read_by : (s : S) → ReadsNeededByAll meaning [] [] s s
-  none_read_by s honest j held none = omega arith
 
   -- the decks that are read for one arrival more
   pub reads_one_more : (list : List ArrivalView) (results : List (Result ReplyView Fault)) (a : ArrivalView) (result : Result ReplyView Fault)

@@ -18,7 +18,7 @@ loop-arrival-init g c =
       λ honest. rw empty (λ none. absurd none),
       rw empty refl,
       λ honest journal held. refl,
-      rw empty (none_read_by c.args.self.now.store),
+      rw empty (none_read_by g.S.Meaning c.args.self.now.store),
       rw empty tt,
     )
 
