@@ -2,7 +2,7 @@ use Rattle.upd_correct.specs.Causes.{AreRefusals, IsCause}
 use Rattle.upd_correct.specs.Correcting.{CorrectsTo}
 use Rattle.upd_correct.specs.Refusals.{refusals_of}
 use Rattle.std.proofs.Common.{◌≡◌, [], subst}
-use Rattle.upd_desk.proofs.StoreLemmas.{lost_memory}
+use Rattle.upd_row_store.proofs.KeepingLemmas.{memory_is_lost}
 use Rattle.upd_edit.proofs.ToldLemmas.{held_of}
 use Rattle.upd_edit.proofs.editing.correct_at.Goals as goal
 
@@ -23,4 +23,4 @@ returns-in-Ok-clause-refused g c =
     (λ made. subst (IsCause c.in-Ok.library c.args.set.now c.args.text.now) c.in-Err-Refused.field-0-is c.in-Err-Refused.ensures.refused)
 
 pub returns-in-Err-NoMemory-clause-lost : goal.returns-in-Err-NoMemory-clause-lost
-returns-in-Err-NoMemory-clause-lost g c short = lost_memory c.without_line-in-Err-NoMemory.result c.without_line-in-Err-NoMemory.ensures
+returns-in-Err-NoMemory-clause-lost g c short = memory_is_lost c.without_line-in-Err-NoMemory.result c.without_line-in-Err-NoMemory.ensures

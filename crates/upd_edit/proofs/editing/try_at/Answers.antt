@@ -2,11 +2,10 @@ use Rattle.std.proofs.Common.{Ok, Err, ◌∙◌}
 use Rattle.upd_row_store.proofs.KeepingLemmas.{uncounted}
 use Rattle.upd_desk.specs.Arrivals.{check_arrival}
 use Rattle.upd_desk.specs.Outcomes.{reply_on}
-use Rattle.upd_desk.proofs.AnswerLemmas.{admission_not_lost}
 use Rattle.upd_desk.proofs.ArrivesLemmas.{unstored}
 use Rattle.upd_desk.proofs.QueryLemmas.{fails_owed, store_fails}
 use Rattle.upd_edit.specs.Trying.{tried}
-use Rattle.upd_edit.proofs.ToldLemmas.{none_told, told_of}
+use Rattle.upd_edit.proofs.ToldLemmas.{none_told, told_of, tried_keeps}
 use Rattle.upd_edit.proofs.editing.try_at.Goals as goal
 
 pub returns-in-Ok-clause-reply : goal.returns-in-Ok-clause-reply
@@ -30,7 +29,6 @@ returns-clause-refused g c = fails_owed c.in-Err.fault (check_arrival (tried c.a
 
 pub returns-clause-failed : goal.returns-clause-failed
 returns-clause-failed g c =
-    let a = tried c.args.mode.now c.args.run.now in
     c.in_ok-library.ensures.failed ∙ uncounted c.in-Err.fault.kind _
-    (λ is. unstored c.in-Err.fault (admission_not_lost a c.in-Err.fault
-    (store_fails c.in-Err.fault (check_arrival a) is c.in-Err.ensures.refused)) is)
+    (λ is. unstored c.in-Err.fault (tried_keeps c.args.mode.now c.args.run.now c.in-Err.fault
+    (store_fails c.in-Err.fault (check_arrival (tried c.args.mode.now c.args.run.now)) is c.in-Err.ensures.refused)) is)
