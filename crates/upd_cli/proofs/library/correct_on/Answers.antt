@@ -1,4 +1,4 @@
-use Rattle.std.proofs.Common.{List, ℕ, ◌+◌, subst, sym}
+use Rattle.std.proofs.Common.{List, ℕ, ◌+◌, inl, inr, subst, sym}
 use Rattle.upd_edit.specs.declared.editing.TheConstants.{MAX_TEXT_BYTES}
 use Rattle.upd_cli.specs.Streams.{IsFrontOf}
 use Rattle.upd_cli.proofs.LeavingLemmas.{passed_fails, unread_passed_fails}
@@ -17,7 +17,7 @@ returns-clause-told g c =
     let IsRead : List ℕ → Type 0 = IsFrontOf (MAX_TEXT_BYTES + 1) (g.R.Read.remaining c.args.input.now) in (
       c.deref.result.now,
       subst IsRead (sym c.deref.ensures.value) c.in_ok-text.ensures.ok,
-      (
+      inl (
         c.in_ok-desk.desk.store,
         c.correct_text-status.new.desk.store,
         c.in_ok-desk.ensures.opened,
