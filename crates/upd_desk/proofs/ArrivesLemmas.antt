@@ -1,12 +1,13 @@
 -- What each answer to an arrival makes of a desk over a store.
 use Rattle.std.proofs.Common.{◌≡◌, ℕ, suc, ◌≤◌, ◌<◌, nat_lt, nat_le, Bool, true, false, ◌⊎◌, if◌then◌else◌, List, ◌∷◌}
-use Rattle.std.proofs.Common.{Option, Some, None, IsSome, Result, Ok, Err, ◌==◌, ◌&&◌}
+use Rattle.std.proofs.Common.{Option, Some, None, IsSome, Result, Ok, Err, IsErrAnd, ◌==◌, ◌&&◌}
 use Rattle.std.proofs.Common.{inl, inr, refl, ap, sym, ◌∙◌, subst, rules, arith}
 use Rattle.std.specs.Str.{bytes_eq}
 use Rattle.std.proofs.lemmas.Bool.{false≢true}
 use Rattle.std.proofs.lemmas.Bool.Decides.{nat_tests}
 use Rattle.upd_text.specs.declared.fault.Fault.{Fault}
 use Rattle.upd_text.specs.declared.fault.FaultKind.TheVariants as fault
+use Rattle.upd_text.specs.Faults.{fault_at}
 use Rattle.upd_core.specs.Library.{LibraryView, empty}
 use Rattle.upd_records.specs.Rows.{RunView, Rows, Shows, ShowsStates}
 use Rattle.upd_compile.specs.declared.mode.Mode.{Mode}
@@ -18,7 +19,7 @@ use Rattle.upd_desk.specs.Arrivals.{ArrivalView, check_arrival, mode_number}
 use Rattle.upd_desk.specs.Journal.{Alike, Event, Came, Journal, answer, distinct, mark, reply_to, library_after}
 use Rattle.upd_desk.specs.Made.{IsMade}
 use Rattle.upd_desk.specs.Outcomes.{ReplyView, outcome}
-use Rattle.upd_desk.specs.Holding.{Arrives, Becomes, Guards, HoldsIn, IsHeld, IsIdle, IsLeft, TriesRun, is_lost}
+use Rattle.upd_desk.specs.Holding.{Arrives, Becomes, Guards, HoldsIn, IsHeld, IsIdle, IsLeft, IsUnadmitted, TriesRun, is_lost}
 use Rattle.upd_desk.proofs.AlikeLemmas.{alike_more, alike_unheard, holds_alike, holds_new}
 use Rattle.upd_desk.proofs.AnswerLemmas.{answer_again, answer_unadmitted, answer_new, answer_settled, admission_not_lost}
 use Rattle.upd_desk.proofs.RepeatLemmas.{refused_unheard}
@@ -32,10 +33,10 @@ lost_kind f (OfStore g is at) = rw is refl
 pub unstored : (f : Fault) → is_lost f.kind ≡ false → ¬ (f.kind ≡ fault.Store)
 unstored f stays is = let clash : true ≡ false = sym (ap is_lost is) ∙ stays in grind rules
 
--- another run under a kept key neither runs out of memory nor fails as a store does
-pub changed_keeps : (mode : Mode) (a : ArrivalView) (l : LibraryView) (run : RunView) (f : Fault) → Err f ≡ reply_to mode a l (Some run)
-    → is_lost f.kind ≡ false
-changed_keeps mode a l run f is = go ((run.mode == mode_number mode) && bytes_eq run.bytes a.bytes) is
+-- another run under a kept key is RunChanged
+pub changed_is : (mode : Mode) (a : ArrivalView) (l : LibraryView) (run : RunView) (f : Fault) → Err f ≡ reply_to mode a l (Some run)
+    → f ≡ fault_at fault.RunChanged 0
+changed_is mode a l run f is = go ((run.mode == mode_number mode) && bytes_eq run.bytes a.bytes) is
   where
     row_changes : Result ReplyView Fault
     row_changes = Ok (record { accepted = run.accepted; text = run.reply })
@@ -43,9 +44,22 @@ changed_keeps mode a l run f is = go ((run.mode == mode_number mode) && bytes_eq
     changed : Result ReplyView Fault
     changed = Err (record { kind = fault.RunChanged; at = 0 })
 
-    go : (same : Bool) → Err f ≡ (if same then row_changes else changed) → is_lost f.kind ≡ false
-    go true is = grind rules
-    go false is = grind rules
+    go : (same : Bool) → Err f ≡ (if same then row_changes else changed) → f ≡ fault_at fault.RunChanged 0
+    go true is = absurd (cc)
+    go false is = cc is
+
+pub changed_keeps : (mode : Mode) (a : ArrivalView) (l : LibraryView) (run : RunView) (f : Fault) → Err f ≡ reply_to mode a l (Some run)
+    → is_lost f.kind ≡ false
+changed_keeps mode a l run f is = ap (λ g. is_lost g.kind) (changed_is mode a l run f is)
+
+-- what the first checks refuse gets their refusal, and what they let pass isn't refused by them
+pub unadmitted : {X A S : Type 0} (checked : Result X Fault) (f : Fault) (result : Result A Fault) (s : S)
+    → Err f ≡ checked → IsErrAnd result (λ e. e ≡ f) → IsUnadmitted checked result s s
+unadmitted checked f result s is same = subst (λ r. IsUnadmitted r result s s) is (same, refl)
+
+pub admitted : {X A S : Type 0} (checked : Result X Fault) (x : X) (result : Result A Fault) (old new : S)
+    → Ok x ≡ checked → IsUnadmitted checked result old new
+admitted checked x result old new is = subst (λ r. IsUnadmitted r result old new) is tt
 
 -- ---- images
 

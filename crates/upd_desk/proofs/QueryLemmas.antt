@@ -1,17 +1,22 @@
 -- What a query of a desk tells.
-use Rattle.std.proofs.Common.{◌≡◌, ℕ, nat_lt, Bool, true, false, ◌⊎◌, if◌then◌else◌, List, [], ◌∷◌, take, Option, Some, None, Result, Ok, Err}
-use Rattle.std.proofs.Common.{inl, inr, refl, ap, sym, ◌∙◌, subst, rules}
+use Rattle.std.proofs.Common.{◌≡◌, ℕ, nat_lt, Bool, true, false, ◌⊎◌, if◌then◌else◌, List, [], ◌∷◌, ◌++◌, take, Option, Some, None, Result, Ok, Err}
+use Rattle.std.proofs.Common.{inl, inr, refl, ap, sym, ◌∙◌, subst}
 use Rattle.std.specs.Prelude.{count_by}
 use Rattle.std.specs.List.{enumerate_from, filter_map, flat_map}
 use Rattle.upd_text.specs.declared.fault.Fault.{Fault}
 use Rattle.upd_text.specs.declared.fault.FaultKind.{FaultKind}
-use Rattle.upd_text.specs.declared.fault.FaultKind.TheVariants.{CompileLong, NoMemory, Store}
-use Rattle.upd_text.specs.Outcome.{FailsAt, FailsOf}
+use Rattle.upd_text.specs.declared.fault.FaultKind.TheVariants.{CallDepth, CallUnknown, CardUnknown, CompileLong, DeckUnknown, NoMemory, Store}
+use Rattle.upd_text.specs.declared.card_ref.CardRef.{CardRef}
+use Rattle.upd_text.specs.Faults.{fault_at}
+use Rattle.upd_text.specs.Outcome.{◌>>=◌, FailsAt, FailsOf, at_line, need}
 use Rattle.upd_text.specs.declared.limits.TheConstants.{MAX_COMPILE_LINES, MAX_CALLS, MAX_DEPTH}
 use Rattle.upd_core.specs.Actives.{ActivesView}
-use Rattle.upd_core.specs.Library.{LibraryView}
+use Rattle.upd_core.specs.Library.{CardView, LibraryView, card_in, cards_of, place_of}
+use Rattle.upd_core.specs.Status.{live_targets}
+use Rattle.upd_core.specs.declared.library.Place.{Place}
 use Rattle.upd_compile.specs.Chosen.{chosen}
 use Rattle.upd_compile.specs.File.{FileView, event_fault, event_line, file_of, is_follow, is_line, walk_faults}
+use Rattle.upd_compile.specs.Listings.{card_lines, card_listing, deck_heading, deck_line, deck_listing, listed_deck}
 use Rattle.upd_compile.specs.Walk.{WalkEvent, Line, Follow, Depth, Unknown, walk}
 use Rattle.upd_compile.specs.declared.mode.Mode.{Mode}
 use Rattle.upd_records.specs.Rows.{Rows, Shows, ShowsStates}
@@ -20,6 +25,7 @@ use Rattle.upd_row_store.specs.Keeping.{IsLost, Keeps, OfMemory}
 use Rattle.upd_desk.specs.Journal.{Journal, library_after}
 use Rattle.upd_desk.specs.Made.{IsMade}
 use Rattle.upd_desk.specs.Holding.{HoldsIn, IsOwed, Tells, is_lost}
+use Rattle.upd_desk.specs.Outcomes.{IsFileFault}
 use Rattle.upd_desk.proofs.MadeLemmas.{library_made}
 use Rattle.upd_desk.proofs.RefusedLemmas.{fails_by}
 
@@ -64,53 +70,99 @@ module _ {S : Type 0} {meaning : Ghosts S} where
 
 -- ---- compile files
 
--- the fault of an event is no failure of a store
-event_keeps : (before : List WalkEvent) (e : WalkEvent) (k : FaultKind) → event_fault before e ≡ Some k → is_lost k ≡ false
-event_keeps before (Line c) k is = go (nat_lt (count_by is_line before) MAX_COMPILE_LINES) is
-  where
-    go : (few : Bool) → (if few then None else Some CompileLong) ≡ Some k → is_lost k ≡ false
-    go true is = grind rules
-    go false is = grind rules
-event_keeps before Follow k is = go (nat_lt (count_by is_follow before) MAX_CALLS) is
-  where
-    go : (few : Bool) → (if few then None else Some CompileLong) ≡ Some k → is_lost k ≡ false
-    go true is = grind rules
-    go false is = grind rules
-event_keeps before Depth k is = grind rules
-event_keeps before Unknown k is = grind rules
+abbrev at_zero : FaultKind → Fault
+at_zero kind = record { kind = kind; at = 0 }
 
-first_keeps : (all : List WalkEvent) (es : List (ℕ × WalkEvent)) (k : FaultKind) (ks : List FaultKind)
-    → filter_map (λ e. event_fault (take e.0 all) e.1) es ≡ k ∷ ks → is_lost k ≡ false
-first_keeps all [] k ks is = grind rules
-first_keeps all (e ∷ es) k ks is = go (event_fault (take e.0 all) e.1) refl (first_keeps all es k ks)
+-- the fault of an event is one that a compile file can meet
+event_met : (before : List WalkEvent) (e : WalkEvent) (k : FaultKind) → event_fault before e ≡ Some k → IsFileFault (at_zero k)
+event_met before (Line c) k is = go (nat_lt (count_by is_line before) MAX_COMPILE_LINES) is
+  where
+    go : (few : Bool) → (if few then None else Some CompileLong) ≡ Some k → IsFileFault (at_zero k)
+    go true is = absurd (cc)
+    go false is = let same : CompileLong ≡ k = cc is in subst (λ kind. IsFileFault (at_zero kind)) same (inr (inr refl))
+event_met before Follow k is = go (nat_lt (count_by is_follow before) MAX_CALLS) is
+  where
+    go : (few : Bool) → (if few then None else Some CompileLong) ≡ Some k → IsFileFault (at_zero k)
+    go true is = absurd (cc)
+    go false is = let same : CompileLong ≡ k = cc is in subst (λ kind. IsFileFault (at_zero kind)) same (inr (inr refl))
+event_met before Depth k is = let same : CallDepth ≡ k = cc is in subst (λ kind. IsFileFault (at_zero kind)) same (inr (inl refl))
+event_met before Unknown k is = let same : CallUnknown ≡ k = cc is in subst (λ kind. IsFileFault (at_zero kind)) same (inl refl)
+
+first_met : (all : List WalkEvent) (es : List (ℕ × WalkEvent)) (k : FaultKind) (ks : List FaultKind)
+    → filter_map (λ e. event_fault (take e.0 all) e.1) es ≡ k ∷ ks → IsFileFault (at_zero k)
+first_met all [] k ks is = absurd (cc)
+first_met all (e ∷ es) k ks is = go (event_fault (take e.0 all) e.1) refl (first_met all es k ks)
   where
     go : (o : Option FaultKind) → event_fault (take e.0 all) e.1 ≡ o
-        → (filter_map (λ e. event_fault (take e.0 all) e.1) es ≡ k ∷ ks → is_lost k ≡ false) → is_lost k ≡ false
+        → (filter_map (λ e. event_fault (take e.0 all) e.1) es ≡ k ∷ ks → IsFileFault (at_zero k)) → IsFileFault (at_zero k)
     go None none rest = let less : filter_map (λ e. event_fault (take e.0 all) e.1) es ≡ k ∷ ks = rw none at is in rest less
     go (Some found) here rest =
         let first : found ∷ filter_map (λ e. event_fault (take e.0 all) e.1) es ≡ k ∷ ks = rw here at is in
-        event_keeps (take e.0 all) e.1 k (here ∙ ap Some (cc first))
+        event_met (take e.0 all) e.1 k (here ∙ ap Some (cc first))
 
--- a compile file that is refused is no failure of a store
-pub compile_keeps : (mode : Mode) (named : List ℕ) (before after : ActivesView) (f : Fault) → file_of mode named before after ≡ Err f
-    → is_lost f.kind ≡ false
-compile_keeps mode named before after f is = go (walk_faults events) refl
+-- a compile file that is refused met one of the faults of a walk
+pub compile_met : (mode : Mode) (named : List ℕ) (before after : ActivesView) (f : Fault) → file_of mode named before after ≡ Err f → IsFileFault f
+compile_met mode named before after f is = go (walk_faults events) refl
   where
     events : List WalkEvent
     events = flat_map (walk MAX_DEPTH after) (chosen mode named before after)
 
-    go : (ks : List FaultKind) → walk_faults events ≡ ks → is_lost f.kind ≡ false
+    go : (ks : List FaultKind) → walk_faults events ≡ ks → IsFileFault f
     go [] none =
         let clash : ◌≡◌ {A = Result FileView Fault} (Ok (record {
           bytes = flat_map (event_line after.idents) events;
           lines = count_by is_line events;
         })) (Err f) = rw none at is in
-        grind rules
+        absurd (cc)
     go (k ∷ ks) some =
-        let refused : Err (record { kind = k; at = 0 }) ≡ Err f = rw some at is in
-        let kind : k ≡ f.kind = ap kind_of refused in
-        subst (λ kind. is_lost kind ≡ false) kind (first_keeps events (enumerate_from 0 events) k ks some)
-      where
-        kind_of : Result FileView Fault → FaultKind
-        kind_of (Ok file) = CompileLong
-        kind_of (Err fault) = fault.kind
+        let refused : Err (at_zero k) ≡ Err f = rw some at is in
+        let same : at_zero k ≡ f = cc refused in
+        subst IsFileFault same (first_met events (enumerate_from 0 events) k ks some)
+
+-- it is no failure of a store
+pub compile_keeps : (mode : Mode) (named : List ℕ) (before after : ActivesView) (f : Fault) → file_of mode named before after ≡ Err f
+    → is_lost f.kind ≡ false
+compile_keeps mode named before after f is = by (compile_met mode named before after f is)
+  where
+    by : IsFileFault f → is_lost f.kind ≡ false
+    by (inl met) = ap (λ g. is_lost g.kind) met
+    by (inr (inl met)) = ap (λ g. is_lost g.kind) met
+    by (inr (inr met)) = ap (λ g. is_lost g.kind) met
+
+-- ---- faults
+
+-- what fails by a definition was lost, or met what the definition can meet
+pub faults_by : {A Met : Type 0} (f : Fault) (defined : Result A Fault) → (defined ≡ Err f → Met) → FailsAt f defined → IsLost f ⊎ Met
+faults_by {A} {Met} f defined met fails = by (fails_owed f defined fails)
+  where
+    by : IsLost f ⊎ (defined ≡ Err f) → IsLost f ⊎ Met
+    by (inl lost) = inl lost
+    by (inr is) = inr (met is)
+
+-- the listing of a deck is refused where there is no deck with the name
+pub deck_met : (name : List ℕ) (l : LibraryView) (f : Fault) → deck_listing name l ≡ Err f → f ≡ fault_at DeckUnknown 0
+deck_met name l f is = by (listed_deck name l) is
+  where
+    by : (o : Option ℕ)
+        → (at_line 0 (need DeckUnknown o) >>= (λ age. Ok (deck_heading l.idents age
+        ++ flat_map (deck_line l.idents (live_targets l) age) (cards_of age l)))) ≡ Err f
+        → f ≡ fault_at DeckUnknown 0
+    by None is = sym (cc is)
+    by (Some age) is = absurd (cc)
+
+-- the listing of a card is refused where there is no such card
+pub card_met : (card : CardRef) (l : LibraryView) (f : Fault) → card_listing card l ≡ Err f → f ≡ fault_at CardUnknown 0
+card_met card l f is = by (place_of card l) is
+  where
+    lines : Place → CardView → Result (List ℕ) Fault
+    lines place c = Ok (card_lines l.idents (live_targets l) place.deck c)
+
+    by_card : (place : Place) (o : Option CardView) → (at_line 0 (need CardUnknown o) >>= lines place) ≡ Err f → f ≡ fault_at CardUnknown 0
+    by_card place None is = sym (cc is)
+    by_card place (Some c) is = absurd (cc)
+
+    by : (o : Option Place)
+        → (at_line 0 (need CardUnknown o) >>= (λ place. at_line 0 (need CardUnknown (card_in place l)) >>= lines place)) ≡ Err f
+        → f ≡ fault_at CardUnknown 0
+    by None is = sym (cc is)
+    by (Some place) is = by_card place (card_in place l) is

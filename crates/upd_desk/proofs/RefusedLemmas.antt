@@ -1,5 +1,5 @@
 -- A run that is refused: its fault is the defined one, and no card has another status.
-use Rattle.std.proofs.Common.{◌≡◌, ℕ, ◌≤◌, ◌⊎◌, inl, inr, Bool, true, false, List, [], ◌∷◌, length, Some, Result, Ok, Err, refl, ap, sym, ◌∙◌, subst, arith}
+use Rattle.std.proofs.Common.{◌≡◌, ℕ, ◌≤◌, ◌⊎◌, inl, inr, Bool, true, false, List, [], ◌∷◌, length, Some, Result, Ok, Err, IfErr, refl, ap, sym, ◌∙◌, subst, arith}
 use Rattle.std.specs.List.{filter, AllByRecursion}
 use Rattle.std.specs.Result.{IsErrAnd}
 use Rattle.upd_text.specs.declared.fault.Fault.{Fault}
@@ -72,12 +72,22 @@ fails_is fault defined other fails = by (fails_by fault defined fails)
     by (inr met) = met
 
 -- a refusal that can't be kept is out of memory
+pub refused_memory : {A : Type 0} (f e : Fault) (defined : Result A Fault) → FailsAt f defined
+    → (e ≡ fault_at kinds.NoMemory 0) ⊎ ((e ≡ f) × (f.kind ≡ kinds.NoMemory)) → (e.kind ≡ kinds.NoMemory) × (e.at ≡ 0)
+refused_memory f e defined fails (inl is) = (ap (λ g. g.kind) is, ap (λ g. g.at) is)
+refused_memory f e defined fails (inr (same, kind)) =
+    let at : f.at ≡ 0 = subst (λ k. FailsOf k f defined) kind fails in
+    (ap (λ g. g.kind) same ∙ kind, ap (λ g. g.at) same ∙ at)
+
 pub refused_lost : {A : Type 0} (f e : Fault) (defined : Result A Fault) → FailsAt f defined
     → (e ≡ fault_at kinds.NoMemory 0) ⊎ ((e ≡ f) × (f.kind ≡ kinds.NoMemory)) → IsLost e
-refused_lost f e defined fails (inl is) = OfMemory e (ap (λ g. g.kind) is) (ap (λ g. g.at) is)
-refused_lost f e defined fails (inr (same, kind)) =
-    let at : f.at ≡ 0 = subst (λ k. FailsOf k f defined) kind fails in
-    OfMemory e (ap (λ g. g.kind) same ∙ kind) (ap (λ g. g.at) same ∙ at)
+refused_lost f e defined fails is = let lost = refused_memory f e defined fails is in OfMemory e lost.0 lost.1
+
+-- out of memory says nothing about what is defined
+pub fails_memory : {X A : Type 0} (result : Result X Fault) (defined : Result A Fault)
+    → IfErr result (λ f. (f.kind ≡ kinds.NoMemory) × (f.at ≡ 0)) → IfErr result (λ f. FailsAt f defined)
+fails_memory (Ok x) defined lost = tt
+fails_memory (Err f) defined lost = subst (λ k. FailsOf k f defined) (sym lost.0) lost.1
 
 -- ---- statuses
 

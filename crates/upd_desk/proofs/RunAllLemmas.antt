@@ -1,5 +1,5 @@
 -- Arrivals one after the other: one more at the end.
-use Rattle.std.proofs.Common.{◌≡◌, ℕ, List, [], ◌∷◌, ◌++◌, length, Result, Ok, Err, IfOk, OnErr, OnOk, refl, sym, ◌∙◌, subst, rules, arith}
+use Rattle.std.proofs.Common.{◌≡◌, ℕ, ◌+◌, ◌≤◌, false, List, [], ◌∷◌, ◌++◌, length, Result, Ok, Err, IfErr, IfOk, OnErr, OnOk, refl, sym, ◌∙◌, subst, rules, arith}
 use Rattle.std.proofs.lemmas.Bool.{false≢true}
 use Rattle.upd_text.specs.declared.fault.Fault.{Fault}
 use Rattle.upd_row_store.specs.declared.meaning.Meaning.{Ghosts}
@@ -8,9 +8,11 @@ use Rattle.upd_row_store.proofs.StoreLemmas.{later_still, later_twice}
 use Rattle.upd_desk.specs.Arrivals.{ArrivalView}
 use Rattle.upd_desk.specs.Journal.{Event, Journal}
 use Rattle.upd_desk.specs.Outcomes.{ReplyView}
-use Rattle.upd_desk.specs.Holding.{AreAnswers, AreIdle, RunAll, Arrives, EndsInReply, HoldsIn, IsAnswer, IsIdle, IsLeft}
+use Rattle.upd_desk.specs.Holding.{AreAnswers, AreArrivalFaults, AreIdle, RunAll, Arrives, EndsInReply, HoldsIn, IsAnswer, IsArrivalFault, IsIdle}
+use Rattle.upd_desk.specs.Holding.{IsLeft, IsNoneLost, ReadsNeeded, ReadsNeededByAll, ReadsNoneRefused, is_lost, needed_by_all}
 use Rattle.upd_desk.specs.Holding.{after, after_all, failures_after_all, in_hand_after, in_hand_after_all, work_after, work_after_all}
 use Rattle.upd_desk.specs.Made.{work_of}
+use Rattle.upd_desk.specs.Needed.{needed_by}
 use Rattle.upd_desk.proofs.ArrivesLemmas.{idle_there}
 
 after_more : (j : Journal) (list : List ArrivalView) (results : List (Result ReplyView Fault)) (a : ArrivalView) (result : Result ReplyView Fault)
@@ -44,6 +46,28 @@ answers_more j [] (r ∷ results) a result are is = grind rules
 answers_more j (b ∷ list) [] a result are is = grind rules
 answers_more j (b ∷ list) (r ∷ results) a result are is = (are.0, answers_more (after j b r) list results a result are.1 is)
 
+needed_more : (j : Journal) (list : List ArrivalView) (results : List (Result ReplyView Fault)) (a : ArrivalView)
+    (result : Result ReplyView Fault) → length list ≡ length results → needed_by_all j (list ++ a ∷ []) (results ++ result ∷ [])
+    ≡ needed_by_all j list results + length (needed_by (after_all j list results) a)
+needed_more j [] [] a result same = omega arith
+needed_more j [] (r ∷ results) a result same = grind (arith, same)
+needed_more j (b ∷ list) [] a result same = grind (arith, same)
+needed_more j (b ∷ list) (r ∷ results) a result same =
+    let more = needed_more (after j b r) list results a result (omega (arith, same)) in omega (arith, more)
+
+none_lost_more : (results : List (Result ReplyView Fault)) (result : Result ReplyView Fault) → IsNoneLost (results ++ result ∷ [])
+    → IsNoneLost results × IfErr result (λ fault. is_lost fault.kind ≡ false)
+none_lost_more [] result none = (tt, none.0)
+none_lost_more (r ∷ results) result none = let both = none_lost_more results result none.1 in ((none.0, both.0), both.1)
+
+-- the faults of one arrival more
+pub faults_more : (list : List ArrivalView) (results : List (Result ReplyView Fault)) (a : ArrivalView) (result : Result ReplyView Fault)
+    → AreArrivalFaults list results → IfErr result (IsArrivalFault a) → AreArrivalFaults (list ++ a ∷ []) (results ++ result ∷ [])
+faults_more [] [] a result are is = (is, tt)
+faults_more [] (r ∷ results) a result are is = absurd are
+faults_more (b ∷ list) [] a result are is = absurd are
+faults_more (b ∷ list) (r ∷ results) a result are is = (are.0, faults_more list results a result are.1 is)
+
 -- after an answer that is a reply the store is open
 pub opens_more : {Open : Type 0} (results : List (Result ReplyView Fault)) (result : Result ReplyView Fault) → OnOk result Open
     → EndsInReply (results ++ result ∷ []) → Open
@@ -68,8 +92,12 @@ module _ {S : Type 0} (meaning : Ghosts S) where
   idle_more (b ∷ list) (r ∷ results) a result s same idle =
       let both = idle_more list results a result s (omega (arith, same)) idle.1 in ((idle.0, both.0), both.1)
 
+  -- no arrival reads nothing
+  pub none_read_by : (s : S) → ReadsNeededByAll meaning [] [] s s
+  none_read_by s honest j held none = omega arith
+
 module _ {S : Type 0} {meaning : Ghosts S} where
-  open meaning use {Image, shows, image, is_open, is_honest}
+  open meaning use {Image, shows, image, is_open, is_honest, decks_read_of}
 
   -- no arrival does nothing
   pub none_arrived : (s : S) → RunAll meaning [] [] s s
@@ -126,3 +154,28 @@ module _ {S : Type 0} {meaning : Ghosts S} where
           → later ≡ work_after (work_after_all work j list results) (after_all j list results) a r
       by (Ok reply) looked none = looked
       by (Err f) none stays = stays ∙ earlier (went.later.honest honest) j held
+
+  -- the decks that are read for one arrival more
+  pub reads_one_more : (list : List ArrivalView) (results : List (Result ReplyView Fault)) (a : ArrivalView) (result : Result ReplyView Fault)
+      (old mid new : S) → length list ≡ length results
+      → RunAll meaning list results old mid
+      → Arrives meaning a result mid new
+      → ReadsNeededByAll meaning list results old mid
+      → ReadsNeeded meaning a result mid new
+      → ReadsNoneRefused meaning result mid new
+      → ReadsNeededByAll meaning (list ++ a ∷ []) (results ++ result ∷ []) old new
+  reads_one_more list results a result old mid new same all went earlier needs none honest j held heard =
+      let both = none_lost_more results result heard in
+      let before = earlier (went.later.honest honest) j held both.0 in
+      let last = by result (needs honest (after_all j list results) (all.holds (went.later.honest honest) j held)) none both.1 in
+      let more = needed_more j list results a result same in
+      omega (arith, before, last, more)
+    where
+      count : ℕ
+      count = length (needed_by (after_all j list results) a)
+
+      by : (r : Result ReplyView Fault) → OnOk r (decks_read_of new ≤ decks_read_of mid + count)
+          → IfErr r (λ fault. is_lost fault.kind ≡ false → decks_read_of new ≡ decks_read_of mid)
+          → IfErr r (λ fault. is_lost fault.kind ≡ false) → decks_read_of new ≤ decks_read_of mid + count
+      by (Ok reply) reads unread answered = reads
+      by (Err f) reads unread answered = let is = unread answered in omega (arith, is)

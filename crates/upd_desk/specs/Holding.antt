@@ -1,10 +1,12 @@
 -- When a store holds what a desk owes after a journal, and what a crash may have left of it.
 use Rattle.std.specs.Prelude.{◌≡◌, ℕ, ◌+◌, ◌≤◌, Bool, true, false, ◌⊎◌, if◌then◌else◌, List, [], ◌∷◌, ◌++◌, length, None, IsSome}
-use Rattle.std.specs.Prelude.{Result, Ok, Err, IfErr, IfOk, IsErr, IsOk, OnOk}
-use Rattle.std.specs.List.{Any}
+use Rattle.std.specs.Prelude.{Result, Ok, Err, IfErr, IfOk, IsErr, IsErrAnd, IsOk, OnOk}
+use Rattle.std.specs.List.{AllByRecursion, AllZip, Any}
 use Rattle.upd_text.specs.declared.fault.Fault.{Fault}
 use Rattle.upd_text.specs.declared.fault.FaultKind.{FaultKind}
 use Rattle.upd_text.specs.declared.fault.FaultKind.TheVariants.{NoMemory, Store}
+use Rattle.upd_text.specs.declared.fault.FaultKind.TheVariants as kinds
+use Rattle.upd_text.specs.Faults.{fault_at}
 use Rattle.upd_text.specs.Outcome.{◌>>=◌}
 use Rattle.upd_core.specs.Library.{LibraryView}
 use Rattle.upd_records.specs.Rows.{Rows, Shows, ShowsStates}
@@ -13,7 +15,7 @@ use Rattle.upd_yank.specs.Affected.{altered}
 use Rattle.upd_row_store.specs.declared.meaning.Meaning.{Ghosts}
 use Rattle.upd_row_store.specs.Keeping.{IsLater, IsLost, IsShown, OpensOk, failures_after}
 use Rattle.upd_row_store.specs.Tables.{mark_at, run_at}
-use Rattle.upd_desk.specs.Arrivals.{ArrivalView, check_key}
+use Rattle.upd_desk.specs.Arrivals.{ArrivalView, check_arrival, check_key}
 use Rattle.upd_desk.specs.Journal.{Event, Came, Settled, Journal, answer, kept, mark, run_of, library_after}
 use Rattle.upd_desk.specs.Made.{IsMade, work_of}
 use Rattle.upd_desk.specs.Needed.{needed_by}
@@ -45,6 +47,19 @@ IsOwed owed (Err fault) = IsLost fault ⊎ (owed ≡ Err fault)
 -- the answer is the one that is expected, or the arrival was lost
 abbrev pub IsAnswer : Journal → ArrivalView → Result ReplyView Fault → Type 0
 IsAnswer journal a result = IsOwed (answer journal a) result
+
+-- the faults that an arrival can get: a loss, a refusal by the admission checks, or Settled or RunChanged at 0
+abbrev pub IsArrivalFault : ArrivalView → Fault → Type 0
+IsArrivalFault a fault =
+    IsLost fault ⊎ ((check_arrival a ≡ Err fault) ⊎ ((fault ≡ fault_at kinds.Settled 0) ⊎ (fault ≡ fault_at kinds.RunChanged 0)))
+
+-- those of a settlement: a loss, or a refusal of its site or its number
+abbrev pub IsSettlementFault : List ℕ → ℕ → Fault → Type 0
+IsSettlementFault site n fault = IsLost fault ⊎ (check_key site n ≡ Err fault)
+
+-- a refusal by the first checks is the answer, and the store isn't called
+abbrev pub IsUnadmitted : {X A S : Type 0} → Result X Fault → Result A Fault → S → S → Type 0
+IsUnadmitted checked result old new = IfErr checked (λ fault. IsErrAnd result (λ e. e ≡ fault) × (new ≡ old))
 
 -- what is in hand after an arrival: nothing after a reply, one more where it was lost, and the same after a refusal that isn't kept
 abbrev pub in_hand_after : ArrivalView → List Event → Result ReplyView Fault → List Event
@@ -85,6 +100,20 @@ abbrev pub work_after_all : ℕ → Journal → List ArrivalView → List (Resul
 work_after_all work journal [] results = work
 work_after_all work journal (a ∷ later) [] = work
 work_after_all work journal (a ∷ later) (result ∷ results) = work_after_all (work_after work journal a result) (after journal a result) later results
+
+-- the number of decks that these arrivals need, each after those before it
+abbrev pub needed_by_all : Journal → List ArrivalView → List (Result ReplyView Fault) → ℕ
+needed_by_all journal [] results = 0
+needed_by_all journal (a ∷ later) [] = 0
+needed_by_all journal (a ∷ later) (result ∷ results) = length (needed_by journal a) + needed_by_all (after journal a result) later results
+
+-- none of them was lost
+abbrev pub IsNoneLost : List (Result ReplyView Fault) → Type 0
+IsNoneLost results = AllByRecursion (λ r. IfErr r (λ fault. is_lost fault.kind ≡ false)) results
+
+-- each has an answer, and a fault is one that it can get
+abbrev pub AreArrivalFaults : List ArrivalView → List (Result ReplyView Fault) → Type 0
+AreArrivalFaults list results = AllZip (λ a result. IfErr result (IsArrivalFault a)) list results
 
 -- each has its answer, and it is the one that is expected after those before it
 abbrev pub AreAnswers : Journal → List ArrivalView → List (Result ReplyView Fault) → Type 0
@@ -171,6 +200,11 @@ module _ {S : Type 0} (meaning : Ghosts S) where
   -- one that is refused reads none
   abbrev pub ReadsNoneRefused : {A : Type 0} → Result A Fault → S → S → Type 0
   ReadsNoneRefused result old new = IfErr result (λ fault. is_lost fault.kind ≡ false → decks_read_of new ≡ decks_read_of old)
+
+  -- arrivals of which none is lost read no more decks than their runs need
+  abbrev pub ReadsNeededByAll : List ArrivalView → List (Result ReplyView Fault) → S → S → Type 0
+  ReadsNeededByAll list results old new = EachHeld old new (λ journal. IsNoneLost results
+      → decks_read_of new ≤ decks_read_of old + needed_by_all journal list results)
 
   -- ---- what calls do
 

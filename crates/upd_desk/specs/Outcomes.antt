@@ -1,6 +1,8 @@
 -- What a new run makes of the library, and its reply.
-use Rattle.std.specs.Prelude.{ℕ, Bool, true, false, List, map, Result, Ok, Err}
+use Rattle.std.specs.Prelude.{◌≡◌, ◌⊎◌, ℕ, Bool, true, false, List, map, Result, Ok, Err}
 use Rattle.upd_text.specs.declared.fault.Fault.{Fault}
+use Rattle.upd_text.specs.declared.fault.FaultKind.TheVariants.{CallDepth, CallUnknown, CompileLong}
+use Rattle.upd_text.specs.Faults.{fault_at}
 use Rattle.upd_text.specs.Outcome.{◌>>=◌}
 use Rattle.upd_core.specs.Library.{LibraryView, name_of}
 use Rattle.upd_deck.specs.Reading.{reading}
@@ -22,6 +24,10 @@ compiled mode bytes l = do
   reached ← applied lines l
   file ← compile_file_of mode reached.compile l reached.library
   Ok (record { reached = reached; file = file })
+
+-- the faults that the walk of a compile file can meet
+abbrev pub IsFileFault : Fault → Type 0
+IsFileFault fault = (fault ≡ fault_at CallUnknown 0) ⊎ ((fault ≡ fault_at CallDepth 0) ⊎ (fault ≡ fault_at CompileLong 0))
 
 -- A reply: whether the run was accepted, and the text that the site gets.
 pub record ReplyView : Type 0 where

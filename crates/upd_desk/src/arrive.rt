@@ -6,7 +6,7 @@ ghost use Rattle.upd_records.specs.Rows.{ShowsStates};
 ghost use Rattle.upd_core.specs.Library.{LibraryView};
 ghost use Rattle.upd_desk.specs.Arrivals.{check_arrival};
 ghost use Rattle.upd_desk.specs.Holding.{Arrives, Becomes, FindsMade, LooksAt};
-ghost use Rattle.upd_desk.specs.Holding.{LooksAtAltered, ReadsAtMost, ReadsNeeded, ReadsNoneRefused, TriesRun};
+ghost use Rattle.upd_desk.specs.Holding.{IsArrivalFault, IsUnadmitted, LooksAtAltered, ReadsAtMost, ReadsNeeded, ReadsNoneRefused, TriesRun};
 ghost use Rattle.upd_desk.specs.Made.{looked_at};
 ghost use Rattle.upd_desk.specs.Needed.{needed};
 ghost use Rattle.upd_desk.specs.Journal.{reply_to, run_of};
@@ -111,6 +111,8 @@ pub(crate) fn arrive_at<S: RowStore>(
     ensures least { LooksAtAltered S.Meaning arrival.now result (λ answered. answered.work) store.old store.new }
     ensures reads { ReadsNeeded S.Meaning arrival.now result store.old store.new }
     ensures unread { ReadsNoneRefused S.Meaning result store.old store.new }
+    ensures unadmitted { IsUnadmitted (check_arrival arrival.now) result store.old store.new }
+    ensures faults { IfErr result (IsArrivalFault arrival.now) }
     ensures failed { CountsFailure S.Meaning result store.old store.new }
 {
     let mode = check_arrival(arrival)?;

@@ -1,16 +1,18 @@
 //! The desk over a store.
 
-ghost use Rattle.std.specs.Prelude.{◌≡◌, ◌+◌, ◌≤◌, [], Ok, IfErr, IfOk, OnErr};
+ghost use Rattle.std.specs.Prelude.{◌≡◌, ◌+◌, ◌≤◌, ◌⊎◌, [], Ok, IfErr, IfOk, OnErr};
 ghost use Rattle.std.specs.Result.{result_map_both};
-ghost use Rattle.upd_desk.specs.Arrivals.{arrival_view};
+ghost use Rattle.upd_desk.specs.Arrivals.{arrival_view, check_arrival, check_key};
 ghost use Rattle.upd_compile.specs.File.{compile_file_of};
 ghost use Rattle.upd_compile.specs.Listings.{card_listing, deck_listing, ident_listing, yank_listing};
 ghost use Rattle.upd_compile.specs.declared.mode.Mode.TheVariants.{Full};
 ghost use Rattle.upd_desk.specs.Holding.{Arrives, EachHeld, EndsInReply, LooksAt, LooksAtAltered, ReadsNeeded};
-ghost use Rattle.upd_desk.specs.Holding.{ReadsNoneRefused, RunAll, Settles, Tells, failures_after_all, work_after_all};
-ghost use Rattle.upd_row_store.specs.Keeping.{CountsFailure, Keeps, OpensOk};
+ghost use Rattle.upd_desk.specs.Holding.{AreArrivalFaults, IsArrivalFault, IsSettlementFault, IsUnadmitted};
+ghost use Rattle.upd_desk.specs.Holding.{ReadsNeededByAll, ReadsNoneRefused, RunAll, Settles, Tells, failures_after_all, work_after_all};
+ghost use Rattle.upd_desk.specs.Outcomes.{IsFileFault};
+ghost use Rattle.upd_row_store.specs.Keeping.{CountsFailure, IsLost, Keeps, OpensOk, reads_after};
 ghost use Rattle.upd_text.specs.Faults.{fault_at};
-ghost use Rattle.upd_text.specs.declared.fault.FaultKind.TheVariants.{NoMemory};
+ghost use Rattle.upd_text.specs.declared.fault.FaultKind.TheVariants.{CardUnknown, DeckUnknown, NoMemory};
 
 use crate::arrival::Arrival;
 use crate::arrive::arrive_at;
@@ -81,6 +83,9 @@ impl<S: RowStore> Desk<S> {
             self.old.store self.new.store }
         ensures unread { ReadsNoneRefused S.Meaning result self.old.store self.new.store }
         ensures idle { OnErr result (self.new.work ≡ self.old.work) }
+        ensures unadmitted { IsUnadmitted (check_arrival (arrival_view site.now number mode.now bytes.now)) result
+            self.old.store self.new.store }
+        ensures faults { IfErr result (IsArrivalFault (arrival_view site.now number mode.now bytes.now)) }
         ensures failed { CountsFailure S.Meaning result self.old.store self.new.store }
     {
         let arrival = Arrival {
@@ -100,6 +105,8 @@ impl<S: RowStore> Desk<S> {
         ensures reads { ReadsNeeded S.Meaning arrival.now result self.old.store self.new.store }
         ensures unread { ReadsNoneRefused S.Meaning result self.old.store self.new.store }
         ensures idle { OnErr result (self.new.work ≡ self.old.work) }
+        ensures unadmitted { IsUnadmitted (check_arrival arrival.now) result self.old.store self.new.store }
+        ensures faults { IfErr result (IsArrivalFault arrival.now) }
         ensures failed { CountsFailure S.Meaning result self.old.store self.new.store }
     {
         match arrive_at(&mut self.store, alloc, arrival) {
@@ -124,8 +131,11 @@ impl<S: RowStore> Desk<S> {
         ensures work { EachHeld S.Meaning self.old.store self.new.store
             (λ journal. IfOk result
             (λ answers. self.new.work ≡ work_after_all self.old.work journal list.now answers.items)) }
+        ensures reads { IfOk result (λ answers. ReadsNeededByAll S.Meaning list.now answers.items
+            self.old.store self.new.store) }
         ensures opens { IfOk result (λ answers. S.is_honest self.new.store → EndsInReply answers.items
             → S.is_open self.new.store) }
+        ensures faults { IfOk result (λ answers. AreArrivalFaults list.now answers.items) }
         ensures failed { IfOk result (λ answers. S.failures_of self.new.store
             ≡ failures_after_all answers.items (S.failures_of self.old.store)) }
         ensures none { OnErr result (self.new.store ≡ self.old.store) }
@@ -149,6 +159,8 @@ impl<S: RowStore> Desk<S> {
         ensures settles { Settles S.Meaning site.now number result self.old.store self.new.store }
         ensures unread { S.decks_read_of self.new.store ≡ S.decks_read_of self.old.store }
         ensures idle { self.new.work ≡ self.old.work }
+        ensures unadmitted { IsUnadmitted (check_key site.now number) result self.old.store self.new.store }
+        ensures faults { IfErr result (IsSettlementFault site.now number) }
         ensures failed { CountsFailure S.Meaning result self.old.store self.new.store }
     {
         match settle_at(&mut self.store, alloc, site, number) {
@@ -166,6 +178,7 @@ impl<S: RowStore> Desk<S> {
         ensures same { Keeps S.Meaning self.old.store self.new.store }
         ensures unread { S.decks_read_of self.new.store ≡ S.decks_read_of self.old.store }
         ensures idle { self.new.work ≡ self.old.work }
+        ensures faults { IfErr result (λ fault. IsLost fault ⊎ IsFileFault fault) }
         ensures failed { CountsFailure S.Meaning result self.old.store self.new.store }
     {
         let actives = self.store.load_active(alloc)?;
@@ -181,6 +194,8 @@ impl<S: RowStore> Desk<S> {
         ensures opens { OpensOk S.Meaning result self.new.store }
         ensures same { Keeps S.Meaning self.old.store self.new.store }
         ensures idle { self.new.work ≡ self.old.work }
+        ensures reads { S.decks_read_of self.new.store ≡ reads_after result (S.decks_read_of self.old.store) }
+        ensures lost { IfErr result IsLost }
         ensures failed { CountsFailure S.Meaning result self.old.store self.new.store }
     {
         match self.store.load(alloc) {
@@ -199,6 +214,7 @@ impl<S: RowStore> Desk<S> {
         ensures reads { EachHeld S.Meaning self.old.store self.new.store
             (λ journal. S.decks_read_of self.new.store ≤ S.decks_read_of self.old.store + 1) }
         ensures idle { self.new.work ≡ self.old.work }
+        ensures faults { IfErr result (λ fault. IsLost fault ⊎ (fault ≡ fault_at DeckUnknown 0)) }
         ensures failed { CountsFailure S.Meaning result self.old.store self.new.store }
     {
         let library = load_deck_named(&mut self.store, alloc, name)?;
@@ -218,6 +234,7 @@ impl<S: RowStore> Desk<S> {
         ensures reads { EachHeld S.Meaning self.old.store self.new.store
             (λ journal. S.decks_read_of self.new.store ≤ S.decks_read_of self.old.store + 1) }
         ensures idle { self.new.work ≡ self.old.work }
+        ensures faults { IfErr result (λ fault. IsLost fault ⊎ (fault ≡ fault_at CardUnknown 0)) }
         ensures failed { CountsFailure S.Meaning result self.old.store self.new.store }
     {
         let library = load_deck_with(&mut self.store, alloc, &card)?;
@@ -236,6 +253,7 @@ impl<S: RowStore> Desk<S> {
         ensures reads { EachHeld S.Meaning self.old.store self.new.store
             (λ journal. S.decks_read_of self.new.store ≤ S.decks_read_of self.old.store) }
         ensures idle { self.new.work ≡ self.old.work }
+        ensures lost { IfErr result IsLost }
         ensures failed { CountsFailure S.Meaning result self.old.store self.new.store }
     {
         let head = self.store.load_decks(alloc, &[])?;
@@ -254,6 +272,7 @@ impl<S: RowStore> Desk<S> {
         ensures reads { EachHeld S.Meaning self.old.store self.new.store
             (λ journal. S.decks_read_of self.new.store ≤ S.decks_read_of self.old.store) }
         ensures idle { self.new.work ≡ self.old.work }
+        ensures lost { IfErr result IsLost }
         ensures failed { CountsFailure S.Meaning result self.old.store self.new.store }
     {
         let head = self.store.load_decks(alloc, &[])?;

@@ -1,7 +1,8 @@
 //! The way of a settlement, over any store.
 
-ghost use Rattle.std.specs.Prelude.{◌≡◌};
-ghost use Rattle.upd_desk.specs.Holding.{Settles};
+ghost use Rattle.std.specs.Prelude.{◌≡◌, IfErr};
+ghost use Rattle.upd_desk.specs.Arrivals.{check_key};
+ghost use Rattle.upd_desk.specs.Holding.{IsSettlementFault, IsUnadmitted, Settles};
 ghost use Rattle.upd_row_store.specs.Keeping.{CountsFailure};
 
 use crate::arrival::check_key;
@@ -18,6 +19,8 @@ pub(crate) fn settle_at<S: RowStore>(
 ) -> Result<u64, Fault>
     ensures settles { Settles S.Meaning site.now number result store.old store.new }
     ensures unread { S.decks_read_of store.new ≡ S.decks_read_of store.old }
+    ensures unadmitted { IsUnadmitted (check_key site.now number) result store.old store.new }
+    ensures faults { IfErr result (IsSettlementFault site.now number) }
     ensures failed { CountsFailure S.Meaning result store.old store.new }
 {
     check_key(site, number)?;

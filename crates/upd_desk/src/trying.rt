@@ -7,6 +7,7 @@ ghost use Rattle.upd_desk.specs.Compiling.{IsSeen};
 ghost use Rattle.upd_desk.specs.Made.{IsMade};
 ghost use Rattle.upd_desk.specs.Outcomes.{Compiled, compiled, outcome, reply_on};
 ghost use Rattle.upd_text.specs.Outcome.{FailsAt, GivesAt};
+ghost use Rattle.upd_text.specs.declared.fault.FaultKind.TheVariants.{NoMemory};
 
 use crate::arrival::{Arrival, check_arrival};
 use crate::outcome::{AppliedRun, accepted_reply, refused};
@@ -28,7 +29,8 @@ struct TriedRun {
 /// The reply that a new run would get from a desk with this library. Nothing is stored, and the library stays. A fault
 /// is at 0: BadSite, BadNumber, BadMode or RunLong by the admission checks, or NoMemory.
 pub fn reply_on(alloc: Global, library: &Library, arrival: &Arrival<'_>) -> Result<Reply, Fault>
-    ensures { IsMade library.now → GivesAt (λ reply. reply) result (reply_on arrival.now library.now) }
+    ensures reply { IsMade library.now → GivesAt (λ reply. reply) result (reply_on arrival.now library.now) }
+    ensures refused { IfErr result (λ fault. FailsAt fault (check_arrival arrival.now)) }
 {
     let mode = check_arrival(arrival)?;
     reply_in(alloc, library, mode, arrival)
@@ -42,7 +44,9 @@ fn reply_in(
     arrival: &Arrival<'_>,
 ) -> Result<Reply, Fault>
     requires passed { check_arrival arrival.now ≡ Ok mode }
-    ensures { IsMade library.now → GivesAt (λ reply. reply) result (Ok (outcome mode arrival.now library.now).reply) }
+    ensures reply { IsMade library.now
+        → GivesAt (λ reply. reply) result (Ok (outcome mode arrival.now library.now).reply) }
+    ensures lost { IfErr result (λ fault. (fault.kind ≡ NoMemory) × (fault.at ≡ 0)) }
 {
     match try_run(alloc, library, mode, arrival.bytes) {
         Ok(tried) => match accepted_reply(alloc, arrival, &tried.run, &tried.file) {

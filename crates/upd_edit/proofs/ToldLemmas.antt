@@ -2,22 +2,21 @@
 use Rattle.std.proofs.Common.{◌≡◌, inl, inr, Bool, true, false, nat_lt, length, List, [], ◌∷◌, ℕ, Option, Some, None, Result, Ok, Err, IsErrAnd, sym, subst, rules}
 use Rattle.std.specs.Result.{result_map_both}
 use Rattle.upd_text.specs.declared.fault.Fault.{Fault}
-use Rattle.upd_text.specs.declared.fault.FaultKind.TheVariants.{DeckUnknown}
-use Rattle.upd_text.specs.declared.fault.FaultKind.TheVariants as fault
+use Rattle.upd_text.specs.declared.fault.FaultKind.TheVariants.{BadMode, DeckUnknown, RunLong}
 use Rattle.upd_text.specs.declared.limits.TheConstants.{MAX_RUN_BYTES}
 use Rattle.upd_text.specs.Outcome.{◌>>=◌, at_line, need, refuse_if}
 use Rattle.upd_core.specs.Library.{LibraryView, deck_of}
 use Rattle.upd_core.specs.Actives.{actives_of}
 use Rattle.upd_compile.specs.File.{compile_file_of}
 use Rattle.upd_compile.specs.declared.mode.Mode.TheVariants.{Quick}
-use Rattle.upd_row_store.specs.declared.meaning.Meaning.{Ghosts}
-use Rattle.upd_row_store.specs.Keeping.{IsLost}
 use Rattle.upd_compile.specs.Modes.{mode_named}
 use Rattle.upd_compile.specs.declared.mode.Mode.{Mode}
+use Rattle.upd_row_store.specs.declared.meaning.Meaning.{Ghosts}
+use Rattle.upd_row_store.specs.Keeping.{IsLost}
+use Rattle.upd_desk.specs.Arrivals.{check_arrival}
 use Rattle.upd_desk.specs.Holding.{EachHeld, IsOwed, Tells, is_lost}
 use Rattle.upd_desk.specs.Journal.{library_after}
 use Rattle.upd_desk.specs.Made.{IsMade}
-use Rattle.upd_desk.specs.Outcomes.{ReplyView, outcome, reply_on}
 use Rattle.upd_desk.proofs.MadeLemmas.{library_made}
 use Rattle.upd_desk.proofs.QueryLemmas.{compile_keeps}
 use Rattle.upd_edit.specs.Source.{source}
@@ -50,14 +49,6 @@ module _ {S : Type 0} (meaning : Ghosts S) where
       by (inl lost) = inl (subst IsLost (sym is) lost)
       by (inr met) = absurd (cc)
 
-  -- a fault in place of a library is a loss
-  pub held_lost : (fault : Fault) (old new : S) → Tells meaning (λ l. Ok l) (Err fault) old new → EachHeld meaning old new (λ journal. IsLost fault)
-  held_lost fault old new tells honest journal held = by (tells honest journal held)
-    where
-      by : IsOwed (Ok (library_after journal)) (Err fault) → IsLost fault
-      by (inl lost) = lost
-      by (inr met) = absurd (cc)
-
 -- an error is shown as it is
 pub shown_error : {X A : Type 0} (view : X → A) (result : Result X Fault) (fault : Fault) → IsErrAnd result (λ e. e ≡ fault)
     → IsErrAnd (result_map_both view (λ f. f) result) (λ e. e ≡ fault)
@@ -72,20 +63,18 @@ source_keeps name l f is = by (deck_of name l) is
     by (Some deck) e = compile_keeps Quick (deck ∷ []) (actives_of l) (actives_of l) f e
     by None e = grind rules
 
--- a run that is only tried is refused by the admission checks alone, so that its fault is no failure of a store
-pub reply_keeps : (mode run : List ℕ) (l : LibraryView) (f : Fault) → reply_on (tried mode run) l ≡ Err f → is_lost f.kind ≡ false
-reply_keeps mode run l f is = by_mode (mode_named mode) is
+-- what the admission checks refuse of a run that is only tried is no failure of a store
+pub tried_keeps : (mode run : List ℕ) (f : Fault) → check_arrival (tried mode run) ≡ Err f → is_lost f.kind ≡ false
+tried_keeps mode run f is = by_mode (mode_named mode) is
   where
-    after_mode : Mode → Bool → Result ReplyView Fault
-    after_mode m long = (at_line 0 (refuse_if long fault.RunLong) >>= λ _. Ok m) >>= λ m. Ok (outcome m (tried mode run) l).reply
+    after_mode : Mode → Bool → Result Mode Fault
+    after_mode m long = at_line 0 (refuse_if long RunLong) >>= λ _. Ok m
 
     by_length : (m : Mode) (long : Bool) → after_mode m long ≡ Err f → is_lost f.kind ≡ false
     by_length m true is = grind rules
     by_length m false is = grind rules
 
-    by_mode : (m : Option Mode)
-        → (at_line 0 (need fault.BadMode m) >>= λ m. at_line 0 (refuse_if (nat_lt MAX_RUN_BYTES (length run)) fault.RunLong) >>= λ _. Ok m)
-        >>= (λ m. Ok (outcome m (tried mode run) l).reply) ≡ Err f
+    by_mode : (m : Option Mode) → (at_line 0 (need BadMode m) >>= λ m. after_mode m (nat_lt MAX_RUN_BYTES (length run))) ≡ Err f
         → is_lost f.kind ≡ false
     by_mode None is = grind rules
     by_mode (Some m) is = by_length m (nat_lt MAX_RUN_BYTES (length run)) is

@@ -8,10 +8,15 @@ use Rattle.upd_edit.specs.declared.editing.EditError.{EditError}
 use Rattle.upd_edit.specs.declared.editing.EditError.TheVariants.{Failed, Refused}
 use Rattle.upd_edit.specs.declared.editing.TheConstants.{MAX_TEXT_BYTES}
 
--- a text that isn't too long is lost, or refused with its problems
+-- a text is refused with its problems
 abbrev pub IsEditCause : LibraryView → Bytes → Bytes → EditError → Type 0
-IsEditCause l set text (Failed fault) = length text ≤ MAX_TEXT_BYTES → IsLost fault
+IsEditCause l set text (Failed fault) = Unit {0}
 IsEditCause l set text (Refused refusals) = AreRefusals l set text refusals.items
+
+-- a failure is a loss, where the text isn't too long
+abbrev pub IsEditLoss : Bytes → EditError → Type 0
+IsEditLoss text (Failed fault) = length text ≤ MAX_TEXT_BYTES → IsLost fault
+IsEditLoss text (Refused refusals) = Unit {0}
 
 -- the count of failures after an edited text is corrected: only a failure of the store adds one
 abbrev pub failures_after_edit : {A : Type 0} → Result A EditError → ℕ → ℕ

@@ -1,19 +1,20 @@
 //! The same of the library that a desk holds. Nothing changes, and no number is used.
-ghost use Rattle.std.specs.Prelude.{◌≡◌, ◌<◌, ◌≤◌, [], IfErr, IfOk, Ok, OnOk, length};
+ghost use Rattle.std.specs.Prelude.{◌≡◌, ◌<◌, ◌≤◌, ◌⊎◌, [], Err, IfErr, IfOk, Ok, OnOk, length};
 ghost use Rattle.std.specs.Result.{result_map_both};
 ghost use Rattle.upd_text.specs.Faults.{fault_at};
 ghost use Rattle.upd_text.specs.declared.fault.FaultKind.TheVariants.{RunLong};
 ghost use Rattle.upd_correct.specs.Correcting.{CorrectsTo};
 ghost use Rattle.upd_correct.specs.Refusals.{refusals_of};
+ghost use Rattle.upd_desk.specs.Arrivals.{check_arrival};
 ghost use Rattle.upd_desk.specs.Holding.{EachHeld, Tells};
 ghost use Rattle.upd_desk.specs.Journal.{library_after};
 ghost use Rattle.upd_desk.specs.Outcomes.{reply_on};
 ghost use Rattle.upd_edit.specs.ActiveText.{active_text};
-ghost use Rattle.upd_edit.specs.EditCauses.{IsEditCause, failures_after_edit};
+ghost use Rattle.upd_edit.specs.EditCauses.{IsEditCause, IsEditLoss, failures_after_edit};
 ghost use Rattle.upd_edit.specs.Source.{source};
 ghost use Rattle.upd_edit.specs.Trying.{tried};
 ghost use Rattle.upd_edit.specs.Warnings.{warning_lines};
-ghost use Rattle.upd_row_store.specs.Keeping.{CountsFailure, Keeps};
+ghost use Rattle.upd_row_store.specs.Keeping.{CountsFailure, IsLost, Keeps};
 
 use crate::deck_source::source;
 use crate::deck_text::active_text;
@@ -88,8 +89,8 @@ pub fn try_at<S: RowStore>(
     ensures reply { Tells S.Meaning (reply_on (tried mode.now run.now)) result
         desk.old.store desk.new.store }
     ensures same { Keeps S.Meaning desk.old.store desk.new.store }
-    ensures failed { EachHeld S.Meaning desk.old.store desk.new.store
-        (λ journal. CountsFailure S.Meaning result desk.old.store desk.new.store) }
+    ensures refused { IfErr result (λ fault. IsLost fault ⊎ (check_arrival (tried mode.now run.now) ≡ Err fault)) }
+    ensures failed { CountsFailure S.Meaning result desk.old.store desk.new.store }
 {
     let library = desk.library(alloc)?;
     let arrival = Arrival {
@@ -138,6 +139,7 @@ pub fn correct_at<S: RowStore>(
         (λ journal. OnOk result (refusals_of (library_after journal) set.now text.now ≡ [])) }
     ensures refused { EachHeld S.Meaning desk.old.store desk.new.store
         (λ journal. IfErr result (IsEditCause (library_after journal) set.now text.now)) }
+    ensures lost { IfErr result (IsEditLoss text.now) }
     ensures short { OnOk result (length text.now ≤ MAX_TEXT_BYTES) }
     ensures long { MAX_TEXT_BYTES < length text.now
         → IfErr result (λ error. error ≡ EditError.Failed (fault_at RunLong 0)) }

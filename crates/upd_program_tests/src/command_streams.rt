@@ -258,7 +258,11 @@ fn help_is_a_command_too(rt: HostRuntime) -> Result<(), Fail> {
     for (name, _) in ABOUT {
         is_help(&rt, &["help", *name], &[*name, "--help"])?;
     }
-    complains(&rt, &["help", "nonsense"], "error: unrecognized subcommand 'nonsense'\n")
+    complains(
+        &rt,
+        &["help", "nonsense"],
+        "error: unrecognized subcommand 'nonsense'\n",
+    )
 }
 
 const NO_MODE: &str = "\

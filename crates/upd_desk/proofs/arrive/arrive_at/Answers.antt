@@ -1,11 +1,11 @@
 -- Each way out of the desk is what is expected for the arrival.
-use Rattle.std.proofs.Common.{◌<◌, ◌≤◌, None, Some, Ok, Err, ap, sym, ◌∙◌, subst}
+use Rattle.std.proofs.Common.{◌<◌, ◌≤◌, inr, None, Some, Ok, Err, ap, sym, ◌∙◌, subst}
 use Rattle.std.proofs.lemmas.Bool.{false≢true}
 use Rattle.upd_core.specs.Library.{empty}
 use Rattle.upd_row_store.specs.Tables.{mark_at, run_at}
 use Rattle.upd_row_store.proofs.KeepingLemmas.{uncounted}
 use Rattle.upd_row_store.proofs.StoreLemmas.{keeps_keeps}
-use Rattle.upd_desk.proofs.ArrivesLemmas.{asked, changed_keeps, keeps_arrives, keeps_new, loses, loses_new, lost_kind}
+use Rattle.upd_desk.proofs.ArrivesLemmas.{asked, changed_is, changed_keeps, keeps_arrives, keeps_new, loses, loses_new, lost_kind}
 use Rattle.upd_desk.proofs.ArrivesLemmas.{refuses_unadmitted, refuses_changed, refuses_settled, tells_kept, unstored}
 use Rattle.upd_desk.proofs.LoadingLemmas.{none_read_again}
 use Rattle.upd_desk.proofs.MadeLemmas.{library_made}
@@ -168,3 +168,7 @@ returns-in-Ok-keep_new-clause-reads g c =
 pub returns-in-Err-keep_new-clause-unread : goal.returns-in-Err-keep_new-clause-unread
 returns-in-Err-keep_new-clause-unread g c stays =
     absurd (false≢true (sym stays ∙ lost_kind c.in-Err-keep_new.fault c.in-Err-keep_new.ensures.lost))
+
+pub returns-in-Err-clause-faults : goal.returns-in-Err-clause-faults
+returns-in-Err-clause-faults g c =
+    inr (inr (inr (changed_is c.in_ok-mode.mode c.args.arrival.now empty c.in-Some.run' c.in-Err.fault (c.in-Err.ensures empty))))

@@ -1,10 +1,9 @@
 use Rattle.upd_correct.specs.Causes.{AreRefusals, IsCause}
 use Rattle.upd_correct.specs.Correcting.{CorrectsTo}
 use Rattle.upd_correct.specs.Refusals.{refusals_of}
-use Rattle.std.proofs.Common.{◌≡◌, [], ap, subst}
-use Rattle.upd_text.specs.declared.fault.Fault.{Fault}
-use Rattle.upd_row_store.specs.Keeping.{OfMemory}
-use Rattle.upd_edit.proofs.ToldLemmas.{held_lost, held_of}
+use Rattle.std.proofs.Common.{◌≡◌, [], subst}
+use Rattle.upd_row_store.proofs.KeepingLemmas.{memory_is_lost}
+use Rattle.upd_edit.proofs.ToldLemmas.{held_of}
 use Rattle.upd_edit.proofs.editing.correct_at.Goals as goal
 
 pub returns-in-Ok-correct-clause-corrects : goal.returns-in-Ok-correct-clause-corrects
@@ -23,11 +22,5 @@ returns-in-Ok-clause-refused g c =
     c.args.desk.now.store c.library.new.self.store c.in-Ok.ensures.library
     (λ made. subst (IsCause c.in-Ok.library c.args.set.now c.args.text.now) c.in-Err-Refused.field-0-is c.in-Err-Refused.ensures.refused)
 
-pub returns-in-Err-NoMemory-clause-refused : goal.returns-in-Err-NoMemory-clause-refused
-returns-in-Err-NoMemory-clause-refused g c honest journal held short =
-    let is = c.without_line-in-Err-NoMemory.ensures in
-    OfMemory c.without_line-in-Err-NoMemory.result (ap (λ (f : Fault). f.kind) is) (ap (λ (f : Fault). f.at) is)
-
-pub returns-clause-refused : goal.returns-clause-refused
-returns-clause-refused g c honest journal held short =
-    held_lost g.S.Meaning c.in-Err.fault c.args.desk.now.store c.library.new.self.store c.in-Err.ensures.library honest journal held
+pub returns-in-Err-NoMemory-clause-lost : goal.returns-in-Err-NoMemory-clause-lost
+returns-in-Err-NoMemory-clause-lost g c short = memory_is_lost c.without_line-in-Err-NoMemory.result c.without_line-in-Err-NoMemory.ensures

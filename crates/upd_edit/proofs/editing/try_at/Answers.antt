@@ -1,33 +1,34 @@
 use Rattle.std.proofs.Common.{Ok, Err, ◌∙◌}
-use Rattle.upd_row_store.specs.Keeping.{CountsFailure}
 use Rattle.upd_row_store.proofs.KeepingLemmas.{uncounted}
-use Rattle.upd_desk.specs.Outcomes.{ReplyView, reply_on}
+use Rattle.upd_desk.specs.Arrivals.{check_arrival}
+use Rattle.upd_desk.specs.Outcomes.{reply_on}
 use Rattle.upd_desk.proofs.ArrivesLemmas.{unstored}
 use Rattle.upd_desk.proofs.QueryLemmas.{fails_owed, store_fails}
 use Rattle.upd_edit.specs.Trying.{tried}
-use Rattle.upd_edit.proofs.ToldLemmas.{held_of, none_told, reply_keeps, told_of}
+use Rattle.upd_edit.proofs.ToldLemmas.{none_told, told_of, tried_keeps}
 use Rattle.upd_edit.proofs.editing.try_at.Goals as goal
 
 pub returns-in-Ok-clause-reply : goal.returns-in-Ok-clause-reply
 returns-in-Ok-clause-reply g c =
     told_of g.S.Meaning (reply_on (tried c.args.mode.now c.args.run.now)) c.in_ok-library.library (Ok c.in-Ok.reply)
-    c.args.desk.now.store c.library.new.self.store c.in_ok-library.ensures.library (λ made. c.in-Ok.ensures made)
+    c.args.desk.now.store c.library.new.self.store c.in_ok-library.ensures.library (λ made. c.in-Ok.ensures.reply made)
 
 pub returns-clause-reply : goal.returns-clause-reply
 returns-clause-reply g c =
     told_of g.S.Meaning (reply_on (tried c.args.mode.now c.args.run.now)) c.in_ok-library.library (Err c.in-Err.fault)
     c.args.desk.now.store c.library.new.self.store c.in_ok-library.ensures.library
-    (λ made. fails_owed c.in-Err.fault (reply_on (tried c.args.mode.now c.args.run.now) c.in_ok-library.library) (c.in-Err.ensures made))
+    (λ made. fails_owed c.in-Err.fault (reply_on (tried c.args.mode.now c.args.run.now) c.in_ok-library.library) (c.in-Err.ensures.reply made))
 
 pub returns-in_err-library-clause-reply : goal.returns-in_err-library-clause-reply
 returns-in_err-library-clause-reply g c =
     none_told g.S.Meaning (reply_on (tried c.args.mode.now c.args.run.now)) c.in_err-library.field-0.0 _
     c.args.desk.now.store c.library.new.self.store c.from_residual.ensures.1 c.in_err-library.ensures.library
 
+pub returns-clause-refused : goal.returns-clause-refused
+returns-clause-refused g c = fails_owed c.in-Err.fault (check_arrival (tried c.args.mode.now c.args.run.now)) c.in-Err.ensures.refused
+
 pub returns-clause-failed : goal.returns-clause-failed
 returns-clause-failed g c =
-    held_of g.S.Meaning (λ l. CountsFailure g.S.Meaning {A = ReplyView} (Err c.in-Err.fault) c.args.desk.now.store c.library.new.self.store) c.in_ok-library.library
-    c.args.desk.now.store c.library.new.self.store c.in_ok-library.ensures.library
-    (λ made. c.in_ok-library.ensures.failed ∙ uncounted c.in-Err.fault.kind _
-    (λ is. unstored c.in-Err.fault (reply_keeps c.args.mode.now c.args.run.now c.in_ok-library.library c.in-Err.fault
-    (store_fails c.in-Err.fault (reply_on (tried c.args.mode.now c.args.run.now) c.in_ok-library.library) is (c.in-Err.ensures made))) is))
+    c.in_ok-library.ensures.failed ∙ uncounted c.in-Err.fault.kind _
+    (λ is. unstored c.in-Err.fault (tried_keeps c.args.mode.now c.args.run.now c.in-Err.fault
+    (store_fails c.in-Err.fault (check_arrival (tried c.args.mode.now c.args.run.now)) is c.in-Err.ensures.refused)) is)

@@ -2,7 +2,7 @@
 use Rattle.std.proofs.Common.{Ok, Err, inl}
 use Rattle.upd_compile.specs.Listings.{deck_listing}
 use Rattle.upd_desk.proofs.MadeLemmas.{library_made}
-use Rattle.upd_desk.proofs.QueryLemmas.{fails_owed, tells_same}
+use Rattle.upd_desk.proofs.QueryLemmas.{deck_met, fails_owed, faults_by, tells_same}
 use Rattle.upd_desk.proofs.RefusedLemmas.{error_is}
 use Rattle.upd_desk.proofs.desk.Desk.deck_list.Goals as goal
 
@@ -21,3 +21,7 @@ returns-clause-text g c =
 
 pub returns-in_err-library-clause-text : goal.returns-in_err-library-clause-text
 returns-in_err-library-clause-text g c honest journal held = rw (error_is _ _ c.from_residual.ensures.1) (inl c.in_err-library.ensures.lost)
+
+pub returns-clause-faults : goal.returns-clause-faults
+returns-clause-faults g c =
+    faults_by c.in-Err.fault (deck_listing c.args.name.now c.in_ok-library.library) (deck_met c.args.name.now c.in_ok-library.library c.in-Err.fault) c.in-Err.ensures

@@ -5,7 +5,7 @@ use Rattle.upd_compile.specs.declared.mode.Mode.TheVariants.{Full}
 use Rattle.upd_row_store.proofs.KeepingLemmas.{uncounted}
 use Rattle.upd_desk.proofs.ArrivesLemmas.{unstored}
 use Rattle.upd_desk.proofs.MadeLemmas.{library_made}
-use Rattle.upd_desk.proofs.QueryLemmas.{compile_keeps, fails_owed, store_fails, tells_same}
+use Rattle.upd_desk.proofs.QueryLemmas.{compile_keeps, compile_met, fails_owed, faults_by, store_fails, tells_same}
 use Rattle.upd_desk.proofs.RefusedLemmas.{error_is}
 use Rattle.upd_desk.proofs.desk.Desk.full_compile.Goals as goal
 
@@ -32,3 +32,8 @@ returns-clause-failed g c =
     c.in_ok-actives.ensures.leaves.failed ∙ uncounted c.in-Err.fault.kind _
     (λ is. unstored c.in-Err.fault (compile_keeps Full [] c.in_ok-actives.actives c.in_ok-actives.actives c.in-Err.fault
     (store_fails c.in-Err.fault (file_of Full [] c.in_ok-actives.actives c.in_ok-actives.actives) is c.in-Err.ensures)) is)
+
+pub returns-clause-faults : goal.returns-clause-faults
+returns-clause-faults g c =
+    let actives = c.in_ok-actives.actives in
+    faults_by c.in-Err.fault (file_of Full [] actives actives) (compile_met Full [] actives actives c.in-Err.fault) c.in-Err.ensures

@@ -4,7 +4,8 @@ use Rattle.std.proofs.lemmas.List.{length-take-le, length_push, take_more}
 use Rattle.std.specs.Vec.{vec_len}
 use Rattle.upd_row_store.specs.Keeping.{failures_after}
 use Rattle.upd_desk.specs.Holding.{failures_after_all}
-use Rattle.upd_desk.proofs.RunAllLemmas.{failures_more, none_arrived, one_more, opens_more, work_one_more}
+use Rattle.upd_desk.proofs.RunAllLemmas.{failures_more, faults_more, none_arrived, none_read_by, one_more, opens_more}
+use Rattle.upd_desk.proofs.RunAllLemmas.{reads_one_more, work_one_more}
 use Rattle.upd_desk.proofs.desk.Desk.run_all.Goals as goal
 
 pub loop-arrival-init : goal.loop-arrival-init
@@ -17,6 +18,8 @@ loop-arrival-init g c =
       λ honest. rw empty (λ none. absurd none),
       rw empty refl,
       λ honest journal held. refl,
+      rw empty (none_read_by g.S.Meaning c.args.self.now.store),
+      rw empty tt,
     )
 
 pub unreachable-requires : goal.unreachable-requires
@@ -54,4 +57,9 @@ loop-arrival-preserved g c =
           c.loop-arrival.self.store c.arrive_one-answer.new.self.store c.args.self.now.work c.loop-arrival.self.work
           c.arrive_one-answer.new.self.work same all went c.loop-arrival.invariant.6 c.arrive_one-answer.ensures.work
           c.arrive_one-answer.ensures.idle),
+      rw (more, items) (reads_one_more (take i list) before c.arrival-item.result c.arrive_one-answer.result c.args.self.now.store
+          c.loop-arrival.self.store c.arrive_one-answer.new.self.store same all went c.loop-arrival.invariant.7
+          c.arrive_one-answer.ensures.reads c.arrive_one-answer.ensures.unread),
+      rw (more, items) (faults_more (take i list) before c.arrival-item.result c.arrive_one-answer.result c.loop-arrival.invariant.8
+          c.arrive_one-answer.ensures.faults),
     )

@@ -1,6 +1,6 @@
 use Rattle.std.proofs.Common.{◌≡◌, ◌≤◌, take, length}
 use Rattle.std.specs.Vec.{vec_capacity, vec_len}
-use Rattle.upd_desk.specs.Holding.{EndsInReply, RunAll, HoldsIn, failures_after_all, work_after_all}
+use Rattle.upd_desk.specs.Holding.{AreArrivalFaults, EndsInReply, ReadsNeededByAll, RunAll, HoldsIn, failures_after_all, work_after_all}
 use Rattle.upd_desk.specs.Journal.{Journal}
 use Rattle.upd_desk.proofs.desk.Desk.run_all.Given as goal
 
@@ -15,3 +15,5 @@ invariant-loop-arrival g l =
     × (g.S.Meaning.is_honest l.self.store → (journal : Journal)
     → (g.S.Meaning.is_open l.initial.self.store → HoldsIn g.S.Meaning.shows journal (g.S.Meaning.image l.initial.self.store))
     → l.self.work ≡ work_after_all l.initial.self.work journal (take l.arrival-index l.list) l.answers.items)
+    × ReadsNeededByAll g.S.Meaning (take l.arrival-index l.list) l.answers.items l.initial.self.store l.self.store
+    × AreArrivalFaults (take l.arrival-index l.list) l.answers.items

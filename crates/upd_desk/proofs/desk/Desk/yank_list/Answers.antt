@@ -30,3 +30,6 @@ returns-clause-reads g c honest =
     (c.in_ok-head.ensures.leaves.same.later.was_open honest (c.in_ok-head.ensures.leaves.opens honest))
     (λ l made rows shown shows.
     none_read _ _ l c.in_ok-head.head made.sound (c.in_ok-head.ensures.found honest l made.sound made.whole rows shown shows) c.in_ok-head.ensures.leaves.reads)
+
+pub returns-clause-lost : goal.returns-clause-lost
+returns-clause-lost g c = lost_memory c.in-Err.fault c.in-Err.ensures.err
