@@ -1,5 +1,5 @@
 -- What commands leave, and how they fail.
-use Rattle.std.proofs.Common.{◌≡◌, ◌⊎◌, inl, inr, ℕ, List, Option, Result, Ok, Err, IsErrAnd, IfErr, ap, sym, ◌∙◌, subst, arith}
+use Rattle.std.proofs.Common.{◌≡◌, ◌⊎◌, inl, inr, ℕ, List, Option, Result, Ok, Err, IsErrAnd, IfErr, IfOk, ap, sym, ◌∙◌, subst, arith}
 use Rattle.std.proofs.KnownBytes.{Appends-nil}
 use Rattle.sqlite_wal.specs.Recovery.{Image}
 use Rattle.sqlite.specs.State.{State}
@@ -73,3 +73,9 @@ pub leaves_as : {S C : Type 0} (meaning : Ghosts S) (conn_of : S → C) (state :
     → Leaves meaning conn_of state held asked ended input input' output output'
 leaves_as meaning conn_of state held asked read ended input input' output output' is left =
     subst (λ r. LeavesErrand meaning conn_of state held r ended input input' output output') is left
+
+-- what holds of a status and of something holds of the status and of something that has a property
+pub ok_with : {A : Type 0} (Q : A → Type 0) (P : A → ℕ → Type 0) (x : A) (result : Result ℕ Fault) → Q x → IfOk result (P x)
+    → IfOk result (λ status. (y : A) × Q y × P y status)
+ok_with Q P x (Ok status) has is = (x, has, is)
+ok_with Q P x (Err fault) has is = tt

@@ -17,6 +17,7 @@ use Rattle.upd_io.specs.Inputs.{IsInput}
 use Rattle.upd_edit.specs.declared.editing.TheConstants.{MAX_TEXT_BYTES}
 use Rattle.upd_cli.specs.Command.{Answers, Ending, IsEnd, IsTold, answer_to}
 use Rattle.upd_cli.specs.Errands.{CorrectsText, DoesErrand, TriesRun}
+use Rattle.upd_cli.specs.ListingFile.{CorrectsListed}
 use Rattle.upd_cli.specs.Opened.{IsLibraryIn, IsWarmed, MakesLibrary, MigratesLibrary, OnFile}
 use Rattle.upd_cli.specs.Operands.{IsNoAddress, errand_of}
 use Rattle.upd_cli.specs.Status.{exit_status, fault_line, no_memory}
@@ -73,12 +74,14 @@ module _ {S C : Type 0} (meaning : Ghosts S) (conn_of : S → C) (state : C → 
   IsCarriedOut asked input input' end =
       (ended : Result ℕ Fault) × Leaves asked ended input input' end.output end.output' × IsEndOf ended end.status end.faults end.faults'
 
-  -- an edited text was answered by the desk of the library in the file; or that failed
+  -- an edited text was answered by the desk of the library in the file, or from the listing in the file
+  abbrev pub CorrectsOn : List ℕ → List ℕ → Ending → Type 0
+  CorrectsOn set text end =
+      OnFile meaning conn_of state held (λ old new. CorrectsText meaning set text old new end) ⊎ CorrectsListed set text end
+
+  -- the edited text on the input was answered; or that failed
   abbrev pub IsCorrected : List ℕ → Option (List ℕ) → Ending → Type 0
-  IsCorrected set input end =
-      ((text : List ℕ) × IsFrontOf (MAX_TEXT_BYTES + 1) input text
-      × OnFile meaning conn_of state held (λ old new. CorrectsText meaning set text old new end))
-      ⊎ FailsFirst end
+  IsCorrected set input end = ((text : List ℕ) × IsFrontOf (MAX_TEXT_BYTES + 1) input text × CorrectsOn set text end) ⊎ FailsFirst end
 
   -- a run was tried at the desk of the library in the file; or that failed
   abbrev pub IsTried : List ℕ → Option (List ℕ) → Ending → Type 0

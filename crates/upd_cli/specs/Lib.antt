@@ -8,6 +8,7 @@ pub mod Command
 pub mod Inputs
 pub mod Telling
 pub mod Correcting
+pub mod ListingFile
 pub mod Errands
 pub mod Opened
 pub mod Commands

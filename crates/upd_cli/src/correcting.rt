@@ -37,7 +37,7 @@ pub(crate) fn correct_text<S: RowStore, W: Write, E: Write>(
 }
 
 /// Writes a run, or the line of a write that failed. Returns the exit status.
-fn write_run<W: Write, E: Write>(run: &[u8], output: &mut W, faults: &mut E) -> u8
+pub(crate) fn write_run<W: Write, E: Write>(run: &[u8], output: &mut W, faults: &mut E) -> u8
     ensures tells { TellsCorrection (Ok run.now)
         (ending result (W.contents output.old) (W.contents output.new) (E.contents faults.old) (E.contents faults.new)) }
     ensures status { (result ≡ 0) ⊎ (result ≡ 3) }
@@ -50,7 +50,7 @@ fn write_run<W: Write, E: Write>(run: &[u8], output: &mut W, faults: &mut E) -> 
 }
 
 /// Writes the lines of refusals. Returns the exit status.
-fn tell_refusals<E: Write>(alloc: Global, refusals: &[Refusal], faults: &mut E) -> u8
+pub(crate) fn tell_refusals<E: Write>(alloc: Global, refusals: &[Refusal], faults: &mut E) -> u8
     ensures told { IsRefusedBy refusals.now result (E.contents faults.old) (E.contents faults.new) }
     ensures status { (result ≡ 1) ⊎ (result ≡ 3) }
 {

@@ -230,6 +230,9 @@ corrections that lead each deck to exactly this text. A deck that isn't in the l
 Cards that stay aren't touched, nor are inactive cards. Where nothing differs the run has no lines.
 Changes nothing: send the run with `upd run`.
 
+FILE can also be a deck's listing, as `upd list` writes it and GET /decks/DECK answers it. Then only
+that deck can be edited.
+
 A text is refused where no run could lead to it. Each problem is one line on standard error, with the
 line and column of the text, as `LineLong 7:81 a line has at most 80 bytes`. Other faults, and a text
 of more than 4050000 bytes, are one line too.

@@ -3,7 +3,7 @@ ghost use Rattle.std.specs.Prelude.{◌≡◌, ◌≢◌, ◌≤◌, ◌⊎◌, 
 ghost use Rattle.sqlite.specs.Files.{file_state};
 ghost use Rattle.sqlite_wal.specs.Files.{image_at};
 ghost use Rattle.upd_cli.specs.Command.{ending};
-ghost use Rattle.upd_cli.specs.Commands.{Leaves, ServesFile};
+ghost use Rattle.upd_cli.specs.Commands.{CorrectsOn, Leaves, ServesFile};
 ghost use Rattle.upd_cli.specs.Errands.{CorrectsText, TriesRun};
 ghost use Rattle.upd_cli.specs.Inputs.{IsHandIn, IsSpoolCommand};
 ghost use Rattle.upd_cli.specs.Opened.{IsOpened, IsWarmed, MakesLibrary, MigratesLibrary, OnFile};
@@ -17,6 +17,7 @@ ghost use Rattle.upd_text.specs.declared.limits.TheConstants.{MAX_RUN_BYTES};
 use crate::arriving::try_run;
 use crate::correcting::correct_text;
 use crate::errands::{do_errand, read_errand};
+use crate::listing_file::{correct_listing, read_listing};
 use crate::streams::{read_front, read_input};
 use crate::words::Asked;
 use sqlite::Start;
@@ -95,8 +96,8 @@ pub(crate) fn try_on<St: Start, R: Read, W: Write, E: Write>(
     Ok(status)
 }
 
-/// `correct`: the input is read before the file is opened, as by `try`. Returns the exit status. Nothing is written after
-/// an error.
+/// `correct`: the input is read before the file is opened, as by `try`. The file may have a listing in place of a
+/// library. Returns the exit status. Nothing is written after an error.
 pub(crate) fn correct_on<St: Start, R: Read, W: Write, E: Write>(
     rt: &HostRuntime,
     file: &str,
@@ -107,9 +108,8 @@ pub(crate) fn correct_on<St: Start, R: Read, W: Write, E: Write>(
     faults: &mut E,
 ) -> Result<u8, Fault>
     ensures told { IfOk result (λ status. (text : List ℕ) × IsFrontOf (MAX_TEXT_BYTES + 1) (R.remaining input.old) text
-        × OnFile ⟦<FileRows<St> as Meaning>⟧ (λ rows. rows.inner.conn) file_state (image_at St.Start)
-        (λ old new. CorrectsText ⟦<FileRows<St> as Meaning>⟧ set.now text old new
-        (ending status (W.contents output.old) (W.contents output.new) (E.contents faults.old) (E.contents faults.new)))) }
+        × CorrectsOn ⟦<FileRows<St> as Meaning>⟧ (λ rows. rows.inner.conn) file_state (image_at St.Start) set.now text
+        (ending status (W.contents output.old) (W.contents output.new) (E.contents faults.old) (E.contents faults.new))) }
     ensures front { TakesFront (MAX_TEXT_BYTES + 1) (R.remaining input.old) (R.remaining input.new) }
     ensures silent { IfOk result (λ status. (status ≡ 1) ⊎ (status ≡ 2) → output.new ≡ output.old) }
     ensures clean { IfOk result (λ status. status ≡ 0 → faults.new ≡ faults.old) }
@@ -118,8 +118,56 @@ pub(crate) fn correct_on<St: Start, R: Read, W: Write, E: Write>(
     ensures failed { IfErr result (λ fault. exit_status fault.kind ≡ 3) }
 {
     let text = read_front(rt.alloc(), input, MAX_TEXT_BYTES + 1)?;
+    correct_with(rt, file, start, set, &text, output, faults)
+}
+
+/// The same, once the input is read.
+fn correct_with<St: Start, W: Write, E: Write>(
+    rt: &HostRuntime,
+    file: &str,
+    start: St,
+    set: &str,
+    text: &[u8],
+    output: &mut W,
+    faults: &mut E,
+) -> Result<u8, Fault>
+    ensures told { IfOk result (λ status. CorrectsOn ⟦<FileRows<St> as Meaning>⟧ (λ rows. rows.inner.conn) file_state
+        (image_at St.Start) set.now text.now
+        (ending status (W.contents output.old) (W.contents output.new) (E.contents faults.old) (E.contents faults.new))) }
+    ensures silent { IfOk result (λ status. (status ≡ 1) ⊎ (status ≡ 2) → output.new ≡ output.old) }
+    ensures clean { IfOk result (λ status. status ≡ 0 → faults.new ≡ faults.old) }
+    ensures none { OnErr result (output.new ≡ output.old) }
+    ensures quiet { OnErr result (faults.new ≡ faults.old) }
+    ensures failed { IfErr result (λ fault. exit_status fault.kind ≡ 3) }
+{
+    match read_listing(rt, file) {
+        Ok(Some(listing)) => Ok(correct_listing(rt.alloc(), &listing, set, text, output, faults)),
+        Ok(None) => correct_in(rt, file, start, set, text, output, faults),
+        Err(fault) => Err(fault),
+    }
+}
+
+/// The same, where the file is taken for a library.
+fn correct_in<St: Start, W: Write, E: Write>(
+    rt: &HostRuntime,
+    file: &str,
+    start: St,
+    set: &str,
+    text: &[u8],
+    output: &mut W,
+    faults: &mut E,
+) -> Result<u8, Fault>
+    ensures told { IfOk result (λ status. OnFile ⟦<FileRows<St> as Meaning>⟧ (λ rows. rows.inner.conn) file_state
+        (image_at St.Start) (λ old new. CorrectsText ⟦<FileRows<St> as Meaning>⟧ set.now text.now old new
+        (ending status (W.contents output.old) (W.contents output.new) (E.contents faults.old) (E.contents faults.new)))) }
+    ensures silent { IfOk result (λ status. (status ≡ 1) ⊎ (status ≡ 2) → output.new ≡ output.old) }
+    ensures clean { IfOk result (λ status. status ≡ 0 → faults.new ≡ faults.old) }
+    ensures none { OnErr result (output.new ≡ output.old) }
+    ensures quiet { OnErr result (faults.new ≡ faults.old) }
+    ensures failed { IfErr result (λ fault. exit_status fault.kind ≡ 3) }
+{
     let mut desk = open_desk(rt, file, start)?;
-    let status = correct_text(rt.alloc(), &mut desk, set, &text, output, faults);
+    let status = correct_text(rt.alloc(), &mut desk, set, text, output, faults);
     close_desk(desk);
     Ok(status)
 }

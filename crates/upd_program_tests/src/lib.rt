@@ -13,6 +13,8 @@ mod deck_commands;
 #[cfg(test)]
 mod library_files;
 #[cfg(test)]
+mod listing_files;
+#[cfg(test)]
 mod refusals;
 #[cfg(test)]
 mod site_commands;

@@ -88,12 +88,23 @@ fn a_missing_file_is_reported_before_the_run_is_read(rt: HostRuntime) -> Result<
     remove(&rt, &file)
 }
 
+/// `correct` takes such a file for a listing.
+const NEITHER: &str =
+    "NotListing 1:1 FILE is not a library, and this line of it is not one of a deck's listing\n";
+
 #[test]
 fn another_file_is_refused_and_stays(rt: HostRuntime) -> Result<(), Fail> {
     const TEXT: &[u8] = b"SQLite format 2\0 is how this text begins, which is not a library\n";
     let file = fresh(&rt, "text")?;
     fs::write(&rt, file.as_str(), TEXT)?;
-    all_answer(&rt, &file, (3, "", "upd: Store (29) at 0\n"))?;
+    for (name, words) in COMMANDS {
+        let wanted = if *name == "correct" {
+            (1, "", NEITHER)
+        } else {
+            (3, "", "upd: Store (29) at 0\n")
+        };
+        answers_of(&rt, &file, name, words, wanted)?;
+    }
     let log = format!(in rt.alloc(); "{file}-wal")?;
     is_not_there(&rt, log.as_str())?;
     answers(
