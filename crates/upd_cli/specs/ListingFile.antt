@@ -22,14 +22,14 @@ not_listing_line line = place_line (codes "NotListing") line (codes "FILE is not
 abbrev pub other_deck_line : ℕ → List ℕ
 other_deck_line line = place_line (codes "OtherDeck") line (codes "this line begins a deck that FILE does not list")
 
--- how it is told why there is no run from a listing
+-- why there is no run from a listing, on the fault stream
 abbrev pub IsListedFault : ListedError → ℕ → Option (List ℕ) → Option (List ℕ) → Type 0
 IsListedFault NoMemory status faults faults' = IsTold 3 (fault_line no_memory) status faults faults'
 IsListedFault (NotListing line) status faults faults' = IsTold 1 (not_listing_line line) status faults faults'
 IsListedFault (OtherDeck line) status faults faults' = IsTold 1 (other_deck_line line) status faults faults'
 IsListedFault (Refused refusals) status faults faults' = IsRefusedBy refusals.items status faults faults'
 
--- the run from a listing is on the output; or it is told why there is none, and nothing is on the output
+-- the run from a listing is on the output; or the fault stream says why there is none, and nothing is on the output
 abbrev pub TellsListed : List ℕ → List ℕ → List ℕ → Result (List ℕ) ListedError → Ending → Type 0
 TellsListed listing set text (Ok run) end = IsListedRun listing set text run × TellsCorrection (Ok run) end
 TellsListed listing set text (Err error) end =
