@@ -1,3 +1,2 @@
 pub mod CountLemmas
 pub mod EffectLemmas
-pub mod StatusLemmas

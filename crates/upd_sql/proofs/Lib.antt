@@ -16,4 +16,3 @@ pub mod Turns
 pub mod CommitLemmas
 pub mod MarkLemmas
 pub mod MovingLemmas
-pub mod ToldLemmas
