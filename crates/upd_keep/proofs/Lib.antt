@@ -1,3 +1,5 @@
 mod ReadTexts
 mod Listing
 mod Copies
+mod Reading
+mod SameLength
