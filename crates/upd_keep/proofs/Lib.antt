@@ -1,5 +1,3 @@
 mod ReadTexts
 mod Listing
 mod Copies
-mod Reading
-mod SameLength

@@ -11,8 +11,6 @@ mod console;
 #[cfg(test)]
 mod deck_commands;
 #[cfg(test)]
-mod examined_files;
-#[cfg(test)]
 mod library_files;
 #[cfg(test)]
 mod listing_files;
