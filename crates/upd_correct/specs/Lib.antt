@@ -12,3 +12,4 @@ pub mod Causes
 pub mod Runs
 pub mod ListedDeck
 pub mod ListedRuns
+pub mod Needed
