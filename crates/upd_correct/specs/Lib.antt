@@ -12,4 +12,3 @@ pub mod Causes
 pub mod Runs
 pub mod ListedDeck
 pub mod ListedRuns
-pub mod Needed

@@ -14,7 +14,6 @@ ghost use Rattle.upd_correction_laws.specs.RunLines.{run_of};
 ghost use Rattle.upd_correct.specs.Causes.{IsCause, IsEditFor, IsRunProblem};
 ghost use Rattle.upd_correct.specs.Correcting.{CorrectsTo};
 ghost use Rattle.upd_correct.specs.EditedText.{HasDecks};
-ghost use Rattle.upd_correct.specs.Needed.{IsNeeded, has_changes};
 ghost use Rattle.upd_correct.specs.Plans.{IsEditedDeck};
 ghost use Rattle.upd_correct.specs.Problems.{HasNoProblem, set_problem};
 ghost use Rattle.upd_correct.specs.Refusals.{refusals_at, refusals_of};
@@ -46,7 +45,6 @@ pub fn correct(
         → IfOk result (λ run. CorrectsTo library.now set.now text.now run.items) }
     ensures made { IfOk result (λ run. IsRunFor library.now set.now text.now run.items) }
     ensures clean { OnOk result (refusals_of library.now set.now text.now ≡ []) }
-    ensures needed { IfOk result (λ run. IsNeeded library.now set.now text.now run.items) }
     ensures refused { IfErr result (IsCause library.now set.now text.now) }
 {
     let Ok(live) = library.live_yanks() else {
@@ -86,8 +84,6 @@ fn run_for(
         → IfOk result (λ run. CorrectsTo library.now set.now text run.items) }
     ensures made { (text : List ℕ) → HasDecks text decks.now → AllByRecursion IsEditedDeck decks.now
         → HasNoProblem library.now set.now [] decks.now → IfOk result (λ run. IsRunFor library.now set.now text run.items) }
-    ensures needed { (text : List ℕ) → HasDecks text decks.now → HasNoProblem library.now set.now [] decks.now
-        → IfOk result (λ run. IsNeeded library.now set.now text run.items) }
     ensures refused { (text : List ℕ) → refusals_of library.now set.now text ≡ [] → HasDecks text decks.now
         → HasNoProblem library.now set.now [] decks.now → IfErr result (IsCause library.now set.now text) }
 {
@@ -141,7 +137,6 @@ fn changed_run(
 fn is_unchanged(corrections: &[Correction], added: &[&EditedDeck]) -> bool
     ensures corrections { IsTrue result → list_any is_changed corrections.now ≡ false }
     ensures added { IsTrue result → length added.now ≡ 0 }
-    ensures changed { result ≡ false → IsTrue (has_changes corrections.now added.now) }
 {
     if !added.is_empty() {
         return false;

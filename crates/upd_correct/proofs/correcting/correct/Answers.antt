@@ -39,12 +39,3 @@ returns-clause-refused c =
     sym (all_refused c.args.library.now c.args.set.now c.args.text.now _ _ _ c.in_ok-refusals.ensures read) ∙ none in
     c.run_for.ensures.refused c.args.text.now clean (subst (HasDecks c.args.text.now) decks (read.given none))
     (subst (HasNoProblem c.args.library.now c.args.set.now []) decks (read.none none))
-
-pub returns-clause-needed : goal.returns-clause-needed
-returns-clause-needed c =
-    let none : c.read_decks.new.refusals.items ≡ [] =
-    no_items c.read_decks.new.refusals.items (grind (arith, nat_tests, c.read_decks.new.refusals.ok, c.is_empty.ensures, c.if-not-is_empty.false)) in
-    let read = c.in_ok-decks.ensures in
-    let decks = sym c.deref.ensures.value in
-    c.run_for.ensures.needed c.args.text.now (subst (HasDecks c.args.text.now) decks (read.given none))
-    (subst (HasNoProblem c.args.library.now c.args.set.now []) decks (read.none none))

@@ -1,7 +1,5 @@
 use Rattle.std.specs.Borrow.{Bor}
-use Rattle.std.proofs.Common.{◌≡◌, map, length, refl, sym, ap, ◌∙◌, subst, inl, inr}
-use Rattle.std.proofs.lemmas.List.{length-map}
-use Rattle.std.specs.Prelude.{◌==◌, IsTrue, not, ◌||◌}
+use Rattle.std.proofs.Common.{inl, inr, map, refl, sym, ap, ◌∙◌, subst}
 use Rattle.std.specs.List.{list_any}
 use Rattle.upd_correction_laws.specs.Corrections.{NewDeck}
 use Rattle.upd_correct.specs.Correcting.{CorrectsTo}
@@ -85,30 +83,3 @@ returns-clause-refused c text clean given none =
           (c.in_ok-corrections.ensures c.args.set.now none (all_spelled _ _ given));
       added = ap (map (λ (d : Bor NewDeck). d.now)) c.deref-4.ensures.value ∙ c.in_ok-added.ensures;
     })
-
-pub returns-then-is_unchanged-clause-needed : goal.returns-then-is_unchanged-clause-needed
-returns-then-is_unchanged-clause-needed c text given none = inl c.new.ensures.items
-
-pub returns-in-Ok-clause-needed : goal.returns-in-Ok-clause-needed
-returns-in-Ok-clause-needed c text given none =
-    let same : length c.deref-2.result.now ≡ length (map (λ (d : Bor NewDeck). d.now) c.deref-4.result.now) =
-    ap length c.deref-2.ensures.value ∙ ap length (sym c.deref-4.ensures.value) ∙ sym (length-map c.deref-4.result.now _) in
-    inr (
-      record {
-        set = c.args.set.now;
-        corrections = c.deref-3.result.now;
-        added = map (λ (d : Bor NewDeck). d.now) c.deref-4.result.now;
-      },
-      record {
-        decks = c.args.decks.now;
-        given = given;
-        named = refl;
-        corrections = subst (AreCorrectionsFor c.args.library.now c.args.decks.now) (sym c.deref-3.ensures.value)
-            (c.in_ok-corrections.ensures c.args.set.now none (all_spelled _ _ given));
-        added = ap (map (λ (d : Bor NewDeck). d.now)) c.deref-4.ensures.value ∙ c.in_ok-added.ensures;
-      },
-      c.in-Ok.ensures.bytes,
-      subst (λ n. IsTrue (list_any is_changed c.deref-3.result.now || not (n == 0))) same
-          (subst (λ corrections. IsTrue (list_any is_changed corrections || not (length c.deref-2.result.now == 0)))
-          (c.deref.ensures.value ∙ sym c.deref-3.ensures.value) (c.is_unchanged.ensures.changed c.if-is_unchanged.false)),
-    )
