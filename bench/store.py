@@ -59,8 +59,8 @@ def commit_deck(db, age, cards):
     db.execute("INSERT INTO idents (age, name, kind, noprop, held) VALUES (?1, ?2, ?3, ?4, ?5)", (age, name, 1, 0, 1))
     for pos in range(cards):
         db.execute("INSERT INTO cards (ident, num, deck, pos, body) VALUES (?1, ?2, ?3, ?4, ?5)", (name, pos + 1, age, pos, "      CONTINUE"))
-        db.execute("DELETE FROM states WHERE ident = ?1 AND num = ?2", (name, pos + 1))
-        db.execute("INSERT INTO states (ident, num, active) VALUES (?1, ?2, ?3)", (name, pos + 1, 1))
+        if db.execute("UPDATE states SET active = ?3 WHERE ident = ?1 AND num = ?2", (name, pos + 1, 1)).rowcount == 0:
+            db.execute("INSERT INTO states (ident, num, active) VALUES (?1, ?2, ?3)", (name, pos + 1, 1))
         for place in range(4):
             db.execute("INSERT INTO entries (ident, num, ord, who, active) VALUES (?1, ?2, ?3, ?4, ?5)", (name, pos + 1, place, age, 1 - place % 2))
     db.execute("UPDATE idents SET held = 0 WHERE age = ?1", (1,))

@@ -1,9 +1,10 @@
 //! Row changes on tables that are lists.
 
-ghost use Rattle.std.specs.Prelude.{◌≡◌, not, map, OnOk};
+ghost use Rattle.std.specs.Prelude.{◌≡◌, ◌==◌, not, count_by, length, map, OnOk};
 ghost use Rattle.std.specs.List.{filter};
+ghost use Rattle.upd_core.specs.Counts.{capped};
 ghost use Rattle.upd_core.specs.Targets.{is_same};
-ghost use Rattle.upd_records.specs.Changes.{change_view, done, done_all, purged_row};
+ghost use Rattle.upd_records.specs.Changes.{change_view, done, done_all, purged_row, restated, status_rows};
 ghost use Rattle.upd_records.specs.Changes.{CardNew, CardGone, CardsMoved, EntryNew, TargetNew, StatusNow, CountNow};
 ghost use Rattle.upd_records.specs.Fits.{AllFit};
 ghost use Rattle.upd_records.specs.Rows.{same_ref};
@@ -96,6 +97,41 @@ fn drop_state(states: &mut Vec<StateRow>, card: &CardRef)
     states.retain(|row| !same_ref(card, &row.card));
 }
 
+/// The number of rows of a card.
+fn state_count(states: &[StateRow], card: &CardRef) -> usize
+    ensures { result ≡ capped (count_by (λ r. same_ref card.now r.card) states.now) }
+{
+    states
+        .iter()
+        .filter(|row| same_ref(card, &row.card))
+        .count()
+}
+
+/// Whether a card has just one row.
+fn has_one_state(states: &[StateRow], card: &CardRef) -> bool
+    ensures { result ≡ (length (status_rows card.now states.now) == 1) }
+{
+    state_count(states, card) == 1
+}
+
+/// Changes a status where it is of a card.
+fn restate(row: &mut StateRow, card: &CardRef, active: bool)
+    ensures { row.new ≡ restated card.now active row.old }
+{
+    if same_ref(card, &row.card) {
+        row.active = active;
+    }
+}
+
+/// Changes a card's status.
+fn restate_card(states: &mut [StateRow], card: &CardRef, active: bool)
+    ensures { states.new ≡ map (restated card.now active) states.old }
+{
+    for row in states.iter_mut() {
+        restate(row, card, active);
+    }
+}
+
 /// Takes a target's count away.
 fn drop_count(counts: &mut Vec<CountRow>, target: Target)
     ensures { counts.new.items ≡ filter (λ r. not (is_same target r.target)) counts.old.items }
@@ -155,6 +191,10 @@ impl ListTables {
     fn put_status(&mut self, card: &CardRef, active: bool) -> Result<(), AllocError>
         ensures { OnOk result (self.new ≡ done (StatusNow card.now active) self.old) }
     {
+        if has_one_state(&self.states, card) {
+            restate_card(&mut self.states, card, active);
+            return Ok(());
+        }
         drop_state(&mut self.states, card);
         self.states.push(StateRow {
             card: *card,

@@ -16,7 +16,8 @@ use Rattle.upd_core.specs.Targets.{is_same}
 use Rattle.upd_core.proofs.ApartLemmas.{all_by_index, all_of_contained, at_contained, contained_at}
 use Rattle.upd_core.proofs.FoundLemmas.{card_of_place, in_flat, place_at}
 use Rattle.upd_records.specs.Changes.{ChangeView, IdentNew, IdentPurged, CardNew, CardGone, CardsMoved, EntryNew, EntriesGone, TargetNew, TargetsGone}
-use Rattle.upd_records.specs.Changes.{StatusNow, CountNow, done, done_all}
+use Rattle.upd_records.specs.Changes.{StatusNow, CountNow, done, done_all, with_status}
+use Rattle.upd_records.proofs.StatusLemmas.{status_set}
 use Rattle.upd_diff.specs.CardDiffs.{DeckDiffView, CardDiffView, Kept, Gone, New, card_before}
 use Rattle.upd_records.specs.Rows.{CountRow, Rows, ShowsStates, StateRow, count_rows, same_ref, state_rows}
 use Rattle.upd_diff.specs.States.{takes_card, row_changes_state}
@@ -64,9 +65,11 @@ same_left r k xs ys same = go (same_ref r k) refl
 same_states : (c : ChangeView) (r : CardRef) (xs ys : Rows) → of_card r xs ≡ of_card r ys → of_card r (done c xs) ≡ of_card r (done c ys)
 same_states (CardGone k) r xs ys same = same_left r k xs.states ys.states same
 same_states (StatusNow k active) r xs ys same =
-    filter-append (λ s. same_ref r s.card) (filter (λ s. not (same_ref k s.card)) xs.states) (record { card = k; active = active } ∷ [])
+    status_set r k active xs.states
+    ∙ filter-append (λ s. same_ref r s.card) (filter (λ s. not (same_ref k s.card)) xs.states) (record { card = k; active = active } ∷ [])
     ∙ ap (λ t. t ++ filter (λ s. same_ref r s.card) (record { card = k; active = active } ∷ [])) (same_left r k xs.states ys.states same)
     ∙ sym (filter-append (λ s. same_ref r s.card) (filter (λ s. not (same_ref k s.card)) ys.states) (record { card = k; active = active } ∷ []))
+    ∙ sym (status_set r k active ys.states)
 same_states (IdentNew i) r xs ys same = same
 same_states (IdentPurged age) r xs ys same = same
 same_states (CardNew card deck place body) r xs ys same = same
@@ -113,9 +116,9 @@ untold (c ∷ cs) r xs ys only none =
         row : List StateRow
         row = record { card = k; active = active } ∷ []
 
-        split : (zs : List StateRow) → filter (λ s. same_ref r s.card) (filter (λ s. not (same_ref k s.card)) zs ++ row)
+        split : (zs : List StateRow) → filter (λ s. same_ref r s.card) (with_status k active zs)
             ≡ filter (λ s. same_ref r s.card) (filter (λ s. not (same_ref k s.card)) zs) ++ filter (λ s. same_ref r s.card) row
-        split zs = filter-append (λ s. same_ref r s.card) (filter (λ s. not (same_ref k s.card)) zs) row
+        split zs = status_set r k active zs ∙ filter-append (λ s. same_ref r s.card) (filter (λ s. not (same_ref k s.card)) zs) row
 
         go : (b : Bool) → same_ref r k ≡ b → of_card r (done (StatusNow k active) ys) ≡ of_card r ys
         go true e =

@@ -1,5 +1,5 @@
 -- The effect of row changes on the tables.
-use Rattle.std.specs.Prelude.{ℕ, ◌+◌, ◌-◌, ◌==◌, nat_le, ℤ, pos, negsuc, Bool, false, not, ◌&&◌, if◌then◌else◌, List, [], ◌∷◌, ◌++◌, map}
+use Rattle.std.specs.Prelude.{ℕ, ◌+◌, ◌-◌, ◌==◌, nat_le, ℤ, pos, negsuc, Bool, false, not, ◌&&◌, if◌then◌else◌, List, [], ◌∷◌, ◌++◌, length, map}
 use Rattle.std.specs.List.{filter}
 use Rattle.upd_core.specs.declared.card.Entry.{Entry}
 use Rattle.upd_text.specs.declared.card_ref.CardRef.{CardRef}
@@ -8,7 +8,7 @@ use Rattle.upd_core.specs.declared.target.Target.{Target}
 use Rattle.upd_core.specs.Targets.{is_same}
 use Rattle.upd_core.specs.declared.change.Change.{Change}
 use Rattle.upd_core.specs.declared.change.Change.TheVariants as made
-use Rattle.upd_records.specs.Rows.{CardRow, Rows, same_ref, count_rows}
+use Rattle.upd_records.specs.Rows.{CardRow, Rows, StateRow, same_ref, count_rows}
 
 -- A row change. New cards, entries and targets have their positions; texts are bytes; cards move by a signed distance.
 pub data ChangeView : Type 0 where
@@ -51,6 +51,23 @@ shifted (negsuc n) p = p - (n + 1)
 abbrev pub moved_row : ℕ → ℕ → ℤ → CardRow → CardRow
 moved_row deck from by r = if (r.deck == deck) && nat_le from r.pos then record r { pos = shifted by r.pos } else r
 
+-- the row of a status, with another one where it is of a card
+abbrev pub restated : CardRef → Bool → StateRow → StateRow
+restated card active r = if same_ref card r.card then record r { active = active } else r
+
+-- the rows of a card's status
+abbrev pub status_rows : CardRef → List StateRow → List StateRow
+status_rows card rows = filter (λ r. same_ref card r.card) rows
+
+-- the rows of all statuses but a card's
+abbrev pub other_statuses : CardRef → List StateRow → List StateRow
+other_statuses card rows = filter (λ r. not (same_ref card r.card)) rows
+
+-- A card has a status: the one row that it has keeps its place. Where it hasn't just one row, a new one at the end is all that it has.
+abbrev pub with_status : CardRef → Bool → List StateRow → List StateRow
+with_status card active rows =
+    if length (status_rows card rows) == 1 then map (restated card active) rows else other_statuses card rows ++ record { card = card; active = active } ∷ []
+
 -- the tables after one change; a status or a count replaces the one before it
 abbrev pub done : ChangeView → Rows → Rows
 done (IdentNew i) rows = record rows { idents = rows.idents ++ i ∷ [] }
@@ -65,9 +82,7 @@ done (EntryNew card ord entry) rows = record rows { entries = rows.entries ++ re
 done (EntriesGone card) rows = record rows { entries = filter (λ r. not (same_ref card r.card)) rows.entries }
 done (TargetNew card ord target) rows = record rows { targets = rows.targets ++ record { card = card; ord = ord; target = target } ∷ [] }
 done (TargetsGone card targets) rows = record rows { targets = filter (λ r. not (same_ref card r.card)) rows.targets }
-done (StatusNow card active) rows = record rows {
-  states = filter (λ r. not (same_ref card r.card)) rows.states ++ record { card = card; active = active } ∷ [];
-}
+done (StatusNow card active) rows = record rows { states = with_status card active rows.states }
 done (CountNow target n) rows = record rows { counts = filter (λ r. not (is_same target r.target)) rows.counts ++ count_rows target n }
 
 -- the tables after changes in order

@@ -20,7 +20,7 @@ use Rattle.upd_row_store.specs.Tables.{is_run, is_settled, is_mark_of}
 use Rattle.upd_sqlite.proofs.Tests.{eq_text, eq_nat, le_nat, one_test, two_tests, three_tests}
 use Rattle.upd_sql.specs.Encoded.{num, target_code, card_row, entry_row, kept_state, target_row, run_row, state_row, count_row, mark_row}
 use Rattle.upd_sql.proofs.WriteTexts.{delete_card_tests, delete_entries_tests, delete_targets_tests, delete_state_tests, delete_count_tests}
-use Rattle.upd_sql.proofs.WriteTexts.{delete_mark_tests, delete_runs_tests}
+use Rattle.upd_sql.proofs.WriteTexts.{delete_mark_tests, delete_runs_tests, update_state_tests}
 use Rattle.upd_sql.proofs.ReadTexts.{cards_of_deck_tests, ident_tests, run_of_key_tests, mark_of_site_tests}
 
 pub bytes_flip : (a b : List ℕ) → bytes_eq a b ≡ bytes_eq b a
@@ -60,6 +60,10 @@ target_named c r = two_tests (eq_text r.card.name c.name ∙ bytes_flip r.card.n
 
 pub state_named : (c : CardRef) (r : StateRow) → passes (card_params c) delete_state_tests (state_row r) ≡ same_ref c r.card
 state_named c r = two_tests (eq_text r.card.name c.name ∙ bytes_flip r.card.name c.name) (eq_nat r.card.number c.number ∙ nat_flip r.card.number c.number)
+
+pub state_told : (r s : StateRow) → passes (state_row r) update_state_tests (state_row s) ≡ same_ref r.card s.card
+state_told r s = two_tests (eq_text s.card.name r.card.name ∙ bytes_flip s.card.name r.card.name) (eq_nat s.card.number r.card.number
+    ∙ nat_flip s.card.number r.card.number)
 
 -- the three columns of a target decide it
 same_codes : (s t : Target) (n : ℕ) → passes (target_code s) delete_count_tests (count_row (record { target = t; n = n })) ≡ is_same s t

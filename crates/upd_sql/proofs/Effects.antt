@@ -17,14 +17,14 @@ use Rattle.upd_row_store.specs.Tables.{is_settled, is_mark_of}
 use Rattle.upd_sql.specs.Schema.{ident_columns, card_columns, entry_columns, target_columns, run_columns, state_columns, count_columns, mark_columns}
 use Rattle.upd_sql.specs.Encoded.{num, target_code, ident_row, card_row, entry_row, target_row, run_row, state_row, count_row, mark_row, stored}
 use Rattle.upd_sql.specs.LibraryTables.{HoldsTables}
-use Rattle.upd_sql.proofs.Typed.{adds, removes, changes}
+use Rattle.upd_sql.proofs.Typed.{adds, removes, changes, changes_counted}
 use Rattle.upd_sql.proofs.Casts.{cast_ident, cast_card, cast_entry, cast_target, cast_run, cast_state, cast_count, cast_mark}
 use Rattle.sqlite_keyed.proofs.ListLemmas.{all_of, all_weaker}
 use Rattle.sqlite_rules.specs.Cast.{cast_all}
-use Rattle.upd_records.specs.Changes.{purged_row, moved_row}
+use Rattle.upd_records.specs.Changes.{purged_row, moved_row, restated, status_rows}
 use Rattle.upd_sqlite.proofs.Tests.{eq_nat, eq_text, ge_nat, add_nat, sub_nat, one_test, two_tests, three_tests}
 use Rattle.upd_sql.specs.RowEdits.{covers, with_moved}
-use Rattle.upd_sql.proofs.Conditions.{bytes_flip, passes, card_params, card_named, entry_named, target_named, state_named, count_named, mark_named, run_settled}
+use Rattle.upd_sql.proofs.Conditions.{bytes_flip, passes, card_params, card_named, entry_named, target_named, state_named, state_told, count_named, mark_named, run_settled}
 use Rattle.upd_sql.proofs.WriteTexts as text
 
 module _ (old new : State) (count : ℕ) (it : Rows) (h : HoldsTables it old.now) where
@@ -142,6 +142,29 @@ module _ (old new : State) (count : ℕ) (it : Rows) (h : HoldsTables it old.now
           (ident_row (record i { held = false })) else ident_row i) ≡ ident_row (purged_row age i)
       each i = ap (λ b. if b then cast_all ident_columns (ident_row (record i { held = false })) else ident_row i) (one_test (eq_nat i.age age))
           ∙ as_written (i.age == age) i
+
+  pub state_restated : (r : StateRow) → Executes text.update_state (state_row r) old new (Ok count)
+      → HoldsTables (record it { states = map (restated r.card r.active) it.states }) new.now
+  state_restated r ran =
+      changes 6 12 (codes "states") state_columns (1 ∷ 2 ∷ []) refl refl (λ _ _. refl) state_row (stored it) it.states refl text.update_state
+      (state_row r) text.update_state_plain old new count ran h
+      text.update_state_tests text.update_state_news text.update_state_is refl refl (restated r.card r.active) (all_of _ each it.states)
+    where
+      as_written : (b : Bool) (s : StateRow) → (if b then cast_all state_columns (state_row (record s { active = r.active })) else state_row s)
+          ≡ state_row (if b then record s { active = r.active } else s)
+      as_written true s = cast_state (record s { active = r.active })
+      as_written false s = refl
+
+      each : (s : StateRow) → (if passes (state_row r) text.update_state_tests (state_row s) then cast_all state_columns
+          (state_row (record s { active = r.active })) else state_row s) ≡ state_row (restated r.card r.active s)
+      each s = ap (λ b. if b then cast_all state_columns (state_row (record s { active = r.active })) else state_row s) (state_told r s)
+          ∙ as_written (same_ref r.card s.card) s
+
+  pub states_counted : (r : StateRow) → Executes text.update_state (state_row r) old new (Ok count) → count ≡ length (status_rows r.card it.states)
+  states_counted r ran =
+      changes_counted 6 12 (codes "states") state_columns (1 ∷ 2 ∷ []) refl refl (λ _ _. refl) state_row (stored it) it.states refl text.update_state
+      (state_row r) text.update_state_plain old new count ran h
+      text.update_state_tests text.update_state_news text.update_state_is refl refl (λ s. same_ref r.card s.card) (state_told r)
 
   -- the tests of both texts that move cards
   holds_there : (deck from : ℕ) (by : ℕ) (r : CardRow) → passes (num deck ∷ num from ∷ num by ∷ []) text.move_back_tests (card_row r)

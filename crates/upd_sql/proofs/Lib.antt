@@ -16,3 +16,4 @@ pub mod Turns
 pub mod CommitLemmas
 pub mod MarkLemmas
 pub mod MovingLemmas
+pub mod ToldLemmas

@@ -190,6 +190,12 @@ module _ (old new : State) (params : Row) (count : ℕ) (n : Sizes) (h : HoldsSi
       (rows_changed 1 2 (codes "idents") ident_columns (1 ∷ []) refl refl (λ _ _. refl) text.purge_ident text.purge_ident_plain old new params count ran
       h.all h.holds text.purge_ident_tests text.purge_ident_news text.purge_ident_is refl refl)
 
+  restated_sized : Executes text.update_state params old new (Ok count) → HoldsSizes n new.now
+  restated_sized ran =
+      elsewhere 6 _ (λ e. omega (arith, e)) (λ e. omega (arith, e))
+      (rows_changed 6 12 (codes "states") state_columns (1 ∷ 2 ∷ []) refl refl (λ _ _. refl) text.update_state text.update_state_plain old new params count
+      ran h.all h.holds text.update_state_tests text.update_state_news text.update_state_is refl refl)
+
   moved_back_sized : Executes text.move_back params old new (Ok count) → HoldsSizes n new.now
   moved_back_sized ran =
       other_cards n.cards _ (h.cards ∙ sym (length-map (rows_at 2 h.all) _))
@@ -251,6 +257,9 @@ module _ {X : Type 0} (params : Row) (old new : State) (r : Result X Error) wher
 
   pub ident_purged_sizes : Ran text.purge_ident params old new r → KeepsSizes old new r
   ident_purged_sizes ran = sizes_from AnySizes (λ n. n) text.purge_ident params old new r ran (λ count n any h. ident_purged_sized old new params count n h)
+
+  pub restated_sizes : Ran text.update_state params old new r → KeepsSizes old new r
+  restated_sizes ran = sizes_from AnySizes (λ n. n) text.update_state params old new r ran (λ count n any h. restated_sized old new params count n h)
 
   pub moved_back_sizes : Ran text.move_back params old new r → KeepsSizes old new r
   moved_back_sizes ran = sizes_from AnySizes (λ n. n) text.move_back params old new r ran (λ count n any h. moved_back_sized old new params count n h)

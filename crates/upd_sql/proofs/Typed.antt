@@ -2,7 +2,7 @@
 use Rattle.std.proofs.Common.{OnOk, IsErr, inl, arith, ◌≡◌, ℕ, ◌/◌, ◌-◌, ◌^◌, nat_le, unwrap_or, None, Bool, not, if◌then◌else◌, List, [], ◌∷◌, ◌++◌, map}
 use Rattle.std.proofs.Common.{length, filter, slice_get, Some, Ok, refl, sym, ap, subst, ◌∙◌, IfOk, IsTrue, true, false, Result, Err}
 use Rattle.std.specs.List.{AllByRecursion, list_all}
-use Rattle.std.proofs.lemmas.List.{map-append}
+use Rattle.std.proofs.lemmas.List.{length-map, map-append}
 use Rattle.sqlite_value.specs.declared.value.Value.TheVariants.{Null}
 use Rattle.sqlite_value.specs.Order.{Row}
 use Rattle.sqlite_trees.specs.Tree.{Trees}
@@ -25,7 +25,7 @@ use Rattle.upd_sqlite.specs.Keyed.{keyed, plain_query, row_order}
 use Rattle.upd_sqlite.specs.Stored.{HoldsAllRows, rows_at, with_rows}
 use Rattle.upd_sqlite.specs.Steps.{Steps, Ran, Makes}
 use Rattle.upd_sqlite.proofs.Frames.{is_lone}
-use Rattle.upd_sqlite.proofs.Shapes.{inserts, deletes, updates, reads_in_order}
+use Rattle.upd_sqlite.proofs.Shapes.{inserts, deletes, updates, updates_counted, reads_in_order}
 use Rattle.upd_sqlite.proofs.Answers.{shown_same, shown_was_open}
 use Rattle.upd_sql.specs.Schema.{library_schema}
 use Rattle.upd_sql.specs.LibraryTables.{HoldsTables, AnyTables}
@@ -85,6 +85,19 @@ module _ (k tree : ℕ) (name : List ℕ) (columns : List Column) (key : List �
       subst (λ rs. HoldsAllRows library_schema (with_rows k rs all) new.now) rows
       (updates library_schema k tree name columns key at alone free old new all _ params count h tests news p f (own old.now.trees tree)
       (λ r. bare_tests params r tests bare) (λ r. bare_values params r news bare_news) w)
+
+  pub changes_counted : (tests news : List Term) → command_of (understood library_schema sql)
+      ≡ Update k (record { lets = []; body = plain_query tree tests (col 1 0 ∷ col 1 0 ∷ news) [] })
+      → list_all is_bare tests ≡ true
+      → list_all is_bare news ≡ true
+      → (q : X → Bool) → ((x : X) → list_all (holds (params ∷ (Null ∷ row x) ∷ [])) tests ≡ q x)
+      → count ≡ length (filter q xs)
+  changes_counted tests news is bare bare_news q means =
+      let w = runs_as sql params old new library_schema h.schema_is _ is plain count ran in
+      let p = λ (v : Row). list_all (holds (params ∷ (Null ∷ v) ∷ [])) tests in
+      updates_counted library_schema k tree name columns key at alone free old new all _ params count h tests news p (own old.now.trees tree)
+      (λ r. bare_tests params r tests bare) w
+      ∙ ap (λ rs. length (filter p rs)) are ∙ ap length (filter-map p row xs ∙ ap (map row) (filter_same _ _ means xs)) ∙ length-map (filter q xs) row
 
 -- what a query by rowid shows of the records that pass: their rows, in the order in which they came
 pub reads_exactly : (k tree : ℕ) (alone : is_lone tree k library_schema.tables ≡ true) {X : Type 0} (row : X → Row) (all : List (List Row)) (xs : List X)

@@ -249,6 +249,24 @@ pub purge_ident_plain : IsPlain (understood library_schema purge_ident)
 unfolding understood everything
 purge_ident_plain = (refl, refl)
 
+abbrev pub update_state : List ℕ
+update_state = sql.UPDATE_STATE.now
+
+abbrev pub update_state_tests : List Term
+update_state_tests = op2 (Compare Eq Binary) (col 1 1) (col 0 0) ∷ op2 (Compare Eq Binary) (col 1 2) (col 0 1) ∷ []
+
+abbrev pub update_state_news : List Term
+update_state_news = col 1 1 ∷ col 1 2 ∷ col 0 2 ∷ []
+
+pub update_state_is : command_of (understood library_schema update_state)
+    ≡ Update 6 (record { lets = []; body = plain_query 12 update_state_tests (col 1 0 ∷ col 1 0 ∷ update_state_news) [] })
+unfolding understood everything
+update_state_is = refl
+
+pub update_state_plain : IsPlain (understood library_schema update_state)
+unfolding understood everything
+update_state_plain = (refl, refl)
+
 abbrev pub move_back : List ℕ
 move_back = sql.MOVE_BACK.now
 

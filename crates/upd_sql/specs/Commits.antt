@@ -1,9 +1,11 @@
 -- What a whole transaction does to the tables of the last commit, and what its statements do that only read.
-use Rattle.std.specs.Prelude.{◌≡◌, Result, IsTrue, IfOk, OnOk}
+use Rattle.std.specs.Prelude.{◌≡◌, ℕ, length, Result, IsTrue, IfOk, OnOk}
 use Rattle.std.specs.List.{AllZip}
 use Rattle.sqlite_trees.specs.Tree.{Trees}
 use Rattle.sqlite.specs.declared.error.Error.{Error}
 use Rattle.sqlite.specs.State.{State, HasCleanDisk}
+use Rattle.upd_text.specs.declared.card_ref.CardRef.{CardRef}
+use Rattle.upd_records.specs.Changes.{status_rows}
 use Rattle.upd_records.specs.Rows.{Rows}
 use Rattle.upd_sqlite.specs.Steps.{Steps}
 use Rattle.upd_sqlite.specs.Stored.{HasRows}
@@ -14,6 +16,11 @@ use Rattle.upd_sql.specs.LibraryTables.{ShowsTables, HoldsTables}
 -- trees that show these tables
 abbrev pub ShowsIn : Trees → Rows → Type 0
 ShowsIn trees rows = AllZip (HasRows trees) library_schema.tables (stored rows)
+
+-- a statement returns how many rows are of a card's status
+abbrev pub CountsStatuses : CardRef → State → State → Result ℕ Error → Type 0
+CountsStatuses card old new r =
+    HasCleanDisk new → IsTrue old.in_transaction → IfOk r (λ n. (it : Rows) → HoldsTables it old.now → n ≡ length (status_rows card it.states))
 
 -- a statement of a transaction runs only while the connection is open
 abbrev pub WasOpen : {X : Type 0} → State → State → Result X Error → Type 0

@@ -5,7 +5,7 @@ use Rattle.std.specs.Str.{bytes_eq}
 use Rattle.upd_text.specs.declared.card_ref.CardRef.{CardRef}
 use Rattle.upd_core.specs.declared.target.Target.{Target}
 use Rattle.upd_core.specs.Targets.{is_same}
-use Rattle.upd_records.specs.Changes.{moved_row}
+use Rattle.upd_records.specs.Changes.{moved_row, restated}
 use Rattle.upd_records.specs.Rows.{Rows, same_ref}
 use Rattle.upd_row_store.specs.Tables.{is_settled, is_mark_of}
 
@@ -16,6 +16,10 @@ without_card card rows = record rows { cards = filter (λ r. not (same_ref card 
 -- without a card's status
 abbrev pub without_state : CardRef → Rows → Rows
 without_state card rows = record rows { states = filter (λ r. not (same_ref card r.card)) rows.states }
+
+-- with a card's status changed in place
+abbrev pub with_restated : CardRef → Bool → Rows → Rows
+with_restated card active rows = record rows { states = map (restated card active) rows.states }
 
 -- with one status more
 abbrev pub with_state : CardRef → Bool → Rows → Rows

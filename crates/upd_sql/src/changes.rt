@@ -8,6 +8,7 @@ ghost use Rattle.upd_sqlite.specs.Steps.{Makes};
 ghost use Rattle.upd_sql.specs.Doable.{AllCanBeDone, CanBeDone};
 ghost use Rattle.upd_sql.specs.Sizes.{KeepsSizes, Sized, SizedAll};
 ghost use Rattle.upd_sql.specs.LibraryTables.{AnyTables, HoldsTables};
+ghost use Rattle.upd_sql.specs.RowEdits.{with_state, without_state};
 
 use crate::writes;
 use sqlite::{Alter, Error, Transaction};
@@ -26,7 +27,22 @@ fn remove_card<S: Alter>(tx: &mut Transaction<'_, S>, card: &CardRef) -> Result<
     writes::delete_state(tx, card)
 }
 
-/// Sets the card's status.
+/// Puts the card's status after all others, in place of those that the card has.
+fn replace_state<S: Alter>(
+    tx: &mut Transaction<'_, S>,
+    card: &CardRef,
+    active: bool,
+) -> Result<(), Error>
+    ensures same_reference { tx.new.conn.ghost_name ≡ tx.old.conn.ghost_name }
+    ensures makes { Makes HoldsTables AnyTables (λ it. with_state card.now active (without_state card.now it))
+        (state S.Store tx.old.conn.now) (state S.Store tx.new.conn.now) result }
+    ensures sized { KeepsSizes (state S.Store tx.old.conn.now) (state S.Store tx.new.conn.now) result }
+{
+    writes::delete_state(tx, card)?;
+    writes::insert_state(tx, card, active)
+}
+
+/// Sets the card's status: in the place of its row, where it has one.
 fn set_state<S: Alter>(
     tx: &mut Transaction<'_, S>,
     card: &CardRef,
@@ -37,8 +53,14 @@ fn set_state<S: Alter>(
         (state S.Store tx.new.conn.now) result }
     ensures sized { KeepsSizes (state S.Store tx.old.conn.now) (state S.Store tx.new.conn.now) result }
 {
-    writes::delete_state(tx, card)?;
-    writes::insert_state(tx, card, active)
+    let rows = writes::update_state(tx, card, active)?;
+    if rows == 1 {
+        return Ok(());
+    }
+    if rows == 0 {
+        return writes::insert_state(tx, card, active);
+    }
+    replace_state(tx, card, active)
 }
 
 /// Sets the target's count; 0 leaves no row.

@@ -82,6 +82,8 @@ pub(crate) const DELETE_RUNS: &str = "DELETE FROM runs WHERE site = ?1 AND num <
 // Rows changed in place.
 pub(crate) const PURGE_IDENT: &str = "UPDATE idents SET held = 0 WHERE age = ?1";
 
+pub(crate) const UPDATE_STATE: &str = "UPDATE states SET active = ?3 WHERE ident = ?1 AND num = ?2";
+
 pub(crate) const MOVE_BACK: &str = "UPDATE cards SET pos = pos + ?3 WHERE deck = ?1 AND pos >= ?2";
 
 pub(crate) const MOVE_BACK_OF: &str =

@@ -6,9 +6,9 @@ ghost use Rattle.upd_records.specs.Changes.{TargetNew, TargetsGone};
 ghost use Rattle.upd_records.specs.Fits.{Fits};
 ghost use Rattle.upd_row_store.specs.Tables.{with_run};
 ghost use Rattle.upd_sqlite.specs.Steps.{Makes};
-ghost use Rattle.upd_sql.specs.RowEdits.{CanMoveOf, with_count, with_mark, with_moved, with_state, without_card};
+ghost use Rattle.upd_sql.specs.RowEdits.{CanMoveOf, with_count, with_mark, with_moved, with_restated, with_state, without_card};
 ghost use Rattle.upd_sql.specs.RowEdits.{without_count, without_mark, without_runs, without_state};
-ghost use Rattle.upd_sql.specs.Commits.{WasOpen};
+ghost use Rattle.upd_sql.specs.Commits.{CountsStatuses, WasOpen};
 ghost use Rattle.upd_sql.specs.Sizes.{KeepsSizes, Sized};
 ghost use Rattle.upd_sql.specs.LibraryTables.{AnyTables, HoldsTables};
 
@@ -17,7 +17,7 @@ use crate::values::{self, blob, codes_of, flag, kind, name, number, text, wide};
 use sqlite::{Alter, Error, Transaction};
 use upd_core::{CardRef, Entry, Ident, Name, Serial, Target};
 use upd_records::RunRow;
-use upd_sqlite::run;
+use upd_sqlite::{run, run_counted};
 
 pub(crate) fn insert_ident<S: Alter>(
     tx: &mut Transaction<'_, S>,
@@ -228,6 +228,25 @@ pub(crate) fn delete_state<S: Alter>(
         tx,
         texts::DELETE_STATE,
         &[name(&card.name), number(card.number)],
+    )
+}
+
+/// Changes a card's status in place. Returns the number of rows that are of the card.
+pub(crate) fn update_state<S: Alter>(
+    tx: &mut Transaction<'_, S>,
+    card: &CardRef,
+    active: bool,
+) -> Result<usize, Error>
+    ensures same_reference { tx.new.conn.ghost_name ≡ tx.old.conn.ghost_name }
+    ensures makes { Makes HoldsTables AnyTables (with_restated card.now active) (state S.Store tx.old.conn.now)
+        (state S.Store tx.new.conn.now) result }
+    ensures counted { CountsStatuses card.now (state S.Store tx.old.conn.now) (state S.Store tx.new.conn.now) result }
+    ensures sized { KeepsSizes (state S.Store tx.old.conn.now) (state S.Store tx.new.conn.now) result }
+{
+    run_counted(
+        tx,
+        texts::UPDATE_STATE,
+        &[name(&card.name), number(card.number), flag(active)],
     )
 }
 

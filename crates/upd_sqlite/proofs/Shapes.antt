@@ -1,10 +1,10 @@
 -- What an INSERT, a DELETE, an UPDATE, a SELECT and a CREATE TABLE of the plain kinds do to the rows of the tables.
 use Rattle.std.proofs.Common.{◌≡◌, ◌≢◌, ◌⊎◌, inl, inr, ℕ, ◌/◌, ℤ, pos, Bool, true, false, not, if◌then◌else◌, cond, List, [], ◌∷◌, ◌++◌, map, drop, length, filter}
-use Rattle.std.proofs.Common.{slice_get, Some, None, Result, Ok, Err, refl, sym, ap, subst, ◌∙◌, IsPermutation, IsSorted, IsTrue}
+use Rattle.std.proofs.Common.{slice_get, Some, None, Result, Ok, Err, refl, sym, ap, subst, ◌∙◌, IsPermutation, IsSorted, IsTrue, unwrap_or}
 use Rattle.std.specs.List.{AllByRecursion, list_all}
 use Rattle.std.specs.Ordering.{on}
 use Rattle.std.proofs.lemmas.List.{length-map}
-use Rattle.std.proofs.lemmas.List.Sorted.{IsPermutation-map, IsPermutation-sym, IsPermutation-trans}
+use Rattle.std.proofs.lemmas.List.Sorted.{IsPermutation-map, IsPermutation-sym, IsPermutation-trans, length_permutation}
 use Rattle.sqlite_value.specs.declared.keys.Key.{Key}
 use Rattle.sqlite_value.specs.declared.value.Value.{Value}
 use Rattle.sqlite_value.specs.declared.value.Value.TheVariants.{Null, Int}
@@ -244,6 +244,33 @@ module _ (schema : Schema) (k tree : ℕ) (name : List ℕ) (columns : List Colu
       map-map _ _ (db tree) ∙ Rattle.sqlite_keyed.proofs.ListLemmas.map_same _ _ (dropped_in_place p q f means) (db tree) ∙ sym (map-map _ _ (db tree)) in
       changed next.0 edit _ (now ∙ ap (λ (t : Trees). record { schema = schema; trees = t }) trees) refl applied (subst (IsShaped shape.Table) (sym rows) still)
       (ap (map (drop 1)) rows ∙ named ∙ ap (map (λ v. if q v then cast_all columns (f v) else v)) there.1)
+
+  -- the number of rows that an UPDATE changes
+  pub updates_counted : (tests news : List Term) (q : Row → Bool) → overlay old.now.trees [] tree ≡ old.now.trees tree
+      → ((r : Row) → list_all (holds (params ∷ r ∷ [])) tests ≡ q (drop 1 r))
+      → Writes old new None (Update k (record { lets = []; body = plain_query tree tests (col 1 0 ∷ col 1 0 ∷ news) [] })) text params count
+      → count ≡ length (filter q (rows_at k all))
+  updates_counted tests news q own means w =
+      let project = col 1 0 ∷ col 1 0 ∷ news in
+      let command = Update k (record { lets = []; body = plain_query tree tests project [] }) in
+      let db = old.now.trees in
+      let does = subst (λ s. Does old.step_limit (mode_of old) params (record old.now { schema = s }) text None command (Ok (w.tally, new.now))) h.schema_is
+      w.changed in
+      let on = subst (λ o. AtPlace (λ t. OnRows (record { limit = old.step_limit; keys = Enforced; schema = schema; table = t; params = params })
+      (mode_of old) None command db) o (Ok (w.tally, new.now))) at does in
+      let done = went on in
+      let found = went done.1 in
+      let next = went found.2 in
+      let edit : Edit = edit_of db table (ids_of found.0) Given 1 found.0 in
+      let noted = ap (λ (p : Tally × Database). unwrap_or p.0.rows 0) (same_value (went (went done.2).2).2) in
+      let written : done.0.rows ≡ edit.news = ap (λ (it : Written). it.rows) (same_value next.2) in
+      let news_are : edit.news ≡ map (λ s. cast_row table (drop 1 s)) found.0 = given _ _ in
+      let p = passes tests project [] own in
+      let seen = asked tests project [] own found.0 found.1 in
+      let same : filter p (db tree) ≡ filter (λ r. q (drop 1 r)) (db tree) = filter_same _ _ means (db tree) in
+      w.counted ∙ noted ∙ ap length (written ∙ news_are) ∙ length-map found.0 _ ∙ length_permutation _ _ seen ∙ length-map (filter p (db tree)) _
+      ∙ ap length same ∙ sym (length-map (filter (λ r. q (drop 1 r)) (db tree)) (drop 1)) ∙ ap length (sym (filter-map q (drop 1) (db tree)))
+      ∙ ap (λ rs. length (filter q rs)) there.1
 
 -- a SELECT of the rows that pass a test: each is shown, in an order that ORDER BY allows
 pub selects : (schema : Schema) (k tree : ℕ) → is_lone tree k schema.tables ≡ true → (db : Database) (all : List (List Row)) (params : Row)

@@ -6,4 +6,4 @@ pub mod order;
 pub mod statements;
 
 pub use order::{Rising, begin, committed_schema};
-pub use statements::{ask, run};
+pub use statements::{ask, run, run_counted};

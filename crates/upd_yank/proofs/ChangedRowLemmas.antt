@@ -12,7 +12,8 @@ use Rattle.upd_core.specs.Status.{status_of}
 use Rattle.upd_core.specs.TargetCounts.{live_count}
 use Rattle.upd_core.specs.Targets.{is_same}
 use Rattle.upd_records.specs.Changes.{ChangeView, IdentNew, IdentPurged, CardNew, CardGone, CardsMoved, EntryNew, EntriesGone, TargetNew, TargetsGone}
-use Rattle.upd_records.specs.Changes.{StatusNow, CountNow, done, done_all}
+use Rattle.upd_records.specs.Changes.{StatusNow, CountNow, done, done_all, with_status}
+use Rattle.upd_records.proofs.StatusLemmas.{status_set}
 use Rattle.upd_records.specs.Rows.{CountRow, Rows, StateRow, count_rows, same_ref, state_rows}
 use Rattle.upd_diff.proofs.StateLemmas.{filter_gone, filter_kept, states_gone, states_kept}
 use Rattle.upd_yank.proofs.RefLemmas.{one_ref}
@@ -65,15 +66,17 @@ tells_count t (TargetsGone card targets) = false
 
 -- the row of a card once the status of k is set
 state_change : (l : LibraryView) (r k : CardRef) (a : Bool) (xs : List StateRow) → status_of k l ≡ Some a → (b : Bool) → same_ref r k ≡ b →
-    filter (λ s. same_ref r s.card) (filter (λ s. not (same_ref k s.card)) xs ++ record { card = k; active = a } ∷ [])
+    filter (λ s. same_ref r s.card) (with_status k a xs)
     ≡ cond b (state_rows r (status_of r l)) (filter (λ s. same_ref r s.card) xs)
 state_change l r k a xs right true e =
     let one : r ≡ k = one_ref r k e in
-    filter-append (λ s. same_ref r s.card) (filter (λ s. not (same_ref k s.card)) xs) (record { card = k; active = a } ∷ [])
+    status_set r k a xs
+    ∙ filter-append (λ s. same_ref r s.card) (filter (λ s. not (same_ref k s.card)) xs) (record { card = k; active = a } ∷ [])
     ∙ (λ i. states_gone r k xs e i ++ cond (e i) (record { card = k; active = a } ∷ []) [])
     ∙ (λ i. state_rows (sym one i) (sym right i)) ∙ ap (λ o. state_rows r o) (ap (λ x. status_of x l) (sym one))
 state_change l r k a xs right false e =
-    filter-append (λ s. same_ref r s.card) (filter (λ s. not (same_ref k s.card)) xs) (record { card = k; active = a } ∷ [])
+    status_set r k a xs
+    ∙ filter-append (λ s. same_ref r s.card) (filter (λ s. not (same_ref k s.card)) xs) (record { card = k; active = a } ∷ [])
     ∙ (λ i. states_kept r k xs e i ++ cond (e i) (record { card = k; active = a } ∷ []) [])
     ∙ append-nil (filter (λ s. same_ref r s.card) xs)
 

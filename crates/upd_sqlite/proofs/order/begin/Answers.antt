@@ -1,4 +1,4 @@
-use Rattle.std.proofs.Common.{◌≡◌, IsTrue, not, ap, sym, subst, ◌∙◌}
+use Rattle.std.proofs.Common.{IsTrue, not, ap, sym, subst, ◌∙◌}
 use Rattle.sqlite.specs.Held.{state}
 use Rattle.upd_sqlite.specs.Rising.{TablesRise}
 use Rattle.upd_sqlite.proofs.OrderedTables.{tables_rise}
