@@ -1,9 +1,10 @@
 -- The text of a reply's value is the reply's text.
-use Rattle.std.proofs.Common.{◌≡◌, ℕ, ◌<◌, List, [], ◌∷◌, ◌++◌, Bool, true, false, ◌&&◌, IsTrue, refl, ap, sym, codes, rules, arith, append_assoc}
+use Rattle.std.proofs.Common.{◌≡◌, ℕ, ◌<◌, List, [], ◌∷◌, ◌++◌, Bool, true, false, ◌&&◌, IsTrue, refl, ap, sym, codes, arith, append_assoc}
 use Rattle.std.specs.List.{flat_map, AllByRecursion}
 use Rattle.std.specs.Str.{IsAscii, IsUtf8}
 use Rattle.std.proofs.lemmas.Str.{IsUtf8-from_ascii}
 use Rattle.std.proofs.lemmas.Str.Ascii.{IsAscii-nil, IsAscii-cons}
+use Rattle.std.proofs.lemmas.Bool.{and_parts}
 use Rattle.std.proofs.lemmas.Bool.Decides.{nat_tests}
 use Rattle.json.specs.Print.{escape, escape_byte}
 use Rattle.serde_json.specs.Written.{compact_text, items_text, items_have_float}
@@ -29,14 +30,9 @@ abbrev shows_all : List ℕ → Bool
 shows_all [] = true
 shows_all (b ∷ bs) = is_shown b && shows_all bs
 
-both : (a b : Bool) → (a && b) ≡ true → (a ≡ true) × (b ≡ true)
-both true true holds = (refl, refl)
-both true false holds = (refl, holds)
-both false b holds = grind rules
-
 are_shown : (text : List ℕ) → shows_all text ≡ true → AreShown text
 are_shown [] passes = tt
-are_shown (b ∷ bs) passes = let p = both (is_shown b) (shows_all bs) passes in (p.0, are_shown bs p.1)
+are_shown (b ∷ bs) passes = let p = and_parts (is_shown b) (shows_all bs) passes in (p.0, are_shown bs p.1)
 
 name_passes : (kind : FaultKind) → shows_all (fault_name kind) ≡ true
 name_passes kind.RunLong = refl
