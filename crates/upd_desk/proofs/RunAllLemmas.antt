@@ -9,9 +9,8 @@ use Rattle.upd_desk.specs.Arrivals.{ArrivalView}
 use Rattle.upd_desk.specs.Journal.{Event, Journal}
 use Rattle.upd_desk.specs.Outcomes.{ReplyView}
 use Rattle.upd_desk.specs.Holding.{AreAnswers, AreArrivalFaults, AreIdle, RunAll, Arrives, EndsInReply, HoldsIn, IsAnswer, IsArrivalFault, IsIdle}
-use Rattle.upd_desk.specs.Holding.{IsLeft, IsNoneLost, ReadsNeeded, ReadsNeededByAll, ReadsNoneRefused, is_lost, needed_by_all}
+use Rattle.upd_desk.specs.Holding.{IsLeft, IsNoneLost, IsWork, LooksAt, ReadsNeeded, ReadsNeededByAll, is_lost, needed_by_all}
 use Rattle.upd_desk.specs.Holding.{after, after_all, failures_after_all, in_hand_after, in_hand_after_all, work_after, work_after_all}
-use Rattle.upd_desk.specs.Made.{work_of}
 use Rattle.upd_desk.specs.Needed.{needed_by}
 use Rattle.upd_desk.proofs.ArrivesLemmas.{idle_there}
 
@@ -142,7 +141,7 @@ module _ {S : Type 0} {meaning : Ghosts S} where
       → RunAll meaning list results old mid
       → Arrives meaning a result mid new
       → (is_honest mid → (j : Journal) → (is_open old → HoldsIn shows j (image old)) → before ≡ work_after_all work j list results)
-      → (is_honest new → (j : Journal) → (is_open mid → HoldsIn shows j (image mid)) → IfOk result (λ reply. later ≡ work_of j a))
+      → LooksAt meaning a result (λ _. later) mid new
       → OnErr result (later ≡ before)
       → is_honest new → (j : Journal) → (is_open old → HoldsIn shows j (image old))
       → later ≡ work_after_all work j (list ++ a ∷ []) (results ++ result ∷ [])
@@ -150,9 +149,9 @@ module _ {S : Type 0} {meaning : Ghosts S} where
       by result (looks honest (after_all j list results) (all.holds (went.later.honest honest) j held)) idle
       ∙ sym (work_more work j list results a result same)
     where
-      by : (r : Result ReplyView Fault) → IfOk r (λ reply. later ≡ work_of (after_all j list results) a) → OnErr r (later ≡ before)
+      by : (r : Result ReplyView Fault) → IfOk r (λ reply. IsWork (after_all j list results) a later) → OnErr r (later ≡ before)
           → later ≡ work_after (work_after_all work j list results) (after_all j list results) a r
-      by (Ok reply) looked none = looked
+      by (Ok reply) looked none = looked.0
       by (Err f) none stays = stays ∙ earlier (went.later.honest honest) j held
 
   -- the decks that are read for one arrival more
@@ -162,12 +161,11 @@ module _ {S : Type 0} {meaning : Ghosts S} where
       → Arrives meaning a result mid new
       → ReadsNeededByAll meaning list results old mid
       → ReadsNeeded meaning a result mid new
-      → ReadsNoneRefused meaning result mid new
       → ReadsNeededByAll meaning (list ++ a ∷ []) (results ++ result ∷ []) old new
-  reads_one_more list results a result old mid new same all went earlier needs none honest j held heard =
+  reads_one_more list results a result old mid new same all went earlier needs honest j held heard =
       let both = none_lost_more results result heard in
       let before = earlier (went.later.honest honest) j held both.0 in
-      let last = by result (needs honest (after_all j list results) (all.holds (went.later.honest honest) j held)) none both.1 in
+      let last = by result (needs.0 honest (after_all j list results) (all.holds (went.later.honest honest) j held)) needs.1 both.1 in
       let more = needed_more j list results a result same in
       omega (arith, before, last, more)
     where

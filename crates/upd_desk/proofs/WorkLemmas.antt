@@ -14,7 +14,7 @@ use Rattle.upd_desk.specs.Journal.{Came, Journal, distinct, kept, made_by, mark,
 use Rattle.upd_desk.specs.Made.{IsMade, looked_at, work_of}
 use Rattle.upd_desk.specs.Needed.{needed, needed_by}
 use Rattle.upd_desk.specs.Outcomes.{compiled, outcome}
-use Rattle.upd_desk.specs.Holding.{Holds, HoldsIn, TriesRun}
+use Rattle.upd_desk.specs.Holding.{Holds, HoldsIn, IsWork, TriesRun}
 use Rattle.upd_desk.proofs.AlikeLemmas.{unheard_key}
 use Rattle.upd_desk.proofs.AnswerLemmas.{answer_again}
 use Rattle.upd_desk.proofs.ArrivesLemmas.{IsAsked}
@@ -57,20 +57,14 @@ module _ {S : Type 0} {meaning : Ghosts S} where
   -- ---- a stored run
 
   pub work_told : (mode : Mode) (a : ArrivalView) (run : RunView) (old mid : S) → Keeps meaning old mid → (is_honest mid → is_open mid)
-      → (is_honest mid → IsAsked meaning mode a (Some run) mid) → is_honest mid → (j : Journal) → (is_open old → HoldsIn shows j (image old)) → 0 ≡ work_of j a
-  work_told mode a run old mid keeps opens asks honest j held = by (held_there old mid keeps honest (opens honest) j held)
+      → (is_honest mid → IsAsked meaning mode a (Some run) mid) → is_honest mid → (j : Journal) → (is_open old → HoldsIn shows j (image old)) → IsWork j a 0
+  work_told mode a run old mid keeps opens asks honest j held = by (asks honest) (held_there old mid keeps honest (opens honest) j held)
     where
-      by : HoldsIn shows j (image mid) → 0 ≡ work_of j a
-      by (rows, shown, holds) = work_again j a run (sym (holds.runs a.site a.number) ∙ (asks honest).found (opens honest) rows shown)
-
-  pub least_told : (mode : Mode) (a : ArrivalView) (run : RunView) (old mid : S) → Keeps meaning old mid → (is_honest mid → is_open mid)
-      → (is_honest mid → IsAsked meaning mode a (Some run) mid) → is_honest mid → (j : Journal) → (is_open old → HoldsIn shows j (image old))
-      → length (altered (library_after j) (library_after (Came a ∷ j))) ≤ 0
-  least_told mode a run old mid keeps opens asks honest j held = by (asks honest) (held_there old mid keeps honest (opens honest) j held)
-    where
-      by : IsAsked meaning mode a (Some run) mid → HoldsIn shows j (image mid) → length (altered (library_after j) (library_after (Came a ∷ j))) ≤ 0
-      by its (rows, shown, holds) = none_altered j a 0
-          (answer_again j a mode rows run holds its.passed (its.above (opens honest) rows shown) (its.found (opens honest) rows shown)).1
+      by : IsAsked meaning mode a (Some run) mid → HoldsIn shows j (image mid) → IsWork j a 0
+      by its (rows, shown, holds) = let found = its.found (opens honest) rows shown in (
+        work_again j a run (sym (holds.runs a.site a.number) ∙ found),
+        none_altered j a 0 (answer_again j a mode rows run holds its.passed (its.above (opens honest) rows shown) found).1,
+      )
 
   -- ---- a new run
 
@@ -79,32 +73,22 @@ module _ {S : Type 0} {meaning : Ghosts S} where
       → (is_honest mid → IsAsked meaning mode a None mid) → (is_honest new → is_open new)
       → (is_honest new → (l : LibraryView) → IsMade l → (rows : Rows) → shows (image mid) rows → Shows rows l → ShowsStates rows l
       → work ≡ looked_at l (compiled mode a.bytes l))
-      → is_honest new → (j : Journal) → (is_open old → HoldsIn shows j (image old)) → work ≡ work_of j a
-  work_kept mode a work old mid new keeps tries asks opens looks honest j held =
-      let before = tries.later.honest honest in
-      let is = tries.later.was_open honest (opens honest) in
-      by is (asks before) (held_there old mid keeps before is j held)
-    where
-      by : is_open mid → IsAsked meaning mode a None mid → HoldsIn shows j (image mid) → work ≡ work_of j a
-      by is its (rows, shown, holds) = looks honest (library_after j) (library_made j) rows shown holds.library holds.states
-          ∙ work_new j a mode its.passed (sym (holds.runs a.site a.number) ∙ its.found is rows shown)
-
-  pub least_kept : (mode : Mode) (a : ArrivalView) (work : ℕ) (old mid new : S) → Keeps meaning old mid
-      → TriesRun meaning mode a mid new
-      → (is_honest mid → IsAsked meaning mode a None mid) → (is_honest new → is_open new)
       → (is_honest new → (l : LibraryView) → IsMade l → (rows : Rows) → shows (image mid) rows → Shows rows l → ShowsStates rows l
       → length (altered l (outcome mode a l).library) ≤ work)
-      → is_honest new → (j : Journal) → (is_open old → HoldsIn shows j (image old)) → length (altered (library_after j) (library_after (Came a ∷ j))) ≤ work
-  least_kept mode a work old mid new keeps tries asks opens least honest j held =
+      → is_honest new → (j : Journal) → (is_open old → HoldsIn shows j (image old)) → IsWork j a work
+  work_kept mode a work old mid new keeps tries asks opens looks least honest j held =
       let before = tries.later.honest honest in
       let is = tries.later.was_open honest (opens honest) in
       by is (asks before) (held_there old mid keeps before is j held)
     where
-      by : is_open mid → IsAsked meaning mode a None mid → HoldsIn shows j (image mid) → length (altered (library_after j) (library_after (Came a ∷ j))) ≤ work
+      by : is_open mid → IsAsked meaning mode a None mid → HoldsIn shows j (image mid) → IsWork j a work
       by is its (rows, shown, holds) =
-          let above : nat_lt (mark j a.site) a.number ≡ true = rw (← holds.marks a.site) (its.above is rows shown) in
-          its_altered j a mode rows work holds its.passed above (its.found is rows shown)
-          (least honest (library_after j) (library_made j) rows shown holds.library holds.states)
+          let above : nat_lt (mark j a.site) a.number ≡ true = rw (← holds.marks a.site) (its.above is rows shown) in (
+            looks honest (library_after j) (library_made j) rows shown holds.library holds.states
+                ∙ work_new j a mode its.passed (sym (holds.runs a.site a.number) ∙ its.found is rows shown),
+            its_altered j a mode rows work holds its.passed above (its.found is rows shown)
+                (least honest (library_after j) (library_made j) rows shown holds.library holds.states),
+          )
 
   -- no more decks are read than a new run needs
   pub reads_kept : (mode : Mode) (a : ArrivalView) (first after next : ℕ) (old mid new : S) → Keeps meaning old mid

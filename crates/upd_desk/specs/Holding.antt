@@ -82,6 +82,10 @@ abbrev pub in_hand_after_settlement : List ℕ → ℕ → List Event → Result
 in_hand_after_settlement site n in_hand (Ok mark) = []
 in_hand_after_settlement site n in_hand (Err fault) = if is_lost fault.kind then Settled site n ∷ in_hand else in_hand
 
+-- the number of cards that are looked at for an arrival: as many as its run can have changed, and those whose status it changes are among them
+abbrev pub IsWork : Journal → ArrivalView → ℕ → Type 0
+IsWork journal a work = (work ≡ work_of journal a) × (length (altered (library_after journal) (library_after (Came a ∷ journal))) ≤ work)
+
 -- ---- arrivals one after the other
 
 -- the journal after arrivals were answered so
@@ -183,23 +187,15 @@ module _ {S : Type 0} (meaning : Ghosts S) where
 
   -- ---- what an arrival costs
 
-  -- an arrival that gets a reply looks at as many cards as its run can have changed
+  -- an arrival that gets a reply looks at this number of cards
   abbrev pub LooksAt : {A : Type 0} → ArrivalView → Result A Fault → (A → ℕ) → S → S → Type 0
-  LooksAt a result work old new = EachHeld old new (λ journal. IfOk result (λ reply. work reply ≡ work_of journal a))
+  LooksAt a result work old new = EachHeld old new (λ journal. IfOk result (λ reply. IsWork journal a (work reply)))
 
-  -- those whose status it changes are among them
-  abbrev pub LooksAtAltered : {A : Type 0} → ArrivalView → Result A Fault → (A → ℕ) → S → S → Type 0
-  LooksAtAltered a result work old new =
-      EachHeld old new (λ journal. IfOk result (λ reply. length (altered (library_after journal) (library_after (Came a ∷ journal))) ≤ work reply))
-
-  -- it reads no more decks than its run needs
+  -- it reads no more decks than its run needs, and one that is refused reads none
   abbrev pub ReadsNeeded : {A : Type 0} → ArrivalView → Result A Fault → S → S → Type 0
   ReadsNeeded a result old new =
       EachHeld old new (λ journal. OnOk result (decks_read_of new ≤ decks_read_of old + length (needed_by journal a)))
-
-  -- one that is refused reads none
-  abbrev pub ReadsNoneRefused : {A : Type 0} → Result A Fault → S → S → Type 0
-  ReadsNoneRefused result old new = IfErr result (λ fault. is_lost fault.kind ≡ false → decks_read_of new ≡ decks_read_of old)
+      × IfErr result (λ fault. is_lost fault.kind ≡ false → decks_read_of new ≡ decks_read_of old)
 
   -- arrivals of which none is lost read no more decks than their runs need
   abbrev pub ReadsNeededByAll : List ArrivalView → List (Result ReplyView Fault) → S → S → Type 0

@@ -6,7 +6,7 @@ ghost use Rattle.upd_records.specs.Rows.{ShowsStates};
 ghost use Rattle.upd_core.specs.Library.{LibraryView};
 ghost use Rattle.upd_desk.specs.Arrivals.{check_arrival};
 ghost use Rattle.upd_desk.specs.Holding.{Arrives, Becomes, FindsMade, LooksAt};
-ghost use Rattle.upd_desk.specs.Holding.{IsArrivalFault, IsUnadmitted, LooksAtAltered, ReadsAtMost, ReadsNeeded, ReadsNoneRefused, TriesRun};
+ghost use Rattle.upd_desk.specs.Holding.{IsArrivalFault, IsUnadmitted, ReadsAtMost, ReadsNeeded, TriesRun};
 ghost use Rattle.upd_desk.specs.Made.{looked_at};
 ghost use Rattle.upd_desk.specs.Needed.{needed};
 ghost use Rattle.upd_desk.specs.Journal.{reply_to, run_of};
@@ -108,9 +108,7 @@ pub(crate) fn arrive_at<S: RowStore>(
     ensures arrives { Arrives S.Meaning arrival.now
         (result_map_both (λ answered. answered.reply) (λ fault. fault) result) store.old store.new }
     ensures work { LooksAt S.Meaning arrival.now result (λ answered. answered.work) store.old store.new }
-    ensures least { LooksAtAltered S.Meaning arrival.now result (λ answered. answered.work) store.old store.new }
     ensures reads { ReadsNeeded S.Meaning arrival.now result store.old store.new }
-    ensures unread { ReadsNoneRefused S.Meaning result store.old store.new }
     ensures unadmitted { IsUnadmitted (check_arrival arrival.now) result store.old store.new }
     ensures faults { IfErr result (IsArrivalFault arrival.now) }
     ensures failed { CountsFailure S.Meaning result store.old store.new }

@@ -6,9 +6,9 @@ ghost use Rattle.upd_desk.specs.Arrivals.{arrival_view, check_arrival, check_key
 ghost use Rattle.upd_compile.specs.File.{compile_file_of};
 ghost use Rattle.upd_compile.specs.Listings.{card_listing, deck_listing, ident_listing, yank_listing};
 ghost use Rattle.upd_compile.specs.declared.mode.Mode.TheVariants.{Full};
-ghost use Rattle.upd_desk.specs.Holding.{Arrives, EachHeld, EndsInReply, LooksAt, LooksAtAltered, ReadsNeeded};
+ghost use Rattle.upd_desk.specs.Holding.{Arrives, EachHeld, EndsInReply, LooksAt, ReadsNeeded};
 ghost use Rattle.upd_desk.specs.Holding.{AreArrivalFaults, IsArrivalFault, IsSettlementFault, IsUnadmitted};
-ghost use Rattle.upd_desk.specs.Holding.{ReadsNeededByAll, ReadsNoneRefused, RunAll, Settles, Tells, failures_after_all, work_after_all};
+ghost use Rattle.upd_desk.specs.Holding.{ReadsNeededByAll, RunAll, Settles, Tells, failures_after_all, work_after_all};
 ghost use Rattle.upd_desk.specs.Outcomes.{IsFileFault};
 ghost use Rattle.upd_row_store.specs.Keeping.{CountsFailure, IsLost, Keeps, OpensOk, reads_after};
 ghost use Rattle.upd_text.specs.Faults.{fault_at};
@@ -77,11 +77,8 @@ impl<S: RowStore> Desk<S> {
             self.old.store self.new.store }
         ensures work { LooksAt S.Meaning (arrival_view site.now number mode.now bytes.now) result (λ _. self.new.work)
             self.old.store self.new.store }
-        ensures least { LooksAtAltered S.Meaning (arrival_view site.now number mode.now bytes.now) result
-            (λ _. self.new.work) self.old.store self.new.store }
         ensures reads { ReadsNeeded S.Meaning (arrival_view site.now number mode.now bytes.now) result
             self.old.store self.new.store }
-        ensures unread { ReadsNoneRefused S.Meaning result self.old.store self.new.store }
         ensures idle { OnErr result (self.new.work ≡ self.old.work) }
         ensures unadmitted { IsUnadmitted (check_arrival (arrival_view site.now number mode.now bytes.now)) result
             self.old.store self.new.store }
@@ -100,10 +97,7 @@ impl<S: RowStore> Desk<S> {
     fn arrive_one(&mut self, alloc: Global, arrival: &Arrival<'_>) -> Result<Reply, Fault>
         ensures arrives { Arrives S.Meaning arrival.now result self.old.store self.new.store }
         ensures work { LooksAt S.Meaning arrival.now result (λ _. self.new.work) self.old.store self.new.store }
-        ensures least { LooksAtAltered S.Meaning arrival.now result (λ _. self.new.work)
-            self.old.store self.new.store }
         ensures reads { ReadsNeeded S.Meaning arrival.now result self.old.store self.new.store }
-        ensures unread { ReadsNoneRefused S.Meaning result self.old.store self.new.store }
         ensures idle { OnErr result (self.new.work ≡ self.old.work) }
         ensures unadmitted { IsUnadmitted (check_arrival arrival.now) result self.old.store self.new.store }
         ensures faults { IfErr result (IsArrivalFault arrival.now) }

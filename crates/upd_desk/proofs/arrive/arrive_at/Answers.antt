@@ -10,7 +10,7 @@ use Rattle.upd_desk.proofs.ArrivesLemmas.{refuses_unadmitted, refuses_changed, r
 use Rattle.upd_desk.proofs.LoadingLemmas.{none_read_again}
 use Rattle.upd_desk.proofs.MadeLemmas.{library_made}
 use Rattle.upd_desk.proofs.RefusedLemmas.{error_is}
-use Rattle.upd_desk.proofs.WorkLemmas.{least_kept, least_told, reads_kept, work_kept, work_told}
+use Rattle.upd_desk.proofs.WorkLemmas.{reads_kept, work_kept, work_told}
 use Rattle.upd_desk.proofs.arrive.arrive_at.Goals as goal
 
 pub returns-in_err-mode-clause-arrives : goal.returns-in_err-mode-clause-arrives
@@ -111,18 +111,6 @@ returns-in-Ok-clause-work g c =
     (λ honest rows shown. sym c.in-Some.is ∙ c.in_ok-kept.ensures.found honest rows shown
     ∙ ap (λ a. run_at a.site a.number rows) c.arrival.view_is) honest)
 
-pub returns-in-Ok-clause-least : goal.returns-in-Ok-clause-least
-returns-in-Ok-clause-least g c =
-    least_told c.in_ok-mode.mode c.args.arrival.now c.in-Some.run' c.args.store.now c.kept_run.new.self
-    (keeps_keeps c.in_ok-mark.ensures.leaves.same c.in_ok-kept.ensures.leaves.same)
-    c.in_ok-kept.ensures.leaves.opens
-    (λ honest. asked c.in_ok-mode.mode c.args.arrival.now c.in_ok-mark.mark (Some c.in-Some.run') c.args.store.now c.mark.new.self
-    c.kept_run.new.self c.in_ok-mark.ensures.leaves.same c.in_ok-kept.ensures.leaves.same (sym c.in_ok-mode.ensures)
-    (subst (λ a. c.in_ok-mark.mark < a.number) c.arrival.view_is c.if-arrival-mark.false)
-    (λ honest rows shown. c.in_ok-mark.ensures.found honest rows shown ∙ ap (λ a. mark_at a.site rows) c.arrival.view_is)
-    (λ honest rows shown. sym c.in-Some.is ∙ c.in_ok-kept.ensures.found honest rows shown
-    ∙ ap (λ a. run_at a.site a.number rows) c.arrival.view_is) honest)
-
 pub returns-in-Ok-keep_new-clause-work : goal.returns-in-Ok-keep_new-clause-work
 returns-in-Ok-keep_new-clause-work g c =
     work_kept c.in_ok-mode.mode c.args.arrival.now c.in-Ok-keep_new.answered.work c.args.store.now c.kept_run.new.self c.keep_new.new.store
@@ -134,40 +122,30 @@ returns-in-Ok-keep_new-clause-work g c =
     (λ honest rows shown. c.in_ok-mark.ensures.found honest rows shown ∙ ap (λ a. mark_at a.site rows) c.arrival.view_is)
     (λ honest rows shown. sym c.in-None.is ∙ c.in_ok-kept.ensures.found honest rows shown
     ∙ ap (λ a. run_at a.site a.number rows) c.arrival.view_is) honest)
-    c.in-Ok-keep_new.ensures.open c.in-Ok-keep_new.ensures.work
-
-pub returns-in-Ok-keep_new-clause-least : goal.returns-in-Ok-keep_new-clause-least
-returns-in-Ok-keep_new-clause-least g c =
-    least_kept c.in_ok-mode.mode c.args.arrival.now c.in-Ok-keep_new.answered.work c.args.store.now c.kept_run.new.self c.keep_new.new.store
-    (keeps_keeps c.in_ok-mark.ensures.leaves.same c.in_ok-kept.ensures.leaves.same)
-    c.in-Ok-keep_new.ensures.tries
-    (λ honest. asked c.in_ok-mode.mode c.args.arrival.now c.in_ok-mark.mark None c.args.store.now c.mark.new.self
-    c.kept_run.new.self c.in_ok-mark.ensures.leaves.same c.in_ok-kept.ensures.leaves.same (sym c.in_ok-mode.ensures)
-    (subst (λ a. c.in_ok-mark.mark < a.number) c.arrival.view_is c.if-arrival-mark.false)
-    (λ honest rows shown. c.in_ok-mark.ensures.found honest rows shown ∙ ap (λ a. mark_at a.site rows) c.arrival.view_is)
-    (λ honest rows shown. sym c.in-None.is ∙ c.in_ok-kept.ensures.found honest rows shown
-    ∙ ap (λ a. run_at a.site a.number rows) c.arrival.view_is) honest)
-    c.in-Ok-keep_new.ensures.open c.in-Ok-keep_new.ensures.least
+    c.in-Ok-keep_new.ensures.open c.in-Ok-keep_new.ensures.work c.in-Ok-keep_new.ensures.least
 
 pub returns-in-Ok-clause-reads : goal.returns-in-Ok-clause-reads
-returns-in-Ok-clause-reads g c honest j held = none_read_again _ _ _ _ c.in_ok-mark.ensures.leaves.unread c.in_ok-kept.ensures.leaves.unread
+returns-in-Ok-clause-reads g c =
+    (λ honest j held. none_read_again _ _ _ _ c.in_ok-mark.ensures.leaves.unread c.in_ok-kept.ensures.leaves.unread, tt)
 
 pub returns-in-Ok-keep_new-clause-reads : goal.returns-in-Ok-keep_new-clause-reads
-returns-in-Ok-keep_new-clause-reads g c =
-    reads_kept c.in_ok-mode.mode c.args.arrival.now _ _ _ c.args.store.now c.kept_run.new.self c.keep_new.new.store
-    (keeps_keeps c.in_ok-mark.ensures.leaves.same c.in_ok-kept.ensures.leaves.same)
-    c.in-Ok-keep_new.ensures.tries
-    (λ honest. asked c.in_ok-mode.mode c.args.arrival.now c.in_ok-mark.mark None c.args.store.now c.mark.new.self
-    c.kept_run.new.self c.in_ok-mark.ensures.leaves.same c.in_ok-kept.ensures.leaves.same (sym c.in_ok-mode.ensures)
-    (subst (λ a. c.in_ok-mark.mark < a.number) c.arrival.view_is c.if-arrival-mark.false)
-    (λ honest rows shown. c.in_ok-mark.ensures.found honest rows shown ∙ ap (λ a. mark_at a.site rows) c.arrival.view_is)
-    (λ honest rows shown. sym c.in-None.is ∙ c.in_ok-kept.ensures.found honest rows shown
-    ∙ ap (λ a. run_at a.site a.number rows) c.arrival.view_is) honest)
-    c.in-Ok-keep_new.ensures.open (c.in_ok-kept.ensures.leaves.unread ∙ c.in_ok-mark.ensures.leaves.unread) c.in-Ok-keep_new.ensures.reads
+returns-in-Ok-keep_new-clause-reads g c = (
+  reads_kept c.in_ok-mode.mode c.args.arrival.now _ _ _ c.args.store.now c.kept_run.new.self c.keep_new.new.store
+      (keeps_keeps c.in_ok-mark.ensures.leaves.same c.in_ok-kept.ensures.leaves.same)
+      c.in-Ok-keep_new.ensures.tries
+      (λ honest. asked c.in_ok-mode.mode c.args.arrival.now c.in_ok-mark.mark None c.args.store.now c.mark.new.self
+      c.kept_run.new.self c.in_ok-mark.ensures.leaves.same c.in_ok-kept.ensures.leaves.same (sym c.in_ok-mode.ensures)
+      (subst (λ a. c.in_ok-mark.mark < a.number) c.arrival.view_is c.if-arrival-mark.false)
+      (λ honest rows shown. c.in_ok-mark.ensures.found honest rows shown ∙ ap (λ a. mark_at a.site rows) c.arrival.view_is)
+      (λ honest rows shown. sym c.in-None.is ∙ c.in_ok-kept.ensures.found honest rows shown
+      ∙ ap (λ a. run_at a.site a.number rows) c.arrival.view_is) honest)
+      c.in-Ok-keep_new.ensures.open (c.in_ok-kept.ensures.leaves.unread ∙ c.in_ok-mark.ensures.leaves.unread) c.in-Ok-keep_new.ensures.reads,
+  tt,
+)
 
-pub returns-in-Err-keep_new-clause-unread : goal.returns-in-Err-keep_new-clause-unread
-returns-in-Err-keep_new-clause-unread g c stays =
-    absurd (false≢true (sym stays ∙ lost_kind c.in-Err-keep_new.fault c.in-Err-keep_new.ensures.lost))
+pub returns-in-Err-keep_new-clause-reads : goal.returns-in-Err-keep_new-clause-reads
+returns-in-Err-keep_new-clause-reads g c =
+    (λ honest j held. tt, λ stays. absurd (false≢true (sym stays ∙ lost_kind c.in-Err-keep_new.fault c.in-Err-keep_new.ensures.lost)))
 
 pub returns-in-Err-clause-faults : goal.returns-in-Err-clause-faults
 returns-in-Err-clause-faults g c =

@@ -59,7 +59,7 @@ loop-arrival-preserved g c =
           c.arrive_one-answer.ensures.idle),
       rw (more, items) (reads_one_more (take i list) before c.arrival-item.result c.arrive_one-answer.result c.args.self.now.store
           c.loop-arrival.self.store c.arrive_one-answer.new.self.store same all went c.loop-arrival.invariant.7
-          c.arrive_one-answer.ensures.reads c.arrive_one-answer.ensures.unread),
+          c.arrive_one-answer.ensures.reads),
       rw (more, items) (faults_more (take i list) before c.arrival-item.result c.arrive_one-answer.result c.loop-arrival.invariant.8
           c.arrive_one-answer.ensures.faults),
     )
