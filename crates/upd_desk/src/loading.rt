@@ -11,7 +11,7 @@ ghost use Rattle.upd_desk.specs.Needed.{stands_in_deck};
 ghost use Rattle.upd_partial.specs.Needed.{cards_named, decks_needed};
 ghost use Rattle.upd_partial.specs.Needless.{is_plain};
 ghost use Rattle.upd_row_store.specs.Asked.{decks_with};
-ghost use Rattle.upd_row_store.specs.Keeping.{CountsFailure, IsLost, IsShown, Keeps, reads_after};
+ghost use Rattle.upd_row_store.specs.Keeping.{CountsFailure, IsLost, IsShown, Keeps, LeavesLoad, LeavesRead};
 
 use std::alloc::{AllocError, Global};
 use upd_core::{CardRef, Counted, CountedCard, Library, Name};
@@ -118,11 +118,7 @@ fn stand_in_decks<S: RowStore>(
 
 fn stands_in_deck<S: RowStore>(store: &mut S, alloc: Global, card: CardRef) -> Result<bool, Fault>
     ensures found { FindsMade S.Meaning result store.old store.new (λ l rows stands. stands ≡ stands_in_deck l card) }
-    ensures unread { S.decks_read_of store.new ≡ S.decks_read_of store.old }
-    ensures open { S.is_honest store.new → OnOk result (S.is_open store.new) }
-    ensures same { Keeps S.Meaning store.old store.new }
-    ensures lost { IfErr result IsLost }
-    ensures failed { CountsFailure S.Meaning result store.old store.new }
+    ensures leaves { LeavesRead S.Meaning result store.old store.new }
 {
     match store.decks_of(alloc, &[card]) {
         Ok(decks) => Ok(!decks.is_empty()),
@@ -170,11 +166,7 @@ pub(crate) fn load_holders<S: RowStore>(
 ) -> Result<Library, Fault>
     ensures found { FindsMade S.Meaning result store.old store.new
         (λ l rows found. found ≡ part_of (decks_with cards.now l) l) }
-    ensures reads { S.decks_read_of store.new ≡ reads_after result (S.decks_read_of store.old) }
-    ensures open { S.is_honest store.new → OnOk result (S.is_open store.new) }
-    ensures same { Keeps S.Meaning store.old store.new }
-    ensures lost { IfErr result IsLost }
-    ensures failed { CountsFailure S.Meaning result store.old store.new }
+    ensures leaves { LeavesLoad S.Meaning result store.old store.new }
 {
     let decks = store.decks_of(alloc, cards)?;
     match store.load_decks(alloc, &decks) {

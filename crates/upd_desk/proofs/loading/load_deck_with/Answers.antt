@@ -13,7 +13,7 @@ returns-in-Ok-clause-found g c honest l made rows shown shows =
 
 pub returns-in-Ok-clause-reads : goal.returns-in-Ok-clause-reads
 returns-in-Ok-clause-reads g c honest =
-    of_held g.S.Meaning.shows (g.S.Meaning.image c.args.store.now) (c.in-Ok.ensures.same.later.was_open honest (c.in-Ok.ensures.open honest))
+    of_held g.S.Meaning.shows (g.S.Meaning.image c.args.store.now) (c.in-Ok.ensures.leaves.same.later.was_open honest (c.in-Ok.ensures.leaves.opens honest))
     (λ l made rows shown shows.
-    asked_read (decks_with (c.args.card.now ∷ []) l) l c.in-Ok.part _ _ _ 1 made.sound (omega arith) c.in-Ok.ensures.reads
+    asked_read (decks_with (c.args.card.now ∷ []) l) l c.in-Ok.part _ _ _ 1 made.sound (omega arith) c.in-Ok.ensures.leaves.reads
     (c.in-Ok.ensures.found honest l made rows shown shows) (one_holder c.args.card.now l made.sound))

@@ -23,7 +23,7 @@ returns-in-Ok-clause-reads g c honest l made rows shown shows =
 
 pub returns-in-Ok-load_holders-clause-found : goal.returns-in-Ok-load_holders-clause-found
 returns-in-Ok-load_holders-clause-found g c honest l made rows shown shows =
-    let before = c.in-Ok-load_holders.ensures.same.later.honest honest in
+    let before = c.in-Ok-load_holders.ensures.leaves.same.later.honest honest in
     let there = shown_there c.args.store.now c.load_decks.new.self c.in_ok-head.ensures.leaves.same before
     (c.in_ok-head.ensures.leaves.opens before) rows shown in
     named_loaded c.args.run.now l c.in-Ok-load_holders.part c.args.cards.now c.args.cards.now refl
@@ -34,7 +34,7 @@ returns-in-Ok-load_holders-clause-found g c honest l made rows shown shows =
 
 pub returns-in-Ok-load_holders-clause-reads : goal.returns-in-Ok-load_holders-clause-reads
 returns-in-Ok-load_holders-clause-reads g c honest l made rows shown shows =
-    let before = c.in-Ok-load_holders.ensures.same.later.honest honest in
+    let before = c.in-Ok-load_holders.ensures.leaves.same.later.honest honest in
     needed_read c.args.run.now l c.in-Ok-load_holders.part _ _ _ made.sound
     (none_read _ _ l c.in_ok-head.head made.sound (c.in_ok-head.ensures.found before l made.sound made.whole rows shown shows)
-    c.in_ok-head.ensures.leaves.reads) c.in-Ok-load_holders.ensures.reads (returns-in-Ok-load_holders-clause-found g c honest l made rows shown shows)
+    c.in_ok-head.ensures.leaves.reads) c.in-Ok-load_holders.ensures.leaves.reads (returns-in-Ok-load_holders-clause-found g c honest l made rows shown shows)

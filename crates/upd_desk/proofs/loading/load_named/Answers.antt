@@ -12,7 +12,7 @@ returns-in_err-cards-clause-lost g c = lost_for_memory c.from_residual.result c.
 
 pub returns-in-Ok-clause-found : goal.returns-in-Ok-clause-found
 returns-in-Ok-clause-found g c honest l made rows shown shows =
-    let before = c.in-Ok.ensures.same.later.honest honest in
+    let before = c.in-Ok.ensures.leaves.same.later.honest honest in
     named_loaded c.args.run.now l c.in-Ok.part c.in_ok-cards.cards.items c.deref-in-Ok-true.result.now c.deref-in-Ok-true.ensures.value
     (c.in-Ok.ensures.found honest l made rows (c.in-Ok-true.ensures.there before rows shown) shows)
     (needs_standing c.args.run.now l c.in_ok-cards.cards.items c.requires.plain c.in_ok-cards.ensures (ap (list_any (is_yank_card l)) (sym c.deref.ensures.value)
@@ -21,4 +21,4 @@ returns-in-Ok-clause-found g c honest l made rows shown shows =
 pub returns-in-Ok-clause-reads : goal.returns-in-Ok-clause-reads
 returns-in-Ok-clause-reads g c honest l made rows shown shows =
     needed_read c.args.run.now l c.in-Ok.part _ _ _ made.sound (still_read _ _ c.in-Ok-true.ensures.unread)
-    c.in-Ok.ensures.reads (returns-in-Ok-clause-found g c honest l made rows shown shows)
+    c.in-Ok.ensures.leaves.reads (returns-in-Ok-clause-found g c honest l made rows shown shows)
