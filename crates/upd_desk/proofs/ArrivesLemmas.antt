@@ -57,10 +57,6 @@ pub unadmitted : {X A S : Type 0} (checked : Result X Fault) (f : Fault) (result
     → Err f ≡ checked → IsErrAnd result (λ e. e ≡ f) → IsUnadmitted checked result s s
 unadmitted checked f result s is same = subst (λ r. IsUnadmitted r result s s) is (same, refl)
 
-pub admitted : {X A S : Type 0} (checked : Result X Fault) (x : X) (result : Result A Fault) (old new : S)
-    → Ok x ≡ checked → IsUnadmitted checked result old new
-admitted checked x result old new is = subst (λ r. IsUnadmitted r result old new) is tt
-
 -- ---- images
 
 module _ {Image : Type 0} (shows : Image → Rows → Type 0) where

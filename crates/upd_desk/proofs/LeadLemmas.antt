@@ -1,5 +1,5 @@
 -- The row changes of a run, and those of its settling after them, lead tables to the library that it leaves.
-use Rattle.std.proofs.Common.{◌≡◌, ℕ, ◌+◌, ◌<◌, ◌≤◌, ◌^◌, nat_le, true, ◌&&◌, List, [], ◌∷◌, ◌++◌, length, map, sum_by, None, Ok, Err, refl, ap, sym, ◌∙◌}
+use Rattle.std.proofs.Common.{◌≡◌, ℕ, ◌+◌, ◌<◌, ◌≤◌, ◌^◌, nat_le, true, ◌&&◌, List, [], ◌++◌, length, map, sum_by, None, Ok, Err, refl, ap, sym, ◌∙◌}
 use Rattle.std.proofs.Common.{subst, arith}
 use Rattle.std.specs.List.{AllByRecursion}
 use Rattle.std.proofs.lemmas.Bool.Decides.{nat_tests}
@@ -10,19 +10,18 @@ use Rattle.upd_text.specs.declared.limits.TheConstants.{MAX_CARDS, MAX_ENTRIES, 
 use Rattle.upd_core.specs.Library.{DeckView, LibraryView}
 use Rattle.upd_core.specs.Limits.{card_count, entry_count, held_count, is_within_limits, target_count}
 use Rattle.upd_core.specs.declared.change.Change.{Change}
-use Rattle.upd_records.specs.Changes.{ChangeView, IdentNew, IdentPurged, CardNew, CardGone, CardsMoved, EntryNew, EntriesGone, TargetNew, TargetsGone}
-use Rattle.upd_records.specs.Changes.{StatusNow, CountNow, change_view, done, done_all}
+use Rattle.upd_records.specs.Changes.{ChangeView, change_view, done_all}
 use Rattle.upd_records.specs.Fits.{AllFit}
 use Rattle.upd_records.specs.Rows.{Rows, RunView, Shows, ShowsStates}
 use Rattle.upd_diff.specs.States.{row_changes_state}
-use Rattle.upd_diff.proofs.FitLemmas.{FitsAny, any_fit, done_append, fit_append}
+use Rattle.upd_diff.proofs.FitLemmas.{done_append, fit_append, shows_stay, states_fit}
 use Rattle.upd_diff.proofs.ShownRowsLemmas.{fit_row_changes, shown_by_row_changes}
 use Rattle.upd_deck.specs.Items.{LineView}
 use Rattle.upd_deck.specs.Reading.{reading}
 use Rattle.upd_apply.specs.Applying.{Reached, applied, touched}
 use Rattle.upd_compile.specs.declared.mode.Mode.{Mode}
 use Rattle.upd_compile.specs.File.{FileView, compile_file_of}
-use Rattle.upd_laws.proofs.SoundListLemmas.{all_weaker, and_left, and_right}
+use Rattle.upd_laws.proofs.SoundListLemmas.{and_left, and_right}
 use Rattle.upd_laws.proofs.SoundRunLemmas.{run_goes}
 use Rattle.upd_row_store.specs.Tables.{committed}
 use Rattle.upd_yank.specs.Affected.{affected, altered}
@@ -37,39 +36,6 @@ use Rattle.upd_desk.specs.Made.{IsMade, LeadTo, looked_at}
 use Rattle.upd_desk.specs.Outcomes.{Compiled, compiled, outcome, outcome_by}
 use Rattle.upd_desk.proofs.RefusedLemmas.{least_refused}
 use Rattle.upd_desk.proofs.StoreLemmas.{commits_run}
-
--- ---- changes that tell statuses and counts alone
-
-fits_any : (c : ChangeView) → row_changes_state c ≡ true → FitsAny c
-fits_any (StatusNow card active) is = λ rows. tt
-fits_any (CountNow target n) is = λ rows. tt
-fits_any (IdentNew ident) is = absurd (cc)
-fits_any (IdentPurged age) is = absurd (cc)
-fits_any (CardNew card deck place body) is = absurd (cc)
-fits_any (CardGone card) is = absurd (cc)
-fits_any (CardsMoved deck from by) is = absurd (cc)
-fits_any (EntryNew card ord entry) is = absurd (cc)
-fits_any (EntriesGone card) is = absurd (cc)
-fits_any (TargetNew card ord target) is = absurd (cc)
-fits_any (TargetsGone card targets) is = absurd (cc)
-
-shows_still : (c : ChangeView) (rows : Rows) (l : LibraryView) → row_changes_state c ≡ true → Shows rows l → Shows (done c rows) l
-shows_still (StatusNow card active) rows l is shows = record { idents = shows.idents; cards = shows.cards; entries = shows.entries; targets = shows.targets }
-shows_still (CountNow target n) rows l is shows = record { idents = shows.idents; cards = shows.cards; entries = shows.entries; targets = shows.targets }
-shows_still (IdentNew ident) rows l is shows = absurd (cc)
-shows_still (IdentPurged age) rows l is shows = absurd (cc)
-shows_still (CardNew card deck place body) rows l is shows = absurd (cc)
-shows_still (CardGone card) rows l is shows = absurd (cc)
-shows_still (CardsMoved deck from by) rows l is shows = absurd (cc)
-shows_still (EntryNew card ord entry) rows l is shows = absurd (cc)
-shows_still (EntriesGone card) rows l is shows = absurd (cc)
-shows_still (TargetNew card ord target) rows l is shows = absurd (cc)
-shows_still (TargetsGone card targets) rows l is shows = absurd (cc)
-
-all_show_still : (cs : List ChangeView) (rows : Rows) (l : LibraryView) → AllByRecursion (λ c. row_changes_state c ≡ true) cs → Shows rows l
-    → Shows (done_all cs rows) l
-all_show_still [] rows l only shows = shows
-all_show_still (c ∷ cs) rows l only shows = all_show_still cs (done c rows) l only.1 (shows_still c rows l only.0 shows)
 
 -- ---- the cards of `YANK$$$` are few
 
@@ -124,9 +90,9 @@ module _ (lines : List LineView) (l loaded : LibraryView) (reached : Reached) (r
       let goes = run_goes lines l reached of_run.applied in
       subst (λ cs. LeadTo cs rows reached.library) (sym both) (record {
         fit = fit_append first second rows (fit_row_changes l reached.library first made.sound goes of_run.row_changes rows shows)
-            (any_fit second (done_all first rows) (all_weaker (λ c. row_changes_state c ≡ true) FitsAny second fits_any only));
+            (states_fit second (done_all first rows) only);
         library = subst (λ (x : Rows). Shows x reached.library) (sym carried)
-            (all_show_still second (done_all first rows) reached.library only
+            (shows_stay second (done_all first rows) reached.library only
             (shown_by_row_changes l reached.library first made.sound goes of_run.row_changes rows shows));
         states = subst (λ (x : Rows). ShowsStates x reached.library) (sym carried) states;
       })

@@ -79,7 +79,7 @@ standing_no_yanks (card ∷ cards) l sound all = go (stands_in_deck l card) refl
 
 -- ---- one deck holds a card, at most
 
-among_own : (z : ℕ) → is_among (z ∷ []) z ≡ true
+pub among_own : (z : ℕ) → is_among (z ∷ []) z ≡ true
 among_own z = let same : (z == z) ≡ true = grind (arith, nat_tests) in rw same refl
 
 -- a test that passes less keeps no more

@@ -4,6 +4,7 @@ use Rattle.std.proofs.Common.{refl, ap, sym, ◌∙◌, arith}
 use Rattle.std.specs.Cmp.{booleans_Decides}
 use Rattle.std.specs.List.{filter, list_any}
 use Rattle.std.proofs.Math.Bool.{beq}
+use Rattle.std.proofs.lemmas.Bool.{and_parts}
 use Rattle.std.proofs.lemmas.Bool.Decides.{nat_tests}
 use Rattle.std.proofs.lemmas.List.Sums.{length-filter}
 use Rattle.upd_text.specs.declared.card_ref.CardRef.{CardRef}
@@ -60,10 +61,6 @@ module _ {A : Type 0} (test : A → Bool) (xs ys : List A) (same : IsSame xs ys)
 
 -- ---- statuses
 
-both : (a b : Bool) → (a && b) ≡ true → (a ≡ true) × (b ≡ true)
-both true b holds = (refl, holds)
-both false b holds = absurd (cc)
-
 abbrev is_status : CardRef → Bool → CardRef × Bool → Bool
 is_status card active p = same_ref card p.0 && beq p.1 active
 
@@ -72,7 +69,7 @@ own_status card active = rw (same_ref_own card, (booleans_Decides active active)
 
 one_status : (card : CardRef) (active : Bool) (p : CardRef × Bool) → is_status card active p ≡ true → p ≡ (card, active)
 one_status card active p e =
-    let two = both (same_ref card p.0) (beq p.1 active) e in
+    let two = and_parts (same_ref card p.0) (beq p.1 active) e in
     pair_is p.0 card p.1 active (sym (same_ref_is card p.0 two.0)) ((booleans_Decides p.1 active).0 two.1)
   where
     pair_is : (a b : CardRef) (x y : Bool) → a ≡ b → x ≡ y → (let p : CardRef × Bool = (a, x) in p) ≡ (b, y)
@@ -145,7 +142,7 @@ own_count target n = let same : (n == n) ≡ true = grind (arith, nat_tests) in 
 
 one_count : (target : Target) (n : ℕ) (p : Target × ℕ) → is_count target n p ≡ true → p ≡ (target, n)
 one_count target n p e =
-    let two = both (is_same target p.0) (p.1 == n) e in
+    let two = and_parts (is_same target p.0) (p.1 == n) e in
     pair_is p.0 target p.1 n (sym (same_target target p.0 two.0)) (equal two.1)
   where
     equal : (p.1 == n) ≡ true → p.1 ≡ n

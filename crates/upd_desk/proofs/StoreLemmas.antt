@@ -1,15 +1,12 @@
 -- What calls of a store, one after the other, make of what it keeps.
-use Rattle.std.proofs.Common.{◌≡◌, ◌⊎◌, List, None, inl, inr, ap, subst}
-use Rattle.upd_text.specs.declared.fault.Fault.{Fault}
-use Rattle.upd_text.specs.declared.fault.FaultKind.TheVariants.{NoMemory}
-use Rattle.upd_text.specs.Faults.{fault_at}
+use Rattle.std.proofs.Common.{◌⊎◌, List, None, inl, inr, subst}
 use Rattle.upd_records.specs.Rows.{RunView, Rows, Shows, ShowsStates}
 use Rattle.upd_records.specs.Changes.{ChangeView}
 use Rattle.upd_records.specs.Fits.{AllFit}
 use Rattle.upd_core.specs.Library.{LibraryView}
 use Rattle.upd_compile.specs.declared.mode.Mode.{Mode}
 use Rattle.upd_row_store.specs.declared.meaning.Meaning.{Ghosts}
-use Rattle.upd_row_store.specs.Keeping.{IsLost, Keeps, OfMemory, Tries}
+use Rattle.upd_row_store.specs.Keeping.{Keeps, Tries}
 use Rattle.upd_row_store.specs.Tables.{committed}
 use Rattle.upd_row_store.proofs.StoreLemmas.{later_twice}
 use Rattle.upd_row_store.proofs.TableLemmas.{shows_committed, states_committed, runs_committed, marks_stay}
@@ -33,10 +30,6 @@ commits_run mode a l cs rows leads = record {
     run : RunView
     run = run_of (record { arrival = a; mode = mode; carried = None }) (outcome mode a l).reply
 
--- out of memory leaves an arrival unanswered
-pub lost_memory : (f : Fault) → f ≡ fault_at NoMemory 0 → IsLost f
-lost_memory f is = OfMemory f (ap (λ g. g.kind) is) (ap (λ g. g.at) is)
-
 module _ {Image : Type 0} (shows : Image → Rows → Type 0) where
   -- what a commit of such changes writes is what a new run makes of the image
   pub becomes_by : (mode : Mode) (a : ArrivalView) (cs : List ChangeView) (run : RunView) (before later : Image)
@@ -54,13 +47,6 @@ module _ {S : Type 0} {meaning : Ghosts S} where
   open meaning use {Image, shows, image, is_open, is_honest, may_leave}
 
   -- a call that only reads tries nothing
-  pub keeps_as_run : (mode : Mode) (a : ArrivalView) (old new : S) → Keeps meaning old new
-      → TriesRun meaning mode a old new
-  keeps_as_run mode a old new keeps = record {
-    later = keeps.later;
-    crash = λ honest i may. inl (keeps.crash honest i may);
-  }
-
   -- a commit after calls that only read tries to keep a run, where the changes fit and lead to what the run makes of the tables
   pub commit_as_run : (mode : Mode) (a : ArrivalView) (cs : List ChangeView) (run : RunView) (old mid new : S)
       → Keeps meaning old mid

@@ -34,7 +34,7 @@ use Rattle.upd_laws.proofs.SoundListLemmas.{all_filter}
 use Rattle.upd_laws.proofs.SoundRunLemmas.{run_goes, run_sound}
 use Rattle.upd_yank.proofs.FindLemmas.{cards_found}
 use Rattle.upd_yank.proofs.KeptLemmas.{same_name}
-use Rattle.upd_yank.proofs.RefLemmas.{one_ref}
+use Rattle.upd_diff.proofs.GoneLemmas.{same_ref_is}
 use Rattle.upd_yank.proofs.RenewLemmas.{all_passed}
 use Rattle.upd_yank.proofs.StateLemmas.{all_counted}
 use Rattle.upd_yank.specs.Affected.{affected, is_touched}
@@ -146,7 +146,7 @@ untouched l m d c sound in_decks in_cards same =
         same_ref (ref_of m.idents c) (ref_of m.idents b) ≡ false
     other j e at k b there new false f = f
     other j e at k b there new true f =
-        let one = one_ref (ref_of m.idents c) (ref_of m.idents b) f in
+        let one = same_ref_is (ref_of m.idents c) (ref_of m.idents b) f in
         let index = contained_at (all_decks m) d in_decks in
         let place = contained_at d.cards c in_cards in
         let card : c ≡ b = one_card m c b sound (in_flat (all_decks m) index.0 d place.0 c index.1 place.1) (in_flat (all_decks m) j e k b at there) one in

@@ -1,39 +1,28 @@
 -- The decks that have the cards which a run names are all that it needs.
-use Rattle.std.proofs.Common.{◌≡◌, ℕ, zero, suc, Bool, true, false, not, ◌&&◌, ◌||◌, List, [], ◌∷◌, map, Some, refl, sym, ◌∙◌, subst}
+use Rattle.std.proofs.Common.{◌≡◌, ℕ, Bool, true, false, not, ◌&&◌, List, [], ◌∷◌, map, Some, refl, sym, ◌∙◌, subst}
 use Rattle.std.proofs.Common.{arith}
 use Rattle.std.proofs.lemmas.Bool.Decides.{nat_tests}
 use Rattle.std.specs.Prelude.{◌==◌, length, nat_le, slice_get}
-use Rattle.std.specs.List.{filter, find, list_any, AllByRecursion}
+use Rattle.std.specs.List.{filter, find, AllByRecursion}
 use Rattle.std.specs.Option.{option_map_or}
 use Rattle.upd_text.specs.declared.card_ref.CardRef.{CardRef}
 use Rattle.upd_core.specs.declared.ident.Ident.{Ident}
 use Rattle.upd_core.specs.declared.library.Place.{Place}
 use Rattle.upd_core.specs.Edits.{is_among}
-use Rattle.upd_core.specs.Library.{CardView, DeckView, LibraryView, card_in, cards_of, is_deck, place_of, ref_of}
+use Rattle.upd_core.specs.Library.{CardView, DeckView, LibraryView, card_in, is_deck, place_of, ref_of}
 use Rattle.upd_core.specs.Sound.{IsSound}
-use Rattle.upd_core.specs.Parts.{part}
 use Rattle.upd_core.proofs.ApartLemmas.{all_by_index}
 use Rattle.upd_core.proofs.FoundLemmas.{card_of_place}
 use Rattle.upd_records.specs.Rows.{same_ref}
 use Rattle.upd_diff.proofs.GoneLemmas.{same_ref_own}
+use Rattle.upd_diff.proofs.StateLemmas.{any_of}
 use Rattle.upd_deck.specs.Items.{LineView}
 use Rattle.upd_row_store.specs.Asked.{decks_with, holds_one, is_asked}
 use Rattle.upd_laws.proofs.SoundListLemmas.{all_each, all_weaker, same_number}
-use Rattle.upd_partial.proofs.NeedLemmas.{not_in}
-use Rattle.upd_partial.proofs.PartLemmas.{cards_same, place_same}
 use Rattle.upd_partial.specs.Needed.{cards_named}
 use Rattle.upd_partial.specs.Needless.{NamesNone, cards_of_item, is_left_out}
 
 -- ---- a card that is asked for is in a deck
-
-any_at : {A : Type 0} (test : A → Bool) (xs : List A) (k : ℕ) (x : A) → slice_get xs k ≡ Some x → test x ≡ true → list_any test xs ≡ true
-any_at test [] k x e pass = absurd (cc)
-any_at test (y ∷ xs) zero x e pass = let same : y ≡ x = cc in let here : test y ≡ true = rw same pass in rw here refl
-any_at test (y ∷ xs) (suc k) x e pass = or_later (test y) (any_at test xs k x e pass)
-  where
-    or_later : (b : Bool) → list_any test xs ≡ true → (b || list_any test xs) ≡ true
-    or_later true later = refl
-    or_later false later = later
 
 -- these decks have one with a serial
 abbrev Tells : ℕ → List DeckView → Type 0
@@ -47,7 +36,7 @@ deck_changes cards idents [] z k c e asked = absurd (cc)
 deck_changes cards idents (d ∷ ds) z k c e asked = go (d.ident == z) refl (holds_one cards idents d) refl (λ e. deck_changes cards idents ds z k c e asked)
   where
     here : (d.ident == z) ≡ true → holds_one cards idents d ≡ true
-    here own = any_at (λ c. is_asked cards (ref_of idents c)) d.cards k c (rw own at e) asked
+    here own = any_of (λ c. is_asked cards (ref_of idents c)) d.cards k c (rw own at e) asked
 
     go : (own : Bool) → (d.ident == z) ≡ own → (holds : Bool) → holds_one cards idents d ≡ holds
         → (slice_get (option_map_or (λ (d : DeckView). d.cards) (find (is_deck z) ds) []) k ≡ Some c → Tells z (filter (holds_one cards idents) ds))
@@ -59,7 +48,7 @@ deck_changes cards idents (d ∷ ds) z k c e asked = go (d.ident == z) refl (hol
 
 -- a card that is asked for is asked for by its own reference
 asked_own : (cards : List CardRef) (k : ℕ) (card : CardRef) → slice_get cards k ≡ Some card → is_asked cards card ≡ true
-asked_own cards k card e = any_at (λ c. same_ref c card) cards k card e (same_ref_own card)
+asked_own cards k card e = any_of (λ c. same_ref c card) cards k card e (same_ref_own card)
 
 -- the deck of a card that is asked for is `YANK$$$`, or among those returned
 pub row_changes_or_yank : (cards : List CardRef) (l : LibraryView) (card : CardRef) (p : Place) → IsSound l → is_asked cards card ≡ true
@@ -101,16 +90,7 @@ others_unnamed lines l sound = all_weaker _ _ lines (λ line all. all_weaker _ _
 
 -- ---- only one card
 
--- the part with the decks that have a card finds it where the whole does
-pub card_placed : (card : CardRef) (l : LibraryView) → IsSound l
-    → place_of card (part (is_left_out (decks_with (card ∷ []) l) l) l) ≡ place_of card l
-card_placed card l sound =
-    place_same (is_left_out (decks_with (card ∷ []) l) l) l card refl (not_in (is_left_out (decks_with (card ∷ []) l) l) l card sound
-    (λ p at. row_changes_or_yank (card ∷ []) l card p sound (asked_own (card ∷ []) 0 card refl) at))
-
--- and its deck has the same cards there
-pub card_deck_kept : (card : CardRef) (l : LibraryView) (p : Place) → IsSound l → place_of card l ≡ Some p
-    → cards_of p.deck (part (is_left_out (decks_with (card ∷ []) l) l) l) ≡ cards_of p.deck l
-card_deck_kept card l p sound at =
-    cards_same (is_left_out (decks_with (card ∷ []) l) l) p.deck l
-    (row_changes_or_yank (card ∷ []) l card p sound (asked_own (card ∷ []) 0 card refl) at)
+-- its deck is among those that have it, or is `YANK$$$`
+pub card_kept : (card : CardRef) (l : LibraryView) → IsSound l → (p : Place) → place_of card l ≡ Some p
+    → is_left_out (decks_with (card ∷ []) l) l p.deck ≡ false
+card_kept card l sound p at = row_changes_or_yank (card ∷ []) l card p sound (asked_own (card ∷ []) 0 card refl) at

@@ -34,7 +34,8 @@ use Rattle.upd_apply.specs.Applying.{Reached, applied}
 use Rattle.upd_laws.proofs.SoundListLemmas.{all_both, all_flat, all_weaker}
 use Rattle.upd_laws.proofs.SoundRunLemmas.{run_goes, run_sound}
 use Rattle.upd_yank.proofs.FindLemmas.{cards_found}
-use Rattle.upd_yank.proofs.RefLemmas.{one_ref, same_ref_sym}
+use Rattle.upd_diff.proofs.GoneLemmas.{same_ref_is}
+use Rattle.upd_yank.proofs.RefLemmas.{same_ref_sym}
 use Rattle.upd_yank.proofs.RenewLemmas.{all_passed}
 use Rattle.upd_partial.specs.Needless.{DoesWithout, NamesNone, left_out}
 use Rattle.upd_partial.proofs.AppliedLemmas.{applied_left}
@@ -285,7 +286,7 @@ module _ (out : ℕ → Bool) (lines : List LineView) (l : LibraryView) (reached
   shows_in rows shows = record { states = λ r. go r (status_of r (part out l)) refl; counts = shows.counts }
     where
       of_row : (r : CardRef) (s : StateRow) → same_ref r s.card ≡ true → is_other s ≡ not (is_some (status_of r (part out l)))
-      of_row r s looked = ap (λ x. not (is_some (status_of x (part out l)))) (sym (one_ref r s.card looked))
+      of_row r s looked = ap (λ x. not (is_some (status_of x (part out l)))) (sym (same_ref_is r s.card looked))
 
       go : (r : CardRef) (o : Option Bool) → status_of r (part out l) ≡ o → of_card r (rows_in rows) ≡ state_rows r (status_of r (part out l))
       go r None e =

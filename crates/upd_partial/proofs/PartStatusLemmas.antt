@@ -14,7 +14,7 @@ use Rattle.upd_core.proofs.ApartLemmas.{all_at, at_contained, contained_at}
 use Rattle.upd_core.proofs.FoundLemmas.{place_at, status_at}
 use Rattle.upd_records.specs.Rows.{same_ref}
 use Rattle.upd_yank.proofs.FindLemmas.{any_at}
-use Rattle.upd_yank.proofs.RefLemmas.{one_ref}
+use Rattle.upd_diff.proofs.GoneLemmas.{same_ref_is}
 use Rattle.upd_yank.proofs.StateLemmas.{all_counted, status_there}
 use Rattle.upd_partial.proofs.NeedLemmas.{among, not_in}
 use Rattle.upd_partial.proofs.PartLemmas.{cards_same, kept_all, place_same}
@@ -45,7 +45,7 @@ other_ref out l r p sound yanks at left d c in_decks in_cards = go (same_ref (re
         let there = deck_of_part out l d yanks in_decks in
         let place = contained_at d.cards c in_cards in
         let found : place_of r l ≡ Some (record { deck = d.ident; index = place.0 }) =
-        ap (λ x. place_of x l) (sym (one_ref (ref_of l.idents c) r e)) ∙ place_at l d place.0 c sound there.0 place.1 in
+        ap (λ x. place_of x l) (sym (same_ref_is (ref_of l.idents c) r e)) ∙ place_at l d place.0 c sound there.0 place.1 in
         let deck : p.deck ≡ d.ident = ap (λ (q : Place). q.deck) (same_Some _ _ (sym at ∙ found)) in
         absurd (let q = sym left ∙ ap out deck ∙ there.1 in cc)
 
@@ -71,7 +71,7 @@ status_in_part out l card sound yanks = go (list_any (λ k. same_ref k.card card
     there : (i : ℕ) × (k : CountedCardView) × (slice_get (counted_cards (part out l)) i ≡ Some k) × (same_ref k.card card ≡ true)
         → status_of card (part out l) ≡ status_of card l
     there (i, k, at, is) =
-        subst (λ r. status_of r (part out l) ≡ status_of r l) (one_ref k.card card is)
+        subst (λ r. status_of r (part out l) ≡ status_of r l) (same_ref_is k.card card is)
         (all_at (λ k. status_of k.card (part out l) ≡ status_of k.card l) (counted_cards (part out l)) i k (same_statuses out l sound yanks) at)
 
     go : (b : Bool) → list_any (λ k. same_ref k.card card) (counted_cards (part out l)) ≡ b

@@ -16,7 +16,7 @@ use Rattle.upd_records.specs.Changes.{StatusNow, CountNow, done, done_all, with_
 use Rattle.upd_records.proofs.StatusLemmas.{status_set}
 use Rattle.upd_records.specs.Rows.{CountRow, Rows, StateRow, count_rows, same_ref, state_rows}
 use Rattle.upd_diff.proofs.StateLemmas.{filter_gone, filter_kept, states_gone, states_kept}
-use Rattle.upd_yank.proofs.RefLemmas.{one_ref}
+use Rattle.upd_diff.proofs.GoneLemmas.{same_ref_is}
 
 -- ---- changes that set statuses and counts of a library
 
@@ -69,7 +69,7 @@ state_change : (l : LibraryView) (r k : CardRef) (a : Bool) (xs : List StateRow)
     filter (λ s. same_ref r s.card) (with_status k a xs)
     ≡ cond b (state_rows r (status_of r l)) (filter (λ s. same_ref r s.card) xs)
 state_change l r k a xs right true e =
-    let one : r ≡ k = one_ref r k e in
+    let one : r ≡ k = same_ref_is r k e in
     status_set r k a xs
     ∙ filter-append (λ s. same_ref r s.card) (filter (λ s. not (same_ref k s.card)) xs) (record { card = k; active = a } ∷ [])
     ∙ (λ i. states_gone r k xs e i ++ cond (e i) (record { card = k; active = a } ∷ []) [])

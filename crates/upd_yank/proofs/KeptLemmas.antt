@@ -3,7 +3,7 @@ use Rattle.std.proofs.Common.{◌≡◌, ℕ, zero, suc, ◌-◌, ◌<◌, Bool,
 use Rattle.std.proofs.Common.{arith}
 use Rattle.std.specs.Prelude.{◌==◌, ◌⊎◌}
 use Rattle.std.specs.List.{list_any, filter, flat_map, AllByRecursion, Contains}
-use Rattle.std.proofs.lemmas.Bool.{or_parts}
+use Rattle.std.proofs.lemmas.Bool.{and_parts, or_parts}
 use Rattle.std.proofs.lemmas.Bool.Decides.{nat_tests, Decides-eqb}
 use Rattle.std.proofs.lemmas.List.Folds.{list_any-append}
 use Rattle.std.proofs.lemmas.Option.{same_Some}
@@ -21,7 +21,8 @@ use Rattle.upd_apply.specs.Applying.{same_history, stood_in, touched}
 use Rattle.upd_records.specs.Rows.{same_ref}
 use Rattle.upd_yank.proofs.FindLemmas.{any_at, cards_found}
 use Rattle.upd_yank.proofs.FlipLemmas.{status_is}
-use Rattle.upd_yank.proofs.RefLemmas.{ref_same}
+use Rattle.upd_diff.proofs.ComeLemmas.{same_entry_is}
+use Rattle.upd_diff.proofs.GoneLemmas.{same_ref_own}
 use Rattle.upd_yank.specs.Affected.{is_touched, status_before}
 use Rattle.upd_yank.specs.Cascade.{is_active_by}
 
@@ -60,34 +61,17 @@ untouched_stood old new d c in_decks in_cards none =
     let cards = none_listed (same_ref r) (ref_of new.idents) (λ c. not (stood_in (cards_of d.ident old) c)) d.cards here in
     let card = all_of_contained (λ (x : CardView). not (stood_in (cards_of d.ident old) x) ≡ true →
     same_ref r (ref_of new.idents x) ≡ false) d.cards c cards in_cards in
-    not_false (stood_in (cards_of d.ident old) c) (λ h. sym (ref_same r) ∙ card h)
+    not_false (stood_in (cards_of d.ident old) c) (λ h. sym (same_ref_own r) ∙ card h)
 
 -- ---- the same history
-
-and_both : (a b : Bool) → (a && b) ≡ true → (a ≡ true) × (b ≡ true)
-and_both true b e = (refl, e)
-and_both false b e = absurd (cc)
-
-abbrev entry : ℕ → Bool → Entry
-entry x a = record { ident = x; active = a }
-
-same_parts : (x y : ℕ) (a b : Bool) → same_entry (entry x a) (entry y b) ≡ true →
-    entry x a ≡ entry y b
-same_parts x y true true e = let p = (Decides-eqb x y).0 (and_both (x == y) true e).0 in λ i. record { ident = p i; active = true }
-same_parts x y true false e = absurd (let p = (and_both (x == y) false e).1 in cc)
-same_parts x y false true e = absurd (let p = (and_both (x == y) false e).1 in cc)
-same_parts x y false false e = let p = (Decides-eqb x y).0 (and_both (x == y) true e).0 in λ i. record { ident = p i; active = false }
-
-same_entries : (e f : Entry) → same_entry e f ≡ true → e ≡ f
-same_entries e f is = same_parts e.ident f.ident e.active f.active is
 
 same_histories : (es fs : List Entry) → same_history es fs ≡ true → es ≡ fs
 same_histories [] [] e = refl
 same_histories [] (f ∷ fs) e = absurd (cc)
 same_histories (e ∷ es) [] is = absurd (cc)
 same_histories (e ∷ es) (f ∷ fs) is =
-    let both = and_both (same_entry e f) (same_history es fs) is in
-    let head = same_entries e f both.0 in let rest = same_histories es fs both.1 in λ i. head i ∷ rest i
+    let both = and_parts (same_entry e f) (same_history es fs) is in
+    let head = same_entry_is e f both.0 in let rest = same_histories es fs both.1 in λ i. head i ∷ rest i
 
 -- ---- a name stays
 
@@ -123,8 +107,8 @@ pub stood_status : (old new : LibraryView) (d : DeckView) (c : CardView) → IsS
 stood_status old new d c sound on stood =
     let at = any_at (λ b. is_card c.ident c.number b && same_history b.history c.history) (cards_of d.ident old) stood in
     let b = at.1 in
-    let both = and_both (is_card c.ident c.number b) (same_history b.history c.history) at.3 in
-    let key = and_both (b.ident == c.ident) (b.number == c.number) both.0 in
+    let both = and_parts (is_card c.ident c.number b) (same_history b.history c.history) at.3 in
+    let key = and_parts (b.ident == c.ident) (b.number == c.number) both.0 in
     let ident : b.ident ≡ c.ident = (Decides-eqb b.ident c.ident).0 key.0 in
     let number : b.number ≡ c.number = (Decides-eqb b.number c.number).0 key.1 in
     let history : b.history ≡ c.history = same_histories b.history c.history both.1 in
@@ -159,8 +143,8 @@ stood_before : (old : LibraryView) (d : ℕ) (c : CardView) → IsSound old → 
 stood_before old d c sound stood =
     let at = any_at (λ b. is_card c.ident c.number b && same_history b.history c.history) (cards_of d old) stood in
     let b = at.1 in
-    let both = and_both (is_card c.ident c.number b) (same_history b.history c.history) at.3 in
-    let key = and_both (b.ident == c.ident) (b.number == c.number) both.0 in
+    let both = and_parts (is_card c.ident c.number b) (same_history b.history c.history) at.3 in
+    let key = and_parts (b.ident == c.ident) (b.number == c.number) both.0 in
     let ident : b.ident ≡ c.ident = (Decides-eqb b.ident c.ident).0 key.0 in
     let number : b.number ≡ c.number = (Decides-eqb b.number c.number).0 key.1 in
     let history : b.history ≡ c.history = same_histories b.history c.history both.1 in

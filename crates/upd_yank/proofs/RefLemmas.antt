@@ -1,8 +1,5 @@
 -- Sets and maps by card reference.
-use Rattle.std.proofs.Common.{◌≡◌, Bool, true, false, ◌&&◌, ◌||◌, List, cond, if◌then◌else◌, None, Some, refl, ap, sym, ◌∙◌}
-use Rattle.std.specs.Prelude.{◌==◌}
-use Rattle.std.proofs.lemmas.Bool.Decides.{Decides-eqb}
-use Rattle.std.proofs.lemmas.Slice.Eq.{bytes_eq-Decides}
+use Rattle.std.proofs.Common.{◌≡◌, Bool, true, false, ◌||◌, List, cond, if◌then◌else◌, None, Some, refl, ap, sym, ◌∙◌}
 use Rattle.std.specs.BTreeMap as tree
 use Rattle.std.specs.BTreeMap.{BTreeMap, is_at}
 use Rattle.std.specs.BTreeSet as sorted
@@ -10,27 +7,12 @@ use Rattle.std.specs.BTreeSet.{BTreeSet}
 use Rattle.std.specs.List.{list_any}
 use Rattle.std.specs.Map.{lookup, update_all}
 use Rattle.std.specs.Ordering.{eq_by_cmp, is_eq}
-use Rattle.std.specs.Str.{bytes_eq}
 use Rattle.upd_text.proofs.OrderLemmas.{is_same-is_eq}
 use Rattle.upd_text.specs.contracts.card_ref.CardRefOrd.TheImpl as order
 use Rattle.upd_text.specs.declared.card_ref.CardRef.{CardRef}
 use Rattle.upd_records.specs.Rows.{same_ref}
+use Rattle.upd_diff.proofs.GoneLemmas.{same_ref_is, same_ref_own}
 use Rattle.upd_yank.specs.Right.{kept_status}
-
--- two references that are the same are one
-pub one_ref : (a b : CardRef) → same_ref a b ≡ true → a ≡ b
-one_ref a b e = go (bytes_eq a.name b.name) refl (a.number == b.number) refl e
-  where
-    go : (x : Bool) → bytes_eq a.name b.name ≡ x → (y : Bool) → (a.number == b.number) ≡ y → (x && y) ≡ true → a ≡ b
-    go true f true g e =
-        let name : a.name ≡ b.name = (bytes_eq-Decides a.name b.name).0 f in
-        let number : a.number ≡ b.number = (Decides-eqb a.number b.number).0 g in
-        λ i. record { name = name i; number = number i }
-    go true f false g e = absurd (cc)
-    go false f y g e = absurd (cc)
-
-pub ref_same : (a : CardRef) → same_ref a a ≡ true
-ref_same a = rw ((bytes_eq-Decides a.name a.name).1 refl, (Decides-eqb a.number a.number).1 refl) refl
 
 pub same_ref_sym : (a b : CardRef) → same_ref a b ≡ same_ref b a
 same_ref_sym a b = go (same_ref a b) refl (same_ref b a) refl
@@ -38,8 +20,8 @@ same_ref_sym a b = go (same_ref a b) refl (same_ref b a) refl
     go : (x : Bool) → same_ref a b ≡ x → (y : Bool) → same_ref b a ≡ y → same_ref a b ≡ same_ref b a
     go true e true f = e ∙ sym f
     go false e false f = e ∙ sym f
-    go true e false f = absurd (let p = one_ref a b e in let q = ap (λ x. same_ref x a) p in let r = ref_same a in cc)
-    go false e true f = absurd (let p = one_ref b a f in let q = ap (λ x. same_ref x b) p in let r = ref_same b in cc)
+    go true e false f = absurd (let p = same_ref_is a b e in let q = ap (λ x. same_ref x a) p in let r = same_ref_own a in cc)
+    go false e true f = absurd (let p = same_ref_is b a f in let q = ap (λ x. same_ref x b) p in let r = same_ref_own b in cc)
 
 -- the order of references is equal where they are the same
 pub same_by_order : (a b : CardRef) → is_eq ((order.ghosts).cmp a b) ≡ same_ref a b

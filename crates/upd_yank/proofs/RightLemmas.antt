@@ -5,7 +5,7 @@ use Rattle.std.specs.List.{list_any, filter, AllByRecursion}
 use Rattle.std.specs.Map.{update_all}
 use Rattle.std.proofs.lemmas.Bool.{or_parts}
 use Rattle.upd_core.proofs.ApartLemmas.{all_by_index}
-use Rattle.upd_yank.proofs.RefLemmas.{ref_same}
+use Rattle.upd_diff.proofs.GoneLemmas.{same_ref_own}
 use Rattle.upd_core.specs.Counted.{CountedCardView, counted_card, counted_cards, others_of, yanks_of}
 use Rattle.upd_core.specs.declared.target.Target.{Target}
 use Rattle.upd_core.specs.Library.{LibraryView}
@@ -288,9 +288,9 @@ all_touched l none first set ys os yanks others one two =
     all_both (λ k. is_touched set k ≡ true) (yanks_of l) (others_of l)
     (all_by_index (yanks_of l) (λ i k at. two k.card ∙ ap (λ b. b || list_any (λ x. same_ref k.card x.card) os) (one k.card
     ∙ later (list_any (same_ref k.card) none) (list_any (λ x. same_ref k.card x.card) ys)
-    (ap (list_any (λ x. same_ref k.card x.card)) yanks ∙ any_of (λ x. same_ref k.card x.card) (yanks_of l) i k at (ref_same k.card)))))
+    (ap (list_any (λ x. same_ref k.card x.card)) yanks ∙ any_of (λ x. same_ref k.card x.card) (yanks_of l) i k at (same_ref_own k.card)))))
     (all_by_index (others_of l) (λ i k at. two k.card ∙ later (list_any (same_ref k.card) first) (list_any (λ x. same_ref k.card x.card) os)
-    (ap (list_any (λ x. same_ref k.card x.card)) others ∙ any_of (λ x. same_ref k.card x.card) (others_of l) i k at (ref_same k.card))))
+    (ap (list_any (λ x. same_ref k.card x.card)) others ∙ any_of (λ x. same_ref k.card x.card) (others_of l) i k at (same_ref_own k.card))))
   where
     later : (a b : Bool) → b ≡ true → (a || b) ≡ true
     later true b e = refl

@@ -9,7 +9,8 @@ use Rattle.upd_core.specs.declared.target.Target.{Target}
 use Rattle.upd_core.specs.Targets.{is_same}
 use Rattle.upd_records.specs.Rows.{same_ref}
 use Rattle.upd_text.specs.declared.card_ref.CardRef.{CardRef}
-use Rattle.upd_yank.proofs.RefLemmas.{ref_same, same_ref_sym}
+use Rattle.upd_diff.proofs.GoneLemmas.{same_ref_own}
+use Rattle.upd_yank.proofs.RefLemmas.{same_ref_sym}
 use Rattle.upd_yank.specs.Right.{count_pairs, put_counts, status_pairs}
 
 -- ---- statuses
@@ -43,7 +44,7 @@ status_put ps f r o none shown = update_own ps f r ∙ ap (λ x. update_all same
   where
     go : (o : Option Bool) → update_all same_ref f (status_pairs r o) r ≡ o
     go None = none
-    go (Some s) = ap (λ b. cond b (Some s) (f r)) (ref_same r)
+    go (Some s) = ap (λ b. cond b (Some s) (f r)) (same_ref_own r)
 
 -- ---- counts
 

@@ -20,7 +20,7 @@ use Rattle.upd_records.specs.Rows.{same_ref}
 use Rattle.upd_text.specs.declared.card_ref.CardRef.{CardRef}
 use Rattle.upd_yank.proofs.FlipLemmas.{status_is}
 use Rattle.upd_yank.proofs.FindLemmas.{any_at, cards_found}
-use Rattle.upd_yank.proofs.RefLemmas.{one_ref, ref_same}
+use Rattle.upd_diff.proofs.GoneLemmas.{same_ref_is, same_ref_own}
 use Rattle.upd_yank.proofs.WorkLemmas.{HasStatus, IsListed, all_both, is_found}
 use Rattle.upd_yank.specs.Cascade.{is_active_by, stay}
 
@@ -70,7 +70,7 @@ card_there l r p sound e =
     let named = card_of_place l r p sound e in
     let c = named.0 in
     let deck = cards_found l p.deck p.index c named.1 in
-    let same : same_ref (ref_of l.idents c) r ≡ true = ap (same_ref (ref_of l.idents c)) (sym named.2) ∙ ref_same (ref_of l.idents c) in
+    let same : same_ref (ref_of l.idents c) r ≡ true = ap (same_ref (ref_of l.idents c)) (sym named.2) ∙ same_ref_own (ref_of l.idents c) in
     none_of r l (list_any (λ k. same_ref k.card r) (counted_cards l)) refl (λ none. let others = none_by_card r (counted_cards l) none in
     let here = there l (λ k. same_ref k.card r ≡ false) deck.0 c deck.1 deck.3 others in absurd (let q = sym same ∙ here in cc))
   where
@@ -116,7 +116,7 @@ put_all l [] had r right rest = rest refl
 put_all l (p ∷ ps) had r right rest = put_all l ps (update same_ref had p.0 (Some p.1)) r right.1 (next (same_ref p.0 r) refl)
   where
     next : (b : Bool) → same_ref p.0 r ≡ b → is_found ps r ≡ false → cond (same_ref p.0 r) (Some p.1) (had r) ≡ status_of r l
-    next true e none = rw e (sym right.0 ∙ ap (λ x. status_of x l) (one_ref p.0 r e))
+    next true e none = rw e (sym right.0 ∙ ap (λ x. status_of x l) (same_ref_is p.0 r e))
     next false e none = rw e (rest (rw e none))
 
 -- ---- what stays
@@ -151,7 +151,7 @@ had_status l due known found r had listed none there = at (any_at (λ k. same_re
     at : (i : ℕ) × (k : CountedCardView) × (slice_get (counted_cards l) i ≡ Some k) × (same_ref k.card r ≡ true) → known r ≡ status_of r l
     at found_card =
         let k = found_card.1 in
-        let same : k.card ≡ r = one_ref k.card r found_card.3 in
+        let same : k.card ≡ r = same_ref_is k.card r found_card.3 in
         let undue = not_due k (all_at (IsListed due found) (counted_cards l) found_card.0 k listed found_card.2) same (due k) refl in
         sym (ap known same) ∙ all_at (HadStatus l due known) (counted_cards l) found_card.0 k had found_card.2 undue ∙ ap (λ x. status_of x l) same
 
@@ -189,7 +189,7 @@ stay_right l due known now found r sound has had listed none = go (list_any (λ 
             stay known (others_of l) (stay known (yanks_of l) (λ _. None)) r ≡ status_of r l
         at found_card =
             let k = found_card.1 in
-            let same : k.card ≡ r = one_ref k.card r found_card.3 in
+            let same : k.card ≡ r = same_ref_is k.card r found_card.3 in
             let status = sym (ap (λ x. status_of x l) same) ∙ all_at (HasStatus l now) (counted_cards l) found_card.0 k has found_card.2 in
             two_stay known (list_any (λ k. same_ref k.card r) (yanks_of l)) (list_any (λ k. same_ref k.card r) (others_of l)) r (is_active_by now k.deck k.view)
             (sym parts ∙ e) (had_status l due known found r had listed none e ∙ status) ∙ sym status

@@ -18,7 +18,7 @@ use Rattle.upd_records.specs.Changes.{StatusNow, CountNow, done_all}
 use Rattle.upd_records.specs.Rows.{Rows, ShowsStates, count_rows, same_ref, state_rows}
 use Rattle.upd_diff.specs.States.{TakeGone, takes_card}
 use Rattle.upd_diff.proofs.StateLemmas.{counts_after, state_after}
-use Rattle.upd_yank.proofs.RefLemmas.{one_ref, ref_same}
+use Rattle.upd_diff.proofs.GoneLemmas.{same_ref_is, same_ref_own}
 use Rattle.upd_yank.proofs.UnflippedLemmas.{is_listed, unlisted}
 use Rattle.upd_yank.proofs.WorkLemmas.{all_both, is_found}
 use Rattle.upd_yank.specs.Affected.{is_other}
@@ -59,12 +59,12 @@ known_status l known (p ∷ ps) r right untold is =
         (is_found ps r ≡ true → known r ≡ status_of r l) → known r ≡ status_of r l
     go b e false f none later = later (rw f at is)
     go false e true f none later =
-        let one : p.0 ≡ r = one_ref p.0 r f in
+        let one : p.0 ≡ r = same_ref_is p.0 r f in
         ap known (sym one) ∙ not_other p.1 (known p.0) e ∙ sym right.0 ∙ ap (λ x. status_of x l) one
     go true e true f none later =
-        let one : p.0 ≡ r = one_ref p.0 r f in
+        let one : p.0 ≡ r = same_ref_is p.0 r f in
         let row_changes : (same_ref r p.0 || false) ≡ false = rw e at none in
-        let own : same_ref r p.0 ≡ true = ap (same_ref r) one ∙ ref_same r in
+        let own : same_ref r p.0 ≡ true = ap (same_ref r) one ∙ same_ref_own r in
         absurd (let q = sym (ap (λ b. b || false) own) ∙ row_changes in cc)
 
 -- ---- the statuses of cards that were inserted again
@@ -106,7 +106,7 @@ none_again now (c ∷ cs) r untold taken =
 
     gone : (k : CardRef) (b : Bool) → same_ref r k ≡ b → list_any (tells_status r) (status_of_card k (now k)) ≡ false →
         (b || list_any (takes_card r) cs) ≡ true → (list_any (takes_card r) cs ≡ true → now r ≡ None) → now r ≡ None
-    gone k true e untold taken later = ap now (one_ref r k e) ∙ none k (now k) e untold
+    gone k true e untold taken later = ap now (same_ref_is r k e) ∙ none k (now k) e untold
     gone k false e untold taken later = later taken
 
     one : (c : ChangeView) → list_any (tells_status r) (repeated_statuses now c) ≡ false → (takes_card r c || list_any (takes_card r) cs) ≡ true →

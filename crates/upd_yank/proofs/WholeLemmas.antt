@@ -13,7 +13,7 @@ use Rattle.upd_core.specs.Sound.{AreApart, IsSound, all_cards}
 use Rattle.upd_core.specs.Status.{status_of}
 use Rattle.upd_core.specs.TargetCounts.{live_count}
 use Rattle.upd_records.specs.Rows.{same_ref}
-use Rattle.upd_yank.proofs.RefLemmas.{one_ref}
+use Rattle.upd_diff.proofs.GoneLemmas.{same_ref_is}
 use Rattle.upd_yank.proofs.StateLemmas.{HadStatus, put_all, statuses_are, unfound_stayed}
 use Rattle.upd_yank.proofs.WorkLemmas.{HasStatus, IsListed, all_map}
 use Rattle.upd_yank.specs.Cascade.{is_active_by}
@@ -36,7 +36,7 @@ others_kept x z (y ∷ ys) other = go (same_ref x y.0) refl (same_ref z y.0) ref
   where
     go : (a : Bool) → same_ref x y.0 ≡ a → (b : Bool) → same_ref z y.0 ≡ b → kept_status (remove_entry (same_ref x) ys) z ≡ kept_status ys z →
         kept_status (cond a ys (y ∷ remove_entry (same_ref x) ys)) z ≡ kept_status (y ∷ ys) z
-    go true e true f later = absurd (other (one_ref x y.0 e ∙ sym (one_ref z y.0 f)))
+    go true e true f later = absurd (other (same_ref_is x y.0 e ∙ sym (same_ref_is z y.0 f)))
     go true e false f later = sym (ap (λ b. cond b (Some y.1) (kept_status ys z)) f)
     go false e b f later = ap (λ o. cond (same_ref z y.0) (Some y.1) o) later
 

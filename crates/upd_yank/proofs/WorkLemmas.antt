@@ -3,7 +3,7 @@ use Rattle.std.proofs.Common.{◌≡◌, ℕ, ◌≤◌, Bool, true, false, not,
 use Rattle.std.proofs.Common.{arith, length-append, append-nil}
 use Rattle.std.specs.Prelude.{◌==◌}
 use Rattle.std.specs.List.{list_any, filter, AllByRecursion}
-use Rattle.std.proofs.lemmas.Bool.{ne_eqb}
+use Rattle.std.proofs.lemmas.Bool.{ne_eqb, or_left, or_right}
 use Rattle.std.proofs.lemmas.List.Folds.{list_any-append}
 use Rattle.upd_core.specs.declared.card.Entry.{Entry}
 use Rattle.upd_core.specs.declared.target.Target.{Target}
@@ -17,7 +17,7 @@ use Rattle.upd_core.specs.Targets.{is_same}
 use Rattle.upd_records.specs.Rows.{same_ref}
 use Rattle.upd_text.specs.declared.card_ref.CardRef.{CardRef}
 use Rattle.upd_yank.proofs.FlipLemmas.{same_stays}
-use Rattle.upd_yank.proofs.RefLemmas.{ref_same}
+use Rattle.upd_diff.proofs.GoneLemmas.{same_ref_own}
 use Rattle.upd_yank.proofs.SettleLemmas.{count_behind, settled_is}
 use Rattle.upd_yank.specs.Cascade.{AreYanks, IsRightBefore, TakesNoYanks, found_of, found_others, found_yanks, is_active_by, is_due, is_taken_by, live_now, views}
 
@@ -208,24 +208,16 @@ is_found found r = list_any (λ p. same_ref p.0 r) found
 abbrev pub IsListed : (CountedCardView → Bool) → List (CardRef × Bool) → CountedCardView → Type 0
 IsListed due found k = due k ≡ true → is_found found k.card ≡ true
 
-or_true_left : (a b : Bool) → a ≡ true → (a || b) ≡ true
-or_true_left true b e = refl
-or_true_left false b e = absurd (cc)
-
-or_true_right : (a b : Bool) → b ≡ true → (a || b) ≡ true
-or_true_right true b e = refl
-or_true_right false b e = e
-
 pub listed_front : (due : CountedCardView → Bool) (xs ys : List (CardRef × Bool)) (k : CountedCardView) → IsListed due xs k → IsListed due (xs ++ ys) k
-listed_front due xs ys k listed = λ e. list_any-append (λ p. same_ref p.0 k.card) xs ys ∙ or_true_left (is_found xs k.card) (is_found ys k.card) (listed e)
+listed_front due xs ys k listed = λ e. list_any-append (λ p. same_ref p.0 k.card) xs ys ∙ or_left (is_found xs k.card) (is_found ys k.card) (listed e)
 
 pub listed_back : (due : CountedCardView → Bool) (xs ys : List (CardRef × Bool)) (k : CountedCardView) → IsListed due ys k → IsListed due (xs ++ ys) k
-listed_back due xs ys k listed = λ e. list_any-append (λ p. same_ref p.0 k.card) xs ys ∙ or_true_right (is_found xs k.card) (is_found ys k.card) (listed e)
+listed_back due xs ys k listed = λ e. list_any-append (λ p. same_ref p.0 k.card) xs ys ∙ or_right (is_found xs k.card) (is_found ys k.card) (listed e)
 
 listed_at : (touched : CountedCardView → Bool) (before now : Target → ℕ) (k : CountedCardView) →
     IsListed (is_due touched before now) (found_at touched before now k) k
 listed_at touched before now k = λ e. ap (λ b. is_found (if b then found_of now k ∷ [] else []) k.card) e
-    ∙ or_true_left (same_ref k.card k.card) false (ref_same k.card)
+    ∙ or_left (same_ref k.card k.card) false (same_ref_own k.card)
 
 pub all_listed_back : (touched : CountedCardView → Bool) (before now : Target → ℕ) (ks : List CountedCardView) →
     AllByRecursion (IsListed (is_due touched before now) (found_back touched before now ks)) ks

@@ -1,15 +1,16 @@
 -- A new run is kept by the commit alone: its changes lead the tables to what the run makes of them.
 use Rattle.std.proofs.Common.{ap, map, sym}
 use Rattle.upd_records.specs.Changes.{change_view}
+use Rattle.upd_row_store.proofs.KeepingLemmas.{memory_is_lost}
 use Rattle.upd_desk.proofs.LeadLemmas.{outcome_adds}
 use Rattle.upd_desk.proofs.LoadingLemmas.{read_no_more}
 use Rattle.upd_desk.proofs.RefusedLemmas.{error_is}
-use Rattle.upd_desk.proofs.StoreLemmas.{commit_as_run, commit_becomes, lost_memory}
+use Rattle.upd_desk.proofs.StoreLemmas.{commit_as_run, commit_becomes}
 use Rattle.upd_desk.proofs.arrive.keep_new.Goals as goal
 
 pub returns-in_err-run-clause-lost : goal.returns-in_err-run-clause-lost
 returns-in_err-run-clause-lost g c =
-    rw (error_is _ _ c.from_residual-in_err-run.ensures.1) (lost_memory c.in_err-run.field-0.0 c.in_err-run.ensures.lost)
+    rw (error_is _ _ c.from_residual-in_err-run.ensures.1) (memory_is_lost c.in_err-run.field-0.0 c.in_err-run.ensures.lost)
 
 pub returns-in-Ok-clause-tries : goal.returns-in-Ok-clause-tries
 returns-in-Ok-clause-tries g c =

@@ -1,7 +1,7 @@
 -- The statuses and the active cards that were read are those of the library that the tables show.
+use Rattle.upd_row_store.proofs.KeepingLemmas.{memory_is_lost}
 use Rattle.upd_desk.proofs.QueryLemmas.{shown_there}
 use Rattle.upd_desk.proofs.StateLemmas.{read_states}
-use Rattle.upd_desk.proofs.StoreLemmas.{lost_memory}
 use Rattle.upd_desk.proofs.outcome.applied_outcome.Goals as goal
 
 pub returns-in-Ok-clause-found : goal.returns-in-Ok-clause-found
@@ -13,4 +13,4 @@ returns-in-Ok-clause-found g c honest lines l loaded reached read made of_run ar
     (read_states rows _ l loaded c.args.cards.now made.sound of_run.part are (c.in_ok-states.ensures.found before rows shown) states)
 
 pub returns-clause-lost : goal.returns-clause-lost
-returns-clause-lost g c = lost_memory c.in-Err.fault c.in-Err.ensures.lost
+returns-clause-lost g c = memory_is_lost c.in-Err.fault c.in-Err.ensures.lost

@@ -1,10 +1,10 @@
 -- The directory is listed of the part without decks as of the library after each journal that the store holds.
 use Rattle.std.proofs.Common.{Ok, ap, inl, sym}
 use Rattle.upd_compile.specs.Listings.{ident_listing}
+use Rattle.upd_row_store.proofs.KeepingLemmas.{memory_is_lost}
 use Rattle.upd_desk.proofs.LoadingLemmas.{none_read}
 use Rattle.upd_desk.proofs.MadeLemmas.{library_made}
 use Rattle.upd_desk.proofs.QueryLemmas.{of_held, tells_same}
-use Rattle.upd_desk.proofs.StoreLemmas.{lost_memory}
 use Rattle.upd_desk.proofs.desk.Desk.ident_list.Goals as goal
 
 pub returns-in-Ok-clause-text : goal.returns-in-Ok-clause-text
@@ -15,7 +15,7 @@ returns-in-Ok-clause-text g c =
     (ap Ok (sym c.in-Ok.ensures.ok))
 
 pub returns-clause-text : goal.returns-clause-text
-returns-clause-text g c honest journal held = inl (lost_memory c.in-Err.fault c.in-Err.ensures.err)
+returns-clause-text g c honest journal held = inl (memory_is_lost c.in-Err.fault c.in-Err.ensures.err)
 
 pub returns-in-Ok-clause-reads : goal.returns-in-Ok-clause-reads
 returns-in-Ok-clause-reads g c honest =
@@ -32,4 +32,4 @@ returns-clause-reads g c honest =
     none_read _ _ l c.in_ok-head.head made.sound (c.in_ok-head.ensures.found honest l made.sound made.whole rows shown shows) c.in_ok-head.ensures.leaves.reads)
 
 pub returns-clause-lost : goal.returns-clause-lost
-returns-clause-lost g c = lost_memory c.in-Err.fault c.in-Err.ensures.err
+returns-clause-lost g c = memory_is_lost c.in-Err.fault c.in-Err.ensures.err
