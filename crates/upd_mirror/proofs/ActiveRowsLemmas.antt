@@ -2,7 +2,7 @@
 use Rattle.std.proofs.Common.{◌≡◌, ℕ, zero, suc, ◌+◌, ◌<◌, ◌≤◌, ◌==◌, nat_le, Bool, true}
 use Rattle.std.proofs.Common.{false, cond, List, [], ◌∷◌, ◌++◌, length, map, get_or, Option, None, Some}
 use Rattle.std.proofs.Common.{refl, ap, sym, ◌∙◌, subst, arith}
-use Rattle.std.specs.Prelude.{◌&&◌, ◌||◌}
+use Rattle.std.specs.Prelude.{◌||◌}
 use Rattle.std.specs.BTreeMap.{BTreeMap, IsOrdered, get}
 use Rattle.std.specs.Cmp.{nat_cmp_is, tied_itself}
 use Rattle.std.specs.List.{AllByRecursion, filter, flat_map, list_all, list_any}
@@ -12,6 +12,7 @@ use Rattle.std.specs.Option.{option_map_or, unwrap_or}
 use Rattle.std.specs.Ordering.{is_eq, is_lt, nat_cmp, ordering_then}
 use Rattle.std.specs.declared.cmp.Ordering.TheVariants.{Less, Equal, Greater}
 use Rattle.std.specs.declared.vec.Vec.{Vec}
+use Rattle.std.proofs.lemmas.Bool.{and_parts}
 use Rattle.std.proofs.lemmas.Bool.Decides.{Decides-eqb, nat_tests}
 use Rattle.std.proofs.lemmas.Map.Keys.{sorted_head, sorted_tail}
 use Rattle.upd_text.specs.Order.{by_name}
@@ -235,15 +236,11 @@ by_steps : (rows : List CardRow) → Stand rows → AreByPlace rows
 by_steps [] stand = λ k d low within. absurd (grind (arith, within))
 by_steps (a ∷ rows) stand = λ k d low within. at_step a rows stand k d within
 
-both : (a b : Bool) → (a && b) ≡ true → (a ≡ true) × (b ≡ true)
-both true b e = (refl, e)
-both false b e = absurd (cc)
-
 in_deck : (a : CardRow) (rows more : List CardRow) → AllByRecursion (λ r. r.deck ≡ a.deck) rows → rise_from a.pos rows ≡ true
     → ((last : CardRow) → last.deck ≡ a.deck → Steps last more) → Steps a (rows ++ more)
 in_deck a [] more own rise after = after a refl
 in_deck a (r ∷ rows) more own rise after =
-    let up = both (nat_le a.pos r.pos) (rise_from r.pos rows) rise in
+    let up = and_parts (nat_le a.pos r.pos) (rise_from r.pos rows) rise in
     let le : a.pos ≤ r.pos = (let first = up.0 in grind (arith, nat_tests)) in (
       in_one_deck a r own.0 le,
       in_deck r rows more (subst (λ n. AllByRecursion (λ x. x.deck ≡ n) rows) (sym own.0) own.1) up.1 (λ last same. after last (same ∙ own.0)),
@@ -275,7 +272,7 @@ module _ {Z : Type 0} where
       go [] is here after = subst (λ rows. Steps a (rows ++ flat_map (λ f. f.1.items) es)) (sym is) here
       go (r ∷ rows) is here after =
           let all : AllByRecursion (λ x. x.deck ≡ e.0) (r ∷ rows) = subst (AllByRecursion (λ x. x.deck ≡ e.0)) is own.0 in
-          let up_all = both (nat_le 0 r.pos) (rise_from r.pos rows) (ap (rise_from 0) (sym is) ∙ rise.0) in
+          let up_all = and_parts (nat_le 0 r.pos) (rise_from r.pos rows) (ap (rise_from 0) (sym is) ∙ rise.0) in
           let less : a.deck < r.deck = (let same = all.0 in let first = above.0 in grind arith) in
           subst (λ xs. Steps a (xs ++ flat_map (λ f. f.1.items) es)) (sym is) (
             in_later_deck a r less,
@@ -298,14 +295,14 @@ module _ {Z : Type 0} where
       go [] is here after = subst (λ rows. Stand (rows ++ flat_map (λ f. f.1.items) es)) (sym is) here
       go (r ∷ rows) is here after =
           let all : AllByRecursion (λ x. x.deck ≡ e.0) (r ∷ rows) = subst (AllByRecursion (λ x. x.deck ≡ e.0)) is own.0 in
-          let up_all = both (nat_le 0 r.pos) (rise_from r.pos rows) (ap (rise_from 0) (sym is) ∙ rise.0) in
+          let up_all = and_parts (nat_le 0 r.pos) (rise_from r.pos rows) (ap (rise_from 0) (sym is) ∙ rise.0) in
           subst (λ xs. Stand (xs ++ flat_map (λ f. f.1.items) es)) (sym is)
           (in_deck r rows (flat_map (λ f. f.1.items) es) (subst (λ n. AllByRecursion (λ x. x.deck ≡ n) rows) (sym all.0) all.1) up_all.1
           (λ last same. after last (same ∙ all.0)))
 
   all_rise : (es : List (ℕ × Vec CardRow Z)) → list_all (λ e. rise_from 0 e.1.items) es ≡ true → AllByRecursion (λ e. rise_from 0 e.1.items ≡ true) es
   all_rise [] e = tt
-  all_rise (f ∷ es) e = let two = both (rise_from 0 f.1.items) (list_all (λ g. rise_from 0 g.1.items) es) e in (two.0, all_rise es two.1)
+  all_rise (f ∷ es) e = let two = and_parts (rise_from 0 f.1.items) (list_all (λ g. rise_from 0 g.1.items) es) e in (two.0, all_rise es two.1)
 
   all_own : (decks : BTreeMap ℕ (Vec CardRow Z)) (rows : List CardRow) → AreCards decks rows → (es : List (ℕ × Vec CardRow Z))
       → AllByRecursion (λ e. get nat_cmp decks e.0 ≡ Some e.1) es → AllByRecursion (λ e. AllByRecursion (λ r. r.deck ≡ e.0) e.1.items) es

@@ -13,6 +13,7 @@ use Rattle.std.specs.Ordering.{is_eq, nat_cmp}
 use Rattle.std.specs.declared.vec.Vec.{Vec}
 use Rattle.std.proofs.lemmas.Cmp.{nat_cmp_total}
 use Rattle.std.proofs.lemmas.List.Elements.{filter-append}
+use Rattle.std.proofs.lemmas.List.Folds.{flat_map-map}
 use Rattle.std.proofs.lemmas.Map.Lookups.{exact_unsigned}
 use Rattle.upd_text.specs.Order.{by_name}
 use Rattle.upd_text.specs.declared.card_ref.CardRef.{CardRef}
@@ -137,10 +138,6 @@ count_flat test f [] = refl
 count_flat test f (x ∷ xs) = count_append test (f x) (flat_map f xs) ∙ ap (λ n. count_by test (f x) + n) (count_flat test f xs)
     ∙ sym (sum_by-cons (λ y. count_by test (f y)) x xs)
 
-flat_mapped : {A B C : Type 0} (f : B → List C) (g : A → B) (xs : List A) → flat_map f (map g xs) ≡ flat_map (λ x. f (g x)) xs
-flat_mapped f g [] = refl
-flat_mapped f g (x ∷ xs) = ap (λ rest. f (g x) ++ rest) (flat_mapped f g xs)
-
 -- a list in another order
 pub same_moved : {A : Type 0} (xs ys : List A) → IsPermutation xs ys → IsSame ys xs
 same_moved xs ys moved = record { passes = λ test. sum_by-IsPermutation (λ x. cond (test x) 1 0) xs ys moved }
@@ -151,7 +148,7 @@ pub same_in_turn : {A B C : Type 0} (f : B → List C) (g : A → B) (xs : List 
 same_in_turn f g xs ys moved = record {
   passes = λ test.
       count_flat test f ys ∙ sum_by-IsPermutation (λ y. count_by test (f y)) (map g xs) ys moved ∙ sym (count_flat test f (map g xs))
-      ∙ ap (count_by test) (flat_mapped f g xs);
+      ∙ ap (count_by test) (flat_map-map f g xs);
 }
 
 -- no card comes twice among some of the cards

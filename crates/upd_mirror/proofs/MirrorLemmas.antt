@@ -11,6 +11,7 @@ use Rattle.std.specs.Ordering.{is_eq, nat_cmp}
 use Rattle.std.specs.Result.{result_ok}
 use Rattle.std.specs.declared.vec.Vec.{Vec}
 use Rattle.std.proofs.Math.Nat.{min-eq_left}
+use Rattle.std.proofs.lemmas.Bool.{and_parts}
 use Rattle.std.proofs.lemmas.Bool.Decides.{Decides-eqb}
 use Rattle.std.proofs.lemmas.List.{drop_more, map-append}
 use Rattle.std.proofs.lemmas.Option.{same_Some}
@@ -32,10 +33,6 @@ use Rattle.upd_mirror.specs.declared.mirror.Mirror.{Mirror}
 use Rattle.upd_mirror.specs.RowsByKey.{AreCards, AreEntries, AreHomes, AreStatuses, cards_at, entries_at, is_home, moved_place, placed_row}
 use Rattle.upd_mirror.proofs.KeyedLemmas.{any_gone, any_mapped, any_stays, apart_stay, filter_mapped, filter_twice, one_more, some_gone}
 use Rattle.upd_mirror.proofs.NameOrderLemmas.{alike, one_by_order, turned}
-
-and_right : (a b : Bool) → (a && b) ≡ true → b ≡ true
-and_right true b e = e
-and_right false b e = absurd (cc)
 
 -- what a call ensures where it succeeds, of a success that is read as an option
 pub when_ok : {A E P : Type 0} (r : Result A E) (o : Option A) (x : A) → o ≡ result_ok r → o ≡ Some x → OnOk r P → P
@@ -90,7 +87,7 @@ homes_left old new rows card left are c d = left c d ∙ go (is_eq (by_name card
     test x = (x.deck == d) && same_ref c x.card
 
     goes : (b : Bool) → is_eq (by_name card c) ≡ b → (x : CardRow) → ((x.deck == d) && same_ref c x.card) ≡ true → same_ref card x.card ≡ b
-    goes b e x is = alike card c x.card (and_right (x.deck == d) (same_ref c x.card) is) ∙ e
+    goes b e x is = alike card c x.card (and_parts (x.deck == d) (same_ref c x.card) is).1 ∙ e
 
     go : (b : Bool) → is_eq (by_name card c) ≡ b → cond b false (is_home old c d)
         ≡ list_any (λ x. (x.deck == d) && same_ref c x.card) (filter (λ r. not (same_ref card r.card)) rows)

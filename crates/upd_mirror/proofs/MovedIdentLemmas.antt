@@ -1,9 +1,9 @@
 -- The cards that changes move are listed, by the places from which on decks move.
-use Rattle.std.proofs.Common.{◌≡◌, ℕ, ◌<◌, ◌≤◌, ◌==◌, nat_le, Bool, true, false, cond, List, [], ◌∷◌, Option, None, Some}
-use Rattle.std.proofs.Common.{refl, ap, ap₂, sym, ◌∙◌, subst, arith}
+use Rattle.std.proofs.Common.{◌≡◌, ℕ, ◌<◌, ◌==◌, nat_le, Bool, true, false, cond, List, [], ◌∷◌, Option, None, Some}
+use Rattle.std.proofs.Common.{refl, ap, ap₂, sym, ◌∙◌, arith}
 use Rattle.std.specs.Prelude.{◌&&◌, ◌||◌}
 use Rattle.std.specs.BTreeMap.{BTreeMap, get, is_at}
-use Rattle.std.specs.Cmp.{tied_itself, unsigned_tied}
+use Rattle.std.specs.Cmp.{tied_itself}
 use Rattle.std.specs.Cmp.Lexicographic.{slice_cmp}
 use Rattle.std.specs.List.{AllByRecursion, filter, list_any}
 use Rattle.std.specs.Map.{lookup}
@@ -56,18 +56,6 @@ module _ {K : Type 0} (cmp : K → K → Ordering) (exact : CmpEqualImpliesEq cm
   one_key k q e = exact k q (is_equal (cmp k q) e)
 
   -- a number that is not below the one that is there adds nothing
-  pub least_stays : (least : BTreeMap K ℕ) (k : K) (m n : ℕ) → get cmp least k ≡ Some m → m ≤ n → (q : K) (p : ℕ)
-      → at_most least q p ≡ (at_most least q p || (is_eq (cmp k q) && nat_le n p))
-  least_stays least k m n there few q p = go (is_eq (cmp k q)) refl
-    where
-      within : nat_le m p ≡ (nat_le m p || nat_le n p)
-      within = grind (arith, nat_tests)
-
-      go : (b : Bool) → is_eq (cmp k q) ≡ b → at_most least q p ≡ (at_most least q p || (b && nat_le n p))
-      go false e = or_false (at_most least q p)
-      go true e = subst (λ o. option_map_or (λ m. nat_le m p) o false ≡ (option_map_or (λ m. nat_le m p) o false || nat_le n p))
-          (sym (ap (get cmp least) (sym (one_key k q e)) ∙ there)) within
-
   -- a number that is below the one that is there, if there is one, takes its place
   pub least_put : (old new : BTreeMap K ℕ) (k : K) (n : ℕ) → ((m : ℕ) → get cmp old k ≡ Some m → n < m)
       → ((q : K) → get cmp new q ≡ cond (is_eq (cmp k q)) (Some n) (get cmp old q)) → (q : K) (p : ℕ)
@@ -82,29 +70,6 @@ module _ {K : Type 0} (cmp : K → K → Ordering) (exact : CmpEqualImpliesEq cm
       go false e o there = or_false _
       go true e None there = refl
       go true e (Some m) there = within m (below m (ap (get cmp old) (one_key k q e) ∙ there))
-
-by_number : (d deck : ℕ) → is_eq (nat_cmp deck d) ≡ (d == deck)
-by_number d deck = unsigned_tied deck d ∙ flip deck d
-  where
-    flip : (a b : ℕ) → (a == b) ≡ (b == a)
-    flip a b = grind (arith, nat_tests)
-
-pub place_stays : (places : BTreeMap ℕ ℕ) (deck m from : ℕ) → get nat_cmp places deck ≡ Some m → m ≤ from → (d p : ℕ)
-    → is_reached places d p ≡ (is_reached places d p || ((d == deck) && nat_le from p))
-place_stays places deck m from there few d p =
-    least_stays nat_cmp exact_unsigned places deck m from there few d p ∙ ap (λ b. is_reached places d p || (b && nat_le from p)) (by_number d deck)
-
-pub place_put : (old new : BTreeMap ℕ ℕ) (deck from : ℕ) → ((m : ℕ) → get nat_cmp old deck ≡ Some m → from < m)
-    → ((d : ℕ) → get nat_cmp new d ≡ cond (is_eq (nat_cmp deck d)) (Some from) (get nat_cmp old d)) → (d p : ℕ)
-    → is_reached new d p ≡ (is_reached old d p || ((d == deck) && nat_le from p))
-place_put old new deck from below put d p =
-    least_put nat_cmp exact_unsigned old new deck from below put d p ∙ ap (λ b. is_reached old d p || (b && nat_le from p)) (by_number d deck)
-
-pub card_stays : (movable : BTreeMap (List ℕ) ℕ) (card : CardRef) (m : ℕ) → get (slice_cmp nat_cmp) movable card.name ≡ Some m → m ≤ card.number
-    → (c : CardRef) → is_listed movable c ≡ (is_listed movable c || is_from card c)
-card_stays movable card m there few c =
-    least_stays (slice_cmp nat_cmp) exact_bytes movable card.name m card.number there few c.name c.number
-    ∙ ap (λ b. is_listed movable c || (b && nat_le card.number c.number)) (is_eq-slice_cmp card.name c.name)
 
 pub card_put : (old new : BTreeMap (List ℕ) ℕ) (card : CardRef) → ((m : ℕ) → get (slice_cmp nat_cmp) old card.name ≡ Some m → card.number < m)
     → ((q : List ℕ) → get (slice_cmp nat_cmp) new q ≡ cond (is_eq (slice_cmp nat_cmp card.name q)) (Some card.number) (get (slice_cmp nat_cmp) old q))
