@@ -103,10 +103,6 @@ added_active live d z n text free used = rw (free, used) refl
 
 -- ---- the segments of a deck
 
-none_pass : {A : Type 0} (test : A → Bool) (xs : List A) → AllByRecursion (λ x. test x ≡ false) xs → filter test xs ≡ []
-none_pass test [] none = refl
-none_pass test (x ∷ xs) none = rw none.0 (none_pass test xs none.1)
-
 none_left : (live : List Target) (d z : ℕ) (cards : List CardView) → is_taken live d z ≡ false
     → filter (is_active live d) (map (switched_off z) cards) ≡ []
 none_left live d z [] free = refl

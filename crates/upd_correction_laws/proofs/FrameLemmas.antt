@@ -3,7 +3,6 @@ use Rattle.std.proofs.Common.{◌≡◌, ℕ, zero, suc, ◌+◌, ◌-◌, Bool,
 use Rattle.std.proofs.Common.{sym, ap, ◌∙◌, subst, arith, append_assoc, length-append}
 use Rattle.std.proofs.lemmas.Bool.{ne_eqb}
 use Rattle.std.proofs.lemmas.List.{take_at, drop_at}
-use Rattle.std.proofs.lemmas.Option.{same_Some}
 use Rattle.std.specs.Prelude.{◌==◌, insert, Option}
 use Rattle.std.specs.Option.{option_map_or}
 use Rattle.std.specs.List.{list_any, find, Contains}
@@ -12,7 +11,7 @@ use Rattle.upd_core.specs.Edits.{entered, entered_range, with_card, with_entries
 use Rattle.upd_core.specs.First.{at_first}
 use Rattle.upd_core.specs.Library.{CardView, DeckView, LibraryView, all_decks, cards_of, is_deck, place_of, ref_of, with_cards}
 use Rattle.upd_core.specs.Sound.{IsSound, stands}
-use Rattle.upd_core.proofs.ApartLemmas.{at_contained, contained_at}
+use Rattle.upd_core.proofs.ApartLemmas.{at_contained}
 use Rattle.upd_core.proofs.FoundLemmas.{place_at}
 use Rattle.upd_laws.proofs.SoundListLemmas.{same_number}
 use Rattle.upd_core.specs.declared.ident.Ident.{Ident}
@@ -68,28 +67,6 @@ deck_there d cards l there =
     let found = first_there d cards (all_decks l) there in
     at_contained (all_decks (with_deck_of d cards l)) found.0 (record { ident = d; cards = cards })
     (ap (λ ds. slice_get ds found.0) (decks_with d (λ _. cards) l) ∙ found.1)
-
--- another deck stays
-first_other : (d : ℕ) (cards : List CardView) (ds : List DeckView) (k : ℕ) (x : DeckView) → (x.ident ≡ d → ⊥) → slice_get ds k ≡ Some x
-    → slice_get (at_first (is_deck d) (changed (λ _. cards)) ds) k ≡ Some x
-first_other d cards [] k x other e = absurd (cc)
-first_other d cards (y ∷ ds) zero x other e =
-    let same : y ≡ x = same_Some y x e in
-    let f : (y.ident == d) ≡ false = subst (λ (z : DeckView). (z.ident == d) ≡ false) (sym same) (ne_eqb x.ident d other) in
-    rw f e
-first_other d cards (y ∷ ds) (suc k) x other e = go (y.ident == d) refl (first_other d cards ds k x other e)
-  where
-    go : (b : Bool) → (y.ident == d) ≡ b → slice_get (at_first (is_deck d) (changed (λ _. cards)) ds) k ≡ Some x
-        → slice_get (at_first (is_deck d) (changed (λ _. cards)) (y ∷ ds)) (suc k) ≡ Some x
-    go true f rest = rw f e
-    go false f rest = rw f rest
-
-pub other_there : (d : ℕ) (cards : List CardView) (l : LibraryView) (x : DeckView) → (d ≡ 0 → ⊥) → (x.ident ≡ d → ⊥) → Contains l.decks x
-    → Contains (with_deck_of d cards l).decks x
-other_there d cards l x positive other there =
-    let at = contained_at l.decks x there in
-    let e : (d == 0) ≡ false = ne_eqb d 0 positive in
-    rw e (at_contained (at_first (is_deck d) (changed (λ _. cards)) l.decks) at.0 x (first_other d cards l.decks at.0 x other at.1))
 
 find_other : (d e : ℕ) (f : List CardView → List CardView) (ds : List DeckView) → (d ≡ e → ⊥)
     → find (is_deck e) (at_first (is_deck d) (changed f) ds) ≡ find (is_deck e) ds

@@ -1,18 +1,16 @@
 -- A library that holds no more than another is within its limits where the other is.
 use Rattle.std.proofs.Common.{◌≡◌, ℕ, ◌+◌, ◌≤◌, Bool, true, false, cond, List, [], ◌∷◌, ◌++◌, length, refl, sym, ap, ◌∙◌, subst, arith, length-append}
-use Rattle.std.proofs.lemmas.Bool.Decides.{nat_tests}
 use Rattle.std.proofs.lemmas.List.Sums.{sum_by-append, sum_by-cons}
-use Rattle.std.specs.Prelude.{◌==◌, nat_le, sum_by, count_by}
-use Rattle.upd_text.specs.declared.limits.TheConstants.{MAX_HELD, MAX_INTRODUCED, MAX_CARDS, MAX_ENTRIES, MAX_TARGETS}
+use Rattle.std.specs.Prelude.{◌==◌, sum_by, count_by}
 use Rattle.upd_core.specs.declared.ident.Ident.{Ident}
 use Rattle.upd_core.specs.declared.ident.Kind.{Kind}
 use Rattle.upd_core.specs.declared.library.Rest.{Rest}
 use Rattle.upd_core.specs.Edits.{introduced, next_age, with_deck}
 use Rattle.upd_core.specs.First.{at_first}
 use Rattle.upd_core.specs.Library.{CardView, DeckView, LibraryView, all_decks, is_deck}
-use Rattle.upd_core.specs.Limits.{card_count, entry_count, held_count, is_within_limits, target_count}
-use Rattle.upd_laws.proofs.SoundListLemmas.{and_left, and_right, both}
+use Rattle.upd_core.specs.Limits.{is_within_limits}
 use Rattle.upd_laws.proofs.SoundCardLemmas.{changed, decks_with, idents_with, rest_with, yanks_with}
+use Rattle.upd_laws.proofs.SoundLimitLemmas.{HoldsNoMore, no_more}
 use Rattle.upd_correction_laws.proofs.FrameLemmas.{with_deck_of}
 
 -- the number of entries of cards
@@ -23,29 +21,6 @@ entries cards = sum_by (λ c. length c.history) cards
 pub record AreNoMore (few many : List CardView) : Type 0 where
   pub cards : length few ≤ length many
   pub entries : entries few ≤ entries many
-
--- what a library holds no more of than another
-record HoldsNoMore (m l : LibraryView) : Type 0 where
-  idents : length m.idents ≤ length l.idents
-  held : held_count m ≤ held_count l
-  cards : card_count m ≤ card_count l
-  entries : entry_count m ≤ entry_count l
-  targets : target_count m ≤ target_count l
-
-at_most : (a b n : ℕ) → a ≤ b → nat_le b n ≡ true → nat_le a n ≡ true
-at_most a b n h e = grind (arith, nat_tests)
-
-no_more : (m l : LibraryView) → HoldsNoMore m l → is_within_limits l ≡ true → is_within_limits m ≡ true
-no_more m l less e =
-    let four = and_left _ (nat_le (target_count l) MAX_TARGETS) e in
-    let three = and_left _ (nat_le (entry_count l) MAX_ENTRIES) four in
-    let two = and_left _ (nat_le (card_count l) MAX_CARDS) three in
-    both _ _ (both _ _ (both _ _ (both _ _
-    (at_most _ _ MAX_INTRODUCED less.idents (and_left _ (nat_le (held_count l) MAX_HELD) two))
-    (at_most _ _ MAX_HELD less.held (and_right (nat_le (length l.idents) MAX_INTRODUCED) _ two)))
-    (at_most _ _ MAX_CARDS less.cards (and_right _ (nat_le (card_count l) MAX_CARDS) three)))
-    (at_most _ _ MAX_ENTRIES less.entries (and_right _ (nat_le (entry_count l) MAX_ENTRIES) four)))
-    (at_most _ _ MAX_TARGETS less.targets (and_right _ (nat_le (target_count l) MAX_TARGETS) e))
 
 sum_less : (f : DeckView → ℕ) (d : ℕ) (few many : List CardView) (ds : List DeckView)
     → ((x : DeckView) → f (changed (λ _. few) x) ≤ f (changed (λ _. many) x))
@@ -125,7 +100,7 @@ front : LibraryView → DeckView
 front l = record { ident = 0; cards = l.yanks }
 
 -- a sum over all decks with one more
-sum_last : (f : DeckView → ℕ) (d : DeckView) (l : LibraryView) → sum_by f (all_decks (with_deck d l)) ≡ sum_by f (all_decks l) + f d
+pub sum_last : (f : DeckView → ℕ) (d : DeckView) (l : LibraryView) → sum_by f (all_decks (with_deck d l)) ≡ sum_by f (all_decks l) + f d
 sum_last f d l =
     let none : sum_by f (d ∷ []) ≡ f d = sum_by-cons f d [] ∙ omega arith in
     omega (arith, sum_by-append f (all_decks l) (d ∷ []), none)

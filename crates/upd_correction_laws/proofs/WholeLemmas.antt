@@ -28,10 +28,10 @@ use Rattle.upd_correction_laws.proofs.SpellLemmas.{delete_spelled, ident_spelled
 -- ---- references of cards
 
 -- a card that a directive can name
-abbrev IsNamed : List Ident → CardView → Type 0
+abbrev pub IsNamed : List Ident → CardView → Type 0
 IsNamed idents c = IsReference (ref_of idents c)
 
-card_named : (l : LibraryView) (c : CardView) → IsSound l → HasLineTexts l → Contains (all_cards l) c → IsNamed l.idents c
+pub card_named : (l : LibraryView) (c : CardView) → IsSound l → HasLineTexts l → Contains (all_cards l) c → IsNamed l.idents c
 card_named l c sound made is =
     let of : IsOfRun c = all_of_contained IsOfRun (all_cards l) c made.cards is in
     let at = held_at 1 c.ident l.idents sound.ages (card_held l c sound is) in

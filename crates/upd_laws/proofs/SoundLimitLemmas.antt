@@ -95,17 +95,17 @@ fewer_held gone idents = sum_mapped (λ (i : Ident). cond i.held 1 0) (unheld go
 -- ---- limits
 
 -- what a library holds no more of than another
-record HoldsNoMore (m l : LibraryView) : Type 0 where
-  idents : length m.idents ≤ length l.idents
-  held : held_count m ≤ held_count l
-  cards : card_count m ≤ card_count l
-  entries : entry_count m ≤ entry_count l
-  targets : target_count m ≤ target_count l
+pub record HoldsNoMore (m l : LibraryView) : Type 0 where
+  pub idents : length m.idents ≤ length l.idents
+  pub held : held_count m ≤ held_count l
+  pub cards : card_count m ≤ card_count l
+  pub entries : entry_count m ≤ entry_count l
+  pub targets : target_count m ≤ target_count l
 
 at_most : (a b n : ℕ) → a ≤ b → nat_le b n ≡ true → nat_le a n ≡ true
 at_most a b n h e = grind (arith, nat_tests)
 
-no_more : (m l : LibraryView) → HoldsNoMore m l → is_within_limits l ≡ true → is_within_limits m ≡ true
+pub no_more : (m l : LibraryView) → HoldsNoMore m l → is_within_limits l ≡ true → is_within_limits m ≡ true
 no_more m l less e =
     let four = and_left _ (nat_le (target_count l) MAX_TARGETS) e in
     let three = and_left _ (nat_le (entry_count l) MAX_ENTRIES) four in
