@@ -1,13 +1,10 @@
 -- Why there is no run.
-use Rattle.std.proofs.Common.{◌≡◌, ℕ, ◌<◌, ◌≤◌, List, [], ◌∷◌, ◌++◌, length, refl, sym, ap, ◌∙◌, arith}
+use Rattle.std.proofs.Common.{◌≡◌, ℕ, List, [], ◌∷◌, ◌++◌, refl, sym, ap, ◌∙◌}
 use Rattle.std.specs.Prelude.{Option, Some, None, Result, Ok, Err, OnOk}
-use Rattle.upd_text.specs.declared.limits.TheConstants.{MAX_RUN_LINES}
-use Rattle.upd_core.specs.Counts.{capped}
 use Rattle.upd_core.specs.Library.{LibraryView}
 use Rattle.upd_correction_laws.specs.Corrections.{NewDeck}
 use Rattle.upd_correct.specs.declared.refusal.Problem.{Problem}
 use Rattle.upd_correct.specs.declared.refusal.Refusal.{Refusal}
-use Rattle.upd_correct.specs.Causes.{AreRefusals, OfText}
 use Rattle.upd_correct.specs.EditedText.{lines_in}
 use Rattle.upd_correct.specs.Problems.{set_problem}
 use Rattle.upd_correct.specs.ReadDecks.{AreReadFrom}
@@ -23,10 +20,6 @@ pub all_refused : (l : LibraryView) (set text : List ℕ) (first refusals : List
 all_refused l set text first refusals decks of_set read =
     read.refused ∙ ap (λ first. first ++ lines_refusals l set [] (lines_in text)) of_set
 
-pub some_refused : (l : LibraryView) (set text : List ℕ) (refusals : List Refusal) → 0 < length refusals → refusals ≡ refusals_of l set text
-    → AreRefusals l set text refusals
-some_refused l set text refusals some are = OfText (λ none. let e = ap length none in omega (arith, some, e)) are
-
 -- a set whose name is free has no refusal
 pub set_is_free : (l : LibraryView) (set text : List ℕ) → refusals_of l set text ≡ [] → set_problem l set ≡ None
 set_is_free l set text clean = go (set_problem l set) refl
@@ -35,13 +28,3 @@ set_is_free l set text clean = go (set_problem l set) refl
     go None e = e
     go (Some problem) e = let bad : record { line = 0; column = 0; problem = problem } ∷ lines_refusals l set [] (lines_in text) ≡ [] =
         ap (λ o. refusals_at 0 0 o ++ lines_refusals l set [] (lines_in text)) (sym e) ∙ clean in absurd (cc)
-
-pub many_lines : (n lines : ℕ) → capped n ≡ capped lines → MAX_RUN_LINES < n → MAX_RUN_LINES < lines
-many_lines n lines e more = omega arith
-
-pub few_lines : (n lines : ℕ) → capped n ≡ capped lines → n ≤ MAX_RUN_LINES → lines ≤ MAX_RUN_LINES
-few_lines n lines e few = omega arith
-
-pub no_items : (xs : List Refusal) → length xs ≡ 0 → xs ≡ []
-no_items [] e = refl
-no_items (x ∷ xs) e = absurd (omega (arith, e))

@@ -25,7 +25,7 @@ use Rattle.upd_correction_laws.specs.Corrections.{Correction, Edit, IsEditOf, Ne
 use Rattle.upd_correction_laws.specs.RunLines.{RunLine}
 use Rattle.upd_correction_laws.proofs.DeckLemmas.{IsFor, all_still, others_of}
 use Rattle.upd_correction_laws.proofs.FrameLemmas.{with_deck_of}
-use Rattle.upd_correction_laws.proofs.LimitLemmas.{entries, entries_append}
+use Rattle.upd_correction_laws.proofs.LimitLemmas.{entries, entries_append, sum_last}
 use Rattle.upd_correction_laws.proofs.RunLemmas.{all_for}
 use Rattle.upd_correct.specs.Growth.{added_by, cards_added_by, cards_gone_by, cards_of_new, fits, gone_by, has_room}
 
@@ -74,11 +74,6 @@ ident_most name sort noprop l i h c e t is = record {
   where
     new : Ident
     new = record { name = name; age = next_age l; kind = sort; noprop = noprop; held = true }
-
-sum_last : (f : DeckView → ℕ) (d : DeckView) (l : LibraryView) → sum_by f (all_decks (with_deck d l)) ≡ sum_by f (all_decks l) + f d
-sum_last f d l =
-    let none : sum_by f (d ∷ []) ≡ f d = sum_by-cons f d [] ∙ omega arith in
-    omega (arith, sum_by-append f (all_decks l) (d ∷ []), none)
 
 deck_most : (d : DeckView) (l : LibraryView) (i h c e t : ℕ) → HasAtMost l i h c e t
     → HasAtMost (with_deck d l) i h (c + length d.cards) (e + entries d.cards) t
@@ -311,7 +306,7 @@ add_three k a b g n o m small e f less = omega arith
 is_small : (a n : ℕ) → nat_le a n ≡ true → a ≤ n
 is_small a n e = grind (arith, nat_tests)
 
-few_targets : (l : LibraryView) → is_within_limits l ≡ true → target_count l ≤ MAX_TARGETS
+pub few_targets : (l : LibraryView) → is_within_limits l ≡ true → target_count l ≤ MAX_TARGETS
 few_targets l within = is_small (target_count l) MAX_TARGETS (and_right _ (nat_le (target_count l) MAX_TARGETS) within)
 
 pub room_within : (l : LibraryView) (e : Edit) (i c a b g n : ℕ) → IsSound l → IsEditOf l e → is_within_limits l ≡ true

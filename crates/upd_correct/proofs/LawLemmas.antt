@@ -1,27 +1,25 @@
 -- The run that is made from the listing of a deck leads the deck of the library to the edited text.
-use Rattle.std.proofs.Common.{◌≡◌, ℕ, ◌+◌, ◌≤◌, nat_le, Bool, true, false, not, ◌&&◌, List, [], ◌∷◌, ◌++◌, map, length, refl, sym, ap, ◌∙◌, subst, arith, inl, inr}
-use Rattle.std.proofs.lemmas.Bool.Decides.{nat_tests}
+use Rattle.std.proofs.Common.{◌≡◌, ℕ, ◌+◌, ◌≤◌, Bool, true, false, not, List, [], ◌∷◌, ◌++◌, length, refl, sym, ap, ◌∙◌, subst, inl, inr}
 use Rattle.std.proofs.lemmas.Slice.Eq.{bytes_eq-Decides}
 use Rattle.std.specs.List.{flat_map, AllByRecursion, AllZip}
 use Rattle.std.specs.Option.{option_map_or}
-use Rattle.std.specs.Prelude.{◌⊎◌, IsTrue, Some, None, is_some, Ok}
+use Rattle.std.specs.Prelude.{◌⊎◌, Some, None, is_some, Ok}
 use Rattle.std.specs.Str.{bytes_eq}
-use Rattle.upd_text.specs.declared.limits.TheConstants.{MAX_CARDS, MAX_ENTRIES, MAX_HELD, MAX_INTRODUCED, MAX_RUN_LINES, MAX_TARGETS}
+use Rattle.upd_text.specs.declared.limits.TheConstants.{MAX_CARDS, MAX_ENTRIES, MAX_RUN_LINES}
 use Rattle.upd_core.specs.First.{index_from}
 use Rattle.upd_core.specs.Library.{LibraryView, cards_of, deck_of}
-use Rattle.upd_core.specs.Limits.{card_count, entry_count, held_count, is_within_limits, target_count}
+use Rattle.upd_core.specs.Limits.{card_count, entry_count, is_within_limits}
 use Rattle.upd_core.specs.Sound.{IsSound}
-use Rattle.upd_deck.specs.Reading.{reading}
 use Rattle.upd_laws.specs.ReadRuns.{HasLineTexts}
 use Rattle.upd_laws.proofs.SoundListLemmas.{all_each, all_weaker}
 use Rattle.upd_correction_laws.specs.Corrected.{edited}
-use Rattle.upd_correction_laws.specs.Corrections.{Correction, Edit, IsEditOf, NewDeck, edit_lines, first_line, new_deck_lines}
+use Rattle.upd_correction_laws.specs.Corrections.{Edit, IsEditOf, NewDeck, edit_lines, first_line, new_deck_lines}
 use Rattle.upd_correction_laws.specs.RunLines.{RunLine, ident_line, run_of}
 use Rattle.upd_compile.specs.Listings.{deck_listing}
 use Rattle.upd_correct.specs.Correcting.{CorrectsTo}
 use Rattle.upd_correct.specs.EditedText.{HasDecks, IsReadAs, lines_in}
 use Rattle.upd_correct.specs.Growth.{cards_added_by, cards_gone_by, cards_of_new, has_room}
-use Rattle.upd_correct.specs.ListedDeck.{TellDeck, library_listed, library_of, name_listed}
+use Rattle.upd_correct.specs.ListedDeck.{TellDeck, library_listed, library_of}
 use Rattle.upd_correct.specs.ListedRuns.{IsListedRun}
 use Rattle.upd_correct.specs.Plans.{IsCorrectionFor, held_decks, new_decks}
 use Rattle.upd_correct.specs.Problems.{set_problem}
@@ -29,7 +27,7 @@ use Rattle.upd_correct.specs.Refusals.{head_by_item, head_read}
 use Rattle.upd_correct.specs.Runs.{IsNothing, IsRunFor, IsRunOf, begins_other}
 use Rattle.upd_correct.proofs.CarryLemmas.{AreAlike, CarriedCorrections, added_sum, changed_same, corrections_carried, gone_sum, lines_same, no_problem_carried}
 use Rattle.upd_correct.proofs.CorrectLemmas.{IsPlanOf, nothing_corrects, run_corrects}
-use Rattle.upd_correct.proofs.GrowthLemmas.{edit_within, has_place}
+use Rattle.upd_correct.proofs.GrowthLemmas.{edit_within, few_targets, has_place}
 use Rattle.upd_correct.proofs.ListLemmas.{zip_right}
 use Rattle.upd_correct.proofs.PlanLemmas.{plan_is_edit, planned, set_ok}
 use Rattle.upd_correct.proofs.StandLemmas.{stand, stand_alike, stand_held}
@@ -92,21 +90,6 @@ none_new l name a (d ∷ decks) held named =
     rw is (none_new l name a decks held named.1)
 
 -- ---- the run
-
-few_targets : (l : LibraryView) → is_within_limits l ≡ true → target_count l ≤ MAX_TARGETS
-few_targets l within =
-    of (nat_le (length l.idents) MAX_INTRODUCED) (nat_le (held_count l) MAX_HELD) (nat_le (card_count l) MAX_CARDS) (nat_le (entry_count l) MAX_ENTRIES)
-    (nat_le (target_count l) MAX_TARGETS) refl within
-  where
-    small : (n : ℕ) → nat_le n MAX_TARGETS ≡ true → n ≤ MAX_TARGETS
-    small n e = grind (arith, nat_tests)
-
-    of : (a b c d e : Bool) → nat_le (target_count l) MAX_TARGETS ≡ e → (a && b && c && d && e) ≡ true → target_count l ≤ MAX_TARGETS
-    of true true true true e f ok = small (target_count l) (f ∙ ok)
-    of true true true false e f ok = absurd (cc)
-    of true true false d e f ok = absurd (cc)
-    of true false c d e f ok = absurd (cc)
-    of false b c d e f ok = absurd (cc)
 
 module _ (l m : LibraryView) (deck e : ℕ) (name : List ℕ) (held_l : deck_of name l ≡ Some deck) (held_m : deck_of name m ≡ Some e)
     (alike : AllZip (AreAlike l m deck e) (cards_of deck l) (cards_of e m)) where

@@ -18,7 +18,8 @@ use Rattle.upd_core.specs.Status.{is_active, live_targets}
 use Rattle.upd_core.proofs.ApartLemmas.{all_at, at_contained, find_at, find_later}
 use Rattle.upd_core.proofs.FoundLemmas.{named_at}
 use Rattle.upd_apply.specs.Names.{is_reserved}
-use Rattle.upd_laws.proofs.SoundListLemmas.{all_each, all_map, all_weaker, apart_end, or_none_left, or_none_right, same_number}
+use Rattle.upd_laws.proofs.SoundIdentLemmas.{not_some}
+use Rattle.upd_laws.proofs.SoundListLemmas.{all_both, all_each, all_map, all_weaker, apart_end, or_none_left, or_none_right, same_number}
 use Rattle.upd_correction_laws.specs.Corrections.{Correction, Edit, IsCorrectionOf, IsEditOf, IsNewDeckOf, NewDeck, Segment}
 use Rattle.upd_correction_laws.specs.Corrections.{new_deck_lines}
 use Rattle.upd_correction_laws.specs.RunLines.{IsSpelled, RunLine}
@@ -27,6 +28,7 @@ use Rattle.upd_correct.specs.Problems.{HasNoProblem, deck_problem, first_problem
 use Rattle.upd_correct.specs.EditedText.{card_line, texts_of}
 use Rattle.upd_correct.specs.Scripts.{HasFirst, IsScriptOf}
 use Rattle.upd_correct.proofs.ListLemmas.{all_passing, apart_filter, zip_right}
+use Rattle.upd_correct.proofs.TextLineLemmas.{zip_end}
 
 -- ---- what no problem says
 
@@ -200,16 +202,12 @@ pub record IsFree (l : LibraryView) (name : List ℕ) : Type 0 where
   pub allowed : is_reserved name ≡ false
   pub free : held_named name l.idents ≡ None
 
-none_some : {A : Type 0} (o : Option A) → is_some o ≡ false → o ≡ None
-none_some None e = refl
-none_some (Some x) e = absurd (cc)
-
 pub set_ok : (l : LibraryView) (set : List ℕ) → set_problem l set ≡ None → (is_name set ≡ true) × IsFree l set
 set_ok l set e = go (is_name set) refl (is_reserved set) refl (is_some (held_named set l.idents)) refl
   where
     go : (a : Bool) → is_name set ≡ a → (b : Bool) → is_reserved set ≡ b → (c : Bool) → is_some (held_named set l.idents) ≡ c
         → (is_name set ≡ true) × IsFree l set
-    go true f false g false h = (f, record { allowed = g; free = none_some (held_named set l.idents) h })
+    go true f false g false h = (f, record { allowed = g; free = not_some (held_named set l.idents) h })
     go true f false g true h = let bad = rw (f, g, h) at e in absurd (cc)
     go true f true g c h = let bad = rw (f, g) at e in absurd (cc)
     go false f b g c h = let bad = rw f at e in absurd (cc)
@@ -219,7 +217,7 @@ name_ok l set name e = go (is_reserved name) refl (is_some (held_named name l.id
   where
     go : (a : Bool) → is_reserved name ≡ a → (b : Bool) → is_some (held_named name l.idents) ≡ b → (c : Bool) → bytes_eq name set ≡ c
         → IsFree l name × (bytes_eq name set ≡ false)
-    go false f false g false h = (record { allowed = f; free = none_some (held_named name l.idents) g }, h)
+    go false f false g false h = (record { allowed = f; free = not_some (held_named name l.idents) g }, h)
     go false f false g true h = let bad = rw (f, g, h) at e in absurd (cc)
     go false f true g c h = let bad = rw (f, g) at e in absurd (cc)
     go true f b g c h = let bad = rw f at e in absurd (cc)
@@ -241,10 +239,6 @@ new_ok l set d is none new =
     (record { allowed = name.0.allowed; free = name.0.free; plain = is.plain; lines = is.lines }, name.1)
 
 -- ---- the edit
-
-both_of : {A : Type 0} (P Q : A → Type 0) (xs : List A) → AllByRecursion P xs → AllByRecursion Q xs → AllByRecursion (λ x. P x × Q x) xs
-both_of P Q [] ps qs = tt
-both_of P Q (x ∷ xs) ps qs = ((ps.0, qs.0), both_of P Q xs ps.1 qs.1)
 
 -- the edit of a plan
 abbrev pub planned : LibraryView → List ℕ → List NewDeck → List Correction → Edit
@@ -278,15 +272,9 @@ plan_is_edit l set decks corrections sound name are none for = record {
 
     new : AllByRecursion (λ d. IsNewDeckOf l d × (bytes_eq d.name set ≡ false)) (new_decks l decks)
     new = all_passing (λ d. IsEditedDeck d × HasNoOwnProblem l set d) _ (λ d. not (is_some (deck_of d.name l))) decks
-        (λ d is e. new_ok l set d is.0 is.1 e) (both_of IsEditedDeck (HasNoOwnProblem l set) decks are own)
+        (λ d is e. new_ok l set d is.0 is.1 e) (all_both IsEditedDeck (HasNoOwnProblem l set) decks are own)
 
 -- ---- one more deck
-
-zip_append : {A B : Type 0} (R : A → B → Type 0) (xs : List A) (ys : List B) (x : A) (y : B) → AllZip R xs ys → R x y → AllZip R (xs ++ x ∷ []) (ys ++ y ∷ [])
-zip_append R [] [] x y zip is = (is, tt)
-zip_append R [] (w ∷ ys) x y zip is = absurd zip
-zip_append R (v ∷ xs) [] x y zip is = absurd zip
-zip_append R (v ∷ xs) (w ∷ ys) x y zip is = (zip.0, zip_append R xs ys x y zip.1 is)
 
 -- the held decks among one more
 held_more : (l : LibraryView) (decks : List NewDeck) (i : ℕ) (d : NewDeck) → i < length decks → d ≡ get_or decks i d
@@ -303,7 +291,7 @@ correction_more l decks i a d corrections c within e held for is =
     let more : held_decks l (take (i + 1) decks) ≡ held_decks l (take i decks) ++ d ∷ [] =
     held_more l decks i d within e ∙ ap (λ b. held_decks l (take i decks) ++ cond b (d ∷ []) []) some in
     subst (λ ds. AllZip (IsCorrectionFor l) ds (corrections ++ c ∷ [])) (sym more)
-    (zip_append (IsCorrectionFor l) (held_decks l (take i decks)) corrections d c for is)
+    (zip_end (IsCorrectionFor l) (held_decks l (take i decks)) corrections d c for is)
 
 pub correction_skipped : (l : LibraryView) (decks : List NewDeck) (i : ℕ) (d : NewDeck) (corrections : List Correction) → i < length decks
     → d ≡ get_or decks i d → deck_of d.name l ≡ None → AreCorrectionsFor l (take i decks) corrections → AreCorrectionsFor l (take (i + 1) decks) corrections

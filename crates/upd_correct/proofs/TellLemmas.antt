@@ -1,6 +1,6 @@
 -- The listing of a held deck is read, and tells its name and its cards.
-use Rattle.std.proofs.Common.{◌≡◌, ℕ, ◌+◌, ◌-◌, ◌==◌, ◌≤◌, nat_lt, Bool, true, false, cond, List, [], ◌∷◌, ◌++◌, map, length, slice_get}
-use Rattle.std.proofs.Common.{Option, Some, None, is_some, unwrap_or, position, Result, Ok, refl, sym, ap, ◌∙◌, subst, arith}
+use Rattle.std.proofs.Common.{◌≡◌, ℕ, ◌+◌, ◌-◌, ◌==◌, ◌≤◌, nat_lt, Bool, true, false, List, [], ◌∷◌, ◌++◌, map, length}
+use Rattle.std.proofs.Common.{Some, None, unwrap_or, Result, Ok, refl, sym, ap, ◌∙◌, subst, arith}
 use Rattle.std.proofs.lemmas.Bool.Decides.{nat_tests}
 use Rattle.std.proofs.lemmas.List.{length-map}
 use Rattle.std.proofs.lemmas.Slice.Eq.{bytes_eq-Decides}
@@ -14,20 +14,20 @@ use Rattle.upd_text.specs.declared.limits.TheConstants.{MAX_CARDS}
 use Rattle.upd_text.specs.Names.{IsReference, is_name, yank_name}
 use Rattle.upd_text.specs.Outcome.{◌>>=◌, at_line, need}
 use Rattle.upd_core.specs.declared.ident.Ident.{Ident}
-use Rattle.upd_core.specs.Library.{CardView, DeckView, LibraryView, all_decks, cards_of, deck_of, held_named, is_common, is_deck, name_of, ref_of}
+use Rattle.upd_core.specs.Library.{CardView, DeckView, LibraryView, all_decks, cards_of, deck_of, held_named, is_common, is_deck, ref_of}
 use Rattle.upd_core.specs.Sound.{IsSound, all_cards}
 use Rattle.upd_core.specs.Status.{is_active, live_targets}
 use Rattle.upd_core.proofs.ApartLemmas.{all_at, all_back, all_front, all_of_contained}
-use Rattle.upd_core.proofs.FoundLemmas.{IsAt, card_held, held_at, named_at}
+use Rattle.upd_core.proofs.FoundLemmas.{IsAt, named_at}
 use Rattle.upd_deck.specs.Reading.{is_allowed}
-use Rattle.upd_compile.specs.Idents.{ident_at}
-use Rattle.upd_compile.specs.Listings.{deck_heading, deck_line, deck_listing, deck_name, heading, listed_deck}
+use Rattle.upd_compile.specs.Listings.{deck_heading, deck_line, deck_listing, heading, listed_deck}
 use Rattle.upd_laws.specs.ReadRuns.{HasLineTexts, IsOfRun}
 use Rattle.upd_laws.proofs.SoundListLemmas.{all_weaker}
+use Rattle.upd_correction_laws.proofs.WholeLemmas.{card_named}
 use Rattle.upd_correct.specs.EditedText.{lines_in}
 use Rattle.upd_correct.proofs.ListLemmas.{all_contained}
 use Rattle.upd_correct.proofs.PlanLemmas.{IsDeckIdent, deck_ident}
-use Rattle.upd_correct.specs.ListedDeck.{TellDeck, as_listed, bad_card, bad_line, listed_card, listed_name}
+use Rattle.upd_correct.specs.ListedDeck.{TellDeck, as_listed, bad_card, listed_card}
 use Rattle.upd_correct.proofs.ListedLemmas.{IsFedLine, IsHead, all_read, card_line_fed, card_line_read, common_head, deck_head, fed_first, fed_lines, none_other}
 
 -- ---- the cards
@@ -38,15 +38,7 @@ IsListable idents c = IsReference (ref_of idents c) × IsTrue (list_all is_allow
 
 card_listable : (l : LibraryView) (c : CardView) → IsSound l → HasLineTexts l → Contains (all_cards l) c → IsListable l.idents c
 card_listable l c sound made is =
-    let of : IsOfRun c = all_of_contained IsOfRun (all_cards l) c made.cards is in
-    let at = held_at 1 c.ident l.idents sound.ages (card_held l c sound is) in
-    let most = of.2 in
-    ((named at.0 at.1.place at.1.from, of.1, omega arith), of.0.1)
-  where
-    named : (i : Ident) → slice_get l.idents (c.ident - 1) ≡ Some i → 1 ≤ c.ident → is_name (name_of l.idents c.ident) ≡ true
-    named i e from =
-        let some : (c.ident == 0) ≡ false = grind (arith, nat_tests) in
-        rw (some, e) (all_at (λ (i : Ident). IsTrue (is_name i.name)) l.idents (c.ident - 1) i made.names e)
+    let of : IsOfRun c = all_of_contained IsOfRun (all_cards l) c made.cards is in (card_named l c sound made is, of.0.1)
 
 pub found_all : (P : CardView → Type 0) (test : DeckView → Bool) (decks : List DeckView) → AllByRecursion P (flat_map (λ d. d.cards) decks)
     → AllByRecursion P (option_map_or (λ d. d.cards) (find test decks) [])

@@ -137,7 +137,7 @@ card_reading bytes read e is = (ap line_problem e ∙ no_problem read.item is, a
 
 -- ---- decks grow line by line
 
-zip_end : {A B : Type 0} (R : A → B → Type 0) (xs : List A) (ys : List B) (x : A) (y : B) → AllZip R xs ys → R x y → AllZip R (xs ++ x ∷ []) (ys ++ y ∷ [])
+pub zip_end : {A B : Type 0} (R : A → B → Type 0) (xs : List A) (ys : List B) (x : A) (y : B) → AllZip R xs ys → R x y → AllZip R (xs ++ x ∷ []) (ys ++ y ∷ [])
 zip_end R [] [] x y zip is = (is, tt)
 zip_end R [] (w ∷ ys) x y zip is = absurd zip
 zip_end R (v ∷ xs) [] x y zip is = absurd zip
@@ -153,6 +153,13 @@ deck_read lines bytes decks new d e none is zip =
     ∙ ap (λ x. flat_map new_deck_lines decks ++ x) (append-nil (new_deck_lines d) ∙ ap (λ lines. first_line d ∷ lines) none)))
     (zip_end IsReadAs lines (flat_map new_deck_lines decks) bytes (first_line d) zip is)
 
+-- the last of them grows
+pub last_piece : {X A : Type 0} (f : X → List A) (done : List X) (s t : X) (more : List A) → f t ≡ f s ++ more
+    → flat_map f (done ++ t ∷ []) ≡ flat_map f (done ++ s ∷ []) ++ more
+last_piece f done s t more e =
+    flat_map-append f done (t ∷ []) ∙ ap (λ x. flat_map f done ++ x) (append-nil (f t) ∙ e) ∙ sym (append_assoc (flat_map f done) (f s) more)
+    ∙ ap (λ x. x ++ more) (ap (λ x. flat_map f done ++ x) (sym (append-nil (f s))) ∙ sym (flat_map-append f done (s ∷ [])))
+
 -- the last deck gets a line
 pub line_read : (lines : List (List ℕ)) (bytes text : List ℕ) (front old new : List NewDeck) (d e : NewDeck) → old ≡ front ++ d ∷ [] → new ≡ front ++ e ∷ []
     → e ≡ record d { lines = d.lines ++ card_line text ∷ [] } → IsReadAs bytes (card_line text) → AllZip IsReadAs lines (flat_map new_deck_lines old)
@@ -163,12 +170,6 @@ line_read lines bytes text front old new d e was now grown is zip =
     ∙ last_piece new_deck_lines front d (record d { lines = d.lines ++ card_line text ∷ [] }) (card_line text ∷ []) refl
     ∙ ap (λ x. flat_map new_deck_lines x ++ card_line text ∷ []) (sym was)))
     (zip_end IsReadAs lines (flat_map new_deck_lines old) bytes (card_line text) zip is)
-  where
-    last_piece : {X A : Type 0} (f : X → List A) (done : List X) (s t : X) (more : List A) → f t ≡ f s ++ more
-        → flat_map f (done ++ t ∷ []) ≡ flat_map f (done ++ s ∷ []) ++ more
-    last_piece f done s t more e =
-        flat_map-append f done (t ∷ []) ∙ ap (λ x. flat_map f done ++ x) (append-nil (f t) ∙ e) ∙ sym (append_assoc (flat_map f done) (f s) more)
-        ∙ ap (λ x. x ++ more) (ap (λ x. flat_map f done ++ x) (sym (append-nil (f s))) ∙ sym (flat_map-append f done (s ∷ [])))
 
 pub deck_grown : (front old new : List NewDeck) (d e : NewDeck) (text : List ℕ) → old ≡ front ++ d ∷ [] → new ≡ front ++ e ∷ []
     → e ≡ record d { lines = d.lines ++ card_line text ∷ [] } → AllByRecursion IsEditedDeck old → AllByRecursion IsEditedDeck new

@@ -17,6 +17,7 @@ use crate::script::Segment;
 use itoa::Buffer;
 use std::alloc::{AllocError, Global};
 use std::marker::Model;
+use upd_compile::parts::push_parts;
 use upd_core::card::card_ref;
 use upd_core::{Card, CardRef, Ident};
 
@@ -205,16 +206,6 @@ pub(crate) fn write_run(
     };
     run.push_edit(idents, set, corrections, added)?;
     Ok(run)
-}
-
-/// Appends parts in order.
-fn push_parts(text: &mut Vec<u8>, parts: &[&[u8]]) -> Result<(), AllocError>
-    ensures { OnOk result (text.new.items ≡ text.old.items ++ flat_map (λ part. part.now) parts.now) }
-{
-    for part in parts {
-        text.extend_from_slice(part)?;
-    }
-    Ok(())
 }
 
 /// A card reference as it is written.

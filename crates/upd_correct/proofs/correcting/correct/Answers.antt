@@ -5,7 +5,8 @@ use Rattle.upd_correct.specs.EditedText.{HasDecks}
 use Rattle.upd_correct.specs.Plans.{IsEditedDeck}
 use Rattle.upd_correct.specs.Problems.{HasNoProblem}
 use Rattle.upd_correct.specs.Refusals.{refusals_of}
-use Rattle.upd_correct.proofs.CauseLemmas.{all_refused, no_items, set_is_free}
+use Rattle.upd_correct.proofs.CauseLemmas.{all_refused, set_is_free}
+use Rattle.upd_correct.proofs.ScriptLemmas.{no_items}
 use Rattle.upd_correct.proofs.correcting.correct.Goals as goal
 
 pub returns-clause-corrects : goal.returns-clause-corrects
