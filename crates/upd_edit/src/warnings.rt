@@ -12,6 +12,7 @@ ghost use Rattle.upd_edit.specs.Warnings.{text_warning, warning, warning_lines, 
 use crate::near_words::near_word;
 use itoa::Buffer;
 use std::alloc::{AllocError, Global};
+use upd_compile::parts::push_parts;
 use upd_core::ident::name_at;
 use upd_core::{Card, Entry, Library, Live, Name, Place, Serial};
 use upd_deck::{Item, Line, read_run};
@@ -278,14 +279,4 @@ fn push_warning(text: &mut Vec<u8>, number: usize, words: &[&[u8]]) -> Result<()
     text.extend_from_slice(b": ")?;
     push_parts(text, words)?;
     text.extend_from_slice(b"\n")
-}
-
-/// Appends texts.
-fn push_parts(text: &mut Vec<u8>, parts: &[&[u8]]) -> Result<(), AllocError>
-    ensures { OnOk result (text.new.items ≡ text.old.items ++ flat_map (λ part. part) (map (λ part. part.now) parts.now)) }
-{
-    for part in parts {
-        text.extend_from_slice(part)?;
-    }
-    Ok(())
 }
