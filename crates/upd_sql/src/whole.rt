@@ -133,15 +133,11 @@ pub fn library_rows_in<S: Alter>(
     ensures same_reference { tx.new.conn.ghost_name ≡ tx.old.conn.ghost_name }
     ensures looks { Looks AreRowsOf (state S.Store tx.old.conn.now) (state S.Store tx.new.conn.now) result }
 {
-    let idents = idents_in(tx, alloc)?;
-    let cards = cards_in(tx, alloc)?;
-    let entries = entries_in(tx, alloc)?;
-    let targets = targets_in(tx, alloc)?;
     Ok(LibraryRows {
-        idents,
-        cards,
-        entries,
-        targets,
+        idents: idents_in(tx, alloc)?,
+        cards: cards_in(tx, alloc)?,
+        entries: entries_in(tx, alloc)?,
+        targets: targets_in(tx, alloc)?,
     })
 }
 
