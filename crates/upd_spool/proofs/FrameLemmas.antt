@@ -2,7 +2,7 @@
 use Rattle.std.proofs.Common.{◌≡◌, ℕ, ◌+◌, ◌^◌, ◌<◌, ◌≤◌, ◌==◌, nat_lt, zero, suc, Bool, true, false, ◌&&◌, ◌||◌, List, [], ◌∷◌, ◌++◌, length, take, drop}
 use Rattle.std.proofs.Common.{get_or, decimal, Option, Some, None, sym, ap, ap₂, ◌∙◌, refl, subst, arith, lit<, append_assoc, append-nil, take-append-drop}
 use Rattle.std.proofs.Common.{length-append}
-use Rattle.std.proofs.lemmas.Bool.{and_parts, and_from, cond-true, eqb-true, eq-eqb, false≢true, lt-ltb, ltb-true}
+use Rattle.std.proofs.lemmas.Bool.{and_parts, and_from, cond-true, eqb-true, eq-eqb, false≢true, lt-ltb, ltb-true, or_right}
 use Rattle.std.proofs.lemmas.Bool.Decides.{nat_tests}
 use Rattle.std.proofs.lemmas.Grind.{common_steps}
 use Rattle.std.proofs.lemmas.List.{length-take-le}
@@ -61,10 +61,7 @@ parted a b c d none1 none2 e =
 lf_within : (a b : List ℕ) (n : ℕ) → length a < n → has_lf (take n (a ++ 10 ∷ b)) ≡ true
 lf_within a b zero short = absurd (omega arith)
 lf_within [] b (suc n) short = refl
-lf_within (x ∷ a) b (suc n) short = either (x == 10) _ (lf_within a b n (omega arith))
-  where
-    either : (x y : Bool) → y ≡ true → (x || y) ≡ true
-    either x y e = grind (arith, nat_tests)
+lf_within (x ∷ a) b (suc n) short = or_right (x == 10) _ (lf_within a b n (omega arith))
 
 -- ---- frames
 

@@ -5,7 +5,7 @@ use Rattle.std.specs.List.{list_all, list_any, position_or_len, before_first, af
 use Rattle.std.specs.Option.{option_map}
 use Rattle.std.specs.Result.{result_ok}
 use Rattle.std.specs.Str.{IsUtf8, bytes_eq}
-use Rattle.std.proofs.lemmas.Bool.{and_parts, cond-true, eqb-true, le-leb, leb-true}
+use Rattle.std.proofs.lemmas.Bool.{and_parts, cond-true, eqb-true, le-leb, leb-true, or_left, or_right}
 use Rattle.std.proofs.lemmas.Bool.Decides.{nat_tests}
 use Rattle.std.proofs.lemmas.Fmt.{decimal-digits_value, decimal_digit, digits_decimal, digits_value-decimal, decimal_nonempty, length-decimal-le, first_decimal}
 use Rattle.std.proofs.lemmas.List.Sums.{passes_at_first, split_at_first}
@@ -57,17 +57,11 @@ first_place at (b ∷ word) rest none = more (b == at) (list_any (λ b. b == at)
     more here later place n none next = grind (arith, nat_tests)
 
 any_at : (at : ℕ) (word rest : List ℕ) → list_any (λ b. b == at) (word ++ at ∷ rest) ≡ true
-any_at at [] rest = here (at == at) (list_any (λ b. b == at) rest) (same at)
+any_at at [] rest = or_left (at == at) (list_any (λ b. b == at) rest) (same at)
   where
     same : (n : ℕ) → (n == n) ≡ true
     same n = grind (arith, nat_tests)
-
-    here : (a b : Bool) → a ≡ true → (a || b) ≡ true
-    here a b e = grind (arith, nat_tests)
-any_at at (b ∷ word) rest = later (b == at) _ (any_at at word rest)
-  where
-    later : (a b : Bool) → b ≡ true → (a || b) ≡ true
-    later a b e = grind (arith, nat_tests)
+any_at at (b ∷ word) rest = or_right (b == at) _ (any_at at word rest)
 
 -- a word is cut off at the byte behind it
 pub cut_behind : (at : ℕ) (word rest : List ℕ) → list_any (λ b. b == at) word ≡ false → cut at (word ++ at ∷ rest) ≡ Some (word, rest)

@@ -1,10 +1,9 @@
 -- Each text is that of a spool, and in one way.
-use Rattle.std.proofs.Common.{◌≡◌, ℕ, ◌+◌, ◌<◌, ◌≤◌, ◌==◌, zero, suc, Bool, true, false, cond, not, ◌||◌, ◌⊎◌, inl, inr, List, [], ◌∷◌, ◌++◌, length, take}
+use Rattle.std.proofs.Common.{◌≡◌, ℕ, ◌+◌, ◌<◌, ◌≤◌, ◌==◌, zero, suc, Bool, true, false, cond, not, ◌⊎◌, inl, inr, List, [], ◌∷◌, ◌++◌, length, take}
 use Rattle.std.proofs.Common.{drop}
 use Rattle.std.proofs.Common.{get_or, Option, Some, None, refl, sym, ap, ap₂, ◌∙◌, subst, arith, append_assoc, take-append-drop}
 use Rattle.std.specs.List.{AllByRecursion, after_first, before_first, position_or_len}
-use Rattle.std.proofs.lemmas.Bool.{cases_Bool, cases_eq, cases_lt, cond-true}
-use Rattle.std.proofs.lemmas.Bool.Decides.{nat_tests}
+use Rattle.std.proofs.lemmas.Bool.{cases_Bool, cases_eq, cases_lt, cond-true, or_from, or_parts}
 use Rattle.std.proofs.lemmas.List.{length-take-le}
 use Rattle.std.proofs.lemmas.List.Elements.{All-from_recursion, recursion_from_All}
 use Rattle.std.proofs.lemmas.List.Folds.{list_any-append}
@@ -83,12 +82,9 @@ spool_is_read_in_one_way text frames others rest other is1 is2 =
 
 -- ---- each text is one
 
-without : (a b : Bool) → (a || b) ≡ false → a ≡ false
-without a b none = grind (arith, nat_tests)
-
 none_in_front : (text : List ℕ) (n : ℕ) → has_lf text ≡ false → has_lf (take n text) ≡ false
-none_in_front text n none = without _ (has_lf (drop n text))
-    (sym (list_any-append (λ b. b == 10) (take n text) (drop n text)) ∙ ap has_lf (take-append-drop n text) ∙ none)
+none_in_front text n none = (or_parts _ (has_lf (drop n text))
+    (sym (list_any-append (λ b. b == 10) (take n text) (drop n text)) ∙ ap has_lf (take-append-drop n text) ∙ none)).0
 
 no_lf_rest : (text : List ℕ) → has_lf text ≡ false → (text ≡ []) ⊎ (IsBad text ⊎ IsCut text)
 no_lf_rest [] none = inl refl
@@ -102,11 +98,8 @@ none_before : (text : List ℕ) → has_lf (before_first (λ b. b == 10) text) �
 none_before [] = refl
 none_before (b ∷ text) = by (none_before text) (b == 10) refl
   where
-    both : (x y : Bool) → x ≡ false → y ≡ false → (x || y) ≡ false
-    both x y e f = grind (arith, nat_tests)
-
     further : (n place : ℕ) → n ≡ suc place → (b == 10) ≡ false → has_lf (take place text) ≡ false → has_lf (take n (b ∷ text)) ≡ false
-    further n place e here none = subst (λ k. has_lf (take k (b ∷ text)) ≡ false) (sym e) (both _ _ here none)
+    further n place e here none = subst (λ k. has_lf (take k (b ∷ text)) ≡ false) (sym e) (or_from _ _ here none)
 
     by : has_lf (before_first (λ c. c == 10) text) ≡ false → (here : Bool) → (b == 10) ≡ here
         → has_lf (take (cond (not here) (1 + position_or_len (λ c. c == 10) text) 0) (b ∷ text)) ≡ false

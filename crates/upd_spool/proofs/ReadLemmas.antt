@@ -1,8 +1,7 @@
 -- What is read of a frame before it stops.
-use Rattle.std.proofs.Common.{◌≡◌, ℕ, ◌<◌, ◌≤◌, ◌≢◌, ◌==◌, zero, suc, Bool, false, ◌||◌, List, [], ◌∷◌, ◌++◌, length, take, get_or, Option, Some, Result, Ok, Err, inl, inr, refl, sym, ap}
+use Rattle.std.proofs.Common.{◌≡◌, ℕ, ◌<◌, ◌≤◌, ◌≢◌, ◌==◌, zero, suc, false, List, [], ◌∷◌, ◌++◌, length, take, get_or, Option, Some, Result, Ok, Err, inl, inr, refl, sym, ap}
 use Rattle.std.proofs.Common.{◌∙◌, subst, arith, append_assoc, append-nil}
-use Rattle.std.proofs.lemmas.Bool.{ne_eqb}
-use Rattle.std.proofs.lemmas.Bool.Decides.{nat_tests}
+use Rattle.std.proofs.lemmas.Bool.{ne_eqb, or_from}
 use Rattle.std.proofs.lemmas.List.{take_all}
 use Rattle.std.proofs.lemmas.List.Folds.{list_any-append}
 use Rattle.std.specs.Io.KnownBytes.{Consumes}
@@ -27,11 +26,8 @@ error_is (Err e) kind is = ap Err is
 
 -- a further byte that is no LF
 pub byte_without : (text buffer : List ℕ) (n : ℕ) → has_lf text ≡ false → length buffer ≡ 1 → get_or buffer 0 0 ≢ 10 → has_lf (text ++ take n buffer) ≡ false
-byte_without text buffer n none one other = list_any-append (λ b. b == 10) text (take n buffer) ∙ both _ _ none (alone buffer n one other)
+byte_without text buffer n none one other = list_any-append (λ b. b == 10) text (take n buffer) ∙ or_from _ _ none (alone buffer n one other)
   where
-    both : (x y : Bool) → x ≡ false → y ≡ false → (x || y) ≡ false
-    both x y e f = grind (arith, nat_tests)
-
     nothing : (n : ℕ) → has_lf (take n []) ≡ false
     nothing zero = refl
     nothing (suc n) = refl
@@ -39,7 +35,7 @@ byte_without text buffer n none one other = list_any-append (λ b. b == 10) text
     alone : (buffer : List ℕ) (n : ℕ) → length buffer ≡ 1 → get_or buffer 0 0 ≢ 10 → has_lf (take n buffer) ≡ false
     alone [] n one other = absurd (omega (arith, one))
     alone (b ∷ []) zero one other = refl
-    alone (b ∷ []) (suc n) one other = both _ _ (ne_eqb b 10 other) (nothing n)
+    alone (b ∷ []) (suc n) one other = or_from _ _ (ne_eqb b 10 other) (nothing n)
     alone (b ∷ c ∷ buffer) n one other = absurd (omega (arith, one))
 
 -- so many bytes without LF begin no frame
