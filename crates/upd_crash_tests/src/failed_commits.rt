@@ -1,4 +1,5 @@
-//! A store over lists of which one commit fails: what was in hand is lost, and may arrive again.
+//! A store over lists of which one commit fails, by itself and below rows in memory: what was in hand is lost, and may
+//! arrive again.
 ghost use Rattle.std.specs.Prelude.{◌≡◌, ℕ, ◌+◌, ◌-◌, ◌^◌, min, refl};
 ghost use Rattle.std.proofs.Common.{sym, ◌∙◌};
 ghost use Rattle.upd_records.specs.Rows.{Rows};
@@ -9,6 +10,7 @@ use std::test::Fail;
 use upd_core::{Actives, CardRef, Change, Library, Serial, States};
 use upd_desk::{Arrival, Desk};
 use upd_list_store::ListStore;
+use upd_mirror::MirrorStore;
 use upd_records::{LibraryRows, RunRow};
 use upd_row_store::{Meaning, RowStore};
 use upd_testkit::asks::{Ask, Sent, lyon, shown};
@@ -172,20 +174,33 @@ impl RowStore for Failing {
 
 const DECK_A: &str = "*DECK A\nONE\nTWO\nTHREE\n";
 
-/// The run that fails is lost: its key isn't known, and it acts when it arrives again.
-fn loses_one(alloc: Global, list: &[Sent<'_>], passing: usize) -> Result<(), Fail> {
-    let mut session = Session::new(alloc, Failing::new(alloc, passing as u64));
-    for (commits, sent) in list.iter().enumerate() {
+/// Runs of which one is lost.
+const RUNS: [&str; 5] = [
+    DECK_A,
+    "*IDENT X\n*DELETE A.2\nNEW\n",
+    "*IDENT Y\n*YANK X\n",
+    "*IDENT Z\n*YANK Y\n",
+    "*IDENT W\n*DELETE Z.1\n",
+];
+
+/// The run whose commit fails is lost: its key isn't known, and it acts when it arrives again.
+fn loses_one<S: RowStore + Drop>(alloc: Global, store: S, passing: usize) -> Result<(), Fail> {
+    let mut session = Session::new(alloc, store);
+    for (commits, text) in RUNS.iter().enumerate() {
+        let sent = lyon((commits as u64).saturating_add(1), "full", text);
         if commits == passing {
-            session = after_loss(session, *sent)?;
+            session = after_loss(session, sent)?;
         }
-        session.ask(Ask::Run(*sent))?;
+        session.ask(Ask::Run(sent))?;
     }
     Ok(())
 }
 
 /// A run is lost: its key isn't known.
-fn after_loss(mut session: Session<Failing>, sent: Sent<'_>) -> Result<Session<Failing>, Fail> {
+fn after_loss<S: RowStore + Drop>(
+    mut session: Session<S>,
+    sent: Sent<'_>,
+) -> Result<Session<S>, Fail> {
     let ask = Ask::Run(sent);
     let answer = session.ask_desk(ask)?;
     same_text(ask, answer.as_str(), "Store (29) at 0")?;
@@ -200,7 +215,7 @@ fn after_loss(mut session: Session<Failing>, sent: Sent<'_>) -> Result<Session<F
 }
 
 /// The run isn't stored, and one commit has failed.
-fn is_not_stored(alloc: Global, store: &mut Failing, sent: Sent<'_>) -> Result<(), Fail> {
+fn is_not_stored<S: RowStore>(alloc: Global, store: &mut S, sent: Sent<'_>) -> Result<(), Fail> {
     let is_stored = store.kept_run(alloc, sent.site, sent.number)?.is_some();
     holds(sent, !is_stored)?;
     same("the failures", store.failures(), 1)
@@ -208,22 +223,31 @@ fn is_not_stored(alloc: Global, store: &mut Failing, sent: Sent<'_>) -> Result<(
 
 #[test]
 fn a_failed_commit_stores_no_run(rt: HostRuntime) -> Result<(), Fail> {
-    let list = [
-        lyon(1, "full", DECK_A),
-        lyon(2, "full", "*IDENT X\n*DELETE A.2\nNEW\n"),
-        lyon(3, "full", "*IDENT Y\n*YANK X\n"),
-        lyon(4, "full", "*IDENT Z\n*YANK Y\n"),
-        lyon(5, "full", "*IDENT W\n*DELETE Z.1\n"),
-    ];
-    for passing in 0..5 {
-        loses_one(rt.alloc(), &list, passing)?;
+    let alloc = rt.alloc();
+    for passing in 0..RUNS.len() {
+        loses_one(alloc, Failing::new(alloc, passing as u64), passing)?;
     }
     Ok(())
 }
 
-/// The answers of a desk whose store fails after `passing` commits, one a line.
-fn run_all(alloc: Global, list: &[Arrival<'_>], passing: u64) -> Result<String, Fail> {
-    let mut desk = Desk::open(Failing::new(alloc, passing));
+/// Before the second commit there are no rows in memory, and after it there are.
+#[test]
+fn a_failed_commit_below_rows_in_memory_is_answered_store(rt: HostRuntime) -> Result<(), Fail> {
+    let alloc = rt.alloc();
+    for passing in 0..RUNS.len() {
+        let store = MirrorStore::new(Failing::new(alloc, passing as u64));
+        loses_one(alloc, store, passing)?;
+    }
+    Ok(())
+}
+
+/// The answers of a desk over a store, one a line.
+fn run_all<S: RowStore + Drop>(
+    alloc: Global,
+    store: S,
+    list: &[Arrival<'_>],
+) -> Result<String, Fail> {
+    let mut desk = Desk::open(store);
     let mut text = String::new(alloc);
     for answer in desk.run_all(alloc, list)? {
         let answer = shown(alloc, answer.map(|reply| reply.text))?;
@@ -272,7 +296,8 @@ fn wanted_replies(alloc: Global) -> Result<Replies, Fail> {
     })
 }
 
-/// The two runs and their repeats have these answers if the commit after `passing` others fails.
+/// The two runs and their repeats have these answers if the commit after `passing` others fails, also below rows in
+/// memory.
 fn answers_are(alloc: Global, passing: u64, wanted: &str) -> Result<(), Fail> {
     let list = [
         arrival(deck()),
@@ -280,8 +305,11 @@ fn answers_are(alloc: Global, passing: u64, wanted: &str) -> Result<(), Fail> {
         arrival(deck()),
         arrival(deleted()),
     ];
-    let answers = run_all(alloc, &list, passing)?;
-    same_text("the answers", answers.as_str(), wanted)
+    let plain = run_all(alloc, Failing::new(alloc, passing), &list)?;
+    same_text("the answers", plain.as_str(), wanted)?;
+    let mirrored = MirrorStore::new(Failing::new(alloc, passing));
+    let mirrored = run_all(alloc, mirrored, &list)?;
+    same_text("the answers with rows in memory", mirrored.as_str(), wanted)
 }
 
 fn first_is_lost(alloc: Global, replies: &Replies) -> Result<(), Fail> {

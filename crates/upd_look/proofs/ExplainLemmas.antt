@@ -5,7 +5,7 @@ use Rattle.std.specs.Fmt.{digits}
 use Rattle.std.specs.Option.{option_map}
 use Rattle.std.specs.List.{find}
 use Rattle.upd_look.specs.Escaped.{begins}
-use Rattle.upd_look.specs.FaultTexts.{IsCalled, explained, fault_text, faults, is_called}
+use Rattle.upd_look.specs.FaultTexts.{IsCalled, explained, fault_text, faults, has_three_lines, is_called}
 use Rattle.upd_text.specs.Faults.{fault_name, fault_number}
 use Rattle.upd_text.specs.declared.fault.FaultKind.{FaultKind}
 use Rattle.upd_text.specs.declared.fault.FaultKind.TheVariants.{RunLong, TooManyLines, BadByte, LineLong, BadName, BadCard, BadField, NoIdent, TextNowhere}
@@ -120,6 +120,41 @@ own BadFrame = refl
 own CutFrame = refl
 own Read = refl
 own Write = refl
+
+pub three_lines : (kind : FaultKind) → has_three_lines (fault_text kind) ≡ true
+three_lines RunLong = refl
+three_lines TooManyLines = refl
+three_lines BadByte = refl
+three_lines LineLong = refl
+three_lines BadName = refl
+three_lines BadCard = refl
+three_lines BadField = refl
+three_lines NoIdent = refl
+three_lines TextNowhere = refl
+three_lines NameTaken = refl
+three_lines IdentUnknown = refl
+three_lines DeckUnknown = refl
+three_lines CardUnknown = refl
+three_lines RangeOrder = refl
+three_lines DeckCard = refl
+three_lines YankText = refl
+three_lines YankSelf = refl
+three_lines Reserved = refl
+three_lines Full = refl
+three_lines CallUnknown = refl
+three_lines CallDepth = refl
+three_lines CompileLong = refl
+three_lines BadSite = refl
+three_lines BadNumber = refl
+three_lines BadMode = refl
+three_lines RunChanged = refl
+three_lines Settled = refl
+three_lines NoMemory = refl
+three_lines Store = refl
+three_lines BadFrame = refl
+three_lines CutFrame = refl
+three_lines Read = refl
+three_lines Write = refl
 
 -- the numbers begin at 1
 pub from_one : (kind : FaultKind) → 0 < fault_number kind

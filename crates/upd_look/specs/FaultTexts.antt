@@ -1,8 +1,9 @@
 -- What a fault means, by its name or its number.
-use Rattle.std.specs.Prelude.{Bool, ◌-◌, ◌||◌, List, [], ◌∷◌, IsTrue, Option, decimal, slice_get, unwrap_or}
+use Rattle.std.specs.Prelude.{Bool, false, ◌-◌, ◌==◌, ◌&&◌, ◌||◌, List, [], ◌∷◌, IsTrue, Option, codes, decimal, slice_get, unwrap_or}
 use Rattle.std.specs.Option.{option_map}
-use Rattle.std.specs.List.{find}
+use Rattle.std.specs.List.{find, slice_split}
 use Rattle.std.specs.Str.{bytes_eq}
+use Rattle.upd_look.specs.Escaped.{begins}
 use Rattle.upd_look.specs.declared.fault_texts.TheConstants.{FAULT_TEXTS}
 use Rattle.upd_text.specs.Faults.{fault_name, fault_number}
 use Rattle.upd_text.specs.Units.{Bytes}
@@ -30,6 +31,15 @@ IsCalled word = (kind : FaultKind) × IsTrue (is_called word kind)
 -- the text of a fault
 abbrev pub fault_text : FaultKind → Bytes
 fault_text kind = unwrap_or (option_map (λ text. text.now) (slice_get FAULT_TEXTS (fault_number kind - 1))) []
+
+-- whether these are three lines, each with LF: what a fault means, where it comes from, and what to do
+abbrev pub are_three : List Bytes → Bool
+are_three (meaning ∷ source ∷ advice ∷ [] ∷ []) = begins source (codes "from: ") && begins advice (codes "do: ")
+are_three lines = false
+
+-- whether a text has three such lines
+abbrev pub has_three_lines : Bytes → Bool
+has_three_lines text = are_three (slice_split (λ b. b == 10) text)
 
 -- the text of the fault whose name or number is a word
 abbrev pub explained : Bytes → Option Bytes

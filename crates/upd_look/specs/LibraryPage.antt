@@ -1,6 +1,6 @@
 -- A page of HTML that shows a library: its idents, the cards of its decks with their histories, and its yanks.
-use Rattle.std.specs.Prelude.{if◌then◌else◌, List, [], ◌∷◌, ◌++◌, codes}
-use Rattle.std.specs.List.{flat_map}
+use Rattle.std.specs.Prelude.{Bool, ◌||◌, if◌then◌else◌, List, [], ◌∷◌, ◌++◌, codes}
+use Rattle.std.specs.List.{flat_map, list_any}
 use Rattle.upd_text.specs.Units.{Bytes}
 use Rattle.upd_core.specs.declared.ident.Ident.{Ident}
 use Rattle.upd_core.specs.declared.target.Target.{Target}
@@ -9,12 +9,25 @@ use Rattle.upd_core.specs.Serials.{Serial}
 use Rattle.upd_core.specs.Status.{is_active, live_targets}
 use Rattle.upd_compile.specs.Listings.{deck_name, entry_line, ident_listing, line_of, target_line, yank_listing}
 use Rattle.upd_look.specs.Blame.{blame_line}
-use Rattle.upd_look.specs.Escaped.{escaped}
+use Rattle.upd_look.specs.Escaped.{begins, escaped}
 use Rattle.upd_look.specs.declared.library_page.TheConstants.{PAGE_HEAD}
 
 -- what the page begins with
 unfoldable pub page_head : Bytes
 page_head = PAGE_HEAD.now
+
+-- whether a text has another in it
+abbrev pub has_part : Bytes → Bytes → Bool
+has_part [] part = begins [] part
+has_part (b ∷ text) part = begins (b ∷ text) part || has_part text part
+
+-- how HTML runs a script, or names what is outside of a page
+abbrev pub outside_words : List Bytes
+outside_words = codes "<script" ∷ codes "src=" ∷ codes "href=" ∷ codes "url(" ∷ codes "@import" ∷ codes "http" ∷ []
+
+-- whether a text has a script, or names something outside of it
+abbrev pub names_outside : Bytes → Bool
+names_outside text = list_any (has_part text) outside_words
 
 -- an escaped text between two fixed pieces
 unfoldable pub element : Bytes → Bytes → Bytes → Bytes

@@ -4,7 +4,7 @@ ghost use Rattle.std.specs.Prelude.{◌≡◌, ◌++◌, List, ℕ, true, codes,
 ghost use Rattle.std.specs.List.{find};
 ghost use Rattle.std.specs.Option.{option_map};
 ghost use Rattle.upd_look.specs.Escaped.{begins};
-ghost use Rattle.upd_look.specs.FaultTexts.{IsCalled, explained, fault_text, is_called};
+ghost use Rattle.upd_look.specs.FaultTexts.{IsCalled, explained, fault_text, has_three_lines, is_called};
 ghost use Rattle.upd_text.specs.Faults.{fault_name, fault_number};
 ghost use Rattle.upd_text.specs.declared.fault.FaultKind.{FaultKind};
 
@@ -48,13 +48,14 @@ fn fault_text(kind: FaultKind) -> &'static str
     FAULT_TEXTS[kind.number() as usize - 1]
 }
 
-/// Each fault is explained by its name and by its number, with one text that begins with both. No other word is
-/// explained.
+/// Each fault is explained by its name and by its number, with one text of three lines that begins with both. No other
+/// word is explained.
 pub fn each_fault_has_one_text()
     ensures named { (kind : FaultKind) → explained (fault_name kind) ≡ Some (fault_text kind) }
     ensures numbered { (kind : FaultKind) → explained (decimal (fault_number kind)) ≡ Some (fault_text kind) }
     ensures own { (kind : FaultKind) → begins (fault_text kind)
         (fault_name kind ++ codes " (" ++ decimal (fault_number kind) ++ codes "): ") ≡ true }
+    ensures lines { (kind : FaultKind) → has_three_lines (fault_text kind) ≡ true }
     ensures only { (word : List ℕ) → IsSome (explained word) → IsCalled word }
 {}
 

@@ -16,5 +16,5 @@ pub use deck_blame::{blame, texts_begin_in_one_column};
 pub use escaping::escaped_texts_have_no_markup;
 pub use fault_texts::{each_fault_has_one_text, explain};
 pub use ident_report::show;
-pub use library_page::page;
+pub use library_page::{page, pages_need_nothing_outside};
 pub use worked_looks::a_replaced_card_is_seen;

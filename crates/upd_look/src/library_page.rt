@@ -1,10 +1,10 @@
 //! A page of HTML that shows a library.
 
-ghost use Rattle.std.specs.Prelude.{◌≡◌, ◌++◌, IfOk, OnOk};
+ghost use Rattle.std.specs.Prelude.{◌≡◌, ◌++◌, false, IfOk, OnOk};
 ghost use Rattle.std.specs.List.{flat_map};
 ghost use Rattle.std.specs.Result.{IsOkUnless};
 ghost use Rattle.upd_look.specs.LibraryPage.{block, card_item, card_summary, deck_item, deck_summary};
-ghost use Rattle.upd_look.specs.LibraryPage.{element, end_part, history_lines, page, page_head, start_part};
+ghost use Rattle.upd_look.specs.LibraryPage.{element, end_part, history_lines, names_outside, page, page_head, start_part};
 ghost use Rattle.upd_core.specs.Library.{all_decks};
 ghost use Rattle.upd_text.specs.Faults.{fault_at};
 ghost use Rattle.upd_text.specs.declared.fault.FaultKind.TheVariants.{NoMemory};
@@ -55,6 +55,11 @@ pub fn page(alloc: Global, library: &Library) -> Result<Vec<u8>, Fault>
     push_end(&mut html, &yanks)?;
     Ok(html)
 }
+
+/// What a page begins with has no script, and names nothing outside of the page.
+pub fn pages_need_nothing_outside()
+    ensures { names_outside page_head ≡ false }
+{}
 
 #[tactic(auto, unfolding(crate::specs::LibraryPage::start_part))]
 fn push_start(html: &mut Vec<u8>, idents: &[u8]) -> Result<(), AllocError>

@@ -1,0 +1,41 @@
+//! The lines of stored runs, made of rows.
+use std::alloc::Global;
+use std::test::Fail;
+use upd_overview::run_lines;
+use upd_records::RunRow;
+use upd_testkit::check::same_text;
+
+/// A stored run with a reply.
+fn stored(alloc: Global, number: u64, accepted: bool, reply: &[u8]) -> Result<RunRow, Fail> {
+    Ok(RunRow {
+        site: String::from_str(alloc, "LYON")?,
+        number,
+        mode: 2,
+        bytes: Vec::new(alloc),
+        accepted,
+        reply: Vec::from_slice(alloc, reply)?,
+    })
+}
+
+const LINES: &str = "\
+LYON 8 normal CardUnknown
+LYON 9 normal accepted A X+1
+LYON 10 normal accepted
+LYON 11 normal refused
+LYON 12 normal refused
+";
+
+/// No desk stores the last three replies.
+#[test]
+fn a_run_with_a_reply_that_is_not_json_is_listed(rt: HostRuntime) -> Result<(), Fail> {
+    let alloc = rt.alloc();
+    let runs = [
+        stored(alloc, 8, false, b"{\"name\":\"CardUnknown\"}")?,
+        stored(alloc, 9, true, b"{\"idents\":[\"A\",\"X+1\"]}")?,
+        stored(alloc, 10, true, b"{\"idents\":[\"A\"")?,
+        stored(alloc, 11, false, b"")?,
+        stored(alloc, 12, false, b"\"\xFF\"")?,
+    ];
+    let text = run_lines(alloc, &runs)?;
+    same_text("the lines", std::str::from_utf8(&text)?, LINES)
+}
