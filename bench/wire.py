@@ -11,6 +11,7 @@ passed.
 import argparse
 import json
 import resource
+import select
 import shutil
 import socket
 import statistics
@@ -48,15 +49,11 @@ class Server:
     def __init__(self, upd, file, count):
         self.process = subprocess.Popen([upd, "serve", file, f"127.0.0.1:{PORT}", str(count)], stderr=subprocess.PIPE)
         self.count = count
-        for _ in range(3000):
-            if self.process.poll() is not None:
-                sys.exit(f"upd serve doesn't come up: status {self.process.returncode}, {self.process.stderr.read().decode()!r}")
-            sockets = [line.split() for line in Path("/proc/net/tcp").read_text().splitlines()[1:]]
-            if any(words[1].endswith(f":{PORT:04X}") and words[3] == "0A" for words in sockets):
-                return
-            time.sleep(0.01)
-        self.process.kill()
-        sys.exit(f"upd serve doesn't listen on port {PORT}: {self.process.communicate()[1].decode()!r}")
+        told, _, _ = select.select([self.process.stderr], [], [], 30)
+        line = self.process.stderr.readline().decode() if told else "nothing in 30 s"
+        if line != f"upd: listening on 127.0.0.1:{PORT}\n":
+            self.process.kill()
+            sys.exit(f"upd serve says, in place of where it listens: {line!r}")
 
     def __enter__(self):
         return self
@@ -72,7 +69,7 @@ class Server:
             self.process.kill()
             said, status = self.process.communicate()[1], "still there"
         check(f"upd serve ends after {self.count} connections with status", status, 0)
-        check("upd serve says", said.decode(), "")
+        check("upd serve says, after where it listens", said.decode(), "")
         time.sleep(0.05)
 
 

@@ -10,18 +10,19 @@ use Rattle.upd_io.specs.Inputs.{IsInput}
 use Rattle.upd_edit.specs.declared.editing.TheConstants.{MAX_TEXT_BYTES}
 use Rattle.upd_cli.specs.Command.{Answers, Ending, IsToldOf, answer_to}
 use Rattle.upd_cli.specs.Commands.{IsDone}
-use Rattle.upd_cli.specs.Inputs.{HandsRunsIn, IsCorrectRequest, IsSpoolRequest, IsTryRequest, ReadsFor, ReadsInput, TellsRefusals, TriesRunIn, most_read}
+use Rattle.upd_cli.specs.Inputs.{HandsRunsIn, IsCorrectRequest, IsServeRequest, IsSpoolRequest, IsTryRequest, ReadsFor, ReadsInput, ServesIn, TellsRefusals, TriesRunIn, most_read}
 use Rattle.upd_cli.specs.Trial.{trial_named}
 use Rattle.upd_cli.specs.Words.{IsAskedFor, IsCommand, command_word, operand_word, request_name, word_faults}
 use Rattle.upd_cli.specs.declared.words.Request.{Request}
 use Rattle.upd_cli.specs.declared.words.Request.TheVariants.{Trial, Correct, Shown, Unread}
-use Rattle.upd_cli.proofs.RequestLemmas.{corrects, mistake_status, none_among, not_trial, reads, spools, tells, text_status, trial_mode, trial_or_other, tries, unread_for_none}
+use Rattle.upd_cli.proofs.RequestLemmas.{corrects, mistake_status, none_among, not_trial, reads, serves, spools, tells, text_status, trial_mode, trial_or_other, tries, unread_for_none}
 
 -- which words a request that has something to it is asked for by
 pub record IsAskedBut (words : List Text) (request : Request) : Type 0 where
   pub spools : IsSpoolRequest request → command_word words ≡ codes "spool"
   pub corrects : IsCorrectRequest request → command_word words ≡ codes "correct"
   pub tries : IsTryRequest request → TriesRunIn words
+  pub serves : IsServeRequest request → ServesIn words
   pub tells : TellsRefusals request → HandsRunsIn words
   pub reads : ReadsFor request → ReadsInput words
 
@@ -30,6 +31,7 @@ asked_but words request (inl asked) = record {
   spools = spools words request asked;
   corrects = corrects words request asked;
   tries = tries words request asked;
+  serves = serves words request asked;
   tells = tells words request asked;
   reads = reads words request asked;
 }
@@ -39,6 +41,7 @@ asked_but words request (inr (kind, among, is)) =
       spools = λ it. absurd (none.spools it);
       corrects = λ it. absurd (none.corrects it);
       tries = λ it. absurd (none.tries it);
+      serves = λ it. absurd (none.serves it);
       tells = λ it. absurd (none.tells it);
       reads = λ it. absurd (none.reads it);
     }

@@ -12,3 +12,4 @@ pub mod TriedLemmas
 pub mod DoneLemmas
 pub mod PassedLemmas
 pub mod CountLemmas
+pub mod LineLemmas

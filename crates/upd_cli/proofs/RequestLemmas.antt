@@ -9,7 +9,7 @@ use Rattle.clap.specs.declared.error.kind.ErrorKind.TheVariants.{DisplayHelp, Di
 use Rattle.upd_compile.specs.Modes.{mode_named}
 use Rattle.upd_text.specs.declared.limits.TheConstants.{MAX_RUN_BYTES}
 use Rattle.upd_cli.specs.Command.{told_status}
-use Rattle.upd_cli.specs.Inputs.{HandsRunsIn, IsCorrectRequest, IsSpoolRequest, IsTryRequest, ReadsFor, ReadsInput, TellsRefusals, TriesRunIn, most_read}
+use Rattle.upd_cli.specs.Inputs.{HandsRunsIn, IsCorrectRequest, IsServeRequest, IsSpoolRequest, IsTryRequest, ReadsFor, ReadsInput, ServesIn, TellsRefusals, TriesRunIn, most_read}
 use Rattle.upd_cli.specs.Words.{AsksText, IsAskedFor, IsCommand, IsRequest, IsUnreadRequest, asked_name, command_word, operand_word, request_name, upd_app, word_faults}
 use Rattle.upd_cli.specs.declared.words.Asked.{Asked}
 use Rattle.upd_cli.specs.declared.words.Asked.TheVariants as asks
@@ -80,6 +80,10 @@ pub tries : (words : List Text) (request : Request) → IsCommand words request 
 tries words (Try file mode) asked is = (asked.0, command_named words (Try file mode) asked)
 tries words _ asked is = absurd is
 
+pub serves : (words : List Text) (request : Request) → IsCommand words request → IsServeRequest request → ServesIn words
+serves words (Serve file address count) asked is = (asked.0, command_named words (Serve file address count) asked)
+serves words _ asked is = absurd is
+
 pub tells : (words : List Text) (request : Request) → IsCommand words request → TellsRefusals request → HandsRunsIn words
 tells words (Library file asks.Spool) asked is = inr (inl (command_named words (Library file asks.Spool) asked))
 tells words (Library file (asks.Run site number mode)) asked is = inl (command_named words (Library file (asks.Run site number mode)) asked)
@@ -109,12 +113,27 @@ pub record IsForNone (request : Request) : Type 0 where
   pub spools : ¬ (IsSpoolRequest request)
   pub corrects : ¬ (IsCorrectRequest request)
   pub tries : ¬ (IsTryRequest request)
+  pub serves : ¬ (IsServeRequest request)
   pub tells : ¬ (TellsRefusals request)
   pub reads : ¬ (ReadsFor request)
 
 pub unread_for_none : (kind : ErrorKind) (request : Request) → IsUnreadRequest kind request → IsForNone request
-unread_for_none kind (Shown text) is = record { spools = λ no. no; corrects = λ no. no; tries = λ no. no; tells = λ no. no; reads = λ no. no }
-unread_for_none kind (Unread text) is = record { spools = λ no. no; corrects = λ no. no; tries = λ no. no; tells = λ no. no; reads = λ no. no }
+unread_for_none kind (Shown text) is = record {
+  spools = λ no. no;
+  corrects = λ no. no;
+  tries = λ no. no;
+  serves = λ no. no;
+  tells = λ no. no;
+  reads = λ no. no;
+}
+unread_for_none kind (Unread text) is = record {
+  spools = λ no. no;
+  corrects = λ no. no;
+  tries = λ no. no;
+  serves = λ no. no;
+  tells = λ no. no;
+  reads = λ no. no;
+}
 unread_for_none kind _ is = absurd is
 
 -- the status of a text that is shown, and of a mistake

@@ -9,7 +9,7 @@ use Rattle.upd_io.specs.Inputs.{IsInput}
 use Rattle.upd_edit.specs.declared.editing.TheConstants.{MAX_TEXT_BYTES}
 use Rattle.upd_cli.specs.Command.{Answers, Ending, IsToldOf, answer_to, ending}
 use Rattle.upd_cli.specs.Commands.{CarriesOut}
-use Rattle.upd_cli.specs.Inputs.{HandsRunsIn, ReadsInput, TriesRunIn}
+use Rattle.upd_cli.specs.Inputs.{HandsRunsIn, ReadsInput, ServesIn, TriesRunIn}
 use Rattle.upd_cli.specs.Streams.{Stream, TakesFront, after, before}
 use Rattle.upd_cli.specs.Trial.{trial_named}
 use Rattle.upd_cli.specs.Words.{command_word, operand_word, word_faults}
@@ -32,5 +32,5 @@ module _ {S C : Type 0} (meaning : Ghosts S) (conn_of : S → C) (state : C → 
     pub text : command_word words ≢ codes "spool" → TakesFront (MAX_TEXT_BYTES + 1) (before input) (after input)
     pub waits : ¬ (ReadsInput words) → input.new ≡ input.old
     pub silent : (status ≡ 2) ⊎ ((status ≡ 1) × ¬ (HandsRunsIn words)) → output.new ≡ output.old
-    -- `try` may have written warnings.
-    pub clean : ¬ (TriesRunIn words) → status ≡ 0 → faults.new ≡ faults.old
+    -- `try` may have written warnings, and `serve` where it listens.
+    pub clean : ¬ (TriesRunIn words) → ¬ (ServesIn words) → status ≡ 0 → faults.new ≡ faults.old

@@ -18,6 +18,7 @@ use Rattle.upd_edit.specs.declared.editing.TheConstants.{MAX_TEXT_BYTES}
 use Rattle.upd_cli.specs.Command.{Answers, Ending, IsEnd, IsTold, answer_to}
 use Rattle.upd_cli.specs.Errands.{CorrectsText, DoesErrand, TriesRun}
 use Rattle.upd_cli.specs.ListingFile.{CorrectsListed}
+use Rattle.upd_cli.specs.Listening.{ReportsPlace}
 use Rattle.upd_cli.specs.Opened.{IsLibraryIn, IsWarmed, MakesLibrary, MigratesLibrary, OnFile}
 use Rattle.upd_cli.specs.Operands.{IsNoAddress, errand_of}
 use Rattle.upd_cli.specs.Status.{exit_status, fault_line, no_memory}
@@ -113,12 +114,18 @@ module _ {S C : Type 0} (meaning : Ghosts S) (conn_of : S → C) (state : C → 
   ServesFile count ended = (made : List Made) × (length made ≤ count) × OnOk ended (length made ≡ count)
       × OnFile meaning conn_of state held (λ old new. (warm : S) × IsWarmed meaning old warm × LeadsThrough meaning made warm new)
 
+  -- Connections were served over the library in the file, and before them the fault stream got the address; or the file can't be opened, and it got
+  -- nothing.
+  abbrev pub ServesReporting : ℕ → Result (Unit {0}) Fault → Option (List ℕ) → Option (List ℕ) → Type 0
+  ServesReporting count ended faults faults' =
+      (ServesFile count ended × ((written : Result (Unit {0}) Fault) × ReportsPlace written faults faults')) ⊎ (IsErrAnd ended IsUnopened × (faults' ≡ faults))
+
   -- connections were served at an address; or that failed; an ADDRESS that is not valid is a mistake in the command line
   abbrev pub IsServed : List ℕ → ℕ → ℕ → Option (List ℕ) → Option (List ℕ) → Type 0
   IsServed address count status faults faults' =
       (IsNoAddress address × ((status ≡ 2) ⊎ (status ≡ 3)))
-      ⊎ ((place : SocketAddr) × IsSocketText address place × (ended : Result (Unit {0}) Fault)
-      × (ServesFile count ended ⊎ IsErrAnd ended IsUnopened) × EndsSilently ended status faults faults')
+      ⊎ ((place : SocketAddr) × IsSocketText address place × (ended : Result (Unit {0}) Fault) × (mid : Option (List ℕ))
+      × ServesReporting count ended faults mid × EndsSilently ended status mid faults')
 
   -- how a request was carried out over an input
   abbrev pub IsDone : Request → Option (List ℕ) → Option (List ℕ) → Ending → Type 0

@@ -10,7 +10,7 @@ use Rattle.upd_cli.specs.declared.errands.Errand.TheVariants as errand
 use Rattle.upd_cli.specs.declared.words.Asked.{Asked}
 use Rattle.upd_cli.specs.declared.words.Asked.TheVariants as asks
 use Rattle.upd_cli.specs.declared.words.Request.{Request}
-use Rattle.upd_cli.specs.declared.words.Request.TheVariants.{Trial, Library, Correct, Try}
+use Rattle.upd_cli.specs.declared.words.Request.TheVariants.{Trial, Library, Serve, Correct, Try}
 
 -- ---- errands
 
@@ -52,6 +52,11 @@ abbrev pub IsTryRequest : Request → Type 0
 IsTryRequest (Try file mode) = Unit {0}
 IsTryRequest _ = ⊥
 
+-- the request is for `serve`
+abbrev pub IsServeRequest : Request → Type 0
+IsServeRequest (Serve file address count) = Unit {0}
+IsServeRequest _ = ⊥
+
 -- the request hands runs in, or tries one, and may tell refusals on the output
 abbrev pub TellsRefusals : Request → Type 0
 TellsRefusals (Library file asked) = IsHandIn asked
@@ -86,3 +91,7 @@ ReadsInput words = (word_faults words ≡ [])
 -- words that are read, and try a run
 abbrev pub TriesRunIn : List Text → Type 0
 TriesRunIn words = (word_faults words ≡ []) × (command_word words ≡ codes "try")
+
+-- words that are read, and serve connections
+abbrev pub ServesIn : List Text → Type 0
+ServesIn words = (word_faults words ≡ []) × (command_word words ≡ codes "serve")

@@ -9,6 +9,7 @@ pub mod Inputs
 pub mod Telling
 pub mod Correcting
 pub mod ListingFile
+pub mod Listening
 pub mod Errands
 pub mod Opened
 pub mod Commands

@@ -13,7 +13,7 @@ ghost use Rattle.upd_cli.specs.Streams.{TakesFront, stream};
 ghost use Rattle.upd_edit.specs.declared.editing.TheConstants.{MAX_TEXT_BYTES};
 ghost use Rattle.upd_text.specs.declared.limits.TheConstants.{MAX_RUN_BYTES};
 ghost use Rattle.upd_cli.specs.Trial.{trial_named};
-ghost use Rattle.upd_cli.specs.Inputs.{IsHandIn, IsSpoolCommand, IsSpoolRequest, IsTryRequest, ReadsFor, TellsRefusals, most_read};
+ghost use Rattle.upd_cli.specs.Inputs.{IsHandIn, IsServeRequest, IsSpoolCommand, IsSpoolRequest, IsTryRequest, ReadsFor, TellsRefusals, most_read};
 
 use crate::explaining::explain_fault;
 use crate::library::{
@@ -38,7 +38,7 @@ use upd_text::Fault;
 /// Carries out the command line `words`, the program's own name first, and returns the exit status: 0 where all is
 /// done; 1 for a refusal, whose line goes to `faults`, or to the output where the desk refuses the run of `run`; 2
 /// where the words are not a command line, and `faults` says why; 3 where memory, the store, a read or a write failed.
-/// `try` writes its warnings to `faults`, whatever the status is.
+/// `try` writes its warnings to `faults`, whatever the status is, and `serve` where it listens.
 pub fn run_command<S: AsStr, R: Read, W: Write, E: Write>(
     rt: &HostRuntime,
     words: &[S],
@@ -89,7 +89,7 @@ fn carry_out<St: Start, R: Read, W: Write, E: Write>(
         → TakesFront (most_read request.now) (R.remaining input.old) (R.remaining input.new) }
     ensures waits { ¬ ReadsFor request.now → input.new ≡ input.old }
     ensures silent { (result ≡ 2) ⊎ ((result ≡ 1) × ¬ TellsRefusals request.now) → output.new ≡ output.old }
-    ensures clean { ¬ IsTryRequest request.now → result ≡ 0 → faults.new ≡ faults.old }
+    ensures clean { ¬ IsTryRequest request.now → ¬ IsServeRequest request.now → result ≡ 0 → faults.new ≡ faults.old }
 {
     match request {
         Request::Trial { mode } => {
@@ -257,7 +257,7 @@ fn carry_out_explaining<W: Write, E: Write>(fault: &str, output: &mut W, faults:
     }
 }
 
-/// `serve`: an address that is not valid is a usage error.
+/// `serve`: where it listens goes to `faults`. An address that is not valid is a usage error.
 fn carry_out_serving<St: Start, E: Write>(
     rt: &HostRuntime,
     file: &str,
@@ -266,9 +266,8 @@ fn carry_out_serving<St: Start, E: Write>(
     count: u32,
     faults: &mut E,
 ) -> u8
-    ensures served { IsServed ⟦<FileRows<St> as Meaning>⟧ (λ rows. rows.inner.conn) file_state (image_at St.Start)
+    ensures { IsServed ⟦<FileRows<St> as Meaning>⟧ (λ rows. rows.inner.conn) file_state (image_at St.Start)
         address.now count result (E.contents faults.old) (E.contents faults.new) }
-    ensures clean { result ≡ 0 → faults.new ≡ faults.old }
 {
     let Some(reachable) = read_address(address) else {
         return tell_unread(
@@ -280,7 +279,8 @@ fn carry_out_serving<St: Start, E: Write>(
             faults,
         );
     };
-    finish(serve(rt, file, start, reachable, count), faults)
+    let ended = serve(rt, file, start, reachable, count, faults);
+    finish(ended, faults)
 }
 
 /// `trial MODE`: the compile file of the run on the input goes to the output.

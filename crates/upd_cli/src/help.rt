@@ -90,9 +90,11 @@ Example, after `upd init library.db`:
 pub(crate) const SERVE: Text = Text {
     about: "Serves COUNT HTTP connections to a library, one after the other, one request each",
     more: "\
-Reads and writes only connections. A client that is idle for 10 seconds, or takes more than two
-minutes, gets no complete answer. The next client is served when this one closes its connection, or
-is idle for 10 seconds more.
+Reads and writes only connections, but for one line on standard error once clients can connect, as
+`upd: listening on 127.0.0.1:8080`. With port 0 the system chooses a port, and the line has it.
+
+A client that is idle for 10 seconds, or takes more than two minutes, gets no complete answer. The
+next client is served when this one closes its connection, or is idle for 10 seconds more.
 
 Exit status: 0 done; 2 the command line can't be read, or ADDRESS or COUNT is not valid; 3 out of
 memory, the library failed, the address can't be bound, or no connection can be accepted. The fault

@@ -13,6 +13,7 @@ mod errands;
 mod explaining;
 mod help;
 mod library;
+mod listening;
 mod listing_file;
 mod looking;
 mod operands;

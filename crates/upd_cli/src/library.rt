@@ -1,11 +1,12 @@
 //! Commands on the library in a file: it is opened, something is done, and it is closed.
-ghost use Rattle.std.specs.Prelude.{◌≡◌, ◌≢◌, ◌≤◌, ◌⊎◌, ◌+◌, ℕ, List, length, IfErr, IfOk, IsErrAnd, OnErr, OnOk};
+ghost use Rattle.std.specs.Prelude.{◌≡◌, ◌≢◌, ◌≤◌, ◌⊎◌, ◌+◌, ℕ, List, length, IfErr, IfOk, IsErrAnd, OnErr, OnOk, Result};
 ghost use Rattle.sqlite.specs.Files.{file_state};
 ghost use Rattle.sqlite_wal.specs.Files.{image_at};
 ghost use Rattle.upd_cli.specs.Command.{ending};
-ghost use Rattle.upd_cli.specs.Commands.{CorrectsOn, Leaves, ServesFile};
+ghost use Rattle.upd_cli.specs.Commands.{CorrectsOn, Leaves, ServesReporting};
 ghost use Rattle.upd_cli.specs.Errands.{CorrectsText, TriesRun};
 ghost use Rattle.upd_cli.specs.Inputs.{IsHandIn, IsSpoolCommand};
+ghost use Rattle.upd_cli.specs.Listening.{ReportsPlace};
 ghost use Rattle.upd_cli.specs.Opened.{IsOpened, IsWarmed, MakesLibrary, MigratesLibrary, OnFile};
 ghost use Rattle.upd_cli.specs.Status.{exit_status, read_failed};
 ghost use Rattle.upd_cli.specs.Streams.{IsFrontOf, IsRunOn, TakesFront};
@@ -17,6 +18,7 @@ ghost use Rattle.upd_text.specs.declared.limits.TheConstants.{MAX_RUN_BYTES};
 use crate::arriving::try_run;
 use crate::correcting::correct_text;
 use crate::errands::{do_errand, read_errand};
+use crate::listening::report_place;
 use crate::listing_file::{correct_listing, read_listing};
 use crate::streams::{read_front, read_input};
 use crate::words::Asked;
@@ -172,23 +174,25 @@ fn correct_in<St: Start, W: Write, E: Write>(
     Ok(status)
 }
 
-/// Serves `count` connections at an address, which is bound once the file is open. Read, at 0, where it can't be bound.
-pub(crate) fn serve<St: Start>(
+/// Serves `count` connections at an address, which is bound once the file is open. Where it listens goes to `faults`.
+/// Read, at 0, where the address can't be bound.
+pub(crate) fn serve<St: Start, E: Write>(
     rt: &HostRuntime,
     file: &str,
     start: St,
     address: SocketAddr,
     count: u32,
+    faults: &mut E,
 ) -> Result<(), Fault>
-    ensures serves { ServesFile ⟦<FileRows<St> as Meaning>⟧ (λ rows. rows.inner.conn) file_state (image_at St.Start) count result
-        ⊎ IsErrAnd result IsUnopened }
+    ensures serves { ServesReporting ⟦<FileRows<St> as Meaning>⟧ (λ rows. rows.inner.conn) file_state (image_at St.Start)
+        count result (E.contents faults.old) (E.contents faults.new) }
     ensures failed { IfErr result (λ fault. exit_status fault.kind ≡ 3) }
 {
     match open_rows(rt, file, start) {
         Ok(mut rows) => {
             warm(rt.alloc(), &mut rows);
             let mut desk = Desk::open(rows);
-            let ended = serve_desk(rt, address, count, &mut desk);
+            let ended = serve_desk(rt, address, count, &mut desk, faults);
             close_desk(desk);
             ended
         }
@@ -203,19 +207,26 @@ fn warm<S: RowStore>(alloc: Global, rows: &mut MirrorStore<S>)
     rows.warm(alloc);
 }
 
-/// Serves `count` connections at an address over a desk. Read, at 0, where the address can't be bound.
-fn serve_desk<S: RowStore>(
+/// Serves `count` connections at an address over a desk. Where it listens goes to `faults`; a failure of that doesn't
+/// end it. Read, at 0, where the address can't be bound.
+fn serve_desk<S: RowStore, E: Write>(
     rt: &HostRuntime,
     address: SocketAddr,
     count: u32,
     desk: &mut Desk<S>,
+    faults: &mut E,
 ) -> Result<(), Fault>
     ensures leads { (made : List Made) × (length made ≤ count) × OnOk result (length made ≡ count)
         × LeadsThrough S.Meaning made desk.old.store desk.new.store }
+    ensures reports { (written : Result (Unit {0}) Fault)
+        × ReportsPlace written (E.contents faults.old) (E.contents faults.new) }
     ensures err { IfErr result (λ fault. fault ≡ read_failed) }
 {
     match TcpListener::bind(rt, address) {
-        Ok(listener) => serve_on_within(rt.alloc(), rt, &listener, count, desk),
+        Ok(listener) => {
+            let _ = report_place(&listener, faults);
+            serve_on_within(rt.alloc(), rt, &listener, count, desk)
+        }
         Err(_) => Err(FaultKind::Read.without_line()),
     }
 }

@@ -17,6 +17,8 @@ mod listing_files;
 #[cfg(test)]
 mod refusals;
 #[cfg(test)]
+mod served_address;
+#[cfg(test)]
 mod site_commands;
 #[cfg(test)]
 mod surface_desk;

@@ -40,7 +40,7 @@ returns-in-Library-clause-done g c = done_as _ _ _ _ c.args.request.now _ _ _ _ 
 pub returns-in-Serve-clause-done : goal.returns-in-Serve-clause-done
 returns-in-Serve-clause-done g c =
     done_as _ _ _ _ c.args.request.now _ _ _ _ c.in-Serve.is
-    (Appends-nil (g.W.Write.contents c.args.output.now), c.carry_out_serving.ensures.served)
+    (Appends-nil (g.W.Write.contents c.args.output.now), c.carry_out_serving.ensures)
 
 pub returns-in-Correct-clause-done : goal.returns-in-Correct-clause-done
 returns-in-Correct-clause-done g c = done_as _ _ _ _ c.args.request.now _ _ _ _ c.in-Correct.is c.carry_out_correction.ensures.told

@@ -37,7 +37,7 @@ returns-in-Ok g c =
         | inl two ↦ inl two
         | inr one ↦ inr (one.0, λ is. one.1 (asked.tells is))
       ]);
-      clean = λ no. c.carry_out.ensures.clean (λ is. no (asked.tries is));
+      clean = λ tries serves. c.carry_out.ensures.clean (λ is. tries (asked.tries is)) (λ is. serves (asked.serves is));
     }
 
 pub returns-in-Err : goal.returns-in-Err
@@ -62,5 +62,5 @@ returns-in-Err g c =
       text = λ spool. takes_nothing (MAX_TEXT_BYTES + 1) left;
       waits = λ no. refl;
       silent = λ quiet. refl;
-      clean = λ no. c.finish.ensures.clean;
+      clean = λ tries serves. c.finish.ensures.clean;
     }
