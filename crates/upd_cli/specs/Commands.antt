@@ -1,5 +1,5 @@
 -- How commands end: what they do to the library in a file, and what they leave on the output and the fault stream.
-use Rattle.std.specs.Prelude.{◌≡◌, ◌≤◌, ◌⊎◌, ◌+◌, ℕ, List, [], length, Option, Result, Ok, Err, IfErr, IsErrAnd, OnOk}
+use Rattle.std.specs.Prelude.{◌≡◌, ◌≤◌, ◌⊎◌, ◌+◌, ℕ, Bool, true, false, List, [], ◌++◌, codes, length, Option, Result, Ok, Err, IfErr, IsErrAnd, OnOk}
 use Rattle.std.specs.Io.KnownBytes.{Appends}
 use Rattle.std.specs.Net.Grammar.{IsSocketText}
 use Rattle.std.specs.declared.net.socket_addr.SocketAddr.{SocketAddr}
@@ -15,6 +15,10 @@ use Rattle.upd_http.specs.Serving.{Made, LeadsThrough}
 use Rattle.upd_look.specs.FaultTexts.{explained}
 use Rattle.upd_io.specs.Inputs.{IsInput}
 use Rattle.upd_edit.specs.declared.editing.TheConstants.{MAX_TEXT_BYTES}
+use Rattle.upd_keep.specs.Examining.{ExaminesFile}
+use Rattle.upd_keep.specs.declared.examining.Examined.TheVariants as examined
+use Rattle.upd_keep.specs.declared.examining.Report.{Report}
+use Rattle.upd_keep.specs.declared.examining.Report.TheVariants as report
 use Rattle.upd_cli.specs.Command.{Answers, Ending, IsEnd, IsTold, answer_to}
 use Rattle.upd_cli.specs.Errands.{CorrectsText, DoesErrand, TriesRun}
 use Rattle.upd_cli.specs.ListingFile.{CorrectsListed}
@@ -24,7 +28,7 @@ use Rattle.upd_cli.specs.Operands.{IsNoAddress, errand_of}
 use Rattle.upd_cli.specs.Status.{exit_status, fault_line, no_memory}
 use Rattle.upd_cli.specs.Stored.{ReportsList}
 use Rattle.upd_cli.specs.Streams.{IsFrontOf, IsRunOn}
-use Rattle.upd_cli.specs.Telling.{TellsText}
+use Rattle.upd_cli.specs.Telling.{TellsText, Writes}
 use Rattle.upd_cli.specs.Trial.{trial_named}
 use Rattle.upd_cli.specs.Words.{IsAskedFor}
 use Rattle.upd_cli.specs.declared.errands.Errand.{Errand}
@@ -32,7 +36,7 @@ use Rattle.upd_cli.specs.declared.stored.Stored.{Stored}
 use Rattle.upd_cli.specs.declared.stored.Stored.TheVariants as stored
 use Rattle.upd_cli.specs.declared.words.Asked.{Asked}
 use Rattle.upd_cli.specs.declared.words.Request.{Request}
-use Rattle.upd_cli.specs.declared.words.Request.TheVariants.{Trial, Init, Library, Serve, Correct, Try, Runs, Sites, Backup, Migrate, Explain, Shown, Unread}
+use Rattle.upd_cli.specs.declared.words.Request.TheVariants.{Trial, Init, Library, Serve, Correct, Try, Runs, Sites, Backup, Examine, Migrate, Explain, Shown, Unread}
 
 -- the exit status of a command that ended so; its fault, if any, is reported by its line
 abbrev pub IsEndOf : Result ℕ Fault → ℕ → Option (List ℕ) → Option (List ℕ) → Type 0
@@ -52,6 +56,33 @@ IsExplained word end =
 abbrev pub FailsFirst : Ending → Type 0
 FailsFirst end =
     (fault : Fault) × (exit_status fault.kind ≡ 3) × IsTold 3 (fault_line fault) end.status end.faults end.faults' × Appends end.output end.output' []
+
+-- the line that comes first where the log beside a file has frames
+abbrev pub log_line : Bool → List ℕ
+log_line false = []
+log_line true = codes "log: keep FILE-wal with the file, it may have commits that the file lacks\n"
+
+-- the line of what there is in place of a library
+abbrev pub situation_line : List ℕ → List ℕ
+situation_line words = codes "upd: " ++ words ++ codes "\n"
+
+-- A report is written: the line of a sound library to the output; what is wrong, or what there is, to the fault stream.
+abbrev pub TellsReport : Report → Ending → Type 0
+TellsReport (report.Library (examined.Sound line) log) end =
+    (ended : Result ℕ Fault) × Writes 0 (log_line log ++ line.items) ended end.output end.output' × IsEndOf ended end.status end.faults end.faults'
+TellsReport (report.Library (examined.Unsound lines) log) end =
+    Appends end.output end.output' [] × IsTold 1 (log_line log ++ lines.items) end.status end.faults end.faults'
+TellsReport (report.Other situation) end =
+    Appends end.output end.output' [] × ((words : List ℕ) × IsTold 3 (situation_line words) end.status end.faults end.faults')
+
+-- what is at a path is reported; or that failed, and its fault is reported
+abbrev pub EndsReport : Result Report Fault → Ending → Type 0
+EndsReport (Ok report) end = TellsReport report end
+EndsReport (Err fault) end = Appends end.output end.output' [] × IsTold (exit_status fault.kind) (fault_line fault) end.status end.faults end.faults'
+
+-- what is at a path was examined, over connections that show this, and output, fault stream and status tell how
+abbrev pub IsExamined : {C : Type 0} → (C → State) → Image → Ending → Type 0
+IsExamined state held end = (answer : Result Report Fault) × ExaminesFile state held answer × EndsReport answer end
 
 -- a command with no answer ended: all was done, or the line of what failed is reported
 abbrev pub EndsSilently : Result (Unit {0}) Fault → ℕ → Option (List ℕ) → Option (List ℕ) → Type 0
@@ -139,6 +170,7 @@ module _ {S C : Type 0} (meaning : Ghosts S) (conn_of : S → C) (state : C → 
   IsDone (Sites file) input input' end = IsListed stored.Sites end
   IsDone (Backup file copy) input input' end =
       Appends end.output end.output' [] × ((ended : Result (Unit {0}) Fault) × EndsSilently ended end.status end.faults end.faults')
+  IsDone (Examine file) input input' end = IsExamined state held end
   IsDone (Migrate file) input input' end = Appends end.output end.output' [] × IsMigrated end.status end.faults end.faults'
   IsDone (Explain fault) input input' end = IsExplained fault.now end
   IsDone (Shown text) input input' end = (end.status ≡ 0) ⊎ (end.status ≡ 3)

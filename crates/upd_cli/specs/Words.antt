@@ -10,7 +10,7 @@ use Rattle.clap.specs.declared.error.kind.ErrorKind.{ErrorKind}
 use Rattle.clap.specs.declared.error.kind.ErrorKind.TheVariants.{DisplayHelp, DisplayVersion}
 use Rattle.upd_cli.specs.Operands.{IsCount, SpellsCount}
 use Rattle.upd_cli.specs.declared.words.Request.{Request}
-use Rattle.upd_cli.specs.declared.words.Request.TheVariants.{Trial, Init, Library, Serve, Correct, Try, Runs, Sites, Backup, Migrate, Explain, Shown, Unread}
+use Rattle.upd_cli.specs.declared.words.Request.TheVariants.{Trial, Init, Library, Serve, Correct, Try, Runs, Sites, Backup, Examine, Migrate, Explain, Shown, Unread}
 use Rattle.upd_cli.specs.declared.words.Asked.{Asked}
 use Rattle.upd_cli.specs.declared.words.Asked.TheVariants as asks
 
@@ -54,6 +54,7 @@ upd_commands =
     ∷ (codes "runs", word_of (codes "FILE") ∷ [])
     ∷ (codes "sites", word_of (codes "FILE") ∷ [])
     ∷ (codes "backup", word_of (codes "FILE") ∷ word_of (codes "COPY") ∷ [])
+    ∷ (codes "examine", word_of (codes "FILE") ∷ [])
     ∷ (codes "migrate", word_of (codes "FILE") ∷ [])
     ∷ (codes "explain", word_of (codes "FAULT") ∷ [])
     ∷ []
@@ -138,6 +139,7 @@ request_name (Try file mode) = codes "try"
 request_name (Runs file) = codes "runs"
 request_name (Sites file) = codes "sites"
 request_name (Backup file copy) = codes "backup"
+request_name (Examine file) = codes "examine"
 request_name (Migrate file) = codes "migrate"
 request_name (Explain fault) = codes "explain"
 request_name _ = []
@@ -155,6 +157,7 @@ AreOperands rows (Try file mode) = (file.now ≡ operand_in (codes "FILE") rows)
 AreOperands rows (Runs file) = file.now ≡ operand_in (codes "FILE") rows
 AreOperands rows (Sites file) = file.now ≡ operand_in (codes "FILE") rows
 AreOperands rows (Backup file copy) = (file.now ≡ operand_in (codes "FILE") rows) × (copy.now ≡ operand_in (codes "COPY") rows)
+AreOperands rows (Examine file) = file.now ≡ operand_in (codes "FILE") rows
 AreOperands rows (Migrate file) = file.now ≡ operand_in (codes "FILE") rows
 AreOperands rows (Explain fault) = fault.now ≡ operand_in (codes "FAULT") rows
 AreOperands rows _ = ⊥

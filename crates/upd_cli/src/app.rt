@@ -44,6 +44,7 @@ pub(crate) fn program<'a>(alloc: Global) -> Result<Command<'a>, AllocError>
         .subcommand(command(alloc, "runs", help::RUNS, &[FILE])?)?
         .subcommand(command(alloc, "sites", help::SITES, &[FILE])?)?
         .subcommand(command(alloc, "backup", help::BACKUP, &[FILE, COPY])?)?
+        .subcommand(command(alloc, "examine", help::EXAMINE, &[FILE])?)?
         .subcommand(command(alloc, "migrate", help::MIGRATE, &[FILE])?)?
         .subcommand(command(alloc, "explain", help::EXPLAIN, &[FAULT])?)
 }

@@ -15,6 +15,7 @@ ghost use Rattle.upd_text.specs.declared.limits.TheConstants.{MAX_RUN_BYTES};
 ghost use Rattle.upd_cli.specs.Trial.{trial_named};
 ghost use Rattle.upd_cli.specs.Inputs.{IsHandIn, IsServeRequest, IsSpoolCommand, IsSpoolRequest, IsTryRequest, ReadsFor, TellsRefusals, most_read};
 
+use crate::examined::report_on;
 use crate::explaining::explain_fault;
 use crate::library::{
     FileRows, backup_on, correct_on, errand_on, init_file, migrate_file, serve, try_on,
@@ -118,6 +119,7 @@ fn carry_out<St: Start, R: Read, W: Write, E: Write>(
             carry_out_listing(rt, file, start, Stored::Sites, output, faults)
         }
         Request::Backup { file, copy } => finish(backup_on(rt, file, start, copy), faults),
+        Request::Examine { file } => report_on(rt, file, start, output, faults),
         Request::Migrate { file } => finish(migrate_file(rt, file, start), faults),
         Request::Explain { fault } => carry_out_explaining(fault, output, faults),
         Request::Shown(text) => finish(write_out(output, text.as_bytes()), faults),

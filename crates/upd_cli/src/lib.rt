@@ -10,6 +10,7 @@ mod asking;
 mod command;
 mod correcting;
 mod errands;
+mod examined;
 mod explaining;
 mod help;
 mod library;

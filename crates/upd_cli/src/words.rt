@@ -59,6 +59,10 @@ pub enum Request<'a> {
         file: &'a str,
         copy: &'a str,
     },
+    /// `examine FILE`
+    Examine {
+        file: &'a str,
+    },
     /// `migrate FILE`
     Migrate {
         file: &'a str,
@@ -156,6 +160,9 @@ fn read_request<'a>(matches: &ArgMatches<'a>) -> Request<'a>
             file: word(operands, "FILE"),
             copy: word(operands, "COPY"),
         },
+        Some(("examine", operands)) => Request::Examine {
+            file: word(operands, "FILE"),
+        },
         Some(("migrate", operands)) => Request::Migrate {
             file: word(operands, "FILE"),
         },
@@ -175,7 +182,8 @@ fn read_asked<'a>(name: &str, operands: &ArgMatches<'a>) -> Asked<'a>
     requires known { IsOneOf name.now upd_commands }
     requires other { (name.now ≢ codes "trial") × (name.now ≢ codes "init") × (name.now ≢ codes "serve")
         × (name.now ≢ codes "correct") × (name.now ≢ codes "try") × (name.now ≢ codes "runs") × (name.now ≢ codes "sites")
-        × (name.now ≢ codes "backup") × (name.now ≢ codes "migrate") × (name.now ≢ codes "explain") }
+        × (name.now ≢ codes "backup") × (name.now ≢ codes "examine") × (name.now ≢ codes "migrate")
+        × (name.now ≢ codes "explain") }
     ensures { IsAskedBy name.now (rows_of (found_of operands.now)) result }
 {
     match name {

@@ -1,3 +1,6 @@
 mod ReadTexts
 mod Listing
 mod Copies
+mod Reading
+mod SameLength
+mod Reports

@@ -11,6 +11,8 @@ mod console;
 #[cfg(test)]
 mod deck_commands;
 #[cfg(test)]
+mod examined_files;
+#[cfg(test)]
 mod library_files;
 #[cfg(test)]
 mod listing_files;

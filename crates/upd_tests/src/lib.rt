@@ -17,6 +17,8 @@ mod correction_runs;
 #[cfg(test)]
 mod edited_texts;
 #[cfg(test)]
+mod examined_rows;
+#[cfg(test)]
 mod library_edits;
 #[cfg(test)]
 mod library_limits;

@@ -61,6 +61,9 @@ returns-in-Backup-clause-done g c =
       (c.backup_on.result, (c.backup_on.ensures, c.finish-in-Backup.ensures.told)),
     )
 
+pub returns-in-Examine-clause-done : goal.returns-in-Examine-clause-done
+returns-in-Examine-clause-done g c = done_as _ _ _ _ c.args.request.now _ _ _ _ c.in-Examine.is c.report_on.ensures.told
+
 pub returns-in-Explain-clause-done : goal.returns-in-Explain-clause-done
 returns-in-Explain-clause-done g c = done_as _ _ _ _ c.args.request.now _ _ _ _ c.in-Explain.is c.carry_out_explaining.ensures.told
 

@@ -1,0 +1,177 @@
+"""What can be at a path that `upd examine` gets: each situation of docs/protocol.md, rule 10.88, and a log beside a library."""
+
+import os
+import shutil
+import sqlite3
+import subprocess
+import time
+from pathlib import Path
+
+NOBODY = 65534
+LOG = "log: keep FILE-wal with the file, it may have commits that the file lacks\n"
+
+
+def as_nobody():
+    """Has a command run without the rights of root, which may read and write all files."""
+    if os.geteuid() == 0:
+        os.setgroups([])
+        os.setgid(NOBODY)
+        os.setuid(NOBODY)
+
+
+def said(upd, file, plain=False):
+    """What `upd examine` says: the status, the output and the fault stream; without the rights of root where `plain` says so."""
+    ended = subprocess.run([upd, "examine", file], capture_output=True, text=True, check=False, preexec_fn=as_nobody if plain else None)
+    return ended.returncode, ended.stdout, ended.stderr
+
+
+class Paths:
+    """Files in a folder of their own, each in one situation."""
+
+    def __init__(self, upd, folder):
+        self.upd, self.folder, self.bad, self.count = upd, folder, 0, 0
+
+    def path(self, name):
+        return self.folder / name
+
+    def library(self, name):
+        """A library of one deck with two cards, by one run."""
+        file = self.path(name)
+        subprocess.run([self.upd, "init", file], check=True)
+        subprocess.run([self.upd, "run", file, "LYON", "1", "full"], input=b"*DECK A\nONE\n", stdout=subprocess.DEVNULL, check=True)
+        return file
+
+    def is_said(self, file, words, plain=False):
+        """A path is in a situation, which these words name; and a file is left as it was."""
+        before = Path(file).read_bytes() if Path(file).is_file() else None
+        status, output, faults = said(self.upd, file, plain)
+        right = status == 3 and output == "" and faults.startswith("upd: ") and words in faults and faults.count("\n") == 1
+        after = Path(file).read_bytes() if Path(file).is_file() else None
+        self.judge(right and before == after, words, (status, output, faults, before == after))
+
+    def is_sound(self, what, file, before=""):
+        """A library is sound: one deck, two cards, one run."""
+        got = said(self.upd, file)
+        self.judge(got == (0, f"{before}sound: decks 1, cards 2, runs 1\n", ""), what, got)
+
+    def judge(self, right, what, got):
+        self.count += 1
+        if not right:
+            self.bad += 1
+            print("BAD path", what, got)
+
+
+def try_no_database(paths):
+    """What is no database of SQLite."""
+    paths.is_said(paths.path("none.db"), "there is no such file")
+    paths.is_said(paths.path("none") / "none.db", "there is no such file")
+    paths.judge(not paths.path("none.db").exists(), "no file is made", "")
+    paths.is_said(paths.folder, "this is a folder")
+    paths.is_said("/dev/null", "this is no regular file")
+    for name, text, words in [("empty", b"", "the file is empty"), ("short", b"*DECK A\n", "not a database"), ("text", b"C A REMARK\n" * 90, "not a database")]:
+        paths.path(name).write_bytes(text)
+        paths.is_said(paths.path(name), words)
+
+
+def try_rights(paths):
+    """Files that the user may not read, or not write, alone or by their folder; and a file with two names."""
+    file = paths.library("rights.db")
+    for log in paths.folder.glob("rights.db-*"):
+        log.unlink()
+    os.chmod(file, 0o600)
+    if os.geteuid() == 0:
+        paths.is_said(file, "no permission to read it", plain=True)
+    os.chmod(file, 0o444)
+    paths.is_said(file, "it can't be written", plain=True)
+    os.chmod(file, 0o666)
+    if os.geteuid() == 0:
+        paths.is_said(file, "it can't be opened", plain=True)
+    link = paths.path("second.db")
+    os.link(file, link)
+    paths.is_said(file, "a hard link")
+    link.unlink()
+    link.symlink_to(file)
+    paths.is_sound("a symbolic link", link)
+    paths.is_sound("a library with the rights that it needs", file)
+
+
+def try_use(paths):
+    """A library that a spool has open."""
+    file = paths.library("busy.db")
+    with subprocess.Popen([paths.upd, "spool", file], stdin=subprocess.PIPE, stdout=subprocess.PIPE) as spool:
+        run = b"*DECK B\nONE\n"
+        spool.stdin.write(b"RUN LYON 2 full %d\n%s\n" % (len(run), run))
+        spool.stdin.flush()
+        spool.stdout.readline()
+        paths.is_said(file, "it is in use")
+        spool.stdin.close()
+    got = said(paths.upd, file)
+    paths.judge(got == (0, "sound: decks 2, cards 4, runs 2\n", ""), "after the spool", got)
+
+
+def try_log(paths):
+    """A library whose last run is only in its log, since the spool was killed. The log stays."""
+    file = paths.path("log.db")
+    subprocess.run([paths.upd, "init", file], check=True)
+    with subprocess.Popen([paths.upd, "spool", file], stdin=subprocess.PIPE, stdout=subprocess.PIPE) as spool:
+        run = b"*DECK A\nONE\n"
+        spool.stdin.write(b"RUN LYON 1 full %d\n%s\n" % (len(run), run))
+        spool.stdin.flush()
+        spool.stdout.readline()
+        spool.kill()
+    before = file.read_bytes()
+    for _ in range(2):
+        paths.is_sound("a log with frames", file, before=LOG)
+        time.sleep(0.1)
+    paths.judge(file.read_bytes() == before, "the file is left as it was beside a log", "")
+
+
+def try_damage(paths):
+    """Pages that are no pages, and a file that was cut."""
+    file = paths.library("damaged.db")
+    pages = file.read_bytes()
+    file.write_bytes(pages[:4096] + b"\xff" * 512 + pages[4608:])
+    paths.is_said(file, "damaged")
+    file.write_bytes(pages[:-4096])
+    paths.is_said(file, "damaged")
+
+
+def try_schemas(paths):
+    """Other schemas, made from the current one as they differ from it."""
+    first = ["DROP TABLE settled", "DROP TABLE states", "DROP TABLE counts", "UPDATE meta SET v = 1"]
+    second = ["DROP TABLE settled", "UPDATE meta SET v = 2"]
+    for name, texts, words in [("first.db", first, "an older schema"), ("second.db", second, "an older schema"),
+                               ("newer.db", ["UPDATE meta SET v = 4"], "a newer schema"), ("other.db", ["DROP TABLE settled"], "changed or are missing")]:
+        file = paths.library(name)
+        change(file, texts)
+        paths.is_said(file, words)
+    migrated = paths.path("migrated.db")
+    shutil.copyfile(paths.path("second.db"), migrated)
+    subprocess.run([paths.upd, "migrate", migrated], check=True)
+    paths.is_sound("a migrated library", migrated)
+    file = paths.path("another.db")
+    change(file, ["CREATE TABLE note (id INTEGER PRIMARY KEY) STRICT"])
+    paths.is_said(file, "a database")
+
+
+def change(file, texts):
+    """Changes a database by hand."""
+    db = sqlite3.connect(file, isolation_level=None)
+    for text in texts:
+        db.execute(text)
+    db.close()
+
+
+def try_paths(upd, folder):
+    """All situations. Returns how many are not as they are defined."""
+    place = folder / "paths"
+    place.mkdir()
+    os.chmod(place, 0o755)
+    command = place / "upd"
+    shutil.copyfile(upd, command)
+    os.chmod(command, 0o755)
+    paths = Paths(str(command), place)
+    for part in (try_no_database, try_rights, try_use, try_log, try_damage, try_schemas):
+        part(paths)
+    print(f"{paths.count} situations of a path, {paths.bad} of them wrong")
+    return paths.bad

@@ -1,0 +1,84 @@
+-- The library that rows make decides about them: where they are those of a sound, whole library, it is that one.
+use Rattle.std.proofs.Common.{◌≡◌, ℕ, ◌+◌, ◌<◌, ◌≤◌, ◌^◌, Bool, true, false, ◌&&◌, nat_le, List, length, sum_by, refl, sym, ap, ◌∙◌, subst, arith}
+use Rattle.std.specs.Prelude.{◌↔◌, IsTrue}
+use Rattle.std.proofs.lemmas.Bool.{and_parts, and_from}
+use Rattle.std.proofs.lemmas.Bool.Decides.{nat_tests}
+use Rattle.std.proofs.lemmas.List.Sums.{sum_by-cons}
+use Rattle.upd_text.specs.declared.limits.TheConstants.{MAX_CARDS, MAX_ENTRIES, MAX_HELD, MAX_INTRODUCED, MAX_TARGETS}
+use Rattle.upd_core.specs.Library.{DeckView, LibraryView}
+use Rattle.upd_core.specs.Limits.{card_count, entry_count, held_count, is_within_limits, target_count}
+use Rattle.upd_core.specs.Sound.{IsSound, IsWhole}
+use Rattle.upd_core.specs.declared.states.States.{States}
+use Rattle.upd_records.proofs.CountLemmas.{same_of}
+use Rattle.upd_records.specs.Rows.{IsSame, MarkRow, Rows, RunView, Shows, rows_of}
+use Rattle.upd_records.specs.declared.rows.LibraryRows.{LibraryRows}
+use Rattle.upd_row_store.specs.Assembling.{AreRowsOf}
+use Rattle.upd_yank.specs.Right.{AreStatesOf}
+use Rattle.upd_examine.specs.Findings.{AreLibraryRows, AreSoundRows}
+use Rattle.upd_examine.specs.RunForms.{AreRunsSound}
+
+-- the cards of `YANK$$$` are few
+few_yanks : (l : LibraryView) → is_within_limits l ≡ true → length l.yanks < 2 ^ 32
+few_yanks l within =
+    let a = and_parts (nat_le (length l.idents) MAX_INTRODUCED && nat_le (held_count l) MAX_HELD && nat_le (card_count l) MAX_CARDS
+    && nat_le (entry_count l) MAX_ENTRIES) (nat_le (target_count l) MAX_TARGETS) within in
+    let b = and_parts (nat_le (length l.idents) MAX_INTRODUCED && nat_le (held_count l) MAX_HELD && nat_le (card_count l) MAX_CARDS)
+    (nat_le (entry_count l) MAX_ENTRIES) a.0 in
+    let c = and_parts (nat_le (length l.idents) MAX_INTRODUCED && nat_le (held_count l) MAX_HELD) (nat_le (card_count l) MAX_CARDS) b.0 in
+    let most : nat_le (card_count l) MAX_CARDS ≡ true = c.1 in
+    let counted = sum_by-cons (λ (d : DeckView). length d.cards) (record { ident = 0; cards = l.yanks }) l.decks in
+    small (length l.yanks) (sum_by (λ (d : DeckView). length d.cards) l.decks) l.rest.cards (card_count l) (ap (λ n. l.rest.cards + n) counted) most
+  where
+    small : (y d r n : ℕ) → n ≡ r + (y + d) → nat_le n MAX_CARDS ≡ true → y < 2 ^ 32
+    small y d r n is most = let le : n ≤ MAX_CARDS = grind (arith, nat_tests) in omega arith
+
+-- copies of rows
+pub record AreCopies (rows copy : LibraryRows) : Type 0 where
+  pub idents : copy.idents.items ≡ rows.idents.items
+  pub cards : copy.cards.items ≡ rows.cards.items
+  pub entries : copy.entries.items ≡ rows.entries.items
+  pub targets : copy.targets.items ≡ rows.targets.items
+
+copied : (tables : Rows) (rows copy : LibraryRows) → AreCopies rows copy → AreRowsOf tables rows → AreRowsOf tables copy
+copied tables rows copy same are = record {
+  idents = subst (λ xs. IsSame xs tables.idents) (sym same.idents) are.idents;
+  cards = subst (λ xs. IsSame xs tables.cards) (sym same.cards) are.cards;
+  entries = subst (λ xs. IsSame xs tables.entries) (sym same.entries) are.entries;
+  targets = subst (λ xs. IsSame xs tables.targets) (sym same.targets) are.targets;
+}
+
+shows_own : (l : LibraryView) → Shows (rows_of l) l
+shows_own l = record {
+  idents = same_of (rows_of l).idents (rows_of l).idents refl;
+  cards = same_of (rows_of l).cards (rows_of l).cards refl;
+  entries = same_of (rows_of l).entries (rows_of l).entries refl;
+  targets = same_of (rows_of l).targets (rows_of l).targets refl;
+}
+
+pub sound_decided : (rows copy : LibraryRows) (states : States) (runs : List RunView) (marks : List MarkRow) (l : LibraryView) (a b c : Bool)
+    → AreCopies rows copy → ((tables : Rows) (k : LibraryView) → IsSound k → IsWhole k → Shows tables k → AreRowsOf tables copy → l ≡ k)
+    → (IsTrue a ↔ AreLibraryRows rows l) → (IsSound l → length l.yanks < 2 ^ 32 → IsTrue b ↔ AreStatesOf states l)
+    → (IsTrue c ↔ AreRunsSound runs marks) → IsTrue (a && (b && c)) ↔ AreSoundRows rows states runs marks
+sound_decided rows copy states runs marks l a b c same whole own right kept = (
+  (λ t.
+      let p = and_parts a (b && c) t in
+      let q = and_parts b c p.1 in
+      let is = own.0 p.0 in
+      record { library = l; own = is; statuses = (right is.sound (few_yanks l is.limits)).0 q.0; stored = kept.0 q.1 }),
+  (λ are.
+      let k = are.library in
+      let one : l ≡ k = whole (rows_of k) k are.own.sound are.own.whole (shows_own k) (copied (rows_of k) rows copy same are.own.own) in
+      let is : AreLibraryRows rows l = subst (AreLibraryRows rows) (sym one) are.own in
+      let states_are : AreStatesOf states l = subst (AreStatesOf states) (sym one) are.statuses in
+      and_from a (b && c) (own.1 is) (and_from b c ((right is.sound (few_yanks l is.limits)).1 states_are) (kept.1 are.stored))),
+)
+
+-- a text that is empty exactly where a test is passed is empty exactly where that holds which the test decides
+pub chained : {P : Type 0} (n : ℕ) (b : Bool) → ((n ≡ 0) ↔ IsTrue b) → (IsTrue b ↔ P) → (n ≡ 0) ↔ P
+chained n b empty decided = ((λ e. decided.0 (empty.0 e)), (λ p. empty.1 (decided.1 p)))
+
+pub empty_where_true : (n : ℕ) (b : Bool) → n ≡ 0 → b ≡ true → (n ≡ 0) ↔ IsTrue b
+empty_where_true n b none is = ((λ _. is), (λ _. none))
+
+pub some_where_false : (n : ℕ) (b : Bool) → 0 < n → b ≡ false → (n ≡ 0) ↔ IsTrue b
+some_where_false n b some is = ((λ e. absurd (omega (arith, some, e))), (λ t. absurd (let both = sym t ∙ is in cc)))

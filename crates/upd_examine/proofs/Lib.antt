@@ -1,0 +1,14 @@
+pub mod TestLemmas
+pub mod DeckLemmas
+pub mod SortedLemmas
+pub mod WholeLemmas
+pub mod SameLemmas
+pub mod KeyLemmas
+pub mod FlatLemmas
+pub mod RowsLemmas
+pub mod RunLemmas
+pub mod ByKeyLemmas
+pub mod StoredStateLemmas
+pub mod StoredCountLemmas
+pub mod StateTestLemmas
+pub mod FindingLemmas

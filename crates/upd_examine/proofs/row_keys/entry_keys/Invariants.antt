@@ -1,0 +1,6 @@
+use Rattle.std.proofs.Common.{◌≡◌, map, take}
+use Rattle.upd_examine.specs.RowKeys.{entry_key}
+use Rattle.upd_examine.proofs.row_keys.entry_keys.Given as goal
+
+abbrev pub invariant-loop-row : goal.invariant-loop-row
+invariant-loop-row l = l.keys.items ≡ map entry_key (take l.row-index l.rows)

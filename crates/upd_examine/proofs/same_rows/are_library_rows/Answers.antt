@@ -1,0 +1,12 @@
+use Rattle.std.proofs.Common.{sym, subst}
+use Rattle.std.specs.Prelude.{◌↔◌, IsTrue}
+use Rattle.upd_examine.specs.Findings.{AreLibraryRows}
+use Rattle.upd_examine.proofs.RowsLemmas.{library_decided}
+use Rattle.upd_examine.proofs.same_rows.are_library_rows.Goals as goal
+
+pub returns : goal.returns
+returns c =
+    let l = c.args.library.now in
+    let rows = c.args.rows.now in
+    subst (λ r. IsTrue r ↔ AreLibraryRows rows l) (sym c.all_hold.ensures)
+    (library_decided rows l _ _ _ c.in_ok-sound.ensures c.is_within_limits-within.ensures c.in_ok-own.ensures)

@@ -1,0 +1,18 @@
+use Rattle.std.proofs.Common.{sym, ◌∙◌, subst}
+use Rattle.std.specs.Prelude.{◌↔◌, IsTrue}
+use Rattle.upd_records.specs.Rows.{rows_of}
+use Rattle.upd_row_store.specs.Assembling.{AreRowsOf}
+use Rattle.upd_examine.proofs.RowsLemmas.{of_lists, rows_decided}
+use Rattle.upd_examine.proofs.same_rows.are_rows_of.Goals as goal
+
+pub returns : goal.returns
+returns c =
+    let l = c.args.library.now in
+    let rows = c.args.rows.now in
+    let own = c.in_ok-own.ensures in
+    subst (λ r. IsTrue r ↔ AreRowsOf (rows_of l) rows) (sym c.four_hold.ensures)
+    (rows_decided (rows_of l) rows _ _ _ _
+    (of_lists _ _ _ _ _ c.deref.ensures.value (c.deref-2.ensures.value ∙ own.idents) c.in_ok-idents.ensures)
+    (of_lists _ _ _ _ _ c.deref-3.ensures.value (c.deref-4.ensures.value ∙ own.cards) c.in_ok-cards.ensures)
+    (of_lists _ _ _ _ _ c.deref-5.ensures.value (c.deref-6.ensures.value ∙ own.entries) c.in_ok-entries.ensures)
+    (of_lists _ _ _ _ _ c.deref-7.ensures.value (c.deref-8.ensures.value ∙ own.targets) c.in_ok-targets.ensures))

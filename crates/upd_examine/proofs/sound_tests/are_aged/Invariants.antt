@@ -1,0 +1,6 @@
+use Rattle.std.proofs.Common.{◌≡◌, ◌+◌, drop}
+use Rattle.upd_examine.specs.SoundTests.{are_aged_from}
+use Rattle.upd_examine.proofs.sound_tests.are_aged.Given as goal
+
+abbrev pub invariant-loop-i : goal.invariant-loop-i
+invariant-loop-i l = are_aged_from (1 + l.i) (drop l.i l.idents) ≡ are_aged_from 1 l.idents

@@ -1,0 +1,17 @@
+use Rattle.std.proofs.Common.{ℕ, if◌then◌else◌, take, get_or, ap, sym, ◌∙◌}
+use Rattle.std.proofs.lemmas.List.{take_more}
+use Rattle.upd_core.specs.declared.target.Target.{Target}
+use Rattle.upd_core.specs.declared.target.Target.TheVariants.{Set}
+use Rattle.upd_core.specs.Targets.{is_same}
+use Rattle.upd_yank.proofs.RowLemmas.{put_more}
+use Rattle.upd_yank.specs.Right.{put_counts}
+use Rattle.upd_examine.proofs.stored_states.by_target.Goals as goal
+
+pub loop-target-preserved : goal.loop-target-preserved
+loop-target-preserved c = λ t.
+    let rows = c.args.stored.now in
+    let i = c.loop-target.target-index in
+    let none : Target × ℕ = (Set 0, 0) in
+    let p : Target × ℕ = get_or rows i none in
+    c.in_ok-put.ensures t ∙ ap (λ n. if is_same p.0 t then p.1 else n) (c.loop-target.invariant t) ∙ put_more (take i rows) (λ _. 0) p t
+    ∙ sym (ap (λ ps. put_counts ps (λ _. 0) t) (take_more rows i none c.loop-target-test.true))

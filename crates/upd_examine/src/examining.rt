@@ -1,0 +1,125 @@
+//! What is wrong with the rows of a library.
+ghost use Rattle.std.specs.Prelude.{◌≡◌, ◌↔◌, ◌<◌, length, IfOk, IsTrue};
+ghost use Rattle.upd_examine.specs.Findings.{AreSoundRows};
+
+use crate::copies::copy_rows;
+use crate::differing::add_differing;
+use crate::lines::Findings;
+use crate::own_rows::own_rows;
+use crate::row_lists::{count_texts, own_counts, row_texts, state_texts};
+use crate::run_findings::add_runs_and_marks;
+use crate::sound_rows::are_sound_rows;
+use crate::stored_states::own_states;
+use crate::unsound::add_unsound;
+use std::alloc::{AllocError, Global};
+use upd_core::{Fault, Library, States};
+use upd_records::{LibraryRows, MarkRow, RunRow};
+use upd_row_store::assembled;
+use upd_yank::Cache;
+
+/// What is wrong with the rows of a library, a line each, at most 100 lines. The text is empty exactly where some sound,
+/// whole library has these rows. Which lines there are is tested, and no clause says it.
+pub fn findings(
+    alloc: Global,
+    rows: &LibraryRows,
+    states: &States,
+    runs: &[RunRow],
+    marks: &[MarkRow],
+) -> Result<Vec<u8>, AllocError>
+    ensures { IfOk result (λ text. (length text.items ≡ 0) ↔ AreSoundRows rows.now states.now runs.now marks.now) }
+{
+    let sound = decided(alloc, rows, states, runs, marks)?;
+    let text = said(alloc, sound, rows, states, runs, marks)?;
+    Ok(text)
+}
+
+/// Whether rows are sound; memory alone can fail.
+fn decided(
+    alloc: Global,
+    rows: &LibraryRows,
+    states: &States,
+    runs: &[RunRow],
+    marks: &[MarkRow],
+) -> Result<bool, AllocError>
+    ensures { IfOk result (λ are. IsTrue are ↔ AreSoundRows rows.now states.now runs.now marks.now) }
+{
+    match are_sound_rows(alloc, rows, states, runs, marks) {
+        Ok(are) => Ok(are),
+        Err(_) => Err(AllocError),
+    }
+}
+
+/// No text where rows are sound, else what is wrong with them.
+fn said(
+    alloc: Global,
+    sound: bool,
+    rows: &LibraryRows,
+    states: &States,
+    runs: &[RunRow],
+    marks: &[MarkRow],
+) -> Result<Vec<u8>, AllocError>
+    ensures { IfOk result (λ text. (length text.items ≡ 0) ↔ IsTrue sound) }
+{
+    if sound {
+        return Ok(Vec::new(alloc));
+    }
+    let text = lines(alloc, rows, states, runs, marks)?;
+    Ok(text)
+}
+
+/// What is wrong with rows, in at least one line.
+fn lines(
+    alloc: Global,
+    rows: &LibraryRows,
+    states: &States,
+    runs: &[RunRow],
+    marks: &[MarkRow],
+) -> Result<Vec<u8>, AllocError>
+    ensures { IfOk result (λ text. 0 < length text.items) }
+{
+    match found_in(alloc, rows, states, runs, marks) {
+        Ok(found) => found.into_text(alloc),
+        Err(_) => Err(AllocError),
+    }
+}
+
+/// The findings; memory alone can fail.
+fn found_in(
+    alloc: Global,
+    rows: &LibraryRows,
+    states: &States,
+    runs: &[RunRow],
+    marks: &[MarkRow],
+) -> Result<Findings, Fault> {
+    let mut found = Findings::new(alloc);
+    let copy = copy_rows(alloc, rows)?;
+    let library = assembled(alloc, copy)?;
+    add_unsound(alloc, &mut found, &library)?;
+    let own = own_rows(alloc, &library)?;
+    let own = row_texts(alloc, &own)?;
+    let stored = row_texts(alloc, rows)?;
+    add_differing(&mut found, stored, own)?;
+    add_of_states(alloc, &mut found, &library, states)?;
+    add_runs_and_marks(alloc, &mut found, runs, marks)?;
+    Ok(found)
+}
+
+/// Findings about statuses and counts.
+fn add_of_states(
+    alloc: Global,
+    found: &mut Findings,
+    library: &Library,
+    states: &States,
+) -> Result<(), Fault> {
+    let cache = Cache::build(alloc, library)?;
+    let own = own_states(alloc, library, &cache)?;
+    let own = state_texts(alloc, &own)?;
+    let stored = state_texts(alloc, &states.states)?;
+    add_differing(found, stored, own)?;
+    let live = library.live_yanks()?;
+    let own = own_counts(alloc, library.yanks(), &live)?;
+    let own = count_texts(alloc, &own)?;
+    let stored = count_texts(alloc, &states.counts)?;
+    add_differing(found, stored, own)?;
+    Ok(())
+}

@@ -1,0 +1,12 @@
+-- Lists with the same elements are equally long.
+use Rattle.std.proofs.Common.{◌≡◌, ◌+◌, true, List, [], ◌∷◌, length, refl, sym, ◌∙◌, arith}
+use Rattle.std.specs.List.{count_by}
+use Rattle.upd_records.specs.Rows.{IsSame}
+use Rattle.upd_records.proofs.CountLemmas.{count_cons}
+
+count_all : {A : Type 0} (xs : List A) → count_by (λ _. true) xs ≡ length xs
+count_all [] = refl
+count_all (x ∷ xs) = let rest = count_all xs in omega (arith, count_cons (λ _. true) x xs, rest)
+
+pub same_length : {A : Type 0} {xs ys : List A} → IsSame xs ys → length xs ≡ length ys
+same_length {A} {xs} {ys} same = sym (count_all xs) ∙ same.passes (λ _. true) ∙ count_all ys

@@ -1,0 +1,91 @@
+-- What is said of a file that is examined.
+use Rattle.std.specs.Prelude.{◌≡◌, ℕ, List, [], ◌++◌, Bool, ◌&&◌, codes, decimal, length, Result, Ok, Err, IfErr, IfOk, IsTrue}
+use Rattle.std.specs.List.{count_by}
+use Rattle.sqlite_wal.specs.Recovery.{Image}
+use Rattle.sqlite.specs.Start.{FindsIn}
+use Rattle.sqlite.specs.State.{State, HasCleanDisk, Survives}
+use Rattle.upd_text.specs.declared.fault.Fault.{Fault}
+use Rattle.upd_core.specs.Library.{is_deck_kind}
+use Rattle.upd_core.specs.declared.ident.Ident.{Ident}
+use Rattle.upd_core.specs.declared.states.States.{States}
+use Rattle.upd_examine.specs.Findings.{AreSoundRows}
+use Rattle.upd_records.specs.Rows.{Rows}
+use Rattle.upd_row_store.specs.Assembling.{AreRowsOf}
+use Rattle.upd_row_store.specs.Keeping.{IsLost}
+use Rattle.upd_row_store.specs.Tables.{AreRead}
+use Rattle.upd_sql.specs.Commits.{MayKeep}
+use Rattle.upd_sql.specs.LibraryTables.{ShowsTables}
+use Rattle.upd_sql.specs.Schema.{library_schema}
+use Rattle.upd_keep.specs.Keeping.{AreKept}
+use Rattle.upd_keep.specs.declared.all_rows.AllRows.{AllRows}
+use Rattle.upd_keep.specs.declared.examining.Examined.{Examined}
+use Rattle.upd_keep.specs.declared.examining.Examined.TheVariants.{Sound, Unsound}
+use Rattle.upd_keep.specs.declared.examining.Report.{Report}
+use Rattle.upd_keep.specs.declared.examining.Report.TheVariants.{Library, Other}
+
+-- The rows of tables, each as often as it is there.
+pub record AreAllRows (rows : Rows) (all : AllRows) : Type 0 where
+  pub library : AreRowsOf rows all.library
+  pub states : AreRead rows all.states
+  pub kept : AreKept rows all.kept
+
+-- the rows that were read of tables are those of a sound, whole library
+abbrev pub AreSoundTables : Rows → Type 0
+AreSoundTables rows = (all : AllRows) × AreAllRows rows all × AreSoundRows all.library all.states all.kept.runs.items all.kept.marks.items
+
+-- whether an ident is a deck, common or not, that is not purged
+abbrev pub is_held_deck : Ident → Bool
+is_held_deck i = i.held && is_deck_kind i.kind
+
+-- the line of a sound library with these numbers of decks, cards and stored runs
+abbrev pub sound_line : ℕ → ℕ → ℕ → List ℕ
+sound_line decks cards runs = codes "sound: decks " ++ decimal decks ++ codes ", cards " ++ decimal cards ++ codes ", runs " ++ decimal runs ++ codes "\n"
+
+-- the line of a sound library with these tables
+abbrev pub sound_line_of : Rows → List ℕ
+sound_line_of rows = sound_line (count_by is_held_deck rows.idents) (length rows.cards) (length rows.runs)
+
+-- what was found is so of these tables
+abbrev pub IsFoundIn : Rows → Examined → Type 0
+IsFoundIn rows (Sound line) = AreSoundTables rows × (line.items ≡ sound_line_of rows)
+IsFoundIn rows (Unsound lines) = (all : AllRows) × AreAllRows rows all × (¬ AreSoundRows all.library all.states all.kept.runs.items all.kept.marks.items)
+
+-- Calls that only read: a library that is committed stays, also after a crash.
+pub record Reads (old new : State) : Type 0 where
+  pub was_open : HasCleanDisk new → IsTrue new.is_open → IsTrue old.is_open
+  pub same : HasCleanDisk new → IsTrue new.is_open → old.committed.schema ≡ library_schema → new.committed ≡ old.committed
+  pub crash : Survives old new (MayKeep old)
+
+-- Tables were examined, or that was lost. A library that is committed stays.
+pub record Examines (answer : Result Examined Fault) (old new : State) : Type 0 where
+  pub found : HasCleanDisk new → IfOk answer (λ found. (rows : Rows) → ShowsTables rows old.committed → IsFoundIn rows found)
+  pub reads : Reads old new
+  pub lost : IfErr answer IsLost
+
+-- The tables of a library in a database were examined.
+pub record ExaminesLibrary (opened : State) (found : Examined) (old new : State) : Type 0 where
+  pub clean : HasCleanDisk old → HasCleanDisk opened
+  pub same : HasCleanDisk old → IsTrue old.is_open → old.committed ≡ opened.committed
+  pub ours : HasCleanDisk old → IsTrue old.is_open → old.committed.schema ≡ library_schema
+  pub examines : Examines (Ok found) old new
+
+-- there is no library to examine, or that was lost
+abbrev pub IsOther : Result Report Fault → Type 0
+IsOther (Ok (Library found log)) = ⊥
+IsOther (Ok (Other situation)) = Unit {0}
+IsOther (Err fault) = IsLost fault
+
+-- Connections, and what each of them shows.
+module _ {C : Type 0} (state : C → State) where
+  -- what is said of a database is so of the library that it holds; nothing is promised of what is no library
+  abbrev pub ReportsOn : C → Result Report Fault → Type 0
+  ReportsOn opened (Ok (Library found log)) = (old : C) × (new : C) × ExaminesLibrary (state opened) found (state old) (state new)
+  ReportsOn opened (Ok (Other situation)) = Unit {0}
+  ReportsOn opened (Err fault) = IsLost fault
+
+  -- what is said of a file is so of the library that it held
+  abbrev pub ExaminesFile : Image → Result Report Fault → Type 0
+  ExaminesFile held (Ok (Library found log)) =
+      (opened : C) × (HasCleanDisk (state opened) → FindsIn held (state opened)) × ReportsOn opened (Ok (Library found log))
+  ExaminesFile held (Ok (Other situation)) = Unit {0}
+  ExaminesFile held (Err fault) = IsLost fault

@@ -1,0 +1,42 @@
+//! All rows of a library, read of a connection.
+ghost use Rattle.std.specs.Prelude.{◌≡◌, false, IfOk};
+ghost use Rattle.sqlite.specs.Held.{state};
+ghost use Rattle.sqlite.specs.State.{HasCleanDisk};
+ghost use Rattle.upd_records.specs.Rows.{Rows};
+ghost use Rattle.upd_sql.specs.LibraryTables.{ShowsTables};
+ghost use Rattle.upd_keep.specs.Examining.{AreAllRows, Reads};
+
+use crate::kept::Kept;
+use crate::stored::stored_kept;
+use sqlite::{Connection, Error};
+use std::alloc::Global;
+use upd_core::States;
+use upd_records::LibraryRows;
+use upd_sql::{stored_library_rows, stored_states};
+use upd_sqlite::Rising;
+
+/// The rows of all tables of a library.
+#[derive(Debug, Drop)]
+pub(crate) struct AllRows {
+    pub(crate) library: LibraryRows,
+    pub(crate) states: States,
+    pub(crate) kept: Kept,
+}
+
+/// The rows of all tables of a library. Nothing changes.
+pub(crate) fn all_rows<S: Rising>(conn: &mut Connection<S>, alloc: Global) -> Result<AllRows, Error>
+    requires { conn.old.in_transaction ≡ false }
+    ensures outside { conn.new.in_transaction ≡ false }
+    ensures reads { Reads (state S.Store conn.old) (state S.Store conn.new) }
+    ensures found { HasCleanDisk (state S.Store conn.new) → IfOk result
+        (λ all. (it : Rows) → ShowsTables it (state S.Store conn.old).committed → AreAllRows it all) }
+{
+    let library = stored_library_rows(conn, alloc)?;
+    let states = stored_states(conn, alloc)?;
+    let kept = stored_kept(conn, alloc)?;
+    Ok(AllRows {
+        library,
+        states,
+        kept,
+    })
+}

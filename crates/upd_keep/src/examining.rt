@@ -1,0 +1,157 @@
+//! Whether what is at a path is a sound library.
+ghost use Rattle.std.specs.Prelude.{◌≡◌, IfOk};
+ghost use Rattle.std.specs.List.{count_by};
+ghost use Rattle.sqlite.specs.Files.{file_state};
+ghost use Rattle.sqlite.specs.Held.{state};
+ghost use Rattle.sqlite_wal.specs.Files.{image_at};
+ghost use Rattle.upd_records.specs.Rows.{Rows};
+ghost use Rattle.upd_keep.specs.Examining.{AreAllRows, Examines, ExaminesFile, IsFoundIn, IsOther, ReportsOn, is_held_deck, sound_line};
+
+use crate::all_rows::{AllRows, all_rows};
+use crate::looking_at::{has_frames, situation_at};
+use crate::situation::{Situation, of_version};
+use itoa::Buffer;
+use sqlite::{Connection, Error, ErrorCode, FileFrom, Start};
+use sqlite_disk::Disk;
+use std::alloc::{AllocError, Global};
+use upd_core::Ident;
+use upd_examine::findings;
+use upd_sqlite::Rising;
+use upd_store::{SqlStore, fault_of, store_at};
+use upd_text::{Fault, FaultKind};
+
+/// What was found in the tables of a library.
+#[derive(Debug, Drop)]
+pub enum Examined {
+    /// Nothing is wrong. The line has the numbers of decks, cards and stored runs.
+    Sound(Vec<u8>),
+    /// What is wrong, a line each.
+    Unsound(Vec<u8>),
+}
+
+/// What there is at a path.
+#[derive(Debug, Drop)]
+pub enum Report {
+    /// A library, what was found in its tables, and whether the log beside its file has frames.
+    Library(Examined, bool),
+    /// Nothing that could be examined.
+    Other(Situation),
+}
+
+/// Whether the tables of a connection are those of a sound library. Nothing changes. The fault is NoMemory or Store, at 0;
+/// it is Store inside a transaction, and where the connection has no tables of a library.
+pub fn examine_tables<S: Rising>(alloc: Global, conn: &mut Connection<S>) -> Result<Examined, Fault>
+    ensures examines { Examines result (state S.Store conn.old) (state S.Store conn.new) }
+    ensures mode { conn.new.in_transaction ≡ conn.old.in_transaction }
+{
+    if !conn.is_autocommit() {
+        return Err(store_at(0));
+    }
+    match all_rows(conn, alloc) {
+        Ok(all) => match judged(alloc, &all) {
+            Ok(found) => Ok(found),
+            Err(_) => Err(FaultKind::NoMemory.without_line()),
+        },
+        Err(error) => Err(fault_of(error)),
+    }
+}
+
+/// What is found in rows.
+fn judged(alloc: Global, all: &AllRows) -> Result<Examined, AllocError>
+    ensures { IfOk result (λ found. (it : Rows) → AreAllRows it all.now → IsFoundIn it found) }
+{
+    let text = findings(
+        alloc,
+        &all.library,
+        &all.states,
+        &all.kept.runs,
+        &all.kept.marks,
+    )?;
+    if !text.is_empty() {
+        return Ok(Examined::Unsound(text));
+    }
+    let line = sound_line(
+        alloc,
+        held_decks(&all.library.idents),
+        all.library.cards.len(),
+        all.kept.runs.len(),
+    )?;
+    Ok(Examined::Sound(line))
+}
+
+/// The line of a sound library with these numbers of decks, cards and stored runs.
+fn sound_line(alloc: Global, decks: usize, cards: usize, runs: usize) -> Result<Vec<u8>, AllocError>
+    ensures { IfOk result (λ line. line.items ≡ sound_line decks cards runs) }
+{
+    let mut line = Vec::from_slice(alloc, b"sound: decks ")?;
+    line.extend_from_slice(Buffer::new().format(decks).as_bytes())?;
+    line.extend_from_slice(b", cards ")?;
+    line.extend_from_slice(Buffer::new().format(cards).as_bytes())?;
+    line.extend_from_slice(b", runs ")?;
+    line.extend_from_slice(Buffer::new().format(runs).as_bytes())?;
+    line.extend_from_slice(b"\n")?;
+    Ok(line)
+}
+
+fn held_decks(idents: &[Ident]) -> usize
+    ensures { result ≡ count_by is_held_deck idents.now }
+{
+    idents
+        .iter()
+        .filter(|ident| ident.held && ident.kind.is_deck())
+        .count()
+}
+
+/// Examines what is at a path, and changes no table. An empty log may be left beside a database. The fault is NoMemory or
+/// Store, at 0, where memory runs out or the file can't be read. Where there is no library to examine, the situation
+/// comes from the file's kind, its first bytes, the error of opening it, and its version.
+pub fn examine<St: Start>(rt: &HostRuntime, path: &str, start: St) -> Result<Report, Fault>
+    ensures { ExaminesFile (file_state {g = ⟦<FileFrom<St> as Disk>⟧}) (image_at St.Start) result }
+{
+    if let Some(situation) = situation_at(rt, path) {
+        return Ok(Report::Other(situation));
+    }
+    let log = has_frames(rt, path);
+    match Connection::open_from(rt, path, false, start) {
+        Ok(conn) => examine_opened(rt.alloc(), conn, log),
+        Err((error, _)) => unopened(error),
+    }
+}
+
+/// Why a database can't be opened.
+fn unopened(error: Error) -> Result<Report, Fault>
+    ensures { IsOther result }
+{
+    match error {
+        Error::SqliteFailure(ErrorCode::DatabaseBusy) => Ok(Report::Other(Situation::InUse)),
+        Error::SqliteFailure(ErrorCode::CannotOpen) => Ok(Report::Other(Situation::CannotOpen)),
+        Error::SqliteFailure(ErrorCode::DatabaseCorrupt) => Ok(Report::Other(Situation::Damaged)),
+        Error::SqliteFailure(ErrorCode::NotADatabase) => {
+            Ok(Report::Other(Situation::BreaksRules))
+        }
+        error => Err(fault_of(error)),
+    }
+}
+
+/// Examines the tables of a database, which is closed without a write.
+fn examine_opened<S: Rising + Drop>(
+    alloc: Global,
+    conn: Connection<S>,
+    log: bool,
+) -> Result<Report, Fault>
+    ensures { ReportsOn (state S.Store) conn result }
+{
+    match SqlStore::adopt(conn) {
+        Ok(store) => {
+            let mut conn = store.into_connection();
+            match examine_tables(alloc, &mut conn) {
+                Ok(found) => Ok(Report::Library(found, log)),
+                Err(fault) => Err(fault),
+            }
+        }
+        Err((fault, _)) => match fault.kind {
+            FaultKind::NoMemory => Err(FaultKind::NoMemory.without_line()),
+            _ => Ok(Report::Other(of_version(fault))),
+        },
+    }
+}

@@ -1,0 +1,83 @@
+//! What is at a path, as far as it shows without opening a database.
+
+use crate::situation::Situation;
+use std::fs::OpenOptions;
+use std::io::{ErrorKind, Read};
+use std::os::unix::fs::MetadataExt;
+use std::{fs, io};
+
+/// The first bytes of each file of SQLite.
+const FIRST_BYTES: &[u8; 16] = b"SQLite format 3\0";
+
+/// The bytes of the shortest log that has a frame: its header, and the header and the page of the frame.
+const SHORTEST_LOG: u64 = 32 + 24 + 512;
+
+/// Why there can't be a library at a path; None where there may be one. Nothing is made or changed.
+pub(crate) fn situation_at(rt: &HostRuntime, path: &str) -> Option<Situation> {
+    match kind_of(rt, path) {
+        Ok(None) => match first_bytes(rt, path) {
+            Ok(first) if first != *FIRST_BYTES => Some(Situation::NotSqlite),
+            Ok(_) => unwritable(rt, path),
+            Err(error) => Some(of_reading(error.kind())),
+        },
+        Ok(situation) => situation,
+        Err(error) => Some(of_reading(error.kind())),
+    }
+}
+
+/// Why the file at a path is none that can be a library; None where it may be one.
+fn kind_of(rt: &HostRuntime, path: &str) -> io::Result<Option<Situation>> {
+    let found = fs::metadata(rt, path)?;
+    if found.is_dir() {
+        return Ok(Some(Situation::Folder));
+    }
+    if !found.is_file() {
+        return Ok(Some(Situation::NotRegular));
+    }
+    if found.nlink() != 1 {
+        return Ok(Some(Situation::SecondName));
+    }
+    if found.len() == 0 {
+        return Ok(Some(Situation::Empty));
+    }
+    Ok(None)
+}
+
+fn first_bytes(rt: &HostRuntime, path: &str) -> io::Result<[u8; 16]> {
+    let mut first = [0u8; 16];
+    fs::open(rt, path)?.read_exact(&mut first)?;
+    Ok(first)
+}
+
+fn unwritable(rt: &HostRuntime, path: &str) -> Option<Situation> {
+    match OpenOptions::new().read(true).write(true).open(rt, path) {
+        Ok(_) => None,
+        Err(_) => Some(Situation::ReadOnly),
+    }
+}
+
+fn of_reading(kind: ErrorKind) -> Situation {
+    match kind {
+        ErrorKind::NotFound | ErrorKind::NotADirectory => Situation::NoFile,
+        ErrorKind::UnexpectedEof => Situation::NotSqlite,
+        ErrorKind::PermissionDenied => Situation::NoPermission,
+        _ => Situation::CannotOpen,
+    }
+}
+
+/// Whether the log beside a file has frames, so that the file without it may lack commits.
+pub(crate) fn has_frames(rt: &HostRuntime, path: &str) -> bool {
+    match log_length(rt, path) {
+        Ok(length) => length >= SHORTEST_LOG,
+        Err(_) => false,
+    }
+}
+
+/// The length of the log, which is where a link leads.
+fn log_length(rt: &HostRuntime, path: &str) -> io::Result<u64> {
+    let real = fs::canonicalize(rt, path)?;
+    match format!(in rt.alloc(); "{}-wal", real.as_str()) {
+        Ok(log) => Ok(fs::metadata(rt, log.as_str())?.len()),
+        Err(_) => Err(io::Error::from(ErrorKind::OutOfMemory)),
+    }
+}

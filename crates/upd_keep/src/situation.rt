@@ -1,0 +1,76 @@
+//! What a path can be instead of a library that can be examined.
+
+use upd_text::{Fault, FaultKind};
+
+/// Why what is at a path is not examined.
+#[derive(Clone, Copy, Debug, PartialEq, Eq)]
+pub enum Situation {
+    NoFile,
+    Folder,
+    NotRegular,
+    SecondName,
+    Empty,
+    NotSqlite,
+    NoPermission,
+    ReadOnly,
+    CannotOpen,
+    InUse,
+    Damaged,
+    BreaksRules,
+    NotLibrary,
+    OlderSchema,
+    OtherTables,
+    NewerSchema,
+}
+
+impl Situation {
+    /// What there is, and what to do.
+    pub fn words(self) -> &'static str {
+        match self {
+            Situation::NoFile =>
+                "there is no such file: check the path; `upd init` makes a library",
+            Situation::Folder => "this is a folder, not a file: check the path",
+            Situation::NotRegular => "this is no regular file: check the path",
+            Situation::SecondName => {
+                "the file has a second name, a hard link: remove that name, or make it a copy"
+            }
+            Situation::Empty => "the file is empty: `upd init` makes a library in it",
+            Situation::NotSqlite => "this is not a database of SQLite: check the path",
+            Situation::NoPermission => {
+                "no permission to read it: let the user read and write the file and its folder"
+            }
+            Situation::ReadOnly => {
+                "it can't be written, and that is needed to look at it: let the user write it and its folder, or copy it"
+            }
+            Situation::CannotOpen => {
+                "it can't be opened: let the user write its folder; no link or journal may be beside it"
+            }
+            Situation::InUse => {
+                "it is in use by another command or a server: try again once that has ended"
+            }
+            Situation::Damaged => {
+                "the file is damaged: restore a backup; `sqlite3 FILE 'PRAGMA integrity_check'` says more"
+            }
+            Situation::BreaksRules => {
+                "a database with tables or rows that upd can't take, or a damaged one: check the path, or restore a backup"
+            }
+            Situation::NotLibrary =>
+                "a database without a library: check the path; after an `upd init` that was ended, call it again",
+            Situation::OlderSchema => "a library of an older schema: copy it, then `upd migrate`",
+            Situation::OtherTables => {
+                "a library whose tables were changed or are missing: restore a backup"
+            }
+            Situation::NewerSchema => "a library of a newer schema: use the newer upd",
+        }
+    }
+}
+
+/// What a file is whose tables were refused with this fault, which is Store at the version in the file.
+pub(crate) fn of_version(fault: Fault) -> Situation {
+    match fault.at {
+        0 => Situation::NotLibrary,
+        1 | 2 => Situation::OlderSchema,
+        3 => Situation::OtherTables,
+        _ => Situation::NewerSchema,
+    }
+}
