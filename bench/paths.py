@@ -140,13 +140,13 @@ def try_schemas(paths):
     """Other schemas, made from the current one as they differ from it."""
     first = ["DROP TABLE settled", "DROP TABLE states", "DROP TABLE counts", "UPDATE meta SET v = 1"]
     second = ["DROP TABLE settled", "UPDATE meta SET v = 2"]
-    for name, texts, words in [("first.db", first, "an older schema"), ("second.db", second, "an older schema"),
+    for name, texts, words in [("schema1.db", first, "an older schema"), ("schema2.db", second, "an older schema"),
                                ("newer.db", ["UPDATE meta SET v = 4"], "a newer schema"), ("other.db", ["DROP TABLE settled"], "changed or are missing")]:
         file = paths.library(name)
         change(file, texts)
         paths.is_said(file, words)
     migrated = paths.path("migrated.db")
-    shutil.copyfile(paths.path("second.db"), migrated)
+    shutil.copyfile(paths.path("schema2.db"), migrated)
     subprocess.run([paths.upd, "migrate", migrated], check=True)
     paths.is_sound("a migrated library", migrated)
     file = paths.path("another.db")

@@ -19,6 +19,8 @@ mod edited_texts;
 #[cfg(test)]
 mod examined_rows;
 #[cfg(test)]
+mod examined_tables;
+#[cfg(test)]
 mod library_edits;
 #[cfg(test)]
 mod library_limits;
