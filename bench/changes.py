@@ -2,7 +2,7 @@
 
 A change is picked by one row, by its rowid, and is one statement. `why` is the rule that it breaks, whatever else the library has. Left out is what breaks no
 rule: another text of a card, another order of cards in a deck but for its first, a common deck for a deck, NOPROP, a stored run or a mark that is lost, a mark
-that is lowered, other bytes of a run, and other bytes in the middle of a reply. A flag that is neither 0 nor 1 is read as 1, so it is left out too.
+that is lowered, other bytes of a run, and other bytes in the middle of a reply.
 
 A change is found with status 1, or with 3 where a row can't be read as a row of a library, or where the tables are not those of the schema.
 """
@@ -48,6 +48,8 @@ IDENTS = [
            "no held name is that of YANK$$$"),
     Change("idents", "a name of none of its cards", f"FROM idents t WHERE held = 1 AND {HAS_CARDS}", "UPDATE idents SET name = 'NOBODY99' WHERE rowid = ?1", 1,
            "cards are named by held idents"),
+    Change("idents", "held by 2", "FROM idents t", "UPDATE idents SET held = 2 WHERE rowid = ?1", 3, UNREADABLE),
+    Change("idents", "NOPROP by -1", "FROM idents t", "UPDATE idents SET noprop = -1 WHERE rowid = ?1", 3, UNREADABLE),
     Change("idents", "a name with a blank", "FROM idents t", "UPDATE idents SET name = 'A B' WHERE rowid = ?1", 3, UNREADABLE),
     Change("idents", "a set made a deck", "FROM idents t WHERE held = 1 AND kind = 0", "UPDATE idents SET kind = 1 WHERE rowid = ?1", 1,
            "a held deck has cards, the first of them its own"),
@@ -94,6 +96,7 @@ ENTRIES = [
            "DELETE FROM entries WHERE rowid = ?1", 1, NO_HOLES),
     Change("entries", "the first one of another ident", f"FROM entries t WHERE ord = 0 AND {OTHER_HELD.format('t')} > 0",
            f"UPDATE entries SET who = {OTHER_HELD.format('entries')} WHERE rowid = ?1", 1, "a history begins with the card's own ident"),
+    Change("entries", "on by 2", "FROM entries t", "UPDATE entries SET active = 2 WHERE rowid = ?1", 3, UNREADABLE),
     Change("entries", "the first one off", "FROM entries t WHERE ord = 0", "UPDATE entries SET active = 0 WHERE rowid = ?1", 1, "a history begins with on"),
     Change("entries", "an ident that is not there", "FROM entries t", "UPDATE entries SET who = 99999 WHERE rowid = ?1", 1, "the ident of an entry is held"),
     Change("entries", "a purged ident", "FROM entries t WHERE EXISTS (SELECT 1 FROM idents WHERE held = 0)",
@@ -132,6 +135,7 @@ TARGETS = [
 
 RUNS = [
     Change("runs", "another number", "FROM runs t", "UPDATE runs SET num = num + 100000 WHERE rowid = ?1", 1, OWN_REPLY),
+    Change("runs", "accepted by 2", "FROM runs t", "UPDATE runs SET accepted = 2 WHERE rowid = ?1", 3, UNREADABLE),
     Change("runs", "a negative number", "FROM runs t", "UPDATE runs SET num = -num WHERE rowid = ?1", 3, UNREADABLE),
     Change("runs", "another site", "FROM runs t", "UPDATE runs SET site = 'NOBODY' WHERE rowid = ?1", 1, OWN_REPLY),
     Change("runs", "another mode", "FROM runs t WHERE accepted = 1", "UPDATE runs SET mode = (mode + 1) % 3 WHERE rowid = ?1", 1, OWN_REPLY),
@@ -148,6 +152,7 @@ RUNS = [
 ]
 
 STATES = [
+    Change("states", "active by 7", "FROM states t", "UPDATE states SET active = 7 WHERE rowid = ?1", 3, UNREADABLE),
     Change("states", "another status", "FROM states t", "UPDATE states SET active = 1 - active WHERE rowid = ?1", 1, OWN_STATUS),
     Change("states", "a row lost", "FROM states t", "DELETE FROM states WHERE rowid = ?1", 1, OWN_STATUS),
     Change("states", "another number", "FROM states t", "UPDATE states SET num = num + 100000 WHERE rowid = ?1", 1, OWN_STATUS),

@@ -167,7 +167,7 @@ def is_found(change, said):
     status, output, faults, same = said
     lines = faults.splitlines()
     if change.status == 3:
-        right = len(lines) == 1 and lines[0].startswith("upd: ")
+        right = len(lines) == 1 and lines[0].startswith("upd: ") and "Store" not in lines[0]
     else:
         right = 0 < len(lines) <= 100 and all(line.split(" ")[0] in SUBJECTS for line in lines)
     return status == change.status and output == "" and faults.endswith("\n") and right and same

@@ -146,7 +146,10 @@ fn examine_opened<S: Rising + Drop>(
             let mut conn = store.into_connection();
             match examine_tables(alloc, &mut conn) {
                 Ok(found) => Ok(Report::Library(found, log)),
-                Err(fault) => Err(fault),
+                Err(fault) => match fault.kind {
+                    FaultKind::NoMemory => Err(FaultKind::NoMemory.without_line()),
+                    _ => Ok(Report::Other(Situation::Unreadable)),
+                },
             }
         }
         Err((fault, _)) => match fault.kind {

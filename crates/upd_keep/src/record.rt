@@ -5,6 +5,7 @@ ghost use Rattle.sqlite_value.specs.Order.{Row as SqlRow};
 use sqlite::{Error, Row};
 use std::alloc::Global;
 use upd_records::{MarkRow, RunRow};
+use upd_sql::flag_in;
 
 /// A record that is stored as a row.
 pub(crate) trait Record: Sized {
@@ -26,7 +27,7 @@ impl Record for RunRow {
             number: row.get(1)?,
             mode: row.get(2)?,
             bytes: row.get(3)?,
-            accepted: row.get(4)?,
+            accepted: flag_in(row, 4)?,
             reply: row.get(5)?,
         })
     }

@@ -20,6 +20,7 @@ pub enum Situation {
     NotLibrary,
     OlderSchema,
     OtherTables,
+    Unreadable,
     NewerSchema,
 }
 
@@ -59,6 +60,9 @@ impl Situation {
             Situation::OlderSchema => "a library of an older schema: copy it, then `upd migrate`",
             Situation::OtherTables => {
                 "a library whose tables were changed or are missing: restore a backup"
+            }
+            Situation::Unreadable => {
+                "a library with a row that upd can't read, or a damaged one: restore a backup"
             }
             Situation::NewerSchema => "a library of a newer schema: use the newer upd",
         }

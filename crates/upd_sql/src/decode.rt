@@ -4,6 +4,7 @@ ghost use Rattle.upd_records.specs.Rows.{MarkRow, RunView};
 ghost use Rattle.upd_sql.specs.Encoded.{mark_row, run_row};
 ghost use Rattle.upd_sql.specs.First.{first_mark, first_run};
 
+use crate::record::flag_in;
 use sqlite::{Error, Row};
 use upd_records::RunRow;
 
@@ -15,7 +16,7 @@ pub(crate) fn run_of(row: &Row) -> Result<RunRow, Error>
         number: row.get(1)?,
         mode: row.get(2)?,
         bytes: row.get(3)?,
-        accepted: row.get(4)?,
+        accepted: flag_in(row, 4)?,
         reply: row.get(5)?,
     })
 }

@@ -2,7 +2,7 @@
 ghost use Rattle.std.specs.Prelude.{◌≡◌, ◌<◌, ◌+◌, [], ◌∷◌, List, map, IfOk};
 ghost use Rattle.sqlite_value.specs.declared.value.Value.TheVariants.{Text};
 ghost use Rattle.sqlite_value.specs.Order.{column, Row as SqlRow};
-ghost use Rattle.upd_sql.specs.Encoded.{kind_code, num, target_code};
+ghost use Rattle.upd_sql.specs.Encoded.{flag, kind_code, num, target_code};
 
 use sqlite::types::ValueRef;
 use sqlite::{Error, ErrorCode, Row};
@@ -53,6 +53,17 @@ fn card_in(row: &Row) -> Result<CardRef, Error>
     })
 }
 
+/// A column that is 0 or 1.
+pub fn flag_in(row: &Row, at: usize) -> Result<bool, Error>
+    ensures { IfOk result (λ found. column row.now at ≡ flag found) }
+{
+    match row.get::<u32>(at)? {
+        0 => Ok(false),
+        1 => Ok(true),
+        _ => Err(ILLEGIBLE),
+    }
+}
+
 fn kind_of(code: u32) -> Result<Kind, Error>
     ensures { IfOk result (λ kind. kind_code kind ≡ code) }
 {
@@ -94,8 +105,8 @@ impl Record for Ident {
             age: row.get(0)?,
             name: name_in(row, 1)?,
             kind: kind_of(row.get(2)?)?,
-            noprop: row.get(3)?,
-            held: row.get(4)?,
+            noprop: flag_in(row, 3)?,
+            held: flag_in(row, 4)?,
         })
     }
 }
@@ -126,7 +137,7 @@ impl Record for EntryRow {
             ord: row.get(2)?,
             entry: Entry {
                 ident: row.get(3)?,
-                active: row.get(4)?,
+                active: flag_in(row, 4)?,
             },
         })
     }
@@ -167,7 +178,7 @@ impl Record for StateRow {
     fn read(_: Global, row: &Row) -> Result<StateRow, Error> {
         Ok(StateRow {
             card: card_in(row)?,
-            active: row.get(2)?,
+            active: flag_in(row, 2)?,
         })
     }
 }
@@ -179,7 +190,7 @@ impl Record for (CardRef, bool) {
     ghost stored = { kept_state };
 
     fn read(_: Global, row: &Row) -> Result<(CardRef, bool), Error> {
-        Ok((card_in(row)?, row.get(2)?))
+        Ok((card_in(row)?, flag_in(row, 2)?))
     }
 }
 

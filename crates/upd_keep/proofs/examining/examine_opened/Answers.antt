@@ -28,3 +28,6 @@ returns-in-Ok-examine_tables g c =
 
 pub returns-in-NoMemory : goal.returns-in-NoMemory
 returns-in-NoMemory g c = OfMemory _ (ap (λ (f : Fault). f.kind) c.without_line.ensures) (ap (λ (f : Fault). f.at) c.without_line.ensures)
+
+pub returns-in-NoMemory-kind : goal.returns-in-NoMemory-kind
+returns-in-NoMemory-kind g c = OfMemory _ (ap (λ (f : Fault). f.kind) c.without_line-in-NoMemory-kind.ensures) (ap (λ (f : Fault). f.at) c.without_line-in-NoMemory-kind.ensures)
