@@ -1,6 +1,6 @@
 //! The program as clap knows it: its commands with their operands.
 ghost use Rattle.std.specs.Prelude.{[], ◌≡◌, IfOk, false, map, take};
-ghost use Rattle.clap.specs.Words.{app_of, rule_of};
+ghost use Rattle.clap.specs.Words.{app_of, rule_of, with_subcommand};
 ghost use Rattle.clap.specs.declared.builder.command.Command.TheViews.{out-Command as fields_of};
 ghost use Rattle.clap.specs.Simple.{new_app};
 ghost use Rattle.upd_cli.specs.Words.{app_with, command_shape, operand_rule, upd_app, upd_commands, upd_top};
@@ -38,15 +38,15 @@ pub(crate) fn program<'a>(alloc: Global) -> Result<Command<'a>, AllocError>
         "the name or the number of a fault",
         ValueParser::String,
     );
-    second_commands(alloc)?
-        .subcommand(command(alloc, "try", help::TRY, &[FILE, MODE])?)?
-        .subcommand(command(alloc, "source", help::SOURCE, &[FILE, DECK])?)?
-        .subcommand(command(alloc, "runs", help::RUNS, &[FILE])?)?
-        .subcommand(command(alloc, "sites", help::SITES, &[FILE])?)?
-        .subcommand(command(alloc, "backup", help::BACKUP, &[FILE, COPY])?)?
-        .subcommand(command(alloc, "examine", help::EXAMINE, &[FILE])?)?
-        .subcommand(command(alloc, "migrate", help::MIGRATE, &[FILE])?)?
-        .subcommand(command(alloc, "explain", help::EXPLAIN, &[FAULT])?)
+    let app = second_commands(alloc)?;
+    let app = with_command(app, alloc, "try", help::TRY, &[FILE, MODE])?;
+    let app = with_command(app, alloc, "source", help::SOURCE, &[FILE, DECK])?;
+    let app = with_command(app, alloc, "runs", help::RUNS, &[FILE])?;
+    let app = with_command(app, alloc, "sites", help::SITES, &[FILE])?;
+    let app = with_command(app, alloc, "backup", help::BACKUP, &[FILE, COPY])?;
+    let app = with_command(app, alloc, "examine", help::EXAMINE, &[FILE])?;
+    let app = with_command(app, alloc, "migrate", help::MIGRATE, &[FILE])?;
+    with_command(app, alloc, "explain", help::EXPLAIN, &[FAULT])
 }
 
 /// The program with its first sixteen commands.
@@ -64,15 +64,15 @@ fn second_commands<'a>(alloc: Global) -> Result<Command<'a>, AllocError>
         "the name of a new correction set",
         ValueParser::String,
     );
-    first_commands(alloc)?
-        .subcommand(command(alloc, "history", help::HISTORY, &[FILE, CARD])?)?
-        .subcommand(command(alloc, "blame", help::BLAME, &[FILE, DECK])?)?
-        .subcommand(command(alloc, "show", help::SHOW, &[FILE, IDENT])?)?
-        .subcommand(command(alloc, "idents", help::IDENTS, &[FILE])?)?
-        .subcommand(command(alloc, "yanks", help::YANKS, &[FILE])?)?
-        .subcommand(command(alloc, "page", help::PAGE, &[FILE])?)?
-        .subcommand(command(alloc, "text", help::TEXT, &[FILE, DECK])?)?
-        .subcommand(command(alloc, "correct", help::CORRECT, &[FILE, SET])?)
+    let app = first_commands(alloc)?;
+    let app = with_command(app, alloc, "history", help::HISTORY, &[FILE, CARD])?;
+    let app = with_command(app, alloc, "blame", help::BLAME, &[FILE, DECK])?;
+    let app = with_command(app, alloc, "show", help::SHOW, &[FILE, IDENT])?;
+    let app = with_command(app, alloc, "idents", help::IDENTS, &[FILE])?;
+    let app = with_command(app, alloc, "yanks", help::YANKS, &[FILE])?;
+    let app = with_command(app, alloc, "page", help::PAGE, &[FILE])?;
+    let app = with_command(app, alloc, "text", help::TEXT, &[FILE, DECK])?;
+    with_command(app, alloc, "correct", help::CORRECT, &[FILE, SET])
 }
 
 /// The program with its first eight commands.
@@ -95,15 +95,15 @@ fn first_commands<'a>(alloc: Global) -> Result<Command<'a>, AllocError>
         "the name of a deck, or YANK$$$",
         ValueParser::String,
     );
-    bare_program(alloc)
-        .subcommand(command(alloc, "trial", help::TRIAL, &[MODE])?)?
-        .subcommand(command(alloc, "init", help::INIT, &[FILE])?)?
-        .subcommand(command(alloc, "run", help::RUN, &[FILE, SITE, NUMBER, MODE])?)?
-        .subcommand(command(alloc, "settle", help::SETTLE, &[FILE, SITE, NUMBER])?)?
-        .subcommand(command(alloc, "spool", help::SPOOL, &[FILE])?)?
-        .subcommand(command(alloc, "serve", help::SERVE, &[FILE, ADDRESS, COUNT])?)?
-        .subcommand(command(alloc, "compile", help::COMPILE, &[FILE])?)?
-        .subcommand(command(alloc, "list", help::LIST, &[FILE, ANY_DECK])?)
+    let app = bare_program(alloc);
+    let app = with_command(app, alloc, "trial", help::TRIAL, &[MODE])?;
+    let app = with_command(app, alloc, "init", help::INIT, &[FILE])?;
+    let app = with_command(app, alloc, "run", help::RUN, &[FILE, SITE, NUMBER, MODE])?;
+    let app = with_command(app, alloc, "settle", help::SETTLE, &[FILE, SITE, NUMBER])?;
+    let app = with_command(app, alloc, "spool", help::SPOOL, &[FILE])?;
+    let app = with_command(app, alloc, "serve", help::SERVE, &[FILE, ADDRESS, COUNT])?;
+    let app = with_command(app, alloc, "compile", help::COMPILE, &[FILE])?;
+    with_command(app, alloc, "list", help::LIST, &[FILE, ANY_DECK])
 }
 
 /// The program before its first command, and with clap's own command `help`.
@@ -114,6 +114,20 @@ fn bare_program<'a>(alloc: Global) -> Command<'a>
         .version("1.0")
         .about(help::PROGRAM)
         .subcommand_required(true)
+}
+
+/// A program with one command more.
+fn with_command<'a>(
+    app: Command<'a>,
+    alloc: Global,
+    name: &'a str,
+    help: help::Text,
+    operands: &[Operand],
+) -> Result<Command<'a>, AllocError>
+    ensures { IfOk result (λ c. app_of c
+        ≡ with_subcommand (app_of app.entry) (command_shape name.entry.now (map (λ o. (o.0.now, o.2)) operands.now))) }
+{
+    app.subcommand(command(alloc, name, help, operands)?)
 }
 
 /// A command with its help and its operands in order.

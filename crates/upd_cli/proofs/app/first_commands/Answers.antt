@@ -1,15 +1,14 @@
 use Rattle.std.proofs.lemmas.Result.{IfOk-weaker}
-use Rattle.upd_cli.proofs.AppLemmas.{with_command}
+use Rattle.upd_cli.proofs.AppLemmas.{with_more}
 use Rattle.upd_cli.proofs.app.first_commands.Goals as goal
 
 pub returns : goal.returns
 returns c =
-    let app1 = with_command c.bare_program.result c.in_ok-command.field-0 c.in_ok-subcommand.field-0 c.bare_program.ensures c.in_ok-command.ensures.app c.in_ok-command.ensures.local c.in_ok-subcommand.ensures in
-    let app2 = with_command c.in_ok-subcommand.field-0 c.in_ok-command-2.field-0 c.in_ok-subcommand-2.field-0 app1 c.in_ok-command-2.ensures.app c.in_ok-command-2.ensures.local c.in_ok-subcommand-2.ensures in
-    let app3 = with_command c.in_ok-subcommand-2.field-0 c.in_ok-command-3.field-0 c.in_ok-subcommand-3.field-0 app2 c.in_ok-command-3.ensures.app c.in_ok-command-3.ensures.local c.in_ok-subcommand-3.ensures in
-    let app4 = with_command c.in_ok-subcommand-3.field-0 c.in_ok-command-4.field-0 c.in_ok-subcommand-4.field-0 app3 c.in_ok-command-4.ensures.app c.in_ok-command-4.ensures.local c.in_ok-subcommand-4.ensures in
-    let app5 = with_command c.in_ok-subcommand-4.field-0 c.in_ok-command-5.field-0 c.in_ok-subcommand-5.field-0 app4 c.in_ok-command-5.ensures.app c.in_ok-command-5.ensures.local c.in_ok-subcommand-5.ensures in
-    let app6 = with_command c.in_ok-subcommand-5.field-0 c.in_ok-command-6.field-0 c.in_ok-subcommand-6.field-0 app5 c.in_ok-command-6.ensures.app c.in_ok-command-6.ensures.local c.in_ok-subcommand-6.ensures in
-    let app7 = with_command c.in_ok-subcommand-6.field-0 c.in_ok-command-7.field-0 c.in_ok-subcommand-7.field-0 app6 c.in_ok-command-7.ensures.app c.in_ok-command-7.ensures.local c.in_ok-subcommand-7.ensures in
-    IfOk-weaker c.subcommand-8.result _ _ (λ new adds. with_command c.in_ok-subcommand-7.field-0 c.in_ok-command-8.field-0 new app7 c.in_ok-command-8.ensures.app
-    c.in_ok-command-8.ensures.local adds) c.subcommand-8.ensures
+    let app1 = with_more c.bare_program-app.result c.in_ok-app.app _ c.bare_program-app.ensures c.in_ok-app.ensures in
+    let app2 = with_more c.in_ok-app.app c.in_ok-app-2.app _ app1 c.in_ok-app-2.ensures in
+    let app3 = with_more c.in_ok-app-2.app c.in_ok-app-3.app _ app2 c.in_ok-app-3.ensures in
+    let app4 = with_more c.in_ok-app-3.app c.in_ok-app-4.app _ app3 c.in_ok-app-4.ensures in
+    let app5 = with_more c.in_ok-app-4.app c.in_ok-app-5.app _ app4 c.in_ok-app-5.ensures in
+    let app6 = with_more c.in_ok-app-5.app c.in_ok-app-6.app _ app5 c.in_ok-app-6.ensures in
+    let app7 = with_more c.in_ok-app-6.app c.in_ok-app-7.app _ app6 c.in_ok-app-7.ensures in
+    IfOk-weaker c.with_command-8.result _ _ (λ new adds. with_more c.in_ok-app-7.app new _ app7 adds) c.with_command-8.ensures
