@@ -18,11 +18,6 @@ pub uncounted : (kind : FaultKind) (n : ℕ) → ¬ (kind ≡ Store) → n ≡ f
 uncounted Store n other = absurd (other refl)
 uncounted kind n other = refl
 
--- the count of failures after an answer, or after a fault that is no failure of a store
-pub counts_none : {A : Type 0} (r : Result A Fault) (old new : ℕ) → IfErr r (λ e. ¬ (e.kind ≡ Store)) → new ≡ old → new ≡ failures_after r old
-counts_none (Ok x) old new other same = same
-counts_none (Err e) old new other same = same ∙ uncounted e.kind old other
-
 -- a failure of the store that is counted raises the count
 pub counts_more : {A : Type 0} (r : Result A Fault) (old new : ℕ) → new ≡ failures_after r old → IfErr r (λ e. e.kind ≡ Store → MoreFailures old new)
 counts_more (Ok x) old new counted = tt

@@ -32,8 +32,7 @@ pub trait RowStore: Meaning {
 
     /// The directory, `YANK$$$` and those of these decks that are held; the rest counts what the others have.
     fn load_decks(&mut self, alloc: Global, decks: &[Serial]) -> Result<Library, Fault>
-        ensures found { FindsLibrary Self.Meaning result self.old self.new
-            (λ l rows found. found ≡ part_of decks.now l) }
+        ensures found { FindsLibrary Self.Meaning result self.old self.new (λ l rows found. found ≡ part_of decks.now l) }
         ensures leaves { LeavesLoad Self.Meaning result self.old self.new };
 
     /// The decks other than `YANK$$$` that hold one of these cards, by age, each once.
@@ -42,8 +41,7 @@ pub trait RowStore: Meaning {
             (λ l rows found. found.items ≡ decks_with cards.now l) }
         ensures leaves { LeavesRead Self.Meaning result self.old self.new };
 
-    /// The rows that a library is made of, in no order. A store need not have this call: it answers NoMemory then, and a
-    /// store in memory over it keeps no rows.
+    /// The rows that a library is made of, in no order. A store without this call answers NoMemory, and can't be mirrored.
     fn library_rows(&mut self, _: Global) -> Result<LibraryRows, Fault>
         ensures found { FindsRows Self.Meaning result self.old self.new AreRowsOf }
         ensures leaves { LeavesRead Self.Meaning result self.old self.new }
@@ -86,8 +84,7 @@ pub trait RowStore: Meaning {
         ensures found { FindsRows Self.Meaning result self.old self.new (λ rows found. found ≡ mark_at site.now rows) }
         ensures leaves { LeavesRead Self.Meaning result self.old self.new };
 
-    /// Carries out row changes and stores their run, in one transaction. The changes have to fit the tables: no
-    /// clause says what others leave.
+    /// Carries out row changes that fit the tables, and stores their run, in one transaction. No clause covers others.
     fn commit(&mut self, alloc: Global, changes: &[Change], run: RunRow) -> Result<(), Fault>
         ensures done { Self.is_honest self.new → OnOk result ((rows : Rows) → IsShown Self.Meaning rows self.old
             → AllFit (map change_view changes.now) rows
@@ -119,8 +116,7 @@ pub trait RowStore: Meaning {
         ensures done { FindsRows Self.Meaning result self.old self.new
             (λ rows mark. (mark ≡ mark_at site.now (settled_to site.now number rows))
             × IsShown Self.Meaning (settled_to site.now number rows) self.new) }
-        ensures leaves { LeavesWrite Self.Meaning (λ _. Unit {0}) (settled_to site.now number)
-            result self.old self.new };
+        ensures leaves { LeavesWrite Self.Meaning (λ _. Unit {0}) (settled_to site.now number) result self.old self.new };
 
     /// How often a call has answered Store, up to the greatest value.
     fn failures(&self) -> u64
@@ -132,11 +128,9 @@ pub trait RowStore: Meaning {
 
     // An image shows one set of tables, at most.
     ghost shows_one: { (i : Self.Image) (a b : Rows) → Self.shows i a → Self.shows i b → a ≡ b };
-
     // While the store is open, a crash leaves the tables that it keeps, and no others.
     ghost leaves_image: { (s : Self) (i : Self.Image) → Self.is_honest s → Self.is_open s → Self.may_leave s i
         → (rows : Rows) → Self.shows (Self.image s) rows → Self.shows i rows };
-
     // A crash leaves something, whatever failed before it.
     ghost survives: { (s : Self) → Self.is_honest s → ∥ ((i : Self.Image) × Self.may_leave s i) ∥₁ };
 }

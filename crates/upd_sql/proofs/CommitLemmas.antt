@@ -47,9 +47,6 @@ module _ (old last end : State) {X : Type 0} (x : X) (settled : IsTrue old.is_op
   still : HasCleanDisk last → IsTrue old.is_open → old.committed.schema ≡ library_schema → last.now ≡ old.committed
   still clean o schema = same clean (ap (λ (d : Database). d.schema) (settled o) ∙ schema) ∙ settled o
 
-  pub read_kept : HasCleanDisk last → Shows last end last.now last.now false → old.committed.schema ≡ library_schema → end.committed ≡ old.committed
-  read_kept clean ended schema = ended.committed_is ∙ still clean (was_open clean refl) schema
-
   pub read_leaves : Survives last end (λ db. db ≡ last.now.trees) → Survives (record old { in_transaction = true }) end (MayKeep old)
   read_leaves s =
       survives_then (record old { in_transaction = true }) last end (λ _. ⊥) (λ db. db ≡ last.now.trees) (MayKeep old) (λ _ db none. absurd none)
@@ -68,11 +65,6 @@ module _ (old last end : State) {X : Type 0} (x : X) (settled : IsTrue old.is_op
     (m : Transforms {X = X} (HasEmptyTables 0) (HoldsTables no_rows) (record old { in_transaction = true }) last (Ok x)) where
   laid : HasCleanDisk last → IsTrue old.is_open → old.committed.schema ≡ no_schema → HoldsTables no_rows last.now
   laid clean o empty = m.transformed clean refl (record { schema_is = ap (λ (d : Database). d.schema) (settled o) ∙ empty; rows_are = tt })
-
-  pub made_whole : HasCleanDisk last → Shows last end last.now last.now false → old.committed.schema ≡ no_schema → ShowsTables no_rows end.committed
-  made_whole clean ended empty =
-      let o = (m.steps.kept clean refl).was_open ended.was_open in
-      subst (ShowsTables no_rows) (sym ended.committed_is) (showing library_schema (stored no_rows) last.now (laid clean o empty))
 
   pub making_leaves : WasOpen {X = X} (record old { in_transaction = true }) last (Ok x) → Survives last end (λ db. db ≡ last.now.trees)
       → Survives (record old { in_transaction = true }) end (MayMake old)

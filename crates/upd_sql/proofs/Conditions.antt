@@ -109,6 +109,3 @@ one_of false false = refl
 -- a card is in `YANK$$$` or in a deck
 pub in_deck : (deck : ℕ) (r : CardRow) → passes (num deck ∷ []) cards_of_deck_tests (card_row r) ≡ ((r.deck == 0) || (r.deck == deck))
 in_deck deck r = one_test (ap₂ (λ u v. is_true (binary Or u v)) (compared r.deck 0) (compared r.deck deck) ∙ one_of (r.deck == 0) (r.deck == deck))
-
-pub ref_flip : (a b : CardRef) → same_ref a b ≡ same_ref b a
-ref_flip a b = ap₂ ◌&&◌ (bytes_flip a.name b.name) (nat_flip a.number b.number)

@@ -49,17 +49,6 @@ mark_of_marked site n it = ap (λ o. option_map_or (λ (m : MarkRow). m.mark) o 
 
 module _ (site : List ℕ) (n mark : ℕ) (old mid : State) (steps : Steps {X = ℕ} old mid (Ok mark)) (same : LeavesTables {X = ℕ} old mid (Ok mark))
     (found : HasCleanDisk mid → (it : Rows) → HoldsTables it old.now → mark ≡ mark_at site it) where
-  pub mark_stays : n ≤ mark → Makes HoldsTables AnyTables (settled_to site n) old mid (Ok mark)
-  mark_stays h = record {
-    steps = steps;
-    made = λ clean inside it any stands.
-        subst (λ d. HoldsTables (settled_to site n it) d) (sym (same clean stands.schema_is))
-        (subst (λ r. HoldsTables r old.now) (sym (stays_as site n it (omega (arith, h, found clean it stands)))) stands);
-  }
-
-  pub mark_stays_at : n ≤ mark → HasCleanDisk mid → (it : Rows) → HoldsTables it old.now → mark ≡ mark_at site (settled_to site n it)
-  mark_stays_at h clean it stands = found clean it stands ∙ ap (mark_at site) (sym (stays_as site n it (omega (arith, h, found clean it stands))))
-
   pub mark_rises : {Y : Type 0} (new : State) (r : Result Y Error) → mark < n → Makes HoldsTables AnyTables (with_runs_settled site n) mid new r
       → Makes HoldsTables AnyTables (settled_to site n) old new r
   mark_rises new (Ok y) h m = record {

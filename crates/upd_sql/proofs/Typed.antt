@@ -129,19 +129,6 @@ makes_from Fits change sql params old new (Ok x) ran means =
     record { steps = ran.steps; made = λ clean inside it fits h. let ex = ran.executed clean inside in means ex.0 ex.1 it fits h }
 makes_from Fits change sql params old new (Err e) ran means = record { steps = ran.steps; made = λ clean. tt }
 
--- an answer of a plain query leaves the tables
-pub looks_from : {X : Type 0} (items : X → List Row) (sql : List ℕ) (params : Row) (plain : IsPlain (understood library_schema sql)) (old new : State)
-    (r : Result X Error) → Steps old new r
-    → (HasCleanDisk new → IfOk r (λ x. Shown sql params old new (items x))) → Makes HoldsTables (λ _. Unit {0}) (λ it. it) old new r
-looks_from items sql params plain old new (Ok x) steps shown =
-    record {
-      steps = steps;
-      made = λ clean inside it fits h.
-          let same = shown_same sql params old new (items x) (subst (λ s. IsPlain (understood s sql)) (sym h.schema_is) plain) (shown clean) in
-          subst (HoldsTables it) (sym same.0.now_is) h;
-    }
-looks_from items sql params plain old new (Err e) steps shown = record { steps = steps; made = λ clean. tt }
-
 pub survives_itself : (s : State) (P : Trees → Type 0) → Survives s s P
 survives_itself s P =
     record { clean = omega arith; shield = λ h. h; counts = omega arith; limit = refl; closes = λ clean o. inl o; crash = λ clean db may. inl may }
@@ -160,12 +147,6 @@ pub makes_both : {X Y : Type 0} (f g : Rows → Rows) (a b c : State) (x : X) (r
     → Makes HoldsTables AnyTables (λ it. g (f it)) a c r
 makes_both f g a b c x r p q = makes_as HoldsTables _ AnyTables _ (λ it. g (f it)) a c r (λ it any. (any, any)) (λ it. refl)
     (makes_then HoldsTables AnyTables AnyTables f g a b c x r p q)
-
--- the first failed
-pub makes_stop : {X Y : Type 0} (F G : Rows → Type 0) (f g : Rows → Rows) (a b : State) (d : Error) (r : Result Y Error)
-    → Makes {X = X} HoldsTables F f a b (Err d) → IsErr r → Makes HoldsTables G g a b r
-makes_stop F G f g a b d (Ok y) p err = absurd (cc)
-makes_stop F G f g a b d (Err e) p err = makes_not HoldsTables F G f g a b d e p
 
 -- only an open connection answers
 pub was_open_from : {X : Type 0} (items : X → List Row) (sql : List ℕ) (params : Row) (old new : State) (r : Result X Error)
