@@ -36,6 +36,9 @@ META = [
     Change("meta", "a negative version", "FROM meta t", "UPDATE meta SET v = -1 WHERE rowid = ?1", 3, "the schema is the third"),
     Change("meta", "another key", "FROM meta t", "UPDATE meta SET k = 'other' WHERE rowid = ?1", 3, "there is a version"),
     Change("meta", "no version", "FROM meta t", "DELETE FROM meta WHERE rowid = ?1", 3, "there is a version"),
+    Change("meta", "a row added", "FROM meta t", "INSERT INTO meta VALUES ('x', 1)", 3, "there is no row but the version"),
+    Change("meta", "a row added with the same number", "FROM meta t", "INSERT INTO meta SELECT 'other', v FROM meta WHERE rowid = ?1", 3,
+           "there is no row but the version"),
 ]
 
 IDENTS = [

@@ -1,12 +1,13 @@
 #!/usr/bin/env python3
 """Examines libraries by `upd examine`: sound ones, libraries of which a row was changed by hand, and whatever else can be at a path.
 
-    python3 bench/examine.py [--executable FILE] [--changes N] [--runs N] [--seed N]
+    python3 bench/examine.py [--executable FILE] [--changes N] [--runs N] [--small N] [--seed N]
 
-Libraries are made of the examples and of random runs (--runs in each, 60 unless it says otherwise), by `upd run`, `upd spool` and `upd settle`. Each is
-called sound, with the numbers that its tables have. Then rows are changed by Python's SQLite (--changes in all, 300 unless it says otherwise), each in a copy.
-changes.py says of each kind of change which rule it breaks. Each is found, and no examination changes a byte of the file. At last come the situations of a
-path that is no library. The exit status is 1 where this does not hold.
+Libraries are made of the examples and of random runs (--runs in each, 60 unless it says otherwise), by `upd run`, `upd spool` and `upd settle`. Small ones are
+made of up to 15 random runs in one spool (--small of them, 200 unless it says otherwise). Each library is called sound, with the numbers that its tables have.
+Then rows are changed by Python's SQLite (--changes in all, 300 unless it says otherwise), each in a copy of a library that is not small. changes.py says of
+each kind of change which rule it breaks. Each is found, and no examination changes a byte of the file. At last come the situations of a path that is no
+library. The exit status is 1 where this does not hold.
 """
 
 import argparse
@@ -138,6 +139,17 @@ def libraries(upd, folder, dice, count):
         yield file
 
 
+def small_libraries(upd, folder, dice, count):
+    """The files of sound libraries of a few random runs each. For every second one a site settles some of its runs."""
+    for number in range(count):
+        file, runs = folder / f"small{number}.db", dice.randrange(1, 16)
+        done(upd, "init", file)
+        from_spool(upd, file, dice, runs)
+        if number % 2:
+            done(upd, "settle", file, dice.choice(SITES), str(dice.randrange(1, runs + 1)))
+        yield file
+
+
 def try_sound(upd, files):
     """Each library is called sound."""
     bad = 0
@@ -199,6 +211,7 @@ def main():
     add_executable(words)
     words.add_argument("--changes", metavar="N", type=int, default=300, help="how many changes are made (default: 300)")
     words.add_argument("--runs", metavar="N", type=int, default=60, help="how many random runs a library gets (default: 60)")
+    words.add_argument("--small", metavar="N", type=int, default=200, help="how many small libraries are made (default: 200)")
     words.add_argument("--seed", metavar="N", type=int, default=1, help="what the random numbers begin with (default: 1)")
     given = words.parse_args()
     upd, dice = there(given.executable), random.Random(given.seed)
@@ -206,7 +219,8 @@ def main():
         folder = Path(name)
         os.chmod(folder, 0o755)
         files = list(libraries(upd, folder, dice, given.runs))
-        bad = try_sound(upd, files) + try_changes(upd, folder, dice, files, given.changes) + try_paths(upd, folder)
+        small = list(small_libraries(upd, folder, dice, given.small))
+        bad = try_sound(upd, files + small) + try_changes(upd, folder, dice, files, given.changes) + try_paths(upd, folder)
     sys.exit(bool(bad))
 
 
