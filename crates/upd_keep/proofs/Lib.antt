@@ -1,5 +1,6 @@
 mod ReadTexts
 mod Listing
+mod VersionRows
 mod Copies
 mod Reading
 mod SameLength

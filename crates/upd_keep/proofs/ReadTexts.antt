@@ -1,4 +1,4 @@
--- The texts that read runs and marks, and what each is compiled to.
+-- The texts that read versions, runs and marks, and what each is compiled to.
 use Rattle.std.proofs.Common.{◌≡◌, ℕ, false, List, [], ◌∷◌, codes, refl}
 use Rattle.sqlite_value.specs.declared.keys.Collation.TheVariants.{Binary}
 use Rattle.sqlite_value.specs.declared.keys.Key.{Key}
@@ -11,6 +11,25 @@ use Rattle.sqlite.proofs.Callers.{IsPlain, command_of}
 use Rattle.upd_sqlite.specs.Keyed.{plain_query}
 use Rattle.upd_sql.specs.Schema.{library_schema}
 use Rattle.upd_keep.specs.declared.texts.TheConstants as sql
+
+abbrev pub all_versions : List ℕ
+all_versions = sql.ALL_VERSIONS.now
+
+abbrev pub all_versions_shown : List Term
+all_versions_shown = col 1 1 ∷ col 1 2 ∷ []
+
+pub all_versions_is : command_of (understood library_schema all_versions)
+    ≡ Select (record { lets = []; body = plain_query 0 [] all_versions_shown [] }) (codes "k" ∷ codes "v" ∷ [])
+unfolding understood everything
+all_versions_is = refl
+
+pub all_versions_plain : IsPlain (understood library_schema all_versions)
+unfolding understood everything
+all_versions_plain = (refl, refl)
+
+pub all_versions_unlisted : reads_listing library_schema all_versions ≡ false
+unfolding everything
+all_versions_unlisted = refl
 
 abbrev pub all_runs : List ℕ
 all_runs = sql.ALL_RUNS.now

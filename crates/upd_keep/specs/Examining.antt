@@ -1,7 +1,9 @@
 -- What is said of a file that is examined.
 use Rattle.std.specs.Prelude.{◌≡◌, ℕ, List, [], ◌++◌, Bool, ◌&&◌, codes, decimal, length, Result, Ok, Err, IfErr, IfOk, IsTrue}
 use Rattle.std.specs.List.{count_by}
+use Rattle.sqlite_value.specs.Order.{Row}
 use Rattle.sqlite_wal.specs.Recovery.{Image}
+use Rattle.sqlite.specs.Effect.{Database}
 use Rattle.sqlite.specs.Start.{FindsIn}
 use Rattle.sqlite.specs.State.{State, HasCleanDisk, Survives}
 use Rattle.upd_text.specs.declared.fault.Fault.{Fault}
@@ -15,13 +17,18 @@ use Rattle.upd_row_store.specs.Keeping.{IsLost}
 use Rattle.upd_row_store.specs.Tables.{AreRead}
 use Rattle.upd_sql.specs.Commits.{MayKeep}
 use Rattle.upd_sql.specs.LibraryTables.{ShowsTables}
-use Rattle.upd_sql.specs.Schema.{library_schema}
+use Rattle.upd_sql.specs.Schema.{library_schema, meta}
+use Rattle.upd_sqlite.specs.Stored.{HasRows}
 use Rattle.upd_keep.specs.Keeping.{AreKept}
 use Rattle.upd_keep.specs.declared.all_rows.AllRows.{AllRows}
 use Rattle.upd_keep.specs.declared.examining.Examined.{Examined}
 use Rattle.upd_keep.specs.declared.examining.Examined.TheVariants.{Sound, Unsound}
 use Rattle.upd_keep.specs.declared.examining.Report.{Report}
 use Rattle.upd_keep.specs.declared.examining.Report.TheVariants.{Library, Other}
+
+-- where the schema is the library's, the table of the version has one row
+abbrev pub HasOneVersion : Database → Type 0
+HasOneVersion db = db.schema ≡ library_schema → (rows : List Row) → HasRows db.trees meta rows → length rows ≡ 1
 
 -- The rows of tables, each as often as it is there.
 pub record AreAllRows (rows : Rows) (all : AllRows) : Type 0 where
@@ -58,6 +65,7 @@ pub record Reads (old new : State) : Type 0 where
 
 -- Tables were examined, or that was lost. A library that is committed stays.
 pub record Examines (answer : Result Examined Fault) (old new : State) : Type 0 where
+  pub one : HasCleanDisk new → IfOk answer (λ _. HasOneVersion old.committed)
   pub found : HasCleanDisk new → IfOk answer (λ found. (rows : Rows) → ShowsTables rows old.committed → IsFoundIn rows found)
   pub reads : Reads old new
   pub lost : IfErr answer IsLost

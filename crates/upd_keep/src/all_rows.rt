@@ -4,10 +4,11 @@ ghost use Rattle.sqlite.specs.Held.{state};
 ghost use Rattle.sqlite.specs.State.{HasCleanDisk};
 ghost use Rattle.upd_records.specs.Rows.{Rows};
 ghost use Rattle.upd_sql.specs.LibraryTables.{ShowsTables};
-ghost use Rattle.upd_keep.specs.Examining.{AreAllRows, Reads};
+ghost use Rattle.upd_keep.specs.Examining.{AreAllRows, HasOneVersion, Reads};
 
 use crate::kept::Kept;
 use crate::stored::stored_kept;
+use crate::versions::only_version;
 use sqlite::{Connection, Error};
 use std::alloc::Global;
 use upd_core::States;
@@ -23,14 +24,17 @@ pub(crate) struct AllRows {
     pub(crate) kept: Kept,
 }
 
-/// The rows of all tables of a library. Nothing changes.
+/// The rows of all tables of a library. DatabaseCorrupt where `meta` hasn't just one row. Nothing changes.
 pub(crate) fn all_rows<S: Rising>(conn: &mut Connection<S>, alloc: Global) -> Result<AllRows, Error>
     requires { conn.old.in_transaction ≡ false }
     ensures outside { conn.new.in_transaction ≡ false }
+    ensures one { HasCleanDisk (state S.Store conn.new)
+        → IfOk result (λ _. HasOneVersion (state S.Store conn.old).committed) }
     ensures reads { Reads (state S.Store conn.old) (state S.Store conn.new) }
     ensures found { HasCleanDisk (state S.Store conn.new) → IfOk result
         (λ all. (it : Rows) → ShowsTables it (state S.Store conn.old).committed → AreAllRows it all) }
 {
+    only_version(conn)?;
     let library = stored_library_rows(conn, alloc)?;
     let states = stored_states(conn, alloc)?;
     let kept = stored_kept(conn, alloc)?;

@@ -12,6 +12,7 @@ mod record;
 mod situation;
 mod stored;
 mod texts;
+mod versions;
 mod whole;
 
 pub use copying::{backup, whole_copy};

@@ -1,5 +1,7 @@
 //! The SQL statements.
 
+pub(crate) const ALL_VERSIONS: &str = "SELECT k, v FROM meta";
+
 pub(crate) const ALL_RUNS: &str =
     "SELECT site, num, mode, body, accepted, reply FROM runs ORDER BY site, num";
 

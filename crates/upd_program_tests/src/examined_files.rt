@@ -141,6 +141,19 @@ fn schemas_are_distinguished(rt: HostRuntime) -> Result<(), Fail> {
 }
 
 #[test]
+fn a_row_beside_the_version_is_found(rt: HostRuntime) -> Result<(), Fail> {
+    let file = library(&rt, "beside")?;
+    change(&rt, &file, "INSERT INTO meta (k, v) VALUES ('x', 1)")?;
+    is_other(&rt, &file, Situation::Unreadable)?;
+    let unreadable =
+        "upd: a library with a row that upd can't read, or a damaged one: restore a backup\n";
+    answers(&rt, &["examine", &file], b"", (3, "", unreadable))?;
+    change(&rt, &file, "DELETE FROM meta WHERE k = 'x'")?;
+    is_sound(&rt, &file, "sound: decks 0, cards 0, runs 0\n", false)?;
+    remove(&rt, &file)
+}
+
+#[test]
 fn another_database_is_named(rt: HostRuntime) -> Result<(), Fail> {
     let file = fresh(&rt, "another")?;
     let mut conn = Connection::open(&rt, &file)?;

@@ -7,6 +7,7 @@ use Rattle.upd_keep.proofs.examining.examine_tables.Goals as goal
 
 pub returns-then-not-is_autocommit-clause-examines : goal.returns-then-not-is_autocommit-clause-examines
 returns-then-not-is_autocommit-clause-examines g c = record {
+  one = λ clean. tt;
   found = λ clean. tt;
   reads = record {
     was_open = λ clean is_open. is_open;
@@ -18,6 +19,7 @@ returns-then-not-is_autocommit-clause-examines g c = record {
 
 pub returns-in-Ok-clause-examines : goal.returns-in-Ok-clause-examines
 returns-in-Ok-clause-examines g c = record {
+  one = λ clean. tt;
   found = λ clean. tt;
   reads = c.in-Ok.ensures.reads;
   lost = OfMemory _ (ap (λ (f : Fault). f.kind) c.without_line.ensures) (ap (λ (f : Fault). f.at) c.without_line.ensures);

@@ -1,0 +1,28 @@
+-- The table of the version: as many rows are answered as it has.
+use Rattle.std.proofs.Common.{◌≡◌, true, List, [], map, length, Ok, IsTrue, refl, sym, ap, subst, ◌∙◌}
+use Rattle.std.proofs.lemmas.List.{length-map}
+use Rattle.std.proofs.lemmas.List.Sorted.{length_permutation}
+use Rattle.sqlite_value.specs.Order.{Row}
+use Rattle.sqlite.specs.Effect.{Database}
+use Rattle.sqlite.specs.State.{State, HasCleanDisk, Shown}
+use Rattle.sqlite.proofs.Callers.{reads_as}
+use Rattle.upd_sqlite.proofs.Queries.{any_order}
+use Rattle.upd_sql.specs.Commits.{WasOpen}
+use Rattle.upd_sql.proofs.WholeLemmas.{all_pass}
+use Rattle.upd_sql.specs.Schema.{library_schema}
+use Rattle.upd_keep.specs.Examining.{HasOneVersion}
+use Rattle.upd_keep.proofs.ReadTexts as query
+
+-- one row was answered
+pub one_answered : (old new : State) (rows : List Row) → Shown query.all_versions [] old new rows → length rows ≡ 1 → HasOneVersion old.now
+one_answered old new rows shown one ours all has =
+    let reads = reads_as query.all_versions [] old new library_schema ours _ query.all_versions_is query.all_versions_plain query.all_versions_unlisted rows shown in
+    let answer = any_order 0 [] query.all_versions_shown [] [] old.now.trees refl rows reads.answer in
+    let tree = old.now.trees 0 in
+    let answered : length rows ≡ length tree = length_permutation _ rows answer ∙ length-map _ _ ∙ ap length (all_pass tree) in
+    sym (ap length has) ∙ length-map tree _ ∙ sym answered ∙ one
+
+-- outside a transaction what is there is what was committed
+pub one_outside : {X : Type 0} (old last : State) (x : X) → HasCleanDisk last → (IsTrue old.is_open → old.now ≡ old.committed)
+    → WasOpen {X = X} (record old { in_transaction = true }) last (Ok x) → (HasCleanDisk last → HasOneVersion old.now) → HasOneVersion old.committed
+one_outside old last x clean settled was_open one = subst HasOneVersion (settled (was_open clean refl)) (one clean)
