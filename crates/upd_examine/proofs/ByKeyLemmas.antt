@@ -1,28 +1,14 @@
 -- Lists that have the same elements at each key have the same elements.
 use Rattle.std.proofs.Common.{◌≡◌, ℕ, zero, suc, ◌+◌, ◌≤◌, Bool, true, false, not, cond, List, [], ◌∷◌, length}
 use Rattle.std.proofs.Common.{refl, ap, sym, ◌∙◌, subst, arith}
+use Rattle.std.proofs.lemmas.List.Filters.{length-filter_both, sum_by-filter_both}
 use Rattle.std.specs.List.{count_by, filter}
 use Rattle.upd_records.proofs.CountLemmas.{count_cons, same_filter, same_of}
 use Rattle.upd_records.specs.Rows.{IsSame}
 
 count_split : {A : Type 0} (test has : A → Bool) (xs : List A)
     → count_by test (filter has xs) + count_by test (filter (λ x. not (has x)) xs) ≡ count_by test xs
-count_split test has [] = refl
-count_split test has (x ∷ xs) = go (has x) (count_split test has xs)
-  where
-    go : (b : Bool) → count_by test (filter has xs) + count_by test (filter (λ y. not (has y)) xs) ≡ count_by test xs
-        → count_by test (cond b (x ∷ filter has xs) (filter has xs))
-        + count_by test (cond (not b) (x ∷ filter (λ y. not (has y)) xs) (filter (λ y. not (has y)) xs)) ≡ count_by test (x ∷ xs)
-    go true rest = omega (arith, rest, count_cons test x (filter has xs), count_cons test x xs)
-    go false rest = omega (arith, rest, count_cons test x (filter (λ y. not (has y)) xs), count_cons test x xs)
-
-fewer : {A : Type 0} (keep : A → Bool) (xs : List A) → length (filter keep xs) ≤ length xs
-fewer keep [] = omega arith
-fewer keep (x ∷ xs) = go (keep x) (fewer keep xs)
-  where
-    go : (b : Bool) → length (filter keep xs) ≤ length xs → length (cond b (x ∷ filter keep xs) (filter keep xs)) ≤ length (x ∷ xs)
-    go true rest = grind (arith, rest)
-    go false rest = grind (arith, rest)
+count_split test has xs = sum_by-filter_both has (λ x. not (has x)) (λ x. refl) (λ x. cond (test x) 1 0) xs
 
 filter_twice : {A : Type 0} (f g : A → Bool) (xs : List A) → filter f (filter g xs) ≡ filter g (filter f xs)
 filter_twice f g [] = refl
@@ -77,8 +63,8 @@ module _ {K A : Type 0} (has : K → A → Bool) (key : A → K) (itself : (x : 
   same_within n [] ys few each = same_of [] ys (nothing ys each)
   same_within zero (x ∷ xs) ys few each = absurd (grind (arith, few))
   same_within (suc n) (x ∷ xs) ys few each =
-      joined x xs ys each (same_within n (others x xs) (others x ys) (let left = fewer (λ y. not (has (key x) y)) xs in grind (arith, few, left))
-      (each_other x xs ys each))
+      let left = length-filter_both (has (key x)) (λ y. not (has (key x) y)) (λ y. refl) xs in
+      joined x xs ys each (same_within n (others x xs) (others x ys) (grind (arith, few, left)) (each_other x xs ys each))
 
   pub same_by_key : (xs ys : List A) → ((k : K) → IsSame (filter (has k) xs) (filter (has k) ys)) → IsSame xs ys
   same_by_key xs ys each = same_within (length xs) xs ys (omega arith) each

@@ -7,14 +7,12 @@ use Rattle.std.specs.declared.cmp.Ordering.{Ordering}
 use Rattle.std.specs.declared.cmp.Ordering.TheVariants.{Equal}
 use Rattle.upd_text.proofs.OrderLemmas.{by_name-exact}
 use Rattle.upd_text.specs.Order.{by_name}
-use Rattle.upd_text.specs.Units.{Bytes}
 use Rattle.upd_text.specs.declared.card_ref.CardRef.{CardRef}
 use Rattle.upd_core.proofs.CountedLemmas.{same_by_order, same_target}
 use Rattle.upd_core.specs.Order.{target_order}
 use Rattle.upd_core.specs.declared.ident.Ident.{Ident}
 use Rattle.upd_core.specs.declared.ident.Kind.{Kind}
 use Rattle.upd_core.specs.declared.ident.Kind.TheVariants.{Set, Deck, Common}
-use Rattle.upd_core.specs.declared.target.Target.{Target}
 use Rattle.upd_records.specs.Rows.{CardRow, EntryRow, TargetRow}
 use Rattle.upd_examine.specs.RowKeys.{CardKey, EntryKey, IdentKey, TargetRowKey, ident_key, kind_number}
 

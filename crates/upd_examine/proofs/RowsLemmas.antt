@@ -1,5 +1,5 @@
 -- What tests of rows decide together.
-use Rattle.std.proofs.Common.{◌≡◌, Bool, true, ◌&&◌, List, sym, ◌∙◌, subst}
+use Rattle.std.proofs.Common.{◌≡◌, Bool, ◌&&◌, List, sym, ◌∙◌, subst}
 use Rattle.std.specs.Prelude.{◌↔◌, IsTrue}
 use Rattle.std.proofs.lemmas.Bool.{and_parts, and_from}
 use Rattle.upd_core.specs.Library.{LibraryView}

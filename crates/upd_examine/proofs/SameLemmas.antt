@@ -1,5 +1,5 @@
 -- Sorted lists that have the same elements are the same list.
-use Rattle.std.proofs.Common.{◌≡◌, ℕ, zero, suc, ◌+◌, ◌<◌, ◌≤◌, Bool, true, false, cond, List, [], ◌∷◌, length, get_or, map}
+use Rattle.std.proofs.Common.{◌≡◌, ℕ, suc, ◌<◌, ◌≤◌, Bool, true, false, cond, List, [], ◌∷◌, length, get_or, map}
 use Rattle.std.proofs.Common.{refl, sym, ap, ◌∙◌, subst, arith, IsPermutation}
 use Rattle.std.specs.Prelude.{◌↔◌, IsTrue}
 use Rattle.std.proofs.lemmas.List.MinMax.{ranks_by}
@@ -14,6 +14,7 @@ use Rattle.std.specs.declared.cmp.Ordering.{Ordering}
 use Rattle.std.specs.declared.cmp.Ordering.TheVariants.{Less, Equal, Greater}
 use Rattle.upd_records.proofs.CountLemmas.{count_cons, same_map, same_trans}
 use Rattle.upd_records.specs.Rows.{IsSame}
+use Rattle.upd_examine.proofs.SortedLemmas.{itself, same_is}
 
 pub same_permuted : {A : Type 0} {xs ys : List A} → IsPermutation xs ys → IsSame ys xs
 same_permuted {xs = xs} {ys = ys} moved = record { passes = λ test. sum_by-IsPermutation (λ x. cond (test x) 1 0) xs ys moved }
@@ -37,22 +38,6 @@ all_counted P (x ∷ xs) each = (each 0 x (omega arith), all_counted P xs (λ k 
 module _ {A : Type 0} (R : A → A → Ordering) (order : IsTotalOrder R) (exact : CmpEqualImpliesEq R) where
   abbrev same : A → A → Bool
   same a b = is_eq (R a b)
-
-  same_is : (a b : A) → same a b ≡ true → a ≡ b
-  same_is a b e = go (R a b) refl e
-    where
-      go : (o : Ordering) → R a b ≡ o → is_eq o ≡ true → a ≡ b
-      go Less r e = absurd (cc)
-      go Equal r e = exact a b r
-      go Greater r e = absurd (cc)
-
-  itself : (a : A) → R a a ≡ Equal
-  itself a = go (R a a) (order.antisymm a a)
-    where
-      go : (o : Ordering) → o ≡ ordering_reverse o → o ≡ Equal
-      go Less e = absurd (cc)
-      go Equal e = refl
-      go Greater e = absurd (cc)
 
   -- neither of two elements is less than the other
   tied : (a b : A) → is_lt (R a b) ≡ false → is_lt (R b a) ≡ false → a ≡ b
@@ -85,19 +70,19 @@ module _ {A : Type 0} (R : A → A → Ordering) (order : IsTotalOrder R) (exact
   same_head x y xs ys up rising is = go (same x y) refl
     where
       go : (b : Bool) → same x y ≡ b → x ≡ y
-      go true e = same_is x y e
+      go true e = same_is R exact x y e
       go false e =
           let apart = ap {B = ℕ} (λ b. cond b 1 0) e in
-          let first = ap {B = ℕ} (λ b. cond b 1 0) (ap is_eq (itself x)) in
-          let second = ap {B = ℕ} (λ b. cond b 1 0) (ap is_eq (itself y)) in
+          let first = ap {B = ℕ} (λ b. cond b 1 0) (ap is_eq (itself R order x)) in
+          let second = ap {B = ℕ} (λ b. cond b 1 0) (ap is_eq (itself R order y)) in
           let in_xs : 0 < count_by (λ z. same z y) xs =
           omega (arith, apart, second, is.passes (λ z. same z y), count_cons (λ z. same z y) x xs, count_cons (λ z. same z y) y ys) in
           let in_ys : 0 < count_by (λ z. same x z) ys =
           omega (arith, apart, first, is.passes (λ z. same x z), count_cons (λ z. same x z) x xs, count_cons (λ z. same x z) y ys) in
           let low = one_passes (λ z. is_lt (R z x) ≡ false) (λ z. same z y) xs up.0 in_xs in
           let high = one_passes (λ z. is_lt (R z y) ≡ false) (λ z. same x z) ys rising.0 in_ys in
-          let down : is_lt (R y x) ≡ false = subst (λ z. is_lt (R z x) ≡ false) (same_is low.0 y low.2) low.1 in
-          let upward : is_lt (R x y) ≡ false = subst (λ z. is_lt (R z y) ≡ false) (sym (same_is x high.0 high.2)) high.1 in
+          let down : is_lt (R y x) ≡ false = subst (λ z. is_lt (R z x) ≡ false) (same_is R exact low.0 y low.2) low.1 in
+          let upward : is_lt (R x y) ≡ false = subst (λ z. is_lt (R z y) ≡ false) (sym (same_is R exact x high.0 high.2)) high.1 in
           tied x y upward down
 
   same_list : (xs ys : List A) → IsInOrder xs → IsInOrder ys → IsSame xs ys → xs ≡ ys
@@ -126,7 +111,7 @@ module _ {A : Type 0} (R : A → A → Ordering) (order : IsTotalOrder R) (exact
 
   lists_equal : (xs : List A) → slice_cmp R xs xs ≡ Equal
   lists_equal [] = refl
-  lists_equal (x ∷ xs) = ap (λ o. ordering_then o (slice_cmp R xs xs)) (itself x) ∙ lists_equal xs
+  lists_equal (x ∷ xs) = ap (λ o. ordering_then o (slice_cmp R xs xs)) (itself R order x) ∙ lists_equal xs
 
   is_Equal : (o : Ordering) → is_eq o ≡ true → o ≡ Equal
   is_Equal Less e = absurd (cc)

@@ -2,7 +2,6 @@
 use Rattle.std.proofs.Common.{◌≡◌, ℕ, zero, suc, ◌+◌, ◌<◌, ◌≤◌, Bool, true, false, cond, List, [], ◌∷◌, length, get_or}
 use Rattle.std.proofs.Common.{refl, sym, ap, ◌∙◌, subst, arith, add-one, IsPermutation}
 use Rattle.std.proofs.lemmas.List.Sorted.{sum_by-IsPermutation}
-use Rattle.std.proofs.lemmas.List.Sums.{sum_by-cons}
 use Rattle.std.proofs.lemmas.Map.Lookups.{CmpEqualImpliesEq}
 use Rattle.std.specs.Cmp.{IsTotalOrder}
 use Rattle.std.specs.List.{count_by, AllByRecursion}
@@ -11,33 +10,31 @@ use Rattle.std.specs.Ordering.{is_eq, is_lt, ordering_reverse}
 use Rattle.std.specs.declared.cmp.Ordering.{Ordering}
 use Rattle.std.specs.declared.cmp.Ordering.TheVariants.{Less, Equal, Greater}
 use Rattle.upd_core.specs.Sound.{AreApart}
+use Rattle.upd_records.proofs.CountLemmas.{count_cons}
 use Rattle.upd_examine.proofs.TestLemmas.{weaker}
 
-count_cons : {A : Type 0} (test : A → Bool) (x : A) (xs : List A) → count_by test (x ∷ xs) ≡ cond (test x) 1 0 + count_by test xs
-count_cons test x xs = sum_by-cons (λ y. cond (test y) 1 0) x xs
+pub same_is : {A : Type 0} (R : A → A → Ordering) → CmpEqualImpliesEq R → (a b : A) → is_eq (R a b) ≡ true → a ≡ b
+same_is R exact a b e = go (R a b) refl e
+  where
+    go : (o : Ordering) → R a b ≡ o → is_eq o ≡ true → a ≡ b
+    go Less r e = absurd (cc)
+    go Equal r e = exact a b r
+    go Greater r e = absurd (cc)
+
+pub itself : {A : Type 0} (R : A → A → Ordering) → IsTotalOrder R → (a : A) → R a a ≡ Equal
+itself R order a = go (R a a) (order.antisymm a a)
+  where
+    go : (o : Ordering) → o ≡ ordering_reverse o → o ≡ Equal
+    go Less e = absurd (cc)
+    go Equal e = refl
+    go Greater e = absurd (cc)
 
 module _ {A : Type 0} (R : A → A → Ordering) (order : IsTotalOrder R) (exact : CmpEqualImpliesEq R) where
   abbrev same : A → A → Bool
   same a b = is_eq (R a b)
 
-  same_is : (a b : A) → same a b ≡ true → a ≡ b
-  same_is a b e = go (R a b) refl e
-    where
-      go : (o : Ordering) → R a b ≡ o → is_eq o ≡ true → a ≡ b
-      go Less r e = absurd (cc)
-      go Equal r e = exact a b r
-      go Greater r e = absurd (cc)
-
-  itself : (a : A) → R a a ≡ Equal
-  itself a = go (R a a) (order.antisymm a a)
-    where
-      go : (o : Ordering) → o ≡ ordering_reverse o → o ≡ Equal
-      go Less e = absurd (cc)
-      go Equal e = refl
-      go Greater e = absurd (cc)
-
   same_own : (a : A) → same a a ≡ true
-  same_own a = ap is_eq (itself a)
+  same_own a = ap is_eq (itself R order a)
 
   -- ---- an element that no other is the same as is there once
 
@@ -46,7 +43,7 @@ module _ {A : Type 0} (R : A → A → Ordering) (order : IsTotalOrder R) (exact
   none_counted x (y ∷ ys) all = count_cons (same x) y ys ∙ go (same x y) refl (none_counted x ys all.1)
     where
       go : (b : Bool) → same x y ≡ b → count_by (same x) ys ≡ 0 → cond (same x y) 1 0 + count_by (same x) ys ≡ 0
-      go true e later = absurd (all.0 (same_is x y e))
+      go true e later = absurd (all.0 (same_is R exact x y e))
       go false e later = let none = ap {B = ℕ} (λ b. cond b 1 0) e in omega arith
 
   counted_once : (x : A) (ys : List A) → AreApart ys → count_by (same x) ys ≤ 1
@@ -57,7 +54,7 @@ module _ {A : Type 0} (R : A → A → Ordering) (order : IsTotalOrder R) (exact
       go true e later =
           let one = ap {B = ℕ} (λ b. cond b 1 0) e in
           let here = count_cons (same x) y ys in
-          let none = none_counted x ys (weaker ys (λ z ne f. ne (sym (same_is x y e) ∙ f)) apart.0) in
+          let none = none_counted x ys (weaker ys (λ z ne f. ne (sym (same_is R exact x y e) ∙ f)) apart.0) in
           omega arith
       go false e later =
           let one = ap {B = ℕ} (λ b. cond b 1 0) e in
@@ -125,7 +122,7 @@ module _ {A : Type 0} (R : A → A → Ordering) (order : IsTotalOrder R) (exact
   steps_apart (y ∷ ys) steps = (weaker ys (λ z h e. differ z h e) (less_all y ys steps), steps_apart ys (later_steps y ys steps))
     where
       differ : (z : A) → R y z ≡ Less → y ≡ z → ⊥
-      differ z h e = let own = itself y in let it : R y y ≡ Less = subst (λ w. R y w ≡ Less) (sym e) h in cc
+      differ z h e = let own = itself R order y in let it : R y y ≡ Less = subst (λ w. R y w ≡ Less) (sym e) h in cc
 
   -- a sorted list of which no two neighbours are the same
   pub sorted_apart : (ys : List A) → IsSorted R ys
@@ -138,7 +135,7 @@ module _ {A : Type 0} (R : A → A → Ordering) (order : IsTotalOrder R) (exact
   twins : (ys : List A) (k : ℕ) (x z : A) → suc k < length ys → x ≡ get_or ys k x → z ≡ get_or ys (suc k) z → AreApart ys → same x z ≡ true → ⊥
   twins [] k x z within at to apart e = absurd (omega arith)
   twins (a ∷ []) k x z within at to apart e = absurd (omega arith)
-  twins (a ∷ b ∷ ys) zero x z within at to apart e = apart.0.0 (sym at ∙ same_is x z e ∙ to)
+  twins (a ∷ b ∷ ys) zero x z within at to apart e = apart.0.0 (sym at ∙ same_is R exact x z e ∙ to)
   twins (a ∷ b ∷ ys) (suc k) x z within at to apart e = twins (b ∷ ys) k x z (omega arith) at to apart.1 e
 
   -- no two neighbours in a list whose elements differ are the same

@@ -1,10 +1,10 @@
 -- Stored counts are those of a library exactly where they pass the tests of their targets.
-use Rattle.std.proofs.Common.{◌≡◌, ℕ, zero, suc, ◌+◌, ◌≤◌, Bool, true, false, not, ◌&&◌, ◌||◌, cond, if◌then◌else◌, List, [], ◌∷◌, map, length}
+use Rattle.std.proofs.Common.{◌≡◌, ℕ, ◌+◌, ◌≤◌, Bool, true, false, not, ◌||◌, cond, if◌then◌else◌, List, [], ◌∷◌, map, length}
 use Rattle.std.proofs.Common.{refl, ap, sym, ◌∙◌, subst, arith}
 use Rattle.std.specs.Prelude.{◌↔◌, ◌==◌}
 use Rattle.std.proofs.lemmas.Bool.{and_parts, and_from, eqb-true, eq-eqb}
 use Rattle.std.specs.List.{filter, list_all, list_any, AllByRecursion}
-use Rattle.upd_core.proofs.CountedLemmas.{same_target, same_target_sym, target_same}
+use Rattle.upd_core.proofs.CountedLemmas.{same_target, target_same}
 use Rattle.upd_core.specs.Library.{CardView, LibraryView}
 use Rattle.upd_core.specs.Sound.{AreApart}
 use Rattle.upd_core.specs.Status.{is_good, live_cards, targets_of}

@@ -1,9 +1,9 @@
 -- Stored statuses are those of a library exactly where they are the pairs of its cards, each as often.
-use Rattle.std.proofs.Common.{◌≡◌, ℕ, ◌+◌, Bool, true, false, not, ◌&&◌, ◌||◌, cond, List, [], ◌∷◌, ◌++◌, map, Option, Some, None}
+use Rattle.std.proofs.Common.{◌≡◌, ℕ, Bool, true, false, not, ◌&&◌, ◌||◌, cond, List, [], ◌∷◌, ◌++◌, map, Option, Some, None}
 use Rattle.std.proofs.Common.{refl, ap, sym, ◌∙◌, subst, arith}
 use Rattle.std.specs.Prelude.{◌↔◌, unwrap_or}
 use Rattle.std.proofs.lemmas.List.{map-append}
-use Rattle.std.specs.List.{count_by, filter, flat_map, list_any, AllByRecursion}
+use Rattle.std.specs.List.{filter, flat_map, list_any, AllByRecursion}
 use Rattle.upd_text.specs.declared.card_ref.CardRef.{CardRef}
 use Rattle.upd_core.proofs.FoundLemmas.{refs_apart}
 use Rattle.upd_core.specs.Counted.{CountedCardView, counted_card, counted_cards, others_of, yanks_of}
@@ -18,7 +18,7 @@ use Rattle.upd_yank.proofs.RefLemmas.{same_ref_sym}
 use Rattle.upd_yank.proofs.StateLemmas.{statuses_are, status_there}
 use Rattle.upd_yank.proofs.WorkLemmas.{HasStatus}
 use Rattle.upd_yank.specs.Cascade.{is_active_by}
-use Rattle.upd_yank.specs.Right.{CacheView, IsRight, status_pairs, was_active}
+use Rattle.upd_yank.specs.Right.{CacheView, IsRight, status_pairs}
 use Rattle.upd_examine.specs.StateTests.{own_state, own_states}
 use Rattle.upd_examine.proofs.ByKeyLemmas.{same_by_key}
 

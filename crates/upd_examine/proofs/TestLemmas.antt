@@ -1,7 +1,7 @@
 -- Each test of a library's parts decides what the invariant says of it.
-use Rattle.std.proofs.Common.{◌≡◌, ℕ, zero, suc, ◌+◌, ◌-◌, ◌<◌, ◌≤◌, max, Bool, true, false, ◌&&◌, List, [], ◌∷◌, ◌++◌, length, map, slice_get}
-use Rattle.std.proofs.Common.{Option, Some, None, refl, sym, ap, ◌∙◌, subst, arith}
-use Rattle.std.specs.Prelude.{◌↔◌, ◌==◌, nat_le, nat_lt, IsTrue}
+use Rattle.std.proofs.Common.{◌≡◌, ℕ, ◌+◌, ◌≤◌, max, Bool, true, ◌&&◌, List, [], ◌∷◌}
+use Rattle.std.proofs.Common.{refl, arith}
+use Rattle.std.specs.Prelude.{◌↔◌, ◌==◌, nat_le, nat_lt}
 use Rattle.std.proofs.lemmas.Bool.{and_parts, and_from, eqb-true, eq-eqb, leb-true, le-leb, ltb-true, lt-ltb}
 use Rattle.std.specs.List.{list_all, flat_map, AllByRecursion}
 use Rattle.upd_core.proofs.ApartLemmas.{all_front, all_back}
@@ -9,9 +9,10 @@ use Rattle.upd_core.specs.declared.card.Entry.{Entry}
 use Rattle.upd_core.specs.declared.ident.Ident.{Ident}
 use Rattle.upd_core.specs.declared.target.Target.{Target}
 use Rattle.upd_core.specs.declared.target.Target.TheVariants.{Set, SetIn, Deck}
-use Rattle.upd_core.specs.Library.{CardView, DeckView, LibraryView, all_decks}
-use Rattle.upd_core.specs.Sound.{AreAgedFrom, BeginsOn, BeginsWithItsOwn, all_cards}
+use Rattle.upd_core.specs.Library.{CardView, DeckView}
+use Rattle.upd_core.specs.Sound.{AreAgedFrom, BeginsOn, BeginsWithItsOwn}
 use Rattle.upd_core.specs.Status.{HasEntriesFrom, IsAged, IsOlder, TakesOlder}
+use Rattle.upd_diff.proofs.AllLemmas.{all_joined}
 use Rattle.upd_examine.specs.SoundTests.{are_aged_from, are_yanks_from, begins_on, begins_with_its_own, has_entries_from, is_older, takes_older}
 
 -- a test of each element decides what holds of each
@@ -37,10 +38,6 @@ pub three : {A : Type 0} {P Q R S : A → Type 0} (xs : List A) → ((x : A) →
 three [] so p q r = tt
 three (x ∷ xs) so p q r = (so x p.0 q.0 r.0, three xs so p.1 q.1 r.1)
 
-pub joined : {A : Type 0} (P : A → Type 0) (xs ys : List A) → AllByRecursion P xs → AllByRecursion P ys → AllByRecursion P (xs ++ ys)
-joined P [] ys front back = back
-joined P (x ∷ xs) ys front back = (front.0, joined P xs ys front.1 back)
-
 -- what holds of the cards of all decks holds of those of each
 pub all_flat : (P : CardView → Type 0) (ds : List DeckView) → AllByRecursion P (flat_map (λ d. d.cards) ds) ↔ AllByRecursion (λ d. AllByRecursion P d.cards) ds
 all_flat P [] = ((λ _. tt), (λ _. tt))
@@ -48,7 +45,7 @@ all_flat P (d ∷ ds) =
     let later = all_flat P ds in
     let rest = flat_map (λ e. e.cards) ds in (
       (λ all. (all_front P d.cards rest all, later.0 (all_back P d.cards rest all))),
-      (λ all. joined P d.cards rest all.0 (later.1 all.1)),
+      (λ all. all_joined P d.cards rest all.0 (later.1 all.1)),
     )
 
 -- ---- the directory

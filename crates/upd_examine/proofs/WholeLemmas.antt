@@ -1,8 +1,8 @@
 -- The tests of the parts of a library decide whether it is sound and whole.
-use Rattle.std.proofs.Common.{◌≡◌, ℕ, zero, suc, ◌+◌, ◌<◌, ◌≤◌, inl, inr, Bool, true, false, ◌&&◌, List, [], ◌∷◌, length, map, None, refl, sym, ap, ◌∙◌, subst, arith}
+use Rattle.std.proofs.Common.{◌≡◌, ℕ, ◌<◌, ◌≤◌, inl, inr, Bool, true, ◌&&◌, List, [], ◌∷◌, length, map, None, refl, sym, ap, ◌∙◌, arith}
 use Rattle.std.specs.Prelude.{◌↔◌, ◌==◌, ◌||◌, ◌⊎◌, IsTrue}
 use Rattle.std.proofs.lemmas.Bool.{and_parts, and_from, eqb-true, eq-eqb, or_cases, or_right}
-use Rattle.std.specs.List.{filter, list_all, list_any, flat_map, AllByRecursion}
+use Rattle.std.specs.List.{filter, list_all, list_any, AllByRecursion}
 use Rattle.upd_text.specs.Names.{yank_name}
 use Rattle.upd_core.specs.declared.card.Entry.{Entry}
 use Rattle.upd_core.specs.declared.ident.Ident.{Ident}
@@ -14,7 +14,7 @@ use Rattle.upd_examine.specs.SoundTests.{are_aged_from, are_parts_sound, are_yan
 use Rattle.upd_examine.specs.SoundTests.{is_card_sound, is_deck_sound, is_of_held}
 use Rattle.upd_examine.specs.Whole.{IsDirectorySound}
 use Rattle.upd_examine.proofs.TestLemmas.{aged_decided, all_decided, all_flat, begins_decided, begins_on_decided, both, three, weaker, yanks_decided}
-use Rattle.upd_examine.proofs.DeckLemmas.{AreThoseHeld, decks_held, held_decks_are, held_positive, held_there}
+use Rattle.upd_examine.proofs.DeckLemmas.{decks_held, held_decks_are, held_positive, held_there}
 
 empty_decided : (ts : List Target) → ((length ts == 0) ≡ true) ↔ (ts ≡ [])
 empty_decided [] = ((λ _. refl), (λ _. refl))

@@ -1,5 +1,8 @@
 //! What is wrong with the rows of a library.
 ghost use Rattle.std.specs.Prelude.{◌≡◌, ◌↔◌, ◌<◌, length, IfOk, IsTrue};
+ghost use Rattle.std.specs.Result.{IsOkUnless};
+ghost use Rattle.upd_text.specs.Faults.{fault_at};
+ghost use Rattle.upd_text.specs.declared.fault.FaultKind.TheVariants.{NoMemory};
 ghost use Rattle.upd_examine.specs.Findings.{AreSoundRows};
 
 use crate::copies::copy_rows;
@@ -83,14 +86,16 @@ fn lines(
     }
 }
 
-/// The findings; memory alone can fail.
+/// The findings. The only error is NoMemory.
 fn found_in(
     alloc: Global,
     rows: &LibraryRows,
     states: &States,
     runs: &[RunRow],
     marks: &[MarkRow],
-) -> Result<Findings, Fault> {
+) -> Result<Findings, Fault>
+    ensures { IsOkUnless result (fault_at NoMemory 0) }
+{
     let mut found = Findings::new(alloc);
     let copy = copy_rows(alloc, rows)?;
     let library = assembled(alloc, copy)?;
@@ -104,13 +109,15 @@ fn found_in(
     Ok(found)
 }
 
-/// Findings about statuses and counts.
+/// Findings about statuses and counts. The only error is NoMemory.
 fn add_of_states(
     alloc: Global,
     found: &mut Findings,
     library: &Library,
     states: &States,
-) -> Result<(), Fault> {
+) -> Result<(), Fault>
+    ensures { IsOkUnless result (fault_at NoMemory 0) }
+{
     let cache = Cache::build(alloc, library)?;
     let own = own_states(alloc, library, &cache)?;
     let own = state_texts(alloc, &own)?;

@@ -2,6 +2,7 @@
 #![tactic(auto)]
 
 pub mod bytes;
+mod conjunctions;
 mod copies;
 mod differing;
 pub mod examining;

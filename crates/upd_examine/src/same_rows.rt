@@ -5,6 +5,7 @@ ghost use Rattle.upd_records.specs.Rows.{IsSame, rows_of};
 ghost use Rattle.upd_row_store.specs.Assembling.{AreRowsOf};
 ghost use Rattle.upd_examine.specs.Findings.{AreLibraryRows};
 
+use crate::conjunctions::three_hold;
 use crate::own_rows::own_rows;
 use crate::row_keys::{card_keys, entry_keys, ident_keys, target_row_keys};
 use crate::sound::is_sound;
@@ -82,13 +83,6 @@ pub fn are_rows_of(alloc: Global, library: &Library, rows: &LibraryRows) -> Resu
     Ok(four_hold(idents, cards, entries, targets))
 }
 
-/// Whether these three hold.
-fn all_hold(a: bool, b: bool, c: bool) -> bool
-    ensures { result ≡ (a && (b && c)) }
-{
-    a && b && c
-}
-
 /// Whether rows are exactly those of a library, and it is sound, whole and within its limits.
 pub fn are_library_rows(
     alloc: Global,
@@ -100,5 +94,5 @@ pub fn are_library_rows(
     let sound = is_sound(alloc, library)?;
     let within = library.is_within_limits();
     let own = are_rows_of(alloc, library, rows)?;
-    Ok(all_hold(sound, within, own))
+    Ok(three_hold(sound, within, own))
 }

@@ -7,6 +7,7 @@ ghost use Rattle.upd_core.specs.Sound.{AreApart, IsSound, IsWhole, all_cards, ke
 ghost use Rattle.upd_examine.specs.SoundTests.{are_aged_from, are_parts_sound, has_no_targets, held_decks, is_card_sound, is_deck_sound};
 ghost use Rattle.upd_examine.specs.Whole.{IsDirectorySound};
 
+use crate::conjunctions::three_hold;
 use crate::sound_tests::{
     add_keys, are_aged, are_apart, are_yanks_in_order, begins_on, begins_with_its_own, deck_ages,
     held_decks, held_names, is_of_held,
@@ -39,13 +40,6 @@ pub fn is_yank_free(library: &Library) -> bool
         Some(_) => false,
         None => true,
     }
-}
-
-/// Whether these three hold.
-fn three_hold(a: bool, b: bool, c: bool) -> bool
-    ensures { result ≡ (a && (b && c)) }
-{
-    a && b && c
 }
 
 /// Whether the idents of a library are numbered from 1, and no two held names are the same, nor that of `YANK$$$`.

@@ -5,6 +5,7 @@ ghost use Rattle.upd_examine.specs.RunForms.{AreRunsSound, has_reply, is_above, 
 ghost use Rattle.upd_examine.specs.RunForms.{reply_end, reply_start, run_key};
 
 use crate::bytes::Bytes;
+use crate::conjunctions::three_hold;
 use crate::sound_tests::are_apart;
 use itoa::Buffer;
 use std::alloc::{AllocError, Global};
@@ -90,7 +91,7 @@ fn is_run_right(alloc: Global, marks: &[MarkRow], run: &RunRow) -> Result<bool, 
 {
     let above = is_above(marks, run);
     let reply = has_reply(alloc, run)?;
-    Ok(all_hold(above, run.mode <= 2, reply))
+    Ok(three_hold(above, run.mode <= 2, reply))
 }
 
 /// Whether each stored run is right.
@@ -128,13 +129,6 @@ pub fn run_keys(alloc: Global, runs: &[RunRow]) -> Result<Vec<(Bytes, u64)>, All
     Ok(keys)
 }
 
-/// Whether these three hold.
-fn all_hold(a: bool, b: bool, c: bool) -> bool
-    ensures { result ≡ (a && (b && c)) }
-{
-    a && b && c
-}
-
 /// Whether stored runs and marks are right.
 pub fn are_runs_sound(alloc: Global, runs: &[RunRow], marks: &[MarkRow]) -> Result<bool, AllocError>
     ensures { IfOk result (λ sound. IsTrue sound ↔ AreRunsSound runs.now marks.now) }
@@ -142,5 +136,5 @@ pub fn are_runs_sound(alloc: Global, runs: &[RunRow], marks: &[MarkRow]) -> Resu
     let sites = are_apart(sites_of(alloc, marks)?);
     let keys = are_apart(run_keys(alloc, runs)?);
     let each = are_each_right(alloc, marks, runs)?;
-    Ok(all_hold(sites, keys, each))
+    Ok(three_hold(sites, keys, each))
 }

@@ -1,6 +1,9 @@
 //! Whether stored statuses and counts are those of a library.
 ghost use Rattle.std.specs.Prelude.{◌≡◌, ◌↔◌, ◌&&◌, ◌<◌, ◌^◌, ◌++◌, ◌==◌, length, map, IfOk, IsTrue};
 ghost use Rattle.std.specs.List.{list_all};
+ghost use Rattle.std.specs.Result.{IsOkUnless};
+ghost use Rattle.upd_text.specs.Faults.{fault_at};
+ghost use Rattle.upd_text.specs.declared.fault.FaultKind.TheVariants.{NoMemory};
 ghost use Rattle.upd_core.specs.Sound.{IsSound};
 ghost use Rattle.upd_core.specs.TargetCounts.{count_in};
 ghost use Rattle.upd_core.specs.declared.target.Target.{Target};
@@ -8,6 +11,7 @@ ghost use Rattle.upd_records.specs.Rows.{IsSame};
 ghost use Rattle.upd_yank.specs.Right.{AreStatesOf, put_counts};
 ghost use Rattle.upd_examine.specs.StateTests.{AreCounts, is_count, own_state, own_states};
 
+use crate::conjunctions::three_hold;
 use crate::same_rows::are_same;
 use crate::sound_tests::are_apart;
 use std::alloc::{AllocError, Global};
@@ -105,13 +109,6 @@ fn are_all_counted(cache: &Cache, counts: &TargetCounts, yanks: &[Card]) -> bool
         .all(|card| are_counted(cache, counts, &card.targets))
 }
 
-/// Whether these three hold.
-fn all_hold(a: bool, b: bool, c: bool) -> bool
-    ensures { result ≡ (a && (b && c)) }
-{
-    a && b && c
-}
-
 /// Whether stored counts are those that a cache has of the targets of yank cards, one each.
 fn are_counts(
     alloc: Global,
@@ -126,7 +123,7 @@ fn are_counts(
     let each = are_each_right(cache, stored);
     let counts = by_target(alloc, stored)?;
     let all = are_all_counted(cache, &counts, yanks);
-    Ok(all_hold(apart, each, all))
+    Ok(three_hold(apart, each, all))
 }
 
 /// Whether these two hold.
@@ -136,10 +133,11 @@ fn both_hold(a: bool, b: bool) -> bool
     a && b
 }
 
-/// Whether stored statuses and counts are those of a library.
+/// Whether stored statuses and counts are those of a library. The only error is NoMemory.
 pub fn are_states_of(alloc: Global, library: &Library, stored: &States) -> Result<bool, Fault>
-    ensures { IsSound library.now → length library.now.yanks < 2 ^ 32
+    ensures ok { IsSound library.now → length library.now.yanks < 2 ^ 32
         → IfOk result (λ are. IsTrue are ↔ AreStatesOf stored.now library.now) }
+    ensures err { IsOkUnless result (fault_at NoMemory 0) }
 {
     let cache = Cache::build(alloc, library)?;
     let statuses = are_statuses(alloc, library, &cache, &stored.states)?;

@@ -18,18 +18,18 @@ use Rattle.sqlite_keyed.proofs.ListLemmas.{map-map, filter-map, filter_same}
 use Rattle.sqlite.specs.declared.error.Error.{Error}
 use Rattle.sqlite.specs.Effect.{value_rows}
 use Rattle.sqlite.specs.Listing.{understood, reads_listing}
-use Rattle.sqlite.specs.State.{State, HasCleanDisk, Executes, Shown, Survives}
+use Rattle.sqlite.specs.State.{State, Executes, Shown, Survives}
 use Rattle.sqlite.proofs.Callers.{IsPlain, command_of, runs_as, reads_as}
 use Rattle.upd_records.specs.Rows.{Rows}
 use Rattle.upd_sqlite.specs.Keyed.{keyed, plain_query, row_order}
 use Rattle.upd_sqlite.specs.Stored.{HoldsAllRows, rows_at, with_rows}
-use Rattle.upd_sqlite.specs.Steps.{Steps, Ran, Makes}
+use Rattle.upd_sqlite.specs.Steps.{Ran, Makes}
 use Rattle.upd_sqlite.proofs.Frames.{is_lone}
 use Rattle.upd_sqlite.proofs.Shapes.{inserts, deletes, updates, updates_counted, reads_in_order}
-use Rattle.upd_sqlite.proofs.Answers.{shown_same, shown_was_open}
+use Rattle.upd_sqlite.proofs.Answers.{shown_was_open}
 use Rattle.upd_sql.specs.Schema.{library_schema}
 use Rattle.upd_sql.specs.LibraryTables.{HoldsTables, AnyTables}
-use Rattle.upd_sqlite.proofs.Chains.{makes_then, makes_not, makes_as}
+use Rattle.upd_sqlite.proofs.Chains.{makes_then, makes_as}
 use Rattle.upd_sql.proofs.Bare.{is_bare, bare_tests, bare_values}
 
 pub own : (db : Trees) (t : ℕ) → overlay db [] t ≡ db t

@@ -6,8 +6,8 @@ use Rattle.upd_examine.specs.StateTests.{AreCounts, own_states}
 use Rattle.upd_examine.proofs.StateTestLemmas.{states_decided}
 use Rattle.upd_examine.proofs.stored_states.are_states_of.Goals as goal
 
-pub returns : goal.returns
-returns c = λ sound few.
+pub returns-clause-ok : goal.returns-clause-ok
+returns-clause-ok c = λ sound few.
     let l = c.args.library.now in
     let stored = c.args.stored.now in
     let cache = c.in_ok-cache.cache in
