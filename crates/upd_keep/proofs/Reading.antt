@@ -7,7 +7,6 @@ use Rattle.upd_records.specs.Rows.{Rows}
 use Rattle.upd_sqlite.proofs.Chains.{clean_before}
 use Rattle.upd_sql.specs.Commits.{MayKeep}
 use Rattle.upd_sql.specs.LibraryTables.{ShowsTables}
-use Rattle.upd_sql.specs.Schema.{library_schema}
 use Rattle.upd_keep.specs.Examining.{Reads}
 
 -- a call that leaves nothing else in a crash

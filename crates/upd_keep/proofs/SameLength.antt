@@ -1,5 +1,5 @@
 -- Lists with the same elements are equally long.
-use Rattle.std.proofs.Common.{◌≡◌, ◌+◌, true, List, [], ◌∷◌, length, refl, sym, ◌∙◌, arith}
+use Rattle.std.proofs.Common.{◌≡◌, true, List, [], ◌∷◌, length, refl, sym, ◌∙◌, arith}
 use Rattle.std.specs.List.{count_by}
 use Rattle.upd_records.specs.Rows.{IsSame}
 use Rattle.upd_records.proofs.CountLemmas.{count_cons}

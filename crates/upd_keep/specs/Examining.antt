@@ -1,5 +1,5 @@
 -- What is said of a file that is examined.
-use Rattle.std.specs.Prelude.{◌≡◌, ℕ, List, [], ◌++◌, Bool, ◌&&◌, codes, decimal, length, Result, Ok, Err, IfErr, IfOk, IsTrue}
+use Rattle.std.specs.Prelude.{◌≡◌, ℕ, List, ◌++◌, Bool, ◌&&◌, codes, decimal, length, Result, Ok, Err, IfErr, IfOk, IsTrue}
 use Rattle.std.specs.List.{count_by}
 use Rattle.sqlite_value.specs.Order.{Row}
 use Rattle.sqlite_wal.specs.Recovery.{Image}
@@ -9,7 +9,6 @@ use Rattle.sqlite.specs.State.{State, HasCleanDisk, Survives}
 use Rattle.upd_text.specs.declared.fault.Fault.{Fault}
 use Rattle.upd_core.specs.Library.{is_deck_kind}
 use Rattle.upd_core.specs.declared.ident.Ident.{Ident}
-use Rattle.upd_core.specs.declared.states.States.{States}
 use Rattle.upd_examine.specs.Findings.{AreSoundRows}
 use Rattle.upd_records.specs.Rows.{Rows}
 use Rattle.upd_row_store.specs.Assembling.{AreRowsOf}

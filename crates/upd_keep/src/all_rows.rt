@@ -1,5 +1,5 @@
 //! All rows of a library, read of a connection.
-ghost use Rattle.std.specs.Prelude.{◌≡◌, false, IfOk};
+ghost use Rattle.std.specs.Prelude.{◌≡◌, false, IfOk, IsTrue, OnOk};
 ghost use Rattle.sqlite.specs.Held.{state};
 ghost use Rattle.sqlite.specs.State.{HasCleanDisk};
 ghost use Rattle.upd_records.specs.Rows.{Rows};
@@ -24,6 +24,25 @@ pub(crate) struct AllRows {
     pub(crate) kept: Kept,
 }
 
+/// The rows of the tables that a library is made of, of its statuses and of what it keeps of sites. Nothing changes.
+fn all_but_version<S: Rising>(conn: &mut Connection<S>, alloc: Global) -> Result<AllRows, Error>
+    requires { conn.old.in_transaction ≡ false }
+    ensures outside { conn.new.in_transaction ≡ false }
+    ensures open { HasCleanDisk (state S.Store conn.new) → OnOk result (IsTrue (state S.Store conn.old).is_open) }
+    ensures reads { Reads (state S.Store conn.old) (state S.Store conn.new) }
+    ensures found { HasCleanDisk (state S.Store conn.new) → IfOk result
+        (λ all. (it : Rows) → ShowsTables it (state S.Store conn.old).committed → AreAllRows it all) }
+{
+    let library = stored_library_rows(conn, alloc)?;
+    let states = stored_states(conn, alloc)?;
+    let kept = stored_kept(conn, alloc)?;
+    Ok(AllRows {
+        library,
+        states,
+        kept,
+    })
+}
+
 /// The rows of all tables of a library. DatabaseCorrupt where `meta` hasn't just one row. Nothing changes.
 pub(crate) fn all_rows<S: Rising>(conn: &mut Connection<S>, alloc: Global) -> Result<AllRows, Error>
     requires { conn.old.in_transaction ≡ false }
@@ -35,12 +54,5 @@ pub(crate) fn all_rows<S: Rising>(conn: &mut Connection<S>, alloc: Global) -> Re
         (λ all. (it : Rows) → ShowsTables it (state S.Store conn.old).committed → AreAllRows it all) }
 {
     only_version(conn)?;
-    let library = stored_library_rows(conn, alloc)?;
-    let states = stored_states(conn, alloc)?;
-    let kept = stored_kept(conn, alloc)?;
-    Ok(AllRows {
-        library,
-        states,
-        kept,
-    })
+    all_but_version(conn, alloc)
 }
