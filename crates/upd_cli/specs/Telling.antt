@@ -4,7 +4,7 @@ use Rattle.std.specs.Io.KnownBytes.{Appends}
 use Rattle.upd_text.specs.declared.fault.Fault.{Fault}
 use Rattle.upd_reply.specs.Texts.{settled_text}
 use Rattle.upd_desk.specs.Answers.{IsUntold, answer_line, is_answered}
-use Rattle.upd_desk.specs.Arrivals.{is_site}
+use Rattle.upd_text.specs.Keys.{is_site}
 use Rattle.upd_desk.specs.Outcomes.{ReplyView}
 use Rattle.upd_io.specs.Fronts.{AppendsFront}
 use Rattle.upd_cli.specs.Command.{Ending, IsTold}

@@ -78,7 +78,7 @@ named_at n name (j ∷ idents) i ages e = go j.held refl (bytes_eq j.name name) 
     go true held false other later = tail (later (sym (find_later (is_named name) j idents (rw (held, other) refl)) ∙ e))
     go false gone b f later = tail (later (sym (find_later (is_named name) j idents (rw gone refl)) ∙ e))
 
-name_at_place : (z : ℕ) (idents : List Ident) (i : Ident) → IsAt 1 z idents i → name_of idents z ≡ i.name
+pub name_at_place : (z : ℕ) (idents : List Ident) (i : Ident) → IsAt 1 z idents i → name_of idents z ≡ i.name
 name_at_place z idents i at =
     let from = at.from in
     let some : (z == 0) ≡ false = grind (arith, nat_tests) in

@@ -11,7 +11,7 @@ use Rattle.std.specs.Prelude.{codes, if◌then◌else◌}
 use Rattle.std.specs.Str.{bytes_eq}
 use Rattle.upd_text.specs.Lines.{is_blank}
 use Rattle.upd_text.specs.Names.{IsReference, card_of, card_text, is_digit, is_name, is_name_byte, yank_name}
-use Rattle.upd_text.proofs.CardRefLemmas.{card_of-card_text, numeral_model}
+use Rattle.upd_text.proofs.CardRefLemmas.{card_of-card_text, name_bytes, numeral_model}
 use Rattle.upd_text.specs.declared.card_ref.CardRef.{CardRef}
 use Rattle.upd_core.specs.First.{index_from}
 use Rattle.upd_deck.specs.Reading.{is_allowed, is_feed}
@@ -78,9 +78,6 @@ no_feed_name name all = none_of_all is_name_byte is_feed (other_byte is_name_byt
 
 no_feed_text : (text : List ℕ) → list_all is_allowed text ≡ true → HasNoFeed text
 no_feed_text text all = none_of_all is_allowed is_feed (other_byte is_allowed 10 refl) text all
-
-pub name_bytes : (name : List ℕ) → is_name name ≡ true → list_all is_name_byte name ≡ true
-name_bytes name ok = (and_parts _ _ (and_parts _ _ ok).0).1
 
 -- no byte of a reference passes a test that no name byte, no digit and no point passes
 none_in_card : (test : ℕ → Bool) (card : CardRef) → IsReference card → (list_all is_name_byte card.name ≡ true → NonePass test card.name) → test 46 ≡ false

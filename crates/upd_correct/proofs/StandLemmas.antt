@@ -13,7 +13,7 @@ use Rattle.upd_core.specs.Library.{CardView, LibraryView, cards_of, deck_of, emp
 use Rattle.upd_core.specs.Sound.{AreAgedFrom}
 use Rattle.upd_core.specs.Status.{is_active, live_targets}
 use Rattle.upd_core.proofs.ApartLemmas.{find_first, find_later}
-use Rattle.upd_core.proofs.FoundLemmas.{IsAt, named_at}
+use Rattle.upd_core.proofs.FoundLemmas.{IsAt, name_at_place, named_at}
 use Rattle.upd_laws.proofs.SoundIdentLemmas.{ages_end}
 use Rattle.upd_correct.specs.ListedDeck.{ListedView, as_listed, card_listed, library_listed, switched, with_ident, with_idents}
 use Rattle.upd_correct.proofs.CarryLemmas.{AreAlike}
@@ -97,12 +97,6 @@ all_held (c ∷ cards) l =
       (one.0, held_stays (with_ident c l) (with_idents cards (with_ident c l)) c.card.name one.0 (all_grown cards (with_ident c l)) one.1),
       all_held cards (with_ident c l),
     )
-
-name_at_place : (z : ℕ) (idents : List Ident) (i : Ident) → IsAt 1 z idents i → name_of idents z ≡ i.name
-name_at_place z idents i at =
-    let from = at.from in
-    let some : (z == 0) ≡ false = grind (arith, nat_tests) in
-    rw (some, at.place) refl
 
 -- the ident of a held name has that name
 name_back : (l : LibraryView) (name : List ℕ) → AreAgedFrom 1 l.idents → IsHeld l name → name_of l.idents (unwrap_or (ident_of name l) 0) ≡ name

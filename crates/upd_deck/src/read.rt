@@ -91,8 +91,8 @@ fn text_of(line: &[u8]) -> Result<&[u8], FaultKind>
     Ok(text)
 }
 
-/// Whether all bytes are allowed in a line.
-fn all_allowed(line: &[u8]) -> bool
+/// Whether all bytes are allowed in a line: 0x20 to 0x7E and the tab.
+pub fn all_allowed(line: &[u8]) -> bool
     ensures { result ≡ list_all is_allowed line.now }
 {
     line.iter().all(|&byte| is_allowed(byte))

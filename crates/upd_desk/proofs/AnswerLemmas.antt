@@ -9,7 +9,8 @@ use Rattle.upd_records.specs.Rows.{RunView, Rows}
 use Rattle.upd_compile.specs.declared.mode.Mode.{Mode}
 use Rattle.upd_compile.specs.Modes.{mode_named}
 use Rattle.upd_row_store.specs.Tables.{run_at, mark_at}
-use Rattle.upd_desk.specs.Arrivals.{ArrivalView, is_site, is_run_number, check_arrival}
+use Rattle.upd_text.specs.Keys.{is_site, is_run_number}
+use Rattle.upd_desk.specs.Arrivals.{ArrivalView, check_arrival}
 use Rattle.upd_desk.specs.Journal.{Came, Journal, mark, distinct, library_after, kept, reply_to, answer}
 use Rattle.upd_desk.specs.Outcomes.{ReplyView, outcome}
 use Rattle.upd_desk.specs.Holding.{Holds, is_lost}

@@ -14,7 +14,8 @@ use Rattle.upd_compile.specs.Modes.{mode_named}
 use Rattle.upd_laws.proofs.ReadRunLemmas.{empty_made, run_made}
 use Rattle.upd_laws.proofs.SoundOutcomeLemmas.{holds_of, through}
 use Rattle.upd_laws.proofs.SoundRunLemmas.{empty_sound, run_sound, run_whole, run_within}
-use Rattle.upd_desk.specs.Arrivals.{ArrivalView, check_arrival, is_run_number, is_site, check_key}
+use Rattle.upd_text.specs.Keys.{is_run_number, is_site}
+use Rattle.upd_desk.specs.Arrivals.{ArrivalView, check_arrival, check_key}
 use Rattle.upd_desk.specs.Journal.{Heard, Journal, distinct, made_by, outcome_of, library_after}
 use Rattle.upd_desk.specs.Made.{IsMade}
 use Rattle.upd_desk.specs.Outcomes.{Compiled, compiled, outcome, outcome_by}

@@ -13,7 +13,8 @@ use Rattle.upd_row_store.specs.Keeping.{IsLost, Keeps, Tries}
 use Rattle.upd_row_store.specs.Tables.{mark_at, settled_to}
 use Rattle.upd_row_store.proofs.StoreLemmas.{later_twice}
 use Rattle.upd_row_store.proofs.TableLemmas.{max_right, same_bytes, shows_settled, states_settled}
-use Rattle.upd_desk.specs.Arrivals.{is_run_number, is_site, check_key}
+use Rattle.upd_text.specs.Keys.{is_run_number, is_site}
+use Rattle.upd_desk.specs.Arrivals.{check_key}
 use Rattle.upd_desk.specs.Journal.{Alike, Event, Settled, Journal, mark, library_after}
 use Rattle.upd_desk.specs.Holding.{Guards, Holds, HoldsIn, IsHeld, IsIdleSettlement, IsLeft, Settles, is_lost, mark_after}
 use Rattle.upd_desk.proofs.ArrivesLemmas.{LeavesTables, holds_in_alike, left_held, left_here, left_more, lost_kind}

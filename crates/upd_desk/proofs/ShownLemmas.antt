@@ -16,7 +16,8 @@ use Rattle.upd_laws.specs.ReadRuns.{HasLineTexts}
 use Rattle.upd_laws.proofs.CompileLineLemmas.{file_plain, name_of_plain}
 use Rattle.upd_laws.proofs.SoundListLemmas.{and_right, all_weaker}
 use Rattle.upd_reply.specs.Texts.{AreShown, accepted_text, is_shown}
-use Rattle.upd_desk.specs.Arrivals.{ArrivalView, check_arrival, is_site, is_site_byte}
+use Rattle.upd_text.specs.Keys.{is_site, is_site_byte}
+use Rattle.upd_desk.specs.Arrivals.{ArrivalView, check_arrival}
 use Rattle.upd_desk.specs.Made.{IsMade}
 use Rattle.upd_desk.specs.Outcomes.{Compiled, compiled}
 use Rattle.upd_row_store.proofs.TableLemmas.{same_bytes}

@@ -4,6 +4,7 @@ use Rattle.std.specs.List.{list_all}
 use Rattle.upd_text.specs.declared.fault.Fault.{Fault}
 use Rattle.upd_text.specs.declared.fault.FaultKind.TheVariants as fault
 use Rattle.upd_text.specs.declared.limits.TheConstants.{MAX_RUN_BYTES}
+use Rattle.upd_text.specs.Keys.{is_run_number, is_site}
 use Rattle.upd_text.specs.Outcome.{◌>>=◌, at_line, need, refuse_if}
 use Rattle.upd_compile.specs.Modes.{mode_named}
 use Rattle.upd_compile.specs.declared.mode.Mode.{Mode}
@@ -19,18 +20,6 @@ pub record ArrivalView : Type 0 where
 -- an arrival with these parts
 abbrev pub arrival_view : List ℕ → ℕ → List ℕ → List ℕ → ArrivalView
 arrival_view site number mode bytes = record { site = site; number = number; mode = mode; bytes = bytes }
-
--- whether a byte may stand in a site: `A-Z` and `0-9`
-abbrev pub is_site_byte : ℕ → Bool
-is_site_byte b = (nat_le 65 b && nat_le b 90) || (nat_le 48 b && nat_le b 57)
-
--- whether a text is a site: 1 to 8 of these
-abbrev pub is_site : List ℕ → Bool
-is_site text = nat_le 1 (length text) && nat_le (length text) 8 && list_all is_site_byte text
-
--- whether a number is a run's
-abbrev pub is_run_number : ℕ → Bool
-is_run_number n = nat_le 1 n && nat_le n 999999999
 
 -- site and number are checked first
 abbrev pub check_key : List ℕ → ℕ → Result Bool Fault

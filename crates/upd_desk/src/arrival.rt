@@ -1,12 +1,12 @@
 //! What arrives at the desk, and the admission checks.
 
 ghost use Rattle.std.specs.Prelude.{◌≡◌, false};
-ghost use Rattle.std.specs.List.{list_all};
 ghost use Rattle.std.specs.Result.{result_map_both};
-ghost use Rattle.upd_desk.specs.Arrivals.{check_arrival, is_run_number, is_site, is_site_byte, check_key, mode_number};
+ghost use Rattle.upd_desk.specs.Arrivals.{check_arrival, check_key, mode_number};
 
 use std::marker::Model;
 use upd_compile::Mode;
+use upd_text::keys::{is_run_number, is_site};
 use upd_text::limits::MAX_RUN_BYTES;
 use upd_text::{Fault, FaultKind};
 
@@ -53,30 +53,6 @@ pub(crate) fn check_key(site: &str, number: u64) -> Result<(), Fault>
         return Err(FaultKind::BadNumber.without_line());
     }
     Ok(())
-}
-
-fn is_site(text: &[u8]) -> bool
-    ensures { result ≡ is_site text.now }
-{
-    1 <= text.len() && text.len() <= 8 && are_site_bytes(text)
-}
-
-fn are_site_bytes(text: &[u8]) -> bool
-    ensures { result ≡ list_all is_site_byte text.now }
-{
-    text.iter().all(|&byte| is_site_byte(byte))
-}
-
-fn is_site_byte(byte: u8) -> bool
-    ensures { result ≡ is_site_byte byte }
-{
-    byte.is_ascii_uppercase() || byte.is_ascii_digit()
-}
-
-fn is_run_number(number: u64) -> bool
-    ensures { result ≡ is_run_number number }
-{
-    1 <= number && number <= 999_999_999
 }
 
 /// The number by which the tables know a mode.

@@ -7,7 +7,7 @@ use Rattle.std.proofs.lemmas.List.Concat.{flat_map-append}
 use Rattle.std.proofs.lemmas.Bool.{false≢true}
 use Rattle.std.proofs.lemmas.Bool.Decides.{nat_tests}
 use Rattle.std.specs.List.{concat, flat_map, list_all}
-use Rattle.upd_desk.specs.Arrivals.{is_site, is_site_byte}
+use Rattle.upd_text.specs.Keys.{is_site, is_site_byte}
 use Rattle.upd_reply.specs.Texts.{escaped, settled_bytes, settled_text}
 
 -- a piece is added to what is there

@@ -2,7 +2,7 @@
 use Rattle.std.proofs.Common.{◌≡◌, inl, inr, ℕ, List, ◌∷◌, Bool, true, false, not, Result, Ok, Err, refl, sym, ap, ◌∙◌, subst}
 use Rattle.std.specs.Result.{result_map_both}
 use Rattle.upd_row_store.specs.declared.meaning.Meaning.{Ghosts}
-use Rattle.upd_desk.specs.Arrivals.{is_run_number, is_site}
+use Rattle.upd_text.specs.Keys.{is_run_number, is_site}
 use Rattle.upd_desk.specs.Holding.{HoldsIn, IsOwed, mark_after}
 use Rattle.upd_desk.specs.Journal.{Journal, Settled, mark}
 use Rattle.upd_request.specs.Calls.{Asked, run, settle, compile, deck, card, idents, yanks}

@@ -6,7 +6,7 @@ use Rattle.upd_core.specs.Library.{LibraryView}
 use Rattle.upd_compile.specs.File.{compile_file_of}
 use Rattle.upd_compile.specs.Listings.{card_listing, deck_listing, ident_listing, yank_listing}
 use Rattle.upd_compile.specs.declared.mode.Mode.TheVariants.{Full}
-use Rattle.upd_desk.specs.Arrivals.{is_site}
+use Rattle.upd_text.specs.Keys.{is_site}
 use Rattle.upd_desk.specs.Holding.{Arrives, Settles, Tells}
 use Rattle.upd_desk.specs.Outcomes.{ReplyView}
 use Rattle.upd_reply.specs.Texts.{settled_text}

@@ -2,7 +2,7 @@
 
 ghost use Rattle.std.specs.Prelude.{◌≡◌, ◌≤◌, ◌+◌, [], IsTrue, length, vec_capacity};
 ghost use Rattle.upd_request.specs.Calls.{asked, card, compile, deck, idents, run, settle, yanks};
-ghost use Rattle.upd_desk.specs.Arrivals.{is_site};
+ghost use Rattle.upd_text.specs.Keys.{is_site};
 ghost use Rattle.upd_reply.specs.Texts.{settled_text};
 ghost use Rattle.upd_http.specs.Serving.{Asks};
 ghost use Rattle.upd_http.specs.Views.{answer_seen};

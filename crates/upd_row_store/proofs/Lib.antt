@@ -1,8 +1,8 @@
 pub mod TableLemmas
 pub mod StoreLemmas
-mod PartLemmas
+pub mod PartLemmas
 pub mod KeepingLemmas
-mod SortLemmas
+pub mod SortLemmas
 mod RowLemmas
 mod PlaceLemmas
 mod AssembleLemmas

@@ -55,7 +55,7 @@ order_kept lt keep (x ∷ xs) up = go (keep x) (order_kept lt keep xs up.1)
     go false later = later
 
 -- where some element passes a test, one of those passes of which P holds
-one_passes : {A : Type 0} (P : A → Type 0) (test : A → Bool) (xs : List A) → AllByRecursion P xs → 0 < count_by test xs → (x : A) × P x × (test x ≡ true)
+pub one_passes : {A : Type 0} (P : A → Type 0) (test : A → Bool) (xs : List A) → AllByRecursion P xs → 0 < count_by test xs → (x : A) × P x × (test x ≡ true)
 one_passes P test [] all some = absurd (omega arith)
 one_passes P test (x ∷ xs) all some = go (test x) refl (one_passes P test xs all.1)
   where

@@ -111,7 +111,7 @@ card_of_is_reference field = if_read field IsReference (λ name number. (
   (number_is_within (after_first is_point field) number).1,
 ))
 
-name_bytes : (name : List ℕ) → is_name name ≡ true → list_all is_name_byte name ≡ true
+pub name_bytes : (name : List ℕ) → is_name name ≡ true → list_all is_name_byte name ≡ true
 name_bytes name ok = (and_parts _ _ (and_parts _ _ ok).0).1
 
 same_card : (card : CardRef) (name : List ℕ) (number : ℕ) → name ≡ card.name → number ≡ card.number

@@ -6,6 +6,7 @@
 
 pub mod card_ref;
 pub mod fault;
+pub mod keys;
 pub mod limits;
 pub mod line;
 pub mod name;

@@ -54,7 +54,7 @@ no_more (x ∷ xs) ys apart all =
 
 -- ---- the references of a library's cards
 
-refs_of_cards : (l : LibraryView) → map (λ k. k.card) (counted_cards l) ≡ map (ref_of l.idents) (all_cards l)
+pub refs_of_cards : (l : LibraryView) → map (λ k. k.card) (counted_cards l) ≡ map (ref_of l.idents) (all_cards l)
 refs_of_cards l =
     map-append (λ (k : CountedCardView). k.card) (yanks_of l) (others_of l)
     ∙ (λ i. cards 0 l.yanks i ++ decks l.decks i) ∙ sym (map-append (ref_of l.idents) l.yanks (flat_map (λ d. d.cards) l.decks))
