@@ -1,4 +1,5 @@
 pub mod CardRefLemmas
+mod NameKeyLemmas
 pub mod SplitLemmas
 pub mod EachLemmas
 pub mod OrderLemmas

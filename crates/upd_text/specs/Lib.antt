@@ -1,6 +1,7 @@
 pub mod Units
 pub mod Names
 pub mod NameFields
+pub mod NameKeys
 pub mod Lines
 pub mod Faults
 pub mod Keys

@@ -1,14 +1,16 @@
 //! Names of idents.
 
-ghost use Rattle.std.specs.Prelude.{◌≡◌, [], ◌≤◌, ◌↔◌, length, Some, IfSome, IsSome, IsTrue};
+ghost use Rattle.std.specs.Prelude.{◌≡◌, [], ℕ, ◌<◌, ◌≤◌, ◌↔◌, get_or, length, take, Some, IfSome, IsSome, IsTrue};
 ghost use Rattle.std.specs.Cmp.{partial_order_from_own_ties};
 ghost use Rattle.std.specs.Cmp.Lexicographic.{slice_cmp};
 ghost use Rattle.std.specs.Cmp.Rules.{comparing};
 ghost use Rattle.std.specs.List.{list_all};
 ghost use Rattle.std.specs.Ordering.{nat_cmp, as_partial_cmp};
+ghost use Rattle.std.specs.Slice.Scan.{big_endian};
 ghost use Rattle.std.specs.Str.{bytes_eq};
 ghost use Rattle.std.proofs.Common.{rules};
 ghost use Rattle.upd_text.specs.Names.{is_name, is_name_byte, yank_name};
+ghost use Rattle.upd_text.specs.NameKeys.{back, front, padded};
 
 use crate::limits::MAX_NAME_BYTES;
 use std::cmp::Ordering;
@@ -84,6 +86,32 @@ impl Name {
     {
         &self.bytes[..usize::from(self.len)]
     }
+
+    /// The first eight bytes of the name padded with zeros, as a number.
+    fn front(&self) -> u64
+        ensures number { result ≡ front self.now }
+        ensures bytes { (k : ℕ) → get_or (padded self.now) k 0 < 256 }
+    {
+        front_of(&self.bytes)
+    }
+
+    /// The ninth byte and the length, as a number.
+    fn back(&self) -> u16
+        ensures number { result ≡ back self.now }
+        ensures short { length self.now ≤ 9 }
+    {
+        u16::from(self.bytes[8]) * 256 + u16::from(self.len)
+    }
+}
+
+/// The first eight bytes as a number.
+fn front_of(bytes: &[u8; 9]) -> u64
+    ensures number { result ≡ big_endian 0 (take 8 bytes.now) }
+    ensures bytes { (k : ℕ) → get_or bytes.now k 0 < 256 }
+{
+    u64::from_be_bytes([
+        bytes[0], bytes[1], bytes[2], bytes[3], bytes[4], bytes[5], bytes[6], bytes[7],
+    ])
 }
 
 /// Whether a text is a name.
@@ -114,7 +142,7 @@ impl PartialEq for Name {
     ghost laws = { Prim.search (comparing, rules) };
 
     fn eq(&self, other: &Name) -> bool {
-        self.as_bytes() == other.as_bytes()
+        self.cmp(other).is_eq()
     }
 }
 
@@ -142,7 +170,8 @@ impl Ord for Name {
     ghost matches_eq = { Prim.search (comparing, rules) };
 
     fn cmp(&self, other: &Name) -> Ordering {
-        self.as_bytes().cmp(other.as_bytes())
+        let front = self.front().cmp(&other.front());
+        front.then(self.back().cmp(&other.back()))
     }
 }
 
