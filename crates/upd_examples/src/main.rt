@@ -1,36 +1,40 @@
-//! Carries out each example, and says whether what it writes is the compile file that stands beside it.
+//! Carries out each example by the calls that `upd trial` makes, and says whether it gives the compile file that stands
+//! beside it.
 #![tactic(auto)]
 
+use std::alloc::Global;
 use std::{fs, io};
-use upd_cli::run_command;
+use upd_apply::apply;
+use upd_compile::{CompileFile, Mode, compile_file};
+use upd_core::{Fault, Library};
+use upd_deck::read_run;
 
 /// A run, a mode, and the compile file that is wanted.
-const EXAMPLES: &[(&str, &str, &str)] = &[
-    ("insert.run", "full", "insert.compile"),
-    ("orbit.run", "full", "orbit.compile"),
-    ("commons.run", "full", "commons.full"),
-    ("commons.run", "quick", "commons.quick"),
-    ("commons.run", "normal", "commons.normal"),
+const EXAMPLES: &[(&str, Mode, &str)] = &[
+    ("insert.run", Mode::Full, "insert.compile"),
+    ("orbit.run", Mode::Full, "orbit.compile"),
+    ("commons.run", Mode::Full, "commons.full"),
+    ("commons.run", Mode::Quick, "commons.quick"),
+    ("commons.run", Mode::Normal, "commons.normal"),
 ];
 
 fn main(rt: HostRuntime) -> io::Result<()> {
     for (run, mode, wanted) in EXAMPLES {
-        let verdict = if writes(&rt, run, mode, wanted)? {
-            "writes"
-        } else {
-            "does not write"
+        let (text, lines) = (fs::read(&rt, run)?, fs::read(&rt, wanted)?);
+        let verdict = match compiled(rt.alloc(), &text, *mode) {
+            Ok(file) if file.bytes == lines => "gives",
+            _ => "does not give",
         };
-        println!(rt; "{run} in mode {mode} {verdict} {wanted}")?;
+        println!(rt; "{run} {verdict} {wanted}")?;
     }
     Ok(())
 }
 
-/// Whether a run in a mode writes the wanted file, and nothing else.
-fn writes(rt: &HostRuntime, run: &str, mode: &str, wanted: &str) -> io::Result<bool> {
-    let (run, wanted) = (fs::read(rt, run)?, fs::read(rt, wanted)?);
-    let (mut output, mut faults) = (Vec::new(rt.alloc()), Vec::new(rt.alloc()));
-    let mut input = run.as_slice();
-    let words = ["upd", "trial", mode];
-    let status = run_command(rt, &words, &mut input, &mut output, &mut faults);
-    Ok(status == 0 && output.as_slice() == wanted.as_slice() && faults.is_empty())
+/// The compile file of a run on an empty library.
+fn compiled(alloc: Global, text: &[u8], mode: Mode) -> Result<CompileFile, Fault> {
+    let run = read_run(alloc, text)?;
+    let before = Library::new(alloc);
+    let mut after = Library::new(alloc);
+    let applied = apply(alloc, &mut after, &run)?;
+    compile_file(alloc, &after, &before, mode, &applied.compile)
 }
