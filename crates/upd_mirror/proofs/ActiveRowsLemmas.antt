@@ -1,15 +1,16 @@
 -- The active cards of decks in memory are those of all their rows, in order.
 use Rattle.std.proofs.Common.{◌≡◌, ℕ, zero, suc, ◌+◌, ◌<◌, ◌≤◌, ◌==◌, nat_le, Bool, true}
-use Rattle.std.proofs.Common.{false, cond, List, [], ◌∷◌, ◌++◌, length, map, get_or, Option, None, Some}
+use Rattle.std.proofs.Common.{false, cond, List, [], ◌∷◌, ◌++◌, length, map, get_or, Some, Result, Ok, Err, add-one}
 use Rattle.std.proofs.Common.{refl, ap, sym, ◌∙◌, subst, arith}
 use Rattle.std.specs.Prelude.{◌||◌}
 use Rattle.std.specs.BTreeMap.{BTreeMap, IsOrdered, get}
 use Rattle.std.specs.Cmp.{nat_cmp_is, tied_itself}
-use Rattle.std.specs.List.{AllByRecursion, filter, flat_map, list_all, list_any}
-use Rattle.std.specs.List.Sorted.{IsStrictlySortedBy}
+use Rattle.std.specs.List.{AllByRecursion, HoldsAt, filter, flat_map, list_all, list_any}
+use Rattle.std.specs.List.Sorted.{IsBinarySearchResult, IsNonDecreasingBy, IsPartitionPoint, IsStrictlySortedBy}
 use Rattle.std.specs.Map.{keys_of}
-use Rattle.std.specs.Option.{option_map_or, unwrap_or}
-use Rattle.std.specs.Ordering.{is_eq, is_lt, nat_cmp, ordering_then}
+use Rattle.std.specs.Option.{MatchOption, option_map_or}
+use Rattle.std.specs.Ordering.{is_eq, is_lt, nat_cmp, ordering_index, ordering_reverse, ordering_then}
+use Rattle.std.specs.Result.{result_ok}
 use Rattle.std.specs.declared.cmp.Ordering.TheVariants.{Less, Equal, Greater}
 use Rattle.std.specs.declared.vec.Vec.{Vec}
 use Rattle.std.proofs.lemmas.Bool.{and_parts}
@@ -19,6 +20,7 @@ use Rattle.upd_text.specs.Order.{by_name}
 use Rattle.upd_text.specs.declared.card_ref.CardRef.{CardRef}
 use Rattle.std.proofs.lemmas.Cmp.{nat_cmp_total}
 use Rattle.std.proofs.lemmas.List.Elements.{recursion_from_All}
+use Rattle.std.proofs.lemmas.List.Sorted.{searchable_from_sorted}
 use Rattle.std.proofs.lemmas.Map.Views.{All-found}
 use Rattle.upd_core.specs.Actives.{ActiveDeckView, ActivesView, actives_of}
 use Rattle.upd_core.specs.Library.{LibraryView}
@@ -28,47 +30,106 @@ use Rattle.upd_records.specs.Rows.{CardRow, IsSame, Rows, Shows, ShowsStates, St
 use Rattle.upd_row_store.proofs.ActiveLemmas.{actives_again}
 use Rattle.upd_row_store.specs.Activating.{active_card, actives_from, actives_in, behind_yanks, is_active_in, with_active}
 use Rattle.upd_row_store.specs.Assembling.{AreByAge, AreByPlace}
-use Rattle.upd_mirror.specs.ActiveRows.{rise_from, shown_deck, shown_decks, with_rows}
+use Rattle.upd_mirror.specs.ActiveRows.{AreInOrder, rise_from, shown_deck, shown_decks, with_rows}
 use Rattle.upd_mirror.specs.Mirrored.{state_row}
-use Rattle.upd_mirror.proofs.MapRowsLemmas.{flat_at, own_key}
+use Rattle.upd_mirror.proofs.MapRowsLemmas.{own_key}
 use Rattle.upd_mirror.proofs.LoadLemmas.{cards_all}
 use Rattle.upd_mirror.specs.RowsByKey.{AreCards}
-use Rattle.upd_mirror.proofs.NameOrderLemmas.{refs_exact, refs_total, same_by_order}
+use Rattle.upd_mirror.proofs.NameOrderLemmas.{refs_exact, refs_total, same_by_order, turned}
 
 -- ---- statuses
 
-by_order : (states : List StateRow) (card : CardRef)
-    → filter (λ r. same_ref card r.card) states ≡ filter (λ r. is_eq (by_name card r.card)) states
-by_order states card = ap (λ (f : StateRow → Bool). filter f states) (λ i r. same_by_order card r.card i)
+above_at : (c : CardRef) (es : List (CardRef × Bool)) → AllByRecursion (λ y. by_name c y ≡ Less) (keys_of es) → (k : ℕ) (d : CardRef × Bool)
+    → k < length es → by_name c (get_or es k d).0 ≡ Less
+above_at c [] above k d less = absurd (omega arith)
+above_at c (e ∷ es) above zero d less = above.0
+above_at c (e ∷ es) above (suc k) d less = above_at c es above.1 k d (omega arith)
 
-one_each : (es : List (CardRef × Bool))
-    → AllByRecursion (λ e. filter {X = StateRow} (λ r. is_eq (by_name e.0 r.card)) (record { card = e.0; active = e.1 } ∷ [])
-    ≡ record { card = e.0; active = e.1 } ∷ []) es
-one_each [] = tt
-one_each (e ∷ es) = (
-  ap (λ b. cond b (record { card = e.0; active = e.1 } ∷ []) []) (ap is_eq (tied_itself refs_total e.0)),
-  one_each es,
-)
+next_above : (es : List (CardRef × Bool)) → AreInOrder es → (k : ℕ) (d : CardRef × Bool) → suc k < length es
+    → by_name (get_or es k d).0 (get_or es (suc k) d).0 ≡ Less
+next_above [] up k d less = absurd (omega arith)
+next_above (e ∷ es) up zero d less = above_at e.0 es (sorted_head by_name e.0 (keys_of es) up) 0 d (omega arith)
+next_above (e ∷ es) up (suc k) d less = next_above es (sorted_tail by_name e.0 (keys_of es) up) k d (omega arith)
 
-as_rows : (es : List (CardRef × Bool)) → flat_map (λ e. cond true (record { card = e.0; active = e.1 } ∷ []) []) es ≡ map state_row es
-as_rows [] = refl
-as_rows (e ∷ es) = ap (λ rows. record { card = e.0; active = e.1 } ∷ rows) (as_rows es)
+-- pairs in order rise towards each card
+rise_to : (c : CardRef) (es : List (CardRef × Bool)) → AreInOrder es → IsNonDecreasingBy (λ e. ordering_index (by_name e.0 c)) es
+rise_to c es up = searchable_from_sorted refs_total (λ e. e.0) es c (λ k d low within.
+    ap (λ n. is_lt (by_name (get_or es n d).0 (get_or es k d).0)) (add-one k)
+    ∙ ap is_lt (refs_total.antisymm (get_or es (suc k) d).0 (get_or es k d).0 ∙ ap ordering_reverse (next_above es up k d (omega arith))))
 
--- a card is active by the rows of a map where it is active by the map
-pub active_by_row : (statuses : BTreeMap CardRef Bool) (card : CardRef) → IsOrdered by_name statuses
-    → unwrap_or (get by_name statuses card) false ≡ is_active_in (map state_row statuses.entries) card
-active_by_row statuses card up =
-    go (get by_name statuses card) ∙ sym (ap (list_any (λ r. r.active)) (by_order (map state_row statuses.entries) card
-    ∙ ap (filter (λ r. is_eq (by_name card r.card))) (sym (as_rows statuses.entries))
-    ∙ flat_at refs_total refs_exact (λ r. r.card) (λ c r. is_eq (by_name c r.card)) (λ c r. refl)
-    (λ c active. record { card = c; active = active } ∷ [])
-    (λ c. true) card statuses.entries up (one_each statuses.entries)))
+-- whether a card is active by pairs
+abbrev is_active_by : List (CardRef × Bool) → CardRef → Bool
+is_active_by es card = is_active_in (map state_row es) card
+
+other_first : (c : CardRef) (e : CardRef × Bool) (es : List (CardRef × Bool)) → same_ref c e.0 ≡ false
+    → is_active_by (e ∷ es) c ≡ is_active_by es c
+other_first c e es other =
+    ap (λ b. list_any (λ r. r.active) (cond b (state_row e ∷ filter (λ r. same_ref c r.card) (map state_row es)) (filter (λ r. same_ref c r.card)
+    (map state_row es)))) other
+
+-- a card is not active where it has no pair
+pub none_active : (c : CardRef) (es : List (CardRef × Bool)) → list_any (λ p. same_ref c p.0) es ≡ false → is_active_by es c ≡ false
+none_active c [] none = refl
+none_active c (e ∷ es) none = go (same_ref c e.0) refl (none_active c es)
   where
-    go : (o : Option Bool) → unwrap_or o false ≡ list_any {X = StateRow} (λ r. r.active) (option_map_or
-        (λ active. record { card = card; active = active } ∷ []) o [])
-    go None = refl
-    go (Some true) = refl
-    go (Some false) = refl
+    go : (b : Bool) → same_ref c e.0 ≡ b → (list_any (λ p. same_ref c p.0) es ≡ false → is_active_by es c ≡ false)
+        → is_active_by (e ∷ es) c ≡ false
+    go true same later = absurd (let hit : true ≡ false = ap (λ b. b || list_any (λ p. same_ref c p.0) es) (sym same) ∙ none in cc)
+    go false other later = other_first c e es other ∙ later (ap (λ b. b || list_any (λ p. same_ref c p.0) es) (sym other) ∙ none)
+
+-- a card that differs from that of each pair has none
+none_stands : (c : CardRef) (es : List (CardRef × Bool)) → ((k : ℕ) (d : CardRef × Bool) → k < length es → same_ref c (get_or es k d).0 ≡ false)
+    → list_any (λ p. same_ref c p.0) es ≡ false
+none_stands c [] others = refl
+none_stands c (e ∷ es) others =
+    ap (λ b. b || list_any (λ p. same_ref c p.0) es) (others 0 e (omega arith)) ∙ none_stands c es (λ k d less. others (suc k) d (omega arith))
+
+less_apart : (a b : CardRef) → by_name a b ≡ Less → same_ref b a ≡ false
+less_apart a b less = sym (turned a b) ∙ ap is_eq less
+
+greater_apart : (a b : CardRef) → by_name a b ≡ Greater → same_ref b a ≡ false
+greater_apart a b more = sym (turned a b) ∙ ap is_eq more
+
+-- a search by halves that ends between the cards below and those above
+none_between : (c : CardRef) (es : List (CardRef × Bool)) (i : ℕ)
+    → IsPartitionPoint (λ e. by_name e.0 c ≡ Less) (λ e. by_name e.0 c ≡ Greater) es i
+    → list_any (λ p. same_ref c p.0) es ≡ false
+none_between c es i parted = none_stands c es (λ k d less. go k d less (nat_le i k) refl)
+  where
+    go : (k : ℕ) (d : CardRef × Bool) → k < length es → (t : Bool) → nat_le i k ≡ t → same_ref c (get_or es k d).0 ≡ false
+    go k d less true behind = greater_apart (get_or es k d).0 c (parted.1 k d (grind (arith, nat_tests)) less)
+    go k d less false before = less_apart (get_or es k d).0 c (parted.0 k d (omega arith) (grind (arith, nat_tests)))
+
+-- what a search by halves finds
+pub searched : (c : CardRef) (es : List (CardRef × Bool)) (r : Result ℕ ℕ) → AreInOrder es → IsBinarySearchResult (λ e. by_name e.0 c) es r
+    → MatchOption (result_ok r) (list_any (λ p. same_ref c p.0) es ≡ false) (HoldsAt (λ p. p.0 ≡ c) es)
+searched c es (Ok i) up found = λ d. refs_exact (get_or es i d).0 c (found d)
+searched c es (Err i) up parted = none_between c es i (parted (rise_to c es up))
+
+-- a card that stands first of pairs in order
+first_active : (c : CardRef) (e : CardRef × Bool) (es : List (CardRef × Bool)) → AreInOrder (e ∷ es) → e.0 ≡ c → is_active_by (e ∷ es) c ≡ e.1
+first_active c e es up is =
+    ap (λ b. list_any (λ r. r.active) (cond b (state_row e ∷ filter (λ r. same_ref c r.card) (map state_row es)) (filter (λ r. same_ref c r.card)
+    (map state_row es))))
+    (same_by_order c e.0 ∙ ap (λ x. is_eq (by_name c x)) is ∙ ap is_eq (tied_itself refs_total c))
+    ∙ ap (λ b. e.1 || b) (none_active c es (none_stands c es (λ k d less.
+    ap (λ x. same_ref x (get_or es k d).0) (sym is) ∙ same_by_order e.0 (get_or es k d).0
+    ∙ ap is_eq (above_at e.0 es (sorted_head by_name e.0 (keys_of es) up) k d less))))
+    ∙ or_nothing e.1
+  where
+    or_nothing : (b : Bool) → (b || false) ≡ b
+    or_nothing true = refl
+    or_nothing false = refl
+
+-- a card that stands at a place of pairs in order is active where its pair says so
+pub active_at : (c : CardRef) (es : List (CardRef × Bool)) (i : ℕ) (d : CardRef × Bool) → AreInOrder es → i < length es → (get_or es i d).0 ≡ c
+    → is_active_by es c ≡ (get_or es i d).1
+active_at c [] i d up less is = absurd (omega arith)
+active_at c (e ∷ es) zero d up less is = first_active c e es up is
+active_at c (e ∷ es) (suc i) d up less is =
+    other_first c e es (less_apart e.0 c (ap (by_name e.0) (sym is)
+    ∙ above_at e.0 es (sorted_head by_name e.0 (keys_of es) up) i d (omega arith)))
+    ∙ active_at c es i d (sorted_tail by_name e.0 (keys_of es) up) (omega arith) is
 
 -- ---- decks
 

@@ -1,7 +1,11 @@
 -- The active cards of decks whose rows are in memory.
 use Rattle.std.specs.Prelude.{ℕ, ◌==◌, nat_le, Bool, true, ◌&&◌, ◌||◌, if◌then◌else◌, List, [], ◌∷◌, length}
 use Rattle.std.specs.List.{flat_map}
+use Rattle.std.specs.List.Sorted.{IsStrictlySortedBy}
+use Rattle.std.specs.Map.{keys_of}
 use Rattle.std.specs.declared.vec.Vec.{Vec}
+use Rattle.upd_text.specs.Order.{by_name}
+use Rattle.upd_text.specs.declared.card_ref.CardRef.{CardRef}
 use Rattle.upd_core.specs.Actives.{ActiveDeckView}
 use Rattle.upd_core.specs.declared.ident.Ident.{Ident}
 use Rattle.upd_records.specs.Rows.{CardRow, StateRow}
@@ -11,6 +15,10 @@ use Rattle.upd_row_store.specs.Activating.{with_active}
 abbrev pub rise_from : ℕ → List CardRow → Bool
 rise_from place [] = true
 rise_from place (r ∷ rows) = nat_le place r.pos && rise_from r.pos rows
+
+-- cards with their statuses stand by name, then by number, and none stands twice
+abbrev pub AreInOrder : List (CardRef × Bool) → Type 0
+AreInOrder pairs = IsStrictlySortedBy by_name (keys_of pairs)
 
 module _ (idents : List Ident) (states : List StateRow) where
   -- a deck with the active ones of these cards

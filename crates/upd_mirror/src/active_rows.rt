@@ -4,17 +4,16 @@ ghost use Rattle.std.specs.Prelude.{◌≡◌, ◌++◌, [], map, List, IfOk, On
 ghost use Rattle.std.specs.BTreeMap.{IsOrdered};
 ghost use Rattle.std.specs.List.{list_all};
 ghost use Rattle.std.specs.Ordering.{nat_cmp};
-ghost use Rattle.upd_text.specs.Order.{by_name};
 ghost use Rattle.upd_core.specs.declared.ident.Ident.{Ident};
-ghost use Rattle.upd_row_store.specs.Activating.{is_active_in, with_active};
+ghost use Rattle.upd_row_store.specs.Activating.{with_active};
 ghost use Rattle.upd_row_store.specs.Assembling.{AreAgesOf};
-ghost use Rattle.upd_mirror.specs.ActiveRows.{rise_from, shown_deck, shown_decks, with_rows};
+ghost use Rattle.upd_mirror.specs.ActiveRows.{AreInOrder, rise_from, shown_deck, shown_decks, with_rows};
 ghost use Rattle.upd_mirror.specs.Mirrored.{state_row};
 
-use crate::tables::status_of;
+use crate::statuses::Statuses;
 use std::alloc::{AllocError, Global};
 use std::collections::BTreeMap;
-use upd_core::{ActiveDeck, CardRef, Serial};
+use upd_core::{ActiveDeck, Serial};
 use upd_records::CardRow;
 use upd_row_store::age_of;
 use upd_text::Name;
@@ -45,31 +44,18 @@ pub(crate) fn all_by_place(decks: &BTreeMap<Serial, Vec<CardRow>>) -> bool
     true
 }
 
-/// The cards of a map are in order.
-pub(crate) fn are_in_order(statuses: &BTreeMap<CardRef, bool>)
-    ensures { IsOrdered by_name statuses.now }
-{
-    let _count = statuses.len();
-}
-
-/// Whether a card is active.
-fn is_active(statuses: &BTreeMap<CardRef, bool>, card: &CardRef) -> bool
-    ensures { IsOrdered by_name statuses.now → result ≡ is_active_in (map state_row statuses.now.entries) card.now }
-{
-    status_of(statuses, card).unwrap_or(false)
-}
-
 /// Adds the card of a row to its deck, if it is active.
 fn add_row(
     deck: &mut ActiveDeck,
     row: &CardRow,
     ages: &BTreeMap<Name, Serial>,
-    statuses: &BTreeMap<CardRef, bool>,
+    statuses: &mut Statuses,
 ) -> Result<(), AllocError>
-    ensures { OnOk result ((idents : List Ident) → AreAgesOf idents ages.now → IsOrdered by_name statuses.now
-        → deck.new ≡ with_active idents (map state_row statuses.now.entries) row.now deck.old) }
+    ensures pairs { statuses.new.pairs ≡ statuses.old.pairs }
+    ensures deck { OnOk result ((idents : List Ident) → AreAgesOf idents ages.now → AreInOrder statuses.old.pairs.now
+        → deck.new ≡ with_active idents (map state_row statuses.old.pairs.now) row.now deck.old) }
 {
-    if is_active(statuses, &row.card) {
+    if statuses.is_active(&row.card) {
         deck.push(age_of(ages, &row.card.name), row.card.number, &row.body)?;
     }
     Ok(())
@@ -81,10 +67,11 @@ fn active_deck(
     age: Serial,
     rows: &[CardRow],
     ages: &BTreeMap<Name, Serial>,
-    statuses: &BTreeMap<CardRef, bool>,
+    statuses: &mut Statuses,
 ) -> Result<ActiveDeck, AllocError>
-    ensures { IfOk result (λ deck. (idents : List Ident) → AreAgesOf idents ages.now → IsOrdered by_name statuses.now
-        → deck ≡ with_rows idents (map state_row statuses.now.entries) (record { ident = age; cards = [] }) rows.now) }
+    ensures pairs { statuses.new.pairs ≡ statuses.old.pairs }
+    ensures deck { IfOk result (λ deck. (idents : List Ident) → AreAgesOf idents ages.now → AreInOrder statuses.old.pairs.now
+        → deck ≡ with_rows idents (map state_row statuses.old.pairs.now) (record { ident = age; cards = [] }) rows.now) }
 {
     let mut deck = ActiveDeck::new(alloc, age);
     for row in rows {
@@ -100,10 +87,11 @@ fn add_deck(
     age: Serial,
     rows: &[CardRow],
     ages: &BTreeMap<Name, Serial>,
-    statuses: &BTreeMap<CardRef, bool>,
+    statuses: &mut Statuses,
 ) -> Result<(), AllocError>
-    ensures { OnOk result ((idents : List Ident) → AreAgesOf idents ages.now → IsOrdered by_name statuses.now
-        → found.new.items ≡ found.old.items ++ shown_deck idents (map state_row statuses.now.entries) age rows.now) }
+    ensures pairs { statuses.new.pairs ≡ statuses.old.pairs }
+    ensures decks { OnOk result ((idents : List Ident) → AreAgesOf idents ages.now → AreInOrder statuses.old.pairs.now
+        → found.new.items ≡ found.old.items ++ shown_deck idents (map state_row statuses.old.pairs.now) age rows.now) }
 {
     if age == 0 || rows.is_empty() {
         return Ok(());
@@ -117,11 +105,10 @@ pub(crate) fn active_decks(
     alloc: Global,
     decks: &BTreeMap<Serial, Vec<CardRow>>,
     ages: &BTreeMap<Name, Serial>,
-    statuses: &BTreeMap<CardRef, bool>,
+    statuses: &mut Statuses,
 ) -> Result<Vec<ActiveDeck>, AllocError>
     ensures decks { IfOk result (λ found. (idents : List Ident) → AreAgesOf idents ages.now
-        → IsOrdered by_name statuses.now
-        → found.items ≡ shown_decks idents (map state_row statuses.now.entries) decks.now.entries) }
+        → AreInOrder statuses.old.pairs.now → found.items ≡ shown_decks idents (map state_row statuses.old.pairs.now) decks.now.entries) }
     ensures ordered { OnOk result (IsOrdered nat_cmp decks.now) }
 {
     let mut found = Vec::new(alloc);

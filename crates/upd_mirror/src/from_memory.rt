@@ -17,11 +17,12 @@ ghost use Rattle.upd_row_store.specs.PartRows.{AreOfDistinctCards, part_rows};
 ghost use Rattle.upd_row_store.specs.Tables.{AreByKey, AreRead, AreReadOf};
 ghost use Rattle.upd_mirror.specs.Mirrored.{Agrees};
 
-use crate::active_rows::{active_decks, all_by_place, are_in_order};
+use crate::active_rows::{active_decks, all_by_place};
 use crate::copies::{
     all_cards, all_entries, all_states, card_count, cards_by_name, cards_of, entries_of, homes_of,
 };
 use crate::mirror::Mirror;
+use crate::statuses::Statuses;
 use crate::tables::{put_status, status_of};
 use std::alloc::{AllocError, Global};
 use std::collections::BTreeMap;
@@ -186,10 +187,14 @@ impl Mirror {
         if !all_by_place(&self.decks) {
             return self.actives_sorted(alloc);
         }
-        are_in_order(&self.statuses);
         let idents = by_age(Vec::from_slice(alloc, &self.idents)?);
         let ages = held_ages(alloc, &idents)?;
-        let decks = active_decks(alloc, &self.decks, &ages, &self.statuses)?;
+        let pairs = pairs_of(alloc, &self.statuses)?;
+        let mut statuses = Statuses {
+            pairs: &pairs,
+            next: 0,
+        };
+        let decks = active_decks(alloc, &self.decks, &ages, &mut statuses)?;
         Ok(Actives { idents, decks })
     }
 

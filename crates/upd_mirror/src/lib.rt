@@ -8,6 +8,7 @@ mod made;
 pub mod mirror;
 pub mod mirror_store;
 mod moved_idents;
+mod statuses;
 mod tables;
 
 pub use mirror_store::MirrorStore;

@@ -9,6 +9,7 @@ mod AssembleLemmas
 pub mod HolderLemmas
 pub mod KeyLemmas
 pub mod ActiveLemmas
+mod ByCardLemmas
 mod RestLemmas
 pub mod AskedLemmas
 pub mod MovableLemmas

@@ -75,7 +75,7 @@ module _ {A : Type 0} (card : A → CardRef) (ord : A → ℕ) where
   pub row_order : IsStrictWeakOrder row_below
   row_order = ranks_by (then_total (on_total card card_total) (on_total ord nat_cmp_total)) (λ a. a)
 
-  by_card : (xs : List A) → IsSortedBy row_below xs → IsSortedBy (λ a b. is_lt (card_order (card a) (card b))) xs
+  pub by_card : (xs : List A) → IsSortedBy row_below xs → IsSortedBy (λ a b. is_lt (card_order (card a) (card b))) xs
   by_card xs up k d low high = first_not_below _ _ (up k d low high)
 
   pub parted_below : (c : CardRef) (xs : List A) → IsSortedBy row_below xs → IsPartitionedBy (λ a. is_lt (card_order (card a) c)) xs

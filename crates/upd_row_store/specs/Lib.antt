@@ -5,3 +5,4 @@ pub mod Asked
 pub mod Activating
 pub mod PartRows
 pub mod Movable
+pub mod ByCard

@@ -1,15 +1,15 @@
 //! The active cards of a library out of rows, which come in any order.
 ghost use Rattle.std.specs.Prelude.{◌≡◌, IfOk, IsPermutation, List, OnOk};
-ghost use Rattle.std.specs.List.{filter};
 ghost use Rattle.upd_core.specs.Actives.{actives_of};
 ghost use Rattle.upd_core.specs.Library.{LibraryView};
 ghost use Rattle.upd_core.specs.declared.ident.Ident.{Ident};
 ghost use Rattle.upd_core.specs.Sound.{IsSound};
-ghost use Rattle.upd_records.specs.Rows.{IsSame, Rows, Shows, ShowsStates, same_ref};
+ghost use Rattle.upd_records.specs.Rows.{IsSame, Rows, Shows, ShowsStates};
 ghost use Rattle.upd_row_store.specs.Activating.{AreStatesByCard, actives_in, behind_yanks, is_active_in, with_active};
 ghost use Rattle.upd_row_store.specs.Assembling.{AreAgesOf};
 
 use crate::assemble::{age_of, by_age, by_place, held_ages};
+use crate::by_card::rows_of;
 use std::alloc::{AllocError, Global};
 use std::collections::BTreeMap;
 use std::mem;
@@ -26,21 +26,12 @@ fn states_by_card(rows: Vec<StateRow>) -> Vec<StateRow>
     rows
 }
 
-/// The rows of a card's status: they stand side by side.
-fn state_rows<'a>(rows: &'a [StateRow], card: &CardRef) -> &'a [StateRow]
-    requires { AreStatesByCard rows.now }
-    ensures { result.now ≡ filter (λ r. same_ref card.now r.card) rows.now }
-{
-    let behind = &rows[rows.partition_point(|row| row.card.cmp(card).is_lt())..];
-    &behind[..behind.partition_point(|row| row.card.cmp(card).is_le())]
-}
-
 /// Whether a card's row says that it is active.
-fn is_active(states: &[StateRow], card: &CardRef) -> bool
+fn is_active(states: &[StateRow], next: &mut usize, card: &CardRef) -> bool
     requires { AreStatesByCard states.now }
     ensures { result ≡ is_active_in states.now card.now }
 {
-    state_rows(states, card).iter().any(|row| row.active)
+    rows_of(states, next, card).iter().any(|row| row.active)
 }
 
 /// Adds the card of a row to its deck, if it is active.
@@ -49,12 +40,13 @@ fn add_row(
     row: &CardRow,
     ages: &BTreeMap<Name, Serial>,
     states: &[StateRow],
+    next: &mut usize,
 ) -> Result<(), AllocError>
     requires { AreStatesByCard states.now }
     ensures { OnOk result ((idents : List Ident) → AreAgesOf idents ages.now
         → deck.new ≡ with_active idents states.now row.now deck.old) }
 {
-    if is_active(states, &row.card) {
+    if is_active(states, next, &row.card) {
         deck.push(age_of(ages, &row.card.name), row.card.number, &row.body)?;
     }
     Ok(())
@@ -73,11 +65,12 @@ fn active_decks(
     let ages = held_ages(alloc, idents)?;
     let mut decks = Vec::new(alloc);
     let mut deck = ActiveDeck::new(alloc, 0);
+    let mut next = 0;
     for row in cards {
         if row.deck != deck.ident {
             decks.push(mem::replace(&mut deck, ActiveDeck::new(alloc, row.deck)))?;
         }
-        add_row(&mut deck, row, &ages, states)?;
+        add_row(&mut deck, row, &ages, states, &mut next)?;
     }
     decks.push(deck)?;
     Ok(decks)

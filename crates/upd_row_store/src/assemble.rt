@@ -1,16 +1,16 @@
 //! A library out of its rows, which come in any order.
 ghost use Rattle.std.specs.Prelude.{◌≡◌, ℕ, List, IfOk, IsPermutation, length};
-ghost use Rattle.std.specs.List.{filter};
 ghost use Rattle.upd_core.specs.Library.{LibraryView, empty};
 ghost use Rattle.upd_core.specs.Sound.{IsSound, IsWhole};
 ghost use Rattle.upd_core.specs.declared.ident.Ident.{Ident};
-ghost use Rattle.upd_records.specs.Rows.{Rows, Shows, same_ref};
+ghost use Rattle.upd_records.specs.Rows.{Rows, Shows};
 ghost use Rattle.upd_row_store.specs.Assembling.{AreAgesOf, AreByAge, AreEntriesByCard, AreByPlace, AreRowsOf};
 ghost use Rattle.upd_row_store.specs.Assembling.{AreTargetsByCard, age_named, card_of_row, decks_in, entries_of, library_of};
 ghost use Rattle.upd_row_store.specs.Assembling.{targets_of};
 ghost use Rattle.upd_core.specs.Parts.{part_of};
 ghost use Rattle.upd_row_store.specs.PartRows.{AreOfDistinctCards, part_rows};
 
+use crate::by_card::rows_of;
 use crate::parts::part_of;
 use std::alloc::{AllocError, Global};
 use std::collections::BTreeMap;
@@ -55,30 +55,24 @@ fn targets_by_card(rows: Vec<TargetRow>) -> Vec<TargetRow>
     rows
 }
 
-/// The rows of a card's entries: they stand side by side.
-fn entry_rows<'a>(rows: &'a [EntryRow], card: &CardRef) -> &'a [EntryRow]
-    requires { AreEntriesByCard rows.now }
-    ensures { result.now ≡ filter (λ r. same_ref card.now r.card) rows.now }
-{
-    let behind = &rows[rows.partition_point(|row| row.card.cmp(card).is_lt())..];
-    &behind[..behind.partition_point(|row| row.card.cmp(card).is_le())]
-}
-
-/// The rows of a card's targets.
-fn target_rows<'a>(rows: &'a [TargetRow], card: &CardRef) -> &'a [TargetRow]
-    requires { AreTargetsByCard rows.now }
-    ensures { result.now ≡ filter (λ r. same_ref card.now r.card) rows.now }
-{
-    let behind = &rows[rows.partition_point(|row| row.card.cmp(card).is_lt())..];
-    &behind[..behind.partition_point(|row| row.card.cmp(card).is_le())]
+/// The places where the rows of the next card are looked for first.
+#[derive(Drop)]
+struct Places {
+    entry: usize,
+    target: usize,
 }
 
 /// The history of a card.
-fn history_of(alloc: Global, rows: &[EntryRow], card: &CardRef) -> Result<Vec<Entry>, AllocError>
+fn history_of(
+    alloc: Global,
+    rows: &[EntryRow],
+    next: &mut usize,
+    card: &CardRef,
+) -> Result<Vec<Entry>, AllocError>
     requires { AreEntriesByCard rows.now }
     ensures { IfOk result (λ history. history.items ≡ entries_of card.now rows.now) }
 {
-    let own = entry_rows(rows, card);
+    let own = rows_of(rows, next, card);
     let mut history = Vec::with_capacity(alloc, own.len())?;
     for row in own {
         history.push(row.entry)?;
@@ -87,11 +81,16 @@ fn history_of(alloc: Global, rows: &[EntryRow], card: &CardRef) -> Result<Vec<En
 }
 
 /// What a yank card takes.
-fn targets_of(alloc: Global, rows: &[TargetRow], card: &CardRef) -> Result<Vec<Target>, AllocError>
+fn targets_of(
+    alloc: Global,
+    rows: &[TargetRow],
+    next: &mut usize,
+    card: &CardRef,
+) -> Result<Vec<Target>, AllocError>
     requires { AreTargetsByCard rows.now }
     ensures { IfOk result (λ targets. targets.items ≡ targets_of card.now rows.now) }
 {
-    let own = target_rows(rows, card);
+    let own = rows_of(rows, next, card);
     let mut targets = Vec::with_capacity(alloc, own.len())?;
     for row in own {
         targets.push(row.target)?;
@@ -129,6 +128,7 @@ fn card_of(
     row: &CardRow,
     ages: &BTreeMap<Name, Serial>,
     rows: &LibraryRows,
+    places: &mut Places,
 ) -> Result<Card, AllocError>
     requires ages { AreAgesOf rows.now.idents.items ages.now }
     requires entries { AreEntriesByCard rows.now.entries.items }
@@ -137,8 +137,8 @@ fn card_of(
         ≡ card_of_row rows.now.idents.items rows.now.entries.items rows.now.targets.items row.now) }
 {
     let text = Vec::from_slice(alloc, &row.body)?;
-    let history = history_of(alloc, &rows.entries, &row.card)?;
-    let targets = targets_of(alloc, &rows.targets, &row.card)?;
+    let history = history_of(alloc, &rows.entries, &mut places.entry, &row.card)?;
+    let targets = targets_of(alloc, &rows.targets, &mut places.target, &row.card)?;
     Ok(Card {
         ident: age_of(ages, &row.card.name),
         number: row.card.number,
@@ -161,8 +161,12 @@ fn decks_in(alloc: Global, rows: &LibraryRows) -> Result<Vec<Deck>, AllocError>
         ident: 0,
         cards: Vec::new(alloc),
     };
+    let mut places = Places {
+        entry: 0,
+        target: 0,
+    };
     for row in &rows.cards {
-        let card = card_of(alloc, row, &ages, rows)?;
+        let card = card_of(alloc, row, &ages, rows, &mut places)?;
         if row.deck != deck.ident {
             let next = Deck {
                 ident: row.deck,

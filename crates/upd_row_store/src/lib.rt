@@ -4,6 +4,7 @@
 pub mod active;
 pub mod asked;
 pub mod assemble;
+mod by_card;
 pub mod meaning;
 mod parts;
 pub mod store;
