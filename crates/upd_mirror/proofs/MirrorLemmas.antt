@@ -25,6 +25,7 @@ use Rattle.upd_core.specs.declared.change.Change.{Change}
 use Rattle.upd_records.specs.Changes.{change_view, done, done_all, moved_row, shifted}
 use Rattle.upd_records.specs.Fits.{AllFit, CanMove, Fits}
 use Rattle.upd_records.specs.Rows.{CardRow, CountRow, EntryRow, IsSame, Rows, count_rows, same_ref, state_rows}
+use Rattle.upd_row_store.proofs.PartLemmas.{same_length}
 use Rattle.upd_row_store.proofs.AskedLemmas.{filter_made}
 use Rattle.upd_row_store.proofs.HolderLemmas.{any_same}
 use Rattle.upd_row_store.specs.Tables.{count_pair}
@@ -216,13 +217,6 @@ pub entries_left : {Z : Type 0} (old new : BTreeMap CardRef (Vec EntryRow Z)) (r
 entries_left old new rows card left are =
     some_gone (λ c x. same_ref c x.card) (entries_at old) (entries_at new) rows (λ x. same_ref card x.card) (λ c. is_eq (by_name card c))
     (λ c x. alike card c x.card) left are
-
-count_all : {A : Type 0} (xs : List A) → count_by (λ x. true) xs ≡ length xs
-count_all [] = refl
-count_all (x ∷ xs) = let rest = count_all xs in omega (arith, count_cons (λ y. true) x xs)
-
-pub same_length : {A : Type 0} {xs ys : List A} → IsSame xs ys → length xs ≡ length ys
-same_length {xs = xs} {ys = ys} same = sym (count_all xs) ∙ same.passes (λ x. true) ∙ count_all ys
 
 left_length : {A : Type 0} (gone : A → Bool) (xs : List A) → length (filter (λ x. not (gone x)) xs) + length (filter gone xs) ≡ length xs
 left_length gone [] = refl

@@ -1,6 +1,6 @@
 use Rattle.std.proofs.Common.{◌∙◌}
 use Rattle.upd_mirror.proofs.LoadLemmas.{cards_all}
-use Rattle.upd_mirror.proofs.MirrorLemmas.{same_length}
+use Rattle.upd_row_store.proofs.PartLemmas.{same_length}
 use Rattle.upd_mirror.proofs.mirror.Mirror.card_count.Goals as goal
 
 pub returns : goal.returns
