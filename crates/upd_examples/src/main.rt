@@ -21,13 +21,22 @@ const EXAMPLES: &[(&str, Mode, &str)] = &[
 fn main(rt: HostRuntime) -> io::Result<()> {
     for (run, mode, wanted) in EXAMPLES {
         let (text, lines) = (fs::read(&rt, run)?, fs::read(&rt, wanted)?);
-        let verdict = match compiled(rt.alloc(), &text, *mode) {
-            Ok(file) if file.bytes == lines => "gives",
-            _ => "does not give",
+        let verdict = if gives(rt.alloc(), &text, *mode, &lines) {
+            "gives"
+        } else {
+            "does not give"
         };
         println!(rt; "{run} {verdict} {wanted}")?;
     }
     Ok(())
+}
+
+/// Whether a run on an empty library gives this compile file.
+fn gives(alloc: Global, text: &[u8], mode: Mode, wanted: &[u8]) -> bool {
+    match compiled(alloc, text, mode) {
+        Ok(file) => file.bytes.as_slice() == wanted,
+        Err(_) => false,
+    }
 }
 
 /// The compile file of a run on an empty library.
