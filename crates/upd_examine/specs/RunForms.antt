@@ -51,7 +51,7 @@ is_run_right marks r = is_key r.site r.number && (is_above marks r && (nat_le r.
 abbrev pub run_key : RunView → Bytes × ℕ
 run_key r = (r.site, r.number)
 
--- each mark is the number of a run of its site, no two marks are of one site, no two runs have one key, and each run is right
+-- each mark has a site and a run's number, no two marks are of one site, no two runs have one key, and each run is right
 pub record AreRunsSound (runs : List RunView) (marks : List MarkRow) : Type 0 where
   pub marked : list_all (λ m. is_key m.site m.mark) marks ≡ true
   pub sites : AreApart (map (λ m. m.site) marks)

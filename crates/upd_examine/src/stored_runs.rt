@@ -93,7 +93,7 @@ fn is_key(site: &[u8], number: u64) -> bool
     is_site(site) && is_run_number(number)
 }
 
-/// Whether each mark is the number of a run of its site.
+/// Whether each mark has a site that is one, and a run's number.
 pub fn are_marks_right(marks: &[MarkRow]) -> bool
     ensures { result ≡ list_all (λ m. is_key m.site m.mark) marks.now }
 {
