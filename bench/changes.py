@@ -1,8 +1,8 @@
 """Changes of a library's tables by hand, each of which breaks a rule of the library.
 
 A change is picked by one row, by its rowid, and is one statement. `why` is the rule that it breaks, whatever else the library has. Left out is what breaks no
-rule: another text of a card, another order of cards in a deck but for its first, a common deck for a deck, NOPROP, a stored run or a mark that is lost, a mark
-that is lowered, other bytes of a run, and other bytes in the middle of a reply.
+rule: another text of a card that a line can have, another order of cards in a deck but for its first, a common deck for a deck, NOPROP, a stored run or a mark that is lost, a mark
+that is lowered but not to 0, other bytes of a run, and other bytes in the middle of a reply.
 
 A change is found with status 1, or with 3 where a row can't be read as a row of a library, or where the tables are not those of the schema.
 """
@@ -29,6 +29,9 @@ OWN_STATUS = "each card has the one status that the histories give it"
 OWN_COUNT = "each target of a live yank card has its count, and no other has one"
 ABOVE_MARK = "stored runs are above their site's mark"
 OWN_REPLY = "a stored reply begins and ends as one to its run"
+OF_A_LINE = "the text of a card has at most 80 bytes, printable ASCII or tabs"
+OWN_SITE = "a site is 1 to 8 of A-Z and 0-9"
+OWN_NUMBER = "a run's number is 1 to 999,999,999"
 
 META = [
     Change("meta", "a newer version", "FROM meta t", "UPDATE meta SET v = 4 WHERE rowid = ?1", 3, "the schema is the third"),
@@ -86,6 +89,9 @@ CARDS = [
     Change("cards", "the place of the card before it", "FROM cards t WHERE pos > 0", "UPDATE cards SET pos = pos - 1 WHERE rowid = ?1", 1, NO_HOLES),
     Change("cards", "the first place for the second card", f"FROM cards t WHERE deck <> 0 AND pos = 0 AND {NOT_LAST}",
            "UPDATE cards SET pos = 1 - pos WHERE pos < 2 AND deck = (SELECT deck FROM cards WHERE rowid = ?1)", 1, "the first card of a deck is its own"),
+    Change("cards", "a text of 81 bytes", "FROM cards t", "UPDATE cards SET body = printf('%081d', 0) WHERE rowid = ?1", 1, OF_A_LINE),
+    Change("cards", "a text with a byte that is not ASCII", "FROM cards t", "UPDATE cards SET body = 'CAF\u00c9' WHERE rowid = ?1", 1, OF_A_LINE),
+    Change("cards", "a text with a line end", "FROM cards t", "UPDATE cards SET body = 'ONE' || char(10) || 'TWO' WHERE rowid = ?1", 1, OF_A_LINE),
     Change("cards", "a row lost", "FROM cards t", "DELETE FROM cards WHERE rowid = ?1", 1, CARD_OF),
     Change("cards", "a row added", "FROM cards t", "INSERT INTO cards SELECT ident, num + 100000, deck, "
            "(SELECT max(pos) + 1 FROM cards c WHERE c.deck = cards.deck), body FROM cards WHERE rowid = ?1", 1, "each card has a history"),
@@ -141,6 +147,14 @@ RUNS = [
     Change("runs", "accepted by 2", "FROM runs t", "UPDATE runs SET accepted = 2 WHERE rowid = ?1", 3, UNREADABLE),
     Change("runs", "a negative number", "FROM runs t", "UPDATE runs SET num = -num WHERE rowid = ?1", 3, UNREADABLE),
     Change("runs", "another site", "FROM runs t", "UPDATE runs SET site = 'NOBODY' WHERE rowid = ?1", 1, OWN_REPLY),
+    Change("runs", "a site in small letters", "FROM runs t", "UPDATE runs SET site = lower(site) WHERE rowid = ?1", 1, OWN_SITE),
+    Change("runs", "a site in small letters, in the reply too", "FROM runs t",
+           "UPDATE runs SET site = 'lyon', reply = CAST(replace(CAST(reply AS TEXT), '\"site\":\"' || site || '\"', '\"site\":\"lyon\"') AS BLOB) "
+           "WHERE rowid = ?1", 1, OWN_SITE),
+    Change("runs", "a number that is too great", "FROM runs t", "UPDATE runs SET num = 1000000000 WHERE rowid = ?1", 1, OWN_NUMBER),
+    Change("runs", "a number that is too great, in the reply too", "FROM runs t",
+           "UPDATE runs SET num = 1000000000, reply = CAST(replace(CAST(reply AS TEXT), '\"run\":' || num || ',', '\"run\":1000000000,') AS BLOB) "
+           "WHERE rowid = ?1", 1, OWN_NUMBER),
     Change("runs", "another mode", "FROM runs t WHERE accepted = 1", "UPDATE runs SET mode = (mode + 1) % 3 WHERE rowid = ?1", 1, OWN_REPLY),
     Change("runs", "the mode 3", "FROM runs t", "UPDATE runs SET mode = 3 WHERE rowid = ?1", 1, "a mode is 0, 1 or 2"),
     Change("runs", "another outcome", "FROM runs t", "UPDATE runs SET accepted = 1 - accepted WHERE rowid = ?1", 1, OWN_REPLY),
@@ -183,6 +197,9 @@ SETTLED = [
     Change("settled", "the site of stored runs", f"FROM settled t WHERE EXISTS (SELECT 1 FROM runs r WHERE r.{UNSETTLED} AND r.num <= t.mark)",
            f"UPDATE settled SET site = (SELECT site FROM runs r WHERE r.{UNSETTLED} AND r.num <= settled.mark LIMIT 1) WHERE rowid = ?1", 1,
            ABOVE_MARK),
+    Change("settled", "a site in small letters", "FROM settled t", "UPDATE settled SET site = lower(site) WHERE rowid = ?1", 1, OWN_SITE),
+    Change("settled", "a mark of 0", "FROM settled t", "UPDATE settled SET mark = 0 WHERE rowid = ?1", 1, OWN_NUMBER),
+    Change("settled", "a mark that is too great", "FROM settled t", "UPDATE settled SET mark = 1000000000 WHERE rowid = ?1", 1, OWN_NUMBER),
     Change("settled", "a negative mark", "FROM settled t", "UPDATE settled SET mark = -1 - mark WHERE rowid = ?1", 3, UNREADABLE),
 ]
 

@@ -9,7 +9,7 @@ use Rattle.upd_core.specs.declared.ident.Ident.{Ident}
 use Rattle.upd_core.specs.Library.{DeckView, is_deck, is_deck_kind}
 use Rattle.upd_core.specs.Sound.{AreAgedFrom, AreRising, is_held, is_held_deck}
 use Rattle.upd_examine.specs.SoundTests.{held_at, held_decks}
-use Rattle.upd_examine.proofs.TestLemmas.{weaker}
+use Rattle.upd_row_store.proofs.SortLemmas.{weaker}
 
 -- ---- held idents at their indices
 

@@ -2,6 +2,7 @@ pub mod TestLemmas
 pub mod DeckLemmas
 pub mod SortedLemmas
 pub mod WholeLemmas
+pub mod TextLemmas
 pub mod SameLemmas
 pub mod KeyLemmas
 pub mod FlatLemmas

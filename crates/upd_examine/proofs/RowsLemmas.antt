@@ -9,6 +9,8 @@ use Rattle.upd_records.specs.Rows.{IsSame, Rows, rows_of}
 use Rattle.upd_records.specs.declared.rows.LibraryRows.{LibraryRows}
 use Rattle.upd_row_store.specs.Assembling.{AreRowsOf}
 use Rattle.upd_examine.specs.Findings.{AreLibraryRows}
+use Rattle.upd_examine.specs.TextTests.{has_line_texts}
+use Rattle.upd_examine.proofs.TextLemmas.{texts_decided}
 
 -- a test of two lists is one of those that they are
 pub of_lists : {A : Type 0} (b : Bool) (xs ys us vs : List A) → xs ≡ us → ys ≡ vs → (IsTrue b ↔ IsSame xs ys) → IsTrue b ↔ IsSame us vs
@@ -29,13 +31,17 @@ rows_decided tables rows a b c d idents cards entries targets = (
       (and_from b (c && d) (cards.1 are.cards) (and_from c d (entries.1 are.entries) (targets.1 are.targets)))),
 )
 
-pub library_decided : (rows : LibraryRows) (l : LibraryView) (a b c : Bool) → (IsTrue a ↔ (IsSound l × IsWhole l)) → b ≡ is_within_limits l
-    → (IsTrue c ↔ AreRowsOf (rows_of l) rows) → IsTrue (a && (b && c)) ↔ AreLibraryRows rows l
-library_decided rows l a b c sound within own = (
-  (λ t.
-      let p = and_parts a (b && c) t in
-      let q = and_parts b c p.1 in
-      let is = sound.0 p.0 in
-      record { sound = is.0; whole = is.1; limits = sym within ∙ q.0; own = own.0 q.1 }),
-  (λ are. and_from a (b && c) (sound.1 (are.sound, are.whole)) (and_from b c (within ∙ are.limits) (own.1 are.own))),
-)
+pub library_decided : (rows : LibraryRows) (l : LibraryView) (a b c d : Bool) → (IsTrue a ↔ (IsSound l × IsWhole l)) → b ≡ is_within_limits l
+    → c ≡ has_line_texts l → (IsTrue d ↔ AreRowsOf (rows_of l) rows) → IsTrue (a && (b && (c && d))) ↔ AreLibraryRows rows l
+library_decided rows l a b c d sound within texts own =
+    let lines = texts_decided l in (
+      (λ t.
+          let p = and_parts a (b && (c && d)) t in
+          let q = and_parts b (c && d) p.1 in
+          let r = and_parts c d q.1 in
+          let is = sound.0 p.0 in
+          record { sound = is.0; whole = is.1; limits = sym within ∙ q.0; texts = lines.0 (sym texts ∙ r.0); own = own.0 r.1 }),
+      (λ are.
+          and_from a (b && (c && d)) (sound.1 (are.sound, are.whole))
+          (and_from b (c && d) (within ∙ are.limits) (and_from c d (texts ∙ lines.1 are.texts) (own.1 are.own)))),
+    )

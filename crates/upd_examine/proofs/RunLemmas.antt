@@ -7,19 +7,26 @@ use Rattle.std.specs.List.{list_all}
 use Rattle.upd_text.specs.Units.{Bytes}
 use Rattle.upd_core.specs.Sound.{AreApart}
 use Rattle.upd_records.specs.Rows.{MarkRow, RunView}
-use Rattle.upd_examine.specs.RunForms.{AreRunsSound, is_run_right, run_key}
+use Rattle.upd_examine.specs.RunForms.{AreRunsSound, is_key, is_run_right, run_key}
 
-pub runs_decided : (runs : List RunView) (marks : List MarkRow) (sites : List Bytes) (keys : List (Bytes × ℕ)) (a b c : Bool)
-    → sites ≡ map (λ m. m.site) marks → keys ≡ map run_key runs → (IsTrue a ↔ AreApart sites) → (IsTrue b ↔ AreApart keys)
-    → c ≡ list_all (is_run_right marks) runs → IsTrue (a && (b && c)) ↔ AreRunsSound runs marks
-runs_decided runs marks sites keys a b c are_sites are_keys one two each = (
+pub runs_decided : (runs : List RunView) (marks : List MarkRow) (sites : List Bytes) (keys : List (Bytes × ℕ)) (m a b c : Bool)
+    → m ≡ list_all (λ m. is_key m.site m.mark) marks → sites ≡ map (λ m. m.site) marks → keys ≡ map run_key runs → (IsTrue a ↔ AreApart sites) → (IsTrue b ↔ AreApart keys)
+    → c ≡ list_all (is_run_right marks) runs → IsTrue (m && (a && (b && c))) ↔ AreRunsSound runs marks
+runs_decided runs marks sites keys m a b c are_marked are_sites are_keys one two each = (
   (λ t.
-      let p = and_parts a (b && c) t in
+      let o = and_parts m (a && (b && c)) t in
+      let p = and_parts a (b && c) o.1 in
       let q = and_parts b c p.1 in
-      record { sites = subst AreApart are_sites (one.0 p.0); keys = subst AreApart are_keys (two.0 q.0); each = sym each ∙ q.1 }),
+      record {
+        marked = sym are_marked ∙ o.0;
+        sites = subst AreApart are_sites (one.0 p.0);
+        keys = subst AreApart are_keys (two.0 q.0);
+        each = sym each ∙ q.1;
+      }),
   (λ are.
-      and_from a (b && c) (one.1 (subst AreApart (sym are_sites) are.sites))
-      (and_from b c (two.1 (subst AreApart (sym are_keys) are.keys)) (each ∙ are.each))),
+      and_from m (a && (b && c)) (are_marked ∙ are.marked)
+      (and_from a (b && c) (one.1 (subst AreApart (sym are_sites) are.sites))
+      (and_from b c (two.1 (subst AreApart (sym are_keys) are.keys)) (each ∙ are.each)))),
 )
 
 -- a test of what is left of a list, at its first element

@@ -3,7 +3,7 @@ use Rattle.std.proofs.Common.{◌≡◌, ℕ, suc, ◌<◌, ◌≤◌, Bool, tru
 use Rattle.std.proofs.Common.{refl, sym, ap, ◌∙◌, subst, arith, IsPermutation}
 use Rattle.std.specs.Prelude.{◌↔◌, IsTrue}
 use Rattle.std.proofs.lemmas.List.MinMax.{ranks_by}
-use Rattle.std.proofs.lemmas.List.Sorted.{sum_by-IsPermutation, sorted_far}
+use Rattle.std.proofs.lemmas.List.Sorted.{sorted_far}
 use Rattle.std.proofs.lemmas.Map.Lookups.{CmpEqualImpliesEq}
 use Rattle.std.specs.Cmp.{IsTotalOrder}
 use Rattle.std.specs.Cmp.Lexicographic.{slice_cmp}
@@ -14,26 +14,11 @@ use Rattle.std.specs.declared.cmp.Ordering.{Ordering}
 use Rattle.std.specs.declared.cmp.Ordering.TheVariants.{Less, Equal, Greater}
 use Rattle.upd_records.proofs.CountLemmas.{count_cons, same_map, same_trans}
 use Rattle.upd_records.specs.Rows.{IsSame}
+use Rattle.upd_row_store.proofs.SortLemmas.{all_counted, one_passes, same_permuted}
 use Rattle.upd_examine.proofs.SortedLemmas.{itself, same_is}
-
-pub same_permuted : {A : Type 0} {xs ys : List A} → IsPermutation xs ys → IsSame ys xs
-same_permuted {xs = xs} {ys = ys} moved = record { passes = λ test. sum_by-IsPermutation (λ x. cond (test x) 1 0) xs ys moved }
 
 pub same_turned : {A : Type 0} {xs ys : List A} → IsSame xs ys → IsSame ys xs
 same_turned same = record { passes = λ test. sym (same.passes test) }
-
--- where some element passes a test, one of those passes of which P holds
-one_passes : {A : Type 0} (P : A → Type 0) (test : A → Bool) (xs : List A) → AllByRecursion P xs → 0 < count_by test xs → (x : A) × P x × (test x ≡ true)
-one_passes P test [] all some = absurd (omega arith)
-one_passes P test (x ∷ xs) all some = go (test x) refl (one_passes P test xs all.1)
-  where
-    go : (b : Bool) → test x ≡ b → (0 < count_by test xs → (z : _) × P z × (test z ≡ true)) → (z : _) × P z × (test z ≡ true)
-    go true e later = (x, all.0, e)
-    go false e later = later (omega (arith, count_cons test x xs, ap {B = ℕ} (λ b. cond b 1 0) e))
-
-all_counted : {A : Type 0} (P : A → Type 0) (xs : List A) → ((k : ℕ) (d : A) → k < length xs → P (get_or xs k d)) → AllByRecursion P xs
-all_counted P [] each = tt
-all_counted P (x ∷ xs) each = (each 0 x (omega arith), all_counted P xs (λ k d less. each (suc k) d (omega arith)))
 
 module _ {A : Type 0} (R : A → A → Ordering) (order : IsTotalOrder R) (exact : CmpEqualImpliesEq R) where
   abbrev same : A → A → Bool

@@ -11,7 +11,7 @@ use Rattle.std.specs.declared.cmp.Ordering.{Ordering}
 use Rattle.std.specs.declared.cmp.Ordering.TheVariants.{Less, Equal, Greater}
 use Rattle.upd_core.specs.Sound.{AreApart}
 use Rattle.upd_records.proofs.CountLemmas.{count_cons}
-use Rattle.upd_examine.proofs.TestLemmas.{weaker}
+use Rattle.upd_row_store.proofs.SortLemmas.{weaker}
 
 pub same_is : {A : Type 0} (R : A → A → Ordering) → CmpEqualImpliesEq R → (a b : A) → is_eq (R a b) ≡ true → a ≡ b
 same_is R exact a b e = go (R a b) refl e

@@ -1,14 +1,13 @@
 -- Stored statuses are those of a library exactly where they are the pairs of its cards, each as often.
-use Rattle.std.proofs.Common.{◌≡◌, ℕ, Bool, true, false, not, ◌&&◌, ◌||◌, cond, List, [], ◌∷◌, ◌++◌, map, Option, Some, None}
+use Rattle.std.proofs.Common.{◌≡◌, ℕ, Bool, true, false, not, ◌&&◌, ◌||◌, cond, List, [], ◌∷◌, map, Option, Some, None}
 use Rattle.std.proofs.Common.{refl, ap, sym, ◌∙◌, subst, arith}
 use Rattle.std.specs.Prelude.{◌↔◌, unwrap_or}
-use Rattle.std.proofs.lemmas.List.{map-append}
-use Rattle.std.specs.List.{filter, flat_map, list_any, AllByRecursion}
+use Rattle.std.specs.List.{filter, list_any, AllByRecursion}
 use Rattle.upd_text.specs.declared.card_ref.CardRef.{CardRef}
 use Rattle.upd_core.proofs.FoundLemmas.{refs_apart}
-use Rattle.upd_core.specs.Counted.{CountedCardView, counted_card, counted_cards, others_of, yanks_of}
-use Rattle.upd_core.specs.Library.{CardView, DeckView, LibraryView, ref_of}
-use Rattle.upd_core.specs.Sound.{AreApart, IsSound, all_cards}
+use Rattle.upd_core.specs.Counted.{CountedCardView, counted_cards}
+use Rattle.upd_core.specs.Library.{LibraryView}
+use Rattle.upd_core.specs.Sound.{AreApart, IsSound}
 use Rattle.upd_core.specs.Status.{status_of}
 use Rattle.upd_core.specs.TargetCounts.{live_count}
 use Rattle.upd_records.proofs.CountLemmas.{count_cons, same_filter, same_of}
@@ -16,6 +15,7 @@ use Rattle.upd_records.specs.Rows.{IsSame, same_ref}
 use Rattle.upd_diff.proofs.GoneLemmas.{same_ref_is, same_ref_own}
 use Rattle.upd_yank.proofs.RefLemmas.{same_ref_sym}
 use Rattle.upd_yank.proofs.StateLemmas.{statuses_are, status_there}
+use Rattle.upd_yank.proofs.WholeLemmas.{refs_of_cards}
 use Rattle.upd_yank.proofs.WorkLemmas.{HasStatus}
 use Rattle.upd_yank.specs.Cascade.{is_active_by}
 use Rattle.upd_yank.specs.Right.{CacheView, IsRight, status_pairs}
@@ -77,25 +77,6 @@ pair_same p = ap (λ b. b && same_flag p.1 p.1) (same_ref_own p.0) ∙ flag_same
 same_pairs : (ps : List (CardRef × Bool)) (card : CardRef) (o : Option Bool) → IsSame ps (status_pairs card o) → ps ≡ status_pairs card o
 same_pairs ps card None same = same_none ps same
 same_pairs ps card (Some s) same = same_one same_pair one_pair pair_same ps (card, s) same
-
--- ---- the references of a library's cards
-
-refs_of_cards : (l : LibraryView) → map (λ k. k.card) (counted_cards l) ≡ map (ref_of l.idents) (all_cards l)
-refs_of_cards l =
-    map-append (λ (k : CountedCardView). k.card) (yanks_of l) (others_of l)
-    ∙ (λ i. cards 0 l.yanks i ++ decks l.decks i) ∙ sym (map-append (ref_of l.idents) l.yanks (flat_map (λ d. d.cards) l.decks))
-  where
-    cards : (d : ℕ) (cs : List CardView) → map (λ (k : CountedCardView). k.card) (map (counted_card l.idents d) cs) ≡ map (ref_of l.idents) cs
-    cards d [] = refl
-    cards d (c ∷ cs) = ap (λ t. ref_of l.idents c ∷ t) (cards d cs)
-
-    decks : (ds : List DeckView) → map (λ (k : CountedCardView). k.card) (flat_map (λ d. map (counted_card l.idents d.ident) d.cards) ds)
-        ≡ map (ref_of l.idents) (flat_map (λ d. d.cards) ds)
-    decks [] = refl
-    decks (d ∷ ds) =
-        map-append (λ (k : CountedCardView). k.card) (map (counted_card l.idents d.ident) d.cards)
-        (flat_map (λ d. map (counted_card l.idents d.ident) d.cards) ds)
-        ∙ (λ i. cards d.ident d.cards i ++ decks ds i) ∙ sym (map-append (ref_of l.idents) d.cards (flat_map (λ d. d.cards) ds))
 
 -- ---- each card has one pair, with its status
 

@@ -13,6 +13,7 @@ use Rattle.upd_core.specs.Library.{CardView, DeckView}
 use Rattle.upd_core.specs.Sound.{AreAgedFrom, BeginsOn, BeginsWithItsOwn}
 use Rattle.upd_core.specs.Status.{HasEntriesFrom, IsAged, IsOlder, TakesOlder}
 use Rattle.upd_diff.proofs.AllLemmas.{all_joined}
+use Rattle.upd_row_store.proofs.SortLemmas.{weaker}
 use Rattle.upd_examine.specs.SoundTests.{are_aged_from, are_yanks_from, begins_on, begins_with_its_own, has_entries_from, is_older, takes_older}
 
 -- a test of each element decides what holds of each
@@ -24,10 +25,6 @@ all_decided test P each (x ∷ xs) =
       (λ e. let parts = and_parts (test x) (list_all test xs) e in ((each x).0 parts.0, later.0 parts.1)),
       (λ all. and_from (test x) (list_all test xs) ((each x).1 all.0) (later.1 all.1)),
     )
-
-pub weaker : {A : Type 0} {P Q : A → Type 0} (xs : List A) → ((x : A) → P x → Q x) → AllByRecursion P xs → AllByRecursion Q xs
-weaker [] so all = tt
-weaker (x ∷ xs) so all = (so x all.0, weaker xs so all.1)
 
 pub both : {A : Type 0} {P Q R : A → Type 0} (xs : List A) → ((x : A) → P x → Q x → R x) → AllByRecursion P xs → AllByRecursion Q xs → AllByRecursion R xs
 both [] so p q = tt

@@ -10,10 +10,11 @@ use Rattle.upd_core.specs.declared.target.Target.{Target}
 use Rattle.upd_core.specs.Library.{CardView, DeckView, LibraryView, all_decks, held_named, is_deck}
 use Rattle.upd_core.specs.Sound.{AreAgedFrom, AreApart, BeginsOn, BeginsWithItsOwn, HasNoTargets, IsOfHeld, IsSound, IsWhole, all_cards, is_held, key_of}
 use Rattle.upd_core.specs.Status.{HasEntriesFrom}
+use Rattle.upd_row_store.proofs.SortLemmas.{weaker}
 use Rattle.upd_examine.specs.SoundTests.{are_aged_from, are_parts_sound, are_yanks_from, begins_on, begins_with_its_own, has_no_targets, held_at, held_decks}
 use Rattle.upd_examine.specs.SoundTests.{is_card_sound, is_deck_sound, is_of_held}
 use Rattle.upd_examine.specs.Whole.{IsDirectorySound}
-use Rattle.upd_examine.proofs.TestLemmas.{aged_decided, all_decided, all_flat, begins_decided, begins_on_decided, both, three, weaker, yanks_decided}
+use Rattle.upd_examine.proofs.TestLemmas.{aged_decided, all_decided, all_flat, begins_decided, begins_on_decided, both, three, yanks_decided}
 use Rattle.upd_examine.proofs.DeckLemmas.{decks_held, held_decks_are, held_positive, held_there}
 
 empty_decided : (ts : List Target) → ((length ts == 0) ≡ true) ↔ (ts ≡ [])

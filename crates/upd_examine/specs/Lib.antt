@@ -1,6 +1,7 @@
 pub mod SoundTests
 pub mod Whole
 pub mod RowKeys
+pub mod TextTests
 pub mod RunForms
 pub mod StateTests
 pub mod Findings

@@ -2,6 +2,7 @@
 use Rattle.std.specs.Prelude.{◌≡◌, ℕ, zero, suc, nat_le, nat_lt, ◌==◌, Bool, true, not, ◌&&◌, ◌||◌, if◌then◌else◌, List, [], ◌++◌, codes, decimal, map}
 use Rattle.std.specs.List.{list_all, starts_with, ends_with}
 use Rattle.std.specs.Str.{bytes_eq}
+use Rattle.upd_text.specs.Keys.{is_run_number, is_site}
 use Rattle.upd_text.specs.Units.{Bytes}
 use Rattle.upd_core.specs.Sound.{AreApart}
 use Rattle.upd_records.specs.Rows.{MarkRow, RunView}
@@ -38,16 +39,21 @@ has_reply r = starts_with (λ a b. a == b) r.reply (reply_start r) && ends_with 
 abbrev pub is_above : List MarkRow → RunView → Bool
 is_above marks r = list_all (λ m. not (bytes_eq m.site r.site) || nat_lt m.mark r.number) marks
 
--- whether a run is above its site's mark, is of a mode that there is, and has a reply to it
+-- whether a site is one, and a number is a run's
+abbrev pub is_key : Bytes → ℕ → Bool
+is_key site number = is_site site && is_run_number number
+
+-- whether a run has a site and a number, is above its site's mark, is of a mode that there is, and has a reply to it
 abbrev pub is_run_right : List MarkRow → RunView → Bool
-is_run_right marks r = is_above marks r && (nat_le r.mode 2 && has_reply r)
+is_run_right marks r = is_key r.site r.number && (is_above marks r && (nat_le r.mode 2 && has_reply r))
 
 -- the key of a run
 abbrev pub run_key : RunView → Bytes × ℕ
 run_key r = (r.site, r.number)
 
--- no two marks are of one site, no two runs have one key, and each run is right
+-- each mark has a site and a run's number, no two marks are of one site, no two runs have one key, and each run is right
 pub record AreRunsSound (runs : List RunView) (marks : List MarkRow) : Type 0 where
+  pub marked : list_all (λ m. is_key m.site m.mark) marks ≡ true
   pub sites : AreApart (map (λ m. m.site) marks)
   pub keys : AreApart (map run_key runs)
   pub each : list_all (is_run_right marks) runs ≡ true

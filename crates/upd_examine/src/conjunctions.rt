@@ -7,3 +7,10 @@ pub fn three_hold(a: bool, b: bool, c: bool) -> bool
 {
     a && b && c
 }
+
+/// Whether these four hold.
+pub fn four_hold(a: bool, b: bool, c: bool, d: bool) -> bool
+    ensures { result ≡ (a && (b && (c && d))) }
+{
+    a && b && c && d
+}

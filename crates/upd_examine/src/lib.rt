@@ -6,6 +6,7 @@ mod conjunctions;
 mod copies;
 mod differing;
 pub mod examining;
+pub mod line_texts;
 mod lines;
 pub mod own_rows;
 pub mod row_keys;
@@ -18,6 +19,7 @@ pub mod sound_rows;
 pub mod sound_tests;
 pub mod stored_runs;
 pub mod stored_states;
+mod text_findings;
 mod unsound;
 
 pub use examining::findings;

@@ -4,9 +4,15 @@ use std::alloc::{AllocError, Global};
 use upd_core::{CardRef, Entry, Ident, Kind, Serial, Target};
 use upd_text::Name;
 
-/// The text of a name; a name that no run can spell has `?` in place of its bytes.
+/// The text of a name. The empty name, of a card whose ident is not in the directory, is `?`.
 pub fn name_text(alloc: Global, name: &Name) -> Result<String, AllocError> {
-    String::from_utf8_lossy(alloc, name.as_bytes())
+    let bytes = name.as_bytes();
+    let shown = if bytes.is_empty() {
+        b"?".as_slice()
+    } else {
+        bytes
+    };
+    String::from_utf8_lossy(alloc, shown)
 }
 
 /// The text of a card's reference.

@@ -4,6 +4,9 @@ use crate::lines::Findings;
 use crate::stored_runs::{has_reply, is_above};
 use std::alloc::{AllocError, Global};
 use upd_records::{MarkRow, RunRow};
+use upd_text::keys::{is_run_number, is_site};
+
+const NO_SITE: &str = " has a site that no run has";
 
 /// The mark of a site, 0 where it has none.
 fn mark_of(marks: &[MarkRow], site: &str) -> u64 {
@@ -23,6 +26,12 @@ fn add_run(
     run: &RunRow,
 ) -> Result<(), AllocError> {
     let row = format!(in alloc; "runs {} {}", run.site, run.number)?;
+    if !is_site(run.site.as_bytes()) {
+        found.add_of(&row, NO_SITE)?;
+    }
+    if !is_run_number(run.number) {
+        found.add_of(&row, " has a number that no run has")?;
+    }
     if !is_above(marks, run) {
         let mark = mark_of(marks, &run.site);
         let wrong = format!(in alloc; " is at or below the mark {}", mark)?;
@@ -45,6 +54,20 @@ fn add_each_run(
 ) -> Result<(), AllocError> {
     for run in runs {
         add_run(alloc, found, marks, run)?;
+    }
+    Ok(())
+}
+
+/// Findings about each mark.
+fn add_each_mark(alloc: Global, found: &mut Findings, marks: &[MarkRow]) -> Result<(), AllocError> {
+    for row in marks {
+        let key = format!(in alloc; "settled {}", row.site)?;
+        if !is_site(row.site.as_bytes()) {
+            found.add_of(&key, NO_SITE)?;
+        }
+        if !is_run_number(row.mark) {
+            found.add_of(&key, " has a mark that is no run's number")?;
+        }
     }
     Ok(())
 }
@@ -86,6 +109,7 @@ pub fn add_runs_and_marks(
     runs: &[RunRow],
     marks: &[MarkRow],
 ) -> Result<(), AllocError> {
+    add_each_mark(alloc, found, marks)?;
     let texts = mark_texts(alloc, marks)?;
     add_twins(found, &texts, " has two marks")?;
     add_each_run(alloc, found, marks, runs)?;

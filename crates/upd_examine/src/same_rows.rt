@@ -1,11 +1,12 @@
 //! Whether the rows of a library's tables are exactly the library's own.
-ghost use Rattle.std.specs.Prelude.{◌≡◌, ◌↔◌, ◌&&◌, IfOk, IsTrue};
+ghost use Rattle.std.specs.Prelude.{◌↔◌, IfOk, IsTrue};
 ghost use Rattle.std.proofs.lemmas.Map.Lookups.{CmpEqualImpliesEq};
 ghost use Rattle.upd_records.specs.Rows.{IsSame, rows_of};
 ghost use Rattle.upd_row_store.specs.Assembling.{AreRowsOf};
 ghost use Rattle.upd_examine.specs.Findings.{AreLibraryRows};
 
-use crate::conjunctions::three_hold;
+use crate::conjunctions::four_hold;
+use crate::line_texts::has_line_texts;
 use crate::own_rows::own_rows;
 use crate::row_keys::{card_keys, entry_keys, ident_keys, target_row_keys};
 use crate::sound::is_sound;
@@ -64,13 +65,6 @@ pub fn are_same_targets(
     ))
 }
 
-/// Whether these four hold.
-fn four_hold(a: bool, b: bool, c: bool, d: bool) -> bool
-    ensures { result ≡ (a && (b && (c && d))) }
-{
-    a && b && c && d
-}
-
 /// Whether rows are exactly those of a library, in any order.
 pub fn are_rows_of(alloc: Global, library: &Library, rows: &LibraryRows) -> Result<bool, AllocError>
     ensures { IfOk result (λ are. IsTrue are ↔ AreRowsOf (rows_of library.now) rows.now) }
@@ -83,7 +77,8 @@ pub fn are_rows_of(alloc: Global, library: &Library, rows: &LibraryRows) -> Resu
     Ok(four_hold(idents, cards, entries, targets))
 }
 
-/// Whether rows are exactly those of a library, and it is sound, whole and within its limits.
+/// Whether rows are exactly those of a library, and it is sound, whole and within its limits, with the names, texts and
+/// numbers of runs.
 pub fn are_library_rows(
     alloc: Global,
     library: &Library,
@@ -93,6 +88,7 @@ pub fn are_library_rows(
 {
     let sound = is_sound(alloc, library)?;
     let within = library.is_within_limits();
+    let texts = has_line_texts(library);
     let own = are_rows_of(alloc, library, rows)?;
-    Ok(three_hold(sound, within, own))
+    Ok(four_hold(sound, within, texts, own))
 }

@@ -1,15 +1,16 @@
 //! Whether stored runs and marks are right.
-ghost use Rattle.std.specs.Prelude.{◌≡◌, ◌↔◌, ◌&&◌, map, IfOk, IsTrue};
+ghost use Rattle.std.specs.Prelude.{◌≡◌, ◌↔◌, map, IfOk, IsTrue};
 ghost use Rattle.std.specs.List.{list_all};
-ghost use Rattle.upd_examine.specs.RunForms.{AreRunsSound, has_reply, is_above, is_run_right, mode_part, mode_word, outcome_word};
-ghost use Rattle.upd_examine.specs.RunForms.{reply_end, reply_start, run_key};
+ghost use Rattle.upd_examine.specs.RunForms.{AreRunsSound, has_reply, is_above, is_key, is_run_right, mode_part, mode_word};
+ghost use Rattle.upd_examine.specs.RunForms.{outcome_word, reply_end, reply_start, run_key};
 
 use crate::bytes::Bytes;
-use crate::conjunctions::three_hold;
+use crate::conjunctions::four_hold;
 use crate::sound_tests::are_apart;
 use itoa::Buffer;
 use std::alloc::{AllocError, Global};
 use upd_records::{MarkRow, RunRow};
+use upd_text::keys::{is_run_number, is_site};
 
 fn mode_word(mode: u32) -> &'static [u8]
     ensures { result.now ≡ mode_word mode }
@@ -85,13 +86,30 @@ pub fn is_above(marks: &[MarkRow], run: &RunRow) -> bool
     marks.iter().all(|row| row.site.as_bytes() != run.site.as_bytes() || row.mark < run.number)
 }
 
+/// Whether a site is one, and a number is a run's.
+fn is_key(site: &[u8], number: u64) -> bool
+    ensures { result ≡ is_key site.now number }
+{
+    is_site(site) && is_run_number(number)
+}
+
+/// Whether each mark has a site that is one, and a run's number.
+pub fn are_marks_right(marks: &[MarkRow]) -> bool
+    ensures { result ≡ list_all (λ m. is_key m.site m.mark) marks.now }
+{
+    marks
+        .iter()
+        .all(|row| is_key(row.site.as_bytes(), row.mark))
+}
+
 /// Whether a stored run is right.
 fn is_run_right(alloc: Global, marks: &[MarkRow], run: &RunRow) -> Result<bool, AllocError>
     ensures { IfOk result (λ right. right ≡ is_run_right marks.now run.now) }
 {
+    let key = is_key(run.site.as_bytes(), run.number);
     let above = is_above(marks, run);
     let reply = has_reply(alloc, run)?;
-    Ok(three_hold(above, run.mode <= 2, reply))
+    Ok(four_hold(key, above, run.mode <= 2, reply))
 }
 
 /// Whether each stored run is right.
@@ -133,8 +151,9 @@ pub fn run_keys(alloc: Global, runs: &[RunRow]) -> Result<Vec<(Bytes, u64)>, All
 pub fn are_runs_sound(alloc: Global, runs: &[RunRow], marks: &[MarkRow]) -> Result<bool, AllocError>
     ensures { IfOk result (λ sound. IsTrue sound ↔ AreRunsSound runs.now marks.now) }
 {
+    let marked = are_marks_right(marks);
     let sites = are_apart(sites_of(alloc, marks)?);
     let keys = are_apart(run_keys(alloc, runs)?);
     let each = are_each_right(alloc, marks, runs)?;
-    Ok(three_hold(sites, keys, each))
+    Ok(four_hold(marked, sites, keys, each))
 }

@@ -1,23 +1,43 @@
 //! What is not sound in a library, each at the card, the deck or the ident where it is.
 
+use crate::line_texts::is_valid_name;
 use crate::lines::Findings;
 use crate::row_texts::{card_text, name_text};
 use crate::sound::{are_decks_those_held, has_no_targets, is_directory_sound};
 use crate::sound_tests::{
     are_yanks_in_order, begins_on, begins_with_its_own, is_held_at, is_of_held, takes_only_older,
 };
+use crate::text_findings::add_text;
 use std::alloc::{AllocError, Global};
 use upd_core::card::card_ref;
 use upd_core::{Card, Deck, Ident, Library};
 
-/// Findings about each ident whose serial is not its place.
+/// Findings about an ident whose serial is not its place, or whose name is not valid.
+fn add_ident(
+    alloc: Global,
+    found: &mut Findings,
+    ident: &Ident,
+    numbered: bool,
+) -> Result<(), AllocError> {
+    let named = is_valid_name(&ident.name);
+    if numbered && named {
+        return Ok(());
+    }
+    let name = name_text(alloc, &ident.name)?;
+    let row = format!(in alloc; "idents {} {}", ident.age, name)?;
+    if !numbered {
+        found.add_of(&row, " is not numbered one above the ident before it")?;
+    }
+    if !named {
+        found.add_of(&row, " has a name that no ident of a run has")?;
+    }
+    Ok(())
+}
+
 fn add_idents(alloc: Global, found: &mut Findings, idents: &[Ident]) -> Result<(), AllocError> {
     for (i, ident) in idents.iter().enumerate() {
-        if ident.age as usize != i + 1 {
-            let name = name_text(alloc, &ident.name)?;
-            let row = format!(in alloc; "idents {} {}", ident.age, name)?;
-            found.add_of(&row, " is not numbered one above the ident before it")?;
-        }
+        let numbered = ident.age as usize == i + 1;
+        add_ident(alloc, found, ident, numbered)?;
     }
     Ok(())
 }
@@ -50,7 +70,7 @@ fn add_card(
     Ok(())
 }
 
-/// Findings about cards and their histories.
+/// Findings about cards, their histories and their texts.
 fn add_cards(
     alloc: Global,
     found: &mut Findings,
@@ -59,6 +79,7 @@ fn add_cards(
 ) -> Result<(), AllocError> {
     for card in cards {
         add_card(alloc, found, idents, card)?;
+        add_text(alloc, found, idents, card)?;
     }
     Ok(())
 }

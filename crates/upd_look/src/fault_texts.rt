@@ -184,7 +184,7 @@ pub const FAULT_TEXTS: [&str; 33] = [
         do: send it again\n",
     "Store (29): the file is no library, is in use, can't be written, has a second hard link, or is damaged\n\
         from: the library's file; at the schema that was found, or 0; in a spool at the frame\n\
-        do: look at man upd; migrate an older schema\n",
+        do: let upd examine FILE say which of these it is, and what to do; migrate an older schema\n",
     "BadFrame (30): the frame or request can't be read\n\
         from: a spool, at the frame; or a request over HTTP, at 0\n\
         do: correct it, and send it again\n",
@@ -195,6 +195,6 @@ pub const FAULT_TEXTS: [&str; 33] = [
         from: the input, or a server; at 0, in a spool at the frame\n\
         do: give it a file or a pipe, or another address\n",
     "Write (33): writing failed\n\
-        from: the output; at 0, in a spool at the frame\n\
-        do: send the run again for its reply, since it may be stored\n",
+        from: the output, or the COPY of upd backup; at 0, in a spool at the frame\n\
+        do: send the run again for its reply, since it may be stored; for a COPY free space, or take another path\n",
 ];

@@ -1,22 +1,10 @@
 //! What is found of the rows of a small library, of which one row is changed, lost or doubled.
-use crate::examined_tables::{ACCEPTED, Tables, card, entry_row, ident, mark, run, sound_tables};
-use std::alloc::Global;
+use crate::examined_tables::{ACCEPTED, card, entry_row, finds, ident, mark, run, sound_tables};
 use std::test::Fail;
 use upd_core::{Entry, Kind, Target};
 use upd_examine::findings;
 use upd_records::{EntryRow, TargetRow};
 use upd_testkit::check::same_text;
-
-fn finds(alloc: Global, tables: &Tables, wanted: &str) -> Result<(), Fail> {
-    let found = findings(
-        alloc,
-        &tables.rows,
-        &tables.states,
-        &tables.runs,
-        &tables.marks,
-    )?;
-    same_text("the findings", std::str::from_utf8(&found)?, wanted)
-}
 
 /// Takes a row out, where there is one at a place.
 fn lose<T: Drop>(rows: &mut Vec<T>, place: usize) {

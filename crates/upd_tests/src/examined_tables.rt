@@ -5,8 +5,10 @@
 use std::alloc::Global;
 use std::test::Fail;
 use upd_core::{CardRef, Entry, Ident, Kind, Serial, States, Target};
+use upd_examine::findings;
 use upd_records::{CardRow, EntryRow, LibraryRows, MarkRow, RunRow, TargetRow};
 use upd_testkit::applying::name;
+use upd_testkit::check::same_text;
 
 /// All tables.
 #[derive(Drop)]
@@ -137,4 +139,16 @@ pub fn sound_tables(alloc: Global) -> Result<Tables, Fail> {
         runs,
         marks,
     })
+}
+
+/// Finds exactly these lines in tables.
+pub fn finds(alloc: Global, tables: &Tables, wanted: &str) -> Result<(), Fail> {
+    let found = findings(
+        alloc,
+        &tables.rows,
+        &tables.states,
+        &tables.runs,
+        &tables.marks,
+    )?;
+    same_text("the findings", std::str::from_utf8(&found)?, wanted)
 }

@@ -21,6 +21,8 @@ mod examined_rows;
 #[cfg(test)]
 mod examined_tables;
 #[cfg(test)]
+mod examined_texts;
+#[cfg(test)]
 mod library_edits;
 #[cfg(test)]
 mod library_limits;
