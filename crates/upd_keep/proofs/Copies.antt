@@ -1,7 +1,20 @@
--- The bytes that were read of a whole file are the file's.
-use Rattle.std.proofs.Common.{◌≡◌, ℕ, ◌+◌, ◌<◌, Bool, ◌&&◌, IsTrue, List, [], ◌∷◌, ◌++◌, length, take, slice_index, refl, sym, ap, subst, ◌∙◌, arith}
+-- The bytes that were read of a whole file are the file's, and why a file isn't closed or read.
+use Rattle.std.proofs.Common.{◌≡◌, ◌⊎◌, inr, false, ℕ, ◌+◌, ◌<◌, Bool, ◌&&◌, IsTrue, List, [], ◌∷◌, ◌++◌, length, take, slice_index, refl, sym, ap, subst, ◌∙◌, arith}
 use Rattle.std.proofs.lemmas.Grind.{same_number_lists}
-use Rattle.sqlite_disk.specs.Disk.{Holds}
+use Rattle.sqlite_disk.specs.Disk.{Holds, MoreFaults}
+use Rattle.sqlite_disk.specs.declared.Disk.{Ghosts}
+use Rattle.sqlite_trees.specs.declared.error.StoreError.{StoreError}
+use Rattle.sqlite_trees.specs.declared.error.StoreError.TheVariants as store
+use Rattle.sqlite_store.specs.declared.store.FileStore.{FileStore}
+use Rattle.sqlite_store.specs.FileStore.{faults}
+use Rattle.sqlite.specs.declared.error.Error.{Error}
+use Rattle.sqlite.specs.Files.{ExcusesClose, FailsToClose, file_state}
+use Rattle.sqlite.specs.Held.{Held}
+use Rattle.sqlite.specs.State.{store_error}
+use Rattle.upd_text.specs.declared.fault.Fault.{Fault}
+use Rattle.upd_text.specs.declared.fault.FaultKind.TheVariants.{NoMemory, Store, Write}
+use Rattle.upd_row_store.specs.Keeping.{IsLost, OfMemory, OfStore}
+use Rattle.upd_store.specs.Faults.{kind_for}
 
 all_read : (file bytes : List ℕ) → length bytes ≡ length file → (0 < length bytes → Holds file 0 bytes) → bytes ≡ file
 all_read [] [] same held = refl
@@ -22,3 +35,21 @@ filled file read rest len is same held =
 
 pub both_true : (a b : Bool) → IsTrue a → IsTrue b → IsTrue (a && b)
 both_true a b p q = ap (λ x. x && b) p ∙ q
+
+module _ {D : Type 0} {g : Ghosts D} (conn : Held (FileStore D g)) (last : FileStore D g) (e : Error) (failed : kind_for e ≡ Store) where
+  by_cause : (cause : StoreError) → e ≡ store_error cause → ExcusesClose conn last cause
+      → ((file_state conn).is_open ≡ false) ⊎ MoreFaults (file_state conn).faults (faults last)
+  by_cause store.OutOfMemory named why = absurd (let no : NoMemory ≡ Store = sym (ap kind_for named) ∙ failed in cc)
+  by_cause store.Io named why = inr why
+  by_cause store.Corrupt named why = inr why
+  by_cause store.Full named why = inr why
+  by_cause store.Broken named why = why
+  by_cause store.Unstorable named why = absurd why
+
+  pub close_fails : FailsToClose conn last e → ((file_state conn).is_open ≡ false) ⊎ MoreFaults (file_state conn).faults (faults last)
+  close_fails fails = by_cause fails.0 fails.1 fails.2
+
+-- what is lost isn't a failure to write
+pub never_write : (fault : Fault) → IsLost fault → fault.kind ≡ Write → ⊥
+never_write fault (OfMemory f kind at) write = let no : NoMemory ≡ Write = sym kind ∙ write in cc
+never_write fault (OfStore f kind at) write = let no : Store ≡ Write = sym kind ∙ write in cc

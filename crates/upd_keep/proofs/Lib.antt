@@ -1,4 +1,6 @@
 mod ReadTexts
+mod Columns
+mod Failures
 mod Listing
 mod VersionRows
 mod Copies

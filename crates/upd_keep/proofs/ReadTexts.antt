@@ -1,16 +1,24 @@
 -- The texts that read versions, runs and marks, and what each is compiled to.
-use Rattle.std.proofs.Common.{◌≡◌, ℕ, false, List, [], ◌∷◌, codes, refl}
+use Rattle.std.proofs.Common.{◌≡◌, ℕ, true, false, nat_le, List, [], ◌∷◌, length, codes, Result, Ok, Err, refl}
 use Rattle.sqlite_value.specs.declared.keys.Collation.TheVariants.{Binary}
 use Rattle.sqlite_value.specs.declared.keys.Key.{Key}
 use Rattle.sqlite_value.specs.Keys.{ascending}
 use Rattle.sqlite_sql.specs.Term.{Term, col}
 use Rattle.sqlite_schema.specs.declared.command.Command.TheVariants.{Select}
 use Rattle.sqlite_tied.specs.Compute.{everything}
+use Rattle.sqlite_typing.specs.Types.{accepts_program}
+use Rattle.sqlite_resolve.specs.declared.compiled.Compiled.{Compiled}
+use Rattle.sqlite_resolve.specs.declared.error.CompileError.{CompileError}
 use Rattle.sqlite.specs.Listing.{understood, reads_listing}
 use Rattle.sqlite.proofs.Callers.{IsPlain, command_of}
 use Rattle.upd_sqlite.specs.Keyed.{plain_query}
 use Rattle.upd_sql.specs.Schema.{library_schema}
 use Rattle.upd_keep.specs.declared.texts.TheConstants as sql
+
+-- the text is one statement without parameters
+abbrev pub IsLone : List ℕ → Result Compiled CompileError → Type 0
+IsLone text (Ok c) = (nat_le (length text) c.tail ≡ true) × (c.names ≡ [])
+IsLone text (Err e) = ⊥
 
 abbrev pub all_versions : List ℕ
 all_versions = sql.ALL_VERSIONS.now
@@ -50,6 +58,14 @@ pub all_runs_plain : IsPlain (understood library_schema all_runs)
 unfolding understood everything
 all_runs_plain = (refl, refl)
 
+pub all_runs_lone : IsLone all_runs (understood library_schema all_runs)
+unfolding understood everything
+all_runs_lone = (refl, refl)
+
+pub all_runs_typed : accepts_program library_schema [] (plain_query 10 [] all_runs_shown all_runs_order) [] ≡ true
+unfolding everything
+all_runs_typed = refl
+
 pub all_runs_unlisted : reads_listing library_schema all_runs ≡ false
 unfolding everything
 all_runs_unlisted = refl
@@ -71,6 +87,14 @@ all_marks_is = refl
 pub all_marks_plain : IsPlain (understood library_schema all_marks)
 unfolding understood everything
 all_marks_plain = (refl, refl)
+
+pub all_marks_lone : IsLone all_marks (understood library_schema all_marks)
+unfolding understood everything
+all_marks_lone = (refl, refl)
+
+pub all_marks_typed : accepts_program library_schema [] (plain_query 16 [] all_marks_shown all_marks_order) [] ≡ true
+unfolding everything
+all_marks_typed = refl
 
 pub all_marks_unlisted : reads_listing library_schema all_marks ≡ false
 unfolding everything

@@ -1,10 +1,22 @@
--- What is said of a connection is said of the file that it was opened to.
-use Rattle.std.proofs.Common.{Result, Ok, Err}
+-- What is said of a connection is said of the file that it was opened to, and why none came.
+use Rattle.std.proofs.Common.{◌≡◌, ◌⊎◌, ℕ, inl, inr, true, false, Option, Some, None, Result, Ok, Err, IfSome, refl, sym, ap, ◌∙◌}
+use Rattle.sqlite_disk.specs.Disk.{MoreFaults}
+use Rattle.sqlite_disk.specs.declared.Disk.{Ghosts}
+use Rattle.sqlite_disk.specs.declared.Files.{Files}
+use Rattle.sqlite_trees.specs.declared.error.StoreError.{StoreError}
 use Rattle.sqlite_wal.specs.Recovery.{Image}
+use Rattle.sqlite.specs.declared.error.ErrorCode.TheVariants as code
+use Rattle.sqlite.specs.declared.error.Error.{Error}
+use Rattle.sqlite.specs.declared.error.Error.TheVariants.{SqliteFailure}
+use Rattle.sqlite.specs.declared.file.Leftover.{Leftover}
+use Rattle.sqlite.specs.Files.{IsCleanLeft, FailsToOpenFiles, LeavesFiles}
+use Rattle.sqlite.specs.Opening.{FailsAs}
 use Rattle.sqlite.specs.Start.{FindsIn}
 use Rattle.sqlite.specs.State.{State, HasCleanDisk}
 use Rattle.upd_text.specs.declared.fault.Fault.{Fault}
-use Rattle.upd_keep.specs.Examining.{ExaminesFile, ReportsOn}
+use Rattle.upd_text.specs.declared.fault.FaultKind.TheVariants.{NoMemory, Store}
+use Rattle.upd_store.specs.Faults.{kind_for}
+use Rattle.upd_keep.specs.Examining.{ExaminesFile, FailsToOpen, ReportsOn, is_told}
 use Rattle.upd_keep.specs.declared.examining.Report.{Report}
 use Rattle.upd_keep.specs.declared.examining.Report.TheVariants.{Library, Other}
 
@@ -13,3 +25,26 @@ pub of_file : {C : Type 0} (state : C → State) (held : Image) (opened : C) (re
 of_file state held opened (Ok (Library found log)) finds said = (opened, finds, said)
 of_file state held opened (Ok (Other situation)) finds said = tt
 of_file state held opened (Err fault) finds lost = lost
+
+untold : (kind : StoreError) (old new : ℕ) (AtLimit Wanted : Type 0) (e : Error) → is_told e ≡ false → kind_for e ≡ Store
+    → FailsAs kind old new AtLimit Wanted e → MoreFaults old new ⊎ AtLimit
+untold kind old new AtLimit Wanted e told store (inl memory) = absurd (let no : NoMemory ≡ Store = sym (ap kind_for memory) ∙ store in cc)
+untold kind old new AtLimit Wanted e told store (inr (inl (inl other, _))) = absurd (let no : true ≡ false = sym (ap is_told other) ∙ told in cc)
+untold kind old new AtLimit Wanted e told store (inr (inl (inr bad, _))) = absurd (let no : true ≡ false = sym (ap is_told bad) ∙ told in cc)
+untold kind old new AtLimit Wanted e told store (inr (inr (inl more))) = inl more.1
+untold kind old new AtLimit Wanted e told store (inr (inr (inr full))) = inr full.1
+
+-- Where nothing of the files came back, the error tells what is there, or memory ran out.
+pub open_fails : {D : Type 0} {g : Ghosts D} (Log Db : D → Type 0) (e : Error) (rest : Option (Leftover D g))
+    → (rest ≡ None → (e ≡ SqliteFailure code.CannotOpen) ⊎ ((e ≡ SqliteFailure code.OutOfMemory) ⊎ (e ≡ SqliteFailure code.DatabaseBusy)))
+    → IfSome rest (λ left. (files : Files D) × Log files.log × Db files.db × (IsCleanLeft left → FailsToOpenFiles files left e × LeavesFiles files left))
+    → is_told e ≡ false → kind_for e ≡ Store → (files : Files D) × Log files.log × Db files.db × FailsToOpen g files
+open_fails Log Db e None none cause told store = elim (none refl) [
+  | inl cannot ↦ absurd (let no : true ≡ false = sym (ap is_told cannot) ∙ told in cc)
+  | inr other ↦ elim other [
+    | inl memory ↦ absurd (let no : NoMemory ≡ Store = sym (ap kind_for memory) ∙ store in cc)
+    | inr busy ↦ absurd (let no : true ≡ false = sym (ap is_told busy) ∙ told in cc)
+  ]
+]
+open_fails Log Db e (Some left) none cause told store =
+    (cause.0, cause.1, cause.2, (left, λ clean. untold _ _ _ _ _ e told store (cause.3 clean).0))

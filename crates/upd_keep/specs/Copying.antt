@@ -1,8 +1,39 @@
--- When bytes are the whole of a database.
-use Rattle.std.specs.Prelude.{ℕ, List, []}
+-- When bytes are the whole of a database, and how a copy of one fails.
+use Rattle.std.specs.Prelude.{◌≡◌, ◌⊎◌, ℕ, false, List, [], IsTrue}
+use Rattle.sqlite_disk.specs.Disk.{MoreFaults}
+use Rattle.sqlite_disk.specs.declared.Disk.{Ghosts}
+use Rattle.sqlite_disk.specs.declared.Files.{Files}
+use Rattle.sqlite_wal.specs.Reads.{AreClean}
 use Rattle.sqlite_trees.specs.Tree.{Trees}
-use Rattle.sqlite.specs.Files.{HoldsDatabase}
+use Rattle.sqlite_trees.specs.View.{IsClean}
+use Rattle.sqlite_store.specs.declared.store.FileStore.{FileStore}
+use Rattle.sqlite_store.specs.FileStore.{faults, view}
+use Rattle.sqlite.specs.Closing.{IsCopied}
+use Rattle.sqlite.specs.Files.{HoldsDatabase, file_state}
+use Rattle.sqlite.specs.Held.{Held}
 
 -- a file with these bytes, and without a log, holds the database
 abbrev pub IsWholeCopy : List ℕ → Trees → Type 0
 IsWholeCopy bytes trees = ∥ HoldsDatabase (record { log = []; db = bytes }) trees ∥₁
+
+-- A library that was open in a connection.
+module _ {D : Type 0} {g : Ghosts D} (conn : Held (FileStore D g)) where
+  -- it was closed into its file, whose bytes were all read: they are a whole copy, where the disk is honest
+  abbrev pub IsReadWhole : Type 0
+  IsReadWhole =
+      (bytes : List ℕ) × (files : Files D)
+      × (AreClean g files.log files.db → IsTrue (file_state conn).is_open × IsWholeCopy bytes (file_state conn).committed.trees)
+
+  -- it was not open, or the disk failed once more while it was closed
+  abbrev pub FailsToClose : Type 0
+  FailsToClose =
+      (last : FileStore D g) × (IsClean (view last) → ((file_state conn).is_open ≡ false) ⊎ MoreFaults (file_state conn).faults (faults last))
+
+  -- it was closed into its file, and the disk failed once more while that was read
+  abbrev pub FailsToReadFile : Type 0
+  FailsToReadFile =
+      (files : Files D) × (file : D) × (AreClean g files.log files.db → IsCopied conn files) × MoreFaults (g.faults files.db) (g.faults file)
+
+  -- why there is no copy, apart from memory
+  abbrev pub FailsToCopy : Type 0
+  FailsToCopy = FailsToClose ⊎ FailsToReadFile

@@ -1,9 +1,17 @@
 -- What is said of a file that is examined.
-use Rattle.std.specs.Prelude.{◌≡◌, ℕ, List, ◌++◌, Bool, ◌&&◌, codes, decimal, length, Result, Ok, Err, IfErr, IfOk, IsTrue}
+use Rattle.std.specs.Prelude.{◌≡◌, ◌⊎◌, ℕ, List, ◌++◌, Bool, true, false, ◌&&◌, codes, decimal, length, Result, Ok, Err, IfErr, IfOk, IsTrue}
 use Rattle.std.specs.List.{count_by}
+use Rattle.sqlite_disk.specs.Disk.{MoreFaults}
+use Rattle.sqlite_disk.specs.declared.Disk.{Ghosts}
+use Rattle.sqlite_disk.specs.declared.Files.{Files}
 use Rattle.sqlite_value.specs.Order.{Row}
 use Rattle.sqlite_wal.specs.Recovery.{Image}
+use Rattle.sqlite.specs.declared.error.ErrorCode.TheVariants as code
+use Rattle.sqlite.specs.declared.error.Error.{Error}
+use Rattle.sqlite.specs.declared.error.Error.TheVariants.{SqliteFailure}
+use Rattle.sqlite.specs.declared.file.Leftover.{Leftover}
 use Rattle.sqlite.specs.Effect.{Database}
+use Rattle.sqlite.specs.Files.{IsCleanLeft, IsFullLeft, faults_left, faults_of}
 use Rattle.sqlite.specs.Start.{FindsIn}
 use Rattle.sqlite.specs.State.{State, HasCleanDisk, Survives}
 use Rattle.upd_text.specs.declared.fault.Fault.{Fault}
@@ -81,6 +89,18 @@ abbrev pub IsOther : Result Report Fault → Type 0
 IsOther (Ok (Library found log)) = ⊥
 IsOther (Ok (Other situation)) = Unit {0}
 IsOther (Err fault) = IsLost fault
+
+-- an error of opening a database that tells what is there
+abbrev pub is_told : Error → Bool
+is_told (SqliteFailure code.DatabaseBusy) = true
+is_told (SqliteFailure code.CannotOpen) = true
+is_told (SqliteFailure code.DatabaseCorrupt) = true
+is_told (SqliteFailure code.NotADatabase) = true
+is_told _ = false
+
+-- from these files no connection came: the disk failed once more, or they are too long
+abbrev pub FailsToOpen : {D : Type 0} → Ghosts D → Files D → Type 0
+FailsToOpen {D} g files = (rest : Leftover D g) × (IsCleanLeft rest → MoreFaults (faults_of g files) (faults_left rest) ⊎ IsFullLeft rest)
 
 -- Connections, and what each of them shows.
 module _ {C : Type 0} (state : C → State) where

@@ -1,3 +1,4 @@
 pub mod Keeping
+pub mod Failing
 pub mod Copying
 pub mod Examining

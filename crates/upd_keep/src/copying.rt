@@ -1,10 +1,11 @@
 //! A whole copy of a library's file, its log included.
-ghost use Rattle.std.specs.Prelude.{◌≡◌, ◌⊎◌, IfErr, IfOk, IsTrue};
+ghost use Rattle.std.specs.Prelude.{◌≡◌, ◌⊎◌, IfErr, IfOk, IsTrue, MatchResult};
+ghost use Rattle.sqlite_disk.specs.Disk.{MoreFaults};
 ghost use Rattle.sqlite.specs.Files.{file_state};
 ghost use Rattle.sqlite_wal.specs.Reads.{AreClean};
 ghost use Rattle.upd_row_store.specs.Keeping.{IsLost};
-ghost use Rattle.upd_keep.specs.Copying.{IsWholeCopy};
-ghost use Rattle.upd_text.specs.declared.fault.FaultKind.TheVariants.{Write};
+ghost use Rattle.upd_keep.specs.Copying.{FailsToCopy, IsReadWhole, IsWholeCopy};
+ghost use Rattle.upd_text.specs.declared.fault.FaultKind.TheVariants.{Store, Write};
 
 use sqlite::{Connection, FileStore, Files};
 use sqlite_disk::Disk;
@@ -22,6 +23,8 @@ fn bytes_of<D: Disk>(alloc: Global, disk: &mut D) -> Result<Vec<u8>, Fault>
     ensures seen { D.Disk.seen disk.new ≡ D.Disk.seen disk.old }
     ensures clean { IsTrue (D.Disk.is_clean disk.new) → IsTrue (D.Disk.is_clean disk.old) }
     ensures lost { IfErr result IsLost }
+    ensures failed { IfErr result (λ fault. fault.kind ≡ Store
+        → MoreFaults (D.Disk.faults disk.old) (D.Disk.faults disk.new)) }
 {
     let Ok(len) = disk.len() else {
         return Err(store_at(0));
@@ -44,6 +47,7 @@ pub fn whole_copy<D: Disk + Drop>(
     ensures copied { IfOk result (λ r. AreClean D.Disk r.1.log r.1.db
         → IsTrue (file_state conn).is_open × IsWholeCopy r.0.items (file_state conn).committed.trees) }
     ensures lost { IfErr result IsLost }
+    ensures failed { IfErr result (λ fault. fault.kind ≡ Store → FailsToCopy conn) }
 {
     match conn.close_files() {
         Ok(mut files) => match bytes_of(alloc, &mut files.db) {
@@ -58,13 +62,16 @@ pub fn whole_copy<D: Disk + Drop>(
 }
 
 /// Makes a file that is a whole copy of a library's file. Write, at 0, where the copy or a log beside it exists, or where
-/// it can't be written; no part of it is left then. Else the faults of `whole_copy`.
+/// it can't be written; no part of it is left then. Else the faults of `whole_copy`. No clause speaks of the copy itself,
+/// but only of what is written there.
 pub fn backup<D: Disk + Drop>(
     rt: &HostRuntime,
     conn: Connection<FileStore<D>>,
     copy: &str,
 ) -> Result<(), Fault>
-    ensures { IfErr result (λ fault. IsLost fault ⊎ (fault.kind ≡ Write)) }
+    ensures lost { IfErr result (λ fault. IsLost fault ⊎ (fault.kind ≡ Write)) }
+    ensures read { MatchResult result (λ _. IsReadWhole conn) (λ fault. fault.kind ≡ Write → IsReadWhole conn) }
+    ensures failed { IfErr result (λ fault. fault.kind ≡ Store → FailsToCopy conn) }
 {
     match whole_copy(rt.alloc(), conn) {
         Ok((bytes, files)) => {

@@ -1,11 +1,14 @@
 //! Whether what is at a path is a sound library.
-ghost use Rattle.std.specs.Prelude.{◌≡◌, IfOk};
+ghost use Rattle.std.specs.Prelude.{◌≡◌, true, false, IfErr, IfOk};
 ghost use Rattle.std.specs.List.{count_by};
 ghost use Rattle.sqlite.specs.Files.{file_state};
 ghost use Rattle.sqlite.specs.Held.{state};
+ghost use Rattle.sqlite_std_file.specs.File.{IsFresh};
 ghost use Rattle.sqlite_wal.specs.Files.{image_at};
 ghost use Rattle.upd_records.specs.Rows.{Rows};
-ghost use Rattle.upd_keep.specs.Examining.{AreAllRows, Examines, ExaminesFile, IsFoundIn, IsOther, ReportsOn, is_held_deck, sound_line};
+ghost use Rattle.upd_keep.specs.Examining.{AreAllRows, Examines, ExaminesFile, FailsToOpen, IsFoundIn, IsOther, ReportsOn, is_held_deck, is_told, sound_line};
+ghost use Rattle.upd_store.specs.Faults.{kind_for};
+ghost use Rattle.upd_text.specs.declared.fault.FaultKind.TheVariants.{NoMemory, Store};
 
 use crate::all_rows::{AllRows, all_rows};
 use crate::looking_at::{has_frames, situation_at};
@@ -106,7 +109,9 @@ fn held_decks(idents: &[Ident]) -> usize
 /// Store, at 0, where memory runs out or the file can't be read. Where there is no library to examine, the situation
 /// comes from the file's kind, its first bytes, the error of opening it, and its version.
 pub fn examine<St: Start>(rt: &HostRuntime, path: &str, start: St) -> Result<Report, Fault>
-    ensures { ExaminesFile (file_state {g = ⟦<FileFrom<St> as Disk>⟧}) (image_at St.Start) result }
+    ensures said { ExaminesFile (file_state {g = ⟦<FileFrom<St> as Disk>⟧}) (image_at St.Start) result }
+    ensures failed { IfErr result (λ fault. fault.kind ≡ Store → (files : _) × IsFresh true files.log
+        × IsFresh false files.db × FailsToOpen ⟦<FileFrom<St> as Disk>⟧ files) }
 {
     if let Some(situation) = situation_at(rt, path) {
         return Ok(Report::Other(situation));
@@ -120,7 +125,8 @@ pub fn examine<St: Start>(rt: &HostRuntime, path: &str, start: St) -> Result<Rep
 
 /// Why a database can't be opened.
 fn unopened(error: Error) -> Result<Report, Fault>
-    ensures { IsOther result }
+    ensures other { IsOther result }
+    ensures failed { IfErr result (λ fault. (is_told error ≡ false) × (fault.kind ≡ kind_for error)) }
 {
     match error {
         Error::SqliteFailure(ErrorCode::DatabaseBusy) => Ok(Report::Other(Situation::InUse)),
@@ -139,7 +145,8 @@ fn examine_opened<S: Rising + Drop>(
     conn: Connection<S>,
     log: bool,
 ) -> Result<Report, Fault>
-    ensures { ReportsOn (state S.Store) conn result }
+    ensures said { ReportsOn (state S.Store) conn result }
+    ensures memory { IfErr result (λ fault. fault.kind ≡ NoMemory) }
 {
     match SqlStore::adopt(conn) {
         Ok(store) => {

@@ -6,13 +6,11 @@ ghost use Rattle.upd_sqlite.specs.Steps.{Steps};
 ghost use Rattle.upd_sql.specs.Commits.{WasOpen};
 ghost use Rattle.upd_keep.specs.Examining.{HasOneVersion};
 
+use crate::record::ILLEGIBLE;
 use crate::texts;
 use crate::whole::rows_of;
-use sqlite::{Alter, Connection, Error, ErrorCode, Transaction};
+use sqlite::{Alter, Connection, Error, Transaction};
 use upd_sqlite::{Rising, begin};
-
-/// The error of a table with another number of rows.
-const ILLEGIBLE: Error = Error::SqliteFailure(ErrorCode::DatabaseCorrupt);
 
 /// Reads the table inside a transaction. DatabaseCorrupt where it hasn't just one row.
 fn only_version_in<S: Alter>(tx: &mut Transaction<'_, S>) -> Result<(), Error>

@@ -7,8 +7,8 @@ use Rattle.upd_sql.specs.Schema.{library_schema}
 use Rattle.upd_sqlite.proofs.Chains.{clean_before}
 use Rattle.upd_keep.proofs.examining.examine_opened.Goals as goal
 
-pub returns-in-Ok-examine_tables : goal.returns-in-Ok-examine_tables
-returns-in-Ok-examine_tables g c =
+pub returns-in-Ok-examine_tables-clause-said : goal.returns-in-Ok-examine_tables-clause-said
+returns-in-Ok-examine_tables-clause-said g c =
     let opened = state g.S.Store c.args.conn in
     let adopted = state g.S.Store c.in-Ok.store.conn in
     let IsClean : Held g.row.S.Denot → Type 0 = λ h. HasCleanDisk (state g.S.Store h) → HasCleanDisk opened in
@@ -26,8 +26,8 @@ returns-in-Ok-examine_tables g c =
       },
     )
 
-pub returns-in-NoMemory : goal.returns-in-NoMemory
-returns-in-NoMemory g c = OfMemory _ (ap (λ (f : Fault). f.kind) c.without_line.ensures) (ap (λ (f : Fault). f.at) c.without_line.ensures)
+pub returns-in-NoMemory-clause-said : goal.returns-in-NoMemory-clause-said
+returns-in-NoMemory-clause-said g c = OfMemory _ (ap (λ (f : Fault). f.kind) c.without_line.ensures) (ap (λ (f : Fault). f.at) c.without_line.ensures)
 
-pub returns-in-NoMemory-kind : goal.returns-in-NoMemory-kind
-returns-in-NoMemory-kind g c = OfMemory _ (ap (λ (f : Fault). f.kind) c.without_line-in-NoMemory-kind.ensures) (ap (λ (f : Fault). f.at) c.without_line-in-NoMemory-kind.ensures)
+pub returns-in-NoMemory-kind-clause-said : goal.returns-in-NoMemory-kind-clause-said
+returns-in-NoMemory-kind-clause-said g c = OfMemory _ (ap (λ (f : Fault). f.kind) c.without_line-in-NoMemory-kind.ensures) (ap (λ (f : Fault). f.at) c.without_line-in-NoMemory-kind.ensures)
