@@ -188,8 +188,8 @@ impl<'a> Counted<'a> {
     {
         let library = self.library;
         let mut found = Vec::new(alloc);
-        add_covered(&mut found, library.idents(), 0, library.yanks(), target)?;
-        add_covered_of(&mut found, library.idents(), library.decks(), target)?;
+        add_covered_of_deck(&mut found, library.idents(), 0, library.yanks(), target)?;
+        add_covered_of_decks(&mut found, library.idents(), library.decks(), target)?;
         Ok(found)
     }
 
@@ -246,7 +246,7 @@ fn add_cards<'a>(
     Ok(())
 }
 
-fn add_covered_of(
+fn add_covered_of_decks(
     found: &mut Vec<CardRef>,
     idents: &[Ident],
     decks: &[Deck],
@@ -257,12 +257,12 @@ fn add_covered_of(
         ++ flat_map (λ d. map (ref_of idents.now) (filter (λ c. covers d.ident c target) d.cards)) decks.now) }
 {
     for deck in decks {
-        add_covered(found, idents, deck.ident, &deck.cards, target)?;
+        add_covered_of_deck(found, idents, deck.ident, &deck.cards, target)?;
     }
     Ok(())
 }
 
-fn add_covered(
+fn add_covered_of_deck(
     found: &mut Vec<CardRef>,
     idents: &[Ident],
     deck: Serial,

@@ -1,4 +1,4 @@
--- The row changes of a run, and those of its settling after them, lead tables to the library that it leaves.
+-- The row changes of a run, and those of its status update after them, lead tables to the library that it leaves.
 use Rattle.std.proofs.Common.{◌≡◌, ℕ, ◌+◌, ◌<◌, ◌≤◌, ◌^◌, nat_le, true, ◌&&◌, List, [], ◌++◌, length, map, sum_by, None, Ok, Err, refl, ap, sym, ◌∙◌}
 use Rattle.std.proofs.Common.{subst, arith}
 use Rattle.std.specs.List.{AllByRecursion}
@@ -79,13 +79,13 @@ module _ (lines : List LineView) (l loaded : LibraryView) (reached : Reached) (r
   least =
       least_affected l reached.library made.sound (run_goes lines l reached of_run.applied)
 
-  pub lead : (settled : List Change) (rows : Rows) → Shows rows l → AllByRecursion (λ c. row_changes_state c ≡ true) (map change_view settled)
-      → ShowsStates (done_all (map change_view settled) (done_all (map change_view run.applied.changes.items) rows)) reached.library
-      → LeadTo (map change_view (run.applied.changes.items ++ settled)) rows reached.library
-  lead settled rows shows only states =
+  pub lead : (updates : List Change) (rows : Rows) → Shows rows l → AllByRecursion (λ c. row_changes_state c ≡ true) (map change_view updates)
+      → ShowsStates (done_all (map change_view updates) (done_all (map change_view run.applied.changes.items) rows)) reached.library
+      → LeadTo (map change_view (run.applied.changes.items ++ updates)) rows reached.library
+  lead updates rows shows only states =
       let first = map change_view run.applied.changes.items in
-      let second = map change_view settled in
-      let both : map change_view (run.applied.changes.items ++ settled) ≡ first ++ second = map-append change_view run.applied.changes.items settled in
+      let second = map change_view updates in
+      let both : map change_view (run.applied.changes.items ++ updates) ≡ first ++ second = map-append change_view run.applied.changes.items updates in
       let carried = done_append first second rows in
       let goes = run_goes lines l reached of_run.applied in
       subst (λ cs. LeadTo cs rows reached.library) (sym both) (record {

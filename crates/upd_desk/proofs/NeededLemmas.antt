@@ -58,7 +58,7 @@ renewed_all l new cache sound later whole right =
     (renewed_is (λ z. not (is_among (map (λ d. d.ident) new.decks) z)) l new cache sound later whole right
     (subst (AllByRecursion (IsAsBefore l new)) (sym (none_left_out new)) tt))
 
--- what the settling of a run stands on where it was applied to a sound library
+-- what the status update of a run stands on where it was applied to a sound library
 between : (lines : List LineView) (m : LibraryView) (run : AppliedRun) → IsSound m → length run.library.yanks < 2 ^ 32 → IsAppliedTo lines m run
     → (cache : CacheView) → IsRight m cache → IsRunBetween m run.library cache run.applied.touched.items
 between lines m run sound few at cache right = record {
@@ -93,7 +93,7 @@ on_all lines l run made at = (
       enough = inl (refl, whole);
       takes = takes lines l run made.sound at;
       looks = ap (λ cards. length (affected cards l run.library)) (at.touches made.sound.keys);
-      leads = λ settled only here rows shows. here rows shows;
+      leads = λ updates only here rows shows. here rows shows;
       renews = λ cache right. renewed_all l run.library cache made.sound (run_sound lines l (here_of run) made.sound at.is) whole right;
     };
   },
@@ -152,10 +152,10 @@ on_named lines l run made plain none at = by (on_whole ages lines l (here_of run
           looks = ap (λ cards. length (affected cards (part out l) run.library)) (here.touches sound.keys ∙ sym on.touched)
               ∙ ap (λ m. length (affected (touched l on.there.library) (part out l) m)) library
               ∙ ap length (affected_in out lines l on.there made.sound does named on.reached);
-          leads = λ settled only leads rows shows.
-              part_leads out lines l on.there refl made.sound does named on.reached changes settled
+          leads = λ updates only leads rows shows.
+              part_leads out lines l on.there refl made.sound does named on.reached changes updates
               (subst (λ m. RowChanges (part out l) m changes) library here.tells) only
-              (subst (λ m. (rows : Rows) → ShowsStates rows (part out l) → ShowsStates (done_all settled (done_all changes rows)) m) library leads) rows shows;
+              (subst (λ m. (rows : Rows) → ShowsStates rows (part out l) → ShowsStates (done_all updates (done_all changes rows)) m) library leads) rows shows;
           renews = λ cache right.
               ap (λ m. renewed cache.states m (actives_of l)) library
               ∙ renewed_alone out lines l on.there cache made.sound made.whole does named on.reached (subst (λ m. IsRight m cache) library right);

@@ -47,7 +47,12 @@ fn repeat_answer(run: RunRow, mode: Mode, arrival: &Arrival<'_>) -> Result<Reply
 }
 
 /// A run with its reply, as the store has it.
-fn run_row(alloc: Global, mode: Mode, arrival: &Arrival<'_>, reply: &Reply) -> Result<RunRow, Fault>
+fn stored_row(
+    alloc: Global,
+    mode: Mode,
+    arrival: &Arrival<'_>,
+    reply: &Reply,
+) -> Result<RunRow, Fault>
     ensures run { IfOk result (λ run. run
         ≡ run_of (record { arrival = arrival.now; mode = mode; carried = None }) reply.now) }
     ensures lost { IfErr result (λ fault. fault ≡ fault_at NoMemory 0) }
@@ -88,7 +93,7 @@ fn keep_new<S: RowStore>(
     ensures failed { CountsFailure S.Meaning result store.old store.new }
 {
     let outcome = run_outcome(store, alloc, mode, arrival)?;
-    let run = run_row(alloc, mode, arrival, &outcome.reply)?;
+    let run = stored_row(alloc, mode, arrival, &outcome.reply)?;
     match store.commit(alloc, &outcome.changes, run) {
         Ok(()) => Ok(Answered {
             reply: outcome.reply,

@@ -112,9 +112,9 @@ impl<S: RowStore> Desk<S> {
         }
     }
 
-    /// The answers to arrivals one after the other: one that runs out of memory, or whose store fails, is lost, and the
-    /// next is answered. The list of answers is reserved first: without memory for it the fault is NoMemory, and
-    /// nothing is done.
+    /// The answers to arrivals one after the other. One that runs out of memory, or whose store fails, gets that fault,
+    /// and the next one is tried: where a failure of the disk closed the store, each of the rest gets Store. The list
+    /// of answers is reserved first: without memory for it the fault is NoMemory, and nothing is done.
     pub fn run_all(
         &mut self,
         alloc: Global,

@@ -56,13 +56,13 @@ pub(crate) struct AppliedRun {
 }
 
 // A new run, step by step:
-// 1. read: `read_run` makes lines of the bytes (`run_outcome`);
-// 2. load: `load_needed` brings the directory, `YANK$$$` and the decks that the run needs (`read_outcome`);
-// 3. apply: `apply_run` applies the lines to them, and reports row changes;
-// 4. update statuses: `Cache::settle` gives the changed statuses of cards (`compiled_outcome`);
-// 5. compile: `file_of` writes the compile file from the active cards before and after;
-// 6. reply: `accepted`, or `refused` with the first fault of steps 1, 3 and 5;
-// 7. commit: `arrive::keep_new` stores the row changes and the reply in one transaction.
+// - read: `read_run` makes lines of the bytes (`run_outcome`);
+// - load: `load_needed` brings the directory, `YANK$$$` and the decks that the run needs (`read_outcome`);
+// - apply: `apply_run` applies the lines to them, and reports row changes;
+// - update statuses: `Cache::settle` gives the changed statuses of cards (`compiled_outcome`);
+// - compile: `compile_run` writes the compile file from the active cards before and after;
+// - reply: `accepted`, or `refused` with the first fault in reading, applying and compiling;
+// - commit: `arrive::keep_new` stores the row changes and the reply in one transaction.
 // A refused run has a reply as well, and no row changes. Out of memory, and a failure of the store, end it unanswered.
 
 /// What a run that has passed the admission checks makes of the library of a store. A run that can't be read loads
@@ -206,9 +206,9 @@ fn compiled_outcome(
     ensures lost { IsOkUnless result (fault_at NoMemory 0) }
 {
     let mut cache = Cache::of_rows(alloc, states)?;
-    let settled = cache.settle(&mut Counted::new(&run.library), &run.applied)?;
-    match file_of(alloc, mode, &cache, &before, &run) {
-        Ok(file) => match accepted(alloc, arrival, run, settled, &file, cache.work()) {
+    let updates = cache.settle(&mut Counted::new(&run.library), &run.applied)?;
+    match compile_run(alloc, mode, &cache, &before, &run) {
+        Ok(file) => match accepted(alloc, arrival, run, updates, &file, cache.work()) {
             Ok(outcome) => Ok(outcome),
             Err(fault) => Err(fault),
         },
@@ -220,7 +220,7 @@ fn compiled_outcome(
 }
 
 /// The compile file of a run: empty where no active cards are at hand.
-fn file_of(
+fn compile_run(
     alloc: Global,
     mode: Mode,
     cache: &Cache,
@@ -257,22 +257,22 @@ fn accepted(
     alloc: Global,
     arrival: &Arrival<'_>,
     run: AppliedRun,
-    settled: Vec<Change>,
+    updates: Vec<Change>,
     file: &CompileFile,
     work: u64,
 ) -> Result<RunOutcome, Fault>
     ensures reply { (mode : Mode) (l : LibraryView) (done : Compiled) → IsMade l → check_arrival arrival.now ≡ Ok mode
         → compiled mode arrival.now.bytes l ≡ Ok done → IsSeen done run file.now
         → IfOk result (λ o. o.reply ≡ (outcome_by arrival.now l (Ok done)).reply) }
-    ensures changes { IfOk result (λ o. o.changes.items ≡ run.applied.changes.items ++ settled.items) }
+    ensures changes { IfOk result (λ o. o.changes.items ≡ run.applied.changes.items ++ updates.items) }
     ensures work { IfOk result (λ o. o.work ≡ work) }
     ensures lost { IsOkUnless result (fault_at NoMemory 0) }
 {
     let reply = accepted_reply(alloc, arrival, &run, file)?;
-    let mut settled = settled;
+    let mut updates = updates;
     let applied = run.applied;
     let mut changes = applied.changes;
-    changes.append(&mut settled)?;
+    changes.append(&mut updates)?;
     Ok(RunOutcome {
         changes,
         reply,

@@ -8,7 +8,6 @@ pub mod KeyLemmas
 pub mod FlatLemmas
 pub mod RowsLemmas
 pub mod RunLemmas
-pub mod ByKeyLemmas
 pub mod StoredStateLemmas
 pub mod StoredCountLemmas
 pub mod StateTestLemmas

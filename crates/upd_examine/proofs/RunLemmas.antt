@@ -9,10 +9,10 @@ use Rattle.upd_core.specs.Sound.{AreApart}
 use Rattle.upd_records.specs.Rows.{MarkRow, RunView}
 use Rattle.upd_examine.specs.RunForms.{AreRunsSound, is_key, is_run_right, run_key}
 
-pub runs_decided : (runs : List RunView) (marks : List MarkRow) (sites : List Bytes) (keys : List (Bytes × ℕ)) (m a b c : Bool)
+pub runs_decided : (runs : List RunView) (marks : List MarkRow) {sites : List Bytes} {keys : List (Bytes × ℕ)} {m a b c : Bool}
     → m ≡ list_all (λ m. is_key m.site m.mark) marks → sites ≡ map (λ m. m.site) marks → keys ≡ map run_key runs → (IsTrue a ↔ AreApart sites) → (IsTrue b ↔ AreApart keys)
     → c ≡ list_all (is_run_right marks) runs → IsTrue (m && (a && (b && c))) ↔ AreRunsSound runs marks
-runs_decided runs marks sites keys m a b c are_marked are_sites are_keys one two each = (
+runs_decided runs marks {sites} {keys} {m} {a} {b} {c} are_marked are_sites are_keys one two each = (
   (λ t.
       let o = and_parts m (a && (b && c)) t in
       let p = and_parts a (b && c) o.1 in

@@ -20,7 +20,7 @@ use Rattle.upd_yank.proofs.WorkLemmas.{HasStatus}
 use Rattle.upd_yank.specs.Cascade.{is_active_by}
 use Rattle.upd_yank.specs.Right.{CacheView, IsRight, status_pairs}
 use Rattle.upd_examine.specs.StateTests.{own_state, own_states}
-use Rattle.upd_examine.proofs.ByKeyLemmas.{same_by_key}
+use Rattle.upd_records.proofs.ByKeyLemmas.{same_by_key}
 
 -- ---- lists of one element at most
 

@@ -1,17 +1,11 @@
 -- What stored runs and marks have to be.
-use Rattle.std.specs.Prelude.{◌≡◌, ℕ, zero, suc, nat_le, nat_lt, ◌==◌, Bool, true, not, ◌&&◌, ◌||◌, if◌then◌else◌, List, [], ◌++◌, codes, decimal, map}
+use Rattle.std.specs.Prelude.{◌≡◌, ℕ, nat_le, nat_lt, ◌==◌, Bool, true, not, ◌&&◌, ◌||◌, if◌then◌else◌, List, [], ◌++◌, codes, decimal, map}
 use Rattle.std.specs.List.{list_all, starts_with, ends_with}
 use Rattle.std.specs.Str.{bytes_eq}
 use Rattle.upd_text.specs.Keys.{is_run_number, is_site}
 use Rattle.upd_text.specs.Units.{Bytes}
 use Rattle.upd_core.specs.Sound.{AreApart}
-use Rattle.upd_records.specs.Rows.{MarkRow, RunView}
-
--- the word of a mode
-abbrev pub mode_word : ℕ → Bytes
-mode_word zero = codes "full"
-mode_word (suc zero) = codes "quick"
-mode_word (suc (suc n)) = codes "normal"
+use Rattle.upd_records.specs.Rows.{MarkRow, RunView, mode_word}
 
 -- what a reply begins with
 abbrev pub reply_start : RunView → Bytes

@@ -2,17 +2,7 @@
 ghost use Rattle.std.specs.Prelude.{◌≡◌, IfOk};
 
 use std::alloc::{AllocError, Global};
-use upd_records::{CardRow, LibraryRows};
-
-fn copy_cards(alloc: Global, cards: &[CardRow]) -> Result<Vec<CardRow>, AllocError>
-    ensures { IfOk result (λ copies. copies.items ≡ cards.now) }
-{
-    let mut copies = Vec::with_capacity(alloc, cards.len())?;
-    for card in cards {
-        copies.push(card.copy()?)?;
-    }
-    Ok(copies)
-}
+use upd_records::{LibraryRows, copy_cards};
 
 /// A deep copy of the rows of a library.
 pub fn copy_rows(alloc: Global, rows: &LibraryRows) -> Result<LibraryRows, AllocError>

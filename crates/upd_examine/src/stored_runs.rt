@@ -1,7 +1,7 @@
 //! Whether stored runs and marks are right.
 ghost use Rattle.std.specs.Prelude.{◌≡◌, ◌↔◌, map, IfOk, IsTrue};
 ghost use Rattle.std.specs.List.{list_all};
-ghost use Rattle.upd_examine.specs.RunForms.{AreRunsSound, has_reply, is_above, is_key, is_run_right, mode_part, mode_word};
+ghost use Rattle.upd_examine.specs.RunForms.{AreRunsSound, has_reply, is_above, is_key, is_run_right, mode_part};
 ghost use Rattle.upd_examine.specs.RunForms.{outcome_word, reply_end, reply_start, run_key};
 
 use crate::bytes::Bytes;
@@ -9,18 +9,8 @@ use crate::conjunctions::four_hold;
 use crate::sound_tests::are_apart;
 use itoa::Buffer;
 use std::alloc::{AllocError, Global};
-use upd_records::{MarkRow, RunRow};
+use upd_records::{MarkRow, RunRow, mode_word};
 use upd_text::keys::{is_run_number, is_site};
-
-fn mode_word(mode: u32) -> &'static [u8]
-    ensures { result.now ≡ mode_word mode }
-{
-    match mode {
-        0 => b"full",
-        1 => b"quick",
-        _ => b"normal",
-    }
-}
 
 fn outcome_word(run: &RunRow) -> &'static [u8]
     ensures { result.now ≡ outcome_word run.now }

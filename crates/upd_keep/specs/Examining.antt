@@ -90,7 +90,7 @@ IsOther (Ok (Library found log)) = ⊥
 IsOther (Ok (Other situation)) = Unit {0}
 IsOther (Err fault) = IsLost fault
 
--- an error of opening a database that tells what is there
+-- an error of opening a database that says what is there
 abbrev pub is_told : Error → Bool
 is_told (SqliteFailure code.DatabaseBusy) = true
 is_told (SqliteFailure code.CannotOpen) = true

@@ -43,7 +43,7 @@ abbrev pub FailsToRead : {X : Type 0} → State → State → Result X Error →
 FailsToRead old new r =
     HasCleanDisk new → IsTrue old.is_open → old.step_limit ≡ None → (it : Rows) → ShowsTables it old.committed → AreReadable it → IfErr r (HasCause old new)
 
--- the same, where the error is told as a fault, and outside of a transaction
+-- the same, where the error becomes a fault, and outside of a transaction
 abbrev pub FailsToTell : {X : Type 0} → State → State → Result X Fault → Type 0
 FailsToTell old new r =
     HasCleanDisk new → IsTrue old.is_open → old.step_limit ≡ None → (it : Rows) → ShowsTables it old.committed → AreReadable it

@@ -4,7 +4,7 @@ ghost use Rattle.std.specs.Prelude.{◌≡◌, ◌==◌, not, count_by, length, 
 ghost use Rattle.std.specs.List.{filter};
 ghost use Rattle.upd_core.specs.Counts.{capped};
 ghost use Rattle.upd_core.specs.Targets.{is_same};
-ghost use Rattle.upd_records.specs.Changes.{change_view, done, done_all, purged_row, restated, status_rows};
+ghost use Rattle.upd_records.specs.Changes.{change_view, done, done_all, restated, status_rows};
 ghost use Rattle.upd_records.specs.Changes.{CardNew, CardGone, CardsMoved, EntryNew, TargetNew, StatusNow, CountNow};
 ghost use Rattle.upd_records.specs.Fits.{AllFit};
 ghost use Rattle.upd_records.specs.Rows.{same_ref};
@@ -12,33 +12,13 @@ ghost use Rattle.upd_list_store.specs.Lists.{carried, kept_place, kept_row};
 
 use crate::list_tables::ListTables;
 use std::alloc::AllocError;
-use upd_core::{CardRef, Change, Entry, Ident, Serial, Target};
-use upd_records::{CardRow, CountRow, EntryRow, StateRow, TargetRow, same_ref};
+use upd_core::{CardRef, Change, Entry, Serial, Target};
+use upd_records::{
+    CardRow, CountRow, EntryRow, StateRow, TargetRow, drop_card, drop_targets, purge_ident,
+    same_ref,
+};
 
 // ---- one table
-
-/// An ident, no longer held where it is of an age.
-fn purged(ident: Ident, age: Serial) -> Ident
-    ensures { result ≡ purged_row age ident }
-{
-    if ident.age == age {
-        Ident {
-            held: false,
-            ..ident
-        }
-    } else {
-        ident
-    }
-}
-
-/// The ident of an age is no longer held.
-fn purge_ident(idents: &mut [Ident], age: Serial)
-    ensures { idents.new ≡ map (purged_row age) idents.old }
-{
-    for ident in idents.iter_mut() {
-        *ident = purged(*ident, age);
-    }
-}
 
 /// A place moved by a signed distance.
 fn moved(place: u32, by: i64) -> u32
@@ -69,25 +49,11 @@ fn move_cards(cards: &mut [CardRow], deck: Serial, from: u32, by: &i64)
     }
 }
 
-/// Takes a card's row away.
-fn drop_card(cards: &mut Vec<CardRow>, card: &CardRef)
-    ensures { cards.new.items ≡ filter (λ r. not (same_ref card.now r.card)) cards.old.items }
-{
-    cards.retain(|row| !same_ref(card, &row.card));
-}
-
 /// Takes a card's entries away.
 fn drop_entries(entries: &mut Vec<EntryRow>, card: &CardRef)
     ensures { entries.new.items ≡ filter (λ r. not (same_ref card.now r.card)) entries.old.items }
 {
     entries.retain(|row| !same_ref(card, &row.card));
-}
-
-/// Takes a card's targets away.
-fn drop_targets(targets: &mut Vec<TargetRow>, card: &CardRef)
-    ensures { targets.new.items ≡ filter (λ r. not (same_ref card.now r.card)) targets.old.items }
-{
-    targets.retain(|row| !same_ref(card, &row.card));
 }
 
 /// Takes a card's status away.

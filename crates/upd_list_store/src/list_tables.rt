@@ -20,7 +20,8 @@ use std::alloc::{AllocError, Global};
 use std::marker::Model;
 use upd_core::{Actives, CardRef, Change, Ident, Library, Serial, States, Target};
 use upd_records::{
-    CardRow, CountRow, EntryRow, LibraryRows, MarkRow, RunRow, StateRow, TargetRow, copy_run,
+    CardRow, CountRow, EntryRow, LibraryRows, MarkRow, RunRow, StateRow, TargetRow, copy_cards,
+    copy_run,
 };
 use upd_row_store::{
     ages_of_decks, assembled, assembled_active, assembled_part, decks_by_age, states_among,
@@ -301,17 +302,6 @@ fn drop_runs(runs: &mut Vec<RunRow>, site: &str, number: u64)
     ensures { runs.new.items ≡ filter (λ r. not (is_settled site.now number r)) runs.old.items }
 {
     runs.retain(|run| !(run.site.as_str() == site && run.number <= number));
-}
-
-/// A copy of rows of cards; memory alone can fail.
-pub(crate) fn copy_cards(alloc: Global, cards: &[CardRow]) -> Result<Vec<CardRow>, AllocError>
-    ensures { IfOk result (λ copies. copies.items ≡ cards.now) }
-{
-    let mut copies = Vec::with_capacity(alloc, cards.len())?;
-    for card in cards {
-        copies.push(card.copy()?)?;
-    }
-    Ok(copies)
 }
 
 /// A copy of rows of runs; memory alone can fail.

@@ -63,19 +63,6 @@ apart_stay {A} test gone (x ∷ xs) apart = go (test x) (gone x) refl refl apart
     go false false is goes none rest =
         ap (λ t. cond t (x ∷ filter test (filter (λ y. not (gone y)) xs)) (filter test (filter (λ y. not (gone y)) xs))) is ∙ rest none
 
--- two tests, one after the other
-pub filter_twice : {A : Type 0} (f g : A → Bool) (xs : List A) → filter f (filter g xs) ≡ filter g (filter f xs)
-filter_twice f g [] = refl
-filter_twice {A} f g (x ∷ xs) = go (f x) (g x) refl refl (filter_twice f g xs)
-  where
-    go : (a b : Bool) → f x ≡ a → g x ≡ b → filter f (filter g xs) ≡ filter g (filter f xs)
-        → filter f (cond b (x ∷ filter g xs) (filter g xs)) ≡ filter g (cond a (x ∷ filter f xs) (filter f xs))
-    go true true e h rest = ap (λ t. cond t (x ∷ filter f (filter g xs)) (filter f (filter g xs))) e ∙ ap (λ ys. x ∷ ys) rest
-        ∙ sym (ap (λ t. cond t (x ∷ filter g (filter f xs)) (filter g (filter f xs))) h)
-    go true false e h rest = rest ∙ sym (ap (λ t. cond t (x ∷ filter g (filter f xs)) (filter g (filter f xs))) h)
-    go false true e h rest = ap (λ t. cond t (x ∷ filter f (filter g xs)) (filter f (filter g xs))) e ∙ rest
-    go false false e h rest = rest
-
 -- where a test says the same of all that another keeps
 pub filter_alike : {A : Type 0} (test has : A → Bool) (b : Bool) → ((x : A) → has x ≡ true → test x ≡ b) → (xs : List A)
     → filter test (filter has xs) ≡ cond b (filter has xs) []

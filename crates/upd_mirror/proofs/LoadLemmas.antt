@@ -24,8 +24,9 @@ use Rattle.upd_row_store.proofs.HolderLemmas.{any_same}
 use Rattle.upd_row_store.specs.Asked.{AreDecksOf, is_asked}
 use Rattle.upd_row_store.specs.PartRows.{AreOfDistinctCards, is_loaded, is_of}
 use Rattle.upd_mirror.specs.RowsByKey.{AreCards, AreEntries, AreHomes, entries_at, is_home}
-use Rattle.upd_mirror.proofs.MapRowsLemmas.{all_same, count_split, flat_same, none_both, own_key, same_by_key}
-use Rattle.upd_mirror.proofs.KeyedLemmas.{filter_alike, filter_twice}
+use Rattle.upd_records.proofs.ByKeyLemmas.{count_split, filter_twice, same_by_key}
+use Rattle.upd_mirror.proofs.MapRowsLemmas.{all_same, flat_same, none_both, own_key}
+use Rattle.upd_mirror.proofs.KeyedLemmas.{filter_alike}
 use Rattle.upd_mirror.proofs.NameOrderLemmas.{one_ref, refs_exact, refs_total, same_by_order, turned}
 
 -- ---- cards

@@ -15,30 +15,10 @@ use Rattle.std.proofs.lemmas.List.Elements.{filter-append, recursion_from_All}
 use Rattle.std.proofs.lemmas.Map.Keys.{sorted_head, sorted_tail}
 use Rattle.std.proofs.lemmas.Map.Lookups.{CmpEqualImpliesEq}
 use Rattle.std.proofs.lemmas.Map.Views.{All-found}
-use Rattle.upd_records.proofs.CountLemmas.{count_cons, count_filter, same_filter, same_of}
+use Rattle.upd_records.proofs.ByKeyLemmas.{filter_twice, same_by_key}
+use Rattle.upd_records.proofs.CountLemmas.{count_cons, count_filter, same_of}
 use Rattle.upd_records.specs.Rows.{IsSame}
-use Rattle.upd_mirror.proofs.KeyedLemmas.{filter_alike, filter_twice, not_true}
-
--- ---- counts
-
-pub count_split : {A : Type 0} (test has : A → Bool) (xs : List A)
-    → count_by test (filter has xs) + count_by test (filter (λ x. not (has x)) xs) ≡ count_by test xs
-count_split test has [] = refl
-count_split test has (x ∷ xs) = go (has x) (count_split test has xs)
-  where
-    go : (b : Bool) → count_by test (filter has xs) + count_by test (filter (λ y. not (has y)) xs) ≡ count_by test xs
-        → count_by test (cond b (x ∷ filter has xs) (filter has xs))
-        + count_by test (cond (not b) (x ∷ filter (λ y. not (has y)) xs) (filter (λ y. not (has y)) xs)) ≡ count_by test (x ∷ xs)
-    go true rest = omega (arith, rest, count_cons test x (filter has xs), count_cons test x xs)
-    go false rest = omega (arith, rest, count_cons test x (filter (λ y. not (has y)) xs), count_cons test x xs)
-
-fewer : {A : Type 0} (keep : A → Bool) (xs : List A) → length (filter keep xs) ≤ length xs
-fewer keep [] = omega arith
-fewer keep (x ∷ xs) = go (keep x) (fewer keep xs)
-  where
-    go : (b : Bool) → length (filter keep xs) ≤ length xs → length (cond b (x ∷ filter keep xs) (filter keep xs)) ≤ length (x ∷ xs)
-    go true rest = grind (arith, rest)
-    go false rest = grind (arith, rest)
+use Rattle.upd_mirror.proofs.KeyedLemmas.{filter_alike, not_true}
 
 -- a test that none fails keeps all
 none_fails : {A : Type 0} (test : A → Bool) (xs : List A) → count_by (λ x. not (test x)) xs ≡ 0 → filter test xs ≡ xs
@@ -76,53 +56,6 @@ none_both {A} f g (x ∷ xs) apart = go (g x) refl (none_both f g xs apart)
     go : (b : Bool) → g x ≡ b → filter f (filter g xs) ≡ [] → filter f (cond b (x ∷ filter g xs) (filter g xs)) ≡ []
     go true e rest = ap (λ t. cond t (x ∷ filter f (filter g xs)) (filter f (filter g xs))) (apart x e) ∙ rest
     go false e rest = rest
-
-module _ {K A : Type 0} (has : K → A → Bool) (key : A → K) (itself : (x : A) → has (key x) x ≡ true) where
-  abbrev AreEach : List A → List A → Type 0
-  AreEach xs ys = (k : K) → IsSame (filter (has k) xs) (filter (has k) ys)
-
-  abbrev others : A → List A → List A
-  others x ys = filter (λ y. not (has (key x) y)) ys
-
-  nothing : (ys : List A) → AreEach [] ys → [] ≡ ys
-  nothing [] each = refl
-  nothing (y ∷ ys) each =
-      absurd (let none : 0 ≡ count_by (λ x. true) (y ∷ filter (has (key y)) ys) =
-      (each (key y)).passes (λ x. true) ∙ ap (λ b. count_by (λ x. true) (cond b (y ∷ filter (has (key y)) ys) (filter (has (key y)) ys)))
-      (itself y) in
-      let one = count_cons (λ x. true) y (filter (has (key y)) ys) in omega (arith, none, one))
-
-  front : (x : A) (xs : List A) (j : K) → filter (has j) (others x xs) ≡ others x (filter (has j) (x ∷ xs))
-  front x xs j = filter_twice (has j) (λ y. not (has (key x) y)) xs ∙ sym (twice (has j x))
-    where
-      twice : (b : Bool) → others x (cond b (x ∷ filter (has j) xs) (filter (has j) xs)) ≡ others x (filter (has j) xs)
-      twice true = ap (λ b. cond (not b) (x ∷ others x (filter (has j) xs)) (others x (filter (has j) xs))) (itself x)
-      twice false = refl
-
-  each_other : (x : A) (xs ys : List A) → AreEach (x ∷ xs) ys → AreEach (others x xs) (others x ys)
-  each_other x xs ys each j = subst (λ zs. IsSame zs (filter (has j) (others x ys))) (sym (front x xs j))
-      (subst (IsSame (others x (filter (has j) (x ∷ xs)))) (sym (filter_twice (has j) (λ y. not (has (key x) y)) ys))
-      (same_filter (λ y. not (has (key x) y)) (each j)))
-
-  joined : (x : A) (xs ys : List A) → AreEach (x ∷ xs) ys → IsSame (others x xs) (others x ys) → IsSame (x ∷ xs) ys
-  joined x xs ys each rest = record {
-    passes = λ test.
-        sym (count_split test (has (key x)) (x ∷ xs)) ∙ ap (λ c. c + count_by test (others x (x ∷ xs))) ((each (key x)).passes test)
-        ∙ ap (λ c. count_by test (filter (has (key x)) ys) + c) (first test) ∙ count_split test (has (key x)) ys;
-  }
-    where
-      first : (test : A → Bool) → count_by test (others x (x ∷ xs)) ≡ count_by test (others x ys)
-      first test = ap (λ b. count_by test (cond (not b) (x ∷ others x xs) (others x xs))) (itself x) ∙ rest.passes test
-
-  same_within : (n : ℕ) (xs ys : List A) → length xs ≤ n → AreEach xs ys → IsSame xs ys
-  same_within n [] ys few each = same_of [] ys (nothing ys each)
-  same_within zero (x ∷ xs) ys few each = absurd (grind (arith, few))
-  same_within (suc n) (x ∷ xs) ys few each =
-      joined x xs ys each (same_within n (others x xs) (others x ys) (let left = fewer (λ y. not (has (key x) y)) xs in grind (arith, few, left))
-      (each_other x xs ys each))
-
-  pub same_by_key : (xs ys : List A) → ((k : K) → IsSame (filter (has k) xs) (filter (has k) ys)) → IsSame xs ys
-  same_by_key xs ys each = same_within (length xs) xs ys (omega arith) each
 
 -- the same either way
 same_either : {A : Type 0} (b : Bool) (x : A) → x ≡ cond b x x

@@ -32,7 +32,8 @@ use Rattle.upd_row_store.specs.Tables.{count_pair}
 use Rattle.upd_mirror.specs.Mirrored.{Agrees}
 use Rattle.upd_mirror.specs.declared.mirror.Mirror.{Mirror}
 use Rattle.upd_mirror.specs.RowsByKey.{AreCards, AreEntries, AreHomes, AreStatuses, cards_at, entries_at, is_home, moved_place, placed_row}
-use Rattle.upd_mirror.proofs.KeyedLemmas.{any_gone, any_mapped, any_stays, apart_stay, filter_mapped, filter_twice, one_more, some_gone}
+use Rattle.upd_mirror.proofs.KeyedLemmas.{any_gone, any_mapped, any_stays, apart_stay, filter_mapped, one_more, some_gone}
+use Rattle.upd_records.proofs.ByKeyLemmas.{filter_twice}
 use Rattle.upd_mirror.proofs.NameOrderLemmas.{alike, one_by_order, turned}
 
 -- what a call ensures where it succeeds, of a success that is read as an option

@@ -17,7 +17,8 @@ use Rattle.upd_row_store.specs.Tables.{state_pair}
 use Rattle.upd_mirror.specs.RowsByKey.{AreStatuses}
 use Rattle.upd_mirror.specs.Mirrored.{state_row}
 use Rattle.upd_mirror.proofs.MapRowsLemmas.{all_same}
-use Rattle.upd_mirror.proofs.KeyedLemmas.{filter_alike, filter_twice, one_more, some_gone}
+use Rattle.upd_records.proofs.ByKeyLemmas.{filter_twice}
+use Rattle.upd_mirror.proofs.KeyedLemmas.{filter_alike, one_more, some_gone}
 use Rattle.upd_mirror.proofs.NameOrderLemmas.{alike, one_by_order, one_ref, refs_exact, refs_total, same_by_order, turned}
 
 -- ---- all statuses

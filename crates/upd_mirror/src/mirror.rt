@@ -12,12 +12,12 @@ ghost use Rattle.upd_mirror.specs.Mirrored.{Agrees, AgreesIfAny};
 
 use crate::tables::{
     add_card, add_entry, drop_at_home, drop_count, drop_entries, drop_home, drop_status,
-    drop_targets, home_of, move_cards_of, purge_ident, put_home, put_status,
+    home_of, move_cards_of, put_home, put_status,
 };
 use std::alloc::Global;
 use std::collections::BTreeMap;
 use upd_core::{CardRef, Change, Entry, Ident, Serial, Target};
-use upd_records::{CardRow, EntryRow, TargetRow};
+use upd_records::{CardRow, EntryRow, TargetRow, drop_targets, purge_ident};
 
 /// The rows of idents, cards, entries and targets, the statuses and the counts.
 #[derive(Drop)]

@@ -8,53 +8,15 @@ ghost use Rattle.std.specs.Ordering.{is_eq};
 ghost use Rattle.upd_text.specs.Order.{by_name};
 ghost use Rattle.upd_text.specs.declared.card_ref.CardRef.{CardRef};
 ghost use Rattle.upd_core.specs.Targets.{is_same};
-ghost use Rattle.upd_records.specs.Changes.{purged_row};
 ghost use Rattle.upd_records.specs.Rows.{IsSame, same_ref};
 ghost use Rattle.upd_mirror.specs.RowsByKey.{cards_at, entries_at, is_home, moved_place, placed_row};
 
 use std::alloc::{AllocError, Global};
 use std::collections::BTreeMap;
-use upd_core::{CardRef, Ident, Serial, Target};
-use upd_records::{CardRow, EntryRow, TargetRow, same_ref};
+use upd_core::{CardRef, Serial, Target};
+use upd_records::{CardRow, EntryRow, drop_card};
 
-// ---- idents, targets and counts, in any order
-
-/// An ident, no longer held where it is of an age.
-fn purged(ident: Ident, age: Serial) -> Ident
-    ensures { result ≡ purged_row age ident }
-{
-    if ident.age == age {
-        Ident {
-            held: false,
-            ..ident
-        }
-    } else {
-        ident
-    }
-}
-
-/// The ident of an age, of these, is no longer held.
-fn purge_in(idents: &mut [Ident], age: Serial)
-    ensures { idents.new ≡ map (purged_row age) idents.old }
-{
-    for ident in idents.iter_mut() {
-        *ident = purged(*ident, age);
-    }
-}
-
-/// The ident of an age is no longer held.
-pub(crate) fn purge_ident(idents: &mut Vec<Ident>, age: Serial)
-    ensures { idents.new.items ≡ map (purged_row age) idents.old.items }
-{
-    purge_in(idents, age);
-}
-
-/// Takes a card's targets away.
-pub(crate) fn drop_targets(targets: &mut Vec<TargetRow>, card: &CardRef)
-    ensures { targets.new.items ≡ filter (λ r. not (same_ref card.now r.card)) targets.old.items }
-{
-    targets.retain(|row| !same_ref(card, &row.card));
-}
+// ---- counts, in any order
 
 /// Takes a target's count away.
 pub(crate) fn drop_count(counts: &mut Vec<(Target, u32)>, target: Target)
@@ -84,13 +46,6 @@ pub(crate) fn add_card(
         (if row.deck == d then cards_at decks.old d ++ row ∷ [] else cards_at decks.old d)) }
 {
     insert_card(decks.entry(row.deck)?.or_default(), row)
-}
-
-/// Takes a card's row away.
-fn drop_card(cards: &mut Vec<CardRow>, card: &CardRef)
-    ensures { cards.new.items ≡ filter (λ r. not (same_ref card.now r.card)) cards.old.items }
-{
-    cards.retain(|row| !same_ref(card, &row.card));
 }
 
 /// Takes a card's row out of a deck.

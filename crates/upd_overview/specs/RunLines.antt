@@ -1,12 +1,12 @@
 -- One line for each stored run: its site, number and mode, and what its reply says.
-use Rattle.std.specs.Prelude.{ℕ, zero, suc, Bool, if◌then◌else◌, List, [], ◌∷◌, ◌++◌, codes, decimal, Option, Some, None, option_and_then}
+use Rattle.std.specs.Prelude.{ℕ, Bool, if◌then◌else◌, List, [], ◌∷◌, ◌++◌, codes, decimal, Option, Some, None, option_and_then}
 use Rattle.std.specs.List.{flat_map}
 use Rattle.std.specs.Option.{option_map_or}
 use Rattle.std.specs.Str.{is_utf8}
 use Rattle.serde_json.specs.Data.{Data, null, boolean, number, string, array, object, Items, no_items, item}
 use Rattle.serde_json.specs.Find.{as_array, get}
 use Rattle.serde_json.specs.Read.{read}
-use Rattle.upd_records.specs.Rows.{RunView}
+use Rattle.upd_records.specs.Rows.{RunView, mode_word}
 
 -- the value of a reply; bytes that are no text of JSON have none
 abbrev pub said : List ℕ → Option Data
@@ -37,12 +37,6 @@ refusal_said value = option_map_or word_of (option_and_then (get (codes "name"))
 -- what became of a run: `accepted` and the idents, or the name of the refusal
 abbrev pub outcome : Bool → Option Data → List ℕ
 outcome accepted value = if accepted then codes " accepted" ++ idents_said value else refusal_said value
-
--- the word of a mode by its number in the table
-abbrev pub mode_word : ℕ → List ℕ
-mode_word zero = codes "full"
-mode_word (suc zero) = codes "quick"
-mode_word (suc (suc n)) = codes "normal"
 
 -- the line of a run
 abbrev pub run_line : RunView → List ℕ

@@ -2,14 +2,14 @@
 
 ghost use Rattle.std.specs.Prelude.{◌≡◌, ◌++◌, IfOk, OnOk, option_map};
 ghost use Rattle.serde_json.specs.View.{items_view, view};
-ghost use Rattle.upd_overview.specs.RunLines.{idents_said, mode_word, outcome, refusal_said, run_line, run_lines, said};
+ghost use Rattle.upd_overview.specs.RunLines.{idents_said, outcome, refusal_said, run_line, run_lines, said};
 ghost use Rattle.upd_overview.specs.RunLines.{word_of, words_of};
 
 use itoa::Buffer;
 use serde_json::Value;
 use std::alloc::{AllocError, Global};
 use upd_compile::parts::push_parts;
-use upd_records::RunRow;
+use upd_records::{RunRow, mode_word};
 
 /// The lines of runs, in the order in which they come: site, number, mode, and `accepted` with the idents that the run
 /// introduced, or the name of its refusal.
@@ -48,16 +48,6 @@ fn said(alloc: Global, reply: &[u8]) -> Result<Option<Value>, AllocError>
                 Ok(None)
             }
         }
-    }
-}
-
-fn mode_word(mode: u32) -> &'static [u8]
-    ensures { result.now ≡ mode_word mode }
-{
-    match mode {
-        0 => b"full",
-        1 => b"quick",
-        _ => b"normal",
     }
 }
 

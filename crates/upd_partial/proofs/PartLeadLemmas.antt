@@ -296,17 +296,17 @@ module _ (out : ℕ → Bool) (lines : List LineView) (l : LibraryView) (reached
           filter_kept is_other (λ s. same_ref r s.card) rows.states (λ s looked. of_row r s looked ∙ ap (λ o. not (is_some o)) e)
           ∙ shows.states r ∙ ap (state_rows r) (status_in_whole out l r active sound yanks e ∙ sym e)
 
-  module _ (run settled : List ChangeView) (row_changes : RowChanges (part out l) (part out m) run) (only : AllByRecursion (λ c. row_changes_state c ≡ true) settled)
-      (leads : (rows : Rows) → ShowsStates rows (part out l) → ShowsStates (done_all settled (done_all run rows)) (part out m))
+  module _ (run updates : List ChangeView) (row_changes : RowChanges (part out l) (part out m) run) (only : AllByRecursion (λ c. row_changes_state c ≡ true) updates)
+      (leads : (rows : Rows) → ShowsStates rows (part out l) → ShowsStates (done_all updates (done_all run rows)) (part out m))
       (rows : Rows) (shows : ShowsStates rows l) where
-    in_part : ShowsStates (done_all settled (done_all run (rows_in rows))) (part out m)
+    in_part : ShowsStates (done_all updates (done_all run (rows_in rows))) (part out m)
     in_part = leads (rows_in rows) (shows_in rows shows)
 
     -- a card in no deck left out has the same rows in the part, before and after
     kept_after : (r : CardRef) → ((p : Place) → place_of r l ≡ Some p → out p.deck ≡ false)
-        → of_card r (done_all settled (done_all run rows)) ≡ state_rows r (status_of r m)
+        → of_card r (done_all updates (done_all run rows)) ≡ state_rows r (status_of r m)
     kept_after r stays =
-        all_same_states settled r (done_all run rows) (done_all run (rows_in rows)) (all_same_states run r rows (rows_in rows) before) ∙ in_part.states r
+        all_same_states updates r (done_all run rows) (done_all run (rows_in rows)) (all_same_states run r rows (rows_in rows) before) ∙ in_part.states r
         ∙ ap (state_rows r) (status_kept out m r later yanks (λ q at. by q at (out q.deck) refl))
       where
         before : of_card r rows ≡ of_card r (rows_in rows)
@@ -318,30 +318,30 @@ module _ (out : ℕ → Bool) (lines : List LineView) (l : LibraryView) (reached
 
     -- a card in a deck left out keeps its row
     left_row : (r : CardRef) (p : Place) → place_of r l ≡ Some p → out p.deck ≡ true
-        → of_card r (done_all settled (done_all run rows)) ≡ state_rows r (status_of r m)
+        → of_card r (done_all updates (done_all run rows)) ≡ state_rows r (status_of r m)
     left_row r p at left =
         let new = left_after r p at left in
         let taken = taken_by_row_changes (part out l) (part out m) run (part_sound out l sound) (part_sound out m later) goes row_changes in
-        untold settled r (done_all run (rows_in rows)) (done_all run rows) only
+        untold updates r (done_all run (rows_in rows)) (done_all run rows) only
         (in_part.states r ∙ ap (state_rows r) (status_gone out m r new.0 later yanks new.1 new.2))
         ∙ state_after run rows r taken.silent ∙ ap (λ b. cond b [] (of_card r rows)) (left_untaken run r p row_changes at left)
         ∙ shows.states r ∙ ap (state_rows r) (sym (left_stays r p at left))
 
-    pub part_leads : ShowsStates (done_all settled (done_all run rows)) m
+    pub part_leads : ShowsStates (done_all updates (done_all run rows)) m
     part_leads = record {
       states = λ r. go r (place_of r l) refl;
       counts = λ target.
-          ap (filter (λ (c : CountRow). is_same target c.target)) (all_same_counts settled (done_all run rows) (done_all run (rows_in rows))
+          ap (filter (λ (c : CountRow). is_same target c.target)) (all_same_counts updates (done_all run rows) (done_all run (rows_in rows))
           (all_same_counts run rows (rows_in rows) refl))
           ∙ in_part.counts target;
     }
       where
         by : (r : CardRef) (p : Place) → place_of r l ≡ Some p → (b : Bool) → out p.deck ≡ b
-            → of_card r (done_all settled (done_all run rows)) ≡ state_rows r (status_of r m)
+            → of_card r (done_all updates (done_all run rows)) ≡ state_rows r (status_of r m)
         by r p at true left = left_row r p at left
         by r p at false stays =
             kept_after r (λ q there. let same = ap (λ (x : Place). x.deck) (same_Some _ _ (sym there ∙ at)) in ap out same ∙ stays)
 
-        go : (r : CardRef) (o : Option Place) → place_of r l ≡ o → of_card r (done_all settled (done_all run rows)) ≡ state_rows r (status_of r m)
+        go : (r : CardRef) (o : Option Place) → place_of r l ≡ o → of_card r (done_all updates (done_all run rows)) ≡ state_rows r (status_of r m)
         go r None e = kept_after r (λ p at. absurd (let bad = sym e ∙ at in cc))
         go r (Some p) e = by r p e (out p.deck) refl

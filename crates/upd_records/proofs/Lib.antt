@@ -1,3 +1,4 @@
+pub mod ByKeyLemmas
 pub mod CountLemmas
 pub mod EffectLemmas
 pub mod StatusLemmas

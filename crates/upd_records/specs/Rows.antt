@@ -1,5 +1,5 @@
 -- The tables of a store as lists of rows, and when they show a library.
-use Rattle.std.specs.Prelude.{◌≡◌, ℕ, ◌+◌, ◌==◌, Bool, ◌&&◌, if◌then◌else◌, List, [], ◌∷◌, count_by, Option, Some, None}
+use Rattle.std.specs.Prelude.{◌≡◌, ℕ, zero, suc, ◌+◌, ◌==◌, Bool, ◌&&◌, if◌then◌else◌, List, [], ◌∷◌, codes, count_by, Option, Some, None}
 use Rattle.std.specs.List.{filter, flat_map}
 use Rattle.std.specs.Str.{bytes_eq}
 use Rattle.upd_core.specs.declared.card.Entry.{Entry}
@@ -41,6 +41,12 @@ pub record RunView : Type 0 where
   pub bytes : List ℕ
   pub accepted : Bool
   pub reply : List ℕ
+
+-- the word of a mode, by its number in a row
+abbrev pub mode_word : ℕ → List ℕ
+mode_word zero = codes "full"
+mode_word (suc zero) = codes "quick"
+mode_word (suc (suc n)) = codes "normal"
 
 -- A card, and whether it is active; for a yank card, whether it is live.
 pub record StateRow : Type 0 where

@@ -1,5 +1,8 @@
 //! The row of a stored run.
 
+ghost use Rattle.std.specs.Prelude.{◌≡◌};
+ghost use Rattle.upd_records.specs.Rows.{mode_word};
+
 use std::marker::Model;
 
 /// A run with its reply, stored so that a repeat gets the same reply. Site and number are its key.
@@ -30,4 +33,15 @@ impl Model for RunRow {
       accepted = r.accepted;
       reply = r.reply.items;
     } };
+}
+
+/// The word of a mode, by its number in a row.
+pub fn mode_word(mode: u32) -> &'static [u8]
+    ensures { result.now ≡ mode_word mode }
+{
+    match mode {
+        0 => b"full",
+        1 => b"quick",
+        _ => b"normal",
+    }
 }

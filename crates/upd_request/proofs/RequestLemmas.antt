@@ -11,7 +11,7 @@ use Rattle.httparse.proofs.GrammarLemmas.{ReadsRequest-append}
 use Rattle.upd_text.specs.Outcome.{◌>>=◌}
 use Rattle.upd_request.specs.Calls.{Asked, Gives, cut_frame}
 use Rattle.upd_request.specs.Parameters.{segments_of}
-use Rattle.upd_request.specs.Requests.{GivesUnlessFailed, IsRead, IsSmall, RefusesHead, Says, HeadView, body_of, judged, checked_head}
+use Rattle.upd_request.specs.Requests.{GivesUnlessFailed, IsRead, IsSmall, Says, HeadView, body_of, judged, checked_head}
 use Rattle.upd_request.specs.Routes.{call_of}
 use Rattle.upd_request.specs.declared.call.Refusal.{Refusal}
 use Rattle.upd_request.specs.declared.head.TheConstants.{MAX_HEAD_BYTES, MAX_HEADERS}
@@ -20,11 +20,6 @@ use Rattle.upd_request.specs.declared.head.TheConstants.{MAX_HEAD_BYTES, MAX_HEA
 pub error_is : {T : Type 0} (result : Result T Refusal) (refusal : Refusal) → IsErrAnd result (λ e. e ≡ refusal) → result ≡ Err refusal
 error_is (Ok x) refusal is = absurd is
 error_is (Err e) refusal is = ap Err is
-
-pub head_refused : {X : Type 0} (view : X → Asked) (input : List ℕ) (refusal : Refusal) → RefusesHead input refusal → IsRead view input (Err refusal)
-head_refused view input refusal (inl failed) = inl failed
-head_refused view input refusal (inr (inl (bad, is))) = inr (inr (inl (bad, ap Err is)))
-head_refused view input refusal (inr (inr (cut, is))) = inr (inr (inr (cut, ap Err is)))
 
 -- A head that was read, with the bytes after it so far.
 pub record HasRead (buf : List ℕ) (headers : List HeaderSpan) (spans : RequestSpans) (h : RequestHead) : Type 0 where

@@ -21,9 +21,9 @@ use upd_text::{Fault, FaultKind};
 
 /// Tables of rows that are changed by commits, each of which is all or nothing, also in a crash.
 ///
-/// Each call but `failures` and `decks_read` can answer NoMemory or Store, at 0. Nothing is changed then. Only a failure
-/// of the disk closes the store: from then on each call answers Store, and what it keeps is found when it is opened
-/// again.
+/// Each call but `failures` and `decks_read` can answer NoMemory or Store, at 0. Nothing is changed then, as long as the
+/// store is open. Only a failure of the disk closes it: from then on each call answers Store. Whether the commit that
+/// met the failure was carried out, as a whole or not at all, is found when the store is opened again.
 pub trait RowStore: Meaning {
     /// The whole library, from its idents, cards, entries and targets.
     fn load(&mut self, alloc: Global) -> Result<Library, Fault>
@@ -41,7 +41,7 @@ pub trait RowStore: Meaning {
             (λ l rows found. found.items ≡ decks_with cards.now l) }
         ensures leaves { LeavesRead Self.Meaning result self.old self.new };
 
-    /// The rows that a library is made of, in no order. A store without this call answers NoMemory, and can't be mirrored.
+    /// The rows that make a library, in no order. A store without this call answers NoMemory: none is kept in memory.
     fn library_rows(&mut self, _: Global) -> Result<LibraryRows, Fault>
         ensures found { FindsRows Self.Meaning result self.old self.new AreRowsOf }
         ensures leaves { LeavesRead Self.Meaning result self.old self.new }

@@ -40,11 +40,6 @@ module _ {A : Type 0} (Has : A → Database → Type 0) where
   }
   makes_then F G f g a b c x (Err e) p q = record { steps = steps_then a b c x (Err e) p.steps q.steps; made = λ clean. tt }
 
-  -- the first failed, so nothing is said of the change
-  pub makes_not : {X Y : Type 0} (F G : A → Type 0) (f g : A → A) (a b : State) (d e : Error) → Makes {X = X} Has F f a b (Err d)
-      → Makes {X = Y} Has G g a b (Err e)
-  makes_not F G f g a b d e p = record { steps = record { going = λ clean. tt; kept = p.steps.kept; survives = p.steps.survives }; made = λ clean. tt }
-
   -- the same change by other words
   pub makes_as : {X : Type 0} (F G : A → Type 0) (f g : A → A) (a b : State) (r : Result X Error) → ((it : A) → G it → F it) → ((it : A) → f it ≡ g it)
       → Makes Has F f a b r → Makes Has G g a b r

@@ -105,11 +105,6 @@ module _ (schema : Schema) (k tree : ℕ) (name : List ℕ) (columns : List Colu
   there : IsShaped shape.Table (old.now.trees tree) × (map (drop 1) (old.now.trees tree) ≡ rows_at k all)
   there = rows_there tree old.now.trees k schema.tables all alone h.rows_are
 
-  -- the command at work on its table
-  abbrev OnTable : Command → Database → Type 0
-  OnTable command db = (tally : Tally) × OnRows (record { limit = old.step_limit; keys = Enforced; schema = schema; table = table; params = params })
-      (mode_of old) None command old.now.trees (Ok (tally, db))
-
   -- other rows only in this table
   changed : (trees : Trees) (edit : Edit) (rows : List Row) → new.now ≡ record { schema = schema; trees = trees } → edit.table ≡ table
       → Applies schema Enforced old.now.trees edit trees

@@ -40,9 +40,9 @@ again_only now (TargetsGone card targets) = tt
 again_only now (StatusNow card active) = tt
 again_only now (CountNow target n) = tt
 
-pub settling_only : (known found kept : List (CardRef × Bool)) (run : List ChangeView) (had has : List (Target × ℕ))
+pub update_only : (known found kept : List (CardRef × Bool)) (run : List ChangeView) (had has : List (Target × ℕ))
     → AllByRecursion (λ c. row_changes_state c ≡ true) (update_changes known found kept run had has)
-settling_only known found kept run had has =
+update_only known found kept run had has =
     all_joined StatusRowChanges (status_changes (kept_status known) found ++ all_repeated_statuses (kept_status kept) run) (all_count_changes had has)
     (all_joined StatusRowChanges (status_changes (kept_status known) found) (all_repeated_statuses (kept_status kept) run)
     (each_flat StatusRowChanges (status_change (kept_status known))

@@ -251,20 +251,20 @@ module _ (old new l : LibraryView) (cache : CacheView) (run set : List CardRef) 
     staying = λ some card none. between.right.status card ∙ sees.staying some card none;
   }
 
-  pub settled_right : (left : CacheView) →
+  pub updated_right : (left : CacheView) →
       (AreCountable l.yanks → (t : Target) → count_in left.counts t ≡ count_on (live_now (is_touched set) was before (yanks_of l)) t) →
       ArePut (kept_status cache.states) l.rest.cards (yanks_of l) (others_of l) found left.states →
       IsRight new left × (length found ≡ length (affected run old new))
-  settled_right left counts statuses = (
+  updated_right left counts statuses = (
     left_right (is_touched run) was before (kept_status cache.states) new l.rest.cards (yanks_of l) (others_of l) found left known found_seen
         (λ t. counts fits t ∙ (λ i. count_on (live_now (touched_same i) was before (yanks_seen i)) t)) seen statuses,
     left_work old new cache run found between found_seen,
   )
 
   -- the row changes of a status update
-  pub settled_told : (left : CacheView) (changes : List ChangeView) → IsRight new left → TakeGone old new changes →
+  pub updates_found : (left : CacheView) (changes : List ChangeView) → IsRight new left → TakeGone old new changes →
       IsSettled old new cache.states found left.states changes cache.counts left.counts
-  settled_told left changes right taken =
+  updates_found left changes right taken =
       let all = found_seen ∙ found_is (is_touched run) was before (kept_status cache.states) new known in
       let both = found_right (is_touched run) was before (kept_status cache.states) new known in
       let due = is_due (is_touched run) before (live_count new) in

@@ -214,10 +214,10 @@ pub record IsSettled (old new : LibraryView) (known found kept : List (CardRef �
   pub taken : TakeGone old new run
 
 -- rows that show the statuses before show those after, once the changes of the run and of the update are carried out
-pub settling_shows : (old new : LibraryView) (known found kept : List (CardRef × Bool)) (run : List ChangeView) (had has : List (Target × ℕ)) (rows : Rows) →
+pub update_shows : (old new : LibraryView) (known found kept : List (CardRef × Bool)) (run : List ChangeView) (had has : List (Target × ℕ)) (rows : Rows) →
     IsSettled old new known found kept run had has → ShowsStates rows old →
     ShowsStates (done_all (update_changes known found kept run had has) (done_all run rows)) new
-settling_shows old new known found kept run had has rows is shown = record {
+update_shows old new known found kept run had has rows is shown = record {
   states = λ r. state_is new all (done_all run rows) r right ∙ state r (list_any (tells_status r) all) refl;
   counts = λ t. count_is new all (done_all run rows) t right ∙ count t (list_any (tells_count t) all) refl;
 }

@@ -17,7 +17,7 @@ ghost use Rattle.upd_yank.specs.Enough.{IsEnough};
 ghost use Rattle.upd_yank.specs.Renewed.{renewed};
 ghost use Rattle.upd_yank.specs.Right.{IsRight, IsRunBetween, AreStatesOf, kept_status, put_counts};
 
-use crate::cascade::{Before, settling};
+use crate::cascade::{Before, update_statuses};
 use crate::renewing::renewed_decks;
 use crate::status_changes::tell;
 use crate::statuses::Statuses;
@@ -60,7 +60,7 @@ impl Cache {
             statuses: &Statuses::new(alloc),
             counts: &TargetCounts::new(alloc),
         };
-        let left = settling(alloc, &mut counted, &before)?;
+        let left = update_statuses(alloc, &mut counted, &before)?;
         Ok(Cache {
             alloc,
             statuses: left.statuses,
@@ -124,7 +124,7 @@ impl Cache {
             statuses: &self.statuses,
             counts: &self.counts,
         };
-        let left = settling(self.alloc, counted, &before)?;
+        let left = update_statuses(self.alloc, counted, &before)?;
         let changes = tell(self.alloc, &before, &left, &applied.changes)?;
         self.work = left.found.statuses.len() as u64;
         self.statuses = left.statuses;

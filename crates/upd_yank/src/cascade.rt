@@ -129,7 +129,7 @@ fn status_now<'a>(
 }
 
 /// Updates a card of `YANK$$$`. Its targets are counted if it is live.
-fn settle_yank<'a>(
+fn update_yank<'a>(
     counted: &mut Counted<'a>,
     before: &Before,
     found: &mut Found,
@@ -158,7 +158,7 @@ fn settle_yank<'a>(
 
 /// Updates `YANK$$$` from the youngest card to the oldest: what can take an entry of a card is younger than the card,
 /// so its status is known before the card is examined.
-fn settle_yanks<'a>(
+fn update_yanks<'a>(
     alloc: Global,
     counted: &mut Counted<'a>,
     before: &Before,
@@ -178,7 +178,7 @@ fn settle_yanks<'a>(
         statuses: Vec::new(alloc),
     };
     for i in (0..yanks.len()).rev() {
-        settle_yank(counted, before, &mut found, &yanks[i])?;
+        update_yank(counted, before, &mut found, &yanks[i])?;
     }
     Ok(found)
 }
@@ -232,18 +232,18 @@ fn judge_others<'a>(
 
 /// The results of a status update: statuses, counts, and what was found of the cards examined.
 #[derive(Drop)]
-pub(crate) struct AfterSettling {
+pub(crate) struct UpdatedStatuses {
     pub(crate) statuses: Statuses,
     pub(crate) found: Found,
 }
 
 /// The statuses of all cards and the counts of all targets after a run. On a whole library a card that is gone has no
 /// status.
-pub(crate) fn settling<'a>(
+pub(crate) fn update_statuses<'a>(
     alloc: Global,
     counted: &mut Counted<'a>,
     before: &Before,
-) -> Result<AfterSettling, AllocError>
+) -> Result<UpdatedStatuses, AllocError>
     ensures counts { AreCountable counted.old.library.yanks → IfOk result (λ left. (t : Target) →
         count_in left.found.counts t
         ≡ count_on (live_now (is_touched before.now.touched.now) (was_active before.now.statuses.now)
@@ -258,7 +258,7 @@ pub(crate) fn settling<'a>(
     let rest = counted.rest().cards;
     let yanks = counted.yanks(alloc)?;
     let others = counted.others(alloc)?;
-    let mut found = settle_yanks(alloc, counted, before, &yanks)?;
+    let mut found = update_yanks(alloc, counted, before, &yanks)?;
     judge_others(alloc, counted, before, &mut found, &others)?;
     let statuses = put_found(
         alloc,
@@ -268,7 +268,7 @@ pub(crate) fn settling<'a>(
         &others,
         &found.statuses,
     )?;
-    Ok(AfterSettling { statuses, found })
+    Ok(UpdatedStatuses { statuses, found })
 }
 
 /// The known statuses, updated by those found. Where some cards aren't loaded, every known status stays. Where all are

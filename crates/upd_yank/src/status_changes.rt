@@ -10,7 +10,7 @@ ghost use Rattle.upd_yank.specs.Right.{kept_status};
 ghost use Rattle.upd_yank.specs.StatusChanges.{all_repeated_statuses, count_changes, all_count_changes, update_changes, status_of_card};
 ghost use Rattle.upd_yank.specs.StatusChanges.{status_changes, zero_changes};
 
-use crate::cascade::{AfterSettling, Before};
+use crate::cascade::{Before, UpdatedStatuses};
 use crate::statuses::Statuses;
 use std::alloc::{AllocError, Global};
 use upd_core::{CardRef, Change, Target, TargetCounts};
@@ -19,7 +19,7 @@ use upd_core::{CardRef, Change, Target, TargetCounts};
 pub(crate) fn tell(
     alloc: Global,
     before: &Before,
-    left: &AfterSettling,
+    left: &UpdatedStatuses,
     run: &[Change],
 ) -> Result<Vec<Change>, AllocError>
     ensures { IfOk result (λ changes. map change_view changes.items ≡ update_changes before.now.statuses.now

@@ -1,4 +1,4 @@
--- The statuses are settled on the part that was loaded as they are on the whole, and the file is the one of the whole, or its first fault.
+-- The statuses are updated on the part that was loaded as they are on the whole, and the file is the one of the whole, or its first fault.
 use Rattle.std.proofs.Common.{◌≤◌, length, map, refl, ap, sym, ◌∙◌, subst}
 use Rattle.upd_core.specs.Counted.{CountedView}
 use Rattle.upd_core.specs.Library.{LibraryView}
@@ -19,19 +19,19 @@ returns-in-Ok-accepted-clause-found c = λ lines l loaded reached read made of_r
     let same = ap (λ (k : CountedView). k.library) c.new.ensures in
     let across = status_update.between cache (c.in_ok-cache.ensures.right loaded shown) in
     let enough = subst (λ (m : LibraryView). IsEnough run.applied.touched.items loaded run.library m) (sym same) status_update.enough in
-    let now_right = c.in_ok-settled.ensures.right loaded run.library enough across in
-    let settled = c.in_ok-settled.settled.items in
-    let only = c.in_ok-settled.ensures.only in
-    let later = status_update.leads (map change_view settled) only
-    (λ part here. c.in_ok-settled.ensures.changes loaded run.library enough across status_update.takes part here) rows states in
+    let now_right = c.in_ok-updates.ensures.right loaded run.library enough across in
+    let updates = c.in_ok-updates.updates.items in
+    let only = c.in_ok-updates.ensures.only in
+    let later = status_update.leads (map change_view updates) only
+    (λ part here. c.in_ok-updates.ensures.changes loaded run.library enough across status_update.takes part here) rows states in
     let written = c.in-Ok.ensures.ok lines l loaded reached made of_run active now_right in
     let is = compiled_is c.args.mode c.args.arrival.now.bytes l lines reached c.in-Ok.file read of_run.applied written in
     let done : Compiled = record { reached = reached; file = c.in-Ok.file } in
-    let work = c.in-Ok-accepted.ensures.work ∙ c.work.ensures ∙ c.in_ok-settled.ensures.work loaded run.library enough across ∙ status_update.looks in
+    let work = c.in-Ok-accepted.ensures.work ∙ c.work.ensures ∙ c.in_ok-updates.ensures.work loaded run.library enough across ∙ status_update.looks in
     accepted_outcome c.args.mode c.args.arrival.now l rows done _ c.in-Ok-accepted.outcome is
     (c.in-Ok-accepted.ensures.reply c.args.mode l done made c.requires.passed is
     (record { directory = of_run.directory; idents = of_run.idents; written = refl }))
-    c.in-Ok-accepted.ensures.changes (lead lines l loaded reached run made of_run settled rows shows only later) work
+    c.in-Ok-accepted.ensures.changes (lead lines l loaded reached run made of_run updates rows shows only later) work
     (subst (λ n. length (altered l library) ≤ n) (sym work) (least lines l loaded reached run made of_run))
 
 pub returns-in-Ok-refused-clause-found : goal.returns-in-Ok-refused-clause-found
@@ -42,7 +42,7 @@ returns-in-Ok-refused-clause-found c = λ lines l loaded reached read made of_ru
     let same = ap (λ (k : CountedView). k.library) c.new.ensures in
     let across = status_update.between cache (c.in_ok-cache.ensures.right loaded shown) in
     let enough = subst (λ (m : LibraryView). IsEnough run.applied.touched.items loaded run.library m) (sym same) status_update.enough in
-    let now_right = c.in_ok-settled.ensures.right loaded run.library enough across in
+    let now_right = c.in_ok-updates.ensures.right loaded run.library enough across in
     let fails = c.in-Err.ensures.refused lines l loaded reached made of_run active now_right in
     let is = unfiled_is c.args.mode c.args.arrival.now.bytes l lines reached c.in-Err.fault read of_run.applied
     (fails_is c.in-Err.fault _ c.in-Ok-refused.ensures.kind fails) in

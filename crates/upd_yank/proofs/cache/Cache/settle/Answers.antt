@@ -4,9 +4,9 @@ use Rattle.upd_records.specs.Changes.{change_view, done_all}
 use Rattle.upd_records.specs.Rows.{ShowsStates, same_ref}
 use Rattle.upd_diff.specs.States.{row_changes_state}
 use Rattle.upd_yank.proofs.EnoughLemmas.{sees}
-use Rattle.upd_yank.proofs.OnlyLemmas.{settling_only}
-use Rattle.upd_yank.proofs.RightLemmas.{least_work, settled_right, settled_told}
-use Rattle.upd_yank.proofs.StatusChangeLemmas.{settling_shows}
+use Rattle.upd_yank.proofs.OnlyLemmas.{update_only}
+use Rattle.upd_yank.proofs.RightLemmas.{least_work, updated_right, updates_found}
+use Rattle.upd_yank.proofs.StatusChangeLemmas.{update_shows}
 use Rattle.upd_yank.specs.Right.{CacheView, IsRunBetween}
 use Rattle.upd_yank.specs.StatusChanges.{update_changes}
 use Rattle.upd_yank.proofs.cache.Cache.settle.Goals as goal
@@ -19,7 +19,7 @@ returns-clause-right c = λ old new enough between.
     let left : CacheView = record { states = c.in_ok-left.left.statuses; counts = c.in_ok-left.left.found.counts; work = c.len.result } in
     let known = subst (λ k. IsRunBetween old new k run) (sym c.self.view_is) between in
     let same = λ (r : _). c.in_ok-touched.ensures r ∙ ap (list_any (same_ref r)) c.deref.ensures.value in
-    (settled_right old new l cache run c.in_ok-touched.touched c.in_ok-left.left.found.statuses.items (sees run old new l enough) known same
+    (updated_right old new l cache run c.in_ok-touched.touched c.in_ok-left.left.found.statuses.items (sees run old new l enough) known same
     c.in_ok-left.ensures.found left c.in_ok-left.ensures.counts c.in_ok-left.ensures.statuses).0
 
 pub returns-clause-work : goal.returns-clause-work
@@ -30,7 +30,7 @@ returns-clause-work c = λ old new enough between.
     let left : CacheView = record { states = c.in_ok-left.left.statuses; counts = c.in_ok-left.left.found.counts; work = c.len.result } in
     let known = subst (λ k. IsRunBetween old new k run) (sym c.self.view_is) between in
     let same = λ (r : _). c.in_ok-touched.ensures r ∙ ap (list_any (same_ref r)) c.deref.ensures.value in
-    let both = settled_right old new l cache run c.in_ok-touched.touched c.in_ok-left.left.found.statuses.items (sees run old new l enough) known same
+    let both = updated_right old new l cache run c.in_ok-touched.touched c.in_ok-left.left.found.statuses.items (sees run old new l enough) known same
     c.in_ok-left.ensures.found left c.in_ok-left.ensures.counts c.in_ok-left.ensures.statuses in
     omega (arith, c.len.ensures, c.in_ok-left.left.found.statuses.ok.0, both.1)
 
@@ -51,13 +51,13 @@ returns-clause-changes c = λ old new enough between taken rows shown.
     let known = subst (λ k. IsRunBetween old new k run) (sym c.self.view_is) between in
     let same = λ (r : _). c.in_ok-touched.ensures r ∙ ap (list_any (same_ref r)) c.deref.ensures.value in
     let seen = sees run old new l enough in
-    let right = (settled_right old new l cache run c.in_ok-touched.touched found seen known same c.in_ok-left.ensures.found left
+    let right = (updated_right old new l cache run c.in_ok-touched.touched found seen known same c.in_ok-left.ensures.found left
     c.in_ok-left.ensures.counts c.in_ok-left.ensures.statuses).0 in
-    let settled = settled_told old new l cache run c.in_ok-touched.touched found seen known same c.in_ok-left.ensures.found left gone right taken in
+    let updates = updates_found old new l cache run c.in_ok-touched.touched found seen known same c.in_ok-left.ensures.found left gone right taken in
     let row_changes = c.in_ok-changes.ensures
     ∙ ap (λ cs. update_changes cache.states found left.states (map change_view cs) cache.counts left.counts) c.deref-2.ensures.value in
     subst (λ cs. ShowsStates (done_all cs (done_all gone rows)) new) (sym row_changes)
-    (settling_shows old new cache.states found left.states gone cache.counts left.counts rows settled shown)
+    (update_shows old new cache.states found left.states gone cache.counts left.counts rows updates shown)
 
 pub returns-clause-only : goal.returns-clause-only
 returns-clause-only c =
@@ -68,4 +68,4 @@ returns-clause-only c =
     let had = c.self.inside.counts in
     let has = c.in_ok-left.left.found.counts in
     let row_changes = c.in_ok-changes.ensures ∙ ap (λ cs. update_changes known found kept (map change_view cs) had has) c.deref-2.ensures.value in
-    subst (AllByRecursion (λ c. row_changes_state c ≡ true)) (sym row_changes) (settling_only known found kept gone had has)
+    subst (AllByRecursion (λ c. row_changes_state c ≡ true)) (sym row_changes) (update_only known found kept gone had has)

@@ -1,0 +1,10 @@
+use Rattle.std.proofs.Common.{◌≡◌, ◌++◌, map, drop}
+use Rattle.std.specs.List.{filter, flat_map}
+use Rattle.upd_core.specs.Library.{ref_of}
+use Rattle.upd_core.specs.Reach.{covers}
+use Rattle.upd_core.proofs.counted.add_covered_of_decks.Given as goal
+
+abbrev pub invariant-loop-deck : goal.invariant-loop-deck
+invariant-loop-deck l =
+    l.found.items ++ flat_map (λ d. map (ref_of l.idents) (filter (λ c. covers d.ident c l.target) d.cards)) (drop l.deck-index l.decks)
+    ≡ l.initial.found.items ++ flat_map (λ d. map (ref_of l.idents) (filter (λ c. covers d.ident c l.target) d.cards)) l.decks
