@@ -4,6 +4,5 @@ mod Failures
 mod Listing
 mod VersionRows
 mod Copies
-mod Reading
 mod SameLength
 mod Reports
