@@ -1,12 +1,12 @@
 //! A library out of its rows, which come in any order.
-ghost use Rattle.std.specs.Prelude.{◌≡◌, ℕ, List, IfOk, IsPermutation, length};
+ghost use Rattle.std.specs.Prelude.{◌≡◌, ℕ, List, ◌∷◌, ◌++◌, IfOk, OnOk, IsPermutation, length};
 ghost use Rattle.upd_core.specs.Library.{LibraryView, empty};
 ghost use Rattle.upd_core.specs.Sound.{IsSound, IsWhole};
 ghost use Rattle.upd_core.specs.declared.ident.Ident.{Ident};
-ghost use Rattle.upd_records.specs.Rows.{Rows, Shows};
+ghost use Rattle.upd_records.specs.Rows.{CardRow, EntryRow, Rows, Shows, TargetRow};
 ghost use Rattle.upd_row_store.specs.Assembling.{AreAgesOf, AreByAge, AreEntriesByCard, AreByPlace, AreRowsOf};
-ghost use Rattle.upd_row_store.specs.Assembling.{AreTargetsByCard, age_named, card_of_row, decks_in, entries_of, library_of};
-ghost use Rattle.upd_row_store.specs.Assembling.{targets_of};
+ghost use Rattle.upd_row_store.specs.Assembling.{AreTargetsByCard, age_named, card_of_row, decks_from, decks_in, entries_of};
+ghost use Rattle.upd_row_store.specs.Assembling.{library_of, targets_of};
 ghost use Rattle.upd_core.specs.Parts.{part_of};
 ghost use Rattle.upd_row_store.specs.PartRows.{AreOfDistinctCards, part_rows};
 
@@ -122,40 +122,67 @@ pub fn age_of(ages: &BTreeMap<Name, Serial>, name: &Name) -> Serial
     }
 }
 
-/// The card of a row.
+/// The card of a row, whose text it takes.
 fn card_of(
     alloc: Global,
-    row: &CardRow,
+    row: CardRow,
     ages: &BTreeMap<Name, Serial>,
-    rows: &LibraryRows,
+    entries: &[EntryRow],
+    targets: &[TargetRow],
     places: &mut Places,
 ) -> Result<Card, AllocError>
-    requires ages { AreAgesOf rows.now.idents.items ages.now }
-    requires entries { AreEntriesByCard rows.now.entries.items }
-    requires targets { AreTargetsByCard rows.now.targets.items }
-    ensures { IfOk result (λ card. card
-        ≡ card_of_row rows.now.idents.items rows.now.entries.items rows.now.targets.items row.now) }
+    requires entries { AreEntriesByCard entries.now }
+    requires targets { AreTargetsByCard targets.now }
+    ensures { (idents : List Ident) → AreAgesOf idents ages.now
+        → IfOk result (λ card. card ≡ card_of_row idents entries.now targets.now row) }
 {
-    let text = Vec::from_slice(alloc, &row.body)?;
-    let history = history_of(alloc, &rows.entries, &mut places.entry, &row.card)?;
-    let targets = targets_of(alloc, &rows.targets, &mut places.target, &row.card)?;
+    let history = history_of(alloc, entries, &mut places.entry, &row.card)?;
+    let targets = targets_of(alloc, targets, &mut places.target, &row.card)?;
     Ok(Card {
         ident: age_of(ages, &row.card.name),
         number: row.card.number,
-        text,
+        text: row.body,
         history,
         targets,
     })
 }
 
-/// All decks, `YANK$$$` in front.
-fn decks_in(alloc: Global, rows: &LibraryRows) -> Result<Vec<Deck>, AllocError>
-    requires entries { AreEntriesByCard rows.now.entries.items }
-    requires targets { AreTargetsByCard rows.now.targets.items }
-    ensures { IfOk result (λ decks. decks.items
-        ≡ decks_in rows.now.idents.items rows.now.entries.items rows.now.targets.items rows.now.cards.items) }
+/// Adds a card to the last deck, or begins its deck where that is another one.
+fn add_in_order(
+    decks: &mut Vec<Deck>,
+    deck: &mut Deck,
+    age: Serial,
+    card: Card,
+) -> Result<(), AllocError>
+    ensures { OnOk result ((idents : List Ident) (entries : List EntryRow) (targets : List TargetRow)
+        → (row : CardRow) (rows : List CardRow) → row.deck ≡ age → card ≡ card_of_row idents entries targets row
+        → decks.new.items ++ decks_from idents entries targets deck.new rows
+        ≡ decks.old.items ++ decks_from idents entries targets deck.old (row ∷ rows)) }
 {
-    let ages = held_ages(alloc, &rows.idents)?;
+    if age != deck.ident {
+        let next = Deck {
+            ident: age,
+            cards: Vec::new(*decks.allocator()),
+        };
+        decks.push(mem::replace(deck, next))?;
+    }
+    deck.cards.push(card)?;
+    Ok(())
+}
+
+/// All decks of rows of cards in order, `YANK$$$` in front.
+fn decks_in(
+    alloc: Global,
+    idents: &[Ident],
+    cards: Vec<CardRow>,
+    entries: &[EntryRow],
+    targets: &[TargetRow],
+) -> Result<Vec<Deck>, AllocError>
+    requires entries { AreEntriesByCard entries.now }
+    requires targets { AreTargetsByCard targets.now }
+    ensures { IfOk result (λ decks. decks.items ≡ decks_in idents.now entries.now targets.now cards.items) }
+{
+    let ages = held_ages(alloc, idents)?;
     let mut decks = Vec::new(alloc);
     let mut deck = Deck {
         ident: 0,
@@ -165,16 +192,10 @@ fn decks_in(alloc: Global, rows: &LibraryRows) -> Result<Vec<Deck>, AllocError>
         entry: 0,
         target: 0,
     };
-    for row in &rows.cards {
-        let card = card_of(alloc, row, &ages, rows, &mut places)?;
-        if row.deck != deck.ident {
-            let next = Deck {
-                ident: row.deck,
-                cards: Vec::new(alloc),
-            };
-            decks.push(mem::replace(&mut deck, next))?;
-        }
-        deck.cards.push(card)?;
+    for row in cards {
+        let age = row.deck;
+        let card = card_of(alloc, row, &ages, entries, targets, &mut places)?;
+        add_in_order(&mut decks, &mut deck, age, card)?;
     }
     decks.push(deck)?;
     Ok(decks)
@@ -208,14 +229,12 @@ fn idents_and_decks(alloc: Global, rows: LibraryRows) -> Result<(Vec<Ident>, Vec
     ensures { (tables : Rows) (l : LibraryView) → IsSound l → Shows tables l → AreRowsOf tables rows
         → IfOk result (λ found. library_of found.0.items found.1.items ≡ record l { rest = empty.rest }) }
 {
-    let rows = LibraryRows {
-        idents: by_age(rows.idents),
-        cards: by_place(rows.cards),
-        entries: entries_by_card(rows.entries),
-        targets: targets_by_card(rows.targets),
-    };
-    let decks = decks_in(alloc, &rows)?;
-    Ok((rows.idents, decks))
+    let idents = by_age(rows.idents);
+    let cards = by_place(rows.cards);
+    let entries = entries_by_card(rows.entries);
+    let targets = targets_by_card(rows.targets);
+    let decks = decks_in(alloc, &idents, cards, &entries, &targets)?;
+    Ok((idents, decks))
 }
 
 /// The library of rows that come in any order; memory alone can fail. Where they are no library's rows it is some
