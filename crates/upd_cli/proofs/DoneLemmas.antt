@@ -8,14 +8,14 @@ use Rattle.sqlite.specs.State.{State}
 use Rattle.upd_row_store.specs.declared.meaning.Meaning.{Ghosts}
 use Rattle.upd_io.specs.Inputs.{IsInput}
 use Rattle.upd_edit.specs.declared.editing.TheConstants.{MAX_TEXT_BYTES}
-use Rattle.upd_cli.specs.Command.{Answers, Ending, IsToldOf, answer_to}
+use Rattle.upd_subcommands.specs.Command.{Answers, Ending, IsToldOf, answer_to}
 use Rattle.upd_cli.specs.Commands.{IsDone}
-use Rattle.upd_cli.specs.Inputs.{HandsRunsIn, IsCorrectRequest, IsServeRequest, IsSpoolRequest, IsTryRequest, ReadsFor, ReadsInput, ServesIn, TellsRefusals, TriesRunIn, most_read}
-use Rattle.upd_cli.specs.Trial.{trial_named}
-use Rattle.upd_cli.specs.Words.{IsAskedFor, IsCommand, command_word, operand_word, request_name, word_faults}
-use Rattle.upd_cli.specs.declared.words.Request.{Request}
-use Rattle.upd_cli.specs.declared.words.Request.TheVariants.{Trial, Correct, Shown, Unread}
-use Rattle.upd_cli.proofs.RequestLemmas.{corrects, mistake_status, none_among, not_trial, reads, serves, spools, tells, text_status, trial_mode, trial_or_other, tries, unread_for_none}
+use Rattle.upd_subcommands.specs.Inputs.{HandsRunsIn, IsCorrectRequest, IsServeRequest, IsSpoolRequest, IsTryRequest, ReadsFor, ReadsInput, ServesIn, TellsRefusals, TriesRunIn, most_read}
+use Rattle.upd_subcommands.specs.Trial.{trial_named}
+use Rattle.upd_subcommands.specs.Words.{IsAskedFor, IsCommand, command_word, operand_word, request_name, word_faults}
+use Rattle.upd_subcommands.specs.declared.words.Request.{Request}
+use Rattle.upd_subcommands.specs.declared.words.Request.TheVariants.{Trial, Correct, Shown, Unread}
+use Rattle.upd_subcommands.proofs.RequestLemmas.{corrects, mistake_status, none_among, not_trial, reads, serves, spools, tells, text_status, trial_mode, trial_or_other, tries, unread_for_none}
 
 -- which words a request that has something to it is asked for by
 pub record IsAskedBut (words : List Text) (request : Request) : Type 0 where

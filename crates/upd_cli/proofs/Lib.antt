@@ -1,15 +1,2 @@
-pub mod StreamLemmas
-pub mod TrialLemmas
-pub mod CommandLemmas
-pub mod HelpLemmas
-pub mod WordLemmas
-pub mod AppLemmas
-pub mod RequestLemmas
-pub mod TellingLemmas
-pub mod AskingLemmas
 pub mod LeavingLemmas
-pub mod TriedLemmas
 pub mod DoneLemmas
-pub mod PassedLemmas
-pub mod CountLemmas
-pub mod LineLemmas

@@ -7,50 +7,34 @@ use Rattle.sqlite_wal.specs.Recovery.{Image}
 use Rattle.sqlite.specs.State.{State}
 use Rattle.clap.specs.Words.{Text}
 use Rattle.upd_text.specs.declared.fault.Fault.{Fault}
-use Rattle.upd_text.specs.declared.fault.FaultKind.TheVariants.{BadName}
-use Rattle.upd_text.specs.Outcome.{at_line, need}
 use Rattle.upd_row_store.specs.declared.meaning.Meaning.{Ghosts}
 use Rattle.upd_store.specs.Faults.{IsUnopened}
 use Rattle.upd_http.specs.Serving.{Made, LeadsThrough}
-use Rattle.upd_look.specs.FaultTexts.{explained}
 use Rattle.upd_io.specs.Inputs.{IsInput}
 use Rattle.upd_edit.specs.declared.editing.TheConstants.{MAX_TEXT_BYTES}
 use Rattle.upd_keep.specs.Examining.{ExaminesFile}
 use Rattle.upd_keep.specs.declared.examining.Examined.TheVariants as examined
 use Rattle.upd_keep.specs.declared.examining.Report.{Report}
 use Rattle.upd_keep.specs.declared.examining.Report.TheVariants as report
-use Rattle.upd_cli.specs.Command.{Answers, Ending, IsEnd, IsTold, answer_to}
-use Rattle.upd_cli.specs.Errands.{CorrectsText, DoesErrand, TriesRun}
-use Rattle.upd_cli.specs.ListingFile.{CorrectsListed}
-use Rattle.upd_cli.specs.Listening.{ReportsPlace}
+use Rattle.upd_subcommands.specs.Command.{Answers, Ending, IsEnd, IsEndOf, IsTold, answer_to}
+use Rattle.upd_subcommands.specs.Explaining.{IsExplained}
+use Rattle.upd_subcommands.specs.Errands.{CorrectsText, DoesErrand, TriesRun}
+use Rattle.upd_subcommands.specs.ListingFile.{CorrectsListed}
+use Rattle.upd_subcommands.specs.Listening.{ReportsPlace}
 use Rattle.upd_cli.specs.Opened.{IsLibraryIn, IsWarmed, MakesLibrary, MigratesLibrary, OnFile}
-use Rattle.upd_cli.specs.Operands.{IsNoAddress, errand_of}
-use Rattle.upd_cli.specs.Status.{exit_status, fault_line, no_memory}
+use Rattle.upd_subcommands.specs.Operands.{IsNoAddress, errand_of}
+use Rattle.upd_subcommands.specs.Status.{exit_status, fault_line, no_memory}
 use Rattle.upd_cli.specs.Stored.{ReportsList}
-use Rattle.upd_cli.specs.Streams.{IsFrontOf, IsRunOn}
-use Rattle.upd_cli.specs.Telling.{TellsText, Writes}
-use Rattle.upd_cli.specs.Trial.{trial_named}
-use Rattle.upd_cli.specs.Words.{IsAskedFor}
-use Rattle.upd_cli.specs.declared.errands.Errand.{Errand}
+use Rattle.upd_subcommands.specs.Streams.{IsFrontOf, IsRunOn}
+use Rattle.upd_subcommands.specs.Telling.{Writes}
+use Rattle.upd_subcommands.specs.Trial.{trial_named}
+use Rattle.upd_subcommands.specs.Words.{IsAskedFor}
+use Rattle.upd_subcommands.specs.declared.errands.Errand.{Errand}
 use Rattle.upd_cli.specs.declared.stored.Stored.{Stored}
 use Rattle.upd_cli.specs.declared.stored.Stored.TheVariants as stored
-use Rattle.upd_cli.specs.declared.words.Asked.{Asked}
-use Rattle.upd_cli.specs.declared.words.Request.{Request}
-use Rattle.upd_cli.specs.declared.words.Request.TheVariants.{Trial, Init, Library, Serve, Correct, Try, Runs, Sites, Backup, Examine, Migrate, Explain, Shown, Unread}
-
--- the exit status of a command that ended so; its fault, if any, is reported by its line
-abbrev pub IsEndOf : Result ℕ Fault → ℕ → Option (List ℕ) → Option (List ℕ) → Type 0
-IsEndOf (Ok meant) status faults faults' = (status ≡ meant) × Appends faults faults' []
-IsEndOf (Err fault) status faults faults' = IsTold (exit_status fault.kind) (fault_line fault) status faults faults'
-
--- the explanation of the fault that a word names; another word is BadName
-abbrev pub explained_fault : List ℕ → Result (List ℕ) Fault
-explained_fault word = at_line 0 (need BadName (explained word))
-
--- an explanation was reported, and output, fault stream and status tell how
-abbrev pub IsExplained : List ℕ → Ending → Type 0
-IsExplained word end =
-    (ended : Result ℕ Fault) × TellsText (explained_fault word) ended end.output end.output' × IsEndOf ended end.status end.faults end.faults'
+use Rattle.upd_subcommands.specs.declared.words.Asked.{Asked}
+use Rattle.upd_subcommands.specs.declared.words.Request.{Request}
+use Rattle.upd_subcommands.specs.declared.words.Request.TheVariants.{Trial, Init, Library, Serve, Correct, Try, Runs, Sites, Backup, Examine, Migrate, Explain, Shown, Unread}
 
 -- memory, the store or a read failed before anything was told: the line of that is reported, and nothing is on the output
 abbrev pub FailsFirst : Ending → Type 0

@@ -1,16 +1,4 @@
-pub mod Status
 pub mod Stored
-pub mod Streams
-pub mod Words
-pub mod Trial
-pub mod Operands
-pub mod Command
-pub mod Inputs
-pub mod Telling
-pub mod Correcting
-pub mod ListingFile
-pub mod Listening
-pub mod Errands
 pub mod Opened
 pub mod Commands
 pub mod CommandLine

@@ -6,7 +6,7 @@ use Rattle.upd_records.specs.Rows.{Rows}
 use Rattle.upd_row_store.specs.Keeping.{IsLost}
 use Rattle.upd_sql.specs.LibraryTables.{ShowsTables}
 use Rattle.upd_keep.specs.Keeping.{HasRunLines, HasSiteLines}
-use Rattle.upd_cli.specs.Telling.{TellsText}
+use Rattle.upd_subcommands.specs.Telling.{TellsText}
 use Rattle.upd_cli.specs.declared.stored.Stored.{Stored}
 use Rattle.upd_cli.specs.declared.stored.Stored.TheVariants.{Runs, Sites}
 

@@ -1,40 +1,28 @@
 //! Carries out a command line over any input, output and fault stream.
-ghost use Rattle.std.specs.Prelude.{◌≡◌, ◌≢◌, ◌⊎◌, ◌+◌, ℕ, IfErr, List, None, map};
-ghost use Rattle.std.specs.IoError.{error_kind};
-ghost use Rattle.upd_io.specs.Inputs.{IsInput};
-ghost use Rattle.upd_compile.specs.Modes.{mode_named};
-ghost use Rattle.upd_cli.specs.Command.{EndsTrial, GivesUnlessFailed, IsTold, ending};
+ghost use Rattle.std.specs.Prelude.{◌≡◌, ◌≢◌, ◌⊎◌, ◌+◌, map};
+ghost use Rattle.upd_subcommands.specs.Command.{ending};
 ghost use Rattle.upd_cli.specs.CommandLine.{RunsCommand};
 ghost use Rattle.sqlite.specs.Files.{file_state};
 ghost use Rattle.sqlite_wal.specs.Files.{image_at};
-ghost use Rattle.upd_cli.specs.Commands.{IsCarriedOut, IsCorrected, IsDone, IsExplained, IsListed, IsServed, IsTried};
-ghost use Rattle.upd_cli.specs.Status.{exit_status, fault_line, no_memory, no_words_line};
-ghost use Rattle.upd_cli.specs.Streams.{TakesFront, stream};
+ghost use Rattle.upd_cli.specs.Commands.{IsCarriedOut, IsCorrected, IsDone, IsListed, IsServed, IsTried};
+ghost use Rattle.upd_subcommands.specs.Streams.{TakesFront, stream};
 ghost use Rattle.upd_edit.specs.declared.editing.TheConstants.{MAX_TEXT_BYTES};
 ghost use Rattle.upd_text.specs.declared.limits.TheConstants.{MAX_RUN_BYTES};
-ghost use Rattle.upd_cli.specs.Trial.{trial_named};
-ghost use Rattle.upd_cli.specs.Inputs.{IsHandIn, IsServeRequest, IsSpoolCommand, IsSpoolRequest, IsTryRequest, ReadsFor, TellsRefusals, most_read};
+ghost use Rattle.upd_subcommands.specs.Inputs.{IsHandIn, IsServeRequest, IsSpoolCommand, IsSpoolRequest, IsTryRequest, ReadsFor, TellsRefusals, most_read};
 
 use crate::examined::report_on;
-use crate::explaining::explain_fault;
 use crate::library::{
     FileRows, backup_on, correct_on, errand_on, init_file, migrate_file, serve, try_on,
 };
-use crate::operands::read_address;
-use crate::status::{FAILED, UNREAD, finish};
 use crate::stored::{Stored, list_on};
-use crate::streams::{read_input, write_out};
-use crate::trial_run::{read_mode, trial};
-use crate::words::{Asked, Request, read_words};
 use sqlite::{Start, Unknown};
-use std::alloc::{AllocError, Global};
 use std::convert::AsStr;
-use std::io;
-use std::io::{ErrorKind, Read, Write};
-use upd_compile::CompileFile;
-use upd_io::write_parts;
+use std::io::{Read, Write};
 use upd_row_store::Meaning;
-use upd_text::Fault;
+use upd_subcommands::{
+    Asked, Request, carry_out_explaining, carry_out_trial, finish, read_address, read_words,
+    tell_unread, write_out,
+};
 
 /// Carries out the command line `words`, the program's own name first, and returns the exit status: 0 where all is
 /// done; 1 for a refusal, whose line goes to `faults`, or to the output where the desk refuses the run of `run`; 2
@@ -127,36 +115,6 @@ fn carry_out<St: Start, R: Read, W: Write, E: Write>(
     }
 }
 
-/// The exit status where the words of the command line are not available: 3 out of memory, and else 2. A line on
-/// `faults` says so.
-pub fn report_words<E: Write>(error: &io::Error, faults: &mut E) -> u8
-    ensures memory { error_kind error.now ≡ ErrorKind.OutOfMemory
-        → IsTold 3 (fault_line no_memory) result (E.contents faults.old) (E.contents faults.new) }
-    ensures other { error_kind error.now ≢ ErrorKind.OutOfMemory
-        → IsTold 2 no_words_line result (E.contents faults.old) (E.contents faults.new) }
-{
-    if error.kind() == ErrorKind::OutOfMemory {
-        return finish(Err(Fault::from(AllocError)), faults);
-    }
-    match write_out(
-        faults,
-        b"error: the words of the command line can't be read as text\n",
-    ) {
-        Ok(()) => UNREAD,
-        Err(_) => FAILED,
-    }
-}
-
-/// The exit status where the words are not a command line. A text says why.
-fn tell_unread<E: Write>(text: &[&[u8]], faults: &mut E) -> u8
-    ensures { (result ≡ 2) ⊎ (result ≡ 3) }
-{
-    match write_parts(faults, text) {
-        Ok(()) => UNREAD,
-        Err(_) => FAILED,
-    }
-}
-
 /// A command that asks the desk of the library in a file.
 fn carry_out_errand<St: Start, R: Read, W: Write, E: Write>(
     rt: &HostRuntime,
@@ -246,19 +204,6 @@ fn carry_out_listing<St: Start, W: Write, E: Write>(
     }
 }
 
-/// `explain`: what is said of a fault goes to the output.
-fn carry_out_explaining<W: Write, E: Write>(fault: &str, output: &mut W, faults: &mut E) -> u8
-    ensures told { IsExplained fault.now
-        (ending result (W.contents output.old) (W.contents output.new) (E.contents faults.old) (E.contents faults.new)) }
-    ensures silent { (result ≡ 1) ⊎ (result ≡ 2) → output.new ≡ output.old }
-    ensures clean { result ≡ 0 → faults.new ≡ faults.old }
-{
-    match explain_fault(fault, output) {
-        Ok(status) => status,
-        Err(fault) => finish(Err(fault), faults),
-    }
-}
-
 /// `serve`: where it listens goes to `faults`. An address that is not valid is a usage error.
 fn carry_out_serving<St: Start, E: Write>(
     rt: &HostRuntime,
@@ -283,33 +228,4 @@ fn carry_out_serving<St: Start, E: Write>(
     };
     let ended = serve(rt, file, start, reachable, count, faults);
     finish(ended, faults)
-}
-
-/// `trial MODE`: the compile file of the run on the input goes to the output.
-fn carry_out_trial<R: Read, W: Write>(
-    alloc: Global,
-    mode: &str,
-    input: &mut R,
-    output: &mut W,
-) -> Result<(), Fault>
-    ensures ends { (run : List ℕ) × IsInput (R.remaining input.old) run
-        × EndsTrial result (W.contents output.old) (W.contents output.new) (trial_named mode.now run) }
-    ensures front { TakesFront (MAX_RUN_BYTES + 1) (R.remaining input.old) (R.remaining input.new) }
-    ensures waits { mode_named mode.now ≡ None → input.new ≡ input.old }
-    ensures silent { IfErr result (λ fault. exit_status fault.kind ≡ 1 → output.new ≡ output.old) }
-{
-    let file = trial_of_input(alloc, mode, input)?;
-    write_out(output, &file.bytes)
-}
-
-/// The compile file of the run on the input. The mode is looked at before the input is read.
-fn trial_of_input<R: Read>(alloc: Global, mode: &str, input: &mut R) -> Result<CompileFile, Fault>
-    ensures gives { (run : List ℕ) × IsInput (R.remaining input.old) run × GivesUnlessFailed result (trial_named mode.now run) }
-    ensures front { TakesFront (MAX_RUN_BYTES + 1) (R.remaining input.old) (R.remaining input.new) }
-    ensures waits { mode_named mode.now ≡ None → input.new ≡ input.old }
-{
-    let mode = read_mode(mode)?;
-    let run = read_input(alloc, input)?;
-    let file = trial(alloc, mode, &run)?;
-    Ok(file)
 }

@@ -2,17 +2,16 @@
 ghost use Rattle.std.specs.Prelude.{◌≡◌, ◌⊎◌, ◌++◌, ℕ, Result};
 ghost use Rattle.sqlite.specs.Files.{file_state};
 ghost use Rattle.sqlite_wal.specs.Files.{image_at};
-ghost use Rattle.upd_cli.specs.Command.{IsTold, ending};
-ghost use Rattle.upd_cli.specs.Commands.{IsEndOf, IsExamined, TellsReport, log_line, situation_line};
-ghost use Rattle.upd_cli.specs.Telling.{Writes};
+ghost use Rattle.upd_subcommands.specs.Command.{IsEndOf, IsTold, ending};
+ghost use Rattle.upd_cli.specs.Commands.{IsExamined, TellsReport, log_line, situation_line};
+ghost use Rattle.upd_subcommands.specs.Telling.{Writes};
 ghost use Rattle.upd_text.specs.declared.fault.Fault.{Fault};
 
-use crate::status::{DONE, FAILED, REFUSED, finish};
-use crate::streams::write_parts_out;
 use sqlite::{FileFrom, Start};
 use sqlite_disk::Disk;
 use std::io::Write;
 use upd_keep::{Examined, Report, examine};
+use upd_subcommands::{DONE, FAILED, REFUSED, finish, write_parts_out};
 
 /// What is at a path goes to the output where it is a sound library, and else to the fault stream. Returns the exit
 /// status.

@@ -2,26 +2,19 @@
 ghost use Rattle.std.specs.Prelude.{◌≡◌, ◌≢◌, ◌≤◌, ◌⊎◌, ◌+◌, ℕ, List, length, IfErr, IfOk, IsErrAnd, OnErr, OnOk, Result};
 ghost use Rattle.sqlite.specs.Files.{file_state};
 ghost use Rattle.sqlite_wal.specs.Files.{image_at};
-ghost use Rattle.upd_cli.specs.Command.{ending};
+ghost use Rattle.upd_subcommands.specs.Command.{ending};
 ghost use Rattle.upd_cli.specs.Commands.{CorrectsOn, Leaves, ServesReporting};
-ghost use Rattle.upd_cli.specs.Errands.{CorrectsText, TriesRun};
-ghost use Rattle.upd_cli.specs.Inputs.{IsHandIn, IsSpoolCommand};
-ghost use Rattle.upd_cli.specs.Listening.{ReportsPlace};
+ghost use Rattle.upd_subcommands.specs.Errands.{CorrectsText, TriesRun};
+ghost use Rattle.upd_subcommands.specs.Inputs.{IsHandIn, IsSpoolCommand};
+ghost use Rattle.upd_subcommands.specs.Listening.{ReportsPlace};
 ghost use Rattle.upd_cli.specs.Opened.{IsOpened, IsWarmed, MakesLibrary, MigratesLibrary, OnFile};
-ghost use Rattle.upd_cli.specs.Status.{exit_status, read_failed};
-ghost use Rattle.upd_cli.specs.Streams.{IsFrontOf, IsRunOn, TakesFront};
+ghost use Rattle.upd_subcommands.specs.Status.{exit_status, read_failed};
+ghost use Rattle.upd_subcommands.specs.Streams.{IsFrontOf, IsRunOn, TakesFront};
 ghost use Rattle.upd_edit.specs.declared.editing.TheConstants.{MAX_TEXT_BYTES};
 ghost use Rattle.upd_store.specs.Faults.{IsUnopened};
 ghost use Rattle.upd_http.specs.Serving.{LeadsThrough, Made};
 ghost use Rattle.upd_text.specs.declared.limits.TheConstants.{MAX_RUN_BYTES};
 
-use crate::arriving::try_run;
-use crate::correcting::correct_text;
-use crate::errands::{do_errand, read_errand};
-use crate::listening::report_place;
-use crate::listing_file::{correct_listing, read_listing};
-use crate::streams::{read_front, read_input};
-use crate::words::Asked;
 use sqlite::Start;
 use std::alloc::Global;
 use std::io::{Read, Write};
@@ -35,9 +28,13 @@ use upd_mirror::MirrorStore;
 use upd_row_store::{Meaning, RowStore};
 use upd_store::SqlStore;
 use upd_store::file::{FileLibrary, close, connect, create};
+use upd_subcommands::{
+    Asked, correct_listing, correct_text, do_errand, read_errand, read_front, read_input,
+    read_listing, report_place, try_run,
+};
 use upd_text::{Fault, FaultKind};
 
-/// The library in a file, with its rows in memory once it has committed twice.
+/// The library in a file, with its rows in memory once they were read: by `warm`, or in a commit after the first.
 pub(crate) type FileRows<St> = MirrorStore<FileLibrary<St>>;
 
 /// What a command asks of the desk of the library in a file, and returns the exit status. Operands are read before the

@@ -5,12 +5,10 @@ ghost use Rattle.sqlite.specs.Files.{file_state};
 ghost use Rattle.sqlite.specs.Held.{state};
 ghost use Rattle.sqlite_wal.specs.Files.{image_at};
 ghost use Rattle.upd_cli.specs.Commands.{LeavesList};
-ghost use Rattle.upd_cli.specs.Status.{exit_status};
+ghost use Rattle.upd_subcommands.specs.Status.{exit_status};
 ghost use Rattle.upd_cli.specs.Stored.{ReportsList, ShowsList};
 
 use crate::library::FileRows;
-use crate::status::DONE;
-use crate::streams::write_out;
 use sqlite::{Connection, Start};
 use std::alloc::Global;
 use std::io::Write;
@@ -18,6 +16,7 @@ use upd_keep::{runs_text, sites_text};
 use upd_row_store::Meaning;
 use upd_sqlite::Rising;
 use upd_store::SqlStore;
+use upd_subcommands::{DONE, write_out};
 use upd_text::Fault;
 
 /// What is listed of what a library stores.

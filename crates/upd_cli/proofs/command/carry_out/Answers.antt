@@ -1,13 +1,13 @@
 use Rattle.std.proofs.Common.{inl, inr, sym, subst}
 use Rattle.std.proofs.KnownBytes.{Appends-nil}
 use Rattle.upd_compile.specs.Modes.{mode_named}
-use Rattle.upd_cli.specs.Inputs.{IsSpoolRequest, ReadsFor, most_read}
-use Rattle.upd_cli.specs.Streams.{TakesFront}
-use Rattle.upd_cli.specs.Trial.{trial_named}
-use Rattle.upd_cli.specs.declared.words.Request.{Request}
-use Rattle.upd_cli.proofs.CommandLemmas.{answered}
+use Rattle.upd_subcommands.specs.Inputs.{IsSpoolRequest, ReadsFor, most_read}
+use Rattle.upd_subcommands.specs.Streams.{TakesFront}
+use Rattle.upd_subcommands.specs.Trial.{trial_named}
+use Rattle.upd_subcommands.specs.declared.words.Request.{Request}
+use Rattle.upd_subcommands.proofs.CommandLemmas.{answered}
 use Rattle.upd_cli.proofs.DoneLemmas.{done_as}
-use Rattle.upd_cli.proofs.RequestLemmas.{none_of}
+use Rattle.upd_subcommands.proofs.RequestLemmas.{none_of}
 use Rattle.upd_cli.proofs.command.carry_out.Goals as goal
 
 pub returns-in-Trial-clause-done : goal.returns-in-Trial-clause-done

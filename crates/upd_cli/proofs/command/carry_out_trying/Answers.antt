@@ -1,8 +1,9 @@
 use Rattle.std.proofs.Common.{ℕ, List, Option, inl, inr, ap, sym, subst}
 use Rattle.upd_cli.specs.Commands.{FailsFirst}
-use Rattle.upd_cli.specs.Command.{IsTold, ending}
-use Rattle.upd_cli.specs.Status.{exit_status, fault_line}
-use Rattle.upd_cli.proofs.LeavingLemmas.{fails_first, told_no_mistake}
+use Rattle.upd_subcommands.specs.Command.{IsTold, ending}
+use Rattle.upd_subcommands.specs.Status.{exit_status, fault_line}
+use Rattle.upd_subcommands.proofs.FailingLemmas.{told_no_mistake}
+use Rattle.upd_cli.proofs.LeavingLemmas.{fails_first}
 use Rattle.upd_cli.proofs.command.carry_out_trying.Goals as goal
 
 pub returns-in-Ok-clause-told : goal.returns-in-Ok-clause-told

@@ -5,16 +5,16 @@ use Rattle.upd_io.proofs.InputLemmas.{some_input}
 use Rattle.upd_text.specs.declared.fault.Fault.{Fault}
 use Rattle.upd_text.specs.declared.limits.TheConstants.{MAX_RUN_BYTES}
 use Rattle.upd_edit.specs.declared.editing.TheConstants.{MAX_TEXT_BYTES}
-use Rattle.upd_cli.specs.Command.{IsTold}
-use Rattle.upd_cli.specs.Inputs.{most_read}
-use Rattle.upd_cli.specs.Status.{exit_status, fault_line}
-use Rattle.upd_cli.specs.Streams.{TakesFront}
-use Rattle.upd_cli.specs.Trial.{trial_named}
-use Rattle.upd_cli.specs.Words.{operand_word}
-use Rattle.upd_cli.proofs.CommandLemmas.{answered_at_once, memory_status}
+use Rattle.upd_subcommands.specs.Command.{IsTold}
+use Rattle.upd_subcommands.specs.Inputs.{most_read}
+use Rattle.upd_subcommands.specs.Status.{exit_status, fault_line}
+use Rattle.upd_subcommands.specs.Streams.{TakesFront}
+use Rattle.upd_subcommands.specs.Trial.{trial_named}
+use Rattle.upd_subcommands.specs.Words.{operand_word}
+use Rattle.upd_subcommands.proofs.CommandLemmas.{answered_at_once, memory_status}
 use Rattle.upd_cli.proofs.DoneLemmas.{asked_but, reads_text, trial_done, unread_done}
-use Rattle.upd_cli.proofs.RequestLemmas.{reads_run}
-use Rattle.upd_cli.proofs.StreamLemmas.{takes_more, takes_nothing}
+use Rattle.upd_subcommands.proofs.RequestLemmas.{reads_run}
+use Rattle.upd_subcommands.proofs.StreamLemmas.{takes_more, takes_nothing}
 use Rattle.upd_cli.proofs.command.run_command_from.Goals as goal
 
 pub returns-in-Ok : goal.returns-in-Ok

@@ -1,7 +1,7 @@
 use Rattle.std.proofs.Common.{List, ℕ, ◌+◌, subst, sym}
 use Rattle.upd_edit.specs.declared.editing.TheConstants.{MAX_TEXT_BYTES}
-use Rattle.upd_cli.specs.Streams.{IsFrontOf}
-use Rattle.upd_cli.proofs.LeavingLemmas.{ok_with, unread_passed_fails}
+use Rattle.upd_subcommands.specs.Streams.{IsFrontOf}
+use Rattle.upd_subcommands.proofs.FailingLemmas.{ok_with, unread_passed_fails}
 use Rattle.upd_cli.proofs.library.correct_on.Goals as goal
 
 pub returns-in_err-text-clause-failed : goal.returns-in_err-text-clause-failed

@@ -1,6 +1,7 @@
 use Rattle.std.proofs.Common.{List, ℕ, subst, sym}
-use Rattle.upd_cli.specs.Streams.{IsRunOn}
-use Rattle.upd_cli.proofs.LeavingLemmas.{passed_fails, unread_passed_fails}
+use Rattle.upd_subcommands.specs.Streams.{IsRunOn}
+use Rattle.upd_subcommands.proofs.FailingLemmas.{unread_passed_fails}
+use Rattle.upd_cli.proofs.LeavingLemmas.{passed_fails}
 use Rattle.upd_cli.proofs.library.try_on.Goals as goal
 
 pub returns-in_err-run-clause-failed : goal.returns-in_err-run-clause-failed

@@ -1,0 +1,31 @@
+-- A run that was tried: its reply and its warnings, made one after the other.
+use Rattle.std.proofs.Common.{◌≡◌, ℕ, List, Result, Ok, sym, subst}
+use Rattle.upd_text.specs.declared.fault.Fault.{Fault}
+use Rattle.upd_core.specs.Library.{LibraryView}
+use Rattle.upd_row_store.specs.declared.meaning.Meaning.{Ghosts}
+use Rattle.upd_row_store.specs.Keeping.{Keeps}
+use Rattle.upd_row_store.proofs.StoreLemmas.{keeps_keeps}
+use Rattle.upd_desk.specs.Holding.{HoldsIn, IsHeld, Tells}
+use Rattle.upd_desk.specs.Journal.{Journal}
+use Rattle.upd_desk.specs.Outcomes.{ReplyView, reply_on}
+use Rattle.upd_edit.specs.Trying.{tried}
+use Rattle.upd_edit.specs.Warnings.{warning_lines}
+use Rattle.upd_subcommands.specs.Errands.{IsTriedAs}
+
+module _ {S : Type 0} (meaning : Ghosts S) where
+  open meaning use {shows, image, is_open, is_honest}
+
+  -- what a read leaves holds the journals that were held before
+  held_still : (old mid : S) → Keeps meaning old mid → is_honest mid → (journal : Journal) → IsHeld meaning journal old → IsHeld meaning journal mid
+  held_still old mid keeps honest journal held = λ is.
+      subst (HoldsIn shows journal) (sym (keeps.same honest is)) (held (keeps.later.was_open honest is))
+
+  pub tried_as : (mode run : List ℕ) (answer : Result ReplyView Fault) (warnings : Result (List ℕ) Fault) (old mid new : S)
+      → Tells meaning (reply_on (tried mode run)) answer old mid → Keeps meaning old mid
+      → Tells meaning (λ l. Ok (warning_lines run l)) warnings mid new → Keeps meaning mid new
+      → IsTriedAs meaning mode run answer warnings old new
+  tried_as mode run answer warnings old mid new replies first warns second = record {
+    reply = λ honest journal held. replies (second.later.honest honest) journal held;
+    warns = λ honest journal held. warns honest journal (held_still old mid first (second.later.honest honest) journal held);
+    same = keeps_keeps first second;
+  }

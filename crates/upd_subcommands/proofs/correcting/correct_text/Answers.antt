@@ -1,0 +1,38 @@
+use Rattle.std.proofs.Common.{ℕ, List, Ok, Err, subst}
+use Rattle.std.proofs.KnownBytes.{Appends-nil}
+use Rattle.upd_correct.specs.declared.refusal.Refusal.{Refusal}
+use Rattle.upd_edit.specs.declared.editing.EditError.TheVariants.{Failed, Refused}
+use Rattle.upd_subcommands.specs.Command.{ending}
+use Rattle.upd_subcommands.specs.Correcting.{IsRefusedBy, TellsCorrection}
+use Rattle.upd_subcommands.specs.Errands.{IsCorrection}
+use Rattle.upd_subcommands.proofs.correcting.correct_text.Goals as goal
+
+pub returns-in-Ok-clause-tells : goal.returns-in-Ok-clause-tells
+returns-in-Ok-clause-tells g c =
+    let IsRight : List ℕ → Type 0 =
+    λ set. IsCorrection g.S.Meaning set c.args.text.now (Ok c.in-Ok.run'.items) c.args.desk.now.store c.correct_at.new.desk.store in
+    let IsTold : List ℕ → Type 0 =
+    λ run. TellsCorrection (Ok run) (ending c.write_run.result (g.W.Write.contents c.args.output.now) (g.W.Write.contents c.write_run.new.output)
+    (g.E.Write.contents c.args.faults.now) (g.E.Write.contents c.write_run.new.faults)) in (
+      Ok c.in-Ok.run'.items,
+      subst IsRight c.as_bytes.ensures.value
+          (record { corrects = c.in-Ok.ensures.corrects; short = c.in-Ok.ensures.short; same = c.in-Ok.ensures.same }),
+      subst IsTold c.deref.ensures.value c.write_run.ensures.tells,
+    )
+
+pub returns-in-Err-Failed-clause-tells : goal.returns-in-Err-Failed-clause-tells
+returns-in-Err-Failed-clause-tells g c = (
+  Err (Failed c.in-Err-Failed.fault),
+  record { corrects = λ honest journal held. tt; short = tt; same = c.in-Err-Failed.ensures.same },
+  (c.finish.ensures.told, Appends-nil (g.W.Write.contents c.args.output.now)),
+)
+
+pub returns-in-Err-Refused-clause-tells : goal.returns-in-Err-Refused-clause-tells
+returns-in-Err-Refused-clause-tells g c =
+    let IsTold : List Refusal → Type 0 =
+    λ refusals. IsRefusedBy refusals c.tell_refusals.result (g.E.Write.contents c.args.faults.now)
+    (g.E.Write.contents c.tell_refusals.new.faults) in (
+      Err (Refused c.in-Err-Refused.refusals),
+      record { corrects = λ honest journal held. tt; short = tt; same = c.in-Err-Refused.ensures.same },
+      (subst IsTold c.deref-in-Err-Refused.ensures.value c.tell_refusals.ensures.told, Appends-nil (g.W.Write.contents c.args.output.now)),
+    )

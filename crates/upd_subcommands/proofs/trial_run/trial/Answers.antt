@@ -1,0 +1,5 @@
+use Rattle.std.proofs.Common.{rules}
+use Rattle.upd_subcommands.proofs.trial_run.trial.Goals as goal
+
+pub returns : goal.returns
+returns c = search rules

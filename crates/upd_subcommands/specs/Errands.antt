@@ -1,0 +1,122 @@
+-- What commands do at a desk: what they ask, what the desk answers, and how that is reported.
+use Rattle.std.specs.Prelude.{◌≡◌, ◌≤◌, ◌⊎◌, ℕ, List, [], length, Option, Result, Ok, Err, IfOk, OnOk, IsErrAnd}
+use Rattle.std.specs.Io.KnownBytes.{Appends}
+use Rattle.std.specs.Result.{result_map_both}
+use Rattle.upd_text.specs.declared.fault.Fault.{Fault}
+use Rattle.upd_core.specs.Library.{LibraryView}
+use Rattle.upd_row_store.specs.declared.meaning.Meaning.{Ghosts}
+use Rattle.upd_row_store.specs.Keeping.{CountsFailure, Keeps}
+use Rattle.upd_compile.specs.File.{FileView, compile_file_of}
+use Rattle.upd_compile.specs.Listings.{card_listing, deck_listing, ident_listing, yank_listing}
+use Rattle.upd_compile.specs.declared.mode.Mode.TheVariants as mode
+use Rattle.upd_desk.specs.Holding.{Arrives, EachHeld, Settles, Tells}
+use Rattle.upd_desk.specs.Outcomes.{ReplyView, reply_on}
+use Rattle.upd_subcommands.specs.Command.{Ending}
+use Rattle.upd_subcommands.specs.Status.{no_memory, read_failed}
+use Rattle.upd_subcommands.specs.Streams.{IsRunOn}
+use Rattle.upd_subcommands.specs.Correcting.{TellsCorrection}
+use Rattle.upd_subcommands.specs.Telling.{TellsMark, TellsRun, TellsText, TellsTried}
+use Rattle.upd_edit.specs.ActiveText.{active_text}
+use Rattle.upd_edit.specs.Source.{source}
+use Rattle.upd_edit.specs.Trying.{tried}
+use Rattle.upd_edit.specs.Warnings.{warning_lines}
+use Rattle.upd_edit.specs.declared.editing.TheConstants.{MAX_TEXT_BYTES}
+use Rattle.upd_edit.specs.declared.editing.EditError.{EditError}
+use Rattle.upd_correct.specs.Correcting.{CorrectsTo}
+use Rattle.upd_look.specs.Blame.{blame}
+use Rattle.upd_look.specs.IdentReport.{show}
+use Rattle.upd_look.specs.LibraryPage.{page}
+use Rattle.upd_desk.specs.Journal.{library_after}
+use Rattle.upd_spool.specs.Spools.{Ends}
+use Rattle.upd_subcommands.specs.declared.errands.Errand.{Errand}
+use Rattle.upd_subcommands.specs.declared.errands.Errand.TheVariants as errand
+use Rattle.upd_subcommands.specs.declared.asking.Form.{Form}
+use Rattle.upd_subcommands.specs.declared.asking.Form.TheVariants.{Listing, Blame, Text, Source}
+use Rattle.upd_subcommands.specs.declared.asking.Question.{Question}
+use Rattle.upd_subcommands.specs.declared.asking.Question.TheVariants.{Compile, Deck, Card, Ident, Idents, Yanks, Page}
+
+-- the bytes of a compile file
+abbrev pub file_text : Result FileView Fault → Result (List ℕ) Fault
+file_text file = result_map_both (λ f. f.bytes) (λ fault. fault) file
+
+-- a deck of a library in a form
+abbrev pub deck_in : Form → List ℕ → LibraryView → Result (List ℕ) Fault
+deck_in Listing name l = deck_listing name l
+deck_in Blame name l = blame name l
+deck_in Text name l = active_text name l
+deck_in Source name l = file_text (source name l)
+
+-- what a question is answered of a library
+abbrev pub answer_text : Question → LibraryView → Result (List ℕ) Fault
+answer_text Compile l = file_text (compile_file_of mode.Full [] l l)
+answer_text (Deck form name) l = deck_in form name l
+answer_text (Card card) l = card_listing card l
+answer_text (Ident name) l = show name l
+answer_text Idents l = Ok (ident_listing l)
+answer_text Yanks l = Ok (yank_listing l)
+answer_text Page l = Ok (page l)
+
+-- the input can't be read, or there is no memory for it
+abbrev pub IsUnread : Result ℕ Fault → Type 0
+IsUnread result = IsErrAnd result (λ fault. (fault ≡ no_memory) ⊎ (fault ≡ read_failed))
+
+module _ {S : Type 0} (meaning : Ghosts S) where
+  -- The run on the input arrived, and its answer was told; or the input wasn't read, and nothing was asked or told.
+  abbrev pub HandsIn : List ℕ → ℕ → List ℕ → Option (List ℕ) → Result ℕ Fault → S → S → Option (List ℕ) → Option (List ℕ) → Type 0
+  HandsIn site number mode input result old new output output' =
+      ((bytes : List ℕ) × (answer : Result ReplyView Fault) × IsRunOn input bytes
+      × Arrives meaning (record { site = site; number = number; mode = mode; bytes = bytes }) answer old new
+      × CountsFailure meaning answer old new × TellsRun answer result output output')
+      ⊎ ((new ≡ old) × IsUnread result × Appends output output' [])
+
+  -- a run was tried: here are the reply that it would get and its warnings, and nothing is changed
+  pub record IsTriedAs (mode run : List ℕ) (answer : Result ReplyView Fault) (warnings : Result (List ℕ) Fault) (old new : S) : Type 0 where
+    pub reply : Tells meaning (reply_on (tried mode run)) answer old new
+    pub warns : Tells meaning (λ l. Ok (warning_lines run l)) warnings old new
+    pub same : Keeps meaning old new
+
+  -- a run was tried, and its reply and its warnings were told
+  abbrev pub TriesRun : List ℕ → List ℕ → S → S → Ending → Type 0
+  TriesRun mode run old new end =
+      (answer : Result ReplyView Fault) × (warnings : Result (List ℕ) Fault) × IsTriedAs mode run answer warnings old new
+      × TellsTried answer warnings end
+
+  -- A run, if there is one, leads decks of the library to an edited text. Nothing is changed.
+  pub record IsCorrection (set text : List ℕ) (answer : Result (List ℕ) EditError) (old new : S) : Type 0 where
+    pub corrects : EachHeld meaning old new (λ journal. IfOk answer (CorrectsTo (library_after journal) set text))
+    pub short : OnOk answer (length text ≤ MAX_TEXT_BYTES)
+    pub same : Keeps meaning old new
+
+  -- an edited text was answered by a run, and the answer was told
+  abbrev pub CorrectsText : List ℕ → List ℕ → S → S → Ending → Type 0
+  CorrectsText set text old new end = (answer : Result (List ℕ) EditError) × IsCorrection set text answer old new × TellsCorrection answer end
+
+  -- a site was settled, and its mark was told
+  abbrev pub SettlesSite : List ℕ → ℕ → Result ℕ Fault → S → S → Option (List ℕ) → Option (List ℕ) → Type 0
+  SettlesSite site number result old new output output' =
+      (answer : Result ℕ Fault) × Settles meaning site number answer old new
+      × CountsFailure meaning answer old new × TellsMark site answer result output output'
+
+  -- a question was answered, and nothing is changed
+  pub record IsAnswered (question : Question) (answer : Result (List ℕ) Fault) (old new : S) : Type 0 where
+    pub tells : Tells meaning (answer_text question) answer old new
+    pub same : Keeps meaning old new
+    pub counts : CountsFailure meaning answer old new
+
+  -- a question was answered, and the answer was told
+  abbrev pub AsksQuestion : Question → Result ℕ Fault → S → S → Option (List ℕ) → Option (List ℕ) → Type 0
+  AsksQuestion question result old new output output' = (answer : Result (List ℕ) Fault) × IsAnswered question answer old new × TellsText answer result output output'
+
+  -- a spool was read to its end, and status 0 stands for any number of frames; or it ended by a fault
+  abbrev pub EndsSpool : Result ℕ Fault → S → S → Option (List ℕ) → Option (List ℕ) → Option (List ℕ) → Option (List ℕ) → Type 0
+  EndsSpool (Ok status) old new input input' output output' =
+      (status ≡ 0) × ((count : ℕ) × Ends meaning old new input input' output output' (Ok count))
+  EndsSpool (Err fault) old new input input' output output' = Ends meaning old new input input' output output' (Err fault)
+
+  -- an errand was done at the desk of a library, and what the desk answered was told
+  abbrev pub DoesErrand : Errand → Result ℕ Fault → S → S → Option (List ℕ) → Option (List ℕ) → Option (List ℕ) → Option (List ℕ) → Type 0
+  DoesErrand (errand.Run site number mode) result old new input input' output output' =
+      HandsIn site.now number mode.now input result old new output output'
+  DoesErrand (errand.Settle site number) result old new input input' output output' = SettlesSite site.now number result old new output output'
+  DoesErrand errand.Spool result old new input input' output output' = EndsSpool result old new input input' output output'
+  DoesErrand (errand.Ask question) result old new input input' output output' = AsksQuestion question result old new output output'

@@ -1,0 +1,13 @@
+pub mod Status
+pub mod Streams
+pub mod Words
+pub mod Trial
+pub mod Operands
+pub mod Command
+pub mod Inputs
+pub mod Telling
+pub mod Explaining
+pub mod Correcting
+pub mod ListingFile
+pub mod Listening
+pub mod Errands

@@ -1,0 +1,173 @@
+//! Commands that change a library: runs that arrive, and settlements.
+ghost use Rattle.std.specs.Prelude.{◌≡◌, ◌≢◌, ◌⊎◌, ◌+◌, ◌∷◌, ◌++◌, [], Err, IfErr, IfOk, Ok};
+ghost use Rattle.upd_subcommands.specs.Command.{IsTold, ending};
+ghost use Rattle.upd_subcommands.specs.Errands.{HandsIn, SettlesSite, TriesRun};
+ghost use Rattle.upd_subcommands.specs.Status.{exit_status};
+ghost use Rattle.upd_subcommands.specs.Streams.{TakesFront};
+ghost use Rattle.upd_subcommands.specs.Telling.{TellsMark, TellsRun, TellsTried, Writes};
+ghost use Rattle.upd_text.specs.declared.limits.TheConstants.{MAX_RUN_BYTES};
+
+use crate::status::{DONE, FAILED, REFUSED, finish};
+use crate::streams::{read_input, write_out, write_parts_out};
+use itoa::Buffer;
+use std::alloc::Global;
+use std::io::{Read, Write};
+use upd_desk::{Desk, Reply, fault_answer};
+use upd_edit::{try_at, warnings_at};
+use upd_reply::settled_parts;
+use upd_row_store::RowStore;
+use upd_text::Fault;
+
+/// The run on the input arrives, and its reply goes to the output as a line. So does the text of a fault, except
+/// NoMemory and Store. Nothing is allocated between the reply and its output.
+pub(crate) fn hand_in<S: RowStore, R: Read, W: Write>(
+    alloc: Global,
+    desk: &mut Desk<S>,
+    site: &str,
+    number: u64,
+    mode: &str,
+    input: &mut R,
+    output: &mut W,
+) -> Result<u8, Fault>
+    ensures tells { HandsIn S.Meaning site.now number mode.now
+        (R.remaining input.old) result desk.old.store desk.new.store (W.contents output.old) (W.contents output.new) }
+    ensures front { TakesFront (MAX_RUN_BYTES + 1) (R.remaining input.old) (R.remaining input.new) }
+    ensures status { IfOk result (λ status. (status ≡ 0) ⊎ (status ≡ 1)) }
+{
+    let run = read_input(alloc, input)?;
+    let answer = desk.arrive(alloc, site, number, mode, &run);
+    tell_answer(alloc, answer, output)
+}
+
+/// The reply that a run would get goes to the output as a line, as `hand_in` writes it, and its warnings to the fault
+/// stream behind it. Both are made before either is written. Nothing is stored. Returns the exit status.
+pub fn try_run<S: RowStore, W: Write, E: Write>(
+    alloc: Global,
+    desk: &mut Desk<S>,
+    mode: &str,
+    run: &[u8],
+    output: &mut W,
+    faults: &mut E,
+) -> u8
+    ensures tells { TriesRun S.Meaning mode.now run.now desk.old.store desk.new.store
+        (ending result (W.contents output.old) (W.contents output.new) (E.contents faults.old) (E.contents faults.new)) }
+    ensures status { result ≢ 2 }
+{
+    let answer = try_at(alloc, desk, mode, run);
+    match warnings_at(alloc, desk, run) {
+        Ok(warnings) => tell_tried(alloc, answer, &warnings, output, faults),
+        Err(fault) => finish(Err(fault), faults),
+    }
+}
+
+/// Writes the answer to a run that was tried, and its warnings behind it. Returns the exit status.
+fn tell_tried<W: Write, E: Write>(
+    alloc: Global,
+    answer: Result<Reply, Fault>,
+    warnings: &[u8],
+    output: &mut W,
+    faults: &mut E,
+) -> u8
+    ensures tells { TellsTried answer (Ok warnings.now)
+        (ending result (W.contents output.old) (W.contents output.new) (E.contents faults.old) (E.contents faults.new)) }
+    ensures status { result ≢ 2 }
+{
+    match tell_answer(alloc, answer, output) {
+        Ok(status) => warn(warnings, status, faults),
+        Err(fault) => finish(Err(fault), faults),
+    }
+}
+
+/// Writes warnings, if there are any, and returns the exit status: the given one, or that of a write that failed.
+fn warn<E: Write>(warnings: &[u8], status: u8, faults: &mut E) -> u8
+    ensures told { IsTold status warnings.now result (E.contents faults.old) (E.contents faults.new) }
+    ensures status { (result ≡ status) ⊎ (result ≡ 3) }
+{
+    if warnings.is_empty() {
+        return status;
+    }
+    match write_out(faults, warnings) {
+        Ok(()) => status,
+        Err(_) => FAILED,
+    }
+}
+
+/// A reply goes to the output as a line. So does the text of a fault, except NoMemory and Store.
+fn tell_answer<W: Write>(
+    alloc: Global,
+    answer: Result<Reply, Fault>,
+    output: &mut W,
+) -> Result<u8, Fault>
+    ensures tells { TellsRun answer result (W.contents output.old) (W.contents output.new) }
+    ensures status { IfOk result (λ status. (status ≡ 0) ⊎ (status ≡ 1)) }
+{
+    match answer {
+        Ok(reply) => tell(&reply, output),
+        Err(fault) => tell_fault(alloc, fault, output),
+    }
+}
+
+fn tell<W: Write>(reply: &Reply, output: &mut W) -> Result<u8, Fault>
+    ensures tells { TellsRun (Ok reply.now) result (W.contents output.old) (W.contents output.new) }
+    ensures status { IfOk result (λ status. (status ≡ 0) ⊎ (status ≡ 1)) }
+{
+    if reply.accepted {
+        write_line(output, &reply.text, DONE)
+    } else {
+        write_line(output, &reply.text, REFUSED)
+    }
+}
+
+fn tell_fault<W: Write>(alloc: Global, fault: Fault, output: &mut W) -> Result<u8, Fault>
+    ensures tells { TellsRun (Err fault) result (W.contents output.old) (W.contents output.new) }
+    ensures status { IfOk result (λ status. (status ≡ 0) ⊎ (status ≡ 1)) }
+{
+    match fault_answer(alloc, fault) {
+        Ok(text) => write_line(output, &text, REFUSED),
+        Err(untold) => Err(untold),
+    }
+}
+
+/// Writes a text and LF, and returns the exit status that is given.
+fn write_line<W: Write>(output: &mut W, text: &[u8], status: u8) -> Result<u8, Fault>
+    ensures { Writes status (text.now ++ 10 ∷ []) result (W.contents output.old) (W.contents output.new) }
+{
+    match write_parts_out(output, &[text, b"\n"]) {
+        Ok(()) => Ok(status),
+        Err(fault) => Err(fault),
+    }
+}
+
+/// Settles a site's runs up to a number, and the site's mark goes to the output as a line. Nothing is allocated after
+/// the settlement.
+pub(crate) fn settle<S: RowStore, W: Write>(
+    alloc: Global,
+    desk: &mut Desk<S>,
+    site: &str,
+    number: u64,
+    output: &mut W,
+) -> Result<u8, Fault>
+    ensures tells { SettlesSite S.Meaning site.now number
+        result desk.old.store desk.new.store (W.contents output.old) (W.contents output.new) }
+    ensures status { IfOk result (λ status. status ≡ 0) }
+    ensures silent { IfErr result (λ fault. exit_status fault.kind ≡ 1 → output.new ≡ output.old) }
+{
+    match desk.settle_site(alloc, site, number) {
+        Ok(mark) => write_mark(output, site, mark),
+        Err(fault) => Err(fault),
+    }
+}
+
+/// Writes the text of a mark, and LF.
+fn write_mark<W: Write>(output: &mut W, site: &str, mark: u64) -> Result<u8, Fault>
+    ensures tells { TellsMark site.now (Ok mark) result (W.contents output.old) (W.contents output.new) }
+    ensures status { IfOk result (λ status. status ≡ 0) }
+    ensures silent { IfErr result (λ fault. exit_status fault.kind ≡ 1 → output.new ≡ output.old) }
+{
+    let mut digits = Buffer::new();
+    let [start, number, key, name, end] = settled_parts(site, mark, &mut digits);
+    match write_parts_out(output, &[start, number, key, name, end, b"\n"]) {
+        Ok(()) => Ok(DONE),
+        Err(fault) => Err(fault),
+    }
+}
