@@ -2,6 +2,7 @@ mod NameOrderLemmas
 mod KeyedLemmas
 mod MapRowsLemmas
 mod StatusRowLemmas
+mod AskedLemmas
 mod MirrorLemmas
 mod LoadLemmas
 mod ActiveRowsLemmas

@@ -3,8 +3,11 @@ use Rattle.std.proofs.Common.{◌≡◌, ℕ, ◌+◌, ◌<◌, Bool, true, fals
 use Rattle.std.proofs.Common.{cond, not, List, [], ◌∷◌, ◌++◌, length, map, get_or, take}
 use Rattle.std.proofs.Common.{Option, None, Some, refl, ap, sym, ◌∙◌, subst}
 use Rattle.std.specs.Prelude.{◌||◌}
-use Rattle.std.specs.BTreeMap.{BTreeMap, IsOrdered, get}
-use Rattle.std.specs.List.{filter, flat_map}
+use Rattle.std.specs.BTreeMap.{BTreeMap, IsOrdered, get, is_at}
+use Rattle.std.specs.Cmp.{tied_itself}
+use Rattle.std.specs.List.{AllByRecursion, filter, flat_map}
+use Rattle.std.specs.List.Sorted.{IsStrictlySortedBy}
+use Rattle.std.specs.Map.{keys_of, lookup}
 use Rattle.std.specs.Option.{option_map_or, option_or}
 use Rattle.std.specs.Ordering.{is_eq}
 use Rattle.upd_text.specs.Order.{by_name}
@@ -16,8 +19,8 @@ use Rattle.upd_row_store.specs.Asked.{is_asked}
 use Rattle.upd_row_store.specs.Tables.{state_pair}
 use Rattle.upd_mirror.specs.RowsByKey.{AreStatuses}
 use Rattle.upd_mirror.specs.Mirrored.{state_row}
-use Rattle.upd_mirror.proofs.MapRowsLemmas.{all_same}
-use Rattle.upd_records.proofs.ByKeyLemmas.{filter_twice}
+use Rattle.upd_records.proofs.ByKeyLemmas.{filter_twice, same_by_key}
+use Rattle.upd_mirror.proofs.MapRowsLemmas.{all_same, flat_at}
 use Rattle.upd_mirror.proofs.KeyedLemmas.{filter_alike, one_more, some_gone}
 use Rattle.upd_mirror.proofs.NameOrderLemmas.{alike, one_by_order, one_ref, refs_exact, refs_total, same_by_order, turned}
 
@@ -57,64 +60,11 @@ pairs_same statuses rows up are =
 
 -- ---- statuses of some cards
 
-pub kept_next : (cards : List CardRef) (i : ℕ) (card : CardRef) (all : CardRef → Option Bool) (before after : CardRef → Option Bool)
-    → i < length cards
-    → card ≡ get_or cards i card
-    → ((c : CardRef) → after c ≡ cond (is_eq (by_name card c)) (option_or (all card) (before c)) (before c))
-    → ((c : CardRef) → before c ≡ cond (is_asked (take i cards) c) (all c) None) → (c : CardRef)
-    → after c ≡ cond (is_asked (take (i + 1) cards) c) (all c) None
-kept_next cards i card all before after inside is put known c =
-    put c ∙ go (is_eq (by_name card c)) refl (is_asked (take i cards) c) refl
-    ∙ sym (ap (λ b. cond b (all c) None) (ap (λ cs. is_asked cs c) (cards_next cards i card inside is)
-    ∙ more (take i cards)))
-  where
-    more : (cs : List CardRef) → is_asked (cs ++ card ∷ []) c ≡ (is_asked cs c || same_ref card c)
-    more [] = or_nothing (same_ref card c)
-      where
-        or_nothing : (b : Bool) → (b || false) ≡ b
-        or_nothing true = refl
-        or_nothing false = refl
-    more (d ∷ cs) = ap (λ b. same_ref d c || b) (more cs) ∙ assoc (same_ref d c) (is_asked cs c) (same_ref card c)
-      where
-        assoc : (x y z : Bool) → (x || (y || z)) ≡ ((x || y) || z)
-        assoc true y z = refl
-        assoc false y z = refl
-
-    or_same : (o : Option Bool) → option_or o o ≡ o
-    or_same None = refl
-    or_same (Some x) = refl
-
-    or_none : (o : Option Bool) → option_or o None ≡ o
-    or_none None = refl
-    or_none (Some x) = refl
-
-    last : (a : Bool) (x y : Bool) → y ≡ x → cond (a || y) (all c) None ≡ cond (a || x) (all c) None
-    last a x y e = ap (λ b. cond (a || b) (all c) None) e
-
-    go : (b : Bool) → is_eq (by_name card c) ≡ b → (a : Bool) → is_asked (take i cards) c ≡ a
-        → cond b (option_or (all card) (before c)) (before c) ≡ cond (is_asked (take i cards) c || same_ref card c) (all c) None
-    go true e a asked =
-        let one = one_by_order card c e in
-        ap (λ k. option_or (all k) (before c)) one ∙ ap (λ o. option_or (all c) o) (known c) ∙ step (is_asked (take i cards) c)
-        ∙ sym (ap (λ b. cond (is_asked (take i cards) c || b) (all c) None) (same_by_order card c ∙ e))
-      where
-        step : (a : Bool) → option_or (all c) (cond a (all c) None) ≡ cond (a || true) (all c) None
-        step true = or_same (all c)
-        step false = or_none (all c)
-    go false e a asked =
-        known c ∙ sym (ap (λ b. cond (is_asked (take i cards) c || b) (all c) None) (same_by_order card c ∙ e) ∙ step (is_asked (take i cards) c))
-      where
-        step : (a : Bool) → cond (a || false) (all c) None ≡ cond a (all c) None
-        step true = refl
-        step false = refl
-
-pub asked_same : (cards : List CardRef) (all kept : BTreeMap CardRef Bool) (rows : List StateRow) → AreStatuses all rows
-    → ((c : CardRef) → get by_name kept c ≡ cond (is_asked cards c) (get by_name all c) None)
-    → AreStatuses kept (filter (λ r. is_asked cards r.card) rows)
-asked_same cards all kept rows are keep c =
-    subst (λ o. IsSame (state_rows c o) (filter (λ r. same_ref c r.card) (filter (λ r. is_asked cards r.card) rows))) (sym (keep c))
-    (subst (IsSame (state_rows c (cond (is_asked cards c) (get by_name all c) None)))
-    (sym (filter_twice (λ r. same_ref c r.card) (λ r. is_asked cards r.card) rows)) (go (is_asked cards c) refl))
+pub asked_at : (cards : List CardRef) (all : BTreeMap CardRef Bool) (rows : List StateRow) → AreStatuses all rows → (c : CardRef)
+    → IsSame (state_rows c (cond (is_asked cards c) (get by_name all c) None)) (filter (λ r. same_ref c r.card) (filter (λ r. is_asked cards r.card) rows))
+asked_at cards all rows are c =
+    subst (IsSame (state_rows c (cond (is_asked cards c) (get by_name all c) None)))
+    (sym (filter_twice (λ r. same_ref c r.card) (λ r. is_asked cards r.card) rows)) (go (is_asked cards c) refl)
   where
     alike : (b : Bool) → is_asked cards c ≡ b → filter (λ r. is_asked cards r.card) (filter (λ r. same_ref c r.card) rows)
         ≡ cond b (filter (λ r. same_ref c r.card) rows) []
@@ -125,6 +75,31 @@ asked_same cards all kept rows are keep c =
         (filter (λ r. is_asked cards r.card) (filter (λ r. same_ref c r.card) rows))
     go true e = subst (IsSame (state_rows c (get by_name all c))) (sym (alike true e)) (are c)
     go false e = subst (IsSame []) (sym (alike false e)) (same_of [] [] refl)
+
+-- pairs in order are those of a table that has, of each card, the status that is found in them
+own_rows : (es : List (CardRef × Bool)) → AllByRecursion (λ e. filter (λ (r : StateRow). is_eq (by_name e.0 r.card)) (state_row e ∷ [])
+    ≡ state_row e ∷ []) es
+own_rows [] = tt
+own_rows (e ∷ es) = (ap (λ o. cond (is_eq o) (state_row e ∷ []) []) (tied_itself refs_total e.0), own_rows es)
+
+pub list_same : (es : List (CardRef × Bool)) (rows : List StateRow) → IsStrictlySortedBy by_name (keys_of es)
+    → ((c : CardRef) → IsSame (state_rows c (lookup (is_at (by_name c)) es)) (filter (λ r. same_ref c r.card) rows))
+    → IsSame es (map state_pair rows)
+list_same es rows up are =
+    subst (λ xs. IsSame xs (map state_pair rows)) (pairs_back es)
+    (same_map state_pair (same_by_key (λ c (r : StateRow). is_eq (by_name c r.card)) (λ r. r.card) (λ r. ap is_eq (tied_itself refs_total r.card))
+    (map state_row es) rows each))
+  where
+    found : (c : CardRef) → state_rows c (lookup (is_at (by_name c)) es) ≡ filter (λ r. is_eq (by_name c r.card)) (map state_row es)
+    found c =
+        state_of c (lookup (is_at (by_name c)) es)
+        ∙ sym (flat_at refs_total refs_exact (λ r. r.card) (λ card r. is_eq (by_name card r.card)) (λ card r. refl)
+        (λ card active. record { card = card; active = active } ∷ []) (λ card. true) c es up (own_rows es))
+        ∙ ap (filter (λ (r : StateRow). is_eq (by_name c r.card))) (made_rows es)
+
+    each : (c : CardRef) → IsSame (filter (λ r. is_eq (by_name c r.card)) (map state_row es)) (filter (λ r. is_eq (by_name c r.card)) rows)
+    each c = subst (λ xs. IsSame xs (filter (λ r. is_eq (by_name c r.card)) rows)) (found c)
+        (subst (IsSame (state_rows c (lookup (is_at (by_name c)) es))) (by_key rows c) (are c))
 
 -- ---- changes
 

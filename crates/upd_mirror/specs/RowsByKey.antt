@@ -1,5 +1,5 @@
 -- Rows in memory under their keys, and when they are the rows of a table.
-use Rattle.std.specs.Prelude.{◌≡◌, ℕ, ◌-◌, ◌^◌, ◌==◌, nat_le, min, ℤ, Bool, false, ◌&&◌, if◌then◌else◌, List, []}
+use Rattle.std.specs.Prelude.{◌≡◌, ℕ, ◌-◌, ◌^◌, ◌==◌, nat_le, min, ℤ, Bool, false, ◌&&◌, if◌then◌else◌, List, [], ◌∷◌}
 use Rattle.std.specs.BTreeMap.{BTreeMap, get}
 use Rattle.std.specs.List.{filter, list_any}
 use Rattle.std.specs.Option.{option_map_or}
@@ -37,6 +37,10 @@ AreEntries entries rows = (card : CardRef) → IsSame (entries_at entries card) 
 -- at each card is its status, the only one that it has
 abbrev pub AreStatuses : BTreeMap CardRef Bool → List StateRow → Type 0
 AreStatuses statuses rows = (card : CardRef) → IsSame (state_rows card (get by_name statuses card)) (filter (λ r. same_ref card r.card) rows)
+
+-- a card with its status, if it has one
+abbrev pub pairs_at : BTreeMap CardRef Bool → CardRef → List (CardRef × Bool)
+pairs_at statuses card = option_map_or (λ active. (card, active) ∷ []) (get by_name statuses card) []
 
 -- a place moved by a signed distance, or the last place of all where it would be after that
 abbrev pub moved_place : ℤ → ℕ → ℕ

@@ -1,29 +1,26 @@
 //! What a store is asked for, from the rows in memory.
 
-ghost use Rattle.std.specs.Prelude.{◌≡◌, if◌then◌else◌, length, IfOk, IfSome, None, OnOk};
-ghost use Rattle.std.specs.BTreeMap.{IsOrdered, get};
-ghost use Rattle.std.specs.Option.{option_or};
-ghost use Rattle.std.specs.Ordering.{is_eq};
+ghost use Rattle.std.specs.Prelude.{◌≡◌, length, IfOk, IfSome, OnOk};
+ghost use Rattle.std.specs.BTreeMap.{IsOrdered};
 ghost use Rattle.upd_text.specs.Order.{by_name};
-ghost use Rattle.upd_text.specs.declared.card_ref.CardRef.{CardRef};
 ghost use Rattle.upd_core.specs.Actives.{actives_of};
 ghost use Rattle.upd_core.specs.Library.{LibraryView};
 ghost use Rattle.upd_core.specs.Parts.{part_of};
 ghost use Rattle.upd_core.specs.Sound.{IsSound, IsWhole};
 ghost use Rattle.upd_records.specs.Rows.{Rows, Shows, ShowsStates};
-ghost use Rattle.upd_row_store.specs.Asked.{decks_with, is_asked};
+ghost use Rattle.upd_row_store.specs.Asked.{decks_with};
 ghost use Rattle.upd_row_store.specs.Assembling.{AreRowsOf};
 ghost use Rattle.upd_row_store.specs.PartRows.{AreOfDistinctCards, part_rows};
 ghost use Rattle.upd_row_store.specs.Tables.{AreByKey, AreRead, AreReadOf};
 ghost use Rattle.upd_mirror.specs.Mirrored.{Agrees};
 
 use crate::active_rows::{active_decks, all_by_place};
+use crate::asked::statuses_of;
 use crate::copies::{
     all_cards, all_entries, all_states, card_count, cards_by_name, cards_of, entries_of, homes_of,
 };
 use crate::mirror::Mirror;
 use crate::statuses::Statuses;
-use crate::tables::{put_status, status_of};
 use std::alloc::{AllocError, Global};
 use std::collections::BTreeMap;
 use upd_core::{Actives, CardRef, Library, Serial, States};
@@ -48,37 +45,6 @@ fn pairs_of(
     Ok(pairs)
 }
 
-/// Adds the status of a card, if it has one.
-fn keep_status(
-    kept: &mut BTreeMap<CardRef, bool>,
-    statuses: &BTreeMap<CardRef, bool>,
-    card: &CardRef,
-) -> Result<(), AllocError>
-    ensures { OnOk result ((c : CardRef) → get by_name kept.new c ≡ (if is_eq (by_name card.now c)
-        then option_or (get by_name statuses.now card.now) (get by_name kept.old c) else get by_name kept.old c)) }
-{
-    match status_of(statuses, card) {
-        Some(active) => put_status(kept, *card, active),
-        None => Ok(()),
-    }
-}
-
-/// The statuses of these cards.
-fn statuses_of(
-    alloc: Global,
-    statuses: &BTreeMap<CardRef, bool>,
-    cards: &[CardRef],
-) -> Result<BTreeMap<CardRef, bool>, AllocError>
-    ensures { IfOk result (λ kept. (c : CardRef) → get by_name kept c
-        ≡ (if is_asked cards.now c then get by_name statuses.now c else None)) }
-{
-    let mut kept = BTreeMap::new(alloc);
-    for card in cards {
-        keep_status(&mut kept, statuses, card)?;
-    }
-    Ok(kept)
-}
-
 impl Mirror {
     /// All statuses and counts, by their keys; memory alone can fail.
     pub(crate) fn states(&self, alloc: Global) -> Result<States, AllocError>
@@ -95,8 +61,7 @@ impl Mirror {
         ensures read { IfOk result (λ found. (rows : Rows) → Agrees self.now rows → AreReadOf cards.now rows found) }
         ensures order { IfOk result AreByKey }
     {
-        let kept = statuses_of(alloc, &self.statuses, cards)?;
-        let states = pairs_of(alloc, &kept)?;
+        let states = statuses_of(alloc, &self.statuses, cards)?;
         let counts = Vec::from_slice(alloc, &self.counts)?;
         Ok(states_by_key(States { states, counts }))
     }

@@ -2,6 +2,7 @@
 #![tactic(auto)]
 
 mod active_rows;
+mod asked;
 mod copies;
 mod from_memory;
 mod made;

@@ -1,0 +1,72 @@
+//! The statuses of cards that are asked for.
+
+ghost use Rattle.std.specs.Prelude.{◌≡◌, ◌++◌, List, map, IfOk, OnOk};
+ghost use Rattle.std.specs.List.{filter, flat_map};
+ghost use Rattle.std.specs.List.Sorted.{IsStrictlySortedBy};
+ghost use Rattle.upd_text.specs.Order.{by_name};
+ghost use Rattle.upd_text.specs.declared.card_ref.CardRef.{CardRef};
+ghost use Rattle.upd_records.specs.Rows.{IsSame, StateRow};
+ghost use Rattle.upd_row_store.specs.Asked.{is_asked};
+ghost use Rattle.upd_row_store.specs.Tables.{state_pair};
+ghost use Rattle.upd_mirror.specs.ActiveRows.{AreInOrder};
+ghost use Rattle.upd_mirror.specs.RowsByKey.{AreStatuses, pairs_at};
+
+use crate::tables::status_of;
+use std::alloc::{AllocError, Global};
+use std::collections::BTreeMap;
+use upd_core::CardRef;
+
+/// These cards by name, each once. Cards of a deck mostly come in a few runs by name, which a stable sort joins.
+fn cards_once(alloc: Global, cards: &[CardRef]) -> Result<Vec<CardRef>, AllocError>
+    ensures order { IfOk result (λ once. IsStrictlySortedBy by_name once.items) }
+    ensures same { IfOk result (λ once. (card : CardRef) → is_asked once.items card ≡ is_asked cards.now card) }
+{
+    let mut once = Vec::from_slice(alloc, cards)?;
+    once.sort()?;
+    once.dedup();
+    Ok(once)
+}
+
+/// Adds a card with its status, if it has one.
+fn add_pair(
+    pairs: &mut Vec<(CardRef, bool)>,
+    statuses: &BTreeMap<CardRef, bool>,
+    card: &CardRef,
+) -> Result<(), AllocError>
+    ensures { OnOk result (pairs.new.items ≡ pairs.old.items ++ pairs_at statuses.now card.now) }
+{
+    if let Some(active) = status_of(statuses, card) {
+        pairs.push((*card, active))?;
+    }
+    Ok(())
+}
+
+/// These cards with their statuses.
+fn pairs_of(
+    alloc: Global,
+    statuses: &BTreeMap<CardRef, bool>,
+    cards: &[CardRef],
+) -> Result<Vec<(CardRef, bool)>, AllocError>
+    ensures { IfOk result (λ pairs. pairs.items ≡ flat_map (pairs_at statuses.now) cards.now) }
+{
+    let mut pairs = Vec::with_capacity(alloc, cards.len())?;
+    for card in cards {
+        add_pair(&mut pairs, statuses, card)?;
+    }
+    Ok(pairs)
+}
+
+/// The statuses of those of these cards that have one, by name.
+pub(crate) fn statuses_of(
+    alloc: Global,
+    statuses: &BTreeMap<CardRef, bool>,
+    cards: &[CardRef],
+) -> Result<Vec<(CardRef, bool)>, AllocError>
+    ensures order { IfOk result (λ kept. AreInOrder kept.items) }
+    ensures same { IfOk result (λ kept. (rows : List StateRow) → AreStatuses statuses.now rows
+        → IsSame kept.items (map state_pair (filter (λ r. is_asked cards.now r.card) rows))) }
+{
+    let once = cards_once(alloc, cards)?;
+    let pairs = pairs_of(alloc, statuses, &once)?;
+    Ok(pairs)
+}
