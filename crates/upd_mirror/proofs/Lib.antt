@@ -7,3 +7,4 @@ mod MirrorLemmas
 mod LoadLemmas
 mod ActiveRowsLemmas
 mod MovedIdentLemmas
+mod WalkLemmas

@@ -3,3 +3,4 @@ pub mod RowsByKey
 pub mod Mirrored
 pub mod Overlaid
 pub mod MovedIdents
+pub mod Walk

@@ -10,10 +10,12 @@ ghost use Rattle.upd_row_store.specs.Asked.{is_asked};
 ghost use Rattle.upd_row_store.specs.Tables.{state_pair};
 ghost use Rattle.upd_mirror.specs.ActiveRows.{AreInOrder};
 ghost use Rattle.upd_mirror.specs.RowsByKey.{AreStatuses, pairs_at};
+ghost use Rattle.upd_mirror.specs.Walk.{AreFound};
 
-use crate::tables::status_of;
+use crate::walk::next_value;
 use std::alloc::{AllocError, Global};
 use std::collections::BTreeMap;
+use std::collections::btree_map::Range;
 use upd_core::CardRef;
 
 /// These cards by name, each once. Cards of a deck mostly come in a few runs by name, which a stable sort joins.
@@ -28,15 +30,18 @@ fn cards_once(alloc: Global, cards: &[CardRef]) -> Result<Vec<CardRef>, AllocErr
 }
 
 /// Adds a card with its status, if it has one.
-fn add_pair(
+fn add_pair<'a>(
     pairs: &mut Vec<(CardRef, bool)>,
-    statuses: &BTreeMap<CardRef, bool>,
+    statuses: &'a BTreeMap<CardRef, bool>,
+    rest: &mut Range<'a, CardRef, bool>,
     card: &CardRef,
 ) -> Result<(), AllocError>
-    ensures { OnOk result (pairs.new.items ≡ pairs.old.items ++ pairs_at statuses.now card.now) }
+    requires { AreFound statuses.now rest.old }
+    ensures pairs { OnOk result (pairs.new.items ≡ pairs.old.items ++ pairs_at statuses.now card.now) }
+    ensures rest { AreFound statuses.now rest.new }
 {
-    if let Some(active) = status_of(statuses, card) {
-        pairs.push((*card, active))?;
+    if let Some(active) = next_value(statuses, rest, card) {
+        pairs.push((*card, *active))?;
     }
     Ok(())
 }
@@ -50,8 +55,9 @@ fn pairs_of(
     ensures { IfOk result (λ pairs. pairs.items ≡ flat_map (pairs_at statuses.now) cards.now) }
 {
     let mut pairs = Vec::with_capacity(alloc, cards.len())?;
+    let mut rest = statuses.range(..);
     for card in cards {
-        add_pair(&mut pairs, statuses, card)?;
+        add_pair(&mut pairs, statuses, &mut rest, card)?;
     }
     Ok(pairs)
 }

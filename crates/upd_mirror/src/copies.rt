@@ -10,10 +10,13 @@ ghost use Rattle.upd_core.specs.Edits.{is_among};
 ghost use Rattle.upd_row_store.specs.PartRows.{is_loaded};
 ghost use Rattle.upd_mirror.specs.RowsByKey.{entries_at, is_home};
 ghost use Rattle.upd_mirror.specs.Mirrored.{state_row};
+ghost use Rattle.upd_mirror.specs.Walk.{AreFound};
 
 use crate::tables::home_of;
+use crate::walk::next_value;
 use std::alloc::{AllocError, Global};
 use std::collections::BTreeMap;
+use std::collections::btree_map::Range;
 use upd_core::{CardRef, Serial};
 use upd_records::{CardRow, EntryRow, StateRow};
 
@@ -86,11 +89,17 @@ pub(crate) fn card_count(decks: &BTreeMap<Serial, Vec<CardRow>>) -> Option<u64>
     Some(count)
 }
 
-/// The rows of a card's entries.
-fn own_entries<'a>(entries: &'a BTreeMap<CardRef, Vec<EntryRow>>, card: &CardRef) -> &'a [EntryRow]
-    ensures { result.now ≡ entries_at entries.now card.now }
+/// The rows of a card's entries, which are looked for behind those that were found last first.
+fn next_entries<'a>(
+    entries: &'a BTreeMap<CardRef, Vec<EntryRow>>,
+    rest: &mut Range<'a, CardRef, Vec<EntryRow>>,
+    card: &CardRef,
+) -> &'a [EntryRow]
+    requires { AreFound entries.now rest.old }
+    ensures own { result.now ≡ entries_at entries.now card.now }
+    ensures rest { AreFound entries.now rest.new }
 {
-    match entries.get(card) {
+    match next_value(entries, rest, card) {
         Some(own) => own,
         None => &[],
     }
@@ -107,12 +116,13 @@ fn cards_in(alloc: Global, rows: &[CardRow]) -> Result<Vec<CardRef>, AllocError>
     Ok(cards)
 }
 
-/// The cards of rows, by name: whoever sorts their entries finds them in order.
+/// The cards of rows, by name: whoever sorts their entries finds them in order. They mostly come in a few runs by name,
+/// which a stable sort joins.
 pub(crate) fn cards_by_name(alloc: Global, rows: &[CardRow]) -> Result<Vec<CardRef>, AllocError>
     ensures { IfOk result (λ cards. IsPermutation (map (λ r. r.card) rows.now) cards.items) }
 {
     let mut cards = cards_in(alloc, rows)?;
-    cards.sort_unstable();
+    cards.sort()?;
     Ok(cards)
 }
 
@@ -125,8 +135,9 @@ pub(crate) fn entries_of(
     ensures { IfOk result (λ rows. rows.items ≡ flat_map (entries_at entries.now) cards.now) }
 {
     let mut rows = Vec::new(alloc);
+    let mut rest = entries.range(..);
     for card in cards {
-        rows.extend_from_slice(own_entries(entries, card))?;
+        rows.extend_from_slice(next_entries(entries, &mut rest, card))?;
     }
     Ok(rows)
 }

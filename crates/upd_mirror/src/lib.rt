@@ -11,5 +11,6 @@ pub mod mirror_store;
 mod moved_idents;
 mod statuses;
 mod tables;
+mod walk;
 
 pub use mirror_store::MirrorStore;

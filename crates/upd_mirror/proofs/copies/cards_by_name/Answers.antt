@@ -3,4 +3,4 @@ use Rattle.std.specs.List.Sorted.{IsPermutation}
 use Rattle.upd_mirror.proofs.copies.cards_by_name.Goals as goal
 
 pub returns : goal.returns
-returns c = subst (λ xs. IsPermutation xs c.sort_unstable.new.self.items) c.in_ok-cards.ensures c.sort_unstable.ensures.permutation
+returns c = subst (λ xs. IsPermutation xs c.sort.new.self.items) c.in_ok-cards.ensures c.sort.ensures.permutation
