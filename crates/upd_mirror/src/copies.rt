@@ -118,7 +118,7 @@ fn cards_in(alloc: Global, rows: &[CardRow]) -> Result<Vec<CardRef>, AllocError>
 
 /// The cards of rows, by name: whoever sorts their entries finds them in order. They mostly come in a few runs by name,
 /// which a stable sort joins.
-pub(crate) fn cards_by_name(alloc: Global, rows: &[CardRow]) -> Result<Vec<CardRef>, AllocError>
+pub(crate) fn sorted_references(alloc: Global, rows: &[CardRow]) -> Result<Vec<CardRef>, AllocError>
     ensures { IfOk result (λ cards. IsPermutation (map (λ r. r.card) rows.now) cards.items) }
 {
     let mut cards = cards_in(alloc, rows)?;

@@ -17,7 +17,8 @@ ghost use Rattle.upd_mirror.specs.Mirrored.{Agrees};
 use crate::active_rows::{active_decks, all_by_place};
 use crate::asked::statuses_of;
 use crate::copies::{
-    all_cards, all_entries, all_states, card_count, cards_by_name, cards_of, entries_of, homes_of,
+    all_cards, all_entries, all_states, card_count, cards_of, entries_of, homes_of,
+    sorted_references,
 };
 use crate::mirror::Mirror;
 use crate::statuses::Statuses;
@@ -89,7 +90,7 @@ impl Mirror {
     {
         let idents = Vec::from_slice(alloc, &self.idents)?;
         let cards = cards_of(alloc, &self.decks, ages)?;
-        let by_name = cards_by_name(alloc, &cards)?;
+        let by_name = sorted_references(alloc, &cards)?;
         let entries = entries_of(alloc, &self.entries, &by_name)?;
         let targets = Vec::from_slice(alloc, &self.targets)?;
         Ok(LibraryRows {

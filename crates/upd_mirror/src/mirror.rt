@@ -11,8 +11,8 @@ ghost use Rattle.upd_records.specs.Rows.{Rows, same_ref};
 ghost use Rattle.upd_mirror.specs.Mirrored.{Agrees, AgreesIfAny};
 
 use crate::tables::{
-    add_card, add_entry, drop_at_home, drop_count, drop_entries, drop_home, drop_status,
-    home_of, move_cards_of, put_home, put_status,
+    add_card, add_entry, drop_at_home, drop_count, drop_entries, drop_home, drop_status, home_of,
+    move_cards_of, put_home, put_status,
 };
 use std::alloc::Global;
 use std::collections::BTreeMap;

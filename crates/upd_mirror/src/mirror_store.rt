@@ -17,8 +17,8 @@ use upd_text::{Fault, FaultKind};
 
 /// A store that answers reads from its rows in memory, and writes to the store below.
 ///
-/// The rows are read in the second commit, or by `warm`. They are let go where memory runs out, or where they are not
-/// those of a library; a commit never fails for their sake.
+/// The rows are read by `warm`, or in a commit after the first: in the second, unless memory runs out there. They are let
+/// go where memory runs out, or where a change can't be made in them; a commit never fails for their sake.
 pub struct MirrorStore<S: RowStore> {
     inner: S,
     mirror: Option<Mirror>,
