@@ -10,3 +10,5 @@ pub mod Making
 pub mod Wanted
 pub mod Sizes
 pub mod Doable
+pub mod Failing
+pub mod Asking

@@ -1,10 +1,11 @@
 //! Records that are stored as rows of a table, read back from the rows of a query.
-ghost use Rattle.std.specs.Prelude.{◌≡◌, ◌<◌, ◌+◌, [], ◌∷◌, List, map, IfOk};
+ghost use Rattle.std.specs.Prelude.{◌≡◌, ◌<◌, ◌+◌, [], ◌∷◌, Bool, List, length, map, IfErr, IfOk};
 ghost use Rattle.sqlite_value.specs.declared.value.Value.TheVariants.{Text};
 ghost use Rattle.sqlite_value.specs.Order.{column, Row as SqlRow};
 ghost use Rattle.upd_sql.specs.Encoded.{flag, kind_code, num, target_code};
+ghost use Rattle.upd_sql.specs.Failing.{IsOutOfMemory};
 
-use sqlite::types::ValueRef;
+use sqlite::types::{FromSql, ValueRef};
 use sqlite::{Error, ErrorCode, Row};
 use std::alloc::Global;
 use upd_core::{CardRef, Entry, Ident, Kind, Name, Serial, Target};
@@ -53,11 +54,22 @@ fn card_in(row: &Row) -> Result<CardRef, Error>
     })
 }
 
+/// A column of a row. Out of memory apart it fails only where the column isn't there, or can't be read.
+pub(crate) fn column_of<T: FromSql>(row: &Row, at: usize) -> Result<T, Error>
+    ensures ok { IfOk result (λ x. (at < length row.now) × T.FromSql.reads_as (column row.now at) x) }
+    ensures failed { IfErr result (λ e. at < length row.now → T.FromSql.is_readable (column row.now at)
+        → IsOutOfMemory e) }
+{
+    row.get(at)
+}
+
 /// A column that is 0 or 1.
 pub fn flag_in(row: &Row, at: usize) -> Result<bool, Error>
-    ensures { IfOk result (λ found. column row.now at ≡ flag found) }
+    ensures ok { IfOk result (λ found. column row.now at ≡ flag found) }
+    ensures failed { IfErr result (λ e. at < length row.now → (kept : Bool) → column row.now at ≡ flag kept
+        → IsOutOfMemory e) }
 {
-    match row.get::<u32>(at)? {
+    match column_of::<u32>(row, at)? {
         0 => Ok(false),
         1 => Ok(true),
         _ => Err(ILLEGIBLE),

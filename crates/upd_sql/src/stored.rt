@@ -1,13 +1,14 @@
 //! What is stored, each read in a transaction of its own. An error is out of memory, a failure of the disk, or a file
 //! whose tables or rows are not a library's. None of these calls changes a table.
-ghost use Rattle.std.specs.Prelude.{◌≡◌, false, IfOk, IsTrue, OnOk};
+ghost use Rattle.std.specs.Prelude.{◌≡◌, ◌<◌, ◌^◌, false, IfOk, IsTrue, OnOk};
 ghost use Rattle.sqlite.specs.Held.{state};
 ghost use Rattle.sqlite.specs.State.{HasCleanDisk, Survives};
 ghost use Rattle.upd_records.specs.Rows.{Rows};
 ghost use Rattle.upd_row_store.specs.Tables.{AreByKey, AreRead, AreReadOf, mark_at, run_at};
 ghost use Rattle.upd_sql.specs.Commits.{MayKeep};
 ghost use Rattle.upd_sql.specs.Schema.{library_schema};
-ghost use Rattle.upd_sql.specs.LibraryTables.{ShowsTables};
+ghost use Rattle.upd_sql.specs.Failing.{FailsToRead, RunsAreReadable};
+ghost use Rattle.upd_sql.specs.LibraryTables.{AnyTables, ShowsTables};
 ghost use Rattle.upd_row_store.specs.Asked.{AreDecksOf};
 ghost use Rattle.upd_row_store.specs.Assembling.{AreRowsOf};
 ghost use Rattle.upd_sql.specs.Part.{AreActiveRows, IsPart};
@@ -37,6 +38,7 @@ pub fn stored_mark<S: Rising>(conn: &mut Connection<S>, site: &str) -> Result<u6
     ensures crash { Survives (state S.Store conn.old) (state S.Store conn.new) (MayKeep (state S.Store conn.old)) }
     ensures found { HasCleanDisk (state S.Store conn.new) → IfOk result (λ mark. (it : Rows)
         → ShowsTables it (state S.Store conn.old).committed → mark ≡ mark_at site.now it) }
+    ensures failed { FailsToRead AnyTables (state S.Store conn.old) (state S.Store conn.new) result }
 {
     let mut tx = begin(conn);
     let mark = reads::mark_in(&mut tx, site)?;
@@ -62,6 +64,8 @@ pub fn stored_run<S: Rising>(
     ensures crash { Survives (state S.Store conn.old) (state S.Store conn.new) (MayKeep (state S.Store conn.old)) }
     ensures found { HasCleanDisk (state S.Store conn.new) → IfOk result
         (λ run. (it : Rows) → ShowsTables it (state S.Store conn.old).committed → run ≡ run_at site.now number it) }
+    ensures failed { number < 2 ^ 63
+        → FailsToRead RunsAreReadable (state S.Store conn.old) (state S.Store conn.new) result }
 {
     let mut tx = begin(conn);
     let run = reads::run_in(&mut tx, site, number)?;

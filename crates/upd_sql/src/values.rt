@@ -1,5 +1,5 @@
 //! Parameters of statements.
-ghost use Rattle.std.specs.Prelude.{◌≡◌, IfOk, [], ◌∷◌};
+ghost use Rattle.std.specs.Prelude.{◌≡◌, ◌≤◌, ◌^◌, IfErr, IfOk, [], ◌∷◌};
 ghost use Rattle.sqlite_value.specs.Value.{owned};
 ghost use Rattle.sqlite_value.specs.declared.value.Value.TheVariants.{Int, Text, Blob};
 ghost use Rattle.upd_sql.specs.Encoded.{flag, kind_code, num, target_code};
@@ -58,7 +58,8 @@ pub(crate) fn blob(bytes: &[u8]) -> ValueRef<'_>
 
 /// A number of 64 bits, which the tables hold up to 2^63 - 1.
 pub(crate) fn wide(n: u64) -> Result<ValueRef<'static>, Error>
-    ensures { IfOk result (λ v. owned v ≡ num n) }
+    ensures value { IfOk result (λ v. owned v ≡ num n) }
+    ensures failed { IfErr result (λ e. (2 ^ 63 ≤ n) × (e ≡ Error.SqliteFailure ErrorCode.TooBig)) }
 {
     match i64::try_from(n) {
         Ok(n) => Ok(ValueRef::Int(n)),

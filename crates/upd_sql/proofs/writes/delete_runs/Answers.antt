@@ -14,7 +14,7 @@ returns-clause-makes g c =
     let old = state g.S.Store c.args.tx.now.conn.now in
     let new = state g.S.Store c.run.new.tx.conn.now in
     makes_from AnyTables (without_runs c.args.site.now c.args.number) delete_runs (Text c.args.site.now ∷ num c.args.number ∷ []) old new c.run.result
-    (rw (c.in_ok-up_to.ensures, c.site.ensures) at c.run.ensures.ran) (λ count ran it fits h. runs_gone old new count it h c.args.site.now c.args.number ran)
+    (rw (c.in_ok-up_to.ensures.value, c.site.ensures) at c.run.ensures.ran) (λ count ran it fits h. runs_gone old new count it h c.args.site.now c.args.number ran)
 
 pub returns-in_err-up_to-clause-makes : goal.returns-in_err-up_to-clause-makes
 returns-in_err-up_to-clause-makes g c = makes_nothing AnyTables (without_runs c.args.site.now c.args.number)

@@ -14,7 +14,7 @@ returns-clause-makes g c =
     let new = state g.S.Store c.run.new.tx.conn.now in
     let r : MarkRow = record { site = c.args.site.now; mark = c.args.mark } in
     makes_from AnyTables (with_mark c.args.site.now c.args.mark) insert_mark (mark_row r) old new c.run.result
-    (rw (c.in_ok-mark_value.ensures, c.site.ensures) at c.run.ensures.ran) (λ count ran it fits h. mark_added old new count it h r ran)
+    (rw (c.in_ok-mark_value.ensures.value, c.site.ensures) at c.run.ensures.ran) (λ count ran it fits h. mark_added old new count it h r ran)
 
 pub returns-in_err-mark_value-clause-makes : goal.returns-in_err-mark_value-clause-makes
 returns-in_err-mark_value-clause-makes g c = makes_nothing AnyTables (with_mark c.args.site.now c.args.mark)

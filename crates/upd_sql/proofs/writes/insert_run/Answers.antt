@@ -16,7 +16,7 @@ returns-clause-makes g c =
     let old = state g.S.Store c.args.tx.now.conn.now in
     let new = state g.S.Store c.run.new.tx.conn.now in
     let ran = rw (
-      c.in_ok-run_number.ensures,
+      c.in_ok-run_number.ensures.value,
       c.site.ensures,
       c.number.ensures,
       c.blob.ensures,

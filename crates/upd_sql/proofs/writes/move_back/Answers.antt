@@ -15,7 +15,7 @@ returns-clause-makes g c =
     let new = state g.S.Store c.run.new.tx.conn.now in
     let change = CardsMoved c.args.deck c.args.from (pos c.args.by) in
     makes_from (Fits change) (done change) text.move_back (num c.args.deck ∷ num c.args.from ∷ num c.args.by ∷ []) old new c.run.result
-    (rw (c.in_ok-distance.ensures, c.number.ensures, c.number-2.ensures) at c.run.ensures.ran)
+    (rw (c.in_ok-distance.ensures.value, c.number.ensures, c.number-2.ensures) at c.run.ensures.ran)
     (λ count ran it fits h. cards_moved_back old new count it h c.args.deck c.args.from c.args.by fits ran)
 
 pub returns-in_err-distance-clause-makes : goal.returns-in_err-distance-clause-makes

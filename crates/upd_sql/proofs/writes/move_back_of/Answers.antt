@@ -16,7 +16,7 @@ returns-clause-makes g c =
     let e : List ℕ × ℕ = (c.args.ident.now, c.args.least) in
     makes_from (CanMoveOf e c.args.deck c.args.from c.args.by) (with_moved e c.args.deck c.args.from c.args.by) text.move_back_of
     (Text c.args.ident.now ∷ num c.args.least ∷ num c.args.deck ∷ num c.args.from ∷ num c.args.by ∷ []) old new c.run.result
-    (rw (c.in_ok-distance.ensures, c.name.ensures, c.number.ensures, c.number-2.ensures, c.number-3.ensures) at c.run.ensures.ran)
+    (rw (c.in_ok-distance.ensures.value, c.name.ensures, c.number.ensures, c.number-2.ensures, c.number-3.ensures) at c.run.ensures.ran)
     (λ count ran it fits h. cards_moved_of old new count it h e c.args.deck c.args.from c.args.by fits ran)
 
 pub returns-in_err-distance-clause-makes : goal.returns-in_err-distance-clause-makes

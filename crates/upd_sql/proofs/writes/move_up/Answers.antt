@@ -17,7 +17,7 @@ returns-clause-makes g c =
     let less = c.args.by - 1 in
     let change = CardsMoved c.args.deck c.args.from (negsuc less) in
     let whole : c.args.by ≡ less + 1 = omega (arith, c.requires) in
-    let ran = rw (c.in_ok-distance.ensures, c.number.ensures, c.number-2.ensures) at c.run.ensures.ran in
+    let ran = rw (c.in_ok-distance.ensures.value, c.number.ensures, c.number-2.ensures) at c.run.ensures.ran in
     makes_from (Fits change) (done change) text.move_up (num c.args.deck ∷ num c.args.from ∷ num (less + 1) ∷ []) old new c.run.result
     (subst (λ (n : ℕ). Ran text.move_up (num c.args.deck ∷ num c.args.from ∷ num n ∷ []) old new c.run.result) whole ran)
     (λ count ran it fits h. cards_moved_up old new count it h c.args.deck c.args.from less fits ran)

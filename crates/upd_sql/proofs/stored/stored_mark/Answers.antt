@@ -1,0 +1,31 @@
+use Rattle.std.proofs.Common.{◌≡◌, Err, subst, rules}
+use Rattle.sqlite.specs.Held.{state}
+use Rattle.sqlite.specs.State.{Survives}
+use Rattle.upd_sql.specs.Failing.{FailsToRead}
+use Rattle.upd_sql.specs.LibraryTables.{AnyTables}
+use Rattle.upd_sql.proofs.Columns.{passed}
+use Rattle.upd_sql.proofs.Failures.{fails_committing, fails_outside}
+use Rattle.upd_sql.proofs.stored.stored_mark.Goals as goal
+
+pub returns-in_err-mark-clause-failed : goal.returns-in_err-mark-clause-failed
+returns-in_err-mark-clause-failed g c clean is_open unlimited it shown readable =
+    let old = state g.S.Store c.args.conn.now in
+    let last = state g.S.Store c.mark_in.new.tx.conn.now in
+    let begun = c.begin-tx.ensures.begun in
+    let same : c.drop-tx.new.self.0 ≡ c.conn-1.given.0 = search rules in
+    let ended = subst (λ h. Survives last (state g.S.Store h) (λ _. ⊥)) same c.drop-tx.ensures.survives in
+    passed _ c.from_residual.result c.from_residual.ensures.1
+    (fails_outside {X = Unit {0}} AnyTables old last (state g.S.Store c.conn-1.given.0) (Err c.in_err-mark.field-0.0) ended c.begin-tx.ensures.rise
+    c.begin-tx.ensures.settled (rw begun at (c.in_err-mark.ensures.failed)) clean is_open unlimited it shown readable)
+
+pub returns-in_err-commit-clause-failed : goal.returns-in_err-commit-clause-failed
+returns-in_err-commit-clause-failed g c clean is_open unlimited it shown readable =
+    let old = state g.S.Store c.args.conn.now in
+    let last = state g.S.Store c.mark_in.new.tx.conn.now in
+    let end = state g.S.Store c.commit.new.self.0 in
+    let begun = c.begin-tx.ensures.begun in
+    let same : c.commit.new.self.0 ≡ c.conn-2-1.given.0 = search rules in
+    let fails = fails_committing AnyTables old last end _ c.in_ok-mark.mark (rw begun at c.in_ok-mark.ensures.steps) c.commit.ensures.survives
+    c.in_err-commit.field-0.0 c.in_err-commit.ensures.err in
+    passed _ c.from_residual-in_err-commit.result c.from_residual-in_err-commit.ensures.1
+    (subst (λ h. FailsToRead {X = Unit {0}} AnyTables old (state g.S.Store h) (Err c.in_err-commit.field-0.0)) same fails clean is_open unlimited it shown readable)
