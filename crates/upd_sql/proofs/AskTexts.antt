@@ -62,3 +62,143 @@ mark_of_site_asked site = record {
   typed = mark_of_site_typed site;
   sums = λ db. no_sums 16 query.mark_of_site_tests query.mark_of_site_shown query.mark_of_site_order (overlay db []) (Text site ∷ []);
 }
+
+all_idents_lone : IsLone query.all_idents 0 (understood library_schema query.all_idents)
+unfolding understood everything
+all_idents_lone = (omega arith, refl)
+
+all_idents_typed : accepts_program library_schema [] (plain_query 2 query.all_idents_tests query.all_idents_shown query.all_idents_order) [] ≡ true
+unfolding everything
+all_idents_typed = refl
+
+pub all_idents_asked : CanBeAsked query.all_idents []
+all_idents_asked = record {
+  query = plain_query 2 query.all_idents_tests query.all_idents_shown query.all_idents_order;
+  names = _;
+  is = query.all_idents_is;
+  plain = query.all_idents_plain;
+  lone = all_idents_lone;
+  unlisted = query.all_idents_unlisted;
+  typed = all_idents_typed;
+  sums = λ db. no_sums 2 query.all_idents_tests query.all_idents_shown query.all_idents_order (overlay db []) [];
+}
+
+all_cards_lone : IsLone query.all_cards 0 (understood library_schema query.all_cards)
+unfolding understood everything
+all_cards_lone = (omega arith, refl)
+
+all_cards_typed : accepts_program library_schema [] (plain_query 4 query.all_cards_tests query.all_cards_shown query.all_cards_order) [] ≡ true
+unfolding everything
+all_cards_typed = refl
+
+pub all_cards_asked : CanBeAsked query.all_cards []
+all_cards_asked = record {
+  query = plain_query 4 query.all_cards_tests query.all_cards_shown query.all_cards_order;
+  names = _;
+  is = query.all_cards_is;
+  plain = query.all_cards_plain;
+  lone = all_cards_lone;
+  unlisted = query.all_cards_unlisted;
+  typed = all_cards_typed;
+  sums = λ db. no_sums 4 query.all_cards_tests query.all_cards_shown query.all_cards_order (overlay db []) [];
+}
+
+all_entries_lone : IsLone query.all_entries 0 (understood library_schema query.all_entries)
+unfolding understood everything
+all_entries_lone = (omega arith, refl)
+
+all_entries_typed : accepts_program library_schema [] (plain_query 6 query.all_entries_tests query.all_entries_shown query.all_entries_order) [] ≡ true
+unfolding everything
+all_entries_typed = refl
+
+pub all_entries_asked : CanBeAsked query.all_entries []
+all_entries_asked = record {
+  query = plain_query 6 query.all_entries_tests query.all_entries_shown query.all_entries_order;
+  names = _;
+  is = query.all_entries_is;
+  plain = query.all_entries_plain;
+  lone = all_entries_lone;
+  unlisted = query.all_entries_unlisted;
+  typed = all_entries_typed;
+  sums = λ db. no_sums 6 query.all_entries_tests query.all_entries_shown query.all_entries_order (overlay db []) [];
+}
+
+all_targets_lone : IsLone query.all_targets 0 (understood library_schema query.all_targets)
+unfolding understood everything
+all_targets_lone = (omega arith, refl)
+
+all_targets_typed : accepts_program library_schema [] (plain_query 8 query.all_targets_tests query.all_targets_shown query.all_targets_order) [] ≡ true
+unfolding everything
+all_targets_typed = refl
+
+pub all_targets_asked : CanBeAsked query.all_targets []
+all_targets_asked = record {
+  query = plain_query 8 query.all_targets_tests query.all_targets_shown query.all_targets_order;
+  names = _;
+  is = query.all_targets_is;
+  plain = query.all_targets_plain;
+  lone = all_targets_lone;
+  unlisted = query.all_targets_unlisted;
+  typed = all_targets_typed;
+  sums = λ db. no_sums 8 query.all_targets_tests query.all_targets_shown query.all_targets_order (overlay db []) [];
+}
+
+all_states_lone : IsLone query.all_states 0 (understood library_schema query.all_states)
+unfolding understood everything
+all_states_lone = (omega arith, refl)
+
+all_states_typed : accepts_program library_schema [] (plain_query 12 query.all_states_tests query.all_states_shown query.all_states_order) [] ≡ true
+unfolding everything
+all_states_typed = refl
+
+pub all_states_asked : CanBeAsked query.all_states []
+all_states_asked = record {
+  query = plain_query 12 query.all_states_tests query.all_states_shown query.all_states_order;
+  names = _;
+  is = query.all_states_is;
+  plain = query.all_states_plain;
+  lone = all_states_lone;
+  unlisted = query.all_states_unlisted;
+  typed = all_states_typed;
+  sums = λ db. no_sums 12 query.all_states_tests query.all_states_shown query.all_states_order (overlay db []) [];
+}
+
+each_state_lone : IsLone query.each_state 0 (understood library_schema query.each_state)
+unfolding understood everything
+each_state_lone = (omega arith, refl)
+
+each_state_typed : accepts_program library_schema [] (plain_query 12 query.all_states_tests query.all_states_shown []) [] ≡ true
+unfolding everything
+each_state_typed = refl
+
+pub each_state_asked : CanBeAsked query.each_state []
+each_state_asked = record {
+  query = plain_query 12 query.all_states_tests query.all_states_shown [];
+  names = _;
+  is = query.each_state_is;
+  plain = query.each_state_plain;
+  lone = each_state_lone;
+  unlisted = query.each_state_unlisted;
+  typed = each_state_typed;
+  sums = λ db. no_sums 12 query.all_states_tests query.all_states_shown [] (overlay db []) [];
+}
+
+all_counts_lone : IsLone query.all_counts 0 (understood library_schema query.all_counts)
+unfolding understood everything
+all_counts_lone = (omega arith, refl)
+
+all_counts_typed : accepts_program library_schema [] (plain_query 14 query.all_counts_tests query.all_counts_shown []) [] ≡ true
+unfolding everything
+all_counts_typed = refl
+
+pub all_counts_asked : CanBeAsked query.all_counts []
+all_counts_asked = record {
+  query = plain_query 14 query.all_counts_tests query.all_counts_shown [];
+  names = _;
+  is = query.all_counts_is;
+  plain = query.all_counts_plain;
+  lone = all_counts_lone;
+  unlisted = query.all_counts_unlisted;
+  typed = all_counts_typed;
+  sums = λ db. no_sums 14 query.all_counts_tests query.all_counts_shown [] (overlay db []) [];
+}

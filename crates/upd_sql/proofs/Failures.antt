@@ -15,6 +15,7 @@ use Rattle.sqlite.specs.Listing.{understood, reads_listing, IsSourceOf}
 use Rattle.sqlite.specs.State.{State, Fails, HasCleanDisk, HasCause as Causes, FailsToQuery, IsNoStatement, IsNotRun, IsTooLate, Shown, Survives, store_error}
 use Rattle.sqlite.specs.Steps.{FailsToCommit}
 use Rattle.sqlite.proofs.Callers.{IsPlain, command_of}
+use Rattle.sqlite.proofs.StateLemmas.{survives_then}
 use Rattle.upd_records.specs.Rows.{IsSame, Rows}
 use Rattle.upd_records.proofs.CountLemmas.{count_cons}
 use Rattle.upd_sqlite.specs.Rising.{TablesRise}
@@ -162,6 +163,14 @@ fails_then F a b c x (Err e) steps same s second = λ clean is_open unlimited it
       ]
       | inr more ↦ inr (omega (arith, more, s.counts))
     ]
+
+-- the same of several reads: what follows the first survives, and fails as is said
+pub then_fails : {X : Type 0} (F : Rows → Type 0) (G : Rows → X → Type 0) (a b c : State) (x : X) (e : Error) → Looks G a b (Ok x)
+    → Survives b c (λ _. ⊥) × FailsInside {X = Unit {0}} F b c (Err e) → Survives a c (λ _. ⊥) × FailsInside {X = Unit {0}} F a c (Err e)
+then_fails F G a b c x e first second = (
+  survives_then a b c (λ _. ⊥) (λ _. ⊥) (λ _. ⊥) (λ _ db none. none) (λ _ db none. none) first.steps.survives second.0,
+  fails_then {Y = Unit {0}} F a b c x (Err e) first.steps first.same second.0 second.1,
+)
 
 -- only the decoding failed
 pub fails_reading : {X : Type 0} (F : Rows → Type 0) (a b : State) (r : Result X Error)

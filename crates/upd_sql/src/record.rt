@@ -1,9 +1,11 @@
 //! Records that are stored as rows of a table, read back from the rows of a query.
-ghost use Rattle.std.specs.Prelude.{◌≡◌, ◌<◌, ◌+◌, [], ◌∷◌, Bool, List, length, map, IfErr, IfOk};
+ghost use Rattle.std.specs.Prelude.{◌≡◌, ◌<◌, ◌+◌, [], ◌∷◌, ℕ, true, Bool, List, length, map, IfErr, IfOk};
+ghost use Rattle.std.specs.List.{list_all};
 ghost use Rattle.sqlite_value.specs.declared.value.Value.TheVariants.{Text};
 ghost use Rattle.sqlite_value.specs.Order.{column, Row as SqlRow};
 ghost use Rattle.upd_sql.specs.Encoded.{flag, kind_code, num, target_code};
-ghost use Rattle.upd_sql.specs.Failing.{IsOutOfMemory};
+ghost use Rattle.upd_text.specs.Names.{is_name};
+ghost use Rattle.upd_sql.specs.Failing.{IsOutOfMemory, has_32_bits, is_readable_ref, is_readable_target};
 
 use sqlite::types::{FromSql, ValueRef};
 use sqlite::{Error, ErrorCode, Row};
@@ -16,15 +18,22 @@ pub(crate) trait Record: Sized {
     // The row as which it is stored.
     ghost stored: { Self → SqlRow };
 
+    // Whether that row can be read.
+    ghost is_readable: { Self → Bool };
+
     fn read(alloc: Global, row: &Row) -> Result<Self, Error>
-        ensures { IfOk result (λ x. (kept : Self) → row.now ≡ stored kept → x ≡ kept) };
+        ensures found { IfOk result (λ x. (kept : Self) → row.now ≡ stored kept → x ≡ kept) }
+        ensures failed { IfErr result (λ e. (kept : Self) → row.now ≡ stored kept → is_readable kept ≡ true
+            → IsOutOfMemory e) };
 }
 
 /// The error of a row that is not the row of a record.
 const ILLEGIBLE: Error = Error::SqliteFailure(ErrorCode::DatabaseCorrupt);
 
 fn name_in(row: &Row, at: usize) -> Result<Name, Error>
-    ensures { IfOk result (λ name. column row.now at ≡ Text name) }
+    ensures ok { IfOk result (λ name. column row.now at ≡ Text name) }
+    ensures failed { IfErr result (λ e. at < length row.now → (kept : List ℕ) → column row.now at ≡ Text kept
+        → is_name kept ≡ true → IsOutOfMemory e) }
 {
     match row.get_ref(at)? {
         ValueRef::Text(text) => match Name::read(text) {
@@ -36,7 +45,9 @@ fn name_in(row: &Row, at: usize) -> Result<Name, Error>
 }
 
 fn text_in(alloc: Global, row: &Row, at: usize) -> Result<Vec<u8>, Error>
-    ensures { IfOk result (λ text. column row.now at ≡ Text text.items) }
+    ensures ok { IfOk result (λ text. column row.now at ≡ Text text.items) }
+    ensures failed { IfErr result (λ e. at < length row.now → (kept : List ℕ) → column row.now at ≡ Text kept
+        → IsOutOfMemory e) }
 {
     match row.get_ref(at)? {
         ValueRef::Text(text) => Ok(Vec::from_slice(alloc, text)?),
@@ -46,12 +57,13 @@ fn text_in(alloc: Global, row: &Row, at: usize) -> Result<Vec<u8>, Error>
 
 /// The card that the first two columns name.
 fn card_in(row: &Row) -> Result<CardRef, Error>
-    ensures { IfOk result (λ card. (column row.now 0 ≡ Text card.name) × (column row.now 1 ≡ num card.number)) }
+    ensures ok { IfOk result (λ card. (column row.now 0 ≡ Text card.name) × (column row.now 1 ≡ num card.number)) }
+    ensures failed { IfErr result (λ e. 1 < length row.now → (kept : CardRef) → column row.now 0 ≡ Text kept.name
+        → column row.now 1 ≡ num kept.number → is_readable_ref kept ≡ true → IsOutOfMemory e) }
 {
-    Ok(CardRef {
-        name: name_in(row, 0)?,
-        number: row.get(1)?,
-    })
+    let name = name_in(row, 0)?;
+    let number = number_in(row, 1)?;
+    Ok(CardRef { name, number })
 }
 
 /// A column of a row. Out of memory apart it fails only where the column isn't there, or can't be read.
@@ -61,6 +73,15 @@ pub(crate) fn column_of<T: FromSql>(row: &Row, at: usize) -> Result<T, Error>
         → IsOutOfMemory e) }
 {
     row.get(at)
+}
+
+/// A column that is a number of 32 bits.
+fn number_in(row: &Row, at: usize) -> Result<u32, Error>
+    ensures ok { IfOk result (λ n. column row.now at ≡ num n) }
+    ensures failed { IfErr result (λ e. at < length row.now → (kept : ℕ) → column row.now at ≡ num kept
+        → has_32_bits kept ≡ true → IsOutOfMemory e) }
+{
+    column_of(row, at)
 }
 
 /// A column that is 0 or 1.
@@ -77,7 +98,8 @@ pub fn flag_in(row: &Row, at: usize) -> Result<bool, Error>
 }
 
 fn kind_of(code: u32) -> Result<Kind, Error>
-    ensures { IfOk result (λ kind. kind_code kind ≡ code) }
+    ensures ok { IfOk result (λ kind. kind_code kind ≡ code) }
+    ensures failed { IfErr result (λ e. (kept : Kind) → ¬ (kind_code kept ≡ code)) }
 {
     match code {
         0 => Ok(Kind::Set),
@@ -88,7 +110,9 @@ fn kind_of(code: u32) -> Result<Kind, Error>
 }
 
 fn target_of(kind: u32, target: Serial, deck: Serial) -> Result<Target, Error>
-    ensures { IfOk result (λ found. target_code found ≡ num kind ∷ num target ∷ num deck ∷ []) }
+    ensures ok { IfOk result (λ found. target_code found ≡ num kind ∷ num target ∷ num deck ∷ []) }
+    ensures failed { IfErr result (λ e. (kept : Target)
+        → ¬ (target_code kept ≡ num kind ∷ num target ∷ num deck ∷ [])) }
 {
     match (kind, deck) {
         (0, 0) => Ok(Target::Set(target)),
@@ -101,71 +125,96 @@ fn target_of(kind: u32, target: Serial, deck: Serial) -> Result<Target, Error>
 /// The target in three columns that begin at a place.
 fn target_in(row: &Row, at: usize) -> Result<Target, Error>
     requires { at < 8 }
-    ensures { IfOk result (λ found. target_code found
+    ensures ok { IfOk result (λ found. target_code found
         ≡ column row.now at ∷ column row.now (at + 1) ∷ column row.now (at + 2) ∷ []) }
+    ensures failed { IfErr result (λ e. at + 2 < length row.now → (kept : Target) → target_code kept
+        ≡ column row.now at ∷ column row.now (at + 1) ∷ column row.now (at + 2) ∷ []
+        → is_readable_target kept ≡ true → IsOutOfMemory e) }
 {
-    target_of(row.get(at)?, row.get(at + 1)?, row.get(at + 2)?)
+    let kind = number_in(row, at)?;
+    let target = number_in(row, at + 1)?;
+    let deck = number_in(row, at + 2)?;
+    target_of(kind, target, deck)
 }
 
 impl Record for Ident {
     ghost use Rattle.upd_sql.specs.Encoded.{ident_row};
+    ghost use Rattle.upd_sql.specs.Failing.{is_readable_ident};
 
     ghost stored = { ident_row };
 
+    ghost is_readable = { is_readable_ident };
+
     fn read(_: Global, row: &Row) -> Result<Ident, Error> {
+        let age = number_in(row, 0)?;
+        let name = name_in(row, 1)?;
+        let code = number_in(row, 2)?;
+        let kind = kind_of(code)?;
+        let noprop = flag_in(row, 3)?;
+        let held = flag_in(row, 4)?;
         Ok(Ident {
-            age: row.get(0)?,
-            name: name_in(row, 1)?,
-            kind: kind_of(row.get(2)?)?,
-            noprop: flag_in(row, 3)?,
-            held: flag_in(row, 4)?,
+            age,
+            name,
+            kind,
+            noprop,
+            held,
         })
     }
 }
 
 impl Record for CardRow {
     ghost use Rattle.upd_sql.specs.Encoded.{card_row};
+    ghost use Rattle.upd_sql.specs.Failing.{is_readable_card};
 
     ghost stored = { card_row };
 
+    ghost is_readable = { is_readable_card };
+
     fn read(alloc: Global, row: &Row) -> Result<CardRow, Error> {
+        let card = card_in(row)?;
+        let deck = number_in(row, 2)?;
+        let pos = number_in(row, 3)?;
+        let body = text_in(alloc, row, 4)?;
         Ok(CardRow {
-            card: card_in(row)?,
-            deck: row.get(2)?,
-            pos: row.get(3)?,
-            body: text_in(alloc, row, 4)?,
+            card,
+            deck,
+            pos,
+            body,
         })
     }
 }
 
 impl Record for EntryRow {
     ghost use Rattle.upd_sql.specs.Encoded.{entry_row};
+    ghost use Rattle.upd_sql.specs.Failing.{is_readable_entry};
 
     ghost stored = { entry_row };
 
+    ghost is_readable = { is_readable_entry };
+
     fn read(_: Global, row: &Row) -> Result<EntryRow, Error> {
-        Ok(EntryRow {
-            card: card_in(row)?,
-            ord: row.get(2)?,
-            entry: Entry {
-                ident: row.get(3)?,
-                active: flag_in(row, 4)?,
-            },
-        })
+        let card = card_in(row)?;
+        let ord = number_in(row, 2)?;
+        let ident = number_in(row, 3)?;
+        let active = flag_in(row, 4)?;
+        let entry = Entry { ident, active };
+        Ok(EntryRow { card, ord, entry })
     }
 }
 
 impl Record for TargetRow {
     ghost use Rattle.upd_sql.specs.Encoded.{target_row};
+    ghost use Rattle.upd_sql.specs.Failing.{is_readable_target_row};
 
     ghost stored = { target_row };
 
+    ghost is_readable = { is_readable_target_row };
+
     fn read(_: Global, row: &Row) -> Result<TargetRow, Error> {
-        Ok(TargetRow {
-            card: card_in(row)?,
-            ord: row.get(2)?,
-            target: target_in(row, 3)?,
-        })
+        let card = card_in(row)?;
+        let ord = number_in(row, 2)?;
+        let target = target_in(row, 3)?;
+        Ok(TargetRow { card, ord, target })
     }
 }
 
@@ -173,53 +222,70 @@ impl Record for TargetRow {
 impl Record for u32 {
     ghost use Rattle.std.specs.Prelude.{[], ◌∷◌};
     ghost use Rattle.upd_sql.specs.Encoded.{num};
+    ghost use Rattle.upd_sql.specs.Failing.{has_32_bits};
 
     ghost stored = { λ n. num n ∷ [] };
 
+    ghost is_readable = { has_32_bits };
+
     fn read(_: Global, row: &Row) -> Result<u32, Error> {
-        let n = row.get(0)?;
-        Ok(n)
+        number_in(row, 0)
     }
 }
 
 impl Record for StateRow {
     ghost use Rattle.upd_sql.specs.Encoded.{state_row};
+    ghost use Rattle.upd_sql.specs.Failing.{is_readable_state};
 
     ghost stored = { state_row };
 
+    ghost is_readable = { is_readable_state };
+
     fn read(_: Global, row: &Row) -> Result<StateRow, Error> {
-        Ok(StateRow {
-            card: card_in(row)?,
-            active: flag_in(row, 2)?,
-        })
+        let card = card_in(row)?;
+        let active = flag_in(row, 2)?;
+        Ok(StateRow { card, active })
     }
 }
 
 /// A card with its status.
 impl Record for (CardRef, bool) {
     ghost use Rattle.upd_sql.specs.Encoded.{kept_state};
+    ghost use Rattle.upd_sql.specs.Failing.{is_readable_ref};
 
     ghost stored = { kept_state };
 
+    ghost is_readable = { λ s. is_readable_ref s.0 };
+
     fn read(_: Global, row: &Row) -> Result<(CardRef, bool), Error> {
-        Ok((card_in(row)?, flag_in(row, 2)?))
+        let card = card_in(row)?;
+        let active = flag_in(row, 2)?;
+        Ok((card, active))
     }
 }
 
 /// A target with its count.
 impl Record for (Target, u32) {
+    ghost use Rattle.std.specs.Prelude.{◌&&◌};
     ghost use Rattle.upd_sql.specs.Encoded.{kept_count};
+    ghost use Rattle.upd_sql.specs.Failing.{has_32_bits, is_readable_target};
 
     ghost stored = { kept_count };
 
+    ghost is_readable = { λ c. is_readable_target c.0 && has_32_bits c.1 };
+
     fn read(_: Global, row: &Row) -> Result<(Target, u32), Error> {
-        Ok((target_in(row, 0)?, row.get(3)?))
+        let target = target_in(row, 0)?;
+        let n = number_in(row, 3)?;
+        Ok((target, n))
     }
 }
 
 /// The records of all rows of an answer.
 pub(crate) fn each<T: Record + Drop>(alloc: Global, rows: &[Row]) -> Result<Vec<T>, Error>
-    ensures { IfOk result (λ found. (kept : List T) → rows.now ≡ map T.stored kept → found.items ≡ kept) }
+    ensures found { IfOk result (λ found. (kept : List T) → rows.now ≡ map T.stored kept → found.items ≡ kept) }
+    ensures failed { IfErr result (λ e. (kept : List T) → rows.now ≡ map T.stored kept
+        → list_all T.is_readable kept ≡ true → IsOutOfMemory e) }
 {
     let mut found = Vec::new(alloc);
     for row in rows {

@@ -7,7 +7,7 @@ ghost use Rattle.upd_records.specs.Rows.{Rows};
 ghost use Rattle.upd_row_store.specs.Tables.{AreByKey, AreRead, AreReadOf, mark_at, run_at};
 ghost use Rattle.upd_sql.specs.Commits.{MayKeep};
 ghost use Rattle.upd_sql.specs.Schema.{library_schema};
-ghost use Rattle.upd_sql.specs.Failing.{FailsToRead, RunsAreReadable};
+ghost use Rattle.upd_sql.specs.Failing.{AreReadable, FailsToRead, RunsAreReadable};
 ghost use Rattle.upd_sql.specs.LibraryTables.{AnyTables, ShowsTables};
 ghost use Rattle.upd_row_store.specs.Asked.{AreDecksOf};
 ghost use Rattle.upd_row_store.specs.Assembling.{AreRowsOf};
@@ -113,6 +113,7 @@ pub fn stored_states<S: Rising>(conn: &mut Connection<S>, alloc: Global) -> Resu
         (λ found. (it : Rows) → ShowsTables it (state S.Store conn.old).committed → AreRead it found) }
     ensures order { HasCleanDisk (state S.Store conn.new) → IfOk result
         (λ found. (it : Rows) → ShowsTables it (state S.Store conn.old).committed → AreByKey found) }
+    ensures failed { FailsToRead AreReadable (state S.Store conn.old) (state S.Store conn.new) result }
 {
     let mut tx = begin(conn);
     let found = whole::all_states_in(&mut tx, alloc)?;
@@ -221,6 +222,7 @@ pub fn stored_active<S: Rising>(
     ensures crash { Survives (state S.Store conn.old) (state S.Store conn.new) (MayKeep (state S.Store conn.old)) }
     ensures found { HasCleanDisk (state S.Store conn.new) → IfOk result
         (λ found. (it : Rows) → ShowsTables it (state S.Store conn.old).committed → AreActiveRows it found) }
+    ensures failed { FailsToRead AreReadable (state S.Store conn.old) (state S.Store conn.new) result }
 {
     let mut tx = begin(conn);
     let found = active::active_in(&mut tx, alloc)?;
