@@ -48,11 +48,18 @@ fn purged(ident: Ident, age: Serial) -> Ident
     }
 }
 
-/// The ident of an age is no longer held.
-pub fn purge_ident(idents: &mut [Ident], age: Serial)
+/// The ident of an age, of these, is no longer held.
+fn purge_in(idents: &mut [Ident], age: Serial)
     ensures { idents.new ≡ map (purged_row age) idents.old }
 {
     for ident in idents.iter_mut() {
         *ident = purged(*ident, age);
     }
+}
+
+/// The ident of an age is no longer held.
+pub fn purge_ident(idents: &mut Vec<Ident>, age: Serial)
+    ensures { idents.new.items ≡ map (purged_row age) idents.old.items }
+{
+    purge_in(idents, age);
 }

@@ -1,4 +1,4 @@
-use Rattle.std.proofs.Common.{subst, sym, map, ap, ◌∙◌}
+use Rattle.std.proofs.Common.{subst, sym, map}
 use Rattle.upd_records.proofs.CountLemmas.{same_map}
 use Rattle.upd_records.specs.Changes.{purged_row}
 use Rattle.upd_records.specs.Rows.{IsSame}
@@ -6,8 +6,8 @@ use Rattle.upd_mirror.proofs.mirror.Mirror.purge_ident.Goals as goal
 
 pub returns : goal.returns
 returns c = λ rows are. record {
-  idents = subst (λ xs. IsSame xs (map (purged_row c.args.age) rows.idents))
-      (sym (c.purge_ident.ensures ∙ ap (map (purged_row c.args.age)) c.deref_mut.ensures.value)) (same_map (purged_row c.args.age) are.idents);
+  idents = subst (λ xs. IsSame xs (map (purged_row c.args.age) rows.idents)) (sym c.purge_ident.ensures) (same_map
+      (purged_row c.args.age) are.idents);
   cards = are.cards;
   homes = are.homes;
   entries = are.entries;

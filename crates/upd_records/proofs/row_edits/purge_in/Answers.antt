@@ -1,7 +1,7 @@
 use Rattle.std.proofs.Common.{refl}
 use Rattle.upd_records.specs.Changes.{purged_row}
 use Rattle.upd_core.proofs.InPlaceLemmas.{map_over_more}
-use Rattle.upd_records.proofs.row_edits.purge_ident.Goals as goal
+use Rattle.upd_records.proofs.row_edits.purge_in.Goals as goal
 
 pub loop-ident-preserved : goal.loop-ident-preserved
 loop-ident-preserved c =
