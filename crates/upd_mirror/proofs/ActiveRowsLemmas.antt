@@ -6,7 +6,7 @@ use Rattle.std.specs.Prelude.{◌||◌}
 use Rattle.std.specs.BTreeMap.{BTreeMap, IsOrdered, get}
 use Rattle.std.specs.Cmp.{nat_cmp_is, tied_itself}
 use Rattle.std.specs.List.{AllByRecursion, HoldsAt, filter, flat_map, list_all, list_any}
-use Rattle.std.specs.List.Sorted.{IsBinarySearchResult, IsNonDecreasingBy, IsPartitionPoint, IsStrictlySortedBy}
+use Rattle.std.specs.List.Sorted.{IsBinarySearchResult, IsNonDecreasingBy, IsPartitionPoint, IsSortedBy, IsStrictlySortedBy}
 use Rattle.std.specs.Map.{keys_of}
 use Rattle.std.specs.Option.{MatchOption, option_map_or}
 use Rattle.std.specs.Ordering.{is_eq, is_lt, nat_cmp, ordering_index, ordering_reverse, ordering_then}
@@ -51,11 +51,15 @@ next_above [] up k d less = absurd (omega arith)
 next_above (e ∷ es) up zero d less = above_at e.0 es (sorted_head by_name e.0 (keys_of es) up) 0 d (omega arith)
 next_above (e ∷ es) up (suc k) d less = next_above es (sorted_tail by_name e.0 (keys_of es) up) k d (omega arith)
 
+-- no pair in order is below the one before it
+pub pairs_sorted : (es : List (CardRef × Bool)) → AreInOrder es → IsSortedBy (λ a b. is_lt (by_name a.0 b.0)) es
+pairs_sorted es up = λ k d low within.
+    ap (λ n. is_lt (by_name (get_or es n d).0 (get_or es k d).0)) (add-one k)
+    ∙ ap is_lt (refs_total.antisymm (get_or es (suc k) d).0 (get_or es k d).0 ∙ ap ordering_reverse (next_above es up k d (omega arith)))
+
 -- pairs in order rise towards each card
 rise_to : (c : CardRef) (es : List (CardRef × Bool)) → AreInOrder es → IsNonDecreasingBy (λ e. ordering_index (by_name e.0 c)) es
-rise_to c es up = searchable_from_sorted refs_total (λ e. e.0) es c (λ k d low within.
-    ap (λ n. is_lt (by_name (get_or es n d).0 (get_or es k d).0)) (add-one k)
-    ∙ ap is_lt (refs_total.antisymm (get_or es (suc k) d).0 (get_or es k d).0 ∙ ap ordering_reverse (next_above es up k d (omega arith))))
+rise_to c es up = searchable_from_sorted refs_total (λ e. e.0) es c (pairs_sorted es up)
 
 -- whether a card is active by pairs
 abbrev is_active_by : List (CardRef × Bool) → CardRef → Bool

@@ -64,7 +64,11 @@ impl Mirror {
     {
         let states = statuses_of(alloc, &self.statuses, cards)?;
         let counts = Vec::from_slice(alloc, &self.counts)?;
-        Ok(states_by_key(States { states, counts }))
+        let States { states: _, counts } = states_by_key(States {
+            states: Vec::new(alloc),
+            counts,
+        });
+        Ok(States { states, counts })
     }
 
     /// The rows that make the library; memory alone can fail.
