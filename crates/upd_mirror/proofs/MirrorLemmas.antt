@@ -4,7 +4,7 @@ use Rattle.std.proofs.Common.{if◌then◌else◌, IsTrue, List, [], ◌∷◌, 
 use Rattle.std.proofs.Common.{None, Some, Option, Result, Ok, Err, OnOk, IfOk, refl, ap, sym, ◌∙◌, subst, arith, append-nil}
 use Rattle.std.specs.Prelude.{◌&&◌, ◌||◌, ℤ, pos, negsuc, ◌^◌, ◌≤◌}
 use Rattle.std.specs.BTreeMap.{BTreeMap, get, is_at}
-use Rattle.std.specs.List.{count_by, filter, list_any, AllByRecursion}
+use Rattle.std.specs.List.{filter, list_any, AllByRecursion}
 use Rattle.std.specs.Option.{option_map_or}
 use Rattle.std.specs.Map.{lookup}
 use Rattle.std.specs.Ordering.{is_eq, nat_cmp}
@@ -19,7 +19,7 @@ use Rattle.upd_text.specs.Order.{by_name}
 use Rattle.upd_text.specs.declared.card_ref.CardRef.{CardRef}
 use Rattle.upd_core.specs.Targets.{is_same}
 use Rattle.upd_core.specs.declared.target.Target.{Target}
-use Rattle.upd_records.proofs.CountLemmas.{count_cons, same_append, same_filter, same_map, same_of, same_trans}
+use Rattle.upd_records.proofs.CountLemmas.{same_append, same_filter, same_map, same_of, same_trans}
 use Rattle.upd_records.proofs.EffectLemmas.{any_append}
 use Rattle.upd_core.specs.declared.change.Change.{Change}
 use Rattle.upd_records.specs.Changes.{change_view, done, done_all, moved_row, shifted}

@@ -1,20 +1,18 @@
 -- Statuses in memory, by card, are those of the table: what is read of them, and what changes leave.
-use Rattle.std.proofs.Common.{◌≡◌, ℕ, ◌+◌, ◌<◌, Bool, true, false}
-use Rattle.std.proofs.Common.{cond, not, List, [], ◌∷◌, ◌++◌, length, map, get_or, take}
+use Rattle.std.proofs.Common.{◌≡◌, Bool, true, false}
+use Rattle.std.proofs.Common.{cond, not, List, [], ◌∷◌, ◌++◌, map}
 use Rattle.std.proofs.Common.{Option, None, Some, refl, ap, sym, ◌∙◌, subst}
-use Rattle.std.specs.Prelude.{◌||◌}
 use Rattle.std.specs.BTreeMap.{BTreeMap, IsOrdered, get, is_at}
 use Rattle.std.specs.Cmp.{tied_itself}
 use Rattle.std.specs.List.{AllByRecursion, filter, flat_map}
 use Rattle.std.specs.List.Sorted.{IsStrictlySortedBy}
 use Rattle.std.specs.Map.{keys_of, lookup}
-use Rattle.std.specs.Option.{option_map_or, option_or}
+use Rattle.std.specs.Option.{option_map_or}
 use Rattle.std.specs.Ordering.{is_eq}
 use Rattle.upd_text.specs.Order.{by_name}
 use Rattle.upd_text.specs.declared.card_ref.CardRef.{CardRef}
 use Rattle.upd_records.proofs.CountLemmas.{same_map, same_of}
 use Rattle.upd_records.specs.Rows.{IsSame, StateRow, same_ref, state_rows}
-use Rattle.upd_row_store.proofs.AskedLemmas.{cards_next}
 use Rattle.upd_row_store.specs.Asked.{is_asked}
 use Rattle.upd_row_store.specs.Tables.{state_pair}
 use Rattle.upd_mirror.specs.RowsByKey.{AreStatuses}

@@ -1,4 +1,4 @@
-use Rattle.std.proofs.Common.{◌≡◌, ◌∙◌, ap, subst, sym, filter, map, flat_map}
+use Rattle.std.proofs.Common.{◌∙◌, ap, subst, sym, filter, map, flat_map}
 use Rattle.upd_records.specs.Rows.{IsSame}
 use Rattle.upd_row_store.specs.Asked.{is_asked}
 use Rattle.upd_row_store.specs.Tables.{state_pair}

@@ -1,4 +1,4 @@
-use Rattle.std.proofs.Common.{◌∙◌, [], refl, subst, sym, map}
+use Rattle.std.proofs.Common.{◌∙◌, [], subst, sym, map}
 use Rattle.upd_records.proofs.CountLemmas.{same_of}
 use Rattle.upd_records.specs.Rows.{IsSame}
 use Rattle.upd_row_store.specs.Tables.{count_pair}
