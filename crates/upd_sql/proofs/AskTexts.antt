@@ -1,5 +1,5 @@
 -- Each text that reads can be asked.
-use Rattle.std.proofs.Common.{◌≡◌, ℕ, inl, inr, true, List, [], ◌∷◌, refl, arith}
+use Rattle.std.proofs.Common.{◌≡◌, ℕ, ◌≤◌, inl, inr, true, List, [], ◌∷◌, refl, arith}
 use Rattle.sqlite_value.specs.declared.value.Value.TheVariants.{Text}
 use Rattle.sqlite_value.specs.Order.{Row}
 use Rattle.sqlite_value.specs.declared.keys.Key.{Key}
@@ -9,7 +9,7 @@ use Rattle.sqlite_sql.specs.Term.{Term}
 use Rattle.sqlite_tied.specs.Compute.{everything}
 use Rattle.sqlite_typing.specs.Types.{accepts_program}
 use Rattle.sqlite.specs.Listing.{understood}
-use Rattle.upd_sqlite.specs.Keyed.{plain_query}
+use Rattle.upd_sqlite.specs.Keyed.{plain_query, row_count}
 use Rattle.upd_sql.specs.Schema.{library_schema}
 use Rattle.upd_sql.specs.Encoded.{num}
 use Rattle.upd_sql.specs.Asking.{CanBeAsked, IsLone}

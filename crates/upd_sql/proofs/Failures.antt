@@ -1,5 +1,5 @@
 -- Why a read fails: a query, one after another, and outside of the transaction.
-use Rattle.std.proofs.Common.{◌≡◌, ◌⊎◌, inl, inr, ℕ, ◌<◌, zero, suc, Bool, true, false, not, ◌&&◌, cond, List, [], ◌∷◌, map, filter, slice_get, length, get_or, None, Some, Result, Ok, Err, IfErr, IsTrue, refl, sym, ap, subst, ◌∙◌, arith}
+use Rattle.std.proofs.Common.{◌≡◌, ◌⊎◌, inl, inr, ℕ, ◌<◌, ◌+◌, zero, suc, Bool, true, false, not, ◌&&◌, cond, List, [], ◌∷◌, ◌++◌, map, filter, slice_get, length, get_or, None, Some, Result, Ok, Err, IfErr, IsTrue, refl, sym, ap, subst, ◌∙◌, arith}
 use Rattle.std.specs.List.{count_by, list_all}
 use Rattle.std.proofs.lemmas.Bool.{cases_Bool}
 use Rattle.std.proofs.lemmas.List.{append-nil}
@@ -10,9 +10,9 @@ use Rattle.sqlite_trees.specs.Tree.{Trees}
 use Rattle.sqlite_schema.specs.declared.command.Command.TheVariants.{Select}
 use Rattle.sqlite_typing.specs.Types.{accepts_program}
 use Rattle.sqlite.specs.declared.error.Error.{Error}
-use Rattle.sqlite.specs.Effect.{RefusesToRead}
+use Rattle.sqlite.specs.Effect.{Database, RefusesToRead}
 use Rattle.sqlite.specs.Listing.{understood, reads_listing, IsSourceOf}
-use Rattle.sqlite.specs.State.{State, HasCleanDisk, HasCause as Causes, FailsToQuery, IsNoStatement, IsNotRun, IsTooLate, Survives, store_error}
+use Rattle.sqlite.specs.State.{State, Fails, HasCleanDisk, HasCause as Causes, FailsToQuery, IsNoStatement, IsNotRun, IsTooLate, Shown, Survives, store_error}
 use Rattle.sqlite.specs.Steps.{FailsToCommit}
 use Rattle.sqlite.proofs.Callers.{IsPlain, command_of}
 use Rattle.sqlite.proofs.StateLemmas.{survives_then}
@@ -22,9 +22,9 @@ use Rattle.upd_sqlite.specs.Rising.{TablesRise}
 use Rattle.upd_sqlite.specs.Steps.{Steps}
 use Rattle.upd_sqlite.proofs.Chains.{clean_before}
 use Rattle.upd_sql.specs.Asking.{CanBeAsked, IsLone}
-use Rattle.upd_sql.specs.Commits.{LeavesTables}
+use Rattle.upd_sql.specs.Commits.{LeavesTables, Looks}
 use Rattle.upd_sql.specs.Failing.{FailsInside, FailsToRead, HasCause, IsOutOfMemory}
-use Rattle.upd_sql.specs.LibraryTables.{HoldsTables}
+use Rattle.upd_sql.specs.LibraryTables.{HoldsTables, ShowsTables}
 use Rattle.upd_sql.specs.Schema.{library_schema}
 use Rattle.upd_sql.proofs.CommitLemmas.{holds_begun}
 
