@@ -61,14 +61,14 @@ def in_small(place):
 
 # the kind in words, the library, the Nth run, the mode, the numbers of runs in the two spools, and the budget in millions of instructions
 KINDS = [
-    ("a card at the end of a deck", full_library, at(CARDS), "quick", (4, 8), 17),
-    ("a card in the middle of a deck", full_library, at(CARDS // 2), "quick", (4, 8), 38),
-    ("a card at the front of a deck", full_library, at(1), "quick", (4, 8), 58),
-    ("a card at the end, and the deck compiled", full_library, compiled, "quick", (4, 8), 23),
-    ("a yank that switches nothing", full_library, yank_nothing, "quick", (4, 8), 350),
-    ("a card deleted, small file", small_library, one_deleted, "quick", (50, 150), 1.6),
-    ("a card at the end, small file", small_library, in_small(150), "quick", (50, 150), 4.7),
-    ("a card in the middle, small file", small_library, in_small(75), "quick", (50, 150), 6.2),
+    ("a card at the end of a deck", full_library, at(CARDS), "quick", (4, 8), 10),
+    ("a card in the middle of a deck", full_library, at(CARDS // 2), "quick", (4, 8), 30),
+    ("a card at the front of a deck", full_library, at(1), "quick", (4, 8), 50),
+    ("a card at the end, and the deck compiled", full_library, compiled, "quick", (4, 8), 16),
+    ("a yank that switches nothing", full_library, yank_nothing, "quick", (4, 8), 200),
+    ("a card deleted, small file", small_library, one_deleted, "quick", (50, 150), 1.3),
+    ("a card at the end, small file", small_library, in_small(150), "quick", (50, 150), 4.2),
+    ("a card in the middle, small file", small_library, in_small(75), "quick", (50, 150), 5.6),
 ]
 
 
