@@ -1,5 +1,5 @@
 -- A settlement: where the number is at or below the mark nothing changes, else the mark rises.
-use Rattle.std.proofs.Common.{◌≡◌, ℕ, ◌<◌, ◌≤◌, nat_le, Bool, true, false, if◌then◌else◌, List, [], ◌∷◌, ◌++◌, filter, find, not, Result, Ok, Err, refl, sym}
+use Rattle.std.proofs.Common.{◌≡◌, ℕ, ◌<◌, nat_le, Bool, true, false, if◌then◌else◌, List, [], ◌∷◌, ◌++◌, filter, find, not, Result, Ok, Err, refl, sym}
 use Rattle.std.proofs.Common.{ap, subst, ◌∙◌, arith, bytes_eq, Some, None}
 use Rattle.std.specs.Option.{option_map_or}
 use Rattle.std.proofs.lemmas.Bool.Decides.{nat_tests}
@@ -13,14 +13,8 @@ use Rattle.upd_sql.specs.Commits.{LeavesTables}
 use Rattle.upd_sql.specs.RowEdits.{with_runs_settled}
 use Rattle.upd_sql.specs.LibraryTables.{HoldsTables, AnyTables}
 
-low : (n m : ℕ) → n ≤ m → nat_le n m ≡ true
-low n m h = grind (arith, nat_tests)
-
 high : (n m : ℕ) → m < n → nat_le n m ≡ false
 high n m h = grind (arith, nat_tests)
-
-stays_as : (site : List ℕ) (n : ℕ) (it : Rows) → n ≤ mark_at site it → settled_to site n it ≡ it
-stays_as site n it h = ap (λ b. if b then it else with_runs_settled site n it) (low n (mark_at site it) h)
 
 rises_as : (site : List ℕ) (n : ℕ) (it : Rows) → mark_at site it < n → settled_to site n it ≡ with_runs_settled site n it
 rises_as site n it h = ap (λ b. if b then it else with_runs_settled site n it) (high n (mark_at site it) h)
