@@ -1,25 +1,41 @@
 -- Each text that reads can be asked.
-use Rattle.std.proofs.Common.{◌≡◌, ℕ, ◌≤◌, inl, inr, true, List, [], ◌∷◌, refl, arith}
+use Rattle.std.proofs.Common.{◌≡◌, ℕ, ◌<◌, zero, suc, inl, inr, true, List, [], ◌∷◌, length, slice_index_or, None, refl, ap, ◌∙◌, arith}
 use Rattle.sqlite_value.specs.declared.value.Value.TheVariants.{Text}
 use Rattle.sqlite_value.specs.Order.{Row}
 use Rattle.sqlite_value.specs.declared.keys.Key.{Key}
 use Rattle.sqlite_trees.specs.Tree.{Trees}
+use Rattle.sqlite_sql.specs.Group.{value_over}
 use Rattle.sqlite_sql.specs.Program.{overlay, QueryOverflows}
 use Rattle.sqlite_sql.specs.Term.{Term}
 use Rattle.sqlite_tied.specs.Compute.{everything}
 use Rattle.sqlite_typing.specs.Types.{accepts_program}
 use Rattle.sqlite.specs.Listing.{understood}
+use Rattle.upd_text.specs.declared.card_ref.CardRef.{CardRef}
 use Rattle.upd_sqlite.specs.Keyed.{plain_query, row_count}
 use Rattle.upd_sql.specs.Schema.{library_schema}
 use Rattle.upd_sql.specs.Encoded.{num}
 use Rattle.upd_sql.specs.Asking.{CanBeAsked, IsLone}
+use Rattle.upd_sql.proofs.Conditions.{card_params}
 use Rattle.upd_sql.proofs.ReadTexts as query
+use Rattle.upd_sql.proofs.WriteTexts.{delete_card_tests}
 
 -- a plain query has no sums
-no_sums : (tree : ℕ) (tests project : List Term) (order : List (Term × Key)) (db : Trees) (params : Row)
+pub no_sums : (tree : ℕ) (tests project : List Term) (order : List (Term × Key)) (db : Trees) (params : Row)
     → ¬ QueryOverflows (plain_query tree tests project order) db params
 no_sums tree tests project order db params (inl sums) = sums
 no_sums tree tests project order db params (inr folds) = folds.4
+
+-- nor has a count: it stops at the last number
+only_one : {A : Type 0} (x y : A) (k : ℕ) → k < length (x ∷ []) → slice_index_or (x ∷ []) k y ≡ y → x ≡ y
+only_one x y zero within is = is
+only_one x y (suc k) within is = absurd (omega (arith, within))
+
+no_overflow : (tree : ℕ) (db : Trees) → ¬ QueryOverflows (row_count tree) db []
+no_overflow tree db (inl sums) =
+    let over = sums.2.4 in
+    let fails : value_over sums.2.1 over.1 ≡ None = over.4 in
+    absurd (let no = ap (value_over sums.2.1) (only_one _ over.1 over.0 over.2 over.3) ∙ fails in cc)
+no_overflow tree db (inr folds) = folds.4
 
 run_of_key_lone : IsLone query.run_of_key 2 (understood library_schema query.run_of_key)
 unfolding understood everything
@@ -201,4 +217,128 @@ all_counts_asked = record {
   unlisted = query.all_counts_unlisted;
   typed = all_counts_typed;
   sums = λ db. no_sums 14 query.all_counts_tests query.all_counts_shown [] (overlay db []) [];
+}
+
+-- ---- rows of some cards
+
+deck_of_card_lone : IsLone query.deck_of_card 2 (understood library_schema query.deck_of_card)
+unfolding understood everything
+deck_of_card_lone = (omega arith, refl)
+
+deck_of_card_typed : (card : CardRef) → accepts_program library_schema [] (plain_query 4 delete_card_tests query.deck_of_card_shown []) (card_params card) ≡ true
+unfolding everything
+deck_of_card_typed card = refl
+
+pub deck_of_card_asked : (card : CardRef) → CanBeAsked query.deck_of_card (card_params card)
+deck_of_card_asked card = record {
+  query = plain_query 4 delete_card_tests query.deck_of_card_shown [];
+  names = _;
+  is = query.deck_of_card_is;
+  plain = query.deck_of_card_plain;
+  lone = deck_of_card_lone;
+  unlisted = query.deck_of_card_unlisted;
+  typed = deck_of_card_typed card;
+  sums = λ db. no_sums 4 delete_card_tests query.deck_of_card_shown [] (overlay db []) (card_params card);
+}
+
+cards_of_deck_lone : IsLone query.cards_of_deck 1 (understood library_schema query.cards_of_deck)
+unfolding understood everything
+cards_of_deck_lone = (omega arith, refl)
+
+cards_of_deck_typed : (deck : ℕ) → accepts_program library_schema [] (plain_query 4 query.cards_of_deck_tests query.all_cards_shown query.all_cards_order) (num deck ∷ []) ≡ true
+unfolding everything
+cards_of_deck_typed deck = refl
+
+pub cards_of_deck_asked : (deck : ℕ) → CanBeAsked query.cards_of_deck (num deck ∷ [])
+cards_of_deck_asked deck = record {
+  query = plain_query 4 query.cards_of_deck_tests query.all_cards_shown query.all_cards_order;
+  names = _;
+  is = query.cards_of_deck_is;
+  plain = query.cards_of_deck_plain;
+  lone = cards_of_deck_lone;
+  unlisted = query.cards_of_deck_unlisted;
+  typed = cards_of_deck_typed deck;
+  sums = λ db. no_sums 4 query.cards_of_deck_tests query.all_cards_shown query.all_cards_order (overlay db []) (num deck ∷ []);
+}
+
+entries_of_ident_lone : IsLone query.entries_of_ident 1 (understood library_schema query.entries_of_ident)
+unfolding understood everything
+entries_of_ident_lone = (omega arith, refl)
+
+entries_of_ident_typed : (ident : List ℕ) → accepts_program library_schema [] (plain_query 6 query.ident_tests query.all_entries_shown []) (Text ident ∷ []) ≡ true
+unfolding everything
+entries_of_ident_typed ident = refl
+
+pub entries_of_ident_asked : (ident : List ℕ) → CanBeAsked query.entries_of_ident (Text ident ∷ [])
+entries_of_ident_asked ident = record {
+  query = plain_query 6 query.ident_tests query.all_entries_shown [];
+  names = _;
+  is = query.entries_of_ident_is;
+  plain = query.entries_of_ident_plain;
+  lone = entries_of_ident_lone;
+  unlisted = query.entries_of_ident_unlisted;
+  typed = entries_of_ident_typed ident;
+  sums = λ db. no_sums 6 query.ident_tests query.all_entries_shown [] (overlay db []) (Text ident ∷ []);
+}
+
+states_of_ident_lone : IsLone query.states_of_ident 1 (understood library_schema query.states_of_ident)
+unfolding understood everything
+states_of_ident_lone = (omega arith, refl)
+
+states_of_ident_typed : (ident : List ℕ) → accepts_program library_schema [] (plain_query 12 query.ident_tests query.all_states_shown []) (Text ident ∷ []) ≡ true
+unfolding everything
+states_of_ident_typed ident = refl
+
+pub states_of_ident_asked : (ident : List ℕ) → CanBeAsked query.states_of_ident (Text ident ∷ [])
+states_of_ident_asked ident = record {
+  query = plain_query 12 query.ident_tests query.all_states_shown [];
+  names = _;
+  is = query.states_of_ident_is;
+  plain = query.states_of_ident_plain;
+  lone = states_of_ident_lone;
+  unlisted = query.states_of_ident_unlisted;
+  typed = states_of_ident_typed ident;
+  sums = λ db. no_sums 12 query.ident_tests query.all_states_shown [] (overlay db []) (Text ident ∷ []);
+}
+
+-- ---- how many rows there are
+
+count_cards_lone : IsLone query.count_cards 0 (understood library_schema query.count_cards)
+unfolding understood everything
+count_cards_lone = (omega arith, refl)
+
+count_cards_typed : accepts_program library_schema [] (row_count 4) [] ≡ true
+unfolding everything
+count_cards_typed = refl
+
+pub count_cards_asked : CanBeAsked query.count_cards []
+count_cards_asked = record {
+  query = row_count 4;
+  names = _;
+  is = query.count_cards_is;
+  plain = query.count_cards_plain;
+  lone = count_cards_lone;
+  unlisted = query.count_cards_unlisted;
+  typed = count_cards_typed;
+  sums = λ db. no_overflow 4 (overlay db []);
+}
+
+count_entries_lone : IsLone query.count_entries 0 (understood library_schema query.count_entries)
+unfolding understood everything
+count_entries_lone = (omega arith, refl)
+
+count_entries_typed : accepts_program library_schema [] (row_count 6) [] ≡ true
+unfolding everything
+count_entries_typed = refl
+
+pub count_entries_asked : CanBeAsked query.count_entries []
+count_entries_asked = record {
+  query = row_count 6;
+  names = _;
+  is = query.count_entries_is;
+  plain = query.count_entries_plain;
+  lone = count_entries_lone;
+  unlisted = query.count_entries_unlisted;
+  typed = count_entries_typed;
+  sums = λ db. no_overflow 6 (overlay db []);
 }

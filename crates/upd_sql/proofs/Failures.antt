@@ -1,5 +1,5 @@
 -- Why a read fails: a query, one after another, and outside of the transaction.
-use Rattle.std.proofs.Common.{◌≡◌, ◌⊎◌, inl, inr, ℕ, ◌<◌, ◌+◌, zero, suc, Bool, true, false, not, ◌&&◌, cond, List, [], ◌∷◌, ◌++◌, map, filter, slice_get, length, get_or, None, Some, Result, Ok, Err, IfErr, IsTrue, refl, sym, ap, subst, ◌∙◌, arith}
+use Rattle.std.proofs.Common.{◌≡◌, ◌⊎◌, inl, inr, ℕ, ◌<◌, zero, suc, Bool, true, false, not, ◌&&◌, cond, List, [], ◌∷◌, map, filter, slice_get, length, get_or, None, Some, Result, Ok, Err, IfErr, IsTrue, refl, sym, ap, subst, ◌∙◌, arith}
 use Rattle.std.specs.List.{count_by, list_all}
 use Rattle.std.proofs.lemmas.Bool.{cases_Bool}
 use Rattle.std.proofs.lemmas.List.{append-nil}
@@ -10,9 +10,9 @@ use Rattle.sqlite_trees.specs.Tree.{Trees}
 use Rattle.sqlite_schema.specs.declared.command.Command.TheVariants.{Select}
 use Rattle.sqlite_typing.specs.Types.{accepts_program}
 use Rattle.sqlite.specs.declared.error.Error.{Error}
-use Rattle.sqlite.specs.Effect.{Database, RefusesToRead}
+use Rattle.sqlite.specs.Effect.{RefusesToRead}
 use Rattle.sqlite.specs.Listing.{understood, reads_listing, IsSourceOf}
-use Rattle.sqlite.specs.State.{State, Fails, HasCleanDisk, HasCause as Causes, FailsToQuery, IsNoStatement, IsNotRun, IsTooLate, Shown, Survives, store_error}
+use Rattle.sqlite.specs.State.{State, HasCleanDisk, HasCause as Causes, FailsToQuery, IsNoStatement, IsNotRun, IsTooLate, Survives, store_error}
 use Rattle.sqlite.specs.Steps.{FailsToCommit}
 use Rattle.sqlite.proofs.Callers.{IsPlain, command_of}
 use Rattle.sqlite.proofs.StateLemmas.{survives_then}
@@ -24,7 +24,7 @@ use Rattle.upd_sqlite.proofs.Chains.{clean_before}
 use Rattle.upd_sql.specs.Asking.{CanBeAsked, IsLone}
 use Rattle.upd_sql.specs.Commits.{LeavesTables, Looks}
 use Rattle.upd_sql.specs.Failing.{FailsInside, FailsToRead, HasCause, IsOutOfMemory}
-use Rattle.upd_sql.specs.LibraryTables.{HoldsTables, ShowsTables}
+use Rattle.upd_sql.specs.LibraryTables.{HoldsTables}
 use Rattle.upd_sql.specs.Schema.{library_schema}
 use Rattle.upd_sql.proofs.CommitLemmas.{holds_begun}
 
@@ -78,6 +78,13 @@ first_record row_of p [] rows row first are all = absurd (let no = sym first ∙
 first_record row_of p (x ∷ kept) rows row first are all =
     let is : Some row ≡ Some (row_of x) = sym first ∙ ap (λ rs. slice_get rs 0) are in
     (x, cc, (and_both (p x) (list_all p kept) all).0)
+
+-- a test that follows from another
+pub all_weaker : {A : Type 0} (p q : A → Bool) → ((x : A) → p x ≡ true → q x ≡ true) → (xs : List A) → list_all p xs ≡ true → list_all q xs ≡ true
+all_weaker p q means [] all = refl
+all_weaker p q means (x ∷ xs) all =
+    let both = and_both (p x) (list_all p xs) all in
+    ap (λ b. b && list_all q xs) (means x both.0) ∙ all_weaker p q means xs both.1
 
 -- those that pass another test
 pub all_kept : {X : Type 0} (p q : X → Bool) (xs : List X) → list_all p xs ≡ true → list_all p (filter q xs) ≡ true
@@ -164,6 +171,11 @@ fails_then F a b c x (Err e) steps same s second = λ clean is_open unlimited it
       | inr more ↦ inr (omega (arith, more, s.counts))
     ]
 
+-- the same of more tables
+pub fails_weaker : {X : Type 0} (F G : Rows → Type 0) (a b : State) (r : Result X Error) → ((it : Rows) → G it → F it) → FailsInside F a b r
+    → FailsInside G a b r
+fails_weaker F G a b r more fails = λ clean is_open unlimited it h readable. fails clean is_open unlimited it h (more it readable)
+
 -- the same of several reads: what follows the first survives, and fails as is said
 pub then_fails : {X : Type 0} (F : Rows → Type 0) (G : Rows → X → Type 0) (a b c : State) (x : X) (e : Error) → Looks G a b (Ok x)
     → Survives b c (λ _. ⊥) × FailsInside {X = Unit {0}} F b c (Err e) → Survives a c (λ _. ⊥) × FailsInside {X = Unit {0}} F a c (Err e)
@@ -171,6 +183,17 @@ then_fails F G a b c x e first second = (
   survives_then a b c (λ _. ⊥) (λ _. ⊥) (λ _. ⊥) (λ _ db none. none) (λ _ db none. none) first.steps.survives second.0,
   fails_then {Y = Unit {0}} F a b c x (Err e) first.steps first.same second.0 second.1,
 )
+
+-- the same after two reads, and after three
+module _ {X Y : Type 0} (K : Rows → Type 0) (F : Rows → X → Type 0) (G : Rows → Y → Type 0) (a b c : State) (x : X) (y : Y) (first : Looks F a b (Ok x))
+    (second : Looks G b c (Ok y)) where
+  pub third_fails : (d : State) (e : Error) → Survives c d (λ _. ⊥) × FailsInside {X = Unit {0}} K c d (Err e)
+      → Survives a d (λ _. ⊥) × FailsInside {X = Unit {0}} K a d (Err e)
+  third_fails d e last = then_fails K F a b d x e first (then_fails K G b c d y e second last)
+
+  pub fourth_fails : {Z : Type 0} (H : Rows → Z → Type 0) (d end : State) (z : Z) (e : Error) → Looks H c d (Ok z)
+      → Survives d end (λ _. ⊥) × FailsInside {X = Unit {0}} K d end (Err e) → Survives a end (λ _. ⊥) × FailsInside {X = Unit {0}} K a end (Err e)
+  fourth_fails H d end z e third last = third_fails end e (then_fails K H c d end z e third last)
 
 -- only the decoding failed
 pub fails_reading : {X : Type 0} (F : Rows → Type 0) (a b : State) (r : Result X Error)

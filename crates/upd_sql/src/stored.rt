@@ -7,7 +7,7 @@ ghost use Rattle.upd_records.specs.Rows.{Rows};
 ghost use Rattle.upd_row_store.specs.Tables.{AreByKey, AreRead, AreReadOf, mark_at, run_at};
 ghost use Rattle.upd_sql.specs.Commits.{MayKeep};
 ghost use Rattle.upd_sql.specs.Schema.{library_schema};
-ghost use Rattle.upd_sql.specs.Failing.{AreReadable, FailsToRead, RunsAreReadable};
+ghost use Rattle.upd_sql.specs.Failing.{AreReadable, FailsToRead, IsReadablePart, RunsAreReadable};
 ghost use Rattle.upd_sql.specs.LibraryTables.{AnyTables, ShowsTables};
 ghost use Rattle.upd_row_store.specs.Asked.{AreDecksOf};
 ghost use Rattle.upd_row_store.specs.Assembling.{AreRowsOf};
@@ -90,6 +90,7 @@ pub fn stored_library_rows<S: Rising>(
     ensures crash { Survives (state S.Store conn.old) (state S.Store conn.new) (MayKeep (state S.Store conn.old)) }
     ensures found { HasCleanDisk (state S.Store conn.new) → IfOk result
         (λ found. (it : Rows) → ShowsTables it (state S.Store conn.old).committed → AreRowsOf it found) }
+    ensures failed { FailsToRead AreReadable (state S.Store conn.old) (state S.Store conn.new) result }
 {
     let mut tx = begin(conn);
     let found = whole::library_rows_in(&mut tx, alloc)?;
@@ -142,6 +143,7 @@ pub fn stored_states_of<S: Rising>(
         (λ found. (it : Rows) → ShowsTables it (state S.Store conn.old).committed → AreReadOf cards.now it found) }
     ensures order { HasCleanDisk (state S.Store conn.new) → IfOk result
         (λ found. (it : Rows) → ShowsTables it (state S.Store conn.old).committed → AreByKey found) }
+    ensures failed { FailsToRead AreReadable (state S.Store conn.old) (state S.Store conn.new) result }
 {
     let mut tx = begin(conn);
     let found = statuses::card_states_in(&mut tx, alloc, cards)?;
@@ -167,6 +169,7 @@ pub fn stored_decks_of<S: Rising>(
     ensures crash { Survives (state S.Store conn.old) (state S.Store conn.new) (MayKeep (state S.Store conn.old)) }
     ensures found { HasCleanDisk (state S.Store conn.new) → IfOk result (λ found. (it : Rows)
         → ShowsTables it (state S.Store conn.old).committed → AreDecksOf cards.now it.cards found.items) }
+    ensures failed { FailsToRead AreReadable (state S.Store conn.old) (state S.Store conn.new) result }
 {
     let mut tx = begin(conn);
     let found = part::decks_in(&mut tx, alloc, cards)?;
@@ -198,6 +201,7 @@ pub fn stored_part<S: Rising>(
     ensures sized { HasCleanDisk (state S.Store conn.new) → IfOk result
         (λ found. (state S.Store conn.old).committed.schema ≡ library_schema
         → HasSizes found.sizes (state S.Store conn.new).committed.trees) }
+    ensures failed { FailsToRead (IsReadablePart known) (state S.Store conn.old) (state S.Store conn.new) result }
 {
     let mut tx = begin(conn);
     let found = part::part_in(&mut tx, alloc, ages, known)?;

@@ -149,6 +149,7 @@ pub fn library_rows_in<S: Alter>(
 ) -> Result<LibraryRows, Error>
     ensures same_reference { tx.new.conn.ghost_name ≡ tx.old.conn.ghost_name }
     ensures looks { Looks AreRowsOf (state S.Store tx.old.conn.now) (state S.Store tx.new.conn.now) result }
+    ensures failed { FailsInside AreReadable (state S.Store tx.old.conn.now) (state S.Store tx.new.conn.now) result }
 {
     Ok(LibraryRows {
         idents: idents_in(tx, alloc)?,

@@ -2,7 +2,6 @@ use Rattle.sqlite.specs.Held.{state}
 use Rattle.upd_sql.specs.Listed.{by_state_row}
 use Rattle.upd_sql.proofs.ReadTexts as query
 use Rattle.upd_sql.proofs.WholeLemmas.{state_rows_listed}
-use Rattle.upd_sql.specs.Failing.{AreReadable}
 use Rattle.upd_sql.proofs.AskTexts.{all_states_asked}
 use Rattle.upd_sql.proofs.active.state_rows_in.Goals as goal
 

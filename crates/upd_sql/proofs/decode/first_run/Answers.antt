@@ -1,9 +1,8 @@
-use Rattle.std.proofs.Common.{◌≡◌, true, Some, ap, slice_get, subst, rules}
-use Rattle.std.specs.List.{list_all}
+use Rattle.std.proofs.Common.{◌≡◌, Some, slice_get, rules}
 use Rattle.upd_sql.specs.Encoded.{run_row}
 use Rattle.upd_sql.specs.Failing.{is_readable_run}
 use Rattle.upd_sql.proofs.Columns.{passed}
-use Rattle.upd_sql.proofs.Failures.{and_both, first_record}
+use Rattle.upd_sql.proofs.Failures.{first_record}
 use Rattle.upd_sql.proofs.decode.first_run.Goals as goal
 
 pub returns-in_err-run_of-in-Some-clause-failed : goal.returns-in_err-run_of-in-Some-clause-failed

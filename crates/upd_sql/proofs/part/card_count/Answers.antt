@@ -4,6 +4,10 @@ use Rattle.upd_sql.proofs.ReadTexts as query
 use Rattle.upd_sql.proofs.PartLemmas.{cards_counted}
 use Rattle.upd_sql.specs.Sizes.{card_tree}
 use Rattle.upd_sql.proofs.SizeLemmas.{card_rows_counted}
+use Rattle.std.proofs.Common.{◌^◌, ◌-◌, ◌<◌}
+use Rattle.upd_sql.specs.Failing.{CanBeCounted}
+use Rattle.upd_sql.proofs.AskTexts.{count_cards_asked}
+use Rattle.upd_sql.proofs.Failures.{fails_weaker}
 use Rattle.upd_sql.proofs.part.card_count.Goals as goal
 
 pub returns-clause-looks : goal.returns-clause-looks
@@ -15,3 +19,10 @@ pub returns-clause-number : goal.returns-clause-number
 returns-clause-number g c =
     c.number_of.ensures.number (length ((state g.S.Store c.args.tx.now.conn.now).now.trees card_tree))
     (λ rows schema shown. card_rows_counted (state g.S.Store c.args.tx.now.conn.now) (state g.S.Store c.number_of.new.tx.conn.now) rows schema shown)
+
+pub returns-clause-failed : goal.returns-clause-failed
+returns-clause-failed g c =
+    let old = state g.S.Store c.args.tx.now.conn.now in
+    let new = state g.S.Store c.number_of.new.tx.conn.now in
+    fails_weaker (λ it. length it.cards < 2 ^ 63 - 1) CanBeCounted old new c.number_of.result (λ it few. few.0)
+    (c.number_of.ensures.failed (λ it. length it.cards) count_cards_asked (cards_counted old new))

@@ -4,6 +4,9 @@ use Rattle.sqlite.specs.Effect.{Database}
 use Rattle.upd_sqlite.proofs.Chains.{clean_before}
 use Rattle.upd_sql.specs.Sizes.{AreSizesOf, entry_tree}
 use Rattle.upd_sql.proofs.WholeLemmas.{looks_as, looks_then}
+use Rattle.upd_sql.specs.Failing.{CanBeCounted}
+use Rattle.upd_sql.proofs.Columns.{passed}
+use Rattle.upd_sql.proofs.Failures.{then_fails}
 use Rattle.upd_sql.proofs.part.sizes_in.Goals as goal
 
 pub returns-clause-looks : goal.returns-clause-looks
@@ -24,3 +27,10 @@ returns-clause-sized g c clean schema =
       c.in_ok-cards.ensures.number early schema,
       c.in_ok-entries.ensures.number clean (ap (λ (d : Database). d.schema) same ∙ schema) ∙ ap (λ (d : Database). length (d.trees entry_tree)) same,
     )
+
+pub returns-in_err-entries-clause-failed : goal.returns-in_err-entries-clause-failed
+returns-in_err-entries-clause-failed g c clean is_open unlimited it h few =
+    let all = then_fails CanBeCounted (λ it n. n ≡ length it.cards) (state g.S.Store c.args.tx.now.conn.now) (state g.S.Store c.card_count.new.tx.conn.now)
+    (state g.S.Store c.entry_count.new.tx.conn.now) c.in_ok-cards.cards c.in_err-entries.field-0.0 c.in_ok-cards.ensures.looks
+    (c.in_err-entries.ensures.looks.steps.survives, c.in_err-entries.ensures.failed) in
+    passed _ c.from_residual-in_err-entries.result c.from_residual-in_err-entries.ensures.1 (all.1 clean is_open unlimited it h few)

@@ -2,7 +2,6 @@ use Rattle.sqlite.specs.Held.{state}
 use Rattle.upd_sql.specs.Listed.{by_place}
 use Rattle.upd_sql.proofs.ReadTexts as query
 use Rattle.upd_sql.proofs.WholeLemmas.{cards_listed}
-use Rattle.upd_sql.specs.Failing.{AreReadable}
 use Rattle.upd_sql.proofs.AskTexts.{all_cards_asked}
 use Rattle.upd_sql.proofs.whole.cards_in.Goals as goal
 

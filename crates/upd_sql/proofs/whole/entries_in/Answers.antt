@@ -2,7 +2,6 @@ use Rattle.sqlite.specs.Held.{state}
 use Rattle.upd_sql.specs.Listed.{by_entry}
 use Rattle.upd_sql.proofs.ReadTexts as query
 use Rattle.upd_sql.proofs.WholeLemmas.{entries_listed}
-use Rattle.upd_sql.specs.Failing.{AreReadable}
 use Rattle.upd_sql.proofs.AskTexts.{all_entries_asked}
 use Rattle.upd_sql.proofs.whole.entries_in.Goals as goal
 

@@ -2,7 +2,6 @@ use Rattle.sqlite.specs.Held.{state}
 use Rattle.upd_sql.specs.Listed.{by_age}
 use Rattle.upd_sql.proofs.ReadTexts as query
 use Rattle.upd_sql.proofs.WholeLemmas.{idents_listed}
-use Rattle.upd_sql.specs.Failing.{AreReadable}
 use Rattle.upd_sql.proofs.AskTexts.{all_idents_asked}
 use Rattle.upd_sql.proofs.whole.idents_in.Goals as goal
 

@@ -4,7 +4,6 @@ use Rattle.sqlite.specs.Held.{state}
 use Rattle.upd_sql.specs.Listed.{in_any_order}
 use Rattle.upd_sql.proofs.ReadTexts as query
 use Rattle.upd_sql.proofs.WholeLemmas.{states_listed}
-use Rattle.upd_sql.specs.Failing.{AreReadable}
 use Rattle.upd_sql.proofs.AskTexts.{each_state_asked}
 use Rattle.std.proofs.Common.{◌∙◌}
 use Rattle.std.proofs.lemmas.List.Folds.{list_all-map}
