@@ -1,5 +1,4 @@
 mod ReadTexts
-mod Columns
 mod Failures
 mod Listing
 mod VersionRows

@@ -1,14 +1,13 @@
 //! Stored runs and marks, read from the rows of a query.
-ghost use Rattle.std.specs.Prelude.{◌≡◌, ◌<◌, true, Bool, List, length, map, IfErr, IfOk};
+ghost use Rattle.std.specs.Prelude.{◌≡◌, true, Bool, List, map, IfErr, IfOk};
 ghost use Rattle.std.specs.List.{list_all};
-ghost use Rattle.sqlite_value.specs.Order.{Row as SqlRow, column};
-ghost use Rattle.upd_sql.specs.Encoded.{flag};
-ghost use Rattle.upd_keep.specs.Failing.{IsOutOfMemory};
+ghost use Rattle.sqlite_value.specs.Order.{Row as SqlRow};
+ghost use Rattle.upd_sql.specs.Failing.{IsOutOfMemory};
 
-use sqlite::types::FromSql;
 use sqlite::{Error, ErrorCode, Row};
 use std::alloc::Global;
 use upd_records::{MarkRow, RunRow};
+use upd_sql::{column_of, flag_in};
 
 /// The error of a column or a table that no library has.
 pub(crate) const ILLEGIBLE: Error = Error::SqliteFailure(ErrorCode::DatabaseCorrupt);
@@ -27,31 +26,9 @@ pub(crate) trait Record: Sized {
             → IsOutOfMemory e) };
 }
 
-/// A column of a row. Out of memory apart it fails only where the column isn't there, or can't be read.
-fn column_of<T: FromSql>(row: &Row, at: usize) -> Result<T, Error>
-    ensures ok { IfOk result (λ x. (at < length row.now) × T.FromSql.reads_as (column row.now at) x) }
-    ensures failed { IfErr result (λ e. at < length row.now → T.FromSql.is_readable (column row.now at)
-        → IsOutOfMemory e) }
-{
-    row.get(at)
-}
-
-/// A column that is 0 or 1.
-fn flag_of(row: &Row, at: usize) -> Result<bool, Error>
-    ensures ok { IfOk result (λ found. column row.now at ≡ flag found) }
-    ensures failed { IfErr result (λ e. at < length row.now → (kept : Bool) → column row.now at ≡ flag kept
-        → IsOutOfMemory e) }
-{
-    match column_of::<u32>(row, at)? {
-        0 => Ok(false),
-        1 => Ok(true),
-        _ => Err(ILLEGIBLE),
-    }
-}
-
 impl Record for RunRow {
     ghost use Rattle.upd_sql.specs.Encoded.{run_row};
-    ghost use Rattle.upd_keep.specs.Failing.{is_readable_run};
+    ghost use Rattle.upd_sql.specs.Failing.{is_readable_run};
 
     ghost stored = { run_row };
 
@@ -62,7 +39,7 @@ impl Record for RunRow {
         let number = column_of(row, 1)?;
         let mode = column_of(row, 2)?;
         let bytes = column_of(row, 3)?;
-        let accepted = flag_of(row, 4)?;
+        let accepted = flag_in(row, 4)?;
         let reply = column_of(row, 5)?;
         Ok(RunRow {
             site,
@@ -77,7 +54,7 @@ impl Record for RunRow {
 
 impl Record for MarkRow {
     ghost use Rattle.upd_sql.specs.Encoded.{mark_row};
-    ghost use Rattle.upd_keep.specs.Failing.{is_readable_mark};
+    ghost use Rattle.upd_sql.specs.Failing.{is_readable_mark};
 
     ghost stored = { mark_row };
 

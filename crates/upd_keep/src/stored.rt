@@ -5,7 +5,8 @@ ghost use Rattle.sqlite.specs.State.{HasCleanDisk, Survives};
 ghost use Rattle.upd_records.specs.Rows.{Rows};
 ghost use Rattle.upd_row_store.specs.Keeping.{IsLost};
 ghost use Rattle.upd_sql.specs.LibraryTables.{ShowsTables};
-ghost use Rattle.upd_keep.specs.Failing.{FailsToRead, FailsToTell};
+ghost use Rattle.upd_sql.specs.Failing.{FailsToRead};
+ghost use Rattle.upd_keep.specs.Failing.{AreReadable, FailsToTell};
 ghost use Rattle.upd_keep.specs.Keeping.{AreKept, HasRunLines, HasSiteLines};
 
 use crate::kept::Kept;
@@ -28,7 +29,7 @@ pub fn stored_kept<S: Rising>(conn: &mut Connection<S>, alloc: Global) -> Result
     ensures survives { Survives (state S.Store conn.old) (state S.Store conn.new) (λ _. ⊥) }
     ensures found { HasCleanDisk (state S.Store conn.new) → IfOk result
         (λ kept. (it : Rows) → ShowsTables it (state S.Store conn.old).committed → AreKept it kept) }
-    ensures failed { FailsToRead (state S.Store conn.old) (state S.Store conn.new) result }
+    ensures failed { FailsToRead AreReadable (state S.Store conn.old) (state S.Store conn.new) result }
 {
     let mut tx = begin(conn);
     let kept = kept_in(&mut tx, alloc)?;

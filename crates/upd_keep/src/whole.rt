@@ -13,7 +13,8 @@ ghost use Rattle.upd_sql.specs.Commits.{LeavesTables, Looks, WasOpen};
 ghost use Rattle.upd_sql.specs.LibraryTables.{HoldsTables};
 ghost use Rattle.upd_sql.specs.Listed.{AreInOrder};
 ghost use Rattle.upd_sql.specs.Schema.{library_schema};
-ghost use Rattle.upd_keep.specs.Failing.{FailsInside, IsOutOfMemory};
+ghost use Rattle.upd_sql.specs.Failing.{FailsInside, IsOutOfMemory};
+ghost use Rattle.upd_keep.specs.Failing.{AreReadable};
 ghost use Rattle.upd_keep.specs.Keeping.{AreKept, by_key, by_site};
 
 use crate::kept::Kept;
@@ -67,7 +68,7 @@ fn runs_in<S: Alter>(tx: &mut Transaction<'_, S>, alloc: Global) -> Result<Vec<R
     ensures same_reference { tx.new.conn.ghost_name ≡ tx.old.conn.ghost_name }
     ensures looks { Looks (λ it found. AreInOrder by_key it.runs found.items)
         (state S.Store tx.old.conn.now) (state S.Store tx.new.conn.now) result }
-    ensures failed { FailsInside (state S.Store tx.old.conn.now) (state S.Store tx.new.conn.now) result }
+    ensures failed { FailsInside AreReadable (state S.Store tx.old.conn.now) (state S.Store tx.new.conn.now) result }
 {
     all_of(tx, alloc, texts::ALL_RUNS)
 }
@@ -76,7 +77,7 @@ fn marks_in<S: Alter>(tx: &mut Transaction<'_, S>, alloc: Global) -> Result<Vec<
     ensures same_reference { tx.new.conn.ghost_name ≡ tx.old.conn.ghost_name }
     ensures looks { Looks (λ it found. AreInOrder by_site it.settled found.items)
         (state S.Store tx.old.conn.now) (state S.Store tx.new.conn.now) result }
-    ensures failed { FailsInside (state S.Store tx.old.conn.now) (state S.Store tx.new.conn.now) result }
+    ensures failed { FailsInside AreReadable (state S.Store tx.old.conn.now) (state S.Store tx.new.conn.now) result }
 {
     all_of(tx, alloc, texts::ALL_MARKS)
 }
@@ -85,7 +86,7 @@ fn marks_in<S: Alter>(tx: &mut Transaction<'_, S>, alloc: Global) -> Result<Vec<
 pub(crate) fn kept_in<S: Alter>(tx: &mut Transaction<'_, S>, alloc: Global) -> Result<Kept, Error>
     ensures same_reference { tx.new.conn.ghost_name ≡ tx.old.conn.ghost_name }
     ensures looks { Looks AreKept (state S.Store tx.old.conn.now) (state S.Store tx.new.conn.now) result }
-    ensures failed { FailsInside (state S.Store tx.old.conn.now) (state S.Store tx.new.conn.now) result }
+    ensures failed { FailsInside AreReadable (state S.Store tx.old.conn.now) (state S.Store tx.new.conn.now) result }
 {
     let runs = runs_in(tx, alloc)?;
     let marks = marks_in(tx, alloc)?;

@@ -27,7 +27,7 @@ pub use changes::carry_out_all;
 pub use commits::commit_changes;
 pub use make::make_library;
 pub use part::Part;
-pub use record::flag_in;
+pub use record::{column_of, flag_in};
 pub use schema::{has_first_tables, is_library_schema, is_no_schema};
 pub use settle::settle_site;
 pub use sizes::{Sizes, sizes_after};

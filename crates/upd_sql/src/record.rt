@@ -67,7 +67,7 @@ fn card_in(row: &Row) -> Result<CardRef, Error>
 }
 
 /// A column of a row. Out of memory apart it fails only where the column isn't there, or can't be read.
-pub(crate) fn column_of<T: FromSql>(row: &Row, at: usize) -> Result<T, Error>
+pub fn column_of<T: FromSql>(row: &Row, at: usize) -> Result<T, Error>
     ensures ok { IfOk result (λ x. (at < length row.now) × T.FromSql.reads_as (column row.now at) x) }
     ensures failed { IfErr result (λ e. at < length row.now → T.FromSql.is_readable (column row.now at)
         → IsOutOfMemory e) }

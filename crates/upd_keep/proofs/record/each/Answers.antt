@@ -1,7 +1,7 @@
 use Rattle.std.proofs.Common.{◌<◌, length, get_or, ap, subst, ◌∙◌}
 use Rattle.upd_sql.proofs.WholeLemmas.{read_more}
-use Rattle.upd_keep.proofs.Columns.{passed}
-use Rattle.upd_keep.proofs.Failures.{one_of}
+use Rattle.upd_sql.proofs.Columns.{passed}
+use Rattle.upd_sql.proofs.Failures.{one_of}
 use Rattle.upd_keep.proofs.record.each.Goals as goal
 
 pub loop-row-preserved : goal.loop-row-preserved

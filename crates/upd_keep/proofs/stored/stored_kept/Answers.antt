@@ -3,8 +3,9 @@ use Rattle.sqlite.specs.Held.{state}
 use Rattle.sqlite.specs.State.{HasCleanDisk, Survives}
 use Rattle.upd_sqlite.proofs.Chains.{clean_before}
 use Rattle.upd_keep.specs.Keeping.{AreKept}
-use Rattle.upd_keep.proofs.Columns.{passed}
-use Rattle.upd_keep.proofs.Failures.{fails_outside}
+use Rattle.upd_sql.proofs.Columns.{passed}
+use Rattle.upd_sql.proofs.Failures.{fails_outside}
+use Rattle.upd_keep.specs.Failing.{AreReadable}
 use Rattle.upd_keep.proofs.Listing.{found_outside}
 use Rattle.upd_keep.proofs.stored.stored_kept.Goals as goal
 
@@ -26,5 +27,5 @@ returns-in_err-kept-clause-failed g c clean is_open unlimited it shown readable 
     let same : c.drop-tx.new.self.0 ≡ c.conn-1.given.0 = search rules in
     let ended = subst (λ h. Survives last (state g.S.Store h) (λ _. ⊥)) same c.drop-tx.ensures.survives in
     passed _ c.from_residual.result c.from_residual.ensures.1
-    (fails_outside {X = Unit {0}} old last (state g.S.Store c.conn-1.given.0) (Err c.in_err-kept.field-0.0) ended c.begin-tx.ensures.rise
+    (fails_outside {X = Unit {0}} AreReadable old last (state g.S.Store c.conn-1.given.0) (Err c.in_err-kept.field-0.0) ended c.begin-tx.ensures.rise
     c.begin-tx.ensures.settled (rw begun at c.in_err-kept.ensures.failed) clean is_open unlimited it shown readable)

@@ -4,7 +4,7 @@ use Rattle.sqlite.specs.Held.{state}
 use Rattle.upd_sql.specs.Listed.{AreInOrder}
 use Rattle.upd_sql.proofs.Finds.{on_value}
 use Rattle.upd_sql.proofs.WholeLemmas.{looked}
-use Rattle.upd_keep.proofs.Columns.{passed}
+use Rattle.upd_sql.proofs.Columns.{passed}
 use Rattle.upd_keep.proofs.whole.all_of.Goals as goal
 
 pub returns-clause-looks : goal.returns-clause-looks

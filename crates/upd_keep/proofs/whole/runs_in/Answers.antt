@@ -1,8 +1,8 @@
 use Rattle.sqlite.specs.Held.{state}
 use Rattle.upd_sql.specs.Encoded.{run_row}
-use Rattle.upd_keep.specs.Failing.{is_readable_run}
+use Rattle.upd_sql.specs.Failing.{is_readable_run}
 use Rattle.upd_keep.specs.Keeping.{by_key}
-use Rattle.upd_keep.proofs.Failures.{because, reads_inside}
+use Rattle.upd_keep.proofs.Failures.{reads_inside}
 use Rattle.upd_keep.proofs.Listing.{runs_listed}
 use Rattle.upd_keep.proofs.ReadTexts as query
 use Rattle.upd_keep.proofs.whole.runs_in.Goals as goal
@@ -16,7 +16,5 @@ pub returns-clause-failed : goal.returns-clause-failed
 returns-clause-failed g c =
     let old = state g.S.Store c.args.tx.now.conn.now in
     let new = state g.S.Store c.all_of.new.tx.conn.now in
-    reads_inside run_row is_readable_run (λ it. it.runs) by_key query.all_runs old new c.all_of.result c.all_of.ensures.failed
-    (λ has is_open unlimited. because query.all_runs old new has 10 query.all_runs_shown query.all_runs_order _ query.all_runs_is query.all_runs_plain query.all_runs_lone
-    query.all_runs_unlisted query.all_runs_typed is_open unlimited)
+    reads_inside run_row is_readable_run (λ it. it.runs) by_key query.all_runs old new c.all_of.result c.all_of.ensures.failed query.all_runs_asked
     (runs_listed old new) (λ it readable. readable.runs)

@@ -3,7 +3,7 @@ use Rattle.std.specs.Str.{IsUtf8}
 use Rattle.std.proofs.lemmas.Str.{IsUtf8-from_is_utf8}
 use Rattle.sqlite_value.specs.declared.value.Value.TheVariants.{Int, Text}
 use Rattle.upd_sql.specs.Encoded.{mark_row}
-use Rattle.upd_keep.proofs.Columns.{passed, read_by}
+use Rattle.upd_sql.proofs.Columns.{passed, read_by}
 use Rattle.upd_keep.proofs.record.MarkRowRecord.read.Goals as goal
 
 pub returns-in_err-site-clause-failed : goal.returns-in_err-site-clause-failed

@@ -4,8 +4,8 @@ use Rattle.std.proofs.lemmas.Bool.Decides.{nat_tests}
 use Rattle.std.proofs.lemmas.Str.{IsUtf8-from_is_utf8}
 use Rattle.sqlite_value.specs.declared.value.Value.TheVariants.{Int, Text, Blob}
 use Rattle.upd_sql.specs.Encoded.{flag, run_row}
-use Rattle.upd_keep.proofs.Columns.{passed, read_by}
-use Rattle.upd_keep.proofs.Failures.{and_both}
+use Rattle.upd_sql.proofs.Columns.{passed, read_by}
+use Rattle.upd_sql.proofs.Failures.{and_both}
 use Rattle.upd_keep.proofs.record.RunRowRecord.read.Goals as goal
 
 pub returns-in_err-site-clause-failed : goal.returns-in_err-site-clause-failed
