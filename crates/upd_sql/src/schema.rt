@@ -19,7 +19,8 @@ pub(crate) struct Wanted<'a> {
 }
 
 pub(crate) fn is_column(column: &Column, wanted: &Wanted<'_>) -> bool
-    ensures { IsTrue result → column.now ≡ column_of wanted.now }
+    ensures right { IsTrue result → column.now ≡ column_of wanted.now }
+    ensures failed { column.now ≡ column_of wanted.now → IsTrue result }
 {
     column.name.as_slice() == wanted.name.as_bytes()
         && column.kind == wanted.kind
@@ -30,7 +31,8 @@ pub(crate) fn is_column(column: &Column, wanted: &Wanted<'_>) -> bool
 }
 
 fn are_columns(columns: &[Column], wanted: &[Wanted<'_>]) -> bool
-    ensures { IsTrue result → columns.now ≡ map column_of wanted.now }
+    ensures right { IsTrue result → columns.now ≡ map column_of wanted.now }
+    ensures failed { columns.now ≡ map column_of wanted.now → IsTrue result }
 {
     if columns.len() != wanted.len() {
         return false;
@@ -45,7 +47,8 @@ fn are_columns(columns: &[Column], wanted: &[Wanted<'_>]) -> bool
 
 /// Nothing but columns and a key.
 pub(crate) fn is_plain(table: &Table) -> bool
-    ensures { IsTrue result → table.now ≡ keyed table.now.tree table.now.name table.now.columns table.now.primary }
+    ensures right { IsTrue result → table.now ≡ keyed table.now.tree table.now.name table.now.columns table.now.primary }
+    ensures failed { table.now ≡ keyed table.now.tree table.now.name table.now.columns table.now.primary → IsTrue result }
 {
     table.key.is_none()
         && has_one(&table.uniques, table.primary.as_slice())
@@ -61,14 +64,16 @@ pub(crate) fn is_plain(table: &Table) -> bool
 }
 
 fn has_one(keys: &Items<Items<usize>>, key: &[usize]) -> bool
-    ensures { IsTrue result → keys.now ≡ key.now ∷ [] }
+    ensures right { IsTrue result → keys.now ≡ key.now ∷ [] }
+    ensures failed { keys.now ≡ key.now ∷ [] → IsTrue result }
 {
     keys.len() == 1 && keys.as_slice()[0].as_slice() == key
 }
 
 /// The index that SQLite makes for the key of the table in a tree.
 fn is_automatic(index: &Index, tree: u32, name: &str, key: &[usize]) -> bool
-    ensures { IsTrue result → index.now ≡ key_index tree name.now key.now }
+    ensures right { IsTrue result → index.now ≡ key_index tree name.now key.now }
+    ensures failed { index.now ≡ key_index tree name.now key.now → IsTrue result }
 {
     index.name.as_slice() == name.as_bytes()
         && u64::from(index.tree) == u64::from(tree) + 1
@@ -86,7 +91,8 @@ pub(crate) fn is_table(
     wanted: &[Wanted<'_>],
     key: &[usize],
 ) -> bool
-    ensures { IsTrue result → table.now ≡ keyed tree name.now (map column_of wanted.now) key.now }
+    ensures right { IsTrue result → table.now ≡ keyed tree name.now (map column_of wanted.now) key.now }
+    ensures failed { table.now ≡ keyed tree name.now (map column_of wanted.now) key.now → IsTrue result }
 {
     table.tree == tree
         && table.name.as_slice() == name.as_bytes()
@@ -123,7 +129,8 @@ fn bytes(name: &str) -> Wanted<'_>
 }
 
 pub(crate) fn is_cards(table: &Table) -> bool
-    ensures { IsTrue result → table.now ≡ record cards { tree = 4 } }
+    ensures right { IsTrue result → table.now ≡ record cards { tree = 4 } }
+    ensures failed { table.now ≡ record cards { tree = 4 } → IsTrue result }
 {
     is_table(
         table,
@@ -141,13 +148,15 @@ pub(crate) fn is_cards(table: &Table) -> bool
 }
 
 pub(crate) fn is_meta(table: &Table) -> bool
-    ensures { IsTrue result → table.now ≡ record meta { tree = 0 } }
+    ensures right { IsTrue result → table.now ≡ record meta { tree = 0 } }
+    ensures failed { table.now ≡ record meta { tree = 0 } → IsTrue result }
 {
     is_table(table, 0, "meta", &[text("k"), number("v")], &[1])
 }
 
 pub(crate) fn is_idents(table: &Table) -> bool
-    ensures { IsTrue result → table.now ≡ record idents { tree = 2 } }
+    ensures right { IsTrue result → table.now ≡ record idents { tree = 2 } }
+    ensures failed { table.now ≡ record idents { tree = 2 } → IsTrue result }
 {
     is_table(
         table,
@@ -165,7 +174,8 @@ pub(crate) fn is_idents(table: &Table) -> bool
 }
 
 pub(crate) fn is_entries(table: &Table) -> bool
-    ensures { IsTrue result → table.now ≡ record entries { tree = 6 } }
+    ensures right { IsTrue result → table.now ≡ record entries { tree = 6 } }
+    ensures failed { table.now ≡ record entries { tree = 6 } → IsTrue result }
 {
     is_table(
         table,
@@ -183,7 +193,8 @@ pub(crate) fn is_entries(table: &Table) -> bool
 }
 
 pub(crate) fn is_targets(table: &Table) -> bool
-    ensures { IsTrue result → table.now ≡ record targets { tree = 8 } }
+    ensures right { IsTrue result → table.now ≡ record targets { tree = 8 } }
+    ensures failed { table.now ≡ record targets { tree = 8 } → IsTrue result }
 {
     is_table(
         table,
@@ -202,7 +213,8 @@ pub(crate) fn is_targets(table: &Table) -> bool
 }
 
 pub(crate) fn is_runs(table: &Table) -> bool
-    ensures { IsTrue result → table.now ≡ record runs { tree = 10 } }
+    ensures right { IsTrue result → table.now ≡ record runs { tree = 10 } }
+    ensures failed { table.now ≡ record runs { tree = 10 } → IsTrue result }
 {
     is_table(
         table,
@@ -221,7 +233,8 @@ pub(crate) fn is_runs(table: &Table) -> bool
 }
 
 pub(crate) fn is_states(table: &Table) -> bool
-    ensures { IsTrue result → table.now ≡ record states { tree = 12 } }
+    ensures right { IsTrue result → table.now ≡ record states { tree = 12 } }
+    ensures failed { table.now ≡ record states { tree = 12 } → IsTrue result }
 {
     is_table(
         table,
@@ -233,7 +246,8 @@ pub(crate) fn is_states(table: &Table) -> bool
 }
 
 pub(crate) fn is_counts(table: &Table) -> bool
-    ensures { IsTrue result → table.now ≡ record counts { tree = 14 } }
+    ensures right { IsTrue result → table.now ≡ record counts { tree = 14 } }
+    ensures failed { table.now ≡ record counts { tree = 14 } → IsTrue result }
 {
     is_table(
         table,
@@ -250,14 +264,16 @@ pub(crate) fn is_counts(table: &Table) -> bool
 }
 
 pub(crate) fn is_settled(table: &Table) -> bool
-    ensures { IsTrue result → table.now ≡ record settled { tree = 16 } }
+    ensures right { IsTrue result → table.now ≡ record settled { tree = 16 } }
+    ensures failed { table.now ≡ record settled { tree = 16 } → IsTrue result }
 {
     is_table(table, 16, "settled", &[text("site"), number("mark")], &[1])
 }
 
 /// The table at a place of the library's schema.
 fn is_table_at(at: usize, table: &Table) -> bool
-    ensures { IsTrue result → slice_get library_schema.tables at ≡ Some table.now }
+    ensures right { IsTrue result → slice_get library_schema.tables at ≡ Some table.now }
+    ensures failed { slice_get library_schema.tables at ≡ Some table.now → IsTrue result }
 {
     match at {
         0 => is_meta(table),
@@ -275,7 +291,8 @@ fn is_table_at(at: usize, table: &Table) -> bool
 
 /// The index at a place of the library's schema.
 fn is_index_at(at: usize, index: &Index) -> bool
-    ensures { IsTrue result → slice_get key_indexes at ≡ Some index.now }
+    ensures right { IsTrue result → slice_get key_indexes at ≡ Some index.now }
+    ensures failed { slice_get key_indexes at ≡ Some index.now → IsTrue result }
 {
     match at {
         0 => is_automatic(index, 0, "sqlite_autoindex_meta_1", &[1]),
@@ -294,7 +311,8 @@ fn is_index_at(at: usize, index: &Index) -> bool
 /// Whether these are the first `count` tables.
 fn are_tables(tables: &[Table], count: usize) -> bool
     requires { count ≤ 9 }
-    ensures { IsTrue result → tables.now ≡ take count library_schema.tables }
+    ensures right { IsTrue result → tables.now ≡ take count library_schema.tables }
+    ensures failed { tables.now ≡ take count library_schema.tables → IsTrue result }
 {
     if tables.len() != count {
         return false;
@@ -310,7 +328,8 @@ fn are_tables(tables: &[Table], count: usize) -> bool
 /// Whether these are the indexes of the first `count` tables.
 fn are_indexes(indexes: &[Index], count: usize) -> bool
     requires { count ≤ 9 }
-    ensures { IsTrue result → indexes.now ≡ take count key_indexes }
+    ensures right { IsTrue result → indexes.now ≡ take count key_indexes }
+    ensures failed { indexes.now ≡ take count key_indexes → IsTrue result }
 {
     if indexes.len() != count {
         return false;
@@ -326,7 +345,8 @@ fn are_indexes(indexes: &[Index], count: usize) -> bool
 /// Whether a schema is that of the first `count` of the library's tables, with the indexes of their keys and nothing else.
 pub fn has_first_tables(schema: &Schema, count: usize) -> bool
     requires { count ≤ 9 }
-    ensures { IsTrue result → schema.now ≡ first_tables count }
+    ensures right { IsTrue result → schema.now ≡ first_tables count }
+    ensures failed { schema.now ≡ first_tables count → IsTrue result }
 {
     if !schema.views.is_empty() {
         return false;
@@ -339,14 +359,16 @@ pub fn has_first_tables(schema: &Schema, count: usize) -> bool
 
 /// Whether a schema is that of the nine tables, with the indexes of their keys and nothing else.
 pub fn is_library_schema(schema: &Schema) -> bool
-    ensures { IsTrue result → schema.now ≡ library_schema }
+    ensures right { IsTrue result → schema.now ≡ library_schema }
+    ensures failed { schema.now ≡ library_schema → IsTrue result }
 {
     has_first_tables(schema, 9)
 }
 
 /// Whether a schema has no table, index or view.
 pub fn is_no_schema(schema: &Schema) -> bool
-    ensures { IsTrue result → schema.now ≡ no_schema }
+    ensures right { IsTrue result → schema.now ≡ no_schema }
+    ensures failed { schema.now ≡ no_schema → IsTrue result }
 {
     if !schema.tables.is_empty() {
         return false;
