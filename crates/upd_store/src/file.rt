@@ -6,8 +6,9 @@ ghost use Rattle.std.specs.Prelude.{◌≡◌, IfErr, IfOk, IsTrue};
 ghost use Rattle.sqlite.specs.Closing.{IsCopied};
 ghost use Rattle.sqlite.specs.Effect.{Database};
 ghost use Rattle.sqlite.specs.Files.{HoldsDatabase, file_state};
+ghost use Rattle.sqlite.specs.Held.{state};
 ghost use Rattle.sqlite.specs.Start.{FindsIn};
-ghost use Rattle.sqlite.specs.State.{HasCleanDisk};
+ghost use Rattle.sqlite.specs.State.{HasCleanDisk, Survives};
 ghost use Rattle.sqlite_trees.specs.Tree.{Trees};
 ghost use Rattle.sqlite_wal.specs.Files.{image_at};
 ghost use Rattle.sqlite_wal.specs.Reads.{AreClean};
@@ -15,6 +16,7 @@ ghost use Rattle.upd_row_store.specs.Keeping.{IsLost};
 ghost use Rattle.upd_sql.specs.Making.{no_rows};
 ghost use Rattle.upd_sql.specs.Schema.{library_schema, no_schema};
 ghost use Rattle.upd_sql.specs.LibraryTables.{ShowsTables};
+ghost use Rattle.upd_store.specs.Beginning.{MayBegin};
 ghost use Rattle.upd_store.specs.Faults.{IsUnopened};
 
 use crate::fault::{fault_of, store_at};
@@ -23,6 +25,7 @@ use sqlite::{Connection, FileFrom, FileStore, Files, Start};
 use sqlite_disk::Disk;
 use std::io::Read;
 use std::{fs, io};
+use upd_sqlite::Rising;
 use upd_text::Fault;
 
 /// A library in a file. `S` stands for the contents of the file and its log when they were opened.
@@ -51,9 +54,9 @@ impl<S: Start> SqlStore<FileStore<FileFrom<S>>> {
         ensures unopened { IfErr result IsUnopened }
     {
         let conn = connect_with(rt, path, new_has_sums, start)?;
-        match SqlStore::adopt(conn) {
+        match adopted(conn) {
             Ok(store) => Ok(store),
-            Err((fault, _)) => Err(fault),
+            Err(fault) => Err(fault),
         }
     }
 }
@@ -70,6 +73,39 @@ pub fn create<S: Start>(rt: &HostRuntime, path: &str, start: S) -> Result<FileLi
     ensures unopened { IfErr result IsUnopened }
 {
     let conn = connect_or_make(rt, path, false, start)?;
+    match initialized(conn) {
+        Ok(store) => Ok(store),
+        Err(fault) => Err(fault),
+    }
+}
+
+// Each function that names a file's store where another takes any store is dear to prove. So each has one such call.
+
+/// The library of a connection. The connection is let go with a fault.
+fn adopted<S: Rising + Drop>(conn: Connection<S>) -> Result<SqlStore<S>, Fault>
+    ensures ours { IfOk result (λ s. HasCleanDisk (state S.Store s.conn) → IsTrue (state S.Store s.conn).is_open
+        → (state S.Store s.conn).committed.schema ≡ library_schema) }
+    ensures same { IfOk result (λ s. HasCleanDisk (state S.Store s.conn) → IsTrue (state S.Store s.conn).is_open
+        → (state S.Store s.conn).committed ≡ (state S.Store conn).committed) }
+    ensures survives { IfOk result (λ s. Survives (state S.Store conn) (state S.Store s.conn) (λ _. ⊥)) }
+    ensures unopened { IfErr result IsUnopened }
+{
+    match SqlStore::adopt(conn) {
+        Ok(store) => Ok(store),
+        Err((fault, _)) => Err(fault),
+    }
+}
+
+/// An empty library in the tables of a connection. The connection is let go with a fault.
+fn initialized<S: Rising + Drop>(conn: Connection<S>) -> Result<SqlStore<S>, Fault>
+    ensures shows { IfOk result (λ s. HasCleanDisk (state S.Store s.conn)
+        → IsTrue (state S.Store s.conn).is_open × ShowsTables no_rows (state S.Store s.conn).committed) }
+    ensures empty { IfOk result (λ s. HasCleanDisk (state S.Store s.conn)
+        → (state S.Store conn).committed.schema ≡ no_schema) }
+    ensures survives { IfOk result (λ s. Survives (state S.Store conn) (state S.Store s.conn)
+        (MayBegin (state S.Store conn))) }
+    ensures unopened { IfErr result IsUnopened }
+{
     match SqlStore::init(conn) {
         Ok(store) => Ok(store),
         Err((fault, _)) => Err(fault),
