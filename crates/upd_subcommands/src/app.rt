@@ -17,6 +17,8 @@ const FILE: Operand = ("FILE", "the file of a library", ValueParser::String);
 
 const SITE: Operand = ("SITE", "1 to 8 of A-Z and 0-9", ValueParser::String);
 
+const NUMBER: Operand = ("NUMBER", "1 to 999999999", ValueParser::String);
+
 const MODE: Operand = ("MODE", "full, quick or normal", ValueParser::String);
 
 const DECK: Operand = ("DECK", "the name of a deck", ValueParser::String);
@@ -28,58 +30,92 @@ const COUNT_RANGE: ValueParser<'static> = ValueParser::Unsigned(1, 1_000_000);
 pub(crate) fn program<'a>(alloc: Global) -> Result<Command<'a>, AllocError>
     ensures { IfOk result (λ c. app_of c ≡ upd_app) }
 {
-    const COPY: Operand = (
-        "COPY",
-        "the file to be made, which must not exist",
-        ValueParser::String,
-    );
     const FAULT: Operand = (
         "FAULT",
         "the name or the number of a fault",
         ValueParser::String,
     );
-    let app = second_commands(alloc)?;
-    let app = with_command(app, alloc, "try", help::TRY, &[FILE, MODE])?;
-    let app = with_command(app, alloc, "source", help::SOURCE, &[FILE, DECK])?;
-    let app = with_command(app, alloc, "runs", help::RUNS, &[FILE])?;
-    let app = with_command(app, alloc, "sites", help::SITES, &[FILE])?;
-    let app = with_command(app, alloc, "backup", help::BACKUP, &[FILE, COPY])?;
+    let app = seventh_commands(alloc)?;
     let app = with_command(app, alloc, "examine", help::EXAMINE, &[FILE])?;
     let app = with_command(app, alloc, "migrate", help::MIGRATE, &[FILE])?;
     with_command(app, alloc, "explain", help::EXPLAIN, &[FAULT])
 }
 
-/// The program with its first sixteen commands.
-fn second_commands<'a>(alloc: Global) -> Result<Command<'a>, AllocError>
-    ensures { IfOk result (λ c. app_of c ≡ app_with (take 16 upd_commands)) }
+/// The program with its first twenty-one commands.
+fn seventh_commands<'a>(alloc: Global) -> Result<Command<'a>, AllocError>
+    ensures { IfOk result (λ c. app_of c ≡ app_with (take 21 upd_commands)) }
 {
-    const CARD: Operand = ("CARD", "a card, as A.2", ValueParser::String);
-    const IDENT: Operand = (
-        "IDENT",
-        "the name of a deck or a correction set",
+    const COPY: Operand = (
+        "COPY",
+        "the file to be made, which must not exist",
         ValueParser::String,
     );
+    let app = sixth_commands(alloc)?;
+    let app = with_command(app, alloc, "runs", help::RUNS, &[FILE])?;
+    let app = with_command(app, alloc, "sites", help::SITES, &[FILE])?;
+    with_command(app, alloc, "backup", help::BACKUP, &[FILE, COPY])
+}
+
+/// The program with its first eighteen commands.
+fn sixth_commands<'a>(alloc: Global) -> Result<Command<'a>, AllocError>
+    ensures { IfOk result (λ c. app_of c ≡ app_with (take 18 upd_commands)) }
+{
     const SET: Operand = (
         "SET",
         "the name of a new correction set",
         ValueParser::String,
     );
-    let app = first_commands(alloc)?;
-    let app = with_command(app, alloc, "history", help::HISTORY, &[FILE, CARD])?;
-    let app = with_command(app, alloc, "blame", help::BLAME, &[FILE, DECK])?;
-    let app = with_command(app, alloc, "show", help::SHOW, &[FILE, IDENT])?;
-    let app = with_command(app, alloc, "idents", help::IDENTS, &[FILE])?;
-    let app = with_command(app, alloc, "yanks", help::YANKS, &[FILE])?;
-    let app = with_command(app, alloc, "page", help::PAGE, &[FILE])?;
-    let app = with_command(app, alloc, "text", help::TEXT, &[FILE, DECK])?;
-    with_command(app, alloc, "correct", help::CORRECT, &[FILE, SET])
+    let app = fifth_commands(alloc)?;
+    let app = with_command(app, alloc, "correct", help::CORRECT, &[FILE, SET])?;
+    let app = with_command(app, alloc, "try", help::TRY, &[FILE, MODE])?;
+    with_command(app, alloc, "source", help::SOURCE, &[FILE, DECK])
 }
 
-/// The program with its first eight commands.
-fn first_commands<'a>(alloc: Global) -> Result<Command<'a>, AllocError>
-    ensures { IfOk result (λ c. app_of c ≡ app_with (take 8 upd_commands)) }
+/// The program with its first fifteen commands.
+fn fifth_commands<'a>(alloc: Global) -> Result<Command<'a>, AllocError>
+    ensures { IfOk result (λ c. app_of c ≡ app_with (take 15 upd_commands)) }
 {
-    const NUMBER: Operand = ("NUMBER", "1 to 999999999", ValueParser::String);
+    let app = fourth_commands(alloc)?;
+    let app = with_command(app, alloc, "yanks", help::YANKS, &[FILE])?;
+    let app = with_command(app, alloc, "page", help::PAGE, &[FILE])?;
+    with_command(app, alloc, "text", help::TEXT, &[FILE, DECK])
+}
+
+/// The program with its first twelve commands.
+fn fourth_commands<'a>(alloc: Global) -> Result<Command<'a>, AllocError>
+    ensures { IfOk result (λ c. app_of c ≡ app_with (take 12 upd_commands)) }
+{
+    const IDENT: Operand = (
+        "IDENT",
+        "the name of a deck or a correction set",
+        ValueParser::String,
+    );
+    let app = third_commands(alloc)?;
+    let app = with_command(app, alloc, "blame", help::BLAME, &[FILE, DECK])?;
+    let app = with_command(app, alloc, "show", help::SHOW, &[FILE, IDENT])?;
+    with_command(app, alloc, "idents", help::IDENTS, &[FILE])
+}
+
+/// The program with its first nine commands.
+fn third_commands<'a>(alloc: Global) -> Result<Command<'a>, AllocError>
+    ensures { IfOk result (λ c. app_of c ≡ app_with (take 9 upd_commands)) }
+{
+    const CARD: Operand = ("CARD", "a card, as A.2", ValueParser::String);
+    const ANY_DECK: Operand = (
+        "DECK",
+        "the name of a deck, or YANK$$$",
+        ValueParser::String,
+    );
+    let app = second_commands(alloc)?;
+    let app = with_command(app, alloc, "compile", help::COMPILE, &[FILE])?;
+    let app = with_command(app, alloc, "list", help::LIST, &[FILE, ANY_DECK])?;
+    with_command(app, alloc, "history", help::HISTORY, &[FILE, CARD])
+}
+
+/// The program with its first six commands.
+fn second_commands<'a>(alloc: Global) -> Result<Command<'a>, AllocError>
+    ensures { IfOk result (λ c. app_of c ≡ app_with (take 6 upd_commands)) }
+{
     const ADDRESS: Operand = (
         "ADDRESS",
         "an IP address and a port, as 127.0.0.1:8080",
@@ -90,20 +126,20 @@ fn first_commands<'a>(alloc: Global) -> Result<Command<'a>, AllocError>
         "how many connections are served, 1 to 1000000",
         COUNT_RANGE,
     );
-    const ANY_DECK: Operand = (
-        "DECK",
-        "the name of a deck, or YANK$$$",
-        ValueParser::String,
-    );
+    let app = first_commands(alloc)?;
+    let app = with_command(app, alloc, "settle", help::SETTLE, &[FILE, SITE, NUMBER])?;
+    let app = with_command(app, alloc, "spool", help::SPOOL, &[FILE])?;
+    with_command(app, alloc, "serve", help::SERVE, &[FILE, ADDRESS, COUNT])
+}
+
+/// The program with its first three commands.
+fn first_commands<'a>(alloc: Global) -> Result<Command<'a>, AllocError>
+    ensures { IfOk result (λ c. app_of c ≡ app_with (take 3 upd_commands)) }
+{
     let app = bare_program(alloc);
     let app = with_command(app, alloc, "trial", help::TRIAL, &[MODE])?;
     let app = with_command(app, alloc, "init", help::INIT, &[FILE])?;
-    let app = with_command(app, alloc, "run", help::RUN, &[FILE, SITE, NUMBER, MODE])?;
-    let app = with_command(app, alloc, "settle", help::SETTLE, &[FILE, SITE, NUMBER])?;
-    let app = with_command(app, alloc, "spool", help::SPOOL, &[FILE])?;
-    let app = with_command(app, alloc, "serve", help::SERVE, &[FILE, ADDRESS, COUNT])?;
-    let app = with_command(app, alloc, "compile", help::COMPILE, &[FILE])?;
-    with_command(app, alloc, "list", help::LIST, &[FILE, ANY_DECK])
+    with_command(app, alloc, "run", help::RUN, &[FILE, SITE, NUMBER, MODE])
 }
 
 /// The program before its first command, and with clap's own command `help`.

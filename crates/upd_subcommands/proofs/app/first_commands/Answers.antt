@@ -6,9 +6,4 @@ pub returns : goal.returns
 returns c =
     let app1 = with_more c.bare_program-app.result c.in_ok-app.app _ c.bare_program-app.ensures c.in_ok-app.ensures in
     let app2 = with_more c.in_ok-app.app c.in_ok-app-2.app _ app1 c.in_ok-app-2.ensures in
-    let app3 = with_more c.in_ok-app-2.app c.in_ok-app-3.app _ app2 c.in_ok-app-3.ensures in
-    let app4 = with_more c.in_ok-app-3.app c.in_ok-app-4.app _ app3 c.in_ok-app-4.ensures in
-    let app5 = with_more c.in_ok-app-4.app c.in_ok-app-5.app _ app4 c.in_ok-app-5.ensures in
-    let app6 = with_more c.in_ok-app-5.app c.in_ok-app-6.app _ app5 c.in_ok-app-6.ensures in
-    let app7 = with_more c.in_ok-app-6.app c.in_ok-app-7.app _ app6 c.in_ok-app-7.ensures in
-    IfOk-weaker c.with_command-8.result _ _ (λ new adds. with_more c.in_ok-app-7.app new _ app7 adds) c.with_command-8.ensures
+    IfOk-weaker c.with_command-3.result _ _ (λ new adds. with_more c.in_ok-app-2.app new _ app2 adds) c.with_command-3.ensures
