@@ -181,19 +181,32 @@ fn common_length(alloc: Global, old: &[u8], new: &[u8]) -> Result<usize, Fail> {
     Ok(row.last().copied().unwrap_or(0))
 }
 
+/// The library that has deck A of some lines.
+fn library_of(alloc: Global, lines: &[u8]) -> Result<Library, Fail> {
+    let deck = deck_text(alloc, lines)?;
+    after(alloc, &[deck.as_str()])
+}
+
+/// Applies the run for a text, and gives the number of its directives.
+fn lead(alloc: Global, library: &mut Library, text: &str) -> Result<usize, Fail> {
+    let run = run_for(alloc, library, text)?;
+    applied(library, run.as_str())?;
+    Ok(directives(run.as_str()))
+}
+
+/// Deck A has a text.
+fn has_text(alloc: Global, library: &Library, text: &str) -> Result<(), Fail> {
+    let found = active_text(alloc, library, &name("A")?)?;
+    same_text("the deck", std::str::from_utf8(&found)?, text)
+}
+
 /// Deck A of some lines is led to others, by few directives.
 fn is_led(alloc: Global, old: &[u8], new: &[u8]) -> Result<(), Fail> {
-    let deck = deck_text(alloc, old)?;
-    let mut library = after(alloc, &[deck.as_str()])?;
+    let mut library = library_of(alloc, old)?;
     let text = deck_text(alloc, new)?;
-    let run = run_for(alloc, &library, text.as_str())?;
-    applied(&mut library, run.as_str())?;
-    let found = active_text(alloc, &library, &name("A")?)?;
-    same_text("the deck", std::str::from_utf8(&found)?, text.as_str())?;
-    holds(
-        "few directives",
-        directives(run.as_str()) <= most_directives(alloc, old, new)?,
-    )
+    let count = lead(alloc, &mut library, text.as_str())?;
+    has_text(alloc, &library, text.as_str())?;
+    holds("few directives", count <= most_directives(alloc, old, new)?)
 }
 
 /// The number of directives of a run.

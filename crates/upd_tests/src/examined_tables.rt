@@ -62,22 +62,41 @@ pub fn entry_row(card: CardRef, ident: Serial) -> EntryRow {
     }
 }
 
-fn library_rows(alloc: Global) -> Result<LibraryRows, Fail> {
+fn idents(alloc: Global) -> Result<Vec<Ident>, Fail> {
     let mut idents = Vec::new(alloc);
-    idents.push(ident("A", 1, Kind::Deck, true)?)?;
-    idents.push(ident("B", 2, Kind::Deck, true)?)?;
-    idents.push(ident("C", 3, Kind::Deck, false)?)?;
-    idents.push(ident("S", 4, Kind::Set, true)?)?;
+    for (text, age, kind, held) in [
+        ("A", 1, Kind::Deck, true),
+        ("B", 2, Kind::Deck, true),
+        ("C", 3, Kind::Deck, false),
+        ("S", 4, Kind::Set, true),
+    ] {
+        idents.push(ident(text, age, kind, held)?)?;
+    }
+    Ok(idents)
+}
+
+fn cards(alloc: Global) -> Result<Vec<CardRow>, Fail> {
     let mut cards = Vec::new(alloc);
-    cards.push(card_row(alloc, card("S", 1)?, 0, 0, "*YANK B")?)?;
-    cards.push(card_row(alloc, card("A", 1)?, 1, 0, "*DECK A")?)?;
-    cards.push(card_row(alloc, card("A", 2)?, 1, 1, "ONE")?)?;
-    cards.push(card_row(alloc, card("B", 1)?, 2, 0, "*DECK B")?)?;
+    for (name, number, deck, pos, text) in [
+        ("S", 1, 0, 0, "*YANK B"),
+        ("A", 1, 1, 0, "*DECK A"),
+        ("A", 2, 1, 1, "ONE"),
+        ("B", 1, 2, 0, "*DECK B"),
+    ] {
+        cards.push(card_row(alloc, card(name, number)?, deck, pos, text)?)?;
+    }
+    Ok(cards)
+}
+
+fn entries(alloc: Global) -> Result<Vec<EntryRow>, Fail> {
     let mut entries = Vec::new(alloc);
-    entries.push(entry_row(card("A", 1)?, 1))?;
-    entries.push(entry_row(card("A", 2)?, 1))?;
-    entries.push(entry_row(card("B", 1)?, 2))?;
-    entries.push(entry_row(card("S", 1)?, 4))?;
+    for (name, number, ident) in [("A", 1, 1), ("A", 2, 1), ("B", 1, 2), ("S", 1, 4)] {
+        entries.push(entry_row(card(name, number)?, ident))?;
+    }
+    Ok(entries)
+}
+
+fn library_rows(alloc: Global) -> Result<LibraryRows, Fail> {
     let mut targets = Vec::new(alloc);
     targets.push(TargetRow {
         card: card("S", 1)?,
@@ -85,19 +104,23 @@ fn library_rows(alloc: Global) -> Result<LibraryRows, Fail> {
         target: Target::Deck(2),
     })?;
     Ok(LibraryRows {
-        idents,
-        cards,
-        entries,
+        idents: idents(alloc)?,
+        cards: cards(alloc)?,
+        entries: entries(alloc)?,
         targets,
     })
 }
 
 fn states(alloc: Global) -> Result<States, Fail> {
     let mut states = Vec::new(alloc);
-    states.push((card("A", 1)?, true))?;
-    states.push((card("A", 2)?, true))?;
-    states.push((card("B", 1)?, false))?;
-    states.push((card("S", 1)?, true))?;
+    for (name, number, active) in [
+        ("A", 1, true),
+        ("A", 2, true),
+        ("B", 1, false),
+        ("S", 1, true),
+    ] {
+        states.push((card(name, number)?, active))?;
+    }
     let mut counts = Vec::new(alloc);
     counts.push((Target::Deck(2), 1))?;
     Ok(States { states, counts })
@@ -127,16 +150,21 @@ pub fn mark(alloc: Global, mark: u64) -> Result<MarkRow, Fail> {
     })
 }
 
-pub fn sound_tables(alloc: Global) -> Result<Tables, Fail> {
+fn runs(alloc: Global) -> Result<Vec<RunRow>, Fail> {
     let mut runs = Vec::new(alloc);
-    runs.push(run(alloc, 6, true, ACCEPTED)?)?;
-    runs.push(run(alloc, 7, false, REFUSED)?)?;
+    for (number, accepted, reply) in [(6, true, ACCEPTED), (7, false, REFUSED)] {
+        runs.push(run(alloc, number, accepted, reply)?)?;
+    }
+    Ok(runs)
+}
+
+pub fn sound_tables(alloc: Global) -> Result<Tables, Fail> {
     let mut marks = Vec::new(alloc);
     marks.push(mark(alloc, 5)?)?;
     Ok(Tables {
         rows: library_rows(alloc)?,
         states: states(alloc)?,
-        runs,
+        runs: runs(alloc)?,
         marks,
     })
 }

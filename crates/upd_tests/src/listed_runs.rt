@@ -25,17 +25,24 @@ LYON 11 normal refused
 LYON 12 normal refused
 ";
 
-/// No desk stores the last three replies.
+/// Five stored runs: no desk stores the last three replies.
+fn stored_runs(alloc: Global) -> Result<Vec<RunRow>, Fail> {
+    let mut runs = Vec::new(alloc);
+    for (number, accepted, reply) in [
+        (8, false, b"{\"name\":\"CardUnknown\"}".as_slice()),
+        (9, true, b"{\"idents\":[\"A\",\"X+1\"]}"),
+        (10, true, b"{\"idents\":[\"A\""),
+        (11, false, b""),
+        (12, false, b"\"\xFF\""),
+    ] {
+        runs.push(stored(alloc, number, accepted, reply)?)?;
+    }
+    Ok(runs)
+}
+
 #[test]
 fn a_run_with_a_reply_that_is_not_json_is_listed(rt: HostRuntime) -> Result<(), Fail> {
-    let alloc = rt.alloc();
-    let runs = [
-        stored(alloc, 8, false, b"{\"name\":\"CardUnknown\"}")?,
-        stored(alloc, 9, true, b"{\"idents\":[\"A\",\"X+1\"]}")?,
-        stored(alloc, 10, true, b"{\"idents\":[\"A\"")?,
-        stored(alloc, 11, false, b"")?,
-        stored(alloc, 12, false, b"\"\xFF\"")?,
-    ];
-    let text = run_lines(alloc, &runs)?;
+    let runs = stored_runs(rt.alloc())?;
+    let text = run_lines(rt.alloc(), &runs)?;
     same_text("the lines", std::str::from_utf8(&text)?, LINES)
 }

@@ -41,14 +41,19 @@ fn applied(library: &mut Library, text: &str) -> Result<Applied, Fail> {
     Ok(apply(alloc, library, &run)?)
 }
 
-#[test]
-fn a_library_finds_names_and_cards(rt: HostRuntime) -> Result<(), Fail> {
-    let library = after(rt.alloc(), &[DECK, SET, YANK])?;
+/// The serials that the names of the deck and the set have.
+fn names_are_found(library: &Library) -> Result<(), Fail> {
     let (deck, set) = (name("A")?, name("X")?);
     let idents: [Option<Serial>; 2] = [library.ident_of(&deck), library.ident_of(&set)];
     same("idents", idents, [Some(1), Some(2)])?;
     let decks: [Option<Serial>; 2] = [library.deck_of(&deck), library.deck_of(&set)];
-    same("decks", decks, [Some(1), None])?;
+    same("decks", decks, [Some(1), None])
+}
+
+#[test]
+fn a_library_finds_names_and_cards(rt: HostRuntime) -> Result<(), Fail> {
+    let library = after(rt.alloc(), &[DECK, SET, YANK])?;
+    names_are_found(&library)?;
     let place = Place { deck: 1, index: 2 };
     let places = [
         library.card_at(card_ref("X.1")?),
@@ -126,15 +131,20 @@ fn are_looked_up(counted: &Counted<'_>) -> Result<(), Fail> {
     same("targets", targets, [Target::Set(2)].as_slice())
 }
 
+/// The cards that set X covers.
+fn two_are_covered(alloc: Global, counted: &Counted<'_>) -> Result<(), Fail> {
+    let covered = counted.covered(alloc, Target::Set(2))?;
+    let wanted = [card_ref("A.2")?, card_ref("X.1")?];
+    same("covered", covered.as_slice(), wanted.as_slice())
+}
+
 #[test]
 fn a_counted_library_answers(rt: HostRuntime) -> Result<(), Fail> {
     let library = after(rt.alloc(), &[DECK, SET, YANK])?;
     let mut counted = Counted::new(&library);
     are_looked_up(&counted)?;
     history_is_counted(&mut counted)?;
-    let covered = counted.covered(rt.alloc(), Target::Set(2))?;
-    let wanted = [card_ref("A.2")?, card_ref("X.1")?];
-    same("covered", covered.as_slice(), wanted.as_slice())
+    two_are_covered(rt.alloc(), &counted)
 }
 
 /// The place of a row change among the eleven of them.
@@ -154,12 +164,13 @@ fn number_of(change: &Change) -> u32 {
     }
 }
 
-/// The numbers of row changes, in order.
+/// The numbers of row changes, sorted.
 fn numbers(alloc: Global, changes: &[Change]) -> Result<Vec<u32>, Fail> {
     let mut numbers = Vec::new(alloc);
     for change in changes {
         numbers.push(number_of(change))?;
     }
+    numbers.sort()?;
     Ok(numbers)
 }
 
@@ -175,8 +186,7 @@ fn a_run_lists_what_it_did(rt: HostRuntime) -> Result<(), Fail> {
     } = applied(&mut library, SET)?;
     let sizes = (idents.as_slice(), compile.len(), touched.len());
     same("idents, decks, cards", sizes, ([2].as_slice(), 0, 2))?;
-    let mut found = numbers(rt.alloc(), &changes)?;
-    found.sort()?;
+    let found = numbers(rt.alloc(), &changes)?;
     same("changes", found.as_slice(), [1, 3, 6, 6].as_slice())
 }
 
@@ -222,14 +232,18 @@ fn faults_have_numbers_and_lines(rt: HostRuntime) -> Result<(), Fail> {
     same("its number", fault.kind.number(), 3)
 }
 
+/// The cache of a library, which has followed the yank.
+fn yanked(alloc: Global, library: &mut Library) -> Result<Cache, Fail> {
+    let mut cache = Cache::build(alloc, library)?;
+    let done = applied(library, YANK)?;
+    cache.settle(&mut Counted::new(library), &done)?;
+    Ok(cache)
+}
+
 /// The yank card and the two cards that X covers are looked at.
 #[test]
 fn a_cache_follows_a_yank(rt: HostRuntime) -> Result<(), Fail> {
-    let alloc = rt.alloc();
-    let mut library = after(alloc, &[DECK, SET])?;
-    let mut cache = Cache::build(alloc, &library)?;
-    let done = applied(&mut library, YANK)?;
-    cache.settle(&mut Counted::new(&library), &done)?;
+    let cache = yanked(rt.alloc(), &mut after(rt.alloc(), &[DECK, SET])?)?;
     let found = (cache.work(), cache.count(Target::Set(2)));
     same("the work, a count", found, (3, 1))?;
     same("A.2", cache.active(card_ref("A.2")?), Some(true))
@@ -248,12 +262,17 @@ fn states(alloc: Global) -> Result<States, Fail> {
     Ok(states)
 }
 
+/// The active cards of the library, renewed by a cache of its rows.
+fn renewed(alloc: Global, library: &Library) -> Result<Actives, Fail> {
+    let cache = Cache::of_rows(alloc, &states(alloc)?)?;
+    Ok(cache.renew(library, &library.actives()?)?)
+}
+
 #[test]
 fn a_cache_of_rows_renews_active_cards(rt: HostRuntime) -> Result<(), Fail> {
     let library = after(rt.alloc(), &[DECK, SET, YANK])?;
-    let cache = Cache::of_rows(rt.alloc(), &states(rt.alloc())?)?;
-    let renewed = cache.renew(&library, &library.actives()?)?;
-    let text = second_active(&renewed).ok_or("no card")?;
+    let actives = renewed(rt.alloc(), &library)?;
+    let text = second_active(&actives).ok_or("no card")?;
     same("the second card", text, b"ONE".as_slice())
 }
 
@@ -263,16 +282,30 @@ fn is_line(file: &CompileFile) -> Result<(), Fail> {
     same_text("the line", std::str::from_utf8(&file.bytes)?, LINE)
 }
 
+/// The deck differs from the library before.
+fn deck_is_changed(alloc: Global, library: &Library, before: &Library) -> Result<(), Fail> {
+    let decks = changed(alloc, before, library)?;
+    same("changed decks", decks.as_slice(), [1].as_slice())
+}
+
+/// The active cards of both libraries are compiled.
+fn active_cards_are_compiled(
+    alloc: Global,
+    library: &Library,
+    before: &Library,
+) -> Result<(), Fail> {
+    let (active, none) = (library.actives()?, before.actives()?);
+    is_line(&compile_active(alloc, &active, &none, Mode::Quick, &[1])?)
+}
+
 /// The library comes after the one that it is compared with.
 #[test]
 fn a_library_is_compiled(rt: HostRuntime) -> Result<(), Fail> {
     let alloc = rt.alloc();
     let (before, library) = (Library::new(alloc), after(alloc, &[DECK])?);
-    let decks = changed(alloc, &before, &library)?;
-    same("changed decks", decks.as_slice(), [1].as_slice())?;
+    deck_is_changed(alloc, &library, &before)?;
     is_line(&compile_file(alloc, &library, &before, Mode::Normal, &[])?)?;
-    let (active, none) = (library.actives()?, before.actives()?);
-    is_line(&compile_active(alloc, &active, &none, Mode::Quick, &[1])?)
+    active_cards_are_compiled(alloc, &library, &before)
 }
 
 /// The listings of the deck, of a card, of the idents and of the yanks.
