@@ -15,7 +15,7 @@ use crate::sound_rows::are_sound_rows;
 use crate::stored_states::own_states;
 use crate::unsound::add_unsound;
 use std::alloc::{AllocError, Global};
-use upd_core::{Fault, Library, States};
+use upd_core::{CardRef, Fault, Library, States, Target};
 use upd_records::{LibraryRows, MarkRow, RunRow};
 use upd_row_store::assembled;
 use upd_yank::Cache;
@@ -100,16 +100,26 @@ fn found_in(
     let copy = copy_rows(alloc, rows)?;
     let library = assembled(alloc, copy)?;
     add_unsound(alloc, &mut found, &library)?;
-    let own = own_rows(alloc, &library)?;
-    let own = row_texts(alloc, &own)?;
-    let stored = row_texts(alloc, rows)?;
-    add_differing(&mut found, stored, own)?;
+    add_of_rows(alloc, &mut found, &library, rows)?;
     add_of_states(alloc, &mut found, &library, states)?;
+    add_of_counts(alloc, &mut found, &library, states)?;
     add_runs_and_marks(alloc, &mut found, runs, marks)?;
     Ok(found)
 }
 
-/// Findings about statuses and counts. The only error is NoMemory.
+/// Findings about the rows of idents, cards, entries and targets. The only error is NoMemory.
+fn add_of_rows(
+    alloc: Global,
+    found: &mut Findings,
+    library: &Library,
+    rows: &LibraryRows,
+) -> Result<(), AllocError> {
+    let own = own_rows(alloc, library)?;
+    let own = row_texts(alloc, &own)?;
+    add_differing(found, row_texts(alloc, rows)?, own)
+}
+
+/// Findings about statuses. The only error is NoMemory.
 fn add_of_states(
     alloc: Global,
     found: &mut Findings,
@@ -120,13 +130,43 @@ fn add_of_states(
 {
     let cache = Cache::build(alloc, library)?;
     let own = own_states(alloc, library, &cache)?;
-    let own = state_texts(alloc, &own)?;
-    let stored = state_texts(alloc, &states.states)?;
-    add_differing(found, stored, own)?;
+    add_other_states(alloc, found, &own, states)?;
+    Ok(())
+}
+
+/// Findings about statuses that aren't the library's own.
+fn add_other_states(
+    alloc: Global,
+    found: &mut Findings,
+    own: &[(CardRef, bool)],
+    states: &States,
+) -> Result<(), AllocError> {
+    let own = state_texts(alloc, own)?;
+    add_differing(found, state_texts(alloc, &states.states)?, own)
+}
+
+/// Findings about counts. The only error is NoMemory.
+fn add_of_counts(
+    alloc: Global,
+    found: &mut Findings,
+    library: &Library,
+    states: &States,
+) -> Result<(), Fault>
+    ensures { IsOkUnless result (fault_at NoMemory 0) }
+{
     let live = library.live_yanks()?;
     let own = own_counts(alloc, library.yanks(), &live)?;
-    let own = count_texts(alloc, &own)?;
-    let stored = count_texts(alloc, &states.counts)?;
-    add_differing(found, stored, own)?;
+    add_other_counts(alloc, found, &own, states)?;
     Ok(())
+}
+
+/// Findings about counts that aren't the library's own.
+fn add_other_counts(
+    alloc: Global,
+    found: &mut Findings,
+    own: &[(Target, u32)],
+    states: &States,
+) -> Result<(), AllocError> {
+    let own = count_texts(alloc, own)?;
+    add_differing(found, count_texts(alloc, &states.counts)?, own)
 }
