@@ -1,5 +1,5 @@
 //! How a deck is edited: its text, the run that corrects it, what the run would do, and its compile file.
-use crate::console::{Answer, accepts, answers, answers_of, ask, is_answer, library, remove};
+use crate::console::{accepts, answers, answers_of, ask, is_answer, library, remove};
 use std::test::Fail;
 use upd_testkit::check::{same, same_text};
 
@@ -50,18 +50,23 @@ fn the_text_of_a_deck_adds_it_to_an_empty_library(rt: HostRuntime) -> Result<(),
     remove(&rt, &file)
 }
 
-#[test]
-fn the_source_of_a_deck_follows_its_calls(rt: HostRuntime) -> Result<(), Fail> {
-    let file = corrected_library(&rt, "source")?;
-    let found = ask(&rt, &["source", &file, "A"], &mut b"".as_slice())?;
-    let whole = ask(&rt, &["compile", &file], &mut b"".as_slice())?;
+/// The source of deck A is the compile file, of four lines.
+fn has_source(rt: &HostRuntime, file: &str) -> Result<(), Fail> {
+    let found = ask(rt, &["source", file, "A"], &mut b"".as_slice())?;
+    let whole = ask(rt, &["compile", file], &mut b"".as_slice())?;
     same("the status", found.status, 0)?;
     same("the bytes", found.output.len(), 4 * 97)?;
     same_text(
         "the file",
         std::str::from_utf8(&found.output)?,
         std::str::from_utf8(&whole.output)?,
-    )?;
+    )
+}
+
+#[test]
+fn the_source_of_a_deck_follows_its_calls(rt: HostRuntime) -> Result<(), Fail> {
+    let file = corrected_library(&rt, "source")?;
+    has_source(&rt, &file)?;
     answers_of(&rt, &file, "source", &["C"], (0, "", ""))?;
     answers_of(
         &rt,
@@ -73,23 +78,23 @@ fn the_source_of_a_deck_follows_its_calls(rt: HostRuntime) -> Result<(), Fail> {
     remove(&rt, &file)
 }
 
-/// The run that corrects decks to a text.
-fn corrected(rt: &HostRuntime, file: &str, mut text: &[u8]) -> Result<Answer, Fail> {
-    ask(rt, &["correct", file, "T"], &mut text)
-}
-
 /// Deck A as it is to be, and a new deck.
 const EDITED: &str = "*DECK A\nUN\n*CALL C\nDEUX\nTHREE\nFOUR\n*DECK B\nNEW\n";
 
 const RUN: &str = "*IDENT T\n*DELETE A.2\nUN\n*INSERT A.5\nFOUR\n*DECK B\nNEW\n";
 
+/// The run that corrects decks to their texts changes nothing itself, and is accepted.
+fn corrects(rt: &HostRuntime, file: &str) -> Result<(), Fail> {
+    let found = ask(rt, &["correct", file, "T"], &mut EDITED.as_bytes())?;
+    is_answer(&found, (0, RUN, ""))?;
+    answers_of(rt, file, "idents", &[], (0, IDENTS, ""))?;
+    accepts(rt, file, "3", "quick", &found.output)
+}
+
 #[test]
 fn a_correction_run_leads_decks_to_their_texts(rt: HostRuntime) -> Result<(), Fail> {
     let file = corrected_library(&rt, "correct")?;
-    let found = corrected(&rt, &file, EDITED.as_bytes())?;
-    is_answer(&found, (0, RUN, ""))?;
-    answers_of(&rt, &file, "idents", &[], (0, IDENTS, ""))?;
-    accepts(&rt, &file, "3", "quick", &found.output)?;
+    corrects(&rt, &file)?;
     answers_of(
         &rt,
         &file,
@@ -98,8 +103,12 @@ fn a_correction_run_leads_decks_to_their_texts(rt: HostRuntime) -> Result<(), Fa
         (0, "*DECK A\nUN\n*CALL C\nDEUX\nTHREE\nFOUR\n", ""),
     )?;
     answers_of(&rt, &file, "text", &["B"], (0, "*DECK B\nNEW\n", ""))?;
-    let unchanged = ask(&rt, &["correct", &file, "U"], &mut EDITED.as_bytes())?;
-    is_answer(&unchanged, (0, "", ""))?;
+    answers(
+        &rt,
+        &["correct", &file, "U"],
+        EDITED.as_bytes(),
+        (0, "", ""),
+    )?;
     remove(&rt, &file)
 }
 

@@ -1,17 +1,21 @@
 //! What is said of a path that is examined, whatever is there.
 use crate::console::{accepts, answers, fresh, library, remove};
+use crate::file_changes::{change, change_log, close, connected, execute_and_close};
 use crate::site_commands::make_second;
 use sqlite::Connection;
 use sqlite_disk::Unknown;
 use std::fs;
 use std::test::Fail;
 use upd_keep::{Examined, Report, Situation, examine};
-use upd_store::file::connect;
 use upd_testkit::check::{holds, same, same_text};
+
+fn examined(rt: &HostRuntime, path: &str) -> Result<Report, Fail> {
+    Ok(examine(rt, path, Unknown)?)
+}
 
 /// A path is in this situation, and no library was examined.
 fn is_other(rt: &HostRuntime, path: &str, wanted: Situation) -> Result<(), Fail> {
-    match examine(rt, path, Unknown)? {
+    match examined(rt, path)? {
         Report::Other(situation) => same("the situation", situation, wanted),
         Report::Library(_, _) => Err(Fail::new(format_args!("a library was examined"))),
     }
@@ -27,7 +31,7 @@ fn is_line(found: &Examined, line: &str) -> Result<(), Fail> {
 
 /// A library is sound, with this line, and its log has frames or not.
 fn is_sound(rt: &HostRuntime, path: &str, line: &str, frames: bool) -> Result<(), Fail> {
-    match examine(rt, path, Unknown)? {
+    match examined(rt, path)? {
         Report::Library(found, log) => {
             is_line(&found, line)?;
             same("the log", log, frames)
@@ -38,20 +42,12 @@ fn is_sound(rt: &HostRuntime, path: &str, line: &str, frames: bool) -> Result<()
 
 /// The tables of a library are not sound, and these are the lines.
 fn is_unsound(rt: &HostRuntime, path: &str, lines: &str) -> Result<(), Fail> {
-    match examine(rt, path, Unknown)? {
+    match examined(rt, path)? {
         Report::Library(Examined::Unsound(found), _) => {
             same_text("the lines", std::str::from_utf8(&found)?, lines)
         }
         _ => Err(Fail::new(format_args!("no library with findings"))),
     }
-}
-
-/// Changes the tables of a library by hand.
-fn change(rt: &HostRuntime, file: &str, sql: &str) -> Result<(), Fail> {
-    let mut conn = connect(rt, file, Unknown)?;
-    conn.execute(sql, &[])?;
-    conn.close()?;
-    Ok(())
 }
 
 #[test]
@@ -80,13 +76,12 @@ fn an_examination_changes_no_byte(rt: HostRuntime) -> Result<(), Fail> {
     remove(&rt, &file)
 }
 
-/// A program that ends without copying its log into the file leaves what it committed in the log.
+const SETTLEMENT: &str = "INSERT INTO settled (site, mark) VALUES ('LYON', 3)";
+
 #[test]
 fn a_log_with_commits_is_reported_and_kept(rt: HostRuntime) -> Result<(), Fail> {
     let file = library(&rt, "framed")?;
-    let mut conn = connect(&rt, &file, Unknown)?;
-    conn.execute("INSERT INTO settled (site, mark) VALUES ('LYON', 3)", &[])?;
-    drop(conn);
+    change_log(&rt, &file, SETTLEMENT)?;
     is_sound(&rt, &file, "sound: decks 0, cards 0, runs 0\n", true)?;
     is_sound(&rt, &file, "sound: decks 0, cards 0, runs 0\n", true)?;
     remove(&rt, &file)
@@ -100,12 +95,14 @@ fn what_is_no_database_is_named(rt: HostRuntime) -> Result<(), Fail> {
     fs::create_dir(&rt, file.as_str())?;
     is_other(&rt, &file, Situation::Folder)?;
     fs::remove_dir(&rt, file.as_str())?;
-    fs::write(&rt, file.as_str(), b"")?;
-    is_other(&rt, &file, Situation::Empty)?;
-    fs::write(&rt, file.as_str(), b"*DECK A\n")?;
-    is_other(&rt, &file, Situation::NotSqlite)?;
-    fs::write(&rt, file.as_str(), b"*DECK A\nLONGER THAN A HEADER\n")?;
-    is_other(&rt, &file, Situation::NotSqlite)?;
+    for (bytes, situation) in [
+        (b"".as_slice(), Situation::Empty),
+        (b"*DECK A\n", Situation::NotSqlite),
+        (b"*DECK A\nLONGER THAN A HEADER\n", Situation::NotSqlite),
+    ] {
+        fs::write(&rt, file.as_str(), bytes)?;
+        is_other(&rt, &file, situation)?;
+    }
     is_other(&rt, "/dev/null", Situation::NotRegular)?;
     remove(&rt, &file)
 }
@@ -113,9 +110,9 @@ fn what_is_no_database_is_named(rt: HostRuntime) -> Result<(), Fail> {
 #[test]
 fn a_library_in_use_is_named(rt: HostRuntime) -> Result<(), Fail> {
     let file = library(&rt, "busy")?;
-    let conn = connect(&rt, &file, Unknown)?;
+    let conn = connected(&rt, &file)?;
     is_other(&rt, &file, Situation::InUse)?;
-    conn.close()?;
+    close(conn)?;
     is_sound(&rt, &file, "sound: decks 0, cards 0, runs 0\n", false)?;
     remove(&rt, &file)
 }
@@ -133,7 +130,11 @@ fn schemas_are_distinguished(rt: HostRuntime) -> Result<(), Fail> {
         "CREATE TABLE other (k INTEGER PRIMARY KEY) STRICT",
     )?;
     is_other(&rt, &file, Situation::OtherTables)?;
-    remove(&rt, &file)?;
+    remove(&rt, &file)
+}
+
+#[test]
+fn an_older_schema_is_named(rt: HostRuntime) -> Result<(), Fail> {
     let file = library(&rt, "older")?;
     make_second(&rt, &file)?;
     is_other(&rt, &file, Situation::OlderSchema)?;
@@ -156,9 +157,10 @@ fn a_row_beside_the_version_is_found(rt: HostRuntime) -> Result<(), Fail> {
 #[test]
 fn another_database_is_named(rt: HostRuntime) -> Result<(), Fail> {
     let file = fresh(&rt, "another")?;
-    let mut conn = Connection::open(&rt, &file)?;
-    conn.execute("CREATE TABLE note (id INTEGER PRIMARY KEY) STRICT", &[])?;
-    conn.close()?;
+    execute_and_close(
+        Connection::open(&rt, &file)?,
+        "CREATE TABLE note (id INTEGER PRIMARY KEY) STRICT",
+    )?;
     is_other(&rt, &file, Situation::NotLibrary)?;
     remove(&rt, &file)
 }
@@ -205,9 +207,7 @@ fn the_command_writes_what_was_found(rt: HostRuntime) -> Result<(), Fail> {
 #[test]
 fn the_command_reports_a_log(rt: HostRuntime) -> Result<(), Fail> {
     let file = library(&rt, "logged")?;
-    let mut conn = connect(&rt, &file, Unknown)?;
-    conn.execute("INSERT INTO settled (site, mark) VALUES ('LYON', 3)", &[])?;
-    drop(conn);
+    change_log(&rt, &file, SETTLEMENT)?;
     let lines = "\
 log: keep FILE-wal with the file, it may have commits that the file lacks
 sound: decks 0, cards 0, runs 0

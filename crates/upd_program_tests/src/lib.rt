@@ -13,6 +13,8 @@ mod deck_commands;
 #[cfg(test)]
 mod examined_files;
 #[cfg(test)]
+mod file_changes;
+#[cfg(test)]
 mod library_files;
 #[cfg(test)]
 mod listing_files;

@@ -1,12 +1,11 @@
 //! What the file of a library holds, and what its log.
 use crate::console::{accepts, answers, fresh, library, remove};
+use crate::file_changes::{change_log, close, connected};
 use crate::refusals::all_answer;
 use crate::site_commands::make_second;
-use sqlite_disk::Unknown;
 use std::fs;
 use std::net::TcpListener;
 use std::test::Fail;
-use upd_store::file::connect;
 use upd_testkit::check::holds;
 
 const ONE_DECK: &str = "1 A deck held\n";
@@ -80,13 +79,10 @@ fn the_file_without_its_log_has_a_mark(rt: HostRuntime) -> Result<(), Fail> {
     remove(&rt, &file)
 }
 
-/// A program that ends without copying its log into the file leaves what it committed in the log.
 #[test]
 fn changes_only_in_the_log_are_read(rt: HostRuntime) -> Result<(), Fail> {
     let file = library(&rt, "log")?;
-    let mut conn = connect(&rt, &file, Unknown)?;
-    conn.execute("UPDATE meta SET v = 2", &[])?;
-    drop(conn);
+    change_log(&rt, &file, "UPDATE meta SET v = 2")?;
     answers(
         &rt,
         &["idents", &file],
@@ -99,9 +95,9 @@ fn changes_only_in_the_log_are_read(rt: HostRuntime) -> Result<(), Fail> {
 #[test]
 fn a_library_in_use_is_refused(rt: HostRuntime) -> Result<(), Fail> {
     let file = library(&rt, "used")?;
-    let conn = connect(&rt, &file, Unknown)?;
+    let conn = connected(&rt, &file)?;
     all_answer(&rt, &file, (3, "", "upd: Store (29) at 0\n"))?;
-    conn.close()?;
+    close(conn)?;
     answers(&rt, &["idents", &file], b"", (0, "", ""))?;
     remove(&rt, &file)
 }
@@ -115,24 +111,24 @@ fn an_empty_file_is_refused(rt: HostRuntime) -> Result<(), Fail> {
     remove(&rt, &file)
 }
 
+/// `serve` at the address of a listener, which is in use, has this line on the fault stream.
+fn fails_to_serve(
+    rt: &HostRuntime,
+    file: &str,
+    listener: &TcpListener,
+    line: &str,
+) -> Result<(), Fail> {
+    let address = format!(in rt.alloc(); "{}", listener.local_addr()?)?;
+    answers(rt, &["serve", file, &address, "1"], b"", (3, "", line))
+}
+
 #[test]
 fn an_address_in_use_is_reported_after_the_file(rt: HostRuntime) -> Result<(), Fail> {
     let file = fresh(&rt, "address")?;
     let listener = TcpListener::bind(&rt, "127.0.0.1:0")?;
-    let address = format!(in rt.alloc(); "{}", listener.local_addr()?)?;
-    answers(
-        &rt,
-        &["serve", &file, &address, "1"],
-        b"",
-        (3, "", "upd: Store (29) at 0\n"),
-    )?;
+    fails_to_serve(&rt, &file, &listener, "upd: Store (29) at 0\n")?;
     answers(&rt, &["init", &file], b"", (0, "", ""))?;
-    answers(
-        &rt,
-        &["serve", &file, &address, "1"],
-        b"",
-        (3, "", "upd: Read (32) at 0\n"),
-    )?;
+    fails_to_serve(&rt, &file, &listener, "upd: Read (32) at 0\n")?;
     remove(&rt, &file)
 }
 

@@ -16,14 +16,26 @@ const RUN: &str = "*IDENT T\n*DELETE A.2\nUN\n*INSERT A.4\nFOUR\n";
 
 const NO_LIBRARY: (u8, &str, &str) = (3, "", "upd: Store (29) at 0\n");
 
+/// A library with deck A after both.
+fn listed_library(rt: &HostRuntime) -> Result<String, Fail> {
+    let file = library(rt, "listed")?;
+    accepts(rt, &file, "1", "quick", DECK)?;
+    accepts(rt, &file, "2", "quick", SET)?;
+    Ok(file)
+}
+
+/// A file with the listing.
+fn listing_file(rt: &HostRuntime, name: &str) -> Result<String, Fail> {
+    let file = fresh(rt, name)?;
+    fs::write(rt, file.as_str(), LISTING)?;
+    Ok(file)
+}
+
 #[test]
 fn a_listing_serves_as_its_library_does(rt: HostRuntime) -> Result<(), Fail> {
-    let file = library(&rt, "listed")?;
-    accepts(&rt, &file, "1", "quick", DECK)?;
-    accepts(&rt, &file, "2", "quick", SET)?;
+    let file = listed_library(&rt)?;
     answers_of(&rt, &file, "list", &["A"], (0, LISTING, ""))?;
-    let listing = fresh(&rt, "listing")?;
-    fs::write(&rt, listing.as_str(), LISTING)?;
+    let listing = listing_file(&rt, "listing")?;
     for path in [&file, &listing] {
         answers(
             &rt,
@@ -53,8 +65,7 @@ Comment 3:1 a run would drop this line as a comment\n",
 
 #[test]
 fn a_text_is_refused_over_a_listing(rt: HostRuntime) -> Result<(), Fail> {
-    let listing = fresh(&rt, "refusing")?;
-    fs::write(&rt, listing.as_str(), LISTING)?;
+    let listing = listing_file(&rt, "refusing")?;
     let words = ["correct", &listing, "T"];
     for (text, why) in REFUSED {
         answers(&rt, &words, text, (1, "", why))?;

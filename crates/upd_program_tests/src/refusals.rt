@@ -1,10 +1,9 @@
 //! What is refused, in which order, and on which stream.
-use crate::console::{Answer, answers, answers_of, ask, fresh, is_answer, library, remove};
-use sqlite_disk::Unknown;
+use crate::console::{answers, answers_of, ask, fresh, is_answer, library, remove};
+use crate::file_changes::change;
 use std::fs;
 use std::io::ErrorKind;
 use std::test::Fail;
-use upd_store::file::connect;
 use upd_testkit::check::{holds, same};
 use upd_testkit::fake_streams::Pieces;
 
@@ -71,26 +70,31 @@ fn a_missing_file_is_refused_and_not_made(rt: HostRuntime) -> Result<(), Fail> {
     is_not_there(&rt, file.as_str())
 }
 
-/// The answer to a command line whose input can't be read.
-fn ask_unreadable(rt: &HostRuntime, words: &[&str]) -> Result<Answer, Fail> {
-    ask(rt, words, &mut Pieces::failing(b"", 1, 1, ErrorKind::Other))
+/// A command line whose input can't be read has this line on the fault stream, with status 3.
+fn fails_unread(rt: &HostRuntime, words: &[&str], line: &str) -> Result<(), Fail> {
+    let found = ask(rt, words, &mut Pieces::failing(b"", 1, 1, ErrorKind::Other))?;
+    is_answer(&found, (3, "", line))
 }
 
 #[test]
 fn a_missing_file_is_reported_before_the_run_is_read(rt: HostRuntime) -> Result<(), Fail> {
     let file = fresh(&rt, "unheard")?;
     let words = ["run", &file, "LYON", "1", "full"];
-    let found = ask_unreadable(&rt, &words)?;
-    is_answer(&found, (3, "", "upd: Store (29) at 0\n"))?;
+    fails_unread(&rt, &words, "upd: Store (29) at 0\n")?;
     answers(&rt, &["init", &file], b"", (0, "", ""))?;
-    let found = ask_unreadable(&rt, &words)?;
-    is_answer(&found, (3, "", "upd: Read (32) at 0\n"))?;
+    fails_unread(&rt, &words, "upd: Read (32) at 0\n")?;
     remove(&rt, &file)
 }
 
 /// `correct` takes such a file for a listing.
 const NEITHER: &str =
     "NotListing 1:1 FILE is not a library, and this line of it is not one of a deck's listing\n";
+
+/// A file has no log beside it.
+fn has_no_log(rt: &HostRuntime, file: &str) -> Result<(), Fail> {
+    let log = format!(in rt.alloc(); "{file}-wal")?;
+    is_not_there(rt, log.as_str())
+}
 
 #[test]
 fn another_file_is_refused_and_stays(rt: HostRuntime) -> Result<(), Fail> {
@@ -105,8 +109,7 @@ fn another_file_is_refused_and_stays(rt: HostRuntime) -> Result<(), Fail> {
         };
         answers_of(&rt, &file, name, words, wanted)?;
     }
-    let log = format!(in rt.alloc(); "{file}-wal")?;
-    is_not_there(&rt, log.as_str())?;
+    has_no_log(&rt, &file)?;
     answers(
         &rt,
         &["init", &file],
@@ -121,9 +124,7 @@ fn another_file_is_refused_and_stays(rt: HostRuntime) -> Result<(), Fail> {
 #[test]
 fn a_file_of_another_schema_is_refused_at_its_version(rt: HostRuntime) -> Result<(), Fail> {
     let file = library(&rt, "older")?;
-    let mut conn = connect(&rt, &file, Unknown)?;
-    conn.execute("UPDATE meta SET v = 2", &[])?;
-    conn.close()?;
+    change(&rt, &file, "UPDATE meta SET v = 2")?;
     all_answer(&rt, &file, (3, "", "upd: Store (29) at 2\n"))?;
     answers(
         &rt,

@@ -89,13 +89,18 @@ fn is_answered(alloc: Global, mut client: Client) -> Result<(), Fail> {
     same_text("the answer", std::str::from_utf8(&answer)?, NO_IDENTS)
 }
 
+/// What is written is the line with a client's address.
+fn is_line_of(alloc: Global, written: &[u8], client: &Client) -> Result<(), Fail> {
+    let wanted = format!(in alloc; "upd: listening on {}\n", client.address)?;
+    same_text("the faults", std::str::from_utf8(written)?, &wanted)
+}
+
 /// A client is answered at the port that the line has, which isn't the 0 of the command line.
 #[test]
 fn the_line_of_serve_has_the_port_where_clients_are_answered(rt: HostRuntime) -> Result<(), Fail> {
     let file = library(&rt, "listening")?;
     let (written, client) = served(&rt, &file, false)?;
-    let wanted = format!(in rt.alloc(); "upd: listening on {}\n", client.address)?;
-    same_text("the faults", std::str::from_utf8(&written)?, &wanted)?;
+    is_line_of(rt.alloc(), &written, &client)?;
     is_answered(rt.alloc(), client)?;
     remove(&rt, &file)
 }

@@ -1,8 +1,7 @@
 //! What sites do with a library: they make it, send runs, settle, and ask.
 use crate::console::{accepts, answers, answers_of, ask, fresh, library, remove};
-use sqlite_disk::Unknown;
+use crate::file_changes::change;
 use std::test::Fail;
-use upd_store::file::connect;
 use upd_testkit::check::same;
 
 const DECK: &[u8] = b"*DECK A\nONE\nTWO\nTHREE\n";
@@ -133,11 +132,8 @@ fn a_spool_is_answered_line_by_line(rt: HostRuntime) -> Result<(), Fail> {
 
 /// Turns a file of the current schema into one of the second: that has no table of marks.
 pub fn make_second(rt: &HostRuntime, file: &str) -> Result<(), Fail> {
-    let mut conn = connect(rt, file, Unknown)?;
-    conn.execute("DROP TABLE settled", &[])?;
-    conn.execute("UPDATE meta SET v = 2", &[])?;
-    conn.close()?;
-    Ok(())
+    change(rt, file, "DROP TABLE settled")?;
+    change(rt, file, "UPDATE meta SET v = 2")
 }
 
 #[test]
@@ -202,6 +198,13 @@ fn stored_runs_and_sites_are_listed(rt: HostRuntime) -> Result<(), Fail> {
     remove(&rt, &file)
 }
 
+/// A copy has the deck and the site of its library.
+fn is_copy(rt: &HostRuntime, copy: &str) -> Result<(), Fail> {
+    answers_of(rt, copy, "idents", &[], (0, "1 A deck held\n", ""))?;
+    let sites = "LYON 0 999999999 none\n";
+    answers_of(rt, copy, "sites", &[], (0, sites, ""))
+}
+
 #[test]
 fn a_copy_is_a_library_by_itself(rt: HostRuntime) -> Result<(), Fail> {
     let file = library(&rt, "original")?;
@@ -210,9 +213,7 @@ fn a_copy_is_a_library_by_itself(rt: HostRuntime) -> Result<(), Fail> {
     answers(&rt, &["backup", &file, &copy], b"", (0, "", ""))?;
     let exists = (3, "", "upd: Write (33) at 0\n");
     answers(&rt, &["backup", &file, &copy], b"", exists)?;
-    answers_of(&rt, &copy, "idents", &[], (0, "1 A deck held\n", ""))?;
-    let sites = "LYON 0 999999999 none\n";
-    answers_of(&rt, &copy, "sites", &[], (0, sites, ""))?;
+    is_copy(&rt, &copy)?;
     remove(&rt, &copy)?;
     remove(&rt, &file)
 }

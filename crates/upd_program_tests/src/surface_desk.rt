@@ -151,7 +151,7 @@ fn desk(alloc: Global) -> Result<Desk<ListStore>, Fail> {
 }
 
 /// The listings of deck A, of its line, of the idents and of the yanks.
-fn listings(alloc: Global, desk: &mut Desk<ListStore>) -> Result<[Vec<u8>; 4], Fail> {
+fn listings<S: RowStore>(alloc: Global, desk: &mut Desk<S>) -> Result<[Vec<u8>; 4], Fail> {
     Ok([
         desk.deck_list(alloc, &name("A")?)?,
         desk.card_list(alloc, card_ref("A.2")?)?,
@@ -167,15 +167,26 @@ const LISTINGS: [&str; 4] = [
     "",
 ];
 
+/// The decks of a desk are compiled and listed.
+fn is_written<S: RowStore>(alloc: Global, desk: &mut Desk<S>) -> Result<(), Fail> {
+    is_line(&desk.full_compile(alloc)?)?;
+    for (found, wanted) in listings(alloc, desk)?.iter().zip(LISTINGS) {
+        same_text("a listing", std::str::from_utf8(found)?, wanted)?;
+    }
+    Ok(())
+}
+
+/// A site settles its run, and the store that the desk leaves has its mark.
+fn is_marked<S: RowStore + Drop>(alloc: Global, mut desk: Desk<S>) -> Result<(), Fail> {
+    same("the mark", desk.settle_site(alloc, "LYON", 1)?, 1)?;
+    same("the mark", desk.close().mark(alloc, "LYON")?, 1)
+}
+
 #[test]
 fn a_desk_answers(rt: HostRuntime) -> Result<(), Fail> {
     let mut desk = desk(rt.alloc())?;
-    is_line(&desk.full_compile(rt.alloc())?)?;
-    for (found, wanted) in listings(rt.alloc(), &mut desk)?.iter().zip(LISTINGS) {
-        same_text("a listing", std::str::from_utf8(found)?, wanted)?;
-    }
-    same("the mark", desk.settle_site(rt.alloc(), "LYON", 1)?, 1)?;
-    same("the mark", desk.close().mark(rt.alloc(), "LYON")?, 1)
+    is_written(rt.alloc(), &mut desk)?;
+    is_marked(rt.alloc(), desk)
 }
 
 /// Run 1 of site PARIS, which is empty.
@@ -197,16 +208,22 @@ fn a_list_of_runs_is_answered(rt: HostRuntime) -> Result<(), Fail> {
     same("answers, accepted", (answers.len(), accepted), (2, 2))
 }
 
+/// A request for the idents is answered.
+fn is_served<S: RowStore>(alloc: Global, desk: &mut Desk<S>) -> Result<(), Fail> {
+    let mut output = Vec::new(alloc);
+    let mut request = b"GET /idents HTTP/1.1\r\n\r\n".as_slice();
+    serve_one(alloc, &mut request, &mut output, desk)?;
+    let wanted = "HTTP/1.1 200 OK\r\nContent-Type: text/plain\r\nContent-Length: 14\r\n\
+Connection: close\r\n\r\n1 A deck held\n";
+    same_text("the answer", std::str::from_utf8(&output)?, wanted)
+}
+
 #[test]
 fn a_request_and_a_spool_are_answered(rt: HostRuntime) -> Result<(), Fail> {
     let mut desk = desk(rt.alloc())?;
-    let mut output = Vec::new(rt.alloc());
-    let mut request = b"GET /idents HTTP/1.1\r\n\r\n".as_slice();
-    serve_one(rt.alloc(), &mut request, &mut output, &mut desk)?;
-    let wanted = "HTTP/1.1 200 OK\r\nContent-Type: text/plain\r\nContent-Length: 14\r\n\
-Connection: close\r\n\r\n1 A deck held\n";
-    same_text("the answer", std::str::from_utf8(&output)?, wanted)?;
+    is_served(rt.alloc(), &mut desk)?;
     let mut frames = b"RUN LYON 2 quick 0\n\n".as_slice();
+    let mut output = Vec::new(rt.alloc());
     let frames = spool(rt.alloc(), &mut frames, &mut output, &mut desk)?;
     same("frames", frames, 1)
 }
