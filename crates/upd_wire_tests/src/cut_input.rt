@@ -180,18 +180,22 @@ fn all_at_once(
     Ok(())
 }
 
+/// A front of the spool is answered byte by byte, then all at once where its runs are repeats, and where they are not.
+fn front_is_answered(alloc: Global, front: &[u8], answers: &[u8]) -> Result<(), Fail> {
+    let wanted = answers_of(answers, whole_frames(front.len()))?;
+    let desk = byte_by_byte(alloc, front, wanted)?;
+    all_at_once(alloc, front, wanted, desk)?;
+    let empty = Desk::open(ListStore::new(alloc));
+    all_at_once(alloc, front, wanted, empty)
+}
+
 /// All at once and byte by byte, the same comes out; so it does where the runs are repeats.
 #[test]
 fn each_front_of_a_spool_answers_its_whole_frames(rt: HostRuntime) -> Result<(), Fail> {
     let alloc = rt.alloc();
     let (text, answers) = worked_spool(alloc)?;
     for length in 0..=text.len() {
-        let front = &text.as_bytes()[..length];
-        let wanted = answers_of(answers.as_bytes(), whole_frames(length))?;
-        let desk = byte_by_byte(alloc, front, wanted)?;
-        all_at_once(alloc, front, wanted, desk)?;
-        let empty = Desk::open(ListStore::new(alloc));
-        all_at_once(alloc, front, wanted, empty)?;
+        front_is_answered(alloc, &text.as_bytes()[..length], answers.as_bytes())?;
     }
     Ok(())
 }

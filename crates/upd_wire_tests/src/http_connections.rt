@@ -1,5 +1,5 @@
 //! Connections on this machine.
-use crate::http_desk::{QUICK, QUICK_ANSWER, empty_desk};
+use crate::http_desk::{Lists, QUICK, QUICK_ANSWER, empty_desk};
 use std::alloc::Global;
 use std::cell::Cell;
 use std::io;
@@ -11,12 +11,25 @@ use upd_http::serve_on_within;
 use upd_testkit::check::{holds, same};
 use upd_text::FaultKind;
 
-/// A client that has written this and writes no more.
-fn client_with(rt: &HostRuntime, address: SocketAddr, sent: &[u8]) -> Result<TcpStream, Fail> {
+/// A client that has written this.
+fn client_after(rt: &HostRuntime, address: SocketAddr, sent: &[u8]) -> Result<TcpStream, Fail> {
     let mut client = TcpStream::connect(rt, address)?;
     client.write_all(sent)?;
+    Ok(client)
+}
+
+/// A client that has written this and writes no more.
+fn client_with(rt: &HostRuntime, address: SocketAddr, sent: &[u8]) -> Result<TcpStream, Fail> {
+    let client = client_after(rt, address, sent)?;
     client.shutdown(Shutdown::Write)?;
     Ok(client)
+}
+
+/// A listener, and a client that has written this to it.
+fn listener_after(rt: &HostRuntime, sent: &[u8]) -> Result<(TcpListener, TcpStream), Fail> {
+    let listener = TcpListener::bind(rt, "127.0.0.1:0")?;
+    let client = client_after(rt, listener.local_addr()?, sent)?;
+    Ok((listener, client))
 }
 
 /// What a client reads to the end is this.
@@ -26,14 +39,19 @@ fn reads(alloc: Global, mut client: TcpStream, wanted: &str) -> Result<(), Fail>
     same("the answer", &std::str::from_utf8(&answer)?, &wanted)
 }
 
+/// A client that goes away before its request is whole, and one that sends it whole.
+fn gone_and_client(rt: &HostRuntime, address: SocketAddr) -> Result<(TcpStream, TcpStream), Fail> {
+    let gone = client_with(rt, address, &QUICK.as_bytes()[..30])?;
+    let client = client_with(rt, address, QUICK.as_bytes())?;
+    Ok((gone, client))
+}
+
 /// A client connects and writes, then the connection is served, then the client reads. One that goes away before its
 /// request is whole takes nobody else's answer.
 #[test]
 fn connections_are_served(rt: HostRuntime) -> Result<(), Fail> {
     let listener = TcpListener::bind(&rt, "127.0.0.1:0")?;
-    let address = listener.local_addr()?;
-    let gone = client_with(&rt, address, &QUICK.as_bytes()[..30])?;
-    let client = client_with(&rt, address, QUICK.as_bytes())?;
+    let (gone, client) = gone_and_client(&rt, listener.local_addr()?)?;
     serve_on_within(rt.alloc(), &rt, &listener, 2, &mut empty_desk(rt.alloc()))?;
     reads(rt.alloc(), gone, "")?;
     reads(rt.alloc(), client, QUICK_ANSWER)
@@ -50,9 +68,9 @@ fn long_request(alloc: Global) -> Result<Vec<u8>, Fail> {
 /// A client that sends more than it may has its answer all the same.
 #[test]
 fn a_long_body_is_answered(rt: HostRuntime) -> Result<(), Fail> {
-    let listener = TcpListener::bind(&rt, "127.0.0.1:0")?;
     let request = long_request(rt.alloc())?;
-    let client = client_with(&rt, listener.local_addr()?, &request)?;
+    let (listener, client) = listener_after(&rt, &request)?;
+    client.shutdown(Shutdown::Write)?;
     serve_on_within(rt.alloc(), &rt, &listener, 1, &mut empty_desk(rt.alloc()))?;
     let wanted =
         "HTTP/1.1 413 Payload Too Large\r\nContent-Type: application/json\r\nContent-Length: 35\r\n\
@@ -128,15 +146,23 @@ fn reads_nothing(alloc: Global, mut client: TcpStream) -> Result<(), Fail> {
     same("bytes, the end", (answer.len(), is_over), (0, true))
 }
 
+/// A client of a desk, whose time is up after this number of readings of the clock, reads nothing.
+fn is_given_up(
+    alloc: Global,
+    desk: &mut Lists,
+    (listener, client): (TcpListener, TcpStream),
+    still: u64,
+) -> Result<(), Fail> {
+    serve_on_within(alloc, &Ticking::new(still, 120), &listener, 1, desk)?;
+    reads_nothing(alloc, client)
+}
+
 /// A client that isn't done after two minutes is given up, and its run isn't stored: the key is free for another one.
 #[test]
 fn a_slow_client_is_given_up(rt: HostRuntime) -> Result<(), Fail> {
     let mut desk = empty_desk(rt.alloc());
-    let listener = TcpListener::bind(&rt, "127.0.0.1:0")?;
-    let mut client = TcpStream::connect(&rt, listener.local_addr()?)?;
-    client.write_all(QUICK.as_bytes())?;
-    serve_on_within(rt.alloc(), &Ticking::new(0, 120), &listener, 1, &mut desk)?;
-    reads_nothing(rt.alloc(), client)?;
+    let both = listener_after(&rt, QUICK.as_bytes())?;
+    is_given_up(rt.alloc(), &mut desk, both, 0)?;
     desk.arrive(rt.alloc(), "LYON", 1, "full", b"")?;
     Ok(())
 }
@@ -145,10 +171,9 @@ fn a_slow_client_is_given_up(rt: HostRuntime) -> Result<(), Fail> {
 #[test]
 fn a_client_that_takes_its_answer_late_is_given_up(rt: HostRuntime) -> Result<(), Fail> {
     let mut desk = empty_desk(rt.alloc());
-    let listener = TcpListener::bind(&rt, "127.0.0.1:0")?;
-    let client = client_with(&rt, listener.local_addr()?, QUICK.as_bytes())?;
-    serve_on_within(rt.alloc(), &Ticking::new(2, 120), &listener, 1, &mut desk)?;
-    reads_nothing(rt.alloc(), client)?;
+    let both = listener_after(&rt, QUICK.as_bytes())?;
+    both.1.shutdown(Shutdown::Write)?;
+    is_given_up(rt.alloc(), &mut desk, both, 2)?;
     let answer = desk.arrive(rt.alloc(), "LYON", 1, "full", b"");
     let found = answer.map(|reply| reply.accepted);
     let changed = FaultKind::RunChanged.without_line();

@@ -184,10 +184,8 @@ fn is_settled(answer: Answer) -> Result<(), Fail> {
     same("settled, a mark", (is_settled, answer.mark), (true, None))
 }
 
-/// A run that is settled, then one that isn't there yet, then one of a lower number.
-#[test]
-fn settlements_survive_a_refusal(rt: HostRuntime) -> Result<(), Fail> {
-    let alloc = rt.alloc();
+/// Two runs, the settlement of the first, and both runs again: the twins.
+fn settled_between(alloc: Global) -> Result<Twins, Fail> {
     let list = [
         Ask::Run(1, "full", DECK_A),
         Ask::Run(2, "full", "*IDENT X\n*DELETE A.3\n"),
@@ -195,8 +193,17 @@ fn settlements_survive_a_refusal(rt: HostRuntime) -> Result<(), Fail> {
     let (twins, _) = ask_twins(alloc, Twins::new(alloc), &list)?;
     let twins = settles_to(alloc, twins, 1, 1)?;
     let (twins, _) = ask_twins(alloc, twins, &list)?;
-    let twins = settles_to(alloc, twins, 3, 3)?;
-    let twins = settles_to(alloc, twins, 2, 3)?;
+    Ok(twins)
+}
+
+/// A run that is settled, then one that isn't there yet, then one of a lower number.
+#[test]
+fn settlements_survive_a_refusal(rt: HostRuntime) -> Result<(), Fail> {
+    let alloc = rt.alloc();
+    let mut twins = settled_between(alloc)?;
+    for (number, mark) in [(3, 3), (2, 3)] {
+        twins = settles_to(alloc, twins, number, mark)?;
+    }
     let (_, answer) = twins.ask(alloc, Ask::Run(3, "full", ""))?;
     is_settled(answer)
 }

@@ -88,19 +88,29 @@ fn spooled_whole(alloc: Global, store: ListStore) -> Result<(ListStore, Vec<u8>)
     }
 }
 
+/// The answers to the frames before the one that is refused memory; only the runs of these are stored.
+fn spooled_once(alloc: Global, store: ListStore) -> Result<(ListStore, Vec<u8>), Fail> {
+    let (store, ended, before) = spooled(alloc, store)?;
+    let frames = answered_frames(ended)?;
+    same("answers before", &count_lines(&before), &frames)?;
+    Ok((stores(alloc, store, u64::from(frames))?, before))
+}
+
+/// The whole spool is answered, with these answers first, and stored.
+fn is_spooled_whole(alloc: Global, store: ListStore, before: &[u8]) -> Result<(), Fail> {
+    let (store, answers) = spooled_whole(alloc, store)?;
+    same("answers", count_lines(&answers), 3)?;
+    holds("the answers before", answers.starts_with(before))?;
+    stores(alloc, store, 3)?;
+    Ok(())
+}
+
 /// The frames before the one that is refused memory are answered and stored; the whole spool, sent again, is answered.
 #[test]
 fn a_spool_survives_a_refusal(rt: HostRuntime) -> Result<(), Fail> {
     let alloc = rt.alloc();
-    let (store, ended, before) = spooled(alloc, ListStore::new(alloc))?;
-    let frames = answered_frames(ended)?;
-    same("answers before", &count_lines(&before), &frames)?;
-    let store = stores(alloc, store, u64::from(frames))?;
-    let (store, answers) = spooled_whole(alloc, store)?;
-    same("answers", count_lines(&answers), 3)?;
-    holds("the answers before", answers.starts_with(&before))?;
-    stores(alloc, store, 3)?;
-    Ok(())
+    let (store, before) = spooled_once(alloc, ListStore::new(alloc))?;
+    is_spooled_whole(alloc, store, &before)
 }
 
 const NO_MEMORY: &str =
@@ -161,14 +171,25 @@ fn says(
     Ok(store)
 }
 
-/// A run, its repeat, its number with another mode, and a deck that isn't there.
+/// A run, its repeat, its number with another mode, and a deck that isn't there: the request, how many runs are known
+/// before it, and its answer.
+const REQUESTS: [(&str, u64, &str); 4] = [
+    (QUICK, 0, QUICK_ANSWER),
+    (QUICK, 1, QUICK_ANSWER),
+    (
+        "POST /sites/LYON/runs/1/full HTTP/1.1\r\nHost: lib\r\nContent-Length: 0\r\n\r\n",
+        1,
+        CHANGED,
+    ),
+    ("GET /decks/NOPE HTTP/1.1\r\n\r\n", 1, UNKNOWN),
+];
+
+/// The requests are answered in turn.
 #[test]
 fn requests_survive_a_refusal(rt: HostRuntime) -> Result<(), Fail> {
-    let alloc = rt.alloc();
-    let store = says(alloc, ListStore::new(alloc), QUICK, 0, QUICK_ANSWER)?;
-    let store = says(alloc, store, QUICK, 1, QUICK_ANSWER)?;
-    let changed = "POST /sites/LYON/runs/1/full HTTP/1.1\r\nHost: lib\r\nContent-Length: 0\r\n\r\n";
-    let store = says(alloc, store, changed, 1, CHANGED)?;
-    says(alloc, store, "GET /decks/NOPE HTTP/1.1\r\n\r\n", 1, UNKNOWN)?;
+    let mut store = ListStore::new(rt.alloc());
+    for (request, known, wanted) in REQUESTS {
+        store = says(rt.alloc(), store, request, known, wanted)?;
+    }
     Ok(())
 }

@@ -40,20 +40,27 @@ fn comes_out(
     same_text(text, std::str::from_utf8(&output)?, wanted)
 }
 
+/// A site of 50 bytes.
+const LONG_SITE: &str = "SSSSSSSSSSSSSSSSSSSSSSSSSSSSSSSSSSSSSSSSSSSSSSSSSS";
+
+/// What is before and after the long site in a header of 63 or 64 bytes, with the answer and the end.
+const LONG_HEADERS: [(&str, &str, &str, &str); 4] = [
+    ("RUN ", " 1 full 0\n\n", BAD_SITE, "1"),
+    ("RUN ", "S 1 full 0\n\n", "", "BadFrame (30) at 1"),
+    ("junk ", " 1234567", "", "CutFrame (31) at 1"),
+    ("junk ", " 12345678", "", "BadFrame (30) at 1"),
+];
+
 /// A header of 63 bytes or more, made so by its site, is checked at its LF.
 #[test]
 fn headers_have_63_bytes_at_most(rt: HostRuntime) -> Result<(), Fail> {
     let alloc = rt.alloc();
     let mut desk = desk(alloc);
-    let s50 = "SSSSSSSSSSSSSSSSSSSSSSSSSSSSSSSSSSSSSSSSSSSSSSSSSS";
-    let in_63 = format!(in alloc; "RUN {s50} 1 full 0\n\n")?;
-    comes_out(alloc, &mut desk, in_63.as_str(), BAD_SITE, "1")?;
-    let in_64 = format!(in alloc; "RUN {s50}S 1 full 0\n\n")?;
-    comes_out(alloc, &mut desk, in_64.as_str(), "", "BadFrame (30) at 1")?;
-    let cut_63 = format!(in alloc; "junk {s50} 1234567")?;
-    comes_out(alloc, &mut desk, cut_63.as_str(), "", "CutFrame (31) at 1")?;
-    let bad_64 = format!(in alloc; "junk {s50} 12345678")?;
-    comes_out(alloc, &mut desk, bad_64.as_str(), "", "BadFrame (30) at 1")
+    for (before, after, wanted, end) in LONG_HEADERS {
+        let text = format!(in alloc; "{before}{LONG_SITE}{after}")?;
+        comes_out(alloc, &mut desk, text.as_str(), wanted, end)?;
+    }
+    Ok(())
 }
 
 /// Lines that are not headers, with semicolons between them.
@@ -76,51 +83,41 @@ fn bad_headers_end_a_spool(rt: HostRuntime) -> Result<(), Fail> {
     same("the lines", count, 22)
 }
 
+/// Runs that are refused, with their answers.
+const REFUSED: [(&str, &str); 4] = [
+    ("RUN LYON 0 full 0\n\n", BAD_NUMBER),
+    ("RUN lyon 999999999 full 0\n\n", BAD_SITE),
+    ("RUN LYON 1 FULL 0\n\n", BAD_MODE),
+    ("RUN LYON 1 full 6\nHELLO\n\n", NOWHERE),
+];
+
 #[test]
 fn refusals_are_answers(rt: HostRuntime) -> Result<(), Fail> {
     let alloc = rt.alloc();
     let mut desk = desk(alloc);
-    comes_out(alloc, &mut desk, "RUN LYON 0 full 0\n\n", BAD_NUMBER, "1")?;
-    comes_out(
-        alloc,
-        &mut desk,
-        "RUN lyon 999999999 full 0\n\n",
-        BAD_SITE,
-        "1",
-    )?;
-    comes_out(alloc, &mut desk, "RUN LYON 1 FULL 0\n\n", BAD_MODE, "1")?;
-    comes_out(
-        alloc,
-        &mut desk,
-        "RUN LYON 1 full 6\nHELLO\n\n",
-        NOWHERE,
-        "1",
-    )
+    for (text, wanted) in REFUSED {
+        comes_out(alloc, &mut desk, text, wanted, "1")?;
+    }
+    Ok(())
 }
+
+/// Runs without the LF at their end and runs of the same number, with their answers and ends.
+const WITHOUT_LF: [(&str, &str, &str); 6] = [
+    ("RUN LYON 1 full 65536\n", "", "CutFrame (31) at 1"),
+    ("RUN LYON 2 quick 0\n", "", "CutFrame (31) at 1"),
+    ("RUN LYON 2 quick 0\nX", "", "BadFrame (30) at 1"),
+    ("RUN LYON 2 full 0\n\n", FULL_EMPTY, "1"),
+    (SECOND, RUN_CHANGED, "1"),
+    ("RUN LYON 2 full 1\n\n\n", RUN_CHANGED, "1"),
+];
 
 #[test]
 fn a_run_without_its_lf_is_as_good_as_not_sent(rt: HostRuntime) -> Result<(), Fail> {
     let alloc = rt.alloc();
     let mut desk = desk(alloc);
-    for header in ["RUN LYON 1 full 65536\n", "RUN LYON 2 quick 0\n"] {
-        comes_out(alloc, &mut desk, header, "", "CutFrame (31) at 1")?;
+    for (text, wanted, end) in WITHOUT_LF {
+        comes_out(alloc, &mut desk, text, wanted, end)?;
     }
-    comes_out(
-        alloc,
-        &mut desk,
-        "RUN LYON 2 quick 0\nX",
-        "",
-        "BadFrame (30) at 1",
-    )?;
-    comes_out(alloc, &mut desk, "RUN LYON 2 full 0\n\n", FULL_EMPTY, "1")?;
-    comes_out(alloc, &mut desk, SECOND, RUN_CHANGED, "1")?;
-    comes_out(
-        alloc,
-        &mut desk,
-        "RUN LYON 2 full 1\n\n\n",
-        RUN_CHANGED,
-        "1",
-    )?;
     same("the mark", desk.settle_site(alloc, "LYON", 2)?, 2)?;
     comes_out(alloc, &mut desk, SECOND, SETTLED, "1")
 }

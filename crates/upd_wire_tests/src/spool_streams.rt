@@ -113,6 +113,35 @@ fn idents_after(frame: u32) -> &'static str {
     }
 }
 
+/// A spool ends when the answer to this frame can't be written.
+fn ends_at_write<W: Write>(
+    alloc: Global,
+    desk: &mut Desk<ListStore>,
+    text: &str,
+    output: &mut W,
+    frame: u32,
+) -> Result<(), Fail> {
+    let end = format!(in alloc; "Write (33) at {frame}")?;
+    let mut input = text.as_bytes();
+    ends(alloc, desk, &mut input, output, end.as_str())
+}
+
+/// What was written is the first `bytes` bytes of the answers.
+fn is_front(written: &[u8], answers: &str, bytes: usize) -> Result<(), Fail> {
+    let front = answers.as_bytes().get(..bytes).ok_or("too much")?;
+    same("the front", written, front)
+}
+
+/// The desk has the idents of the runs that came before the next frame.
+fn has_idents(alloc: Global, desk: &mut Desk<ListStore>, frame: u32) -> Result<(), Fail> {
+    let idents = desk.ident_list(alloc)?;
+    same_text(
+        "the idents",
+        std::str::from_utf8(&idents)?,
+        idents_after(frame),
+    )
+}
+
 /// A writer with this room gets that front of the answers, and what was answered is stored: the desk.
 fn write_fails(
     alloc: Global,
@@ -123,17 +152,9 @@ fn write_fails(
     let mut desk = desk(alloc);
     let mut output = Narrow::after(Vec::new(alloc), room, kind);
     let frame = last_frame(alloc, room)?;
-    let end = format!(in alloc; "Write (33) at {frame}")?;
-    let mut input = text.as_bytes();
-    ends(alloc, &mut desk, &mut input, &mut output, end.as_str())?;
-    let front = answers.as_bytes().get(..room).ok_or("too much room")?;
-    same("the front", output.taken.as_slice(), front)?;
-    let idents = desk.ident_list(alloc)?;
-    same_text(
-        "the idents",
-        std::str::from_utf8(&idents)?,
-        idents_after(frame),
-    )?;
+    ends_at_write(alloc, &mut desk, text, &mut output, frame)?;
+    is_front(&output.taken, answers, room)?;
+    has_idents(alloc, &mut desk, frame)?;
     Ok(desk)
 }
 
@@ -175,15 +196,12 @@ fn each_answer_is_flushed(rt: HostRuntime) -> Result<(), Fail> {
 fn flush_fails(
     alloc: Global,
     (text, answers): (&str, &str),
-    at: usize,
+    at: u32,
     front: usize,
 ) -> Result<(), Fail> {
-    let mut held = Held::new(alloc, at);
-    let end = format!(in alloc; "Write (33) at {at}")?;
-    let mut input = text.as_bytes();
-    ends(alloc, &mut desk(alloc), &mut input, &mut held, end.as_str())?;
-    let wanted = answers.as_bytes().get(..front).ok_or("too much")?;
-    same("the answers", held.flushed.as_slice(), wanted)
+    let mut held = Held::new(alloc, at as usize);
+    ends_at_write(alloc, &mut desk(alloc), text, &mut held, at)?;
+    is_front(&held.flushed, answers, front)
 }
 
 /// A flush that fails is a failed write, and the next frame isn't read.
