@@ -131,49 +131,60 @@ fn read_request<'a>(matches: &ArgMatches<'a>) -> Request<'a>
     ensures { IsSomeAnd (subcommand_rows_of matches.now) (λ command. HasCount command → IsRequest command result) }
 {
     match matches.subcommand() {
-        Some(("trial", operands)) => Request::Trial {
+        Some((name, operands)) => read_command(name, operands),
+        None => unreachable!(),
+    }
+}
+
+/// What a command asks for.
+fn read_command<'a>(name: &str, operands: &ArgMatches<'a>) -> Request<'a>
+    requires known { IsOneOf name.now upd_commands }
+    ensures { HasCount (name.now, rows_of (found_of operands.now))
+        → IsRequest (name.now, rows_of (found_of operands.now)) result }
+{
+    match name {
+        "trial" => Request::Trial {
             mode: word(operands, "MODE"),
         },
-        Some(("init", operands)) => Request::Init {
+        "init" => Request::Init {
             file: word(operands, "FILE"),
         },
-        Some(("serve", operands)) => Request::Serve {
+        "serve" => Request::Serve {
             file: word(operands, "FILE"),
             address: word(operands, "ADDRESS"),
             count: count(operands),
         },
-        Some(("correct", operands)) => Request::Correct {
+        "correct" => Request::Correct {
             file: word(operands, "FILE"),
             set: word(operands, "SET"),
         },
-        Some(("try", operands)) => Request::Try {
+        "try" => Request::Try {
             file: word(operands, "FILE"),
             mode: word(operands, "MODE"),
         },
-        Some(("runs", operands)) => Request::Runs {
+        "runs" => Request::Runs {
             file: word(operands, "FILE"),
         },
-        Some(("sites", operands)) => Request::Sites {
+        "sites" => Request::Sites {
             file: word(operands, "FILE"),
         },
-        Some(("backup", operands)) => Request::Backup {
+        "backup" => Request::Backup {
             file: word(operands, "FILE"),
             copy: word(operands, "COPY"),
         },
-        Some(("examine", operands)) => Request::Examine {
+        "examine" => Request::Examine {
             file: word(operands, "FILE"),
         },
-        Some(("migrate", operands)) => Request::Migrate {
+        "migrate" => Request::Migrate {
             file: word(operands, "FILE"),
         },
-        Some(("explain", operands)) => Request::Explain {
+        "explain" => Request::Explain {
             fault: word(operands, "FAULT"),
         },
-        Some((name, operands)) => Request::Library {
+        _ => Request::Library {
             file: word(operands, "FILE"),
             asked: read_asked(name, operands),
         },
-        None => unreachable!(),
     }
 }
 
