@@ -8,6 +8,7 @@ use upd_store::SqlStore;
 use upd_testkit::asks::{Ask, Sent};
 use upd_testkit::check::{holds, same, same_text};
 use upd_testkit::random_runs::{DECKS, Dice, LISTINGS, random_run};
+use upd_testkit::reference_desk::ReferenceDesk;
 use upd_testkit::reference_rows::reference_tables;
 use upd_testkit::session::Session;
 use upd_text::Fault;
@@ -23,21 +24,27 @@ fn opened(store: Result<Store, (Fault, Connection<MemStore>)>) -> Result<Store, 
     }
 }
 
+/// The tables are those of the reference desk.
+fn has_tables(conn: &mut Connection<MemStore>, reference: &ReferenceDesk) -> Result<(), Fail> {
+    let alloc = reference.library.allocator();
+    let found = stored_tables(alloc, conn)?;
+    let wanted = reference_tables(alloc, reference, &SITES)?;
+    same_text("the tables", found.as_str(), wanted.as_str())
+}
+
 /// The number of decks that were read is what runs have needed since the store was opened, and the tables are those of
 /// the reference desk; the store is opened again.
 fn same_tables(session: Stored) -> Result<Stored, Fail> {
     let Session {
         desk,
         mut reference,
-        alloc,
+        ..
     } = session;
     let store = desk.close();
     same("the decks read", store.decks_read(), reference.needed)?;
     reference.needed = 0;
     let mut conn = store.into_connection();
-    let found = stored_tables(alloc, &mut conn)?;
-    let wanted = reference_tables(alloc, &reference, &SITES)?;
-    same_text("the tables", found.as_str(), wanted.as_str())?;
+    has_tables(&mut conn, &reference)?;
     Ok(Session::over(opened(SqlStore::adopt(conn))?, reference))
 }
 

@@ -1,10 +1,12 @@
 //! A crash at each call of the disk: what is opened again holds the answered arrivals, with or without the one in hand.
 use crate::fused_files::{ALL, Bytes, Calls, Fused, closed, opened};
 use crate::sqlite_rows::stored_tables;
-use sqlite::{Connection, FileStore};
+use sqlite::Connection;
 use sqlite_disk::Files;
 use std::alloc::Global;
 use std::test::Fail;
+use upd_row_store::RowStore;
+use upd_sqlite::Rising;
 use upd_store::SqlStore;
 use upd_testkit::asks::{Ask, lyon, shown};
 use upd_testkit::check::{holds, same, same_text};
@@ -13,23 +15,20 @@ use upd_testkit::reference_rows::reference_tables;
 use upd_testkit::session::Session;
 use upd_text::{Fault, FaultKind};
 
-type FileStored = SqlStore<FileStore<Fused>>;
-
 const SITES: [&str; 1] = ["LYON"];
 
-/// The library in the files; a new one if there is no library in them.
-fn library_in(alloc: Global, files: Files<Fused>) -> Result<FileStored, Files<Fused>> {
-    let conn = opened(alloc, files)?;
+/// The library in a database; a new one if there is no library in it.
+fn library_in<S: Rising + Drop>(conn: Connection<S>) -> Result<SqlStore<S>, Connection<S>> {
     match SqlStore::adopt(conn) {
         Ok(store) => Ok(store),
         Err((_, conn)) => new_library(conn),
     }
 }
 
-fn new_library(conn: Connection<FileStore<Fused>>) -> Result<FileStored, Files<Fused>> {
+fn new_library<S: Rising + Drop>(conn: Connection<S>) -> Result<SqlStore<S>, Connection<S>> {
     match SqlStore::init(conn) {
         Ok(store) => Ok(store),
-        Err((_, conn)) => Err(closed(conn)),
+        Err((_, conn)) => Err(conn),
     }
 }
 
@@ -38,17 +37,23 @@ fn tables_in(alloc: Global, files: Files<Fused>) -> Result<(String, Files<Fused>
     let Ok(conn) = opened(alloc, files) else {
         return Err("the files can't be opened".into());
     };
-    match SqlStore::adopt(conn) {
-        Ok(store) => tables_of(alloc, store),
-        Err((_, conn)) => Ok((String::new(alloc), closed(conn))),
-    }
+    let (text, conn) = tables_of(alloc, conn)?;
+    Ok((text, closed(conn)))
 }
 
-fn tables_of(alloc: Global, store: FileStored) -> Result<(String, Files<Fused>), Fail> {
-    let mut conn = store.into_connection();
-    let text = stored_tables(alloc, &mut conn);
-    let files = closed(conn);
-    Ok((text?, files))
+/// The tables in a database; no text if it holds no library.
+fn tables_of<S: Rising + Drop>(
+    alloc: Global,
+    conn: Connection<S>,
+) -> Result<(String, Connection<S>), Fail> {
+    match SqlStore::adopt(conn) {
+        Ok(store) => {
+            let mut conn = store.into_connection();
+            let text = stored_tables(alloc, &mut conn)?;
+            Ok((text, conn))
+        }
+        Err((_, conn)) => Ok((String::new(alloc), conn)),
+    }
 }
 
 /// What came of a list.
@@ -60,12 +65,22 @@ struct Sending {
     answers: Vec<String>,
 }
 
+impl Sending {
+    /// What comes of a list where there is no library.
+    fn none(alloc: Global) -> Sending {
+        Sending {
+            opened: false,
+            answers: Vec::new(alloc),
+        }
+    }
+}
+
 fn is_lost(fault: Fault) -> bool {
     matches!(fault.kind, FaultKind::NoMemory | FaultKind::Store)
 }
 
 /// The answer to what is asked; `None` if a call failed.
-fn answer(session: &mut Session<FileStored>, ask: Ask<'_>) -> Result<Option<String>, Fail> {
+fn answer<R: RowStore>(session: &mut Session<R>, ask: Ask<'_>) -> Result<Option<String>, Fail> {
     match session.answer(ask)? {
         Err(fault) if is_lost(fault) => Ok(None),
         answer => Ok(Some(shown(session.alloc, answer)?)),
@@ -73,7 +88,7 @@ fn answer(session: &mut Session<FileStored>, ask: Ask<'_>) -> Result<Option<Stri
 }
 
 /// The answers up to the first failure.
-fn answers(session: &mut Session<FileStored>, list: &[Ask<'_>]) -> Result<Vec<String>, Fail> {
+fn answers<R: RowStore>(session: &mut Session<R>, list: &[Ask<'_>]) -> Result<Vec<String>, Fail> {
     let mut answers = Vec::new(session.alloc);
     for ask in list {
         let Some(answer) = answer(session, *ask)? else {
@@ -90,22 +105,30 @@ fn send(
     files: Files<Fused>,
     list: &[Ask<'_>],
 ) -> Result<(Sending, Files<Fused>), Fail> {
-    match library_in(alloc, files) {
-        Ok(store) => send_to(Session::new(alloc, store), list),
-        Err(files) => {
-            let (opened, answers) = (false, Vec::new(alloc));
-            Ok((Sending { opened, answers }, files))
+    match opened(alloc, files) {
+        Ok(conn) => {
+            let (sending, conn) = send_to(alloc, conn, list)?;
+            Ok((sending, closed(conn)))
         }
+        Err(files) => Ok((Sending::none(alloc), files)),
     }
 }
 
-fn send_to(
-    mut session: Session<FileStored>,
+/// Asks the library in a database until a call fails: what came of it, and the database.
+fn send_to<S: Rising + Drop>(
+    alloc: Global,
+    conn: Connection<S>,
     list: &[Ask<'_>],
-) -> Result<(Sending, Files<Fused>), Fail> {
-    let (opened, answers) = (true, answers(&mut session, list)?);
-    let files = closed(session.desk.close().into_connection());
-    Ok((Sending { opened, answers }, files))
+) -> Result<(Sending, Connection<S>), Fail> {
+    match library_in(conn) {
+        Ok(store) => {
+            let mut session = Session::new(alloc, store);
+            let (opened, answers) = (true, answers(&mut session, list)?);
+            let conn = session.desk.close().into_connection();
+            Ok((Sending { opened, answers }, conn))
+        }
+        Err(conn) => Ok((Sending::none(alloc), conn)),
+    }
 }
 
 /// The reference desk after the first `count` of a list.
@@ -186,6 +209,19 @@ fn has_tables(reference: &ReferenceDesk, files: Files<Fused>, answered: usize) -
     same_after(answered, found.as_str(), wanted.as_str())
 }
 
+/// The whole list, sent again, is answered as the reference desk answers, and its tables are in the files then.
+fn is_sent_again(
+    mut reference: ReferenceDesk,
+    files: Files<Fused>,
+    list: &[Ask<'_>],
+    answered: usize,
+) -> Result<(), Fail> {
+    let alloc = reference.library.allocator();
+    let (again, files) = send(alloc, files, list)?;
+    are_answered(&mut reference, list, &again.answers, answered)?;
+    has_tables(&reference, files, answered)
+}
+
 /// What a crash left is the library after the answered part of the list, or after one more; before the first answer it
 /// may also be no library. The whole list, sent again, is answered as the reference desk answers.
 fn left_holds(
@@ -194,12 +230,20 @@ fn left_holds(
     sending: &Sending,
     left: &Bytes,
 ) -> Result<(), Fail> {
-    let answered = sending.answers.len();
     let (found, files) = tables_in(alloc, left.files(alloc, ALL)?)?;
-    let mut reference = left_by(alloc, list, sending, found.as_str())?;
-    let (again, files) = send(alloc, files, list)?;
-    are_answered(&mut reference, list, &again.answers, answered)?;
-    has_tables(&reference, files, answered)
+    let reference = left_by(alloc, list, sending, found.as_str())?;
+    is_sent_again(reference, files, list, sending.answers.len())
+}
+
+/// What is found after a kill holds, and what is found after a crash.
+fn both_hold(
+    alloc: Global,
+    list: &[Ask<'_>],
+    sending: &Sending,
+    files: Files<Fused>,
+) -> Result<(), Fail> {
+    left_holds(alloc, list, sending, &Bytes::written(alloc, &files)?)?;
+    left_holds(alloc, list, sending, &Bytes::synced(alloc, files)?)
 }
 
 /// A kill of the process and a crash of the machine after these calls: whether a call failed.
@@ -209,10 +253,7 @@ fn crashes(alloc: Global, list: &[Ask<'_>], calls: Calls) -> Result<bool, Fail> 
     if sending.answers.len() == list.len() {
         return Ok(false);
     }
-    let killed = Bytes::written(alloc, &files)?;
-    left_holds(alloc, list, &sending, &killed)?;
-    let crashed = Bytes::synced(alloc, files)?;
-    left_holds(alloc, list, &sending, &crashed)?;
+    both_hold(alloc, list, &sending, files)?;
     Ok(true)
 }
 

@@ -67,11 +67,11 @@ pub const ALL: Calls = Calls {
     db: u64::MAX,
 };
 
-/// The database in files, which come back if it can't be opened.
-pub fn opened(
+/// The database in files of any kind, which come back if it can't be opened.
+fn opened_on<D: Disk + Drop>(
     alloc: Global,
-    files: Files<Fused>,
-) -> Result<Connection<FileStore<Fused>>, Files<Fused>> {
+    files: Files<D>,
+) -> Result<Connection<FileStore<D>>, Files<D>> {
     if !files.may_be_used() {
         return Err(files);
     }
@@ -81,7 +81,20 @@ pub fn opened(
     }
 }
 
+/// The database in files, which come back if it can't be opened.
+pub fn opened(
+    alloc: Global,
+    files: Files<Fused>,
+) -> Result<Connection<FileStore<Fused>>, Files<Fused>> {
+    opened_on(alloc, files)
+}
+
+/// The files of any kind of a database.
+fn files_of<D: Disk + Drop>(conn: Connection<FileStore<D>>) -> Files<D> {
+    conn.into_store().close()
+}
+
 /// The files of a database.
 pub fn closed(conn: Connection<FileStore<Fused>>) -> Files<Fused> {
-    conn.into_store().close()
+    files_of(conn)
 }

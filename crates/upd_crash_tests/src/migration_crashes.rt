@@ -1,11 +1,12 @@
 //! A crash at each call of the disk: the file opened again is the old one or the migrated one, and can be migrated.
 use crate::fused_files::{ALL, Bytes, Calls, Fused, closed, opened};
 use crate::older_files::Older;
-use sqlite::{Connection, FileStore};
+use sqlite::{Alter, Connection, FileStore};
 use sqlite_disk::Files;
 use std::alloc::Global;
 use std::test::Fail;
 use upd_migrate::migrate;
+use upd_sqlite::Rising;
 use upd_testkit::check::{holds, same};
 use upd_text::FaultKind;
 
@@ -17,14 +18,19 @@ fn opened_whole(alloc: Global, bytes: &Bytes) -> Result<Connection<FileStore<Fus
     }
 }
 
-fn made(alloc: Global, file: Older) -> Result<Bytes, Fail> {
-    let mut conn = opened_whole(alloc, &Bytes::none(alloc))?;
+/// The database with the tables and rows of an older file.
+fn made_in<S: Alter + Drop>(mut conn: Connection<S>, file: Older) -> Result<Connection<S>, Fail> {
     file.make(&mut conn)?;
+    Ok(conn)
+}
+
+fn made(alloc: Global, file: Older) -> Result<Bytes, Fail> {
+    let conn = made_in(opened_whole(alloc, &Bytes::none(alloc))?, file)?;
     Bytes::written(alloc, &closed(conn))
 }
 
 /// Whether a migration ends. One that doesn't has met a failed call, which is its fault.
-fn ends(alloc: Global, conn: &mut Connection<FileStore<Fused>>) -> Result<bool, Fail> {
+fn ends<S: Rising>(alloc: Global, conn: &mut Connection<S>) -> Result<bool, Fail> {
     match migrate(alloc, conn) {
         Ok(()) => Ok(true),
         Err(fault) => {
@@ -46,12 +52,20 @@ fn migrated(alloc: Global, files: Files<Fused>) -> Result<(bool, Files<Fused>), 
     }
 }
 
-/// What a crash left is the old file or the migrated one, and is migrated.
-fn left_holds(alloc: Global, file: Older, left: &Bytes) -> Result<(), Fail> {
-    let mut conn = opened_whole(alloc, left)?;
+/// A database holds the old file or the migrated one, and is migrated.
+fn holds_either<S: Rising + Drop>(
+    alloc: Global,
+    file: Older,
+    mut conn: Connection<S>,
+) -> Result<(), Fail> {
     file.is_either(alloc, &mut conn)?;
     migrate(alloc, &mut conn)?;
     file.is_after(alloc, &mut conn)
+}
+
+/// What a crash left is the old file or the migrated one, and is migrated.
+fn left_holds(alloc: Global, file: Older, left: &Bytes) -> Result<(), Fail> {
+    holds_either(alloc, file, opened_whole(alloc, left)?)
 }
 
 /// What is found after a kill holds, and what is found after a crash.

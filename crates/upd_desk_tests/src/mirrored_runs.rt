@@ -35,6 +35,20 @@ fn reply<S: RowStore>(
     shown(alloc, reply.map(|reply| reply.text))
 }
 
+/// Both stores answer random questions the same, and no call has failed.
+fn answer_alike<S: Fresh>(
+    alloc: Global,
+    dice: &mut Dice,
+    mirrored: &mut MirrorStore<S>,
+    plain: &mut ListStore,
+) -> Result<(), Fail> {
+    let questions = Questions::new(alloc, dice)?;
+    let found = answers(alloc, mirrored, &questions)?;
+    let wanted = answers(alloc, plain, &questions)?;
+    same_text("the answers", &found, &wanted)?;
+    same("failures", mirrored.failures(), 0)
+}
+
 impl<S: Fresh> Pair<S> {
     /// Two desks over empty tables.
     fn new(alloc: Global) -> Result<Pair<S>, Fail> {
@@ -61,11 +75,7 @@ impl<S: Fresh> Pair<S> {
         let from_memory = self
             .from_memory
             .saturating_add(u32::from(mirrored.has_rows()));
-        let questions = Questions::new(alloc, dice)?;
-        let found = answers(alloc, &mut mirrored, &questions)?;
-        let wanted = answers(alloc, &mut plain, &questions)?;
-        same_text("the answers", &found, &wanted)?;
-        same("failures", mirrored.failures(), 0)?;
+        answer_alike(alloc, dice, &mut mirrored, &mut plain)?;
         match dice.below(4) {
             0 => mirrored.warm(alloc),
             1 => mirrored = MirrorStore::new(mirrored.into_inner()),

@@ -155,6 +155,15 @@ fn turn_last(library: &mut Library, turn: u32) -> Result<Applied, Fail> {
     applied(library, text.as_str())
 }
 
+/// The last yank is changed in this turn, and the statuses are updated: all yanks and the first line are looked at.
+fn turn_is_settled(cache: &mut Cache, library: &mut Library, turn: u32) -> Result<(), Fail> {
+    let done = turn_last(library, turn)?;
+    cache.settle(&mut Counted::new(library), &done)?;
+    let found = (cache.work(), first_line(cache)?);
+    let wanted = (901, Some(turn % 2 == 0));
+    same("a turn", (turn, found), (turn, wanted))
+}
+
 /// 900 sets, each of which yanks the one before it, are one run: an even number of yanks, so the first line stays
 /// deleted. Then the last one is taken back and put in force again, in turns, with a status update after each.
 fn chain(alloc: Global, turns: u32) -> Result<(), Fail> {
@@ -162,11 +171,7 @@ fn chain(alloc: Global, turns: u32) -> Result<(), Fail> {
     let mut cache = Cache::build(alloc, &library)?;
     same("before the turns", first_line(&cache)?, Some(false))?;
     for turn in 0..turns {
-        let done = turn_last(&mut library, turn)?;
-        cache.settle(&mut Counted::new(&library), &done)?;
-        let found = (cache.work(), first_line(&cache)?);
-        let wanted = (901, Some(turn % 2 == 0));
-        same("a turn", (turn, found), (turn, wanted))?;
+        turn_is_settled(&mut cache, &mut library, turn)?;
     }
     Ok(())
 }

@@ -49,16 +49,21 @@ fn decks_of_part<S: RowStore>(alloc: Global, store: &mut S) -> Result<usize, Fai
     Ok(store.load_decks(alloc, &[2])?.decks().len())
 }
 
+/// The active cards are loaded, and are those of the library.
+fn active_cards_are_loaded<S: RowStore>(alloc: Global, store: &mut S) -> Result<(), Fail> {
+    let wanted = "1: A.1 X.1 A.2 A.3 A.4\n2: B.1 B.2\n";
+    let actives = loaded_names(alloc, store)?;
+    same_text("the active cards", actives.as_str(), wanted)?;
+    let replayed = replayed_names(alloc, store)?;
+    same_text("the replayed cards", replayed.as_str(), wanted)
+}
+
 /// The deck of a card is found, and its active cards are loaded, without a read of any deck; a library or a part reads
 /// the decks that it has.
 fn decks_are_read<S: RowStore>(alloc: Global, store: &mut S) -> Result<(), Fail> {
     let decks = decks_of_cards(alloc, store)?;
     same("the decks", decks.as_slice(), [2].as_slice())?;
-    let wanted = "1: A.1 X.1 A.2 A.3 A.4\n2: B.1 B.2\n";
-    let actives = loaded_names(alloc, store)?;
-    same_text("the active cards", actives.as_str(), wanted)?;
-    let replayed = replayed_names(alloc, store)?;
-    same_text("the replayed cards", replayed.as_str(), wanted)?;
+    active_cards_are_loaded(alloc, store)?;
     same("a part", decks_of_part(alloc, store)?, 1)?;
     same("the decks read", store.decks_read(), 4)
 }
@@ -91,15 +96,12 @@ fn whole_and_copy<S: RowStore>(alloc: Global, store: &mut S) -> Result<(String, 
     Ok((rows, rows_of(alloc, &whole.copy()?)?))
 }
 
-/// The rows of a part with deck B, and the cards and entries of the rest.
-fn part_and_rest<S: RowStore>(
-    alloc: Global,
-    store: &mut S,
-) -> Result<(String, (usize, usize)), Fail> {
+/// A part with deck B is loaded, with the numbers of cards and entries of the rest.
+fn part_is_loaded<S: RowStore>(alloc: Global, store: &mut S) -> Result<(), Fail> {
     let part = store.load_decks(alloc, &[2])?;
+    same_text("a part", rows_of(alloc, &part)?.as_str(), DECK_B)?;
     let rest = part.rest();
-    let sizes = (rest.cards, rest.entries);
-    Ok((rows_of(alloc, &part)?, sizes))
+    same("the rest", &(rest.cards, rest.entries), &(5, 5))
 }
 
 /// The library and a part of it are loaded, as the reference desk has them.
@@ -112,9 +114,7 @@ fn rows_are_loaded<S: RowStore>(
     let (whole, copy) = whole_and_copy(alloc, store)?;
     same_text("the library", whole.as_str(), wanted.as_str())?;
     same_text("its copy", copy.as_str(), wanted.as_str())?;
-    let (part, rest) = part_and_rest(alloc, store)?;
-    same_text("a part", part.as_str(), DECK_B)?;
-    same("the rest", &rest, &(5, 5))
+    part_is_loaded(alloc, store)
 }
 
 /// Run 2 is stored as it came, and no run that never came.
@@ -161,10 +161,12 @@ const CHAIN: [&str; 5] = [
     "*IDENT W\n*DELETE Z.1\n",
 ];
 
-/// All statuses and counts that a store loads.
-fn all_lines<S: RowStore>(alloc: Global, store: &mut S) -> Result<String, Fail> {
+/// All statuses and counts are loaded.
+fn all_are_loaded<S: RowStore>(alloc: Global, store: &mut S) -> Result<(), Fail> {
     let all = store.load_states(alloc)?;
-    lines_of(alloc, &all)
+    let wanted =
+        "A.1 true\nA.2 true\nA.3 true\nA.4 true\nSet(2): 1\nX.1 false\nY.1 true\nZ.1 false\n";
+    same_text("all cards", lines_of(alloc, &all)?.as_str(), wanted)
 }
 
 /// The statuses of such cards, with the counts that a store loads beside them.
@@ -187,10 +189,7 @@ fn few_and_many<S: RowStore>(alloc: Global, store: &mut S) -> Result<(String, St
 
 fn counts<S: Fresh>(alloc: Global) -> Result<(), Fail> {
     let mut store = after::<S>(alloc, &CHAIN)?.desk.close();
-    let all = all_lines(alloc, &mut store)?;
-    let wanted =
-        "A.1 true\nA.2 true\nA.3 true\nA.4 true\nSet(2): 1\nX.1 false\nY.1 true\nZ.1 false\n";
-    same_text("all cards", all.as_str(), wanted)?;
+    all_are_loaded(alloc, &mut store)?;
     let (few, many) = few_and_many(alloc, &mut store)?;
     let wanted = "A.2 true\nSet(2): 1\n";
     same_text("few cards", few.as_str(), wanted)?;
@@ -208,13 +207,17 @@ const TWO_YANKS: [&str; 7] = [
     "*IDENT S\n*RESTORE V.1\n",
 ];
 
+/// The count of set X that a cache has of a library that a store loads.
+fn built_count<S: RowStore>(alloc: Global, store: &mut S) -> Result<u32, Fail> {
+    let library = store.load(alloc)?;
+    Ok(Cache::build(alloc, &library)?.count(Target::Set(2)))
+}
+
 /// The counts that a store loads, and the count of set X that a cache has of what the store loads and of its library.
 fn loaded_counts<S: RowStore>(alloc: Global, store: &mut S) -> Result<(String, [u32; 2]), Fail> {
     let states = store.load_states(alloc)?;
-    let loaded = Cache::of_rows(alloc, &states)?;
-    let library = store.load(alloc)?;
-    let built = Cache::build(alloc, &library)?;
-    let counts = [loaded.count(Target::Set(2)), built.count(Target::Set(2))];
+    let loaded = Cache::of_rows(alloc, &states)?.count(Target::Set(2));
+    let counts = [loaded, built_count(alloc, store)?];
     Ok((count_lines(alloc, &states)?, counts))
 }
 

@@ -2,7 +2,7 @@
 use crate::library_tables::{Tables, same_tables};
 use std::alloc::{AllocError, Global};
 use std::test::Fail;
-use upd_apply::apply;
+use upd_apply::{Applied, apply};
 use upd_core::{CardRef, Change, Counted, Library, States, Target};
 use upd_deck::read_run;
 use upd_list_store::ListStore;
@@ -36,25 +36,42 @@ impl Follower {
 
     /// Applies a run, and commits its changes if it is accepted: whether it was.
     pub fn run<S: RowStore>(&mut self, store: &mut S, text: &str) -> Result<bool, Fail> {
-        let alloc = self.alloc;
-        let run = read_run(alloc, text.as_bytes())?;
-        match apply(alloc, &mut self.library, &run) {
+        let run = read_run(self.alloc, text.as_bytes())?;
+        match apply(self.alloc, &mut self.library, &run) {
             Ok(applied) => {
-                let mut counted = Counted::new(&self.library);
-                let row_changes = self.cache.settle(&mut counted, &applied)?;
-                let mut changes = applied.changes;
-                for change in row_changes {
-                    changes.push(change)?;
-                }
-                self.number = self.number.saturating_add(1);
-                let row = row_of(alloc, self.number, text)?;
-                if !keep(store, alloc, &changes, row)? {
-                    return Err("the key is there".into());
-                }
+                self.commit(store, applied, text)?;
                 Ok(true)
             }
             Err(_) => Ok(false),
         }
+    }
+
+    /// Commits what a run changed, as the next run.
+    fn commit<S: RowStore>(
+        &mut self,
+        store: &mut S,
+        applied: Applied,
+        text: &str,
+    ) -> Result<(), Fail> {
+        let changes = self.with_row_changes(applied)?;
+        self.number = self.number.saturating_add(1);
+        let row = row_of(self.alloc, self.number, text)?;
+        if keep(store, self.alloc, &changes, row)? {
+            Ok(())
+        } else {
+            Err("the key is there".into())
+        }
+    }
+
+    /// The changes of a run, and then those of statuses and counts.
+    fn with_row_changes(&mut self, applied: Applied) -> Result<Vec<Change>, Fail> {
+        let mut counted = Counted::new(&self.library);
+        let row_changes = self.cache.settle(&mut counted, &applied)?;
+        let mut changes = applied.changes;
+        for change in row_changes {
+            changes.push(change)?;
+        }
+        Ok(changes)
     }
 
     /// What the store loads is the library with its statuses and counts.
@@ -62,7 +79,12 @@ impl Follower {
         let found = loaded_cards(self.alloc, store)?;
         let wanted = cards_of(self.alloc, &self.library)?;
         same_text("the library", found.as_str(), wanted.as_str())?;
-        let States { states, counts } = loaded_states(self.alloc, store)?;
+        self.has_states(loaded_states(self.alloc, store)?)
+    }
+
+    /// These are the statuses and counts of the library.
+    fn has_states(&self, found: States) -> Result<(), Fail> {
+        let States { states, counts } = found;
         let tables = Tables::of(self.alloc, &self.library)?;
         has_statuses(states, tables.statuses(self.alloc)?)?;
         has_counts(counts, tables.counted(self.alloc)?)

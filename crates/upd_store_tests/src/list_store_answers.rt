@@ -103,18 +103,32 @@ fn is_settled<S: RowStore>(
     same("the runs", &all_stored(alloc, store)?, &kept)
 }
 
+/// Runs 1 and 2 are stored as they came, and no site has settled.
+fn is_unsettled<S: RowStore>(alloc: Global, store: &mut S) -> Result<(), Fail> {
+    let bytes = stored_bytes(alloc, store, 2)?;
+    same("the run", bytes.as_slice(), DECK_B.as_bytes())?;
+    same("the runs", &all_stored(alloc, store)?, &BOTH)?;
+    same("the marks", marks(alloc, store)?, [0, 0])
+}
+
+const BOTH: [bool; 4] = [true, true, false, false];
+
+const SECOND: [bool; 4] = [false, true, false, false];
+
+/// Settlements, with the mark of the site and the runs that are stored after each.
+const SETTLEMENTS: [((&str, u64), (u64, [bool; 4])); 3] = [
+    (("OTHER", 9), (9, BOTH)),
+    (("SITE", 1), (1, SECOND)),
+    (("OTHER", 3), (9, SECOND)),
+];
+
 /// A settlement removes the site's own runs up to its number, and marks never fall.
 fn runs_are_settled<S: RowStore>(alloc: Global, store: &mut S) -> Result<(), Fail> {
     let follower = followed(alloc, store, &[DECK_A, DECK_B])?;
-    let bytes = stored_bytes(alloc, store, 2)?;
-    same("the run", bytes.as_slice(), DECK_B.as_bytes())?;
-    let both = [true, true, false, false];
-    let second = [false, true, false, false];
-    same("the runs", &all_stored(alloc, store)?, &both)?;
-    same("the marks", marks(alloc, store)?, [0, 0])?;
-    is_settled(alloc, store, ("OTHER", 9), (9, both))?;
-    is_settled(alloc, store, ("SITE", 1), (1, second))?;
-    is_settled(alloc, store, ("OTHER", 3), (9, second))?;
+    is_unsettled(alloc, store)?;
+    for (settled, left) in SETTLEMENTS {
+        is_settled(alloc, store, settled, left)?;
+    }
     same("the marks", marks(alloc, store)?, [1, 9])?;
     follower.is_followed(store)
 }

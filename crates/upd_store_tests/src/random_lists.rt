@@ -6,23 +6,36 @@ use upd_list_store::ListStore;
 use upd_testkit::check::holds;
 use upd_testkit::random_runs::{DECKS, Dice, random_run};
 
-/// A list of runs, followed by a store of its own: the number of accepted runs. Some purge a deck and introduce it
-/// again.
+/// A random run; some purge a deck and introduce it again.
+fn random_text(alloc: Global, dice: &mut Dice, n: u32) -> Result<String, Fail> {
+    let mut text = random_run(alloc, dice, n)?;
+    if dice.below(8) == 0 {
+        let deck = dice.below(3);
+        write!(text, "*PURGE P{deck}\n*DECK P{deck}\nAGAIN\n")?;
+    }
+    Ok(text)
+}
+
+/// A run is followed by a store: whether it was accepted.
+fn is_accepted(follower: &mut Follower, store: &mut ListStore, text: &str) -> Result<bool, Fail> {
+    let accepted = follower.run(store, text)?;
+    if accepted {
+        follower.has_tables(store)?;
+        follower.is_followed(store)?;
+    }
+    Ok(accepted)
+}
+
+/// A list of runs, followed by a store of its own: the number of accepted runs.
 fn random_runs(alloc: Global, dice: &mut Dice) -> Result<u32, Fail> {
     let mut store = ListStore::new(alloc);
     let mut follower = Follower::new(alloc)?;
     holds("the decks", follower.run(&mut store, DECKS)?)?;
     let mut accepted: u32 = 0;
     for n in 0..16 {
-        let mut text = random_run(alloc, dice, n)?;
-        if dice.below(8) == 0 {
-            let deck = dice.below(3);
-            write!(text, "*PURGE P{deck}\n*DECK P{deck}\nAGAIN\n")?;
-        }
-        if follower.run(&mut store, text.as_str())? {
+        let text = random_text(alloc, dice, n)?;
+        if is_accepted(&mut follower, &mut store, text.as_str())? {
             accepted = accepted.saturating_add(1);
-            follower.has_tables(&store)?;
-            follower.is_followed(&mut store)?;
         }
     }
     Ok(accepted)

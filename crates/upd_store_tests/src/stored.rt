@@ -169,17 +169,19 @@ fn lists_its_line(alloc: Global, library: &Library) -> Result<bool, Fail> {
     Ok(listings(alloc, library, "A")?.contains("ONE"))
 }
 
+/// A part lists deck B as the whole library does, and nothing of deck A.
+fn lists_only_deck_b(alloc: Global, part: &Library, whole: &Library) -> Result<(), Fail> {
+    lists_the_same(alloc, "B", part, whole)?;
+    let is_listed = [lists_its_line(alloc, part)?, lists_its_line(alloc, whole)?];
+    same("a line of deck A", &is_listed, &[false, true])
+}
+
 #[test]
 fn one_deck_is_loaded(rt: HostRuntime) -> Result<(), Fail> {
     let alloc = rt.alloc();
     let part = made_of(alloc, &[DECK_A, DECK_B])?.load_decks(alloc, &[2])?;
     let whole = after(alloc, &[DECK_A, DECK_B])?;
-    lists_the_same(alloc, "B", &part, &whole)?;
-    let is_listed = [
-        lists_its_line(alloc, &part)?,
-        lists_its_line(alloc, &whole)?,
-    ];
-    same("a line of deck A", &is_listed, &[false, true])
+    lists_only_deck_b(alloc, &part, &whole)
 }
 
 /// The marks that a site's settlements answer.
@@ -192,15 +194,19 @@ fn settled(alloc: Global, store: &mut SqlStore<MemStore>) -> Result<[u64; 4], Fa
     ])
 }
 
+/// Run 1 is removed, and run 2 is stored.
+fn stores_second(alloc: Global, mut store: SqlStore<MemStore>) -> Result<(), Fail> {
+    same("the mark", store.mark(alloc, "LYON")?, 1)?;
+    stores(alloc, &mut store, 1, "none")?;
+    stores(alloc, &mut store, 2, DECK_B)
+}
+
 #[test]
 fn settled_runs_are_removed(rt: HostRuntime) -> Result<(), Fail> {
     let alloc = rt.alloc();
     let mut store = made_of(alloc, &[DECK_A, DECK_B])?;
     same("the marks", settled(alloc, &mut store)?, [0, 1, 1, 7])?;
-    let mut store = again(store)?;
-    same("the mark", store.mark(alloc, "LYON")?, 1)?;
-    stores(alloc, &mut store, 1, "none")?;
-    stores(alloc, &mut store, 2, DECK_B)
+    stores_second(alloc, again(store)?)
 }
 
 type Taken = Result<SqlStore<MemStore>, (Fault, Connection<MemStore>)>;

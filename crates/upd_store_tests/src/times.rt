@@ -1,12 +1,13 @@
 //! Libraries in files in memory, as large as a library may be; `bench/store.py` times these tests.
 use crate::committing::commit;
 use sqlite::types::ToSql;
-use sqlite::{Connection, FileStore, Options, Transaction, params};
+use sqlite::{Alter, Connection, FileStore, Options, Transaction, params};
 use sqlite_disk::{Disk, Files, Memory};
 use std::alloc::Global;
 use std::test::Fail;
 use upd_core::{CardRef, Change, Entry, Ident, Kind, Name};
 use upd_row_store::RowStore;
+use upd_sqlite::Rising;
 use upd_store::SqlStore;
 use upd_store::file::close;
 use upd_testkit::applying::name;
@@ -15,11 +16,23 @@ use upd_text::Fault;
 
 type Library = SqlStore<FileStore<Memory>>;
 
-fn taken(store: Result<Library, (Fault, Connection<FileStore<Memory>>)>) -> Result<Library, Fail> {
+fn taken<S: Rising + Drop>(
+    store: Result<SqlStore<S>, (Fault, Connection<S>)>,
+) -> Result<SqlStore<S>, Fail> {
     match store {
         Ok(store) => Ok(store),
         Err((fault, _)) => Err(fault.into()),
     }
+}
+
+/// The library that a connection holds.
+fn adopted<S: Rising + Drop>(conn: Connection<S>) -> Result<SqlStore<S>, Fail> {
+    taken(SqlStore::adopt(conn))
+}
+
+/// A new library in a connection.
+fn initialized<S: Rising + Drop>(conn: Connection<S>) -> Result<SqlStore<S>, Fail> {
+    taken(SqlStore::init(conn))
 }
 
 /// A disk in memory copies the whole of a file when it is synced, so the log is short.
@@ -44,7 +57,7 @@ fn made(alloc: Global) -> Result<Library, Fail> {
         log: Memory::new(alloc),
         db: Memory::new(alloc),
     };
-    taken(SqlStore::init(opened(alloc, files)?))
+    initialized(opened(alloc, files)?)
 }
 
 fn closed(store: Library) -> Result<Files<Memory>, Fail> {
@@ -121,10 +134,15 @@ fn deck_of(alloc: Global, age: u32, cards: u32) -> Result<Vec<Change>, Fail> {
     Ok(changes)
 }
 
+/// Commits changes, as the run of this number.
+fn keep(alloc: Global, store: &mut Library, number: u32, changes: &[Change]) -> Result<(), Fail> {
+    commit(alloc, store, u64::from(number), "", changes)
+}
+
 /// Commits a deck of this serial with `cards` cards, as the run of this number.
 fn add_deck(alloc: Global, store: &mut Library, age: u32, cards: u32) -> Result<(), Fail> {
     let changes = deck_of(alloc, age, cards)?;
-    commit(alloc, store, u64::from(age), "", &changes)
+    keep(alloc, store, age, &changes)
 }
 
 /// 50,000 cards with 200,000 entries, in 25 decks.
@@ -219,7 +237,7 @@ fn keeps_500_cards(rt: HostRuntime) -> Result<(), Fail> {
 fn commit_50(alloc: Global, store: &mut Library, age: u32) -> Result<(), Fail> {
     let changes = changes_50(alloc, age)?;
     same("changes", changes.len(), 50)?;
-    commit(alloc, store, u64::from(age), "", &changes)
+    keep(alloc, store, age, &changes)
 }
 
 #[test]
@@ -234,7 +252,7 @@ fn commits_50_changes_200_times(rt: HostRuntime) -> Result<(), Fail> {
 
 /// Opens files, asks the library in them for a mark and closes it.
 fn open_once(alloc: Global, files: Files<Memory>) -> Result<Files<Memory>, Fail> {
-    let mut store = taken(SqlStore::adopt(opened(alloc, files)?))?;
+    let mut store = adopted(opened(alloc, files)?)?;
     is_unsettled(alloc, &mut store)?;
     closed(store)
 }
@@ -253,7 +271,7 @@ const INSERT: &str =
     "INSERT INTO runs (site, num, mode, body, accepted, reply) VALUES ('LYON', ?1, 0, ?2, 1, ?3)";
 
 /// Inserts the runs of numbers up to 100,000, of 200 bytes, each with a reply of 300.
-fn insert_runs(tx: &mut Transaction<'_, FileStore<Memory>>) -> Result<(), Fail> {
+fn insert_runs<S: Alter>(tx: &mut Transaction<'_, S>) -> Result<(), Fail> {
     let (body, reply) = ([b'B'; 200], [b'R'; 300]);
     let insert = tx.prepare(INSERT)?;
     for number in 1..100_001i64 {
@@ -262,13 +280,18 @@ fn insert_runs(tx: &mut Transaction<'_, FileStore<Memory>>) -> Result<(), Fail> 
     Ok(())
 }
 
-/// 100,000 runs of 200 bytes, each with a reply of 300.
-fn with_100000_runs(alloc: Global) -> Result<Library, Fail> {
-    let mut conn = made(alloc)?.into_connection();
+/// The library with these runs.
+fn with_runs<S: Rising + Drop>(store: SqlStore<S>) -> Result<SqlStore<S>, Fail> {
+    let mut conn = store.into_connection();
     let mut tx = conn.transaction();
     insert_runs(&mut tx)?;
     tx.commit()?;
-    taken(SqlStore::adopt(conn))
+    adopted(conn)
+}
+
+/// 100,000 runs of 200 bytes, each with a reply of 300.
+fn with_100000_runs(alloc: Global) -> Result<Library, Fail> {
+    with_runs(made(alloc)?)
 }
 
 #[test]
