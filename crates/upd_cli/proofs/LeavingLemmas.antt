@@ -1,5 +1,5 @@
 -- What commands leave, and how they fail.
-use Rattle.std.proofs.Common.{◌≡◌, ◌⊎◌, inl, inr, ℕ, List, Option, Result, Ok, Err, IsErrAnd, IfErr, ap, ◌∙◌, subst}
+use Rattle.std.proofs.Common.{◌≡◌, ◌⊎◌, inl, inr, ℕ, List, Option, Result, ap, subst}
 use Rattle.std.proofs.KnownBytes.{Appends-nil}
 use Rattle.sqlite_wal.specs.Recovery.{Image}
 use Rattle.sqlite.specs.State.{State}
@@ -26,12 +26,6 @@ unopened_fails fault (inr is) = ap exit_status is
 pub backup_fails : (fault : Fault) → IsLost fault ⊎ (fault.kind ≡ Write) → exit_status fault.kind ≡ 3
 backup_fails fault (inl lost) = unopened_fails fault (inl lost)
 backup_fails fault (inr is) = ap exit_status is
-
--- the same of a fault that `?` passes on
-pub passed_fails : {U : Type 0} (result : Result U Fault) (fault : Fault) → IsErrAnd result (λ e. e ≡ fault) → IsUnopened fault
-    → IfErr result (λ f. exit_status f.kind ≡ 3)
-passed_fails (Ok status) fault is unopened = tt
-passed_fails (Err e) fault is unopened = ap (λ (f : Fault). exit_status f.kind) is ∙ unopened_fails fault unopened
 
 -- a failure is reported, and nothing is on the output
 pub fails_first : (fault : Fault) (status : ℕ) (output faults faults' : Option (List ℕ)) → exit_status fault.kind ≡ 3

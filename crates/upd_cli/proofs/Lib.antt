@@ -1,2 +1,3 @@
 pub mod LeavingLemmas
+pub mod WorkLemmas
 pub mod DoneLemmas

@@ -7,16 +7,13 @@ use Rattle.upd_text.specs.declared.limits.TheConstants.{MAX_RUN_BYTES}
 use Rattle.upd_row_store.specs.declared.meaning.Meaning.{Ghosts}
 use Rattle.upd_io.specs.Inputs.{IsInput}
 use Rattle.upd_edit.specs.declared.editing.TheConstants.{MAX_TEXT_BYTES}
-use Rattle.upd_subcommands.specs.Command.{Answers, Ending, IsToldOf, answer_to, ending}
+use Rattle.upd_subcommands.specs.Command.{Answers, IsToldOf, answer_to}
 use Rattle.upd_cli.specs.Commands.{CarriesOut}
+use Rattle.upd_cli.specs.Works.{ending_of}
 use Rattle.upd_subcommands.specs.Inputs.{HandsRunsIn, ReadsInput, ServesIn, TriesRunIn}
 use Rattle.upd_subcommands.specs.Streams.{Stream, TakesFront, after, before}
 use Rattle.upd_subcommands.specs.Trial.{trial_named}
 use Rattle.upd_subcommands.specs.Words.{command_word, operand_word, word_faults}
-
--- the ending with this status and these streams
-abbrev pub ending_of : {W E : Type 0} → ℕ → Stream W → Stream E → Ending
-ending_of status output faults = ending status (before output) (after output) (before faults) (after faults)
 
 -- The store over the file: its meaning, its connection, the state of a connection, and what the file held before.
 module _ {S C : Type 0} (meaning : Ghosts S) (conn_of : S → C) (state : C → State) (held : Image) where

@@ -1,4 +1,5 @@
 pub mod Stored
+pub mod Works
 pub mod Opened
 pub mod Commands
 pub mod CommandLine

@@ -11,10 +11,9 @@ ghost use Rattle.upd_text.specs.declared.limits.TheConstants.{MAX_RUN_BYTES};
 ghost use Rattle.upd_subcommands.specs.Inputs.{IsHandIn, IsServeRequest, IsSpoolCommand, IsSpoolRequest, IsTryRequest, ReadsFor, TellsRefusals, most_read};
 
 use crate::examined::report_on;
-use crate::library::{
-    FileRows, backup_on, correct_on, errand_on, init_file, migrate_file, serve, try_on,
-};
+use crate::library::{backup_on, correct_on, errand_on, init_file, migrate_file, serve, try_on};
 use crate::stored::{Stored, list_on};
+use crate::work::FileRows;
 use sqlite::{Start, Unknown};
 use std::convert::AsStr;
 use std::io::{Read, Write};

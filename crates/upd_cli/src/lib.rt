@@ -9,6 +9,7 @@ mod command;
 mod examined;
 mod library;
 mod stored;
+mod work;
 
 pub use command::{run_command, run_command_from};
 pub use upd_subcommands::{report_words, serve_is_read, trial, trial_is_read};

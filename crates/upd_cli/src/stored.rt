@@ -8,7 +8,7 @@ ghost use Rattle.upd_cli.specs.Commands.{LeavesList};
 ghost use Rattle.upd_subcommands.specs.Status.{exit_status};
 ghost use Rattle.upd_cli.specs.Stored.{ReportsList, ShowsList};
 
-use crate::library::FileRows;
+use crate::work::FileRows;
 use sqlite::{Connection, Start};
 use std::alloc::Global;
 use std::io::Write;

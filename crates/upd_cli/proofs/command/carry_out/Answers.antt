@@ -1,4 +1,4 @@
-use Rattle.std.proofs.Common.{inl, inr, sym, subst}
+use Rattle.std.proofs.Common.{sym, subst}
 use Rattle.std.proofs.KnownBytes.{Appends-nil}
 use Rattle.upd_compile.specs.Modes.{mode_named}
 use Rattle.upd_subcommands.specs.Inputs.{IsSpoolRequest, ReadsFor, most_read}

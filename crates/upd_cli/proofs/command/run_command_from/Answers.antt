@@ -1,4 +1,4 @@
-use Rattle.std.proofs.Common.{◌+◌, ◌⊎◌, inl, inr, ℕ, List, Option, codes, map, refl, subst}
+use Rattle.std.proofs.Common.{◌+◌, inl, inr, ℕ, List, Option, codes, map, refl, subst}
 use Rattle.clap.specs.Words.{Text}
 use Rattle.std.proofs.KnownBytes.{Appends-nil}
 use Rattle.upd_io.proofs.InputLemmas.{some_input}

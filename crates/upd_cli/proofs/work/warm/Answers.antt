@@ -1,5 +1,5 @@
-use Rattle.std.proofs.Common.{◌≡◌, ℕ, ◌≤◌, arith, sym, subst}
-use Rattle.upd_cli.proofs.library.warm.Goals as goal
+use Rattle.std.proofs.Common.{arith, sym, subst}
+use Rattle.upd_cli.proofs.work.warm.Goals as goal
 
 pub returns : goal.returns
 returns g c =
