@@ -85,19 +85,35 @@ fn add_cards(
     let live = library.live_yanks()?;
     for (pos, card) in cards.iter().enumerate() {
         let name = name_at(library.idents(), card.ident).ok_or("no name")?;
-        let reference = CardRef {
-            name,
-            number: card.number,
-        };
-        let active = library.status(&live, reference).ok_or("no status")?;
-        let text = std::str::from_utf8(&card.text)?;
-        let alloc = *lines.allocator();
+        add_card(lines, name, (deck, pos), card)?;
         let number = card.number;
-        lines.push(format!(in alloc; "cards|'{name}'|{number}|{deck}|{pos}|'{text}'")?)?;
-        lines.push(format!(in alloc; "states|'{name}'|{number}|{}", u8::from(active))?)?;
+        let active = library.status(&live, CardRef { name, number });
+        add_status(lines, (name, number), active.ok_or("no status")?)?;
         add_history(lines, name, card)?;
     }
     Ok(())
+}
+
+/// Adds a card at a place: that of its deck, and its own.
+fn add_card(
+    lines: &mut Vec<String>,
+    name: Name,
+    (deck, pos): (u32, usize),
+    card: &Card,
+) -> Result<(), Fail> {
+    let text = std::str::from_utf8(&card.text)?;
+    let (alloc, number) = (*lines.allocator(), card.number);
+    Ok(lines.push(format!(in alloc; "cards|'{name}'|{number}|{deck}|{pos}|'{text}'")?)?)
+}
+
+/// Adds the status of a card.
+fn add_status(
+    lines: &mut Vec<String>,
+    (name, number): (Name, u32),
+    active: bool,
+) -> Result<(), Fail> {
+    let (alloc, active) = (*lines.allocator(), u8::from(active));
+    Ok(lines.push(format!(in alloc; "states|'{name}'|{number}|{active}")?)?)
 }
 
 /// Adds the entries and targets of a card.
@@ -123,22 +139,25 @@ fn key_of(alloc: Global, target: Target) -> Result<String, Fail> {
     })
 }
 
-/// Adds the number of live yank cards of each target.
-fn add_counts(lines: &mut Vec<String>, library: &Library) -> Result<(), Fail> {
-    let alloc = *lines.allocator();
+/// The targets of live yank cards, sorted.
+fn live_targets(alloc: Global, library: &Library) -> Result<Vec<Target>, Fail> {
     let mut targets = Vec::new(alloc);
     let live = library.live_yanks()?;
     for card in library.yanks() {
         let name = name_at(library.idents(), card.ident).ok_or("no name")?;
-        if live.live_yank(CardRef {
-            name,
-            number: card.number,
-        }) == Some(true)
-        {
+        let number = card.number;
+        if live.live_yank(CardRef { name, number }) == Some(true) {
             targets.extend_from_slice(&card.targets)?;
         }
     }
     targets.sort()?;
+    Ok(targets)
+}
+
+/// Adds the number of live yank cards of each target.
+fn add_counts(lines: &mut Vec<String>, library: &Library) -> Result<(), Fail> {
+    let alloc = *lines.allocator();
+    let targets = live_targets(alloc, library)?;
     for same in targets.chunk_by(|a, b| a == b) {
         if let Some(target) = same.first() {
             let key = key_of(alloc, *target)?;
