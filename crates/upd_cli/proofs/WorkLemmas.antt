@@ -87,10 +87,6 @@ module _ {S C : Type 0} (meaning : Ghosts S) (conn_of : S → C) (state : C → 
           by (Ok status) g = tt
           by (Err fault) g = g.0
 
-  pub errand_leaves : (errand : Bor Errand) (ended : Result ℕ Fault)
-      → WorksOn meaning conn_of state held input output faults (work.Errand errand) ended → LeavesAll errand.now ended
-  errand_leaves errand ended done = all_left errand.now ended done.works
-
   -- ---- runs that are tried, and edited texts: the answer is a status, wherever the file is opened
 
   -- What an answer leaves, and what it is.
@@ -112,16 +108,25 @@ module _ {S C : Type 0} (meaning : Ghosts S) (conn_of : S → C) (state : C → 
   abbrev pub IsTry : List ℕ → List ℕ → S → S → ℕ → Type 0
   IsTry mode run old new status = (status ≢ 2) × TriesRun meaning mode run old new (ending_of status output faults)
 
-  pub try_leaves : (mode run : Bor (List ℕ)) (ended : Result ℕ Fault)
-      → WorksOn meaning conn_of state held input output faults (work.Try mode run) ended → LeavesAnswer (IsTry mode.now run.now) ended
-  try_leaves mode run ended done = answer_left (IsTry mode.now run.now) ended done.works
-
   abbrev pub IsEdit : List ℕ → List ℕ → S → S → ℕ → Type 0
   IsEdit set text old new status = EndsCorrection meaning input output faults set text status old new
 
+-- what work at the desk of the library in the file leaves
+module _ {S C : Type 0} {meaning : Ghosts S} {conn_of : S → C} {state : C → State} {held : Image}
+    {R W E : Type 0} {input : Stream R} {output : Stream W} {faults : Stream E} where
+  pub errand_leaves : (errand : Bor Errand) (ended : Result ℕ Fault)
+      → WorksOn meaning conn_of state held input output faults (work.Errand errand) ended → LeavesAll meaning conn_of state held input output faults errand.now ended
+  errand_leaves errand ended done = all_left meaning conn_of state held input output faults errand.now ended done.works
+
+  pub try_leaves : (mode run : Bor (List ℕ)) (ended : Result ℕ Fault)
+      → WorksOn meaning conn_of state held input output faults (work.Try mode run) ended
+      → LeavesAnswer meaning conn_of state held input output faults (IsTry meaning conn_of state held input output faults mode.now run.now) ended
+  try_leaves mode run ended done = answer_left meaning conn_of state held input output faults (IsTry meaning conn_of state held input output faults mode.now run.now) ended done.works
+
   pub correction_leaves : (set text : Bor (List ℕ)) (ended : Result ℕ Fault)
-      → WorksOn meaning conn_of state held input output faults (work.Correct set text) ended → LeavesAnswer (IsEdit set.now text.now) ended
-  correction_leaves set text ended done = answer_left (IsEdit set.now text.now) ended done.works
+      → WorksOn meaning conn_of state held input output faults (work.Correct set text) ended
+      → LeavesAnswer meaning conn_of state held input output faults (IsEdit meaning conn_of state held input output faults set.now text.now) ended
+  correction_leaves set text ended done = answer_left meaning conn_of state held input output faults (IsEdit meaning conn_of state held input output faults set.now text.now) ended done.works
 
   -- ---- connections
 
@@ -130,7 +135,7 @@ module _ {S C : Type 0} (meaning : Ghosts S) (conn_of : S → C) (state : C → 
       → ServesReporting meaning conn_of state held count (ended_as ended) (before faults) (after faults)
   serves address count ended done = by ended done.works
     where
-      by : (e : Result ℕ Fault) → WorksFrom meaning input output faults (IsOpened meaning conn_of state held) (work.Serve address count) e ⊎ IsUntouched e
+      by : (e : Result ℕ Fault) → WorksFrom meaning input output faults (IsOpened meaning conn_of state held) (work.Serve address count) e ⊎ IsUntouched meaning conn_of state held input output faults e
           → ServesReporting meaning conn_of state held count (ended_as e) (before faults) (after faults)
       by (Ok status) (inl (old, begun, new, opened, warmed, served)) =
           let (made, most, all, leads) = served.leads in
@@ -145,7 +150,7 @@ module _ {S C : Type 0} (meaning : Ghosts S) (conn_of : S → C) (state : C → 
       → WorksOn meaning conn_of state held input output faults (work.Serve address count) (Err fault) → exit_status fault.kind ≡ 3
   serve_fails address count fault done = by done.works
     where
-      by : WorksFrom meaning input output faults (IsOpened meaning conn_of state held) (work.Serve address count) (Err fault) ⊎ IsUntouched (Err fault)
+      by : WorksFrom meaning input output faults (IsOpened meaning conn_of state held) (work.Serve address count) (Err fault) ⊎ IsUntouched meaning conn_of state held input output faults (Err fault)
           → exit_status fault.kind ≡ 3
       by (inl (old, begun, new, opened, warmed, served)) = ap (λ (f : Fault). exit_status f.kind) served.err
       by (inr gone) = unopened_fails fault gone.0

@@ -7,13 +7,13 @@ use Rattle.upd_cli.proofs.library.errand_on.Goals as goal
 pub returns-in-Ok-clause-leaves : goal.returns-in-Ok-clause-leaves
 returns-in-Ok-clause-leaves g c =
     leaves_as _ _ _ _ c.args.asked.now (Ok c.in-Ok.errand) c.at_desk.result _ _ _ _ c.in-Ok.ensures.reads
-    (errand_leaves _ _ _ _ _ _ _ _ _ c.at_desk.ensures).leaves
+    (errand_leaves _ _ c.at_desk.ensures).leaves
 
 pub returns-in-Ok-clause-front : goal.returns-in-Ok-clause-front
-returns-in-Ok-clause-front g c = λ other. (errand_leaves _ _ _ _ _ _ _ _ _ c.at_desk.ensures).front (λ is. other (c.in-Ok.ensures.spools is))
+returns-in-Ok-clause-front g c = λ other. (errand_leaves _ _ c.at_desk.ensures).front (λ is. other (c.in-Ok.ensures.spools is))
 
 pub returns-in-Ok-clause-waits : goal.returns-in-Ok-clause-waits
-returns-in-Ok-clause-waits g c = λ other. (errand_leaves _ _ _ _ _ _ _ _ _ c.at_desk.ensures).waits (λ is. other (c.in-Ok.ensures.hands is))
+returns-in-Ok-clause-waits g c = λ other. (errand_leaves _ _ c.at_desk.ensures).waits (λ is. other (c.in-Ok.ensures.hands is))
 
 pub returns-in-Err-clause-leaves : goal.returns-in-Err-clause-leaves
 returns-in-Err-clause-leaves g c =

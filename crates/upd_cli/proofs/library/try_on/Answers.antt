@@ -14,17 +14,17 @@ returns-clause-told g c =
     let IsRead : List ℕ → Type 0 = IsRunOn (g.R.Read.remaining c.args.input.now) in
     ok_with IsRead _ c.deref.result.now c.at_desk.result (subst IsRead (sym c.deref.ensures.value) c.in_ok-run.ensures.ok)
     (IfOk-weaker c.at_desk.result _ _ (λ status (old, new, opened, tried). (old, new, opened, tried.1))
-    (try_leaves _ _ _ _ _ _ _ _ _ _ c.at_desk.ensures).told)
+    (try_leaves _ _ _ c.at_desk.ensures).told)
 
 pub returns-clause-status : goal.returns-clause-status
 returns-clause-status g c =
-    IfOk-weaker c.at_desk.result _ _ (λ status (old, new, opened, tried). tried.0) (try_leaves _ _ _ _ _ _ _ _ _ _ c.at_desk.ensures).told
+    IfOk-weaker c.at_desk.result _ _ (λ status (old, new, opened, tried). tried.0) (try_leaves _ _ _ c.at_desk.ensures).told
 
 pub returns-clause-none : goal.returns-clause-none
-returns-clause-none g c = (try_leaves _ _ _ _ _ _ _ _ _ _ c.at_desk.ensures).none
+returns-clause-none g c = (try_leaves _ _ _ c.at_desk.ensures).none
 
 pub returns-clause-quiet : goal.returns-clause-quiet
-returns-clause-quiet g c = (try_leaves _ _ _ _ _ _ _ _ _ _ c.at_desk.ensures).quiet
+returns-clause-quiet g c = (try_leaves _ _ _ c.at_desk.ensures).quiet
 
 pub returns-clause-failed : goal.returns-clause-failed
-returns-clause-failed g c = (try_leaves _ _ _ _ _ _ _ _ _ _ c.at_desk.ensures).failed
+returns-clause-failed g c = (try_leaves _ _ _ c.at_desk.ensures).failed
