@@ -1,5 +1,5 @@
 //! A crash at each call of the disk: what is opened again holds the answered arrivals, with or without the one in hand.
-use crate::fused_files::{ALL, Bytes, Calls, Fused, closed, opened};
+use crate::fused_files::{ALL, Bytes, Calls, Fused, Work, work_in};
 use crate::sqlite_rows::stored_tables;
 use sqlite::Connection;
 use sqlite_disk::Files;
@@ -32,28 +32,33 @@ fn new_library<S: Rising + Drop>(conn: Connection<S>) -> Result<SqlStore<S>, Con
     }
 }
 
-/// The tables in the files; no text if they hold no library.
-fn tables_in(alloc: Global, files: Files<Fused>) -> Result<(String, Files<Fused>), Fail> {
-    let Ok(conn) = opened(alloc, files) else {
-        return Err("the files can't be opened".into());
-    };
-    let (text, conn) = tables_of(alloc, conn)?;
-    Ok((text, closed(conn)))
+/// Reads the tables as text; none if the database holds no library.
+#[derive(Drop)]
+struct ReadTables;
+
+impl Work for ReadTables {
+    type Outcome = String;
+
+    fn over<S: Rising + Drop>(
+        self,
+        alloc: Global,
+        conn: Connection<S>,
+    ) -> Result<(String, Connection<S>), Fail> {
+        match SqlStore::adopt(conn) {
+            Ok(store) => {
+                let mut conn = store.into_connection();
+                let text = stored_tables(alloc, &mut conn)?;
+                Ok((text, conn))
+            }
+            Err((_, conn)) => Ok((String::new(alloc), conn)),
+        }
+    }
 }
 
-/// The tables in a database; no text if it holds no library.
-fn tables_of<S: Rising + Drop>(
-    alloc: Global,
-    conn: Connection<S>,
-) -> Result<(String, Connection<S>), Fail> {
-    match SqlStore::adopt(conn) {
-        Ok(store) => {
-            let mut conn = store.into_connection();
-            let text = stored_tables(alloc, &mut conn)?;
-            Ok((text, conn))
-        }
-        Err((_, conn)) => Ok((String::new(alloc), conn)),
-    }
+/// The tables in files that can be opened; no text if they hold no library.
+fn tables_in(alloc: Global, files: Files<Fused>) -> Result<(String, Files<Fused>), Fail> {
+    let (text, files) = work_in(alloc, files, ReadTables)?;
+    Ok((text.ok_or("the files can't be opened")?, files))
 }
 
 /// What came of a list.
@@ -99,36 +104,40 @@ fn answers<R: RowStore>(session: &mut Session<R>, list: &[Ask<'_>]) -> Result<Ve
     Ok(answers)
 }
 
+/// Asks the library in a database until a call fails.
+#[derive(Drop)]
+struct Asking<'a> {
+    list: &'a [Ask<'a>],
+}
+
+impl Work for Asking<'_> {
+    type Outcome = Sending;
+
+    fn over<S: Rising + Drop>(
+        self,
+        alloc: Global,
+        conn: Connection<S>,
+    ) -> Result<(Sending, Connection<S>), Fail> {
+        match library_in(conn) {
+            Ok(store) => {
+                let mut session = Session::new(alloc, store);
+                let (opened, answers) = (true, answers(&mut session, self.list)?);
+                let conn = session.desk.close().into_connection();
+                Ok((Sending { opened, answers }, conn))
+            }
+            Err(conn) => Ok((Sending::none(alloc), conn)),
+        }
+    }
+}
+
 /// Asks until a call fails: what came of it, and the files.
 fn send(
     alloc: Global,
     files: Files<Fused>,
     list: &[Ask<'_>],
 ) -> Result<(Sending, Files<Fused>), Fail> {
-    match opened(alloc, files) {
-        Ok(conn) => {
-            let (sending, conn) = send_to(alloc, conn, list)?;
-            Ok((sending, closed(conn)))
-        }
-        Err(files) => Ok((Sending::none(alloc), files)),
-    }
-}
-
-/// Asks the library in a database until a call fails: what came of it, and the database.
-fn send_to<S: Rising + Drop>(
-    alloc: Global,
-    conn: Connection<S>,
-    list: &[Ask<'_>],
-) -> Result<(Sending, Connection<S>), Fail> {
-    match library_in(conn) {
-        Ok(store) => {
-            let mut session = Session::new(alloc, store);
-            let (opened, answers) = (true, answers(&mut session, list)?);
-            let conn = session.desk.close().into_connection();
-            Ok((Sending { opened, answers }, conn))
-        }
-        Err(conn) => Ok((Sending::none(alloc), conn)),
-    }
+    let (sending, files) = work_in(alloc, files, Asking { list })?;
+    Ok((sending.unwrap_or_else(|| Sending::none(alloc)), files))
 }
 
 /// The reference desk after the first `count` of a list.

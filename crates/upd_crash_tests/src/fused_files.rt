@@ -3,6 +3,7 @@ use sqlite::{Connection, FileStore, Options};
 use sqlite_disk::{Crash, Disk, Files, Fuse, Memory};
 use std::alloc::Global;
 use std::test::Fail;
+use upd_sqlite::Rising;
 
 /// A file in memory that fails after a number of calls.
 pub type Fused = Fuse<Memory>;
@@ -81,20 +82,34 @@ fn opened_on<D: Disk + Drop>(
     }
 }
 
-/// The database in files, which come back if it can't be opened.
-pub fn opened(
-    alloc: Global,
-    files: Files<Fused>,
-) -> Result<Connection<FileStore<Fused>>, Files<Fused>> {
-    opened_on(alloc, files)
-}
-
 /// The files of any kind of a database.
 fn files_of<D: Disk + Drop>(conn: Connection<FileStore<D>>) -> Files<D> {
     conn.into_store().close()
 }
 
-/// The files of a database.
-pub fn closed(conn: Connection<FileStore<Fused>>) -> Files<Fused> {
-    files_of(conn)
+/// What is done with a database, whatever holds it.
+pub trait Work: Drop {
+    /// What comes of it.
+    type Outcome: Drop;
+
+    fn over<S: Rising + Drop>(
+        self,
+        alloc: Global,
+        conn: Connection<S>,
+    ) -> Result<(Self::Outcome, Connection<S>), Fail>;
+}
+
+/// Does this with the database in files: what comes of it, which is none where they can't be opened, and the files.
+pub fn work_in<W: Work>(
+    alloc: Global,
+    files: Files<Fused>,
+    work: W,
+) -> Result<(Option<W::Outcome>, Files<Fused>), Fail> {
+    match opened_on(alloc, files) {
+        Ok(conn) => {
+            let (outcome, conn) = work.over(alloc, conn)?;
+            Ok((Some(outcome), files_of(conn)))
+        }
+        Err(files) => Ok((None, files)),
+    }
 }

@@ -1,7 +1,7 @@
 //! A crash at each call of the disk: the file opened again is the old one or the migrated one, and can be migrated.
-use crate::fused_files::{ALL, Bytes, Calls, Fused, closed, opened};
+use crate::fused_files::{ALL, Bytes, Calls, Fused, Work, work_in};
 use crate::older_files::Older;
-use sqlite::{Alter, Connection, FileStore};
+use sqlite::Connection;
 use sqlite_disk::Files;
 use std::alloc::Global;
 use std::test::Fail;
@@ -10,62 +10,87 @@ use upd_sqlite::Rising;
 use upd_testkit::check::{holds, same};
 use upd_text::FaultKind;
 
-/// The database in files that don't fail.
-fn opened_whole(alloc: Global, bytes: &Bytes) -> Result<Connection<FileStore<Fused>>, Fail> {
-    match opened(alloc, bytes.files(alloc, ALL)?) {
-        Ok(conn) => Ok(conn),
-        Err(_) => Err("the files can't be opened".into()),
+/// Makes the tables and rows of an older file.
+#[derive(Drop)]
+struct Make(Older);
+
+impl Work for Make {
+    type Outcome = ();
+
+    fn over<S: Rising + Drop>(
+        self,
+        _: Global,
+        mut conn: Connection<S>,
+    ) -> Result<((), Connection<S>), Fail> {
+        self.0.make(&mut conn)?;
+        Ok(((), conn))
     }
 }
 
-/// The database with the tables and rows of an older file.
-fn made_in<S: Alter + Drop>(mut conn: Connection<S>, file: Older) -> Result<Connection<S>, Fail> {
-    file.make(&mut conn)?;
-    Ok(conn)
+/// Does this with files of these bytes, which don't fail: the files.
+fn work_on<W: Work>(alloc: Global, bytes: &Bytes, work: W) -> Result<Files<Fused>, Fail> {
+    match work_in(alloc, bytes.files(alloc, ALL)?, work)? {
+        (Some(_), files) => Ok(files),
+        (None, _) => Err("the files can't be opened".into()),
+    }
 }
 
 fn made(alloc: Global, file: Older) -> Result<Bytes, Fail> {
-    let conn = made_in(opened_whole(alloc, &Bytes::none(alloc))?, file)?;
-    Bytes::written(alloc, &closed(conn))
+    let files = work_on(alloc, &Bytes::none(alloc), Make(file))?;
+    Bytes::written(alloc, &files)
 }
 
-/// Whether a migration ends. One that doesn't has met a failed call, which is its fault.
-fn ends<S: Rising>(alloc: Global, conn: &mut Connection<S>) -> Result<bool, Fail> {
-    match migrate(alloc, conn) {
-        Ok(()) => Ok(true),
-        Err(fault) => {
-            same("the fault", fault, FaultKind::Store.without_line())?;
-            Ok(false)
+/// Migrates a database: whether that ends. A migration that doesn't end has met a failed call, which is its fault.
+#[derive(Drop)]
+struct Migrate;
+
+impl Work for Migrate {
+    type Outcome = bool;
+
+    fn over<S: Rising + Drop>(
+        self,
+        alloc: Global,
+        mut conn: Connection<S>,
+    ) -> Result<(bool, Connection<S>), Fail> {
+        match migrate(alloc, &mut conn) {
+            Ok(()) => Ok((true, conn)),
+            Err(fault) => {
+                same("the fault", fault, FaultKind::Store.without_line())?;
+                Ok((false, conn))
+            }
         }
     }
 }
 
 /// Migrates the files until a call fails: whether none did, and the files.
 fn migrated(alloc: Global, files: Files<Fused>) -> Result<(bool, Files<Fused>), Fail> {
-    match opened(alloc, files) {
-        Ok(mut conn) => {
-            let is_migrated = ends(alloc, &mut conn);
-            let files = closed(conn);
-            Ok((is_migrated?, files))
-        }
-        Err(files) => Ok((false, files)),
-    }
+    let (is_migrated, files) = work_in(alloc, files, Migrate)?;
+    Ok((is_migrated.unwrap_or(false), files))
 }
 
 /// A database holds the old file or the migrated one, and is migrated.
-fn holds_either<S: Rising + Drop>(
-    alloc: Global,
-    file: Older,
-    mut conn: Connection<S>,
-) -> Result<(), Fail> {
-    file.is_either(alloc, &mut conn)?;
-    migrate(alloc, &mut conn)?;
-    file.is_after(alloc, &mut conn)
+#[derive(Drop)]
+struct Hold(Older);
+
+impl Work for Hold {
+    type Outcome = ();
+
+    fn over<S: Rising + Drop>(
+        self,
+        alloc: Global,
+        mut conn: Connection<S>,
+    ) -> Result<((), Connection<S>), Fail> {
+        self.0.is_either(alloc, &mut conn)?;
+        migrate(alloc, &mut conn)?;
+        self.0.is_after(alloc, &mut conn)?;
+        Ok(((), conn))
+    }
 }
 
 /// What a crash left is the old file or the migrated one, and is migrated.
 fn left_holds(alloc: Global, file: Older, left: &Bytes) -> Result<(), Fail> {
-    holds_either(alloc, file, opened_whole(alloc, left)?)
+    work_on(alloc, left, Hold(file))?;
+    Ok(())
 }
 
 /// What is found after a kill holds, and what is found after a crash.

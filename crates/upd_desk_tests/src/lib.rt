@@ -26,4 +26,6 @@ mod store_answers;
 #[cfg(test)]
 mod store_loads;
 #[cfg(test)]
+mod store_parts;
+#[cfg(test)]
 mod worked_lists;

@@ -17,7 +17,7 @@ use upd_testkit::stored_runs::is_stored;
 use upd_yank::Cache;
 
 /// A library after runs, in a store.
-fn after<S: Fresh>(alloc: Global, runs: &[&str]) -> Result<Session<S>, Fail> {
+pub fn after<S: Fresh>(alloc: Global, runs: &[&str]) -> Result<Session<S>, Fail> {
     let mut session = Session::new(alloc, S::fresh(alloc)?);
     for (number, run) in (1..100).zip(runs) {
         session.ask(Ask::Run(lyon(number, "full", run)))?;
@@ -26,13 +26,14 @@ fn after<S: Fresh>(alloc: Global, runs: &[&str]) -> Result<Session<S>, Fail> {
 }
 
 /// The rows of a library.
-fn rows_of(alloc: Global, library: &Library) -> Result<String, Fail> {
+pub fn rows_of(alloc: Global, library: &Library) -> Result<String, Fail> {
     let mut lines = Vec::new(alloc);
     add_library(&mut lines, library)?;
     joined(alloc, lines)
 }
 
-const TWO_DECKS: [&str; 3] = [
+/// Decks A and B, and a set X that inserts a card after the first one of A.
+pub const TWO_DECKS: [&str; 3] = [
     "*DECK A\nONE\nTWO\nTHREE\n",
     "*DECK B\nBEE\n",
     "*IDENT X\n*INSERT A.1\nTOP\n",
@@ -104,6 +105,18 @@ fn part_is_loaded<S: RowStore>(alloc: Global, store: &mut S) -> Result<(), Fail>
     same("the rest", &(rest.cards, rest.entries), &(5, 5))
 }
 
+/// A part with all decks, and with one that isn't there, is the whole library.
+fn all_decks_are_loaded<S: RowStore>(
+    alloc: Global,
+    store: &mut S,
+    wanted: &str,
+) -> Result<(), Fail> {
+    let part = store.load_decks(alloc, &[1, 2, 9])?;
+    same_text("all decks", rows_of(alloc, &part)?.as_str(), wanted)?;
+    let rest = part.rest();
+    same("the rest of all", &(rest.cards, rest.entries), &(0, 0))
+}
+
 /// The library and a part of it are loaded, as the reference desk has them.
 fn rows_are_loaded<S: RowStore>(
     alloc: Global,
@@ -114,6 +127,7 @@ fn rows_are_loaded<S: RowStore>(
     let (whole, copy) = whole_and_copy(alloc, store)?;
     same_text("the library", whole.as_str(), wanted.as_str())?;
     same_text("its copy", copy.as_str(), wanted.as_str())?;
+    all_decks_are_loaded(alloc, store, wanted.as_str())?;
     part_is_loaded(alloc, store)
 }
 

@@ -2,8 +2,8 @@
 use crate::console::{accepts, answers, fresh, library, remove};
 use crate::file_changes::{change, change_log, close, connected, execute_and_close};
 use crate::site_commands::make_second;
-use sqlite::Connection;
-use sqlite_disk::Unknown;
+use sqlite::{Connection, FileStore};
+use sqlite_disk::{Disk, Unknown};
 use std::fs;
 use std::test::Fail;
 use upd_keep::{Examined, Report, Situation, examine};
@@ -107,12 +107,20 @@ fn what_is_no_database_is_named(rt: HostRuntime) -> Result<(), Fail> {
     remove(&rt, &file)
 }
 
+/// A library is in use while a connection is open, which is closed then.
+fn is_in_use<D: Disk + Drop>(
+    rt: &HostRuntime,
+    file: &str,
+    conn: Connection<FileStore<D>>,
+) -> Result<(), Fail> {
+    is_other(rt, file, Situation::InUse)?;
+    close(conn)
+}
+
 #[test]
 fn a_library_in_use_is_named(rt: HostRuntime) -> Result<(), Fail> {
     let file = library(&rt, "busy")?;
-    let conn = connected(&rt, &file)?;
-    is_other(&rt, &file, Situation::InUse)?;
-    close(conn)?;
+    is_in_use(&rt, &file, connected(&rt, &file)?)?;
     is_sound(&rt, &file, "sound: decks 0, cards 0, runs 0\n", false)?;
     remove(&rt, &file)
 }

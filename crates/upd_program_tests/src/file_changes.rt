@@ -1,5 +1,5 @@
 //! Changes of a library's file by hand, past the program.
-use sqlite::{Alter, Connection, FileFrom, FileStore};
+use sqlite::{Connection, FileFrom, FileStore};
 use sqlite_disk::{Disk, Unknown};
 use std::test::Fail;
 use upd_store::file::connect;
@@ -11,22 +11,34 @@ pub fn connected(rt: &HostRuntime, file: &str) -> Result<FileConnection, Fail> {
     Ok(connect(rt, file, Unknown)?)
 }
 
-fn execute<S: Alter>(conn: &mut Connection<S>, sql: &str) -> Result<(), Fail> {
-    conn.execute(sql, &[])?;
-    Ok(())
-}
-
 pub fn close<D: Disk + Drop>(conn: Connection<FileStore<D>>) -> Result<(), Fail> {
     Ok(conn.close()?)
 }
 
-/// Executes a statement and closes the connection.
-pub fn execute_and_close<D: Disk + Drop>(
+/// Executes a statement, which is in the log then.
+fn executed<D: Disk + Drop>(
     mut conn: Connection<FileStore<D>>,
     sql: &str,
+) -> Result<Connection<FileStore<D>>, Fail> {
+    conn.execute(sql, &[])?;
+    Ok(conn)
+}
+
+/// Executes a statement and closes the connection.
+pub fn execute_and_close<D: Disk + Drop>(
+    conn: Connection<FileStore<D>>,
+    sql: &str,
 ) -> Result<(), Fail> {
-    execute(&mut conn, sql)?;
-    close(conn)
+    close(executed(conn, sql)?)
+}
+
+/// Executes a statement and lets the connection go, as a program does that ends without copying its log into the file.
+fn execute_and_leave<D: Disk + Drop>(
+    conn: Connection<FileStore<D>>,
+    sql: &str,
+) -> Result<(), Fail> {
+    executed(conn, sql)?;
+    Ok(())
 }
 
 /// Changes the tables of a library.
@@ -34,8 +46,7 @@ pub fn change(rt: &HostRuntime, file: &str, sql: &str) -> Result<(), Fail> {
     execute_and_close(connected(rt, file)?, sql)
 }
 
-/// Changes a library as a program does that ends without copying its log into the file: it leaves what it committed in
-/// the log.
+/// Changes a library, and leaves what it committed in the log.
 pub fn change_log(rt: &HostRuntime, file: &str, sql: &str) -> Result<(), Fail> {
-    execute(&mut connected(rt, file)?, sql)
+    execute_and_leave(connected(rt, file)?, sql)
 }

@@ -3,6 +3,8 @@ use crate::console::{accepts, answers, fresh, library, remove};
 use crate::file_changes::{change_log, close, connected};
 use crate::refusals::all_answer;
 use crate::site_commands::make_second;
+use sqlite::{Connection, FileStore};
+use sqlite_disk::Disk;
 use std::fs;
 use std::net::TcpListener;
 use std::test::Fail;
@@ -92,12 +94,20 @@ fn changes_only_in_the_log_are_read(rt: HostRuntime) -> Result<(), Fail> {
     remove(&rt, &file)
 }
 
+/// All commands refuse a library while a connection is open, which is closed then.
+fn all_refuse<D: Disk + Drop>(
+    rt: &HostRuntime,
+    file: &str,
+    conn: Connection<FileStore<D>>,
+) -> Result<(), Fail> {
+    all_answer(rt, file, (3, "", "upd: Store (29) at 0\n"))?;
+    close(conn)
+}
+
 #[test]
 fn a_library_in_use_is_refused(rt: HostRuntime) -> Result<(), Fail> {
     let file = library(&rt, "used")?;
-    let conn = connected(&rt, &file)?;
-    all_answer(&rt, &file, (3, "", "upd: Store (29) at 0\n"))?;
-    close(conn)?;
+    all_refuse(&rt, &file, connected(&rt, &file)?)?;
     answers(&rt, &["idents", &file], b"", (0, "", ""))?;
     remove(&rt, &file)
 }

@@ -1,7 +1,7 @@
 //! Each public call of stores, the desk, its wire and the program once, by its path, with an answer worked by hand.
 use crate::console::fresh;
 use crate::written_store::WrittenStore;
-use sqlite::{Connection, MemStore};
+use sqlite::{Connection, MemStore, Start};
 use sqlite_disk::Unknown;
 use std::alloc::Global;
 use std::fs;
@@ -130,11 +130,15 @@ fn rows_of_a_connection_are_loaded_and_migrated(rt: HostRuntime) -> Result<(), F
     same("cards", library.cards_of(1).len(), 2)
 }
 
+fn is_opened<S: Start>(rt: &HostRuntime, path: &str, start: S) -> bool {
+    SqlStore::open(rt, path, true, start).is_ok()
+}
+
 /// No library is opened at a path without a file, and none is made.
 #[test]
 fn a_missing_file_is_not_opened(rt: HostRuntime) -> Result<(), Fail> {
     let path = fresh(&rt, "surface")?;
-    let is_opened = SqlStore::open(&rt, path.as_str(), true, Unknown).is_ok();
+    let is_opened = is_opened(&rt, path.as_str(), Unknown);
     let is_made = fs::exists(&rt, path.as_str())?;
     same("opened, made", (is_opened, is_made), (false, false))
 }

@@ -1,12 +1,35 @@
-//! A store to which runs come one after the other.
+//! Stores over SQLite, and a store to which runs come one after the other.
 ghost use Rattle.std.specs.Prelude.{◌≡◌, IfOk};
 
+use sqlite::Connection;
 use std::alloc::Global;
 use std::test::Fail;
 use upd_core::Change;
 use upd_records::RunRow;
 use upd_row_store::RowStore;
+use upd_sqlite::Rising;
+use upd_store::SqlStore;
 use upd_testkit::applying::applied;
+use upd_text::Fault;
+
+fn taken<S: Rising + Drop>(
+    store: Result<SqlStore<S>, (Fault, Connection<S>)>,
+) -> Result<SqlStore<S>, Fail> {
+    match store {
+        Ok(store) => Ok(store),
+        Err((fault, _)) => Err(fault.into()),
+    }
+}
+
+/// The library that a connection holds.
+pub fn adopted<S: Rising + Drop>(conn: Connection<S>) -> Result<SqlStore<S>, Fail> {
+    taken(SqlStore::adopt(conn))
+}
+
+/// A new library in a connection.
+pub fn initialized<S: Rising + Drop>(conn: Connection<S>) -> Result<SqlStore<S>, Fail> {
+    taken(SqlStore::init(conn))
+}
 
 /// The row of a run that was accepted, with an empty reply.
 fn row_of(alloc: Global, site: &str, number: u64, text: &str) -> Result<RunRow, Fail>

@@ -1,5 +1,5 @@
 //! Runs over tables of SQLite.
-use crate::committing::{apply_and_commit, stored_run};
+use crate::committing::{adopted, apply_and_commit, initialized, stored_run};
 use sqlite::types::ValueRef;
 use sqlite::{Connection, MemStore, Row};
 use std::alloc::Global;
@@ -21,18 +21,12 @@ const REPLACED: &str = "*IDENT X\n*DELETE A.2\nNEW\n";
 const YANKED: &str = "*IDENT Y\n*YANK X\n";
 
 fn made(alloc: Global) -> Result<SqlStore<MemStore>, Fail> {
-    match SqlStore::init(Connection::open_in_memory(alloc)?) {
-        Ok(store) => Ok(store),
-        Err((fault, _)) => Err(fault.into()),
-    }
+    initialized(Connection::open_in_memory(alloc)?)
 }
 
 /// The same library, adopted again.
 fn again(store: SqlStore<MemStore>) -> Result<SqlStore<MemStore>, Fail> {
-    match SqlStore::adopt(store.into_connection()) {
-        Ok(store) => Ok(store),
-        Err((fault, _)) => Err(fault.into()),
-    }
+    adopted(store.into_connection())
 }
 
 const RUNS: [&str; 4] = [DECK_A, DECK_B, REPLACED, YANKED];

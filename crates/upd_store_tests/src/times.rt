@@ -1,5 +1,5 @@
 //! Libraries in files in memory, as large as a library may be; `bench/store.py` times these tests.
-use crate::committing::commit;
+use crate::committing::{adopted, commit, initialized};
 use sqlite::types::ToSql;
 use sqlite::{Alter, Connection, FileStore, Options, Transaction, params};
 use sqlite_disk::{Disk, Files, Memory};
@@ -12,57 +12,6 @@ use upd_store::SqlStore;
 use upd_store::file::close;
 use upd_testkit::applying::name;
 use upd_testkit::check::{holds, same};
-use upd_text::Fault;
-
-type Library = SqlStore<FileStore<Memory>>;
-
-fn taken<S: Rising + Drop>(
-    store: Result<SqlStore<S>, (Fault, Connection<S>)>,
-) -> Result<SqlStore<S>, Fail> {
-    match store {
-        Ok(store) => Ok(store),
-        Err((fault, _)) => Err(fault.into()),
-    }
-}
-
-/// The library that a connection holds.
-fn adopted<S: Rising + Drop>(conn: Connection<S>) -> Result<SqlStore<S>, Fail> {
-    taken(SqlStore::adopt(conn))
-}
-
-/// A new library in a connection.
-fn initialized<S: Rising + Drop>(conn: Connection<S>) -> Result<SqlStore<S>, Fail> {
-    taken(SqlStore::init(conn))
-}
-
-/// A disk in memory copies the whole of a file when it is synced, so the log is short.
-fn with_short_log() -> Options {
-    let mut options = Options::new(1);
-    options.checkpoint_frames = 100;
-    options
-}
-
-fn opened(alloc: Global, files: Files<Memory>) -> Result<Connection<FileStore<Memory>>, Fail> {
-    if !files.log.may_be_used() || !files.db.may_be_used() {
-        return Err("the files can't be used".into());
-    }
-    match Connection::open_files(alloc, files, with_short_log()) {
-        Ok(conn) => Ok(conn),
-        Err((error, _)) => Err(error.into()),
-    }
-}
-
-fn made(alloc: Global) -> Result<Library, Fail> {
-    let files = Files {
-        log: Memory::new(alloc),
-        db: Memory::new(alloc),
-    };
-    initialized(opened(alloc, files)?)
-}
-
-fn closed(store: Library) -> Result<Files<Memory>, Fail> {
-    Ok(close(store)?)
-}
 
 fn card_of(name: &Name, number: u32) -> CardRef {
     CardRef {
@@ -135,43 +84,44 @@ fn deck_of(alloc: Global, age: u32, cards: u32) -> Result<Vec<Change>, Fail> {
 }
 
 /// Commits changes, as the run of this number.
-fn keep(alloc: Global, store: &mut Library, number: u32, changes: &[Change]) -> Result<(), Fail> {
+fn keep<R: RowStore>(
+    alloc: Global,
+    store: &mut R,
+    number: u32,
+    changes: &[Change],
+) -> Result<(), Fail> {
     commit(alloc, store, u64::from(number), "", changes)
 }
 
 /// Commits a deck of this serial with `cards` cards, as the run of this number.
-fn add_deck(alloc: Global, store: &mut Library, age: u32, cards: u32) -> Result<(), Fail> {
+fn add_deck<R: RowStore>(alloc: Global, store: &mut R, age: u32, cards: u32) -> Result<(), Fail> {
     let changes = deck_of(alloc, age, cards)?;
     keep(alloc, store, age, &changes)
 }
 
-/// 50,000 cards with 200,000 entries, in 25 decks.
-fn with_50000_cards(alloc: Global) -> Result<Library, Fail> {
-    let mut store = made(alloc)?;
-    for age in 1..26 {
-        add_deck(alloc, &mut store, age, 2000)?;
-    }
-    Ok(store)
-}
-
 /// The site LYON has never settled.
-fn is_unsettled(alloc: Global, store: &mut Library) -> Result<(), Fail> {
+fn is_unsettled<R: RowStore>(alloc: Global, store: &mut R) -> Result<(), Fail> {
     same("the mark", store.mark(alloc, "LYON")?, 0)
 }
 
 /// The run of this number is stored.
-fn stores(alloc: Global, store: &mut Library, number: u64) -> Result<(), Fail> {
+fn stores<R: RowStore>(alloc: Global, store: &mut R, number: u64) -> Result<(), Fail> {
     let run = store.kept_run(alloc, "LYON", number)?;
     holds(number, run.is_some())
 }
 
-/// Asks little: what making the library takes is the measure for the tests beside it.
-#[test]
-fn keeps_50000_cards(rt: HostRuntime) -> Result<(), Fail> {
-    let alloc = rt.alloc();
-    let mut store = with_50000_cards(alloc)?;
-    is_unsettled(alloc, &mut store)?;
-    stores(alloc, &mut store, 25)
+/// 50,000 cards with 200,000 entries, in 25 decks.
+fn add_50000_cards<R: RowStore>(alloc: Global, store: &mut R) -> Result<(), Fail> {
+    for age in 1..26 {
+        add_deck(alloc, store, age, 2000)?;
+    }
+    is_unsettled(alloc, store)?;
+    stores(alloc, store, 25)
+}
+
+fn add_500_cards<R: RowStore>(alloc: Global, store: &mut R) -> Result<(), Fail> {
+    add_deck(alloc, store, 1, 500)?;
+    stores(alloc, store, 1)
 }
 
 /// The numbers of decks and of their cards.
@@ -184,33 +134,24 @@ fn count_cards(library: &upd_core::Library) -> (usize, usize) {
 }
 
 /// The stored library has 50,000 cards in 25 decks.
-fn loads_all(alloc: Global, store: &mut Library) -> Result<(), Fail> {
+fn loads_all<R: RowStore>(alloc: Global, store: &mut R) -> Result<(), Fail> {
     let found = count_cards(&store.load(alloc)?);
     same("decks, cards", &found, &(25, 50_000))
 }
 
-#[test]
-fn loads_50000_cards_10_times(rt: HostRuntime) -> Result<(), Fail> {
-    let alloc = rt.alloc();
-    let mut store = with_50000_cards(alloc)?;
+fn load_10_times<R: RowStore>(alloc: Global, store: &mut R) -> Result<(), Fail> {
+    add_50000_cards(alloc, store)?;
     for _ in 0..10 {
-        loads_all(alloc, &mut store)?;
+        loads_all(alloc, store)?;
     }
     Ok(())
 }
 
-/// The numbers of cards and entries that a part of one deck leaves out.
-fn rest_of_part(alloc: Global, store: &mut Library) -> Result<(usize, usize), Fail> {
+/// A part of one deck leaves out these numbers of cards and entries.
+fn count_rest<R: RowStore>(alloc: Global, store: &mut R) -> Result<(), Fail> {
+    add_50000_cards(alloc, store)?;
     let rest = store.load_decks(alloc, &[2])?.rest();
-    Ok((rest.cards, rest.entries))
-}
-
-#[test]
-fn a_part_counts_what_it_leaves_of_50000_cards(rt: HostRuntime) -> Result<(), Fail> {
-    let alloc = rt.alloc();
-    let mut store = with_50000_cards(alloc)?;
-    let rest = rest_of_part(alloc, &mut store)?;
-    same("the rest", &rest, &(48_000, 192_000))
+    same("the rest", &(rest.cards, rest.entries), &(48_000, 192_000))
 }
 
 /// An ident, 8 cards with a status and four entries each, and a purged ident.
@@ -220,51 +161,19 @@ fn changes_50(alloc: Global, age: u32) -> Result<Vec<Change>, Fail> {
     Ok(changes)
 }
 
-fn with_500_cards(alloc: Global) -> Result<Library, Fail> {
-    let mut store = made(alloc)?;
-    add_deck(alloc, &mut store, 1, 500)?;
-    Ok(store)
-}
-
-#[test]
-fn keeps_500_cards(rt: HostRuntime) -> Result<(), Fail> {
-    let alloc = rt.alloc();
-    let mut store = with_500_cards(alloc)?;
-    stores(alloc, &mut store, 1)
-}
-
 /// Commits 50 changes, as the run of this number.
-fn commit_50(alloc: Global, store: &mut Library, age: u32) -> Result<(), Fail> {
+fn commit_50<R: RowStore>(alloc: Global, store: &mut R, age: u32) -> Result<(), Fail> {
     let changes = changes_50(alloc, age)?;
     same("changes", changes.len(), 50)?;
     keep(alloc, store, age, &changes)
 }
 
-#[test]
-fn commits_50_changes_200_times(rt: HostRuntime) -> Result<(), Fail> {
-    let alloc = rt.alloc();
-    let mut store = with_500_cards(alloc)?;
+fn commit_200_times<R: RowStore>(alloc: Global, store: &mut R) -> Result<(), Fail> {
+    add_500_cards(alloc, store)?;
     for age in 2..202 {
-        commit_50(alloc, &mut store, age)?;
+        commit_50(alloc, store, age)?;
     }
-    stores(alloc, &mut store, 201)
-}
-
-/// Opens files, asks the library in them for a mark and closes it.
-fn open_once(alloc: Global, files: Files<Memory>) -> Result<Files<Memory>, Fail> {
-    let mut store = adopted(opened(alloc, files)?)?;
-    is_unsettled(alloc, &mut store)?;
-    closed(store)
-}
-
-#[test]
-fn opens_500_cards_20_times(rt: HostRuntime) -> Result<(), Fail> {
-    let alloc = rt.alloc();
-    let mut files = closed(with_500_cards(alloc)?)?;
-    for _ in 0..20 {
-        files = open_once(alloc, files)?;
-    }
-    Ok(())
+    stores(alloc, store, 201)
 }
 
 const INSERT: &str =
@@ -289,24 +198,133 @@ fn with_runs<S: Rising + Drop>(store: SqlStore<S>) -> Result<SqlStore<S>, Fail> 
     adopted(conn)
 }
 
-/// 100,000 runs of 200 bytes, each with a reply of 300.
-fn with_100000_runs(alloc: Global) -> Result<Library, Fail> {
-    with_runs(made(alloc)?)
+fn find_each_run<R: RowStore>(alloc: Global, store: &mut R) -> Result<(), Fail> {
+    for number in 1..100_001 {
+        stores(alloc, store, number)?;
+    }
+    Ok(())
+}
+
+/// What is done with a library.
+#[derive(Clone, Copy)]
+enum Work {
+    /// Making a library is the measure for what is done with the same one.
+    Keep50000Cards,
+    LoadCards,
+    CountRest,
+    Keep500Cards,
+    CommitChanges,
+    KeepRuns,
+    FindRuns,
+    /// The library is there.
+    Open,
+}
+
+fn do_work<R: RowStore>(alloc: Global, store: &mut R, work: Work) -> Result<(), Fail> {
+    match work {
+        Work::Keep50000Cards => add_50000_cards(alloc, store),
+        Work::LoadCards => load_10_times(alloc, store),
+        Work::CountRest => count_rest(alloc, store),
+        Work::Keep500Cards => add_500_cards(alloc, store),
+        Work::CommitChanges => commit_200_times(alloc, store),
+        Work::KeepRuns => stores(alloc, store, 100_000),
+        Work::FindRuns => find_each_run(alloc, store),
+        Work::Open => is_unsettled(alloc, store),
+    }
+}
+
+/// The library in a connection, with which this is done.
+fn worked<S: Rising + Drop>(
+    alloc: Global,
+    conn: Connection<S>,
+    work: Work,
+) -> Result<SqlStore<S>, Fail> {
+    let mut store = match work {
+        Work::Open => adopted(conn)?,
+        Work::KeepRuns | Work::FindRuns => with_runs(initialized(conn)?)?,
+        _ => initialized(conn)?,
+    };
+    do_work(alloc, &mut store, work)?;
+    Ok(store)
+}
+
+/// A disk in memory copies the whole of a file when it is synced, so the log is short.
+fn with_short_log() -> Options {
+    let mut options = Options::new(1);
+    options.checkpoint_frames = 100;
+    options
+}
+
+fn opened(alloc: Global, files: Files<Memory>) -> Result<Connection<FileStore<Memory>>, Fail> {
+    if !files.log.may_be_used() || !files.db.may_be_used() {
+        return Err("the files can't be used".into());
+    }
+    match Connection::open_files(alloc, files, with_short_log()) {
+        Ok(conn) => Ok(conn),
+        Err((error, _)) => Err(error.into()),
+    }
+}
+
+/// Opens files, does this with the library in them and closes it. This alone names the store over a file.
+fn work_in(alloc: Global, files: Files<Memory>, work: Work) -> Result<Files<Memory>, Fail> {
+    let store = worked(alloc, opened(alloc, files)?, work)?;
+    Ok(close(store)?)
+}
+
+fn no_files(alloc: Global) -> Files<Memory> {
+    Files {
+        log: Memory::new(alloc),
+        db: Memory::new(alloc),
+    }
+}
+
+/// Does this with a new library.
+fn does(rt: HostRuntime, work: Work) -> Result<(), Fail> {
+    work_in(rt.alloc(), no_files(rt.alloc()), work)?;
+    Ok(())
+}
+
+#[test]
+fn keeps_50000_cards(rt: HostRuntime) -> Result<(), Fail> {
+    does(rt, Work::Keep50000Cards)
+}
+
+#[test]
+fn loads_50000_cards_10_times(rt: HostRuntime) -> Result<(), Fail> {
+    does(rt, Work::LoadCards)
+}
+
+#[test]
+fn a_part_counts_what_it_leaves_of_50000_cards(rt: HostRuntime) -> Result<(), Fail> {
+    does(rt, Work::CountRest)
+}
+
+#[test]
+fn keeps_500_cards(rt: HostRuntime) -> Result<(), Fail> {
+    does(rt, Work::Keep500Cards)
+}
+
+#[test]
+fn commits_50_changes_200_times(rt: HostRuntime) -> Result<(), Fail> {
+    does(rt, Work::CommitChanges)
+}
+
+#[test]
+fn opens_500_cards_20_times(rt: HostRuntime) -> Result<(), Fail> {
+    let alloc = rt.alloc();
+    let mut files = work_in(alloc, no_files(alloc), Work::Keep500Cards)?;
+    for _ in 0..20 {
+        files = work_in(alloc, files, Work::Open)?;
+    }
+    Ok(())
 }
 
 #[test]
 fn keeps_100000_runs(rt: HostRuntime) -> Result<(), Fail> {
-    let alloc = rt.alloc();
-    let mut store = with_100000_runs(alloc)?;
-    stores(alloc, &mut store, 100_000)
+    does(rt, Work::KeepRuns)
 }
 
 #[test]
 fn finds_each_of_100000_runs(rt: HostRuntime) -> Result<(), Fail> {
-    let alloc = rt.alloc();
-    let mut store = with_100000_runs(alloc)?;
-    for number in 1..100_001 {
-        stores(alloc, &mut store, number)?;
-    }
-    Ok(())
+    does(rt, Work::FindRuns)
 }

@@ -1,8 +1,10 @@
 -- What commands do at a desk: what they ask, what the desk answers, and how that is reported.
-use Rattle.std.specs.Prelude.{◌≡◌, ◌≤◌, ◌⊎◌, ℕ, List, [], length, Option, Result, Ok, Err, IfOk, OnOk, IsErrAnd}
+use Rattle.std.specs.Prelude.{◌≡◌, ◌<◌, ◌≤◌, ◌⊎◌, ℕ, List, [], length, Option, Result, Ok, Err, IfErr, IfOk, OnOk, IsErrAnd}
 use Rattle.std.specs.Io.KnownBytes.{Appends}
 use Rattle.std.specs.Result.{result_map_both}
+use Rattle.upd_text.specs.Faults.{fault_at}
 use Rattle.upd_text.specs.declared.fault.Fault.{Fault}
+use Rattle.upd_text.specs.declared.fault.FaultKind.TheVariants.{RunLong}
 use Rattle.upd_core.specs.Library.{LibraryView}
 use Rattle.upd_row_store.specs.declared.meaning.Meaning.{Ghosts}
 use Rattle.upd_row_store.specs.Keeping.{CountsFailure, Keeps}
@@ -21,8 +23,11 @@ use Rattle.upd_edit.specs.Source.{source}
 use Rattle.upd_edit.specs.Trying.{tried}
 use Rattle.upd_edit.specs.Warnings.{warning_lines}
 use Rattle.upd_edit.specs.declared.editing.TheConstants.{MAX_TEXT_BYTES}
+use Rattle.upd_edit.specs.EditCauses.{IsEditCause, IsEditLoss, failures_after_edit}
 use Rattle.upd_edit.specs.declared.editing.EditError.{EditError}
+use Rattle.upd_edit.specs.declared.editing.EditError.TheVariants.{Failed}
 use Rattle.upd_correct.specs.Correcting.{CorrectsTo}
+use Rattle.upd_correct.specs.Refusals.{refusals_of}
 use Rattle.upd_look.specs.Blame.{blame}
 use Rattle.upd_look.specs.IdentReport.{show}
 use Rattle.upd_look.specs.LibraryPage.{page}
@@ -81,11 +86,17 @@ module _ {S : Type 0} (meaning : Ghosts S) where
       (answer : Result ReplyView Fault) × (warnings : Result (List ℕ) Fault) × IsTriedAs mode run answer warnings old new
       × TellsTried answer warnings end
 
-  -- A run, if there is one, leads decks of the library to an edited text. Nothing is changed.
+  -- An edited text is answered by a run that leads decks of the library to it, or by what is wrong with it. A failure is a loss, or the text is too long.
+  -- Nothing is changed.
   pub record IsCorrection (set text : List ℕ) (answer : Result (List ℕ) EditError) (old new : S) : Type 0 where
     pub corrects : EachHeld meaning old new (λ journal. IfOk answer (CorrectsTo (library_after journal) set text))
+    pub clean : EachHeld meaning old new (λ journal. OnOk answer (refusals_of (library_after journal) set text ≡ []))
+    pub refused : EachHeld meaning old new (λ journal. IfErr answer (IsEditCause (library_after journal) set text))
+    pub lost : IfErr answer (IsEditLoss text)
     pub short : OnOk answer (length text ≤ MAX_TEXT_BYTES)
+    pub long : MAX_TEXT_BYTES < length text → IfErr answer (λ error. error ≡ Failed (fault_at RunLong 0))
     pub same : Keeps meaning old new
+    pub counts : meaning.failures_of new ≡ failures_after_edit answer (meaning.failures_of old)
 
   -- an edited text was answered by a run, and the answer was told
   abbrev pub CorrectsText : List ℕ → List ℕ → S → S → Ending → Type 0

@@ -2,6 +2,7 @@
 ghost use Rattle.std.specs.Prelude.{◌≡◌, ◌≢◌, ◌⊎◌, OnOk};
 ghost use Rattle.std.specs.Io.KnownBytes.{Appends};
 ghost use Rattle.std.specs.IoError.{error_kind};
+ghost use Rattle.std.specs.List.{flat_map};
 ghost use Rattle.upd_subcommands.specs.Command.{IsEnd, IsTold};
 ghost use Rattle.upd_subcommands.specs.Status.{exit_status, fault_line, no_memory, no_words_line};
 ghost use Rattle.upd_io.specs.Fronts.{AppendsFront};
@@ -89,9 +90,10 @@ pub fn report_words<E: Write>(error: &io::Error, faults: &mut E) -> u8
     }
 }
 
-/// The exit status where the words are not a command line. A text says why.
+/// The exit status where the words are not a command line: 2, or 3 where the text that says why can't be written.
 pub fn tell_unread<E: Write>(text: &[&[u8]], faults: &mut E) -> u8
-    ensures { (result ≡ 2) ⊎ (result ≡ 3) }
+    ensures told { IsTold 2 (flat_map (λ part. part.now) text.now) result (E.contents faults.old) (E.contents faults.new) }
+    ensures status { (result ≡ 2) ⊎ (result ≡ 3) }
 {
     match write_parts(faults, text) {
         Ok(()) => UNREAD,

@@ -1,6 +1,6 @@
 //! Tests of names and lines, of whole runs from their bytes to compile files and listings, of the edits of a library,
-//! statuses and limits, of edited texts, runs that are tried, looks and lists of runs, and of each public call below the
-//! stores once by its path (`surface`).
+//! statuses and limits, of edited texts, runs that are tried, looks and lists of runs, and of public calls that no other
+//! test has (`surface`).
 //!
 //! Expected values are worked by hand from `docs/rules.md`, or come from a second implementation, as the files of
 //! `upd_examples` do. Tests are in crates of their own, since a crate with tests is proved once more with them.

@@ -73,7 +73,7 @@ returns-in-Trial-clause-waits g c = λ no.
 
 pub returns-in-Unread-clause-done : goal.returns-in-Unread-clause-done
 returns-in-Unread-clause-done g c =
-    done_as _ _ _ _ c.args.request.now _ _ _ _ c.in-Unread.is (Appends-nil (g.W.Write.contents c.args.output.now), c.tell_unread.ensures)
+    done_as _ _ _ _ c.args.request.now _ _ _ _ c.in-Unread.is (Appends-nil (g.W.Write.contents c.args.output.now), c.tell_unread.ensures.status)
 
 pub returns-in-Library-clause-front : goal.returns-in-Library-clause-front
 returns-in-Library-clause-front g c = λ other.

@@ -1,6 +1,7 @@
 use Rattle.std.proofs.Common.{ℕ, List, Ok, Err, subst}
 use Rattle.std.proofs.KnownBytes.{Appends-nil}
 use Rattle.upd_correct.specs.declared.refusal.Refusal.{Refusal}
+use Rattle.upd_edit.specs.declared.editing.EditError.{EditError}
 use Rattle.upd_edit.specs.declared.editing.EditError.TheVariants.{Failed, Refused}
 use Rattle.upd_subcommands.specs.Command.{ending}
 use Rattle.upd_subcommands.specs.Correcting.{IsRefusedBy, TellsCorrection}
@@ -16,23 +17,58 @@ returns-in-Ok-clause-tells g c =
     (g.E.Write.contents c.args.faults.now) (g.E.Write.contents c.write_run.new.faults)) in (
       Ok c.in-Ok.run'.items,
       subst IsRight c.as_bytes.ensures.value
-          (record { corrects = c.in-Ok.ensures.corrects; short = c.in-Ok.ensures.short; same = c.in-Ok.ensures.same }),
+          (record {
+            corrects = c.in-Ok.ensures.corrects;
+            clean = c.in-Ok.ensures.clean;
+            refused = c.in-Ok.ensures.refused;
+            lost = c.in-Ok.ensures.lost;
+            short = c.in-Ok.ensures.short;
+            long = c.in-Ok.ensures.long;
+            same = c.in-Ok.ensures.same;
+            counts = c.in-Ok.ensures.failed;
+          }),
       subst IsTold c.deref.ensures.value c.write_run.ensures.tells,
     )
 
 pub returns-in-Err-Failed-clause-tells : goal.returns-in-Err-Failed-clause-tells
-returns-in-Err-Failed-clause-tells g c = (
-  Err (Failed c.in-Err-Failed.fault),
-  record { corrects = λ honest journal held. tt; short = tt; same = c.in-Err-Failed.ensures.same },
-  (c.finish.ensures.told, Appends-nil (g.W.Write.contents c.args.output.now)),
-)
+returns-in-Err-Failed-clause-tells g c =
+    let IsRight : List ℕ → EditError → Type 0 =
+    λ set error. IsCorrection g.S.Meaning set c.args.text.now (Err error) c.args.desk.now.store c.correct_at.new.desk.store in
+    let made : IsRight c.as_bytes.result.now c.in-Err-Failed.field-0 =
+    record {
+      corrects = c.in-Err-Failed.ensures.corrects;
+      clean = c.in-Err-Failed.ensures.clean;
+      refused = c.in-Err-Failed.ensures.refused;
+      lost = c.in-Err-Failed.ensures.lost;
+      short = c.in-Err-Failed.ensures.short;
+      long = c.in-Err-Failed.ensures.long;
+      same = c.in-Err-Failed.ensures.same;
+      counts = c.in-Err-Failed.ensures.failed;
+    } in (
+      Err (Failed c.in-Err-Failed.fault),
+      subst (λ error. IsRight c.args.set.now error) c.in-Err-Failed.field-0-is (subst (λ set. IsRight set c.in-Err-Failed.field-0) c.as_bytes.ensures.value made),
+      (c.finish.ensures.told, Appends-nil (g.W.Write.contents c.args.output.now)),
+    )
 
 pub returns-in-Err-Refused-clause-tells : goal.returns-in-Err-Refused-clause-tells
 returns-in-Err-Refused-clause-tells g c =
+    let IsRight : List ℕ → EditError → Type 0 =
+    λ set error. IsCorrection g.S.Meaning set c.args.text.now (Err error) c.args.desk.now.store c.correct_at.new.desk.store in
+    let made : IsRight c.as_bytes.result.now c.in-Err-Refused.field-0 =
+    record {
+      corrects = c.in-Err-Refused.ensures.corrects;
+      clean = c.in-Err-Refused.ensures.clean;
+      refused = c.in-Err-Refused.ensures.refused;
+      lost = c.in-Err-Refused.ensures.lost;
+      short = c.in-Err-Refused.ensures.short;
+      long = c.in-Err-Refused.ensures.long;
+      same = c.in-Err-Refused.ensures.same;
+      counts = c.in-Err-Refused.ensures.failed;
+    } in
     let IsTold : List Refusal → Type 0 =
     λ refusals. IsRefusedBy refusals c.tell_refusals.result (g.E.Write.contents c.args.faults.now)
     (g.E.Write.contents c.tell_refusals.new.faults) in (
       Err (Refused c.in-Err-Refused.refusals),
-      record { corrects = λ honest journal held. tt; short = tt; same = c.in-Err-Refused.ensures.same },
+      subst (λ error. IsRight c.args.set.now error) c.in-Err-Refused.field-0-is (subst (λ set. IsRight set c.in-Err-Refused.field-0) c.as_bytes.ensures.value made),
       (subst IsTold c.deref-in-Err-Refused.ensures.value c.tell_refusals.ensures.told, Appends-nil (g.W.Write.contents c.args.output.now)),
     )
