@@ -1,5 +1,5 @@
 -- What was done for a request was done for the words that ask for it.
-use Rattle.std.proofs.Common.{◌≡◌, ◌≢◌, ◌⊎◌, ◌≤◌, ◌+◌, inl, inr, ℕ, List, [], codes, Bor, false, Option, sym, ◌∙◌, subst, arith}
+use Rattle.std.proofs.Common.{◌≡◌, ◌≢◌, ◌⊎◌, ◌≤◌, ◌+◌, inl, inr, ℕ, List, [], codes, Bor, false, Option, Ok, Err, sym, ap, ◌∙◌, subst, arith}
 use Rattle.std.specs.Str.{bytes_eq}
 use Rattle.clap.specs.Words.{Text}
 use Rattle.sqlite_wal.specs.Recovery.{Image}
@@ -8,13 +8,21 @@ use Rattle.upd_row_store.specs.declared.meaning.Meaning.{Ghosts}
 use Rattle.upd_io.specs.Inputs.{IsInput}
 use Rattle.upd_edit.specs.declared.editing.TheConstants.{MAX_TEXT_BYTES}
 use Rattle.upd_subcommands.specs.Command.{Answers, Ending, IsToldOf, answer_to}
-use Rattle.upd_cli.specs.Commands.{IsDone}
+use Rattle.upd_cli.specs.Commands.{IsDone, IsShown}
+use Rattle.upd_text.specs.declared.fault.Fault.{Fault}
+use Rattle.upd_subcommands.specs.Status.{exit_status}
 use Rattle.upd_subcommands.specs.Inputs.{HandsRunsIn, IsCorrectRequest, IsServeRequest, IsSpoolRequest, IsTryRequest, ReadsFor, ReadsInput, ServesIn, TellsRefusals, TriesRunIn, most_read}
 use Rattle.upd_subcommands.specs.Trial.{trial_named}
 use Rattle.upd_subcommands.specs.Words.{IsAskedFor, IsCommand, command_word, operand_word, request_name, word_faults}
 use Rattle.upd_subcommands.specs.declared.words.Request.{Request}
 use Rattle.upd_subcommands.specs.declared.words.Request.TheVariants.{Trial, Correct, Shown, Unread}
 use Rattle.upd_subcommands.proofs.RequestLemmas.{corrects, mistake_status, none_among, not_trial, reads, serves, spools, tells, text_status, trial_mode, trial_or_other, tries, unread_for_none}
+
+-- a text that is shown ends with status 0, or 3 where the write failed
+pub shown_status : (text : List ℕ) (end : Ending) → IsShown text end → (end.status ≡ 0) ⊎ (end.status ≡ 3)
+shown_status text end (Ok done, ok, front, err, told) = inl told.0
+shown_status text end (Err fault, ok, front, err, inl (meant, line)) = inr (meant ∙ ap (λ (f : Fault). exit_status f.kind) err)
+shown_status text end (Err fault, ok, front, err, inr (three, line)) = inr three
 
 -- which words a request that has something to it is asked for by
 pub record IsAskedBut (words : List Text) (request : Request) : Type 0 where
@@ -76,8 +84,8 @@ module _ {S C : Type 0} (meaning : Ghosts S) (conn_of : S → C) (state : C → 
   pub unread_done : (words : List Text) (request : Request) (input input' : Option (List ℕ)) (end : Ending) → IsAskedFor words request
       → IsDone meaning conn_of state held request input input' end → word_faults words ≢ [] → IsToldOf words end.status
   unread_done words request input input' end (inl asked) done bad = absurd (bad asked.0)
-  unread_done words (Shown text) input input' end (inr (kind, among, is)) (inl done_so) bad = inr (kind, among, done_so ∙ sym (text_status kind is))
-  unread_done words (Shown text) input input' end (inr (kind, among, is)) (inr three) bad = inl three
-  unread_done words (Unread text) input input' end (inr (kind, among, is)) (nothing, inl two) bad = inr (kind, among, two ∙ sym (mistake_status kind is))
-  unread_done words (Unread text) input input' end (inr (kind, among, is)) (nothing, inr three) bad = inl three
+  unread_done words (Shown text) input input' end (inr (kind, among, is)) (inl done_so, _) bad = inr (kind, among, done_so ∙ sym (text_status kind is))
+  unread_done words (Shown text) input input' end (inr (kind, among, is)) (inr three, _) bad = inl three
+  unread_done words (Unread text) input input' end (inr (kind, among, is)) (nothing, inl two, _) bad = inr (kind, among, two ∙ sym (mistake_status kind is))
+  unread_done words (Unread text) input input' end (inr (kind, among, is)) (nothing, inr three, _) bad = inl three
   unread_done words _ input input' end (inr (kind, among, is)) done bad = absurd is

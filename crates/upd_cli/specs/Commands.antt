@@ -1,5 +1,5 @@
 -- How commands end: what they do to the library in a file, and what they leave on the output and the fault stream.
-use Rattle.std.specs.Prelude.{◌≡◌, ◌≤◌, ◌⊎◌, ◌+◌, ℕ, Bool, true, false, List, [], ◌++◌, codes, length, Option, Result, Ok, Err, IfErr, IsErrAnd, OnOk}
+use Rattle.std.specs.Prelude.{◌≡◌, ◌≤◌, ◌⊎◌, ◌+◌, ℕ, Bool, true, false, List, [], ◌++◌, codes, length, string_bytes, Option, Result, Ok, Err, IfErr, IsErrAnd, OnOk}
 use Rattle.std.specs.Io.KnownBytes.{Appends}
 use Rattle.std.specs.Net.Grammar.{IsSocketText}
 use Rattle.std.specs.declared.net.socket_addr.SocketAddr.{SocketAddr}
@@ -10,6 +10,7 @@ use Rattle.upd_text.specs.declared.fault.Fault.{Fault}
 use Rattle.upd_row_store.specs.declared.meaning.Meaning.{Ghosts}
 use Rattle.upd_store.specs.Faults.{IsUnopened}
 use Rattle.upd_http.specs.Serving.{Made, LeadsThrough}
+use Rattle.upd_io.specs.Fronts.{AppendsFront}
 use Rattle.upd_io.specs.Inputs.{IsInput}
 use Rattle.upd_edit.specs.declared.editing.TheConstants.{MAX_TEXT_BYTES}
 use Rattle.upd_keep.specs.Examining.{ExaminesFile}
@@ -23,7 +24,7 @@ use Rattle.upd_subcommands.specs.ListingFile.{CorrectsListed}
 use Rattle.upd_subcommands.specs.Listening.{ReportsPlace}
 use Rattle.upd_cli.specs.Opened.{IsLibraryIn, IsWarmed, MakesLibrary, MigratesLibrary, OnFile}
 use Rattle.upd_subcommands.specs.Operands.{IsNoAddress, errand_of}
-use Rattle.upd_subcommands.specs.Status.{exit_status, fault_line, no_memory}
+use Rattle.upd_subcommands.specs.Status.{exit_status, fault_line, no_memory, write_failed}
 use Rattle.upd_cli.specs.Stored.{ReportsList}
 use Rattle.upd_subcommands.specs.Streams.{IsFrontOf, IsRunOn}
 use Rattle.upd_subcommands.specs.Telling.{Writes}
@@ -67,6 +68,17 @@ EndsReport (Err fault) end = Appends end.output end.output' [] × IsTold (exit_s
 -- what is at a path was examined, over connections that show this, and output, fault stream and status tell how
 abbrev pub IsExamined : {C : Type 0} → (C → State) → Image → Ending → Type 0
 IsExamined state held end = (answer : Result Report Fault) × ExaminesFile state held answer × EndsReport answer end
+
+-- the text for an ADDRESS that is not valid
+abbrev pub no_address_line : List ℕ → List ℕ
+no_address_line word =
+    codes "error: invalid value '" ++ word ++ codes "' for '<ADDRESS>': no IP address and port\n\nFor more information, try '--help'.\n"
+
+-- a text is on the output; or the write failed, which is reported, and at most a beginning of it is there
+abbrev pub IsShown : List ℕ → Ending → Type 0
+IsShown text end =
+    (written : Result (Unit {0}) Fault) × OnOk written (Appends end.output end.output' text) × AppendsFront end.output end.output' text
+    × IfErr written (λ fault. fault ≡ write_failed) × IsEnd written end.status end.faults end.faults'
 
 -- a command with no answer ended: all was done, or the line of what failed is reported
 abbrev pub EndsSilently : Result (Unit {0}) Fault → ℕ → Option (List ℕ) → Option (List ℕ) → Type 0
@@ -138,7 +150,7 @@ module _ {S C : Type 0} (meaning : Ghosts S) (conn_of : S → C) (state : C → 
   -- connections were served at an address; or that failed; an ADDRESS that is not valid is a mistake in the command line
   abbrev pub IsServed : List ℕ → ℕ → ℕ → Option (List ℕ) → Option (List ℕ) → Type 0
   IsServed address count status faults faults' =
-      (IsNoAddress address × ((status ≡ 2) ⊎ (status ≡ 3)))
+      (IsNoAddress address × ((status ≡ 2) ⊎ (status ≡ 3)) × IsTold 2 (no_address_line address) status faults faults')
       ⊎ ((place : SocketAddr) × IsSocketText address place × (ended : Result (Unit {0}) Fault) × (mid : Option (List ℕ))
       × ServesReporting count ended faults mid × EndsSilently ended status mid faults')
 
@@ -157,8 +169,9 @@ module _ {S C : Type 0} (meaning : Ghosts S) (conn_of : S → C) (state : C → 
   IsDone (Examine file) input input' end = IsExamined state held end
   IsDone (Migrate file) input input' end = Appends end.output end.output' [] × IsMigrated end.status end.faults end.faults'
   IsDone (Explain fault) input input' end = IsExplained fault.now end
-  IsDone (Shown text) input input' end = (end.status ≡ 0) ⊎ (end.status ≡ 3)
-  IsDone (Unread text) input input' end = Appends end.output end.output' [] × ((end.status ≡ 2) ⊎ (end.status ≡ 3))
+  IsDone (Shown text) input input' end = ((end.status ≡ 0) ⊎ (end.status ≡ 3)) × IsShown (string_bytes text) end
+  IsDone (Unread text) input input' end =
+      Appends end.output end.output' [] × ((end.status ≡ 2) ⊎ (end.status ≡ 3)) × IsTold 2 (string_bytes text) end.status end.faults end.faults'
 
   -- What the words ask for was carried out; or there was no memory to read them, and that is reported.
   abbrev pub CarriesOut : List Text → Option (List ℕ) → Option (List ℕ) → Ending → Type 0

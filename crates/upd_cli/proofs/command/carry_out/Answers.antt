@@ -1,4 +1,4 @@
-use Rattle.std.proofs.Common.{sym, subst}
+use Rattle.std.proofs.Common.{ℕ, List, sym, subst, ◌∙◌, append-nil}
 use Rattle.std.proofs.KnownBytes.{Appends-nil}
 use Rattle.upd_compile.specs.Modes.{mode_named}
 use Rattle.upd_subcommands.specs.Inputs.{IsSpoolRequest, ReadsFor, most_read}
@@ -6,7 +6,9 @@ use Rattle.upd_subcommands.specs.Streams.{TakesFront}
 use Rattle.upd_subcommands.specs.Trial.{trial_named}
 use Rattle.upd_subcommands.specs.declared.words.Request.{Request}
 use Rattle.upd_subcommands.proofs.CommandLemmas.{answered}
-use Rattle.upd_cli.proofs.DoneLemmas.{done_as}
+use Rattle.upd_subcommands.specs.Command.{IsTold, ending}
+use Rattle.upd_cli.specs.Commands.{IsShown}
+use Rattle.upd_cli.proofs.DoneLemmas.{done_as, shown_status}
 use Rattle.upd_subcommands.proofs.RequestLemmas.{none_of}
 use Rattle.upd_cli.proofs.command.carry_out.Goals as goal
 
@@ -71,9 +73,24 @@ pub returns-in-Trial-clause-waits : goal.returns-in-Trial-clause-waits
 returns-in-Trial-clause-waits g c = λ no.
     c.carry_out_trial-ended.ensures.waits (none_of (mode_named c.in-Trial.mode.now) (λ some. no (subst ReadsFor (sym c.in-Trial.is) some)))
 
+pub returns-in-Shown-clause-done : goal.returns-in-Shown-clause-done
+returns-in-Shown-clause-done g c =
+    let IsRight : List ℕ → Type 0 =
+    λ text. IsShown text (ending c.finish-in-Shown.result (g.W.Write.contents c.args.output.now) (g.W.Write.contents c.write_out.new.output)
+    (g.E.Write.contents c.args.faults.now) (g.E.Write.contents c.finish-in-Shown.new.faults)) in
+    let shown : IsRight c.as_bytes.result.now =
+    (c.write_out.result, c.write_out.ensures.ok, c.write_out.ensures.front, c.write_out.ensures.err, c.finish-in-Shown.ensures.told) in
+    done_as _ _ _ _ c.args.request.now _ _ _ _ c.in-Shown.is (shown_status _ _ shown, subst IsRight c.as_bytes.ensures.value shown)
+
 pub returns-in-Unread-clause-done : goal.returns-in-Unread-clause-done
 returns-in-Unread-clause-done g c =
-    done_as _ _ _ _ c.args.request.now _ _ _ _ c.in-Unread.is (Appends-nil (g.W.Write.contents c.args.output.now), c.tell_unread.ensures.status)
+    let IsRight : List ℕ → Type 0 =
+    λ text. IsTold 2 text c.tell_unread.result (g.E.Write.contents c.args.faults.now) (g.E.Write.contents c.tell_unread.new.faults) in
+    done_as _ _ _ _ c.args.request.now _ _ _ _ c.in-Unread.is (
+      Appends-nil (g.W.Write.contents c.args.output.now),
+      c.tell_unread.ensures.status,
+      subst IsRight (append-nil c.as_bytes-in-Unread.result.now ∙ c.as_bytes-in-Unread.ensures.value) c.tell_unread.ensures.told,
+    )
 
 pub returns-in-Library-clause-front : goal.returns-in-Library-clause-front
 returns-in-Library-clause-front g c = λ other.
