@@ -160,7 +160,7 @@ fn replayed<S: RowStore>(alloc: Global, store: &mut S) -> Result<String, Fail> {
 }
 
 /// The active cards that a cache of a store's rows renews from a part, and from those of the store.
-fn renewed<S: RowStore>(
+pub fn renewed<S: RowStore>(
     alloc: Global,
     store: &mut S,
     part: &Library,

@@ -1,10 +1,11 @@
 //! What a cache makes of a part, the order of statuses, and settlements, over stores by themselves.
+use crate::decks_read::renewed;
 use crate::empty_stores::Fresh;
 use crate::store_loads::{TWO_DECKS, after, rows_of};
 use sqlite::MemStore;
 use std::alloc::Global;
 use std::test::Fail;
-use upd_core::{Actives, Library};
+use upd_core::Actives;
 use upd_list_store::ListStore;
 use upd_row_store::RowStore;
 use upd_store::SqlStore;
@@ -12,19 +13,6 @@ use upd_testkit::check::{same, same_text};
 use upd_testkit::loaded_names::{active_names, compiled_names};
 use upd_testkit::session::Session;
 use upd_testkit::stored_runs::is_stored;
-use upd_yank::Cache;
-
-/// The active cards that a cache of a store's rows renews from a part.
-fn renewed<S: RowStore>(
-    alloc: Global,
-    store: &mut S,
-    part: &Library,
-    before: &Actives,
-) -> Result<Actives, Fail> {
-    let states = store.load_states(alloc)?;
-    let cache = Cache::of_rows(alloc, &states)?;
-    Ok(cache.renew(part, before)?)
-}
 
 /// The active cards of a store before, and those that are renewed from the part of deck B.
 fn before_and_after<S: RowStore>(alloc: Global, store: &mut S) -> Result<(Actives, Actives), Fail> {
