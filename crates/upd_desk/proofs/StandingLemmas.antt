@@ -12,7 +12,7 @@ use Rattle.upd_core.specs.Sound.{IsSound}
 use Rattle.upd_core.proofs.ApartLemmas.{all_at, all_mapped, at_contained}
 use Rattle.upd_core.proofs.FoundLemmas.{place_at}
 use Rattle.upd_records.specs.Rows.{same_ref}
-use Rattle.upd_diff.proofs.GoneLemmas.{same_ref_is}
+use Rattle.upd_records.proofs.EqualLemmas.{same_ref_is}
 use Rattle.upd_row_store.specs.Asked.{decks_with, holds_one, is_asked}
 use Rattle.upd_partial.specs.Needed.{is_yank_card}
 use Rattle.upd_partial.proofs.CountLemmas.{decks_few}

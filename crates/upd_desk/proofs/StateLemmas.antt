@@ -20,7 +20,7 @@ use Rattle.upd_core.specs.Targets.{is_same}
 use Rattle.upd_core.proofs.CountedLemmas.{same_target, target_same}
 use Rattle.upd_records.specs.Rows.{IsSame, Rows, ShowsStates, StateRow, count_rows, same_ref, state_rows}
 use Rattle.upd_records.proofs.CountLemmas.{count_filter}
-use Rattle.upd_diff.proofs.GoneLemmas.{same_ref_is, same_ref_own}
+use Rattle.upd_records.proofs.EqualLemmas.{same_ref_is, same_ref_own}
 use Rattle.upd_row_store.specs.Asked.{is_asked}
 use Rattle.upd_row_store.proofs.AskedLemmas.{filter_made}
 use Rattle.upd_row_store.specs.Tables.{AreReadOf, count_pair, state_pair}

@@ -16,6 +16,7 @@ use Rattle.upd_diff.specs.CardDiffs.{CardDiffView, DeckDiffView, Kept, Gone, New
 use Rattle.upd_core.specs.Entries.{same_entry}
 use Rattle.upd_diff.specs.RowChanges.{begins, entries_new, targets_new, grown, brought}
 use Rattle.upd_records.proofs.CountLemmas.{same_of, count_append, count_cons}
+use Rattle.upd_records.proofs.EqualLemmas.{same_entry_is}
 use Rattle.upd_records.proofs.EffectLemmas.{on_cards, on_entries, on_targets, all_acts, acts_append, acts_appending, Nothing, idle_acts}
 use Rattle.upd_diff.proofs.AllLemmas.{all_joined}
 use Rattle.upd_diff.proofs.KindLemmas.{entries_all, targets_all, grown_all}
@@ -143,24 +144,6 @@ entry_rows_append : (card : CardRef) (n m : ℕ) (es fs : List Entry) → m ≡ 
     ++ entry_rows card m fs
 entry_rows_append card n m [] fs e = let same : n ≡ m = omega arith in ap (λ k. entry_rows card k fs) same
 entry_rows_append card n m (x ∷ es) fs e = ap (λ t. record { card = card; ord = n; entry = x } ∷ t) (entry_rows_append card (n + 1) m es fs (omega arith))
-
-pub same_entry_is : (e f : Entry) → same_entry e f ≡ true → e ≡ f
-same_entry_is e f same = go e.active refl f.active refl
-  where
-    both : e.active ≡ f.active → e ≡ f
-    both p = let q = (Decides-eqb e.ident f.ident).0 (and_parts _ _ same).0 in λ i. record { ident = q i; active = p i }
-
-    go : (a : Bool) → e.active ≡ a → (b : Bool) → f.active ≡ b → e ≡ f
-    go true p true q = both (p ∙ sym q)
-    go false p false q = both (p ∙ sym q)
-    go true p false q = let t = (and_parts (e.ident == f.ident) _ same).1 in absurd (differ (rw (p, q) at t))
-      where
-        differ : false ≡ true → ⊥
-        differ e = cc
-    go false p true q = let t = (and_parts (e.ident == f.ident) _ same).1 in absurd (differ (rw (p, q) at t))
-      where
-        differ : false ≡ true → ⊥
-        differ e = cc
 
 pub begins_is : (es fs : List Entry) → begins es fs ≡ true → fs ≡ es ++ drop (length es) fs
 begins_is [] fs e = refl

@@ -1,10 +1,7 @@
 -- The rows that are deleted from the rows of all cards.
 use Rattle.std.proofs.Common.{◌≡◌, ℕ, ◌+◌, Bool, true, false, cond, List, [], ◌∷◌, ◌++◌, map, length, refl, ap, sym, ◌∙◌, append-nil}
-use Rattle.std.specs.Prelude.{not, ◌==◌, ◌&&◌, ◌||◌}
-use Rattle.std.specs.Str.{bytes_eq}
+use Rattle.std.specs.Prelude.{not, ◌==◌, ◌||◌}
 use Rattle.std.specs.List.{filter, flat_map, AllByRecursion}
-use Rattle.std.proofs.lemmas.Slice.Eq.{bytes_eq-Decides}
-use Rattle.std.proofs.lemmas.Bool.Decides.{Decides-eqb}
 use Rattle.std.proofs.lemmas.List.Elements.{filter-append}
 use Rattle.upd_text.specs.declared.card_ref.CardRef.{CardRef}
 use Rattle.upd_core.specs.declared.card.Entry.{Entry}
@@ -16,26 +13,8 @@ use Rattle.upd_records.specs.Rows.{CardRow, EntryRow, TargetRow, same_ref, card_
 use Rattle.upd_diff.specs.CardDiffs.{CardDiffView, DeckDiffView, Kept, Gone, New, card_before}
 use Rattle.upd_records.specs.Changes.{CardGone, EntriesGone, TargetsGone}
 use Rattle.upd_diff.specs.RowChanges.{begins, gone_of}
+use Rattle.upd_records.proofs.EqualLemmas.{other_ref, same_ref_own}
 use Rattle.upd_records.proofs.EffectLemmas.{on_cards, on_entries, on_targets, all_acts, is_in, without, without_none}
-
--- ---- references
-
-same_parts : (a b : CardRef) (x y : Bool) → (x ≡ true → a.name ≡ b.name) → (y ≡ true → a.number ≡ b.number) → (x && y) ≡ true → a ≡ b
-same_parts a b true y n m e = let p = n refl in let q = m e in λ i. record { name = p i; number = q i }
-same_parts a b false y n m e = absurd (cc)
-
-pub same_ref_is : (a b : CardRef) → same_ref a b ≡ true → a ≡ b
-same_ref_is a b e = same_parts a b (bytes_eq a.name b.name) (a.number == b.number) (bytes_eq-Decides a.name b.name).0 (Decides-eqb a.number b.number).0 e
-
-pub same_ref_own : (a : CardRef) → same_ref a a ≡ true
-same_ref_own a = rw ((bytes_eq-Decides a.name a.name).1 refl, (Decides-eqb a.number a.number).1 refl) refl
-
-pub other_ref : (a b : CardRef) → (a ≡ b → ⊥) → same_ref a b ≡ false
-other_ref a b differ = go (same_ref a b) refl
-  where
-    go : (x : Bool) → same_ref a b ≡ x → x ≡ false
-    go true e = absurd (differ (same_ref_is a b e))
-    go false e = refl
 
 -- ---- which cards are deleted, by a flag at each card diff
 

@@ -22,7 +22,7 @@ use Rattle.upd_diff.specs.RowChanges.{row_changes}
 use Rattle.upd_diff.proofs.AllLemmas.{all_joined}
 use Rattle.upd_records.proofs.EffectLemmas.{any_append}
 use Rattle.upd_diff.proofs.KindLemmas.{idents_all, gone_each, moves_each, brought_each}
-use Rattle.upd_diff.proofs.GoneLemmas.{same_ref_is, same_ref_own}
+use Rattle.upd_records.proofs.EqualLemmas.{same_ref_is, same_ref_own}
 use Rattle.upd_diff.proofs.RowChangeLemmas.{after_is, all_kept, before_is, card_diffs, flat_twice, stay}
 
 -- ---- tests of some

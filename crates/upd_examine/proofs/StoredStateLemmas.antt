@@ -12,7 +12,7 @@ use Rattle.upd_core.specs.Status.{status_of}
 use Rattle.upd_core.specs.TargetCounts.{live_count}
 use Rattle.upd_records.proofs.CountLemmas.{count_cons, same_filter, same_of}
 use Rattle.upd_records.specs.Rows.{IsSame, same_ref}
-use Rattle.upd_diff.proofs.GoneLemmas.{same_ref_is, same_ref_own}
+use Rattle.upd_records.proofs.EqualLemmas.{same_ref_is, same_ref_own}
 use Rattle.upd_yank.proofs.RefLemmas.{same_ref_sym}
 use Rattle.upd_yank.proofs.StateLemmas.{statuses_are, status_there}
 use Rattle.upd_yank.proofs.WholeLemmas.{refs_of_cards}

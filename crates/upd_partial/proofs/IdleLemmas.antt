@@ -34,7 +34,7 @@ use Rattle.upd_laws.proofs.SoundListLemmas.{all_filter}
 use Rattle.upd_laws.proofs.SoundRunLemmas.{run_goes, run_sound}
 use Rattle.upd_yank.proofs.FindLemmas.{cards_found}
 use Rattle.upd_yank.proofs.KeptLemmas.{same_name}
-use Rattle.upd_diff.proofs.GoneLemmas.{same_ref_is}
+use Rattle.upd_records.proofs.EqualLemmas.{same_ref_is}
 use Rattle.upd_yank.proofs.RenewLemmas.{all_passed}
 use Rattle.upd_yank.proofs.StateLemmas.{all_counted}
 use Rattle.upd_yank.specs.Affected.{affected, is_touched}

@@ -14,7 +14,7 @@ use Rattle.upd_core.specs.Sound.{IsSound}
 use Rattle.upd_core.proofs.ApartLemmas.{all_by_index}
 use Rattle.upd_core.proofs.FoundLemmas.{card_of_place}
 use Rattle.upd_records.specs.Rows.{same_ref}
-use Rattle.upd_diff.proofs.GoneLemmas.{same_ref_own}
+use Rattle.upd_records.proofs.EqualLemmas.{same_ref_own}
 use Rattle.upd_diff.proofs.StateLemmas.{any_of}
 use Rattle.upd_deck.specs.Items.{LineView}
 use Rattle.upd_row_store.specs.Asked.{decks_with, holds_one, is_asked}

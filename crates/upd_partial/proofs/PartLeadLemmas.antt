@@ -34,7 +34,7 @@ use Rattle.upd_apply.specs.Applying.{Reached, applied}
 use Rattle.upd_laws.proofs.SoundListLemmas.{all_both, all_flat, all_weaker}
 use Rattle.upd_laws.proofs.SoundRunLemmas.{run_goes, run_sound}
 use Rattle.upd_yank.proofs.FindLemmas.{cards_found}
-use Rattle.upd_diff.proofs.GoneLemmas.{same_ref_is}
+use Rattle.upd_records.proofs.EqualLemmas.{same_ref_is}
 use Rattle.upd_yank.proofs.RefLemmas.{same_ref_sym}
 use Rattle.upd_yank.proofs.RenewLemmas.{all_passed}
 use Rattle.upd_partial.specs.Needless.{DoesWithout, NamesNone, left_out}

@@ -14,7 +14,7 @@ use Rattle.upd_core.proofs.ApartLemmas.{all_at, at_contained, contained_at}
 use Rattle.upd_core.proofs.FoundLemmas.{place_at, status_at}
 use Rattle.upd_records.specs.Rows.{same_ref}
 use Rattle.upd_yank.proofs.FindLemmas.{any_at}
-use Rattle.upd_diff.proofs.GoneLemmas.{same_ref_is}
+use Rattle.upd_records.proofs.EqualLemmas.{same_ref_is}
 use Rattle.upd_yank.proofs.StateLemmas.{all_counted, status_there}
 use Rattle.upd_partial.proofs.NeedLemmas.{among, not_in}
 use Rattle.upd_partial.proofs.PartLemmas.{cards_same, kept_all, place_same}

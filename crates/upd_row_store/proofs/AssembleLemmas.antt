@@ -25,9 +25,8 @@ use Rattle.upd_core.specs.Entries.{same_entry}
 use Rattle.upd_core.specs.Library.{CardView, DeckView, LibraryView, all_decks, empty, held_named, name_of, ref_of}
 use Rattle.upd_core.specs.Sound.{AreRising, BeginsWithItsOwn, IsSound, all_cards}
 use Rattle.upd_core.specs.Targets.{is_same}
-use Rattle.upd_diff.proofs.ComeLemmas.{same_entry_is}
 use Rattle.upd_records.proofs.CountLemmas.{same_filter, same_of, same_trans}
-use Rattle.upd_diff.proofs.GoneLemmas.{same_ref_is, same_ref_own}
+use Rattle.upd_records.proofs.EqualLemmas.{same_entry_is, same_ref_is, same_ref_own}
 use Rattle.upd_records.specs.Rows.{CardRow, EntryRow, IsSame, TargetRow, card_rows, entry_rows, rows_of, same_ref, target_rows}
 use Rattle.upd_row_store.specs.Assembling.{AreByAge, AreEntriesByCard, AreByPlace, AreTargetsByCard, age_named, card_of_row, decks_from, decks_in, entries_of}
 use Rattle.upd_row_store.specs.Assembling.{library_of, targets_of}

@@ -20,7 +20,7 @@ use Rattle.upd_core.specs.Parts.{part_of}
 use Rattle.upd_core.specs.Sound.{AreApart, BeginsOn, BeginsWithItsOwn, HasNoTargets, IsOfHeld, IsSound, IsWhole, all_cards, is_held_deck, key_of}
 use Rattle.upd_records.proofs.CountLemmas.{count_cons, count_map, same_filter, same_of, same_trans}
 use Rattle.upd_records.proofs.EffectLemmas.{any_append}
-use Rattle.upd_diff.proofs.GoneLemmas.{other_ref, same_ref_is, same_ref_own}
+use Rattle.upd_records.proofs.EqualLemmas.{other_ref, same_ref_is, same_ref_own}
 use Rattle.upd_records.specs.Rows.{CardRow, EntryRow, IsSame, Rows, Shows, TargetRow, card_rows, entry_rows, rows_of, same_ref, target_rows}
 use Rattle.upd_records.specs.declared.rows.LibraryRows.{LibraryRows}
 use Rattle.upd_row_store.specs.Assembling.{AreRowsOf}

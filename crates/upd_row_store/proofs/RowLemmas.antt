@@ -17,7 +17,7 @@ use Rattle.upd_text.specs.declared.card_ref.CardRef.{CardRef}
 use Rattle.upd_core.specs.declared.card.Entry.{Entry}
 use Rattle.upd_core.specs.declared.target.Target.{Target}
 use Rattle.upd_core.specs.Sound.{AreApart}
-use Rattle.upd_diff.proofs.GoneLemmas.{other_ref, same_ref_own}
+use Rattle.upd_records.proofs.EqualLemmas.{other_ref, same_ref_own}
 use Rattle.upd_records.specs.Rows.{EntryRow, TargetRow, entry_rows, same_ref, target_rows}
 use Rattle.upd_row_store.proofs.SortLemmas.{IsRising, found_between, parted_behind}
 

@@ -16,7 +16,7 @@ use Rattle.upd_records.specs.Changes.{StatusNow, CountNow, done, done_all, with_
 use Rattle.upd_records.proofs.StatusLemmas.{status_set}
 use Rattle.upd_records.specs.Rows.{CountRow, Rows, StateRow, count_rows, same_ref, state_rows}
 use Rattle.upd_diff.proofs.StateLemmas.{filter_gone, filter_kept, states_gone, states_kept}
-use Rattle.upd_diff.proofs.GoneLemmas.{same_ref_is}
+use Rattle.upd_records.proofs.EqualLemmas.{same_ref_is}
 
 -- ---- changes that set statuses and counts of a library
 

@@ -21,8 +21,7 @@ use Rattle.upd_apply.specs.Applying.{same_history, stood_in, touched}
 use Rattle.upd_records.specs.Rows.{same_ref}
 use Rattle.upd_yank.proofs.FindLemmas.{any_at, cards_found}
 use Rattle.upd_yank.proofs.FlipLemmas.{status_is}
-use Rattle.upd_diff.proofs.ComeLemmas.{same_entry_is}
-use Rattle.upd_diff.proofs.GoneLemmas.{same_ref_own}
+use Rattle.upd_records.proofs.EqualLemmas.{same_entry_is, same_ref_own}
 use Rattle.upd_yank.specs.Affected.{is_touched, status_before}
 use Rattle.upd_yank.specs.Cascade.{is_active_by}
 

@@ -11,7 +11,7 @@ use Rattle.upd_text.proofs.OrderLemmas.{is_same-is_eq}
 use Rattle.upd_text.specs.contracts.card_ref.CardRefOrd.TheImpl as order
 use Rattle.upd_text.specs.declared.card_ref.CardRef.{CardRef}
 use Rattle.upd_records.specs.Rows.{same_ref}
-use Rattle.upd_diff.proofs.GoneLemmas.{same_ref_is, same_ref_own}
+use Rattle.upd_records.proofs.EqualLemmas.{same_ref_is, same_ref_own}
 use Rattle.upd_yank.specs.Right.{kept_status}
 
 pub same_ref_sym : (a b : CardRef) → same_ref a b ≡ same_ref b a

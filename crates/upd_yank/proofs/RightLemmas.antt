@@ -5,7 +5,7 @@ use Rattle.std.specs.List.{list_any, filter, AllByRecursion}
 use Rattle.std.specs.Map.{update_all}
 use Rattle.std.proofs.lemmas.Bool.{or_parts}
 use Rattle.upd_core.proofs.ApartLemmas.{all_by_index}
-use Rattle.upd_diff.proofs.GoneLemmas.{same_ref_own}
+use Rattle.upd_records.proofs.EqualLemmas.{same_ref_own}
 use Rattle.upd_core.specs.Counted.{CountedCardView, counted_card, counted_cards, others_of, yanks_of}
 use Rattle.upd_core.specs.declared.target.Target.{Target}
 use Rattle.upd_core.specs.Library.{LibraryView}

@@ -9,7 +9,7 @@ use Rattle.upd_core.specs.declared.target.Target.{Target}
 use Rattle.upd_core.specs.Targets.{is_same}
 use Rattle.upd_records.specs.Rows.{same_ref}
 use Rattle.upd_text.specs.declared.card_ref.CardRef.{CardRef}
-use Rattle.upd_diff.proofs.GoneLemmas.{same_ref_own}
+use Rattle.upd_records.proofs.EqualLemmas.{same_ref_own}
 use Rattle.upd_yank.proofs.RefLemmas.{same_ref_sym}
 use Rattle.upd_yank.specs.Right.{count_pairs, put_counts, status_pairs}
 

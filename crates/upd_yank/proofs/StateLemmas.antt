@@ -20,7 +20,7 @@ use Rattle.upd_records.specs.Rows.{same_ref}
 use Rattle.upd_text.specs.declared.card_ref.CardRef.{CardRef}
 use Rattle.upd_yank.proofs.FlipLemmas.{status_is}
 use Rattle.upd_yank.proofs.FindLemmas.{any_at, cards_found}
-use Rattle.upd_diff.proofs.GoneLemmas.{same_ref_is, same_ref_own}
+use Rattle.upd_records.proofs.EqualLemmas.{same_ref_is, same_ref_own}
 use Rattle.upd_yank.proofs.WorkLemmas.{HasStatus, IsListed, all_both, is_found}
 use Rattle.upd_yank.specs.Cascade.{is_active_by, stay}
 

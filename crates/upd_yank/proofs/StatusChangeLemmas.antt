@@ -18,7 +18,7 @@ use Rattle.upd_records.specs.Changes.{StatusNow, CountNow, done_all}
 use Rattle.upd_records.specs.Rows.{Rows, ShowsStates, count_rows, same_ref, state_rows}
 use Rattle.upd_diff.specs.States.{TakeGone, takes_card}
 use Rattle.upd_diff.proofs.StateLemmas.{counts_after, state_after}
-use Rattle.upd_diff.proofs.GoneLemmas.{same_ref_is, same_ref_own}
+use Rattle.upd_records.proofs.EqualLemmas.{same_ref_is, same_ref_own}
 use Rattle.upd_yank.proofs.UnflippedLemmas.{is_listed, unlisted}
 use Rattle.upd_yank.proofs.WorkLemmas.{all_both, is_found}
 use Rattle.upd_yank.specs.Affected.{is_other}

@@ -13,7 +13,7 @@ use Rattle.upd_core.specs.Sound.{AreApart, IsSound, all_cards}
 use Rattle.upd_core.specs.Status.{status_of}
 use Rattle.upd_core.specs.TargetCounts.{live_count}
 use Rattle.upd_records.specs.Rows.{same_ref}
-use Rattle.upd_diff.proofs.GoneLemmas.{same_ref_is}
+use Rattle.upd_records.proofs.EqualLemmas.{same_ref_is}
 use Rattle.upd_yank.proofs.StateLemmas.{HadStatus, put_all, statuses_are, unfound_stayed}
 use Rattle.upd_yank.proofs.WorkLemmas.{HasStatus, IsListed, all_map}
 use Rattle.upd_yank.specs.Cascade.{is_active_by}

@@ -17,7 +17,7 @@ use Rattle.upd_core.specs.Targets.{is_same}
 use Rattle.upd_records.specs.Rows.{same_ref}
 use Rattle.upd_text.specs.declared.card_ref.CardRef.{CardRef}
 use Rattle.upd_yank.proofs.FlipLemmas.{same_stays}
-use Rattle.upd_diff.proofs.GoneLemmas.{same_ref_own}
+use Rattle.upd_records.proofs.EqualLemmas.{same_ref_own}
 use Rattle.upd_yank.proofs.SettleLemmas.{count_behind, settled_is}
 use Rattle.upd_yank.specs.Cascade.{AreYanks, IsRightBefore, TakesNoYanks, found_of, found_others, found_yanks, is_active_by, is_due, is_taken_by, live_now, views}
 
