@@ -141,14 +141,21 @@ fn cards_that_move_by_their_keys_answer_as_the_tables(rt: HostRuntime) -> Result
     holds(("accepted runs", accepted), accepted > 30)
 }
 
-/// Both stores have read as many decks after some runs, of which the last two are answered from memory.
+/// Runs of which the last two are answered from memory.
+const IN_MEMORY: [&str; 4] = [
+    DECKS,
+    "*IDENT X\n*INSERT P0.1\nNEW\n",
+    "*IDENT Y\n*DELETE P1.1\n",
+    "*IDENT Z\n*INSERT X.1\nMORE\n",
+];
+
+/// Both stores have read as many decks after these runs.
 #[test]
 fn decks_in_memory_count_as_read(rt: HostRuntime) -> Result<(), Fail> {
     let mut pair = Pair::<ListStore>::new(rt.alloc())?;
-    pair.run(1, DECKS)?;
-    pair.run(2, "*IDENT X\n*INSERT P0.1\nNEW\n")?;
-    pair.run(3, "*IDENT Y\n*DELETE P1.1\n")?;
-    pair.run(4, "*IDENT Z\n*INSERT X.1\nMORE\n")?;
+    for (number, text) in (1..).zip(IN_MEMORY) {
+        pair.run(number, text)?;
+    }
     let (mirrored, plain) = (pair.mirrored.close(), pair.plain.close());
     holds("there are rows in memory", mirrored.has_rows())?;
     same("decks read", mirrored.decks_read(), plain.decks_read())

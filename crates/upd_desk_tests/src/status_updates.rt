@@ -44,15 +44,26 @@ fn settle(cache: &mut Cache, library: &Library, done: &Applied, lines: u32) -> R
     )
 }
 
+/// A run of this number of deletions, with a status update after it if `settles`.
+fn delete_and_settle(
+    library: &mut Library,
+    cache: &mut Cache,
+    (set, lines): (u32, u32),
+    settles: bool,
+) -> Result<(), Fail> {
+    let done = delete(library, set, lines)?;
+    if settles {
+        return settle(cache, library, &done, lines);
+    }
+    Ok(())
+}
+
 /// Runs of this number of deletions on 48,000 cards, with a status update after each if `settles`.
 fn settled(alloc: Global, runs: u32, lines: u32, settles: bool) -> Result<(), Fail> {
     let mut library = with_decks(alloc, 24)?;
     let mut cache = Cache::build(alloc, &library)?;
     for set in 0..runs {
-        let done = delete(&mut library, set, lines)?;
-        if settles {
-            settle(&mut cache, &library, &done, lines)?;
-        }
+        delete_and_settle(&mut library, &mut cache, (set, lines), settles)?;
     }
     Ok(())
 }
@@ -116,6 +127,10 @@ fn copied(alloc: Global, copies: u32) -> Result<(), Fail> {
     let library = with_decks(alloc, 24)?;
     let statuses = statuses_of(alloc, &library)?;
     same("the statuses", statuses.len(), 48_000)?;
+    are_copied(&statuses, copies)
+}
+
+fn are_copied(statuses: &Statuses, copies: u32) -> Result<(), Fail> {
     for _ in 0..copies {
         let copy = statuses.clone()?;
         same("a copy", copy.len(), 48_000)?;
@@ -169,9 +184,13 @@ fn turn_is_settled(cache: &mut Cache, library: &mut Library, turn: u32) -> Resul
 fn chain(alloc: Global, turns: u32) -> Result<(), Fail> {
     let mut library = yanked(alloc)?;
     let mut cache = Cache::build(alloc, &library)?;
-    same("before the turns", first_line(&cache)?, Some(false))?;
+    turns_are_settled(&mut cache, &mut library, turns)
+}
+
+fn turns_are_settled(cache: &mut Cache, library: &mut Library, turns: u32) -> Result<(), Fail> {
+    same("before the turns", first_line(cache)?, Some(false))?;
     for turn in 0..turns {
-        turn_is_settled(&mut cache, &mut library, turn)?;
+        turn_is_settled(cache, library, turn)?;
     }
     Ok(())
 }

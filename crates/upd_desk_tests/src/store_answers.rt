@@ -39,7 +39,7 @@ fn random_card(alloc: Global, dice: &mut Dice) -> Result<CardRef, Fail> {
 }
 
 /// What a library holds: how it finds its cards is left out.
-fn shown(alloc: Global, library: &Library) -> Result<String, Fail> {
+fn shown(alloc: Global, library: Library) -> Result<String, Fail> {
     let (idents, decks) = (library.idents(), library.decks());
     let (yanks, rest) = (library.yanks(), library.rest());
     Ok(format!(in alloc; "{idents:?} {decks:?} {yanks:?} {rest:?}")?)
@@ -51,8 +51,8 @@ fn libraries<S: RowStore>(
     store: &mut S,
     questions: &Questions,
 ) -> Result<String, Fail> {
-    let whole = shown(alloc, &store.load(alloc)?)?;
-    let part = shown(alloc, &store.load_decks(alloc, &questions.ages)?)?;
+    let whole = shown(alloc, store.load(alloc)?)?;
+    let part = shown(alloc, store.load_decks(alloc, &questions.ages)?)?;
     Ok(format!(in alloc; "{whole}\n{part}")?)
 }
 

@@ -1,5 +1,4 @@
-//! Tests of whole command lines, over memory and on a library in a file, which is made in the folder of temporary files;
-//! and each public call of stores, the desk, its wire and the program once, by its path (`surface_desk`, `surface_wire`).
+//! Tests of whole command lines, over memory and on a library in a file, which is made in the folder of temporary files.
 //!
 //! Expected values are worked by hand from `docs/protocol.md`.
 #![tactic(auto)]
@@ -24,9 +23,3 @@ mod refusals;
 mod served_address;
 #[cfg(test)]
 mod site_commands;
-#[cfg(test)]
-mod surface_desk;
-#[cfg(test)]
-mod surface_wire;
-#[cfg(test)]
-mod written_store;

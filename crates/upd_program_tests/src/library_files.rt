@@ -3,12 +3,13 @@ use crate::console::{accepts, answers, fresh, library, remove};
 use crate::file_changes::{change_log, close, connected};
 use crate::refusals::all_answer;
 use crate::site_commands::make_second;
-use sqlite::{Connection, FileStore};
-use sqlite_disk::Disk;
+use sqlite::{Connection, FileStore, Start};
+use sqlite_disk::{Disk, Unknown};
 use std::fs;
 use std::net::TcpListener;
 use std::test::Fail;
-use upd_testkit::check::holds;
+use upd_store::SqlStore;
+use upd_testkit::check::{holds, same};
 
 const ONE_DECK: &str = "1 A deck held\n";
 
@@ -150,4 +151,17 @@ fn a_library_is_made_in_an_empty_file(rt: HostRuntime) -> Result<(), Fail> {
     answers(&rt, &["init", &file], b"", (0, "", ""))?;
     answers(&rt, &["idents", &file], b"", (0, "", ""))?;
     remove(&rt, &file)
+}
+
+fn is_opened<S: Start>(rt: &HostRuntime, path: &str, start: S) -> bool {
+    SqlStore::open(rt, path, true, start).is_ok()
+}
+
+/// No library is opened at a path without a file, and none is made.
+#[test]
+fn a_missing_file_is_not_opened(rt: HostRuntime) -> Result<(), Fail> {
+    let path = fresh(&rt, "surface")?;
+    let is_opened = is_opened(&rt, path.as_str(), Unknown);
+    let is_made = fs::exists(&rt, path.as_str())?;
+    same("opened, made", (is_opened, is_made), (false, false))
 }

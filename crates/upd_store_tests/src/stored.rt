@@ -20,7 +20,8 @@ const REPLACED: &str = "*IDENT X\n*DELETE A.2\nNEW\n";
 
 const YANKED: &str = "*IDENT Y\n*YANK X\n";
 
-fn made(alloc: Global) -> Result<SqlStore<MemStore>, Fail> {
+/// A new library in memory.
+pub fn made(alloc: Global) -> Result<SqlStore<MemStore>, Fail> {
     initialized(Connection::open_in_memory(alloc)?)
 }
 

@@ -146,10 +146,8 @@ fn runs_agree(alloc: Global, library: &Library, text: &[u8]) -> Result<(), Fail>
 
 #[test]
 fn random_edits_give_the_run_that_the_library_gives(rt: HostRuntime) -> Result<(), Fail> {
-    let alloc = rt.alloc();
-    let mut dice = Dice(11);
     let library = after(
-        alloc,
+        rt.alloc(),
         &[
             "*DECK B\nELSE\n*DECK A\nA\nB\nC\nD\nE\nF\nG\nH\n",
             "*IDENT X\n*INSERT A.4\nXA\nXB\n*DELETE A.6,A.7\n*INSERT B.2\nXC\n",
@@ -157,10 +155,15 @@ fn random_edits_give_the_run_that_the_library_gives(rt: HostRuntime) -> Result<(
             "*IDENT V\n*YANK X\n",
         ],
     )?;
-    let text = active_text(alloc, &library, &name("A")?).map_err(|_| "no text")?;
+    random_runs_agree(rt.alloc(), &library, &mut Dice(11))
+}
+
+/// The runs of random edits of deck A agree.
+fn random_runs_agree(alloc: Global, library: &Library, dice: &mut Dice) -> Result<(), Fail> {
+    let text = active_text(alloc, library, &name("A")?).map_err(|_| "no text")?;
     for _ in 0..60 {
-        let edited = changed_text(alloc, &text, &mut dice)?;
-        runs_agree(alloc, &library, &edited)?;
+        let edited = changed_text(alloc, &text, dice)?;
+        runs_agree(alloc, library, &edited)?;
     }
     Ok(())
 }

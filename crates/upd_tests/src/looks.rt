@@ -40,15 +40,22 @@ const REPORT: &str = "IDENT X set\nYANKED Y.1 set X\nDECK A\noff A.2 ONE\nI X.1 
 #[test]
 fn a_set_shows_what_it_did(rt: HostRuntime) -> Result<(), Fail> {
     let library = yanked(rt.alloc())?;
-    let text = show(rt.alloc(), &library, &name("X")?)?;
+    is_shown(rt.alloc(), &library)
+}
+
+fn is_shown(alloc: Global, library: &Library) -> Result<(), Fail> {
+    let text = show(alloc, library, &name("X")?)?;
     same_text("the report", std::str::from_utf8(&text)?, REPORT)
 }
 
 #[test]
 fn a_page_has_the_texts_of_cards_escaped(rt: HostRuntime) -> Result<(), Fail> {
     let library = yanked(rt.alloc())?;
-    let html = page(rt.alloc(), &library)?;
-    let text = std::str::from_utf8(&html)?;
+    is_escaped(&page(rt.alloc(), &library)?)
+}
+
+fn is_escaped(html: &[u8]) -> Result<(), Fail> {
+    let text = std::str::from_utf8(html)?;
     holds("an escaped text", text.contains("A&lt;B &amp; &#39;C&#39;"))?;
     holds("no plain text", !text.contains("A<B"))
 }

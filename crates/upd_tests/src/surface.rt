@@ -105,15 +105,13 @@ fn numbers(alloc: Global, changes: &[Change]) -> Result<Vec<u32>, Fail> {
 #[test]
 fn a_run_lists_what_it_did(rt: HostRuntime) -> Result<(), Fail> {
     let mut library = after(rt.alloc(), &[DECK])?;
-    let Applied {
-        idents,
-        compile,
-        touched,
-        changes,
-    } = applied(&mut library, SET)?;
-    let sizes = (idents.as_slice(), compile.len(), touched.len());
+    is_listed(rt.alloc(), &applied(&mut library, SET)?)
+}
+
+fn is_listed(alloc: Global, run: &Applied) -> Result<(), Fail> {
+    let sizes = (run.idents.as_slice(), run.compile.len(), run.touched.len());
     same("idents, decks, cards", sizes, ([2].as_slice(), 0, 2))?;
-    let found = numbers(rt.alloc(), &changes)?;
+    let found = numbers(alloc, &run.changes)?;
     same("changes", found.as_slice(), [1, 3, 6, 6].as_slice())
 }
 
@@ -131,7 +129,11 @@ fn parts<'a>(line: &Line<'a>) -> (u32, usize, usize, &'a [u8]) {
 #[test]
 fn a_run_has_lines(rt: HostRuntime) -> Result<(), Fail> {
     let run: Run<'_> = read_run(rt.alloc(), DECK.as_bytes())?;
-    let [first, second] = run.lines() else {
+    are_its_lines(run.lines())
+}
+
+fn are_its_lines(lines: &[Line<'_>]) -> Result<(), Fail> {
+    let [first, second] = lines else {
         return Err("not two lines".into());
     };
     same("a line", parts(first), (1, 0, 7, b"*DECK A".as_slice()))?;

@@ -83,6 +83,11 @@ fn a_spool_cut_in_a_run_is_sent_again(rt: HostRuntime) -> Result<(), Fail> {
         (text.as_bytes(), answers.as_bytes(), whole),
         (text.as_bytes(), answers.as_bytes(), whole),
     ];
+    all_come_out(alloc, sent)
+}
+
+/// Spools come out so, one after the other, read at once and byte by byte.
+fn all_come_out(alloc: Global, sent: [(&[u8], &[u8], &str); 3]) -> Result<(), Fail> {
     let (mut at_once, mut in_bytes) = (desk(alloc), desk(alloc));
     for (text, answers, end) in sent {
         comes_out(alloc, &mut at_once, text, answers, end)?;

@@ -1,13 +1,11 @@
-//! Each public call of stores, the desk, its wire and the program once, by its path, with an answer worked by hand.
-use crate::console::fresh;
+//! Each public call of stores, the desk and its wire once, by its path, with an answer worked by hand.
+use crate::committing::adopted;
+use crate::stored::made;
 use crate::written_store::WrittenStore;
-use sqlite::{Connection, MemStore, Start};
-use sqlite_disk::Unknown;
+use sqlite::MemStore;
 use std::alloc::Global;
-use std::fs;
 use std::test::Fail;
-use upd_cli::{run_command, trial};
-use upd_compile::{CompileFile, Mode};
+use upd_compile::CompileFile;
 use upd_core::Library;
 use upd_desk::{Arrival, Desk, Reply};
 use upd_migrate::migrate;
@@ -98,20 +96,6 @@ fn a_store_written_to_the_list_of_calls_answers(rt: HostRuntime) -> Result<(), F
     answers(rt.alloc(), &mut WrittenStore::new(rt.alloc()))
 }
 
-fn made(alloc: Global) -> Result<SqlStore<MemStore>, Fail> {
-    match SqlStore::init(Connection::open_in_memory(alloc)?) {
-        Ok(store) => Ok(store),
-        Err((fault, _)) => Err(fault.into()),
-    }
-}
-
-fn adopted(conn: Connection<MemStore>) -> Result<SqlStore<MemStore>, Fail> {
-    match SqlStore::adopt(conn) {
-        Ok(store) => Ok(store),
-        Err((fault, _)) => Err(fault.into()),
-    }
-}
-
 #[test]
 fn a_store_over_sqlite_answers(rt: HostRuntime) -> Result<(), Fail> {
     answers(
@@ -122,25 +106,12 @@ fn a_store_over_sqlite_answers(rt: HostRuntime) -> Result<(), Fail> {
 
 #[test]
 fn rows_of_a_connection_are_loaded_and_migrated(rt: HostRuntime) -> Result<(), Fail> {
-    let mut store = made(rt.alloc())?;
+    let mut store: SqlStore<MemStore> = made(rt.alloc())?;
     commit_deck(rt.alloc(), &mut store)?;
     let mut conn = store.into_connection();
     migrate(rt.alloc(), &mut conn)?;
     let library: Library = load_rows(rt.alloc(), &mut conn)?;
     same("cards", library.cards_of(1).len(), 2)
-}
-
-fn is_opened<S: Start>(rt: &HostRuntime, path: &str, start: S) -> bool {
-    SqlStore::open(rt, path, true, start).is_ok()
-}
-
-/// No library is opened at a path without a file, and none is made.
-#[test]
-fn a_missing_file_is_not_opened(rt: HostRuntime) -> Result<(), Fail> {
-    let path = fresh(&rt, "surface")?;
-    let is_opened = is_opened(&rt, path.as_str(), Unknown);
-    let is_made = fs::exists(&rt, path.as_str())?;
-    same("opened, made", (is_opened, is_made), (false, false))
 }
 
 /// A desk over lists with deck A.
@@ -203,7 +174,7 @@ const EMPTY: Arrival<'static> = Arrival {
 
 #[test]
 fn a_list_of_runs_is_answered(rt: HostRuntime) -> Result<(), Fail> {
-    let mut desk = Desk::open(made(rt.alloc())?);
+    let mut desk = Desk::open(ListStore::new(rt.alloc()));
     let answers = desk.run_all(rt.alloc(), &[EMPTY, EMPTY])?;
     let mut accepted: u32 = 0;
     for answer in &answers {
@@ -230,15 +201,4 @@ fn a_request_and_a_spool_are_answered(rt: HostRuntime) -> Result<(), Fail> {
     let mut output = Vec::new(rt.alloc());
     let frames = spool(rt.alloc(), &mut frames, &mut output, &mut desk)?;
     same("frames", frames, 1)
-}
-
-#[test]
-fn a_trial_is_a_call_and_a_command(rt: HostRuntime) -> Result<(), Fail> {
-    is_line(&trial(rt.alloc(), Mode::Full, DECK.as_bytes())?)?;
-    let (mut output, mut faults) = (Vec::new(rt.alloc()), Vec::new(rt.alloc()));
-    let words = ["upd", "trial", "full"];
-    let mut input = DECK.as_bytes();
-    let status: u8 = run_command(&rt, &words, &mut input, &mut output, &mut faults);
-    same("the status, faults", (status, faults.len()), (0, 0))?;
-    same_text("the output", std::str::from_utf8(&output)?, LINE)
 }
