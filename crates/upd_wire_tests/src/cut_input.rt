@@ -1,13 +1,12 @@
 //! Input that is cut, garbled, or can't be read or answered to its end, and runs whose compile files have no end.
-use crate::http_desk::{QUICK, QUICK_ANSWER};
+use crate::http_desk::{QUICK, QUICK_ANSWER, expect};
+use crate::list_desks::{Lists, empty_desk, has_stored};
+use crate::spool_streams::ANSWER_ENDS;
 use std::alloc::Global;
 use std::io::ErrorKind;
 use std::test::Fail;
 use upd_deck::read_run;
-use upd_desk::Desk;
 use upd_http::serve_one;
-use upd_list_store::ListStore;
-use upd_row_store::RowStore;
 use upd_spool::spool;
 use upd_testkit::check::{holds, same};
 use upd_testkit::fake_streams::{Narrow, Pieces};
@@ -17,7 +16,7 @@ use upd_text::{Fault, FaultKind};
 const RUN: &str = "*ID X cleanup\n*D A.2 , A.3 old lines\n*/ note\nNEW\n*FOO\n";
 
 /// The fronts of the run that are refused: the least and the most bytes, and the refusal.
-const REFUSED_FRONTS: [(usize, usize, &str); 5] = [
+const REFUSED_FRONTS: &[(usize, usize, &str)] = &[
     (2, 4, "BadField (7) at 1"),
     (16, 17, "BadField (7) at 2"),
     (18, 19, "BadCard (6) at 2"),
@@ -33,20 +32,33 @@ fn read(alloc: Global, text: &[u8]) -> Result<String, Fail> {
     }
 }
 
-/// How a front of the run is to be read. A comment is no line.
-fn wanted_of_front(alloc: Global, front: &str) -> Result<String, Fail> {
+/// The refusal of a front of the run with this length, if it is refused.
+fn refusal_of(length: usize) -> Option<&'static str> {
     for (least, most, refusal) in REFUSED_FRONTS {
-        if least <= front.len() && front.len() <= most {
-            return Ok(String::from_str(alloc, refusal)?);
+        if *least <= length && length <= *most {
+            return Some(*refusal);
         }
     }
+    None
+}
+
+/// The number of lines of a front of the run. A comment is no line.
+fn lines_of(front: &str) -> usize {
     let mut lines: usize = 0;
     for line in front.split('\n') {
         if !line.is_empty() && !line.starts_with("*/") {
             lines = lines.saturating_add(1);
         }
     }
-    Ok(format!(in alloc; "{lines} lines")?)
+    lines
+}
+
+/// How a front of the run is to be read.
+fn wanted_of_front(alloc: Global, front: &str) -> Result<String, Fail> {
+    match refusal_of(front.len()) {
+        Some(refusal) => Ok(String::from_str(alloc, refusal)?),
+        None => Ok(format!(in alloc; "{} lines", lines_of(front))?),
+    }
 }
 
 /// A front of the run is read as it is to be.
@@ -94,9 +106,6 @@ fn a_zero_byte_is_refused_at_its_line(rt: HostRuntime) -> Result<(), Fail> {
     same("the lines", &line, &6)
 }
 
-/// Where the answers to each of the frames end.
-const ANSWER_ENDS: [usize; 4] = [0, 389, 482, 773];
-
 /// The worked spool, whose answers end where they should, and its answers.
 fn worked_spool(alloc: Global) -> Result<(String, String), Fail> {
     let (text, answers) = worked(alloc)?;
@@ -117,8 +126,10 @@ fn whole_frames(bytes: usize) -> u32 {
 
 /// The answers to the first `frames` frames.
 fn answers_of(answers: &[u8], frames: u32) -> Result<&[u8], Fail> {
-    let end = ANSWER_ENDS.get(frames as usize).ok_or("no such frame")?;
-    Ok(answers.get(..*end).ok_or("no such answer")?)
+    match ANSWER_ENDS.get(frames as usize) {
+        Some(end) => Ok(answers.get(..*end).ok_or("no such answer")?),
+        None => Err("no such frame".into()),
+    }
 }
 
 /// The end that is expected of the first `bytes` bytes of the spool.
@@ -136,57 +147,43 @@ fn wanted_end(bytes: usize) -> Result<u32, Fault> {
     }
 }
 
-/// The stored runs are those of the first `frames` frames.
-fn stores(alloc: Global, desk: Desk<ListStore>, frames: u32) -> Result<Desk<ListStore>, Fail> {
-    let mut store = desk.close();
-    for number in 1..=3_u32 {
-        let kept = store.kept_run(alloc, "LYON", u64::from(number))?;
-        same(
-            "a run",
-            (number, kept.is_some()),
-            (number, number <= frames),
-        )?;
-    }
-    Ok(Desk::open(store))
-}
-
-/// A front of the spool ends as it is to, with these answers.
-fn ends(front: &[u8], ended: Result<u32, Fault>, found: &[u8], wanted: &[u8]) -> Result<(), Fail> {
-    same(front.len(), ended, wanted_end(front.len()))?;
-    same("the answers", found, wanted)
-}
-
-/// A front of the spool is read byte by byte: the desk, which has stored its runs.
-fn byte_by_byte(alloc: Global, front: &[u8], wanted: &[u8]) -> Result<Desk<ListStore>, Fail> {
-    let mut desk = Desk::open(ListStore::new(alloc));
+/// A spool has this end and these answers, and the runs of its whole frames are stored.
+fn is_read(
+    alloc: Global,
+    desk: &mut Lists,
+    mut input: Pieces<'_>,
+    (whole, end): (u32, Result<u32, Fault>),
+    wanted: &[u8],
+) -> Result<(), Fail> {
     let mut output = Vec::new(alloc);
-    let ended = spool(alloc, &mut Pieces::new(front, 1), &mut output, &mut desk);
-    ends(front, ended, &output, wanted)?;
-    stores(alloc, desk, whole_frames(front.len()))
+    let ended = spool(alloc, &mut input, &mut output, desk);
+    same(input.reads, (ended, output.as_slice()), (end, wanted))?;
+    has_stored(alloc, desk, whole)
 }
 
 /// A front of the spool is read all at once, and answered byte by byte.
-fn all_at_once(
-    alloc: Global,
-    front: &[u8],
-    wanted: &[u8],
-    mut desk: Desk<ListStore>,
-) -> Result<(), Fail> {
+fn all_at_once(alloc: Global, desk: &mut Lists, front: &[u8], wanted: &[u8]) -> Result<(), Fail> {
     let mut output = Narrow::new(alloc, ANSWER_ENDS[3]);
     let mut rest = front;
-    let ended = spool(alloc, &mut rest, &mut output, &mut desk);
-    ends(front, ended, &output.taken, wanted)?;
-    stores(alloc, desk, whole_frames(front.len()))?;
-    Ok(())
+    let ended = spool(alloc, &mut rest, &mut output, desk);
+    let found = (ended, output.taken.as_slice());
+    same(front.len(), found, (wanted_end(front.len()), wanted))?;
+    has_stored(alloc, desk, whole_frames(front.len()))
 }
 
 /// A front of the spool is answered byte by byte, then all at once where its runs are repeats, and where they are not.
-fn front_is_answered(alloc: Global, front: &[u8], answers: &[u8]) -> Result<(), Fail> {
-    let wanted = answers_of(answers, whole_frames(front.len()))?;
-    let desk = byte_by_byte(alloc, front, wanted)?;
-    all_at_once(alloc, front, wanted, desk)?;
-    let empty = Desk::open(ListStore::new(alloc));
-    all_at_once(alloc, front, wanted, empty)
+fn front_is_answered(
+    alloc: Global,
+    desk: &mut Lists,
+    front: &[u8],
+    answers: &[u8],
+) -> Result<(), Fail> {
+    let whole = whole_frames(front.len());
+    let wanted = answers_of(answers, whole)?;
+    let end = wanted_end(front.len());
+    is_read(alloc, desk, Pieces::new(front, 1), (whole, end), wanted)?;
+    all_at_once(alloc, desk, front, wanted)?;
+    all_at_once(alloc, &mut empty_desk(alloc), front, wanted)
 }
 
 /// All at once and byte by byte, the same comes out; so it does where the runs are repeats.
@@ -195,32 +192,37 @@ fn each_front_of_a_spool_answers_its_whole_frames(rt: HostRuntime) -> Result<(),
     let alloc = rt.alloc();
     let (text, answers) = worked_spool(alloc)?;
     for length in 0..=text.len() {
-        front_is_answered(alloc, &text.as_bytes()[..length], answers.as_bytes())?;
+        let front = &text.as_bytes()[..length];
+        front_is_answered(alloc, &mut empty_desk(alloc), front, answers.as_bytes())?;
     }
     Ok(())
 }
 
-/// A spool whose read of this number fails, after `whole` whole frames: the desk, which has stored their runs.
+/// Where read number `fails_at` fails, the answers of the frames before are out, and only their runs are stored. The
+/// spool, sent again, is answered.
 fn read_fails(
     alloc: Global,
-    (text, fails_at, kind): (&[u8], usize, ErrorKind),
-    whole: u32,
-    wanted: &[u8],
-) -> Result<Desk<ListStore>, Fail> {
-    let mut input = Pieces::failing(text, 1, fails_at, kind);
-    let mut desk = Desk::open(ListStore::new(alloc));
-    let mut output = Vec::new(alloc);
-    let ended = spool(alloc, &mut input, &mut output, &mut desk);
+    desk: &mut Lists,
+    (text, answers): (&[u8], &[u8]),
+    (fails_at, kind): (usize, ErrorKind),
+) -> Result<(), Fail> {
+    let whole = whole_frames(fails_at.saturating_sub(1));
     let fault = Fault {
         kind: FaultKind::Read,
         at: whole.saturating_add(1),
     };
-    same("the end", (fails_at, ended), (fails_at, Err(fault)))?;
-    same("the answers", output.as_slice(), wanted)?;
-    stores(alloc, desk, whole)
+    let input = Pieces::failing(text, 1, fails_at, kind);
+    is_read(
+        alloc,
+        desk,
+        input,
+        (whole, Err(fault)),
+        answers_of(answers, whole)?,
+    )?;
+    all_at_once(alloc, desk, text, answers)
 }
 
-/// The answers of the frames before are out, and only their runs are stored. The spool, sent again, is answered.
+/// Each read of the spool fails in this way.
 fn each_read_fails(
     alloc: Global,
     text: &[u8],
@@ -228,10 +230,12 @@ fn each_read_fails(
     kind: ErrorKind,
 ) -> Result<(), Fail> {
     for fails_at in 1..=text.len().saturating_add(1) {
-        let whole = whole_frames(fails_at.saturating_sub(1));
-        let wanted = answers_of(answers, whole)?;
-        let desk = read_fails(alloc, (text, fails_at, kind), whole, wanted)?;
-        all_at_once(alloc, text, answers, desk)?;
+        read_fails(
+            alloc,
+            &mut empty_desk(alloc),
+            (text, answers),
+            (fails_at, kind),
+        )?;
     }
     Ok(())
 }
@@ -248,13 +252,12 @@ fn a_failed_read_stores_no_run_of_its_frame(rt: HostRuntime) -> Result<(), Fail>
 
 /// A request that is cut has no answer, and stores no run.
 fn is_not_answered(alloc: Global, mut input: Pieces<'_>, kind: FaultKind) -> Result<(), Fail> {
-    let mut desk = Desk::open(ListStore::new(alloc));
+    let mut desk = empty_desk(alloc);
     let mut output = Vec::new(alloc);
     let ended = serve_one(alloc, &mut input, &mut output, &mut desk);
-    same("the end", &ended, &Err(kind.without_line()))?;
-    same("the answer", output.as_slice(), b"".as_slice())?;
-    stores(alloc, desk, 0)?;
-    Ok(())
+    let wanted = (Err(kind.without_line()), b"".as_slice());
+    same("the end, the answer", (ended, output.as_slice()), wanted)?;
+    has_stored(alloc, &mut desk, 0)
 }
 
 /// The request of a run of three bytes.
@@ -273,87 +276,89 @@ fn a_request_that_is_cut_or_cannot_be_read_stores_no_run(rt: HostRuntime) -> Res
     Ok(())
 }
 
-/// A writer takes `room` bytes of the answer: the desk, which has stored the run.
-fn write_fails(alloc: Global, room: usize) -> Result<Desk<ListStore>, Fail> {
-    let mut desk = Desk::open(ListStore::new(alloc));
-    let mut output = Narrow::new(alloc, room);
-    let ended = serve_one(alloc, &mut QUICK.as_bytes(), &mut output, &mut desk);
-    let fault = FaultKind::Write.without_line();
-    same("the end", (room, ended), (room, Err(fault)))?;
-    let wanted = QUICK_ANSWER.as_bytes().get(..room).ok_or("no front")?;
-    let found = (room, output.taken.as_slice());
-    same("the front", &found, &(room, wanted))?;
-    stores(alloc, desk, 1)
+/// A writer takes this front of the answer.
+fn write_fails(alloc: Global, desk: &mut Lists, front: &[u8]) -> Result<(), Fail> {
+    let mut output = Narrow::new(alloc, front.len());
+    let ended = serve_one(alloc, &mut QUICK.as_bytes(), &mut output, desk);
+    let found = (ended, output.taken.as_slice());
+    let wanted = (Err(FaultKind::Write.without_line()), front);
+    same("the end, the front", found, wanted)
 }
 
-/// The request has its answer, after a write that failed after `room` bytes.
-fn is_answered(alloc: Global, mut desk: Desk<ListStore>, room: usize) -> Result<(), Fail> {
-    let mut output = Vec::new(alloc);
-    serve_one(alloc, &mut QUICK.as_bytes(), &mut output, &mut desk)?;
-    let found = (room, std::str::from_utf8(&output)?);
-    same("the answer", &found, &(room, QUICK_ANSWER))
+/// A writer takes this front of the answer. The run is stored, and its request, sent again, is answered.
+fn is_stored_unanswered(alloc: Global, desk: &mut Lists, front: &[u8]) -> Result<(), Fail> {
+    write_fails(alloc, desk, front)?;
+    has_stored(alloc, desk, 1)?;
+    expect(alloc, desk, QUICK, QUICK_ANSWER)
 }
 
 #[test]
 fn a_failed_write_leaves_the_run_stored(rt: HostRuntime) -> Result<(), Fail> {
     for room in 0..QUICK_ANSWER.len() {
-        let desk = write_fails(rt.alloc(), room)?;
-        is_answered(rt.alloc(), desk, room)?;
+        let front = &QUICK_ANSWER.as_bytes()[..room];
+        is_stored_unanswered(rt.alloc(), &mut empty_desk(rt.alloc()), front)?;
     }
     Ok(())
 }
 
-/// A run in full mode is refused with this reply, and nothing of it is in the library.
-fn run_is_refused(
+/// A run is accepted or not, and has this reply.
+fn replies(
     alloc: Global,
-    desk: &mut Desk<ListStore>,
-    text: &str,
-    wanted: &str,
+    desk: &mut Lists,
+    (number, mode, text): (u64, &str, &str),
+    wanted: (bool, &str),
 ) -> Result<(), Fail> {
-    let reply = desk.arrive(alloc, "LYON", 1, "full", text.as_bytes())?;
+    let reply = desk.arrive(alloc, "LYON", number, mode, text.as_bytes())?;
     let found = (reply.accepted, std::str::from_utf8(&reply.text)?);
-    same("the reply", &found, &(false, wanted))?;
-    same(
-        "the idents",
-        desk.ident_list(alloc)?.as_slice(),
-        b"".as_slice(),
-    )
+    same(mode, found, wanted)
 }
 
-/// A run in quick mode is accepted, without a compile file.
-fn run_is_accepted(alloc: Global, mut desk: Desk<ListStore>, text: &str) -> Result<(), Fail> {
-    let reply = desk.arrive(alloc, "LYON", 2, "quick", text.as_bytes())?;
-    holds(
-        text,
-        reply.accepted && reply.text.starts_with(b"{\"compile\":\"\","),
-    )
+/// A run in full mode is refused with this reply, and nothing of it is in the library.
+fn run_is_refused(alloc: Global, desk: &mut Lists, text: &str, wanted: &str) -> Result<(), Fail> {
+    replies(alloc, desk, (1, "full", text), (false, wanted))?;
+    holds("no ident", desk.ident_list(alloc)?.is_empty())
 }
 
-/// A run in full mode is refused by its compile file, and so is its repeat; nothing of it is in the library.
-fn is_refused(alloc: Global, text: &str, wanted: &str) -> Result<(), Fail> {
-    let mut desk = Desk::open(ListStore::new(alloc));
-    for _ in 0..2 {
-        run_is_refused(alloc, &mut desk, text, wanted)?;
-    }
-    let desk = stores(alloc, desk, 1)?;
-    run_is_accepted(alloc, desk, text)
+/// A run in full mode is refused by its compile file, and so is its repeat. In quick mode it is accepted, without a
+/// compile file.
+fn is_refused(
+    alloc: Global,
+    desk: &mut Lists,
+    text: &str,
+    (refusal, reply): (&str, &str),
+) -> Result<(), Fail> {
+    run_is_refused(alloc, desk, text, refusal)?;
+    run_is_refused(alloc, desk, text, refusal)?;
+    has_stored(alloc, desk, 1)?;
+    replies(alloc, desk, (2, "quick", text), (true, reply))
 }
 
 #[test]
 fn a_deck_that_calls_itself_is_refused(rt: HostRuntime) -> Result<(), Fail> {
-    let wanted = "{\"at\":0,\"fault\":21,\"mode\":\"full\",\"name\":\"CallDepth\",\"run\":1,\
+    let refusal = "{\"at\":0,\"fault\":21,\"mode\":\"full\",\"name\":\"CallDepth\",\"run\":1,\
 \"site\":\"LYON\",\"state\":\"refused\"}";
+    let reply =
+        "{\"compile\":\"\",\"idents\":[\"C\",\"A\"],\"lines\":0,\"mode\":\"quick\",\"run\":2,\
+\"site\":\"LYON\",\"state\":\"accepted\"}";
     let text = "*COMDECK C\n*CALL C\n*DECK A\n*CALL C\n";
-    is_refused(rt.alloc(), text, wanted)
+    let mut desk = empty_desk(rt.alloc());
+    is_refused(rt.alloc(), &mut desk, text, (refusal, reply))
+}
+
+/// Adds a common deck that calls the next one ten times.
+fn add_calls(text: &mut String, deck: u32) -> Result<(), Fail> {
+    write!(text, "*COMDECK C{deck}\n")?;
+    for _ in 0..10 {
+        write!(text, "*CALL C{}\n", deck.saturating_add(1))?;
+    }
+    Ok(())
 }
 
 /// Seven common decks, each of which calls the next one ten times, and a deck that calls the first.
 fn calls_of_calls(alloc: Global) -> Result<String, Fail> {
     let mut text = String::new(alloc);
     for deck in 1..=7_u32 {
-        write!(text, "*COMDECK C{deck}\n")?;
-        let call = format!(in alloc; "*CALL C{}\n", deck.saturating_add(1))?;
-        text.push_str(&call.repeat(alloc, 10)?)?;
+        add_calls(&mut text, deck)?;
     }
     text.push_str("*COMDECK C8\n*DECK A\n*CALL C1\n")?;
     Ok(text)
@@ -361,8 +366,12 @@ fn calls_of_calls(alloc: Global) -> Result<String, Fail> {
 
 #[test]
 fn decks_that_call_each_other_ten_times_are_refused(rt: HostRuntime) -> Result<(), Fail> {
-    let wanted = "{\"at\":0,\"fault\":22,\"mode\":\"full\",\"name\":\"CompileLong\",\"run\":1,\
+    let refusal = "{\"at\":0,\"fault\":22,\"mode\":\"full\",\"name\":\"CompileLong\",\"run\":1,\
 \"site\":\"LYON\",\"state\":\"refused\"}";
+    let reply =
+        "{\"compile\":\"\",\"idents\":[\"C1\",\"C2\",\"C3\",\"C4\",\"C5\",\"C6\",\"C7\",\"C8\",\"A\"],\
+\"lines\":0,\"mode\":\"quick\",\"run\":2,\"site\":\"LYON\",\"state\":\"accepted\"}";
     let text = calls_of_calls(rt.alloc())?;
-    is_refused(rt.alloc(), &text, wanted)
+    let mut desk = empty_desk(rt.alloc());
+    is_refused(rt.alloc(), &mut desk, &text, (refusal, reply))
 }

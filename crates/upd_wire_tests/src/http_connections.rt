@@ -1,5 +1,6 @@
 //! Connections on this machine.
-use crate::http_desk::{Lists, QUICK, QUICK_ANSWER, empty_desk};
+use crate::http_desk::{QUICK, QUICK_ANSWER};
+use crate::list_desks::{Lists, empty_desk};
 use std::alloc::Global;
 use std::cell::Cell;
 use std::io;
@@ -9,7 +10,7 @@ use std::test::Fail;
 use std::time::{Clock, Duration, Instant};
 use upd_http::serve_on_within;
 use upd_testkit::check::{holds, same};
-use upd_text::FaultKind;
+use upd_text::{Fault, FaultKind};
 
 /// A client that has written this.
 fn client_after(rt: &HostRuntime, address: SocketAddr, sent: &[u8]) -> Result<TcpStream, Fail> {
@@ -18,16 +19,14 @@ fn client_after(rt: &HostRuntime, address: SocketAddr, sent: &[u8]) -> Result<Tc
     Ok(client)
 }
 
-/// A client that has written this and writes no more.
-fn client_with(rt: &HostRuntime, address: SocketAddr, sent: &[u8]) -> Result<TcpStream, Fail> {
-    let client = client_after(rt, address, sent)?;
-    client.shutdown(Shutdown::Write)?;
-    Ok(client)
+/// A listener on this machine.
+fn listener(rt: &HostRuntime) -> Result<TcpListener, Fail> {
+    Ok(TcpListener::bind(rt, "127.0.0.1:0")?)
 }
 
 /// A listener, and a client that has written this to it.
 fn listener_after(rt: &HostRuntime, sent: &[u8]) -> Result<(TcpListener, TcpStream), Fail> {
-    let listener = TcpListener::bind(rt, "127.0.0.1:0")?;
+    let listener = listener(rt)?;
     let client = client_after(rt, listener.local_addr()?, sent)?;
     Ok((listener, client))
 }
@@ -39,22 +38,63 @@ fn reads(alloc: Global, mut client: TcpStream, wanted: &str) -> Result<(), Fail>
     same("the answer", &std::str::from_utf8(&answer)?, &wanted)
 }
 
-/// A client that goes away before its request is whole, and one that sends it whole.
-fn gone_and_client(rt: &HostRuntime, address: SocketAddr) -> Result<(TcpStream, TcpStream), Fail> {
-    let gone = client_with(rt, address, &QUICK.as_bytes()[..30])?;
-    let client = client_with(rt, address, QUICK.as_bytes())?;
-    Ok((gone, client))
+/// What a client writes before it writes no more, and what it reads then.
+type Exchange<'a> = (&'a [u8], &'a str);
+
+/// A client that has written this and writes no more.
+fn client_with(rt: &HostRuntime, address: SocketAddr, sent: &[u8]) -> Result<TcpStream, Fail> {
+    let client = client_after(rt, address, sent)?;
+    client.shutdown(Shutdown::Write)?;
+    Ok(client)
 }
 
-/// A client connects and writes, then the connection is served, then the client reads. One that goes away before its
-/// request is whole takes nobody else's answer.
+/// Clients that have written, with what they read then.
+fn clients_with<'a>(
+    rt: &HostRuntime,
+    address: SocketAddr,
+    exchanges: &[Exchange<'a>],
+) -> Result<Vec<(TcpStream, &'a str)>, Fail> {
+    let mut clients = Vec::new(rt.alloc());
+    for (sent, wanted) in exchanges {
+        clients.push((client_with(rt, address, sent)?, *wanted))?;
+    }
+    Ok(clients)
+}
+
+/// Clients read what they should.
+fn all_read(alloc: Global, clients: Vec<(TcpStream, &str)>) -> Result<(), Fail> {
+    for (client, wanted) in clients {
+        reads(alloc, client, wanted)?;
+    }
+    Ok(())
+}
+
+/// Clients connect and write, then `count` connections are served by this clock, then the clients read.
+fn are_served<C: Clock>(
+    rt: &HostRuntime,
+    listener: &TcpListener,
+    (clock, count): (&C, u32),
+    exchanges: &[Exchange<'_>],
+) -> Result<(), Fail> {
+    let clients = clients_with(rt, listener.local_addr()?, exchanges)?;
+    serve_on_within(
+        rt.alloc(),
+        clock,
+        listener,
+        count,
+        &mut empty_desk(rt.alloc()),
+    )?;
+    all_read(rt.alloc(), clients)
+}
+
+/// A client that goes away before its request is whole takes nobody else's answer.
 #[test]
 fn connections_are_served(rt: HostRuntime) -> Result<(), Fail> {
-    let listener = TcpListener::bind(&rt, "127.0.0.1:0")?;
-    let (gone, client) = gone_and_client(&rt, listener.local_addr()?)?;
-    serve_on_within(rt.alloc(), &rt, &listener, 2, &mut empty_desk(rt.alloc()))?;
-    reads(rt.alloc(), gone, "")?;
-    reads(rt.alloc(), client, QUICK_ANSWER)
+    let exchanges = [
+        (&QUICK.as_bytes()[..30], ""),
+        (QUICK.as_bytes(), QUICK_ANSWER),
+    ];
+    are_served(&rt, &listener(&rt)?, (&rt, 2), &exchanges)
 }
 
 /// The request of a run that is too long.
@@ -65,24 +105,23 @@ fn long_request(alloc: Global) -> Result<Vec<u8>, Fail> {
     Ok(request)
 }
 
+const RUN_LONG: &str =
+    "HTTP/1.1 413 Payload Too Large\r\nContent-Type: application/json\r\nContent-Length: 35\r\n\
+Connection: close\r\n\r\n{\"at\":0,\"fault\":1,\"name\":\"RunLong\"}";
+
 /// A client that sends more than it may has its answer all the same.
 #[test]
 fn a_long_body_is_answered(rt: HostRuntime) -> Result<(), Fail> {
     let request = long_request(rt.alloc())?;
-    let (listener, client) = listener_after(&rt, &request)?;
-    client.shutdown(Shutdown::Write)?;
-    serve_on_within(rt.alloc(), &rt, &listener, 1, &mut empty_desk(rt.alloc()))?;
-    let wanted =
-        "HTTP/1.1 413 Payload Too Large\r\nContent-Type: application/json\r\nContent-Length: 35\r\n\
-Connection: close\r\n\r\n{\"at\":0,\"fault\":1,\"name\":\"RunLong\"}";
-    reads(rt.alloc(), client, wanted)
+    let exchanges = [(request.as_slice(), RUN_LONG)];
+    are_served(&rt, &listener(&rt)?, (&rt, 1), &exchanges)
 }
 
 /// A connection that can't be accepted isn't passed over. Nobody has connected here, and the listener doesn't wait.
 #[test]
 fn an_accept_that_fails_is_reported(rt: HostRuntime) -> Result<(), Fail> {
     let alloc = rt.alloc();
-    let listener = TcpListener::bind(&rt, "127.0.0.1:0")?;
+    let listener = listener(&rt)?;
     listener.set_nonblocking(true)?;
     let served = serve_on_within(alloc, &rt, &listener, 2, &mut empty_desk(alloc));
     same("the end", &served, &Err(FaultKind::Read.without_line()))
@@ -98,8 +137,7 @@ fn seconds_served(rt: &HostRuntime, listener: &TcpListener) -> Result<u64, Fail>
 /// A client that says nothing is waited for ten seconds, and once more after its answer, which is empty.
 #[test]
 fn a_silent_client_is_not_waited_for_for_ever(rt: HostRuntime) -> Result<(), Fail> {
-    let listener = TcpListener::bind(&rt, "127.0.0.1:0")?;
-    let client = TcpStream::connect(&rt, listener.local_addr()?)?;
+    let (listener, client) = listener_after(&rt, b"")?;
     let waited = seconds_served(&rt, &listener)?;
     holds(("seconds", waited), 20 <= waited && waited < 30)?;
     reads(rt.alloc(), client, "")
@@ -157,51 +195,37 @@ fn is_given_up(
     reads_nothing(alloc, client)
 }
 
+/// Whether run 1 of LYON in full mode is accepted after a client was given up, or its refusal.
+fn key_after(
+    alloc: Global,
+    both: (TcpListener, TcpStream),
+    still: u64,
+) -> Result<Result<bool, Fault>, Fail> {
+    let mut desk = empty_desk(alloc);
+    is_given_up(alloc, &mut desk, both, still)?;
+    let answer = desk.arrive(alloc, "LYON", 1, "full", b"");
+    Ok(answer.map(|reply| reply.accepted))
+}
+
 /// A client that isn't done after two minutes is given up, and its run isn't stored: the key is free for another one.
 #[test]
 fn a_slow_client_is_given_up(rt: HostRuntime) -> Result<(), Fail> {
-    let mut desk = empty_desk(rt.alloc());
     let both = listener_after(&rt, QUICK.as_bytes())?;
-    is_given_up(rt.alloc(), &mut desk, both, 0)?;
-    desk.arrive(rt.alloc(), "LYON", 1, "full", b"")?;
-    Ok(())
+    same("the key", key_after(rt.alloc(), both, 0)?, Ok(true))
 }
 
 /// A client whose time is up after its request isn't answered. Its run is stored: the key is that run's.
 #[test]
 fn a_client_that_takes_its_answer_late_is_given_up(rt: HostRuntime) -> Result<(), Fail> {
-    let mut desk = empty_desk(rt.alloc());
     let both = listener_after(&rt, QUICK.as_bytes())?;
     both.1.shutdown(Shutdown::Write)?;
-    is_given_up(rt.alloc(), &mut desk, both, 2)?;
-    let answer = desk.arrive(rt.alloc(), "LYON", 1, "full", b"");
-    let found = answer.map(|reply| reply.accepted);
     let changed = FaultKind::RunChanged.without_line();
-    same("the key", &found, &Err(changed))
-}
-
-/// Clients that each have sent the same request.
-fn clients_with(
-    rt: &HostRuntime,
-    address: SocketAddr,
-    count: usize,
-) -> Result<Vec<TcpStream>, Fail> {
-    let mut clients = Vec::new(rt.alloc());
-    for _ in 0..count {
-        clients.push(client_with(rt, address, QUICK.as_bytes())?)?;
-    }
-    Ok(clients)
+    same("the key", key_after(rt.alloc(), both, 2)?, Err(changed))
 }
 
 /// Each connection has two minutes of its own: four of them that take forty seconds and more are all served.
 #[test]
 fn each_connection_has_its_own_time(rt: HostRuntime) -> Result<(), Fail> {
-    let listener = TcpListener::bind(&rt, "127.0.0.1:0")?;
-    let clients = clients_with(&rt, listener.local_addr()?, 4)?;
-    let mut desk = empty_desk(rt.alloc());
-    serve_on_within(rt.alloc(), &Ticking::new(0, 20), &listener, 4, &mut desk)?;
-    for client in clients {
-        reads(rt.alloc(), client, QUICK_ANSWER)?;
-    }
-    Ok(())
+    let exchanges = [(QUICK.as_bytes(), QUICK_ANSWER); 4];
+    are_served(&rt, &listener(&rt)?, (&Ticking::new(0, 20), 4), &exchanges)
 }

@@ -1,9 +1,8 @@
 //! A desk over lists that is asked by requests.
+use crate::list_desks::Lists;
 use std::alloc::Global;
 use std::test::Fail;
-use upd_desk::Desk;
 use upd_http::serve_one;
-use upd_list_store::ListStore;
 use upd_testkit::check::{holds, same};
 use upd_testkit::fake_streams::{Held, Pieces};
 use upd_text::Fault;
@@ -18,13 +17,25 @@ pub const QUICK_ANSWER: &str =
 Connection: close\r\n\r\n{\"compile\":\"\",\"idents\":[],\"lines\":0,\"mode\":\"quick\",\"run\":1,\"site\":\"LYON\",\
 \"state\":\"accepted\"}";
 
-/// A desk over lists.
-pub type Lists = Desk<ListStore>;
+/// The answer to a known number with another mode or other bytes.
+const CHANGED: &str =
+    "HTTP/1.1 409 Conflict\r\nContent-Type: application/json\r\nContent-Length: 39\r\n\
+Connection: close\r\n\r\n{\"at\":0,\"fault\":26,\"name\":\"RunChanged\"}";
 
-/// A desk over an empty library.
-pub fn empty_desk(alloc: Global) -> Lists {
-    Desk::open(ListStore::new(alloc))
-}
+/// A run, its repeat, its number with another mode, and a deck that isn't there, with their answers.
+pub const REPEATS: &[(&str, &str)] = &[
+    (QUICK, QUICK_ANSWER),
+    (QUICK, QUICK_ANSWER),
+    (
+        "POST /sites/LYON/runs/1/full HTTP/1.1\r\nHost: lib\r\nContent-Length: 0\r\n\r\n",
+        CHANGED,
+    ),
+    (
+        "GET /decks/NOPE HTTP/1.1\r\n\r\n",
+        "HTTP/1.1 404 Not Found\r\nContent-Type: application/json\r\nContent-Length: 40\r\n\
+Connection: close\r\n\r\n{\"at\":0,\"fault\":12,\"name\":\"DeckUnknown\"}",
+    ),
+];
 
 /// What is written and flushed for a request that is read at most `most` bytes at a time.
 pub fn answer_to(
@@ -50,6 +61,19 @@ pub fn expect_read(
     same(request, &std::str::from_utf8(&answer)?, &wanted)
 }
 
+/// Requests that are read at most `most` bytes at a time have these answers, one after the other.
+pub fn expect_all(
+    alloc: Global,
+    desk: &mut Lists,
+    most: usize,
+    requests: &[(&str, &str)],
+) -> Result<(), Fail> {
+    for (request, wanted) in requests {
+        expect_read(alloc, desk, (request, most), wanted)?;
+    }
+    Ok(())
+}
+
 /// The answer to a request is this text.
 pub fn expect(alloc: Global, desk: &mut Lists, request: &str, wanted: &str) -> Result<(), Fail> {
     expect_read(alloc, desk, (request, 65_536), wanted)
@@ -59,6 +83,18 @@ pub fn expect(alloc: Global, desk: &mut Lists, request: &str, wanted: &str) -> R
 pub fn expect_plain(alloc: Global, desk: &mut Lists, line: &str, wanted: &str) -> Result<(), Fail> {
     let request = format!(in alloc; "{line} HTTP/1.1\r\n\r\n")?;
     expect(alloc, desk, &request, wanted)
+}
+
+/// Requests without headers and body have these answers, one after the other.
+pub fn expect_all_plain(
+    alloc: Global,
+    desk: &mut Lists,
+    requests: &[(&str, &str)],
+) -> Result<(), Fail> {
+    for (line, wanted) in requests {
+        expect_plain(alloc, desk, line, wanted)?;
+    }
+    Ok(())
 }
 
 /// A run is posted, and its answer is accepted.

@@ -1,5 +1,6 @@
 //! Heads and bodies at their limits, and a flush that fails.
-use crate::http_desk::{Lists, QUICK, QUICK_ANSWER, empty_desk, expect_read};
+use crate::http_desk::{QUICK, QUICK_ANSWER, expect_all, expect_read};
+use crate::list_desks::{Lists, empty_desk};
 use std::alloc::Global;
 use std::test::Fail;
 use upd_http::serve_one;
@@ -39,16 +40,18 @@ fn long_head(alloc: Global, bytes: usize) -> Result<String, Fail> {
     Ok(format!(in alloc; "GET /idents HTTP/1.1\r\nX: {pad}\r\n\r\n")?)
 }
 
+/// The answer to a request with a head of `bytes` bytes is this text.
+fn expect_bytes(alloc: Global, desk: &mut Lists, bytes: usize, wanted: &str) -> Result<(), Fail> {
+    let request = long_head(alloc, bytes)?;
+    same("bytes", request.len(), bytes)?;
+    expect(alloc, desk, &request, wanted)
+}
+
 #[test]
 fn heads_have_8192_bytes_at_most(rt: HostRuntime) -> Result<(), Fail> {
-    let alloc = rt.alloc();
-    let mut desk = empty_desk(alloc);
-    for (bytes, wanted) in [(8_192, EMPTY_LISTING), (8_193, BAD_FRAME)] {
-        let request = long_head(alloc, bytes)?;
-        same("bytes", &request.len(), &bytes)?;
-        expect(alloc, &mut desk, &request, wanted)?;
-    }
-    Ok(())
+    let mut desk = empty_desk(rt.alloc());
+    expect_bytes(rt.alloc(), &mut desk, 8_192, EMPTY_LISTING)?;
+    expect_bytes(rt.alloc(), &mut desk, 8_193, BAD_FRAME)
 }
 
 /// A request with `count` headers.
@@ -61,15 +64,17 @@ fn many_headers(alloc: Global, count: u32) -> Result<String, Fail> {
     Ok(request)
 }
 
+/// The answer to a request with `count` headers is this text.
+fn expect_headers(alloc: Global, desk: &mut Lists, count: u32, wanted: &str) -> Result<(), Fail> {
+    let request = many_headers(alloc, count)?;
+    expect(alloc, desk, &request, wanted)
+}
+
 #[test]
 fn heads_have_32_headers_at_most(rt: HostRuntime) -> Result<(), Fail> {
-    let alloc = rt.alloc();
-    let mut desk = empty_desk(alloc);
-    for (count, wanted) in [(32, EMPTY_LISTING), (33, BAD_FRAME)] {
-        let request = many_headers(alloc, count)?;
-        expect(alloc, &mut desk, &request, wanted)?;
-    }
-    Ok(())
+    let mut desk = empty_desk(rt.alloc());
+    expect_headers(rt.alloc(), &mut desk, 32, EMPTY_LISTING)?;
+    expect_headers(rt.alloc(), &mut desk, 33, BAD_FRAME)
 }
 
 /// A request with a body of 65,536 bytes, and this length.
@@ -78,37 +83,47 @@ fn long_body(alloc: Global, line: &str, length: &str) -> Result<String, Fail> {
     Ok(format!(in alloc; "{line} HTTP/1.1\r\nContent-Length: {length}\r\n\r\n{body}")?)
 }
 
-/// Requests, and the lengths of bodies that are too long.
-const TOO_LONG: [(&str, &str); 4] = [
-    ("POST /sites/LYON/runs/2/quick", "65537"),
-    ("GET /idents", "65537"),
+/// The answer to a request with a body of 65,536 bytes and this length is this text.
+fn expect_length(
+    alloc: Global,
+    desk: &mut Lists,
+    (line, length): (&str, &str),
+    wanted: &str,
+) -> Result<(), Fail> {
+    let request = long_body(alloc, line, length)?;
+    expect(alloc, desk, &request, wanted)
+}
+
+const LINE_LONG: &str =
+    "HTTP/1.1 422 Unprocessable Entity\r\nContent-Type: application/json\r\nContent-Length: 91\r\n\
+Connection: close\r\n\r\n{\"at\":1,\"fault\":4,\"mode\":\"quick\",\"name\":\"LineLong\",\"run\":1,\
+\"site\":\"LYON\",\"state\":\"refused\"}";
+
+/// Requests, the lengths of their bodies, and their answers.
+const BODIES: &[(&str, &str, &str)] = &[
+    ("POST /sites/LYON/runs/1/quick", "65536", LINE_LONG),
+    ("POST /sites/LYON/runs/2/quick", "65537", RUN_LONG),
+    ("GET /idents", "65537", RUN_LONG),
     (
         "POST /sites/LYON/runs/2/quick",
         "99999999999999999999999999",
+        RUN_LONG,
     ),
-    ("GET /idents", "99999999999999999999999999"),
+    ("GET /idents", "99999999999999999999999999", RUN_LONG),
 ];
 
 /// A body of 65,536 bytes is a run; a longer one isn't read, on any known path.
 #[test]
 fn bodies_have_65536_bytes_at_most(rt: HostRuntime) -> Result<(), Fail> {
-    let alloc = rt.alloc();
-    let mut desk = empty_desk(alloc);
-    let request = long_body(alloc, "POST /sites/LYON/runs/1/quick", "65536")?;
-    let wanted =
-        "HTTP/1.1 422 Unprocessable Entity\r\nContent-Type: application/json\r\nContent-Length: 91\r\n\
-Connection: close\r\n\r\n{\"at\":1,\"fault\":4,\"mode\":\"quick\",\"name\":\"LineLong\",\"run\":1,\
-\"site\":\"LYON\",\"state\":\"refused\"}";
-    expect(alloc, &mut desk, &request, wanted)?;
-    for (line, length) in TOO_LONG {
-        let request = long_body(alloc, line, length)?;
-        expect(alloc, &mut desk, &request, RUN_LONG)?;
+    let mut desk = empty_desk(rt.alloc());
+    for (line, length, wanted) in BODIES {
+        expect_length(rt.alloc(), &mut desk, (line, length), wanted)?;
     }
     Ok(())
 }
 
 /// Headers of a request for idents, and its answer.
-const HEADERS: [(&str, &str); 10] = [
+const HEADERS: &[(&str, &str)] = &[
     ("Content-Length: 0\r\nContent-Length: 0\r\n", BAD_FRAME),
     ("Content-Length: 0\r\ncontent-length: 0\r\n", BAD_FRAME),
     ("Content-Length:\r\n", BAD_FRAME),
@@ -137,43 +152,49 @@ fn headers_are_answered(alloc: Global, desk: &mut Lists) -> Result<(), Fail> {
     Ok(())
 }
 
+/// Other requests and their answers.
+const OTHERS: &[(&str, &str)] = &[
+    (
+        "GET /nowhere HTTP/1.1\r\nTransfer-Encoding: chunked\r\n\r\n",
+        BAD_FRAME,
+    ),
+    ("GET /idents HTTP/2.0\r\n\r\n", BAD_FRAME),
+    ("GET /idents HTTP/1.0\r\n\r\n", EMPTY_LISTING),
+];
+
 /// Lengths that are not valid, on an unknown path as well; a length is valid whatever the case of its name.
 #[test]
 fn lengths_come_once_in_digits(rt: HostRuntime) -> Result<(), Fail> {
-    let alloc = rt.alloc();
-    let mut desk = empty_desk(alloc);
-    headers_are_answered(alloc, &mut desk)?;
-    let others = [
-        (
-            "GET /nowhere HTTP/1.1\r\nTransfer-Encoding: chunked\r\n\r\n",
-            BAD_FRAME,
-        ),
-        ("GET /idents HTTP/2.0\r\n\r\n", BAD_FRAME),
-        ("GET /idents HTTP/1.0\r\n\r\n", EMPTY_LISTING),
-    ];
-    for (request, wanted) in others {
-        expect(alloc, &mut desk, request, wanted)?;
-    }
-    Ok(())
+    let mut desk = empty_desk(rt.alloc());
+    headers_are_answered(rt.alloc(), &mut desk)?;
+    expect_all(rt.alloc(), &mut desk, 1000, OTHERS)
 }
 
 /// What comes after the body isn't looked at.
 #[test]
 fn bytes_after_the_body_are_ignored(rt: HostRuntime) -> Result<(), Fail> {
-    let alloc = rt.alloc();
-    let mut desk = empty_desk(alloc);
-    let request = format!(in alloc; "{QUICK}GET /decks/NOPE HTTP/1.1\r\n\r\n")?;
-    expect(alloc, &mut desk, &request, QUICK_ANSWER)
+    let request = format!(in rt.alloc(); "{QUICK}GET /decks/NOPE HTTP/1.1\r\n\r\n")?;
+    expect(
+        rt.alloc(),
+        &mut empty_desk(rt.alloc()),
+        &request,
+        QUICK_ANSWER,
+    )
+}
+
+/// A flush of the answer fails, which is a failed write.
+fn flush_fails(alloc: Global, desk: &mut Lists) -> Result<(), Fail> {
+    let mut output = Held::new(alloc, 1);
+    let ended = serve_one(alloc, &mut QUICK.as_bytes(), &mut output, desk);
+    let found = (ended, output.flushed.as_slice());
+    let wanted = (Err(FaultKind::Write.without_line()), b"".as_slice());
+    same("the end, the answer", found, wanted)
 }
 
 /// A flush that fails is a failed write. The run is stored: its repeat has the reply.
 #[test]
 fn a_failed_flush_leaves_the_run_stored(rt: HostRuntime) -> Result<(), Fail> {
-    let alloc = rt.alloc();
-    let mut desk = empty_desk(alloc);
-    let mut output = Held::new(alloc, 1);
-    let ended = serve_one(alloc, &mut QUICK.as_bytes(), &mut output, &mut desk);
-    same("the end", &ended, &Err(FaultKind::Write.without_line()))?;
-    same("the answer", output.flushed.as_slice(), b"".as_slice())?;
-    expect(alloc, &mut desk, QUICK, QUICK_ANSWER)
+    let mut desk = empty_desk(rt.alloc());
+    flush_fails(rt.alloc(), &mut desk)?;
+    expect(rt.alloc(), &mut desk, QUICK, QUICK_ANSWER)
 }

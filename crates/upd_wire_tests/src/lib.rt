@@ -16,6 +16,8 @@ mod http_desk;
 #[cfg(test)]
 mod http_frames;
 #[cfg(test)]
+mod list_desks;
+#[cfg(test)]
 mod memory_of_desks;
 #[cfg(test)]
 mod memory_of_streams;

@@ -1,11 +1,9 @@
 //! Frames that are not valid, and answers that are not replies.
-use crate::spool_streams::{desk, ended};
+use crate::list_desks::{Lists, empty_desk};
+use crate::spool_streams::{comes_out, ends};
 use std::alloc::Global;
 use std::test::Fail;
-use upd_desk::Desk;
-use upd_list_store::ListStore;
-use upd_spool::spool;
-use upd_testkit::check::{holds, same, same_text};
+use upd_testkit::check::{holds, same};
 use upd_testkit::fake_streams::{Cycle, Tally};
 use upd_testkit::worked_spool::{FIRST, SECOND, SECOND_ANSWER, first_answer};
 
@@ -25,42 +23,46 @@ const NOWHERE: &str = "{\"at\":1,\"fault\":9,\"mode\":\"full\",\"name\":\"TextNo
 const FULL_EMPTY: &str = "{\"compile\":\"\",\"idents\":[],\"lines\":0,\"mode\":\"full\",\"run\":2,\
 \"site\":\"LYON\",\"state\":\"accepted\"}\n";
 
-/// A spool on a desk: what comes out, and how it ends.
-fn comes_out(
+/// Spools on a desk, one after the other: what comes out, and how each ends.
+fn all_come_out(
     alloc: Global,
-    desk: &mut Desk<ListStore>,
-    text: &str,
-    wanted: &str,
-    end: &str,
+    desk: &mut Lists,
+    spools: &[(&str, &str, &str)],
 ) -> Result<(), Fail> {
-    let mut output = Vec::new(alloc);
-    let mut input = text.as_bytes();
-    let result = spool(alloc, &mut input, &mut output, desk);
-    same_text(text, ended(alloc, result)?.as_str(), end)?;
-    same_text(text, std::str::from_utf8(&output)?, wanted)
+    for (text, wanted, end) in spools {
+        comes_out(alloc, desk, text, (wanted, end))?;
+    }
+    Ok(())
 }
 
-/// A site of 50 bytes.
-const LONG_SITE: &str = "SSSSSSSSSSSSSSSSSSSSSSSSSSSSSSSSSSSSSSSSSSSSSSSSSS";
-
-/// What is before and after the long site in a header of 63 or 64 bytes, with the answer and the end.
-const LONG_HEADERS: [(&str, &str, &str, &str); 4] = [
-    ("RUN ", " 1 full 0\n\n", BAD_SITE, "1"),
-    ("RUN ", "S 1 full 0\n\n", "", "BadFrame (30) at 1"),
-    ("junk ", " 1234567", "", "CutFrame (31) at 1"),
-    ("junk ", " 12345678", "", "BadFrame (30) at 1"),
+/// Headers of 63 or 64 bytes, most of them a site, with the answers and the ends.
+const LONG_HEADERS: &[(&str, &str, &str)] = &[
+    (
+        "RUN SSSSSSSSSSSSSSSSSSSSSSSSSSSSSSSSSSSSSSSSSSSSSSSSSS 1 full 0\n\n",
+        BAD_SITE,
+        "1",
+    ),
+    (
+        "RUN SSSSSSSSSSSSSSSSSSSSSSSSSSSSSSSSSSSSSSSSSSSSSSSSSSS 1 full 0\n\n",
+        "",
+        "BadFrame (30) at 1",
+    ),
+    (
+        "junk SSSSSSSSSSSSSSSSSSSSSSSSSSSSSSSSSSSSSSSSSSSSSSSSSS 1234567",
+        "",
+        "CutFrame (31) at 1",
+    ),
+    (
+        "junk SSSSSSSSSSSSSSSSSSSSSSSSSSSSSSSSSSSSSSSSSSSSSSSSSS 12345678",
+        "",
+        "BadFrame (30) at 1",
+    ),
 ];
 
 /// A header of 63 bytes or more, made so by its site, is checked at its LF.
 #[test]
 fn headers_have_63_bytes_at_most(rt: HostRuntime) -> Result<(), Fail> {
-    let alloc = rt.alloc();
-    let mut desk = desk(alloc);
-    for (before, after, wanted, end) in LONG_HEADERS {
-        let text = format!(in alloc; "{before}{LONG_SITE}{after}")?;
-        comes_out(alloc, &mut desk, text.as_str(), wanted, end)?;
-    }
-    Ok(())
+    all_come_out(rt.alloc(), &mut empty_desk(rt.alloc()), LONG_HEADERS)
 }
 
 /// Lines that are not headers, with semicolons between them.
@@ -70,39 +72,38 @@ RUN  LYON 1 full 0; RUN LYON 1 full 0;run LYON 1 full 0;RUN\tLYON 1 full 0;RUN L
 RUN LYON 1 full 0 0;RUN LYON 00 full 0;RUN LYON 01 full 0;RUN LYON +1 full 0;RUN LYON 1 full 00;RUN LYON 1 full -0;\
 RUN LYON 1000000000 full 0;RUN LYON 1 full 65537;RUN LYON 1 full 0x0";
 
+/// A line ends a spool in place of a header.
+fn ends_a_spool(alloc: Global, desk: &mut Lists, line: &str) -> Result<(), Fail> {
+    let text = format!(in alloc; "{line}\n\n")?;
+    comes_out(alloc, desk, &text, ("", "BadFrame (30) at 1"))
+}
+
 #[test]
 fn bad_headers_end_a_spool(rt: HostRuntime) -> Result<(), Fail> {
-    let alloc = rt.alloc();
-    let mut desk = desk(alloc);
+    let mut desk = empty_desk(rt.alloc());
     let mut count: u32 = 0;
     for line in NOT_HEADERS.split(';') {
-        let text = format!(in alloc; "{line}\n\n")?;
-        comes_out(alloc, &mut desk, text.as_str(), "", "BadFrame (30) at 1")?;
+        ends_a_spool(rt.alloc(), &mut desk, line)?;
         count = count.saturating_add(1);
     }
     same("the lines", count, 22)
 }
 
-/// Runs that are refused, with their answers.
-const REFUSED: [(&str, &str); 4] = [
-    ("RUN LYON 0 full 0\n\n", BAD_NUMBER),
-    ("RUN lyon 999999999 full 0\n\n", BAD_SITE),
-    ("RUN LYON 1 FULL 0\n\n", BAD_MODE),
-    ("RUN LYON 1 full 6\nHELLO\n\n", NOWHERE),
+/// Runs that are refused, with their answers and ends.
+const REFUSED: &[(&str, &str, &str)] = &[
+    ("RUN LYON 0 full 0\n\n", BAD_NUMBER, "1"),
+    ("RUN lyon 999999999 full 0\n\n", BAD_SITE, "1"),
+    ("RUN LYON 1 FULL 0\n\n", BAD_MODE, "1"),
+    ("RUN LYON 1 full 6\nHELLO\n\n", NOWHERE, "1"),
 ];
 
 #[test]
 fn refusals_are_answers(rt: HostRuntime) -> Result<(), Fail> {
-    let alloc = rt.alloc();
-    let mut desk = desk(alloc);
-    for (text, wanted) in REFUSED {
-        comes_out(alloc, &mut desk, text, wanted, "1")?;
-    }
-    Ok(())
+    all_come_out(rt.alloc(), &mut empty_desk(rt.alloc()), REFUSED)
 }
 
 /// Runs without the LF at their end and runs of the same number, with their answers and ends.
-const WITHOUT_LF: [(&str, &str, &str); 6] = [
+const WITHOUT_LF: &[(&str, &str, &str)] = &[
     ("RUN LYON 1 full 65536\n", "", "CutFrame (31) at 1"),
     ("RUN LYON 2 quick 0\n", "", "CutFrame (31) at 1"),
     ("RUN LYON 2 quick 0\nX", "", "BadFrame (30) at 1"),
@@ -111,48 +112,45 @@ const WITHOUT_LF: [(&str, &str, &str); 6] = [
     ("RUN LYON 2 full 1\n\n\n", RUN_CHANGED, "1"),
 ];
 
+/// These spools come out. Then run 2 is settled, and its repeat is refused.
+fn is_settled_last(alloc: Global, desk: &mut Lists) -> Result<(), Fail> {
+    all_come_out(alloc, desk, WITHOUT_LF)?;
+    same("the mark", desk.settle_site(alloc, "LYON", 2)?, 2)?;
+    comes_out(alloc, desk, SECOND, (SETTLED, "1"))
+}
+
 #[test]
 fn a_run_without_its_lf_is_as_good_as_not_sent(rt: HostRuntime) -> Result<(), Fail> {
-    let alloc = rt.alloc();
-    let mut desk = desk(alloc);
-    for (text, wanted, end) in WITHOUT_LF {
-        comes_out(alloc, &mut desk, text, wanted, end)?;
-    }
-    same("the mark", desk.settle_site(alloc, "LYON", 2)?, 2)?;
-    comes_out(alloc, &mut desk, SECOND, SETTLED, "1")
+    is_settled_last(rt.alloc(), &mut empty_desk(rt.alloc()))
+}
+
+/// A frame, a line that is not one, and a frame that introduces deck A.
+const JUNK_BETWEEN: &str =
+    "RUN LYON 2 quick 0\n\njunk\nRUN LYON 1 full 22\n*DECK A\nONE\nTWO\nTHREE\n\n";
+
+/// The frame after the line is not read. It has its answer when it is sent again.
+fn last_is_not_read(alloc: Global, desk: &mut Lists) -> Result<(), Fail> {
+    let end = "BadFrame (30) at 2";
+    comes_out(alloc, desk, JUNK_BETWEEN, (SECOND_ANSWER, end))?;
+    holds("no ident", desk.ident_list(alloc)?.is_empty())?;
+    comes_out(alloc, desk, FIRST, (first_answer(alloc)?.as_str(), "1"))
 }
 
 #[test]
 fn nothing_is_read_after_a_bad_frame(rt: HostRuntime) -> Result<(), Fail> {
-    let alloc = rt.alloc();
-    let mut desk = desk(alloc);
-    let text = format!(in alloc; "{SECOND}junk\n{FIRST}")?;
-    comes_out(
-        alloc,
-        &mut desk,
-        text.as_str(),
-        SECOND_ANSWER,
-        "BadFrame (30) at 2",
-    )?;
-    holds("no ident", desk.ident_list(alloc)?.is_empty())?;
-    let first = first_answer(alloc)?;
-    comes_out(alloc, &mut desk, FIRST, first.as_str(), "1")
+    last_is_not_read(rt.alloc(), &mut empty_desk(rt.alloc()))
 }
 
-/// The shortest frame, and its answer.
+/// The shortest frame.
 const TINY: &str = "RUN L 0 q 0\n\n";
 
 /// The first `bytes` bytes of the shortest frames one after the other.
 fn tiny_frames(alloc: Global, bytes: usize, end: &str) -> Result<(), Fail> {
     let mut input = Cycle::new(TINY.as_bytes(), bytes);
     let mut output = Tally { bytes: 0, lines: 0 };
-    let result = spool(alloc, &mut input, &mut output, &mut desk(alloc));
-    same_text(bytes, ended(alloc, result)?.as_str(), end)?;
-    same(
-        "lines, bytes",
-        (output.lines, output.bytes),
-        (100_000, 3_900_000),
-    )
+    ends(alloc, &mut empty_desk(alloc), &mut input, &mut output, end)?;
+    let found = (output.lines, output.bytes);
+    same("lines, bytes", found, (100_000, 3_900_000))
 }
 
 #[test]

@@ -1,32 +1,29 @@
 //! The worked spool, whole and cut, over readers and writers that go byte by byte, hold back or fail.
+use crate::list_desks::{Lists, empty_desk};
 use std::alloc::Global;
 use std::io::{ErrorKind, Read, Write};
 use std::test::Fail;
-use upd_desk::Desk;
-use upd_list_store::ListStore;
 use upd_spool::spool;
 use upd_testkit::check::{same, same_text};
 use upd_testkit::fake_streams::{Held, Narrow, Pieces};
-use upd_testkit::worked_spool::{FIRST, SECOND, SECOND_ANSWER, first_answer, worked};
+use upd_testkit::worked_spool::worked;
 use upd_text::Fault;
 
+/// Where the answers to each of the frames end.
+pub const ANSWER_ENDS: [usize; 4] = [0, 389, 482, 773];
+
 /// How a spool ended.
-pub fn ended(alloc: Global, end: Result<u32, Fault>) -> Result<String, Fail> {
+fn ended(alloc: Global, end: Result<u32, Fault>) -> Result<String, Fail> {
     match end {
         Ok(count) => Ok(format!(in alloc; "{count}")?),
         Err(fault) => Ok(format!(in alloc; "{fault}")?),
     }
 }
 
-/// A desk over an empty library.
-pub fn desk(alloc: Global) -> Desk<ListStore> {
-    Desk::open(ListStore::new(alloc))
-}
-
 /// A spool over a reader and a writer has this end.
-fn ends<R: Read, W: Write>(
+pub fn ends<R: Read, W: Write>(
     alloc: Global,
-    desk: &mut Desk<ListStore>,
+    desk: &mut Lists,
     input: &mut R,
     output: &mut W,
     end: &str,
@@ -35,78 +32,87 @@ fn ends<R: Read, W: Write>(
     same_text("the end", ended(alloc, result)?.as_str(), end)
 }
 
-/// A spool at once has these answers and this end.
-fn comes_out(
+/// A spool that ended and was answered so has these answers and this end.
+fn came_out(
     alloc: Global,
-    desk: &mut Desk<ListStore>,
-    text: &[u8],
-    answers: &[u8],
-    end: &str,
+    text: &str,
+    (res, output): (Result<u32, Fault>, &[u8]),
+    (answers, end): (&str, &str),
+) -> Result<(), Fail> {
+    same_text(text, ended(alloc, res)?.as_str(), end)?;
+    same_text(text, std::str::from_utf8(output)?, answers)
+}
+
+/// A spool at once has these answers and this end.
+pub fn comes_out(
+    alloc: Global,
+    desk: &mut Lists,
+    text: &str,
+    wanted: (&str, &str),
 ) -> Result<(), Fail> {
     let mut output = Vec::new(alloc);
-    let mut input = text;
-    ends(alloc, desk, &mut input, &mut output, end)?;
-    same("the answers", output.as_slice(), answers)
+    let result = spool(alloc, &mut text.as_bytes(), &mut output, desk);
+    came_out(alloc, text, (result, &output), wanted)
 }
 
 /// A spool that is read and answered byte by byte has these answers and this end.
 fn comes_out_in_bytes(
     alloc: Global,
-    desk: &mut Desk<ListStore>,
-    text: &[u8],
-    answers: &[u8],
-    end: &str,
+    desk: &mut Lists,
+    text: &str,
+    (answers, end): (&str, &str),
 ) -> Result<(), Fail> {
     let kind = Some(ErrorKind::Interrupted);
     let mut output = Narrow::after(Vec::new(alloc), answers.len(), kind);
-    ends(alloc, desk, &mut Pieces::new(text, 1), &mut output, end)?;
-    same("the answers", output.taken.as_slice(), answers)
-}
-
-/// The front of the worked spool that ends in its third run, and the answers to it.
-fn cut_in_third(alloc: Global) -> Result<(String, String), Fail> {
-    let first = first_answer(alloc)?;
-    Ok((
-        format!(in alloc; "{FIRST}{SECOND}RUN LYON 3 full 21\n*IDENT X\n*")?,
-        format!(in alloc; "{first}{SECOND_ANSWER}")?,
-    ))
-}
-
-#[test]
-fn a_spool_cut_in_a_run_is_sent_again(rt: HostRuntime) -> Result<(), Fail> {
-    let alloc = rt.alloc();
-    let (front, before) = cut_in_third(alloc)?;
-    let (text, answers) = worked(alloc)?;
-    let (cut, whole) = ("CutFrame (31) at 3", "3");
-    let sent = [
-        (front.as_bytes(), before.as_bytes(), cut),
-        (text.as_bytes(), answers.as_bytes(), whole),
-        (text.as_bytes(), answers.as_bytes(), whole),
-    ];
-    all_come_out(alloc, sent)
+    let mut input = Pieces::new(text.as_bytes(), 1);
+    let result = spool(alloc, &mut input, &mut output, desk);
+    came_out(alloc, text, (result, &output.taken), (answers, end))
 }
 
 /// Spools come out so, one after the other, read at once and byte by byte.
-fn all_come_out(alloc: Global, sent: [(&[u8], &[u8], &str); 3]) -> Result<(), Fail> {
-    let (mut at_once, mut in_bytes) = (desk(alloc), desk(alloc));
-    for (text, answers, end) in sent {
-        comes_out(alloc, &mut at_once, text, answers, end)?;
-        comes_out_in_bytes(alloc, &mut in_bytes, text, answers, end)?;
+fn all_come_out(
+    alloc: Global,
+    (at_once, in_bytes): (&mut Lists, &mut Lists),
+    spools: &[(&str, (&str, &str))],
+) -> Result<(), Fail> {
+    for (text, wanted) in spools {
+        comes_out(alloc, at_once, text, *wanted)?;
+        comes_out_in_bytes(alloc, in_bytes, text, *wanted)?;
     }
     Ok(())
 }
 
-/// Where the second and the third answer begin.
-fn answer_starts(alloc: Global) -> Result<(usize, usize), Fail> {
-    let second = first_answer(alloc)?.len();
-    Ok((second, second.saturating_add(SECOND_ANSWER.len())))
+/// The front of the worked spool that ends in its third run.
+const CUT: &str = "RUN LYON 1 full 22\n*DECK A\nONE\nTWO\nTHREE\n\nRUN LYON 2 quick 0\n\n\
+RUN LYON 3 full 21\n*IDENT X\n*";
+
+/// The spool is cut, sent again, and sent once more.
+fn is_sent_again(alloc: Global, text: &str, answers: &str) -> Result<(), Fail> {
+    let before = answers.get(..ANSWER_ENDS[2]).ok_or("no answers")?;
+    let spools = [
+        (CUT, (before, "CutFrame (31) at 3")),
+        (text, (answers, "3")),
+        (text, (answers, "3")),
+    ];
+    all_come_out(
+        alloc,
+        (&mut empty_desk(alloc), &mut empty_desk(alloc)),
+        &spools,
+    )
+}
+
+#[test]
+fn a_spool_cut_in_a_run_is_sent_again(rt: HostRuntime) -> Result<(), Fail> {
+    let (text, answers) = worked(rt.alloc())?;
+    is_sent_again(rt.alloc(), &text, &answers)
 }
 
 /// The frame whose answer a writer with this room can't take whole.
-fn last_frame(alloc: Global, room: usize) -> Result<u32, Fail> {
-    let (second, third) = answer_starts(alloc)?;
-    let frame = u32::from(room >= second).saturating_add(u32::from(room >= third));
-    Ok(frame.saturating_add(1))
+fn last_frame(room: usize) -> u32 {
+    let [_, second, third, _] = ANSWER_ENDS;
+    u32::from(room >= second)
+        .saturating_add(u32::from(room >= third))
+        .saturating_add(1)
 }
 
 /// The idents of the runs of the first two frames, and of all three.
@@ -118,27 +124,20 @@ fn idents_after(frame: u32) -> &'static str {
     }
 }
 
-/// A spool ends when the answer to this frame can't be written.
-fn ends_at_write<W: Write>(
+/// A spool ended since the answer to this frame couldn't be written, after the first `bytes` bytes of the answers.
+fn ended_at_write(
     alloc: Global,
-    desk: &mut Desk<ListStore>,
-    text: &str,
-    output: &mut W,
-    frame: u32,
+    (text, answers): (&str, &str),
+    found: (Result<u32, Fault>, &[u8]),
+    (frame, bytes): (u32, usize),
 ) -> Result<(), Fail> {
+    let front = answers.get(..bytes).ok_or("too much")?;
     let end = format!(in alloc; "Write (33) at {frame}")?;
-    let mut input = text.as_bytes();
-    ends(alloc, desk, &mut input, output, end.as_str())
-}
-
-/// What was written is the first `bytes` bytes of the answers.
-fn is_front(written: &[u8], answers: &str, bytes: usize) -> Result<(), Fail> {
-    let front = answers.as_bytes().get(..bytes).ok_or("too much")?;
-    same("the front", written, front)
+    came_out(alloc, text, found, (front, &end))
 }
 
 /// The desk has the idents of the runs that came before the next frame.
-fn has_idents(alloc: Global, desk: &mut Desk<ListStore>, frame: u32) -> Result<(), Fail> {
+fn has_idents(alloc: Global, desk: &mut Lists, frame: u32) -> Result<(), Fail> {
     let idents = desk.ident_list(alloc)?;
     same_text(
         "the idents",
@@ -147,20 +146,36 @@ fn has_idents(alloc: Global, desk: &mut Desk<ListStore>, frame: u32) -> Result<(
     )
 }
 
-/// A writer with this room gets that front of the answers, and what was answered is stored: the desk.
+/// A writer with this room gets that front of the answers.
 fn write_fails(
     alloc: Global,
+    desk: &mut Lists,
     (text, answers): (&str, &str),
-    room: usize,
-    kind: Option<ErrorKind>,
-) -> Result<Desk<ListStore>, Fail> {
-    let mut desk = desk(alloc);
+    (room, kind): (usize, Option<ErrorKind>),
+) -> Result<(), Fail> {
     let mut output = Narrow::after(Vec::new(alloc), room, kind);
-    let frame = last_frame(alloc, room)?;
-    ends_at_write(alloc, &mut desk, text, &mut output, frame)?;
-    is_front(&output.taken, answers, room)?;
-    has_idents(alloc, &mut desk, frame)?;
-    Ok(desk)
+    let result = spool(alloc, &mut text.as_bytes(), &mut output, desk);
+    let found = (result, output.taken.as_slice());
+    ended_at_write(alloc, (text, answers), found, (last_frame(room), room))
+}
+
+/// After a write that failed, or took nothing, what was answered is stored, and the spool, sent again, is answered.
+fn is_made_good(
+    alloc: Global,
+    desk: &mut Lists,
+    (text, answers): (&str, &str),
+    failing: (usize, Option<ErrorKind>),
+) -> Result<(), Fail> {
+    write_fails(alloc, desk, (text, answers), failing)?;
+    has_idents(alloc, desk, last_frame(failing.0))?;
+    comes_out(alloc, desk, text, (answers, "3"))
+}
+
+/// A write after this many bytes fails, or takes nothing.
+fn write_may_fail(alloc: Global, worked: (&str, &str), room: usize) -> Result<(), Fail> {
+    let failing = (room, Some(ErrorKind::Interrupted));
+    is_made_good(alloc, &mut empty_desk(alloc), worked, failing)?;
+    is_made_good(alloc, &mut empty_desk(alloc), worked, (room, None))
 }
 
 /// A write fails, or takes nothing; the spool, sent again, is answered.
@@ -168,55 +183,59 @@ fn write_fails(
 fn each_write_may_fail(rt: HostRuntime) -> Result<(), Fail> {
     let alloc = rt.alloc();
     let (text, answers) = worked(alloc)?;
-    let (text, answers) = (text.as_str(), answers.as_str());
     for room in 0..answers.len() {
-        for kind in [Some(ErrorKind::Interrupted), None] {
-            let mut desk = write_fails(alloc, (text, answers), room, kind)?;
-            comes_out(alloc, &mut desk, text.as_bytes(), answers.as_bytes(), "3")?;
-        }
+        write_may_fail(alloc, (text.as_str(), answers.as_str()), room)?;
     }
     Ok(())
+}
+
+/// Each answer of the spool is flushed.
+fn all_are_flushed(alloc: Global, text: &str, answers: &str) -> Result<(), Fail> {
+    let mut held = Held::new(alloc, 0);
+    let mut input = text.as_bytes();
+    ends(alloc, &mut empty_desk(alloc), &mut input, &mut held, "3")?;
+    same(
+        "the answers, the fronts",
+        (held.flushed.as_slice(), held.fronts.as_slice()),
+        (answers.as_bytes(), &ANSWER_ENDS[1..]),
+    )
 }
 
 /// A writer that holds back what isn't flushed has each answer before the next one comes.
 #[test]
 fn each_answer_is_flushed(rt: HostRuntime) -> Result<(), Fail> {
-    let alloc = rt.alloc();
-    let (text, answers) = worked(alloc)?;
-    let (second, third) = answer_starts(alloc)?;
-    let mut held = Held::new(alloc, 0);
-    ends(
-        alloc,
-        &mut desk(alloc),
-        &mut text.as_bytes(),
-        &mut held,
-        "3",
-    )?;
-    same("the answers", held.flushed.as_slice(), answers.as_bytes())?;
-    let fronts = [second, third, answers.len()];
-    same("the fronts", held.fronts.as_slice(), fronts.as_slice())
+    let (text, answers) = worked(rt.alloc())?;
+    all_are_flushed(rt.alloc(), &text, &answers)
 }
 
 /// Flush number `at` fails: the answers before it are out.
 fn flush_fails(
     alloc: Global,
     (text, answers): (&str, &str),
-    at: u32,
-    front: usize,
+    (at, front): (u32, usize),
 ) -> Result<(), Fail> {
     let mut held = Held::new(alloc, at as usize);
-    ends_at_write(alloc, &mut desk(alloc), text, &mut held, at)?;
-    is_front(&held.flushed, answers, front)
+    let result = spool(
+        alloc,
+        &mut text.as_bytes(),
+        &mut held,
+        &mut empty_desk(alloc),
+    );
+    let found = (result, held.flushed.as_slice());
+    ended_at_write(alloc, (text, answers), found, (at, front))
+}
+
+/// Each of the three flushes fails.
+fn flushes_fail(alloc: Global, worked: (&str, &str)) -> Result<(), Fail> {
+    let [none, first, second, _] = ANSWER_ENDS;
+    flush_fails(alloc, worked, (1, none))?;
+    flush_fails(alloc, worked, (2, first))?;
+    flush_fails(alloc, worked, (3, second))
 }
 
 /// A flush that fails is a failed write, and the next frame isn't read.
 #[test]
 fn each_flush_may_fail(rt: HostRuntime) -> Result<(), Fail> {
-    let alloc = rt.alloc();
-    let (text, answers) = worked(alloc)?;
-    let (second, third) = answer_starts(alloc)?;
-    for (at, front) in [(1, 0), (2, second), (3, third)] {
-        flush_fails(alloc, (text.as_str(), answers.as_str()), at, front)?;
-    }
-    Ok(())
+    let (text, answers) = worked(rt.alloc())?;
+    flushes_fail(rt.alloc(), (text.as_str(), answers.as_str()))
 }

@@ -1,7 +1,7 @@
 //! Two desks over lists that are asked the same, where one request for memory may be refused.
+use crate::list_desks::desk_over;
 use std::alloc::Global;
 use std::test::Fail;
-use upd_desk::Desk;
 use upd_list_store::ListStore;
 use upd_testkit::check::{holds, same_text};
 use upd_text::{Fault, FaultKind};
@@ -40,8 +40,8 @@ impl Answer {
 }
 
 /// Asks a desk over a store.
-fn put(alloc: Global, store: ListStore, asked: Ask<'_>) -> (ListStore, Answer) {
-    let mut desk = Desk::open(store);
+fn put(alloc: Global, store: &mut ListStore, asked: Ask<'_>) -> Answer {
+    let mut desk = desk_over(alloc, store);
     let mut mark = None;
     let text = match asked {
         Ask::Run(number, mode, text) => desk
@@ -59,17 +59,23 @@ fn put(alloc: Global, store: ListStore, asked: Ask<'_>) -> (ListStore, Answer) {
         Ask::Yanks => desk.yank_list(alloc),
     };
     let work = desk.work();
-    (desk.close(), Answer { text, mark, work })
+    *store = desk.close();
+    Answer { text, mark, work }
 }
 
 /// Asks, and once more if memory is refused.
-pub fn put_again(alloc: Global, store: ListStore, asked: Ask<'_>) -> (ListStore, Answer) {
-    let (store, answer) = put(alloc, store, asked);
+pub fn put_again(alloc: Global, store: &mut ListStore, asked: Ask<'_>) -> Answer {
+    let answer = put(alloc, store, asked);
     if answer.is_lost() {
         put(alloc, store, asked)
     } else {
-        (store, answer)
+        answer
     }
+}
+
+/// The rows of a store in all tables.
+fn rows_of(alloc: Global, store: &ListStore) -> Result<String, Fail> {
+    Ok(format!(in alloc; "{:?}", store.tables())?)
 }
 
 /// Two stores that show the same.
@@ -87,38 +93,29 @@ impl Twins {
         }
     }
 
-    /// Asks only the first.
-    fn put_first(self, alloc: Global, asked: Ask<'_>) -> (Twins, Answer) {
-        let (first, answer) = put(alloc, self.first, asked);
-        let second = self.second;
-        (Twins { first, second }, answer)
-    }
-
     /// Asks the first, and once more if memory is refused: both have the same rows then.
-    fn ask_first(self, alloc: Global, asked: Ask<'_>) -> Result<(Twins, Answer), Fail> {
-        let (twins, answer) = self.put_first(alloc, asked);
+    fn ask_first(&mut self, alloc: Global, asked: Ask<'_>) -> Result<Answer, Fail> {
+        let answer = put(alloc, &mut self.first, asked);
         if answer.is_lost() {
-            let twins = twins.are_alike(alloc)?;
-            Ok(twins.put_first(alloc, asked))
+            self.are_alike(alloc)?;
+            Ok(put(alloc, &mut self.first, asked))
         } else {
-            Ok((twins, answer))
+            Ok(answer)
         }
     }
 
     /// Asks both: the answer, which both give.
-    pub fn ask(self, alloc: Global, asked: Ask<'_>) -> Result<(Twins, Answer), Fail> {
-        let (twins, answer) = self.ask_first(alloc, asked)?;
-        let (second, wanted) = put_again(alloc, twins.second, asked);
+    pub fn ask(&mut self, alloc: Global, asked: Ask<'_>) -> Result<Answer, Fail> {
+        let answer = self.ask_first(alloc, asked)?;
+        let wanted = put_again(alloc, &mut self.second, asked);
         holds(asked, answer.is(&wanted))?;
-        let first = twins.first;
-        Ok((Twins { first, second }, answer))
+        Ok(answer)
     }
 
     /// Both have the same rows in all tables.
-    pub fn are_alike(self, alloc: Global) -> Result<Twins, Fail> {
-        let first = format!(in alloc; "{:?}", self.first.tables())?;
-        let second = format!(in alloc; "{:?}", self.second.tables())?;
-        same_text("the tables", first.as_str(), second.as_str())?;
-        Ok(self)
+    pub fn are_alike(&self, alloc: Global) -> Result<(), Fail> {
+        let first = rows_of(alloc, &self.first)?;
+        let second = rows_of(alloc, &self.second)?;
+        same_text("the tables", first.as_str(), second.as_str())
     }
 }
