@@ -19,7 +19,7 @@ use upd_text::Fault;
 pub const DECK_A: &str = "*DECK A\nONE\nTWO\nTHREE\n";
 
 /// What is asked of a library.
-#[derive(Clone, Copy, Debug)]
+#[derive(Clone, Copy)]
 pub enum Ask<'a> {
     /// A run: "accepted", or its fault.
     Run(&'a str),
@@ -65,11 +65,13 @@ impl AskedLibrary {
         AskedLibrary { library }
     }
 
-    /// Asks one after the other, and compares each answer with the expected one.
+    /// Asks one after the other, and compares each answer with the expected one. An error has the number of the answer.
     pub fn check(&mut self, asked: &[(Ask<'_>, &str)]) -> Result<(), Fail> {
+        let mut number: u32 = 0;
         for (ask, wanted) in asked {
+            number = number.saturating_add(1);
             let answer = self.answer(*ask)?;
-            same_text(*ask, answer.as_str(), wanted)?;
+            same_text(number, answer.as_str(), wanted)?;
         }
         Ok(())
     }
@@ -111,8 +113,13 @@ impl AskedLibrary {
 
     fn refused(&mut self, text: &str) -> Result<String, Fail> {
         let before = rows_of(&self.library.copy()?)?;
+        self.fault_over(text, before.as_str())
+    }
+
+    /// The fault of a run that leaves these rows.
+    fn fault_over(&mut self, text: &str, rows: &str) -> Result<String, Fail> {
         let fault = self.run(text)?;
-        same_text(text, rows_of(&self.library)?.as_str(), before.as_str())?;
+        has_rows(&self.library, rows)?;
         Ok(fault)
     }
 
@@ -177,6 +184,10 @@ fn rows_of(library: &Library) -> Result<String, Fail> {
     let mut lines = Vec::new(alloc);
     add_library(&mut lines, library)?;
     joined(alloc, lines)
+}
+
+fn has_rows(library: &Library, wanted: &str) -> Result<(), Fail> {
+    same_text("the rows", rows_of(library)?.as_str(), wanted)
 }
 
 fn fault_text(alloc: Global, fault: Fault) -> Result<String, Fail> {

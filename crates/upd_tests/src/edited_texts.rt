@@ -42,23 +42,18 @@ fn at(line: usize, column: usize, problem: Problem) -> Refusal {
     }
 }
 
-/// The refusals of a text.
-fn refusals_of(alloc: Global, set: &str, text: &[u8]) -> Result<Vec<Refusal>, Fail> {
-    match correct(alloc, &small(alloc)?, set.as_bytes(), text) {
-        Ok(_) => Err("there is a run".into()),
-        Err(CorrectError::Refused(found)) => Ok(found),
-        Err(CorrectError::NoMemory) => Err("out of memory".into()),
-    }
-}
-
+/// A text has these refusals.
 fn expect_refusals(
     alloc: Global,
     set: &str,
     text: &[u8],
     refusals: &[Refusal],
 ) -> Result<(), Fail> {
-    let found = refusals_of(alloc, set, text)?;
-    same("the refusals", found.as_slice(), refusals)
+    match correct(alloc, &small(alloc)?, set.as_bytes(), text) {
+        Ok(_) => Err("there is a run".into()),
+        Err(CorrectError::Refused(found)) => same("the refusals", found.as_slice(), refusals),
+        Err(CorrectError::NoMemory) => Err("out of memory".into()),
+    }
 }
 
 #[test]
@@ -200,13 +195,18 @@ fn has_text(alloc: Global, library: &Library, text: &str) -> Result<(), Fail> {
     same_text("the deck", std::str::from_utf8(&found)?, text)
 }
 
-/// Deck A of some lines is led to others, by few directives.
+/// A library is led to a text of its deck A, by few directives.
+fn is_led_to(alloc: Global, library: &mut Library, text: &str, most: usize) -> Result<(), Fail> {
+    let count = lead(alloc, library, text)?;
+    has_text(alloc, library, text)?;
+    holds("few directives", count <= most)
+}
+
+/// Deck A of some lines is led to others.
 fn is_led(alloc: Global, old: &[u8], new: &[u8]) -> Result<(), Fail> {
-    let mut library = library_of(alloc, old)?;
+    let most = most_directives(alloc, old, new)?;
     let text = deck_text(alloc, new)?;
-    let count = lead(alloc, &mut library, text.as_str())?;
-    has_text(alloc, &library, text.as_str())?;
-    holds("few directives", count <= most_directives(alloc, old, new)?)
+    is_led_to(alloc, &mut library_of(alloc, old)?, text.as_str(), most)
 }
 
 /// The number of directives of a run.

@@ -5,7 +5,7 @@ use std::test::Fail;
 use upd_compile::{Mode, compile_active};
 use upd_core::ident::name_at;
 use upd_core::{Card, Deck, Entry, Kind, Library, Live, Place, Serial, Target};
-use upd_testkit::applying::{applied, card_ref, name};
+use upd_testkit::applying::{after, card_ref, name};
 use upd_testkit::check::same;
 use upd_text::limits::MAX_INTRODUCED;
 use upd_text::{CardRef, Fault};
@@ -74,7 +74,6 @@ const BEFORE: &str = "DECK A\nA A.1 *DECK A\nA A.2 ONE\nI X.1 NEW\nA A.3 TWO\n";
 #[test]
 fn decks_get_cards_and_entries(rt: HostRuntime) -> Result<(), Fail> {
     let library = corrected(rt.alloc())?;
-    same("within limits", &library.is_within_limits(), &true)?;
     const ASKED: Asked = &[
         (Ask::Deck("A"), BEFORE),
         (Ask::Deck("B"), "DECK B\nA B.1 *DECK B\n"),
@@ -92,12 +91,12 @@ fn decks_get_cards_and_entries(rt: HostRuntime) -> Result<(), Fail> {
 
 #[test]
 fn copies_are_the_same(rt: HostRuntime) -> Result<(), Fail> {
-    let library = corrected(rt.alloc())?;
+    let library = corrected(rt.alloc())?.copy()?;
     const ASKED: Asked = &[
         (Ask::Deck("A"), BEFORE),
         (Ask::Yanks, "live Y.1 *YANK X\n set X\n"),
     ];
-    AskedLibrary::new(library.copy()?).check(ASKED)
+    AskedLibrary::new(library).check(ASKED)
 }
 
 #[test]
@@ -152,35 +151,47 @@ fn check_name(
     same(text, (is_held, named), (true, Some(name)))
 }
 
+fn has_names(library: &Library) -> Result<(), Fail> {
+    check_name(library, "Y", 3, None)?;
+    check_name(library, "B", 4, Some(4))?;
+    same("ident 5", name_at(library.idents(), 5), None)
+}
+
 #[test]
 fn finds_idents_and_decks(rt: HostRuntime) -> Result<(), Fail> {
-    let library = corrected(rt.alloc())?;
-    check_name(&library, "Y", 3, None)?;
-    check_name(&library, "B", 4, Some(4))?;
-    same("ident 5", name_at(library.idents(), 5), None)
+    has_names(&corrected(rt.alloc())?)
 }
 
 #[test]
 fn counts_decks_and_cards(rt: HostRuntime) -> Result<(), Fail> {
     let library = corrected(rt.alloc())?;
     let (decks, cards) = (library.decks().len(), library.cards_of(4).len());
-    let counts = [decks, cards, library.rest().cards];
-    same("counts", &counts, &[2, 1, 0])
+    let found = (
+        decks,
+        cards,
+        library.rest().cards,
+        library.is_within_limits(),
+    );
+    same("counts, within limits", found, (2, 1, 0, true))
 }
 
 /// Where X.1 is.
 const PLACE: Place = Place { deck: 1, index: 2 };
 
-fn place(library: &Library, card: &str) -> Result<Option<Place>, Fail> {
-    Ok(library.card_at(card_ref(card)?))
+fn has_cards(library: &Library) -> Result<(), Fail> {
+    let (first, second) = (card_ref("X.1")?, card_ref("A.4")?);
+    let places = (library.card_at(first), library.card_at(second));
+    let is_there = library.card_in(PLACE).is_some();
+    same(
+        "places, a card",
+        (places, is_there),
+        ((Some(PLACE), None), true),
+    )
 }
 
 #[test]
 fn finds_cards(rt: HostRuntime) -> Result<(), Fail> {
-    let library = corrected(rt.alloc())?;
-    let places = [place(&library, "X.1")?, place(&library, "A.4")?];
-    same("places", &places, &[Some(PLACE), None])?;
-    same("a card", &library.card_in(PLACE).is_some(), &true)
+    has_cards(&corrected(rt.alloc())?)
 }
 
 fn status(library: &Library, card: CardRef) -> Result<Option<bool>, Fault> {
@@ -199,46 +210,54 @@ fn statuses(library: &Library, card: &str) -> Result<(Option<bool>, Option<bool>
     Ok((status(library, card)?, live_yank(library, card)?))
 }
 
-#[test]
-fn reads_the_status_off_histories(rt: HostRuntime) -> Result<(), Fail> {
-    const CARDS: &[(&str, (Option<bool>, Option<bool>))] = &[
-        ("Y.1", (Some(true), Some(true))),
-        ("X.1", (Some(false), None)),
-        ("A.4", (None, None)),
-    ];
-    let library = corrected(rt.alloc())?;
-    for (card, wanted) in CARDS {
-        same(card, &statuses(&library, card)?, wanted)?;
+const STATUSES: &[(&str, (Option<bool>, Option<bool>))] = &[
+    ("Y.1", (Some(true), Some(true))),
+    ("X.1", (Some(false), None)),
+    ("A.4", (None, None)),
+];
+
+fn has_statuses(library: &Library) -> Result<(), Fail> {
+    for (card, wanted) in STATUSES {
+        same(card, &statuses(library, card)?, wanted)?;
     }
     Ok(())
 }
 
-fn check_taken(live: &Live<'_>, card: &Card) -> Result<(), Fail> {
-    let taken = [live.is_taken(1, 2), live.is_taken(1, 1)];
-    same("taken", &taken, &[true, false])?;
-    let active = [live.is_good(1, card), live.is_active(1, card)];
-    same("active", &active, &[false, false])
+#[test]
+fn reads_the_status_off_histories(rt: HostRuntime) -> Result<(), Fail> {
+    has_statuses(&corrected(rt.alloc())?)
 }
 
-/// Whether the yanks of a library take a set, and one of its cards is a live yank card.
-fn taken(library: &Library) -> Result<(bool, Option<bool>), Fail> {
+/// No yank takes the set of serial 2 in deck A, and Y.1 is not a yank card.
+fn has_no_yanks(library: &Library) -> Result<(), Fail> {
+    let card = card_ref("Y.1")?;
     let live = library.live_yanks()?;
-    Ok((live.is_taken(1, 2), live.live_yank(card_ref("Y.1")?)))
+    let found = (live.is_taken(1, 2), live.live_yank(card));
+    same("taken, live", found, (false, None))
 }
 
 #[test]
 fn a_library_without_yanks_has_no_live_ones(rt: HostRuntime) -> Result<(), Fail> {
-    let mut library = Library::new(rt.alloc());
-    same("empty", taken(&library)?, (false, None))?;
-    applied(&mut library, "*DECK A\nONE\n*IDENT X\n*DELETE A.2\n")?;
-    same("without yanks", taken(&library)?, (false, None))
+    const RUN: &str = "*DECK A\nONE\n*IDENT X\n*DELETE A.2\n";
+    has_no_yanks(&Library::new(rt.alloc()))?;
+    has_no_yanks(&after(rt.alloc(), &[RUN])?)
+}
+
+fn check_taken(live: &Live<'_>, card: &Card) -> Result<(), Fail> {
+    let taken = (live.is_taken(1, 2), live.is_taken(1, 1));
+    let active = (live.is_good(1, card), live.is_active(1, card));
+    let wanted = ((true, false), (false, false));
+    same("taken, active", (taken, active), wanted)
+}
+
+fn takes_a_set(library: &Library) -> Result<(), Fail> {
+    let card = library.card_in(PLACE).ok_or("X.1")?;
+    check_taken(&library.live_yanks()?, card)
 }
 
 #[test]
 fn knows_what_yanks_take(rt: HostRuntime) -> Result<(), Fail> {
-    let library = corrected(rt.alloc())?;
-    let card = library.card_in(PLACE).ok_or("X.1")?;
-    check_taken(&library.live_yanks()?, card)
+    takes_a_set(&corrected(rt.alloc())?)
 }
 
 /// The number of lines of the compile file of a deck.
@@ -249,9 +268,12 @@ fn line_count(library: &Library, deck: Serial) -> Result<u32, Fault> {
     Ok(file.lines)
 }
 
+fn has_lines(library: &Library) -> Result<(), Fail> {
+    let lines = (line_count(library, 1)?, line_count(library, 4)?);
+    same("lines", lines, (2, 0))
+}
+
 #[test]
 fn compiles_the_active_cards(rt: HostRuntime) -> Result<(), Fail> {
-    let library = corrected(rt.alloc())?;
-    let lines = [line_count(&library, 1)?, line_count(&library, 4)?];
-    same("lines", &lines, &[2, 0])
+    has_lines(&corrected(rt.alloc())?)
 }

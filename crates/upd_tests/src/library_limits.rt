@@ -12,57 +12,72 @@ const ALL_IDENTS: Asked = &[
     (Ask::Long(&[Part::Idents(4000, 4095)]), "accepted"),
 ];
 
-#[test]
-fn holds_4096_idents(rt: HostRuntime) -> Result<(), Fail> {
-    let mut asked = AskedLibrary::new(Library::new(rt.alloc()));
-    asked.check(ALL_IDENTS)?;
+/// All idents, and one more after one is purged.
+fn hold_idents(library: &mut AskedLibrary) -> Result<(), Fail> {
     const ASKED: Asked = &[
         (Ask::Run("*IDENT LAST\n"), "Full (19) at 1"),
         (Ask::Run("*PURGE N0\n*IDENT LAST\n"), "accepted"),
     ];
-    asked.check(ASKED)
+    library.check(ALL_IDENTS)?;
+    library.check(ASKED)
+}
+
+#[test]
+fn holds_4096_idents(rt: HostRuntime) -> Result<(), Fail> {
+    hold_idents(&mut AskedLibrary::new(Library::new(rt.alloc())))
+}
+
+/// All idents 16 times, purged each time, and one more.
+fn introduce_idents(library: &mut AskedLibrary) -> Result<(), Fail> {
+    const PURGE: Asked = &[(Ask::Run("*PURGE N0,*\n"), "accepted")];
+    const LAST: Asked = &[(Ask::Run("*IDENT LAST\n"), "Full (19) at 1")];
+    for _ in 0..16 {
+        library.check(ALL_IDENTS)?;
+        library.check(PURGE)?;
+    }
+    library.check(LAST)
 }
 
 #[test]
 fn introduces_65536_idents(rt: HostRuntime) -> Result<(), Fail> {
-    const PURGE: Asked = &[(Ask::Run("*PURGE N0,*\n"), "accepted")];
-    const LAST: Asked = &[(Ask::Run("*IDENT LAST\n"), "Full (19) at 1")];
-    let mut asked = AskedLibrary::new(Library::new(rt.alloc()));
-    for _ in 0..16 {
-        asked.check(ALL_IDENTS)?;
-        asked.check(PURGE)?;
-    }
-    asked.check(LAST)
+    introduce_idents(&mut AskedLibrary::new(Library::new(rt.alloc())))
 }
 
-fn take_2000_cards(asked: &mut AskedLibrary, deck: &str) -> Result<(), Fail> {
-    let parts = [Part::Line(deck), Part::Times(1999, "      CONTINUE")];
-    asked.check(&[(Ask::Long(&parts), "accepted")])
+fn take_2000_cards(library: &mut AskedLibrary, alloc: Global, n: u32) -> Result<(), Fail> {
+    let deck = format!(in alloc; "*DECK DECK{n}")?;
+    let parts = [
+        Part::Line(deck.as_str()),
+        Part::Times(1999, "      CONTINUE"),
+    ];
+    library.check(&[(Ask::Long(&parts), "accepted")])
 }
 
 /// 50,000 cards in the decks DECK0 to DECK24.
-fn with_50000_cards(alloc: Global) -> Result<AskedLibrary, Fail> {
-    let mut asked = AskedLibrary::new(Library::new(alloc));
+fn take_50000_cards(library: &mut AskedLibrary, alloc: Global) -> Result<(), Fail> {
     for n in 0..25 {
-        let deck = format!(in alloc; "*DECK DECK{n}")?;
-        take_2000_cards(&mut asked, deck.as_str())?;
+        take_2000_cards(library, alloc, n)?;
     }
-    Ok(asked)
+    Ok(())
+}
+
+/// Asks all this of a library of 50,000 cards.
+fn check_full(alloc: Global, asked: Asked) -> Result<(), Fail> {
+    let mut library = AskedLibrary::new(Library::new(alloc));
+    take_50000_cards(&mut library, alloc)?;
+    library.check(asked)
 }
 
 #[test]
 fn holds_50000_cards(rt: HostRuntime) -> Result<(), Fail> {
-    let mut asked = with_50000_cards(rt.alloc())?;
     const ASKED: Asked = &[(Ask::Run("*DECK Z\n"), "Full (19) at 1")];
-    asked.check(ASKED)
+    check_full(rt.alloc(), ASKED)
 }
 
 #[test]
 fn takes_1999_corrections_on_50000_cards(rt: HostRuntime) -> Result<(), Fail> {
-    let mut asked = with_50000_cards(rt.alloc())?;
     const PARTS: &[Part<'_>] = &[Part::Line("*IDENT X"), Part::Deletions(1999)];
     const ASKED: Asked = &[(Ask::Long(PARTS), "accepted")];
-    asked.check(ASKED)
+    check_full(rt.alloc(), ASKED)
 }
 
 #[test]
@@ -103,21 +118,20 @@ fn holds_100000_targets(rt: HostRuntime) -> Result<(), Fail> {
     check(rt.alloc(), ASKED)
 }
 
-fn take_chain(asked: &mut AskedLibrary, first: u32, last: u32) -> Result<(), Fail> {
-    let parts = [Part::Chain(first, last, 1)];
-    asked.check(&[(Ask::Long(&parts), "accepted")])
-}
-
 #[test]
 fn follows_4000_common_decks_in_one_chain(rt: HostRuntime) -> Result<(), Fail> {
-    let mut asked = AskedLibrary::new(Library::new(rt.alloc()));
-    for n in 0..8 {
-        take_chain(&mut asked, 500 * n, 500 * n + 499)?;
-    }
     const CHANGE: &str = "*IDENT X\n*INSERT C3999.1\nMORE\n";
     const ASKED: Asked = &[
+        (Ask::Long(&[Part::Chain(0, 499, 1)]), "accepted"),
+        (Ask::Long(&[Part::Chain(500, 999, 1)]), "accepted"),
+        (Ask::Long(&[Part::Chain(1000, 1499, 1)]), "accepted"),
+        (Ask::Long(&[Part::Chain(1500, 1999, 1)]), "accepted"),
+        (Ask::Long(&[Part::Chain(2000, 2499, 1)]), "accepted"),
+        (Ask::Long(&[Part::Chain(2500, 2999, 1)]), "accepted"),
+        (Ask::Long(&[Part::Chain(3000, 3499, 1)]), "accepted"),
+        (Ask::Long(&[Part::Chain(3500, 3999, 1)]), "accepted"),
         (Ask::Run("*DECK A\n*CALL C0\n"), "accepted"),
         (Ask::Compiled(Mode::Normal, CHANGE), "CallDepth (21) at 0"),
     ];
-    asked.check(ASKED)
+    check(rt.alloc(), ASKED)
 }

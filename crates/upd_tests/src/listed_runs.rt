@@ -40,9 +40,12 @@ fn stored_runs(alloc: Global) -> Result<Vec<RunRow>, Fail> {
     Ok(runs)
 }
 
+fn are_listed(alloc: Global, runs: &[RunRow]) -> Result<(), Fail> {
+    let text = run_lines(alloc, runs)?;
+    same_text("the lines", std::str::from_utf8(&text)?, LINES)
+}
+
 #[test]
 fn a_run_with_a_reply_that_is_not_json_is_listed(rt: HostRuntime) -> Result<(), Fail> {
-    let runs = stored_runs(rt.alloc())?;
-    let text = run_lines(rt.alloc(), &runs)?;
-    same_text("the lines", std::str::from_utf8(&text)?, LINES)
+    are_listed(rt.alloc(), &stored_runs(rt.alloc())?)
 }

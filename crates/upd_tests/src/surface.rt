@@ -4,7 +4,7 @@
 use std::alloc::Global;
 use std::test::Fail;
 use upd_apply::Applied;
-use upd_core::{Actives, Change, Counted, Entry, Fault, FaultKind, Place, Target};
+use upd_core::{Actives, Change, Counted, Entry, Fault, FaultKind, Library, Place, Target};
 use upd_deck::{Item, Line, Run, read_run};
 use upd_testkit::applying::{after, applied, card_ref, name};
 use upd_testkit::check::{holds, same};
@@ -22,16 +22,20 @@ fn second_active(actives: &Actives) -> Option<&[u8]> {
     Some(card.text)
 }
 
+fn are_read_in_place(actives: &Actives) -> Result<(), Fail> {
+    let found = (actives.idents.len(), second_active(actives));
+    let wanted = (3, Some(b"ONE".as_slice()));
+    same("idents, the second card", found, wanted)
+}
+
 #[test]
 fn active_cards_are_read_in_place(rt: HostRuntime) -> Result<(), Fail> {
-    let actives = after(rt.alloc(), &[DECK, SET, YANK])?.actives()?;
-    same("idents", actives.idents.len(), 3)?;
-    let text = second_active(&actives).ok_or("no card")?;
-    same("the second card", text, b"ONE".as_slice())
+    let library = after(rt.alloc(), &[DECK, SET, YANK])?;
+    are_read_in_place(&library.actives()?)
 }
 
 /// The entry of A.2 by deck A, and the one by set X.
-const HISTORY: [Entry; 2] = [
+const HISTORY: &[Entry] = &[
     Entry {
         ident: 1,
         active: true,
@@ -44,34 +48,42 @@ const HISTORY: [Entry; 2] = [
 
 /// One history is read, and one that is asked of no card isn't.
 fn history_is_counted(counted: &mut Counted<'_>) -> Result<(), Fail> {
-    let history = counted.history(card_ref("A.2")?).ok_or("no card")?;
-    same("the history", history, HISTORY.as_slice())?;
-    let is_there = counted.history(card_ref("A.3")?).is_some();
-    same("reads", (is_there, counted.reads()), (false, 1))
+    let (card, other) = (card_ref("A.2")?, card_ref("A.3")?);
+    let found = (counted.history(card), counted.history(other));
+    let wanted = (Some(HISTORY), None);
+    same("histories, reads", (found, counted.reads()), (wanted, 1))
 }
+
+/// Where X.1 is.
+const PLACE: Place = Place { deck: 1, index: 2 };
+
+/// What Y.1 takes.
+const TARGETS: &[Target] = &[Target::Set(2)];
 
 fn are_looked_up(counted: &Counted<'_>) -> Result<(), Fail> {
-    same("an ident", counted.ident_of(&name("Y")?), Some(3))?;
-    let place = Place { deck: 1, index: 2 };
-    same("a place", counted.place(card_ref("X.1")?), Some(place))?;
-    let targets = counted.targets(card_ref("Y.1")?).ok_or("no card")?;
-    same("targets", targets, [Target::Set(2)].as_slice())
+    let (ident, card, yank) = (name("Y")?, card_ref("X.1")?, card_ref("Y.1")?);
+    let found = (counted.ident_of(&ident), counted.place(card));
+    same("an ident, a place", found, (Some(3), Some(PLACE)))?;
+    same("targets", counted.targets(yank), Some(TARGETS))
 }
 
-/// The cards that set X covers.
-fn two_are_covered(alloc: Global, counted: &Counted<'_>) -> Result<(), Fail> {
-    let covered = counted.covered(alloc, Target::Set(2))?;
+/// The cards that set X covers are A.2 and its own card.
+pub fn two_are_covered(alloc: Global, counted: &Counted<'_>) -> Result<(), Fail> {
     let wanted = [card_ref("A.2")?, card_ref("X.1")?];
+    let covered = counted.covered(alloc, Target::Set(2))?;
     same("covered", covered.as_slice(), wanted.as_slice())
+}
+
+fn are_answers(alloc: Global, library: &Library) -> Result<(), Fail> {
+    let mut counted = Counted::new(library);
+    are_looked_up(&counted)?;
+    history_is_counted(&mut counted)?;
+    two_are_covered(alloc, &counted)
 }
 
 #[test]
 fn a_counted_library_answers(rt: HostRuntime) -> Result<(), Fail> {
-    let library = after(rt.alloc(), &[DECK, SET, YANK])?;
-    let mut counted = Counted::new(&library);
-    are_looked_up(&counted)?;
-    history_is_counted(&mut counted)?;
-    two_are_covered(rt.alloc(), &counted)
+    are_answers(rt.alloc(), &after(rt.alloc(), &[DECK, SET, YANK])?)
 }
 
 /// The place of a row change among the eleven of them.
@@ -136,8 +148,11 @@ fn are_its_lines(lines: &[Line<'_>]) -> Result<(), Fail> {
     let [first, second] = lines else {
         return Err("not two lines".into());
     };
-    same("a line", parts(first), (1, 0, 7, b"*DECK A".as_slice()))?;
-    same("a line", parts(second), (2, 8, 11, b"ONE".as_slice()))?;
+    let wanted = (
+        (1, 0, 7, b"*DECK A".as_slice()),
+        (2, 8, 11, b"ONE".as_slice()),
+    );
+    same("the lines", (parts(first), parts(second)), wanted)?;
     let is_deck = matches!(&first.item, Item::Deck(deck) if deck.as_bytes() == b"A".as_slice());
     holds("the items", is_deck && matches!(second.item, Item::Text))
 }
@@ -148,6 +163,6 @@ fn faults_have_numbers_and_lines(rt: HostRuntime) -> Result<(), Fail> {
         Ok(_) => return Err("the run is read".into()),
         Err(fault) => fault,
     };
-    same("the fault", (fault.kind, fault.at), (FaultKind::BadByte, 2))?;
-    same("its number", fault.kind.number(), 3)
+    let found = (fault.kind, fault.kind.number(), fault.at);
+    same("the fault", found, (FaultKind::BadByte, 3, 2))
 }

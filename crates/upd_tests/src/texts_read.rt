@@ -7,95 +7,138 @@ use upd_testkit::check::{holds, same, same_text};
 use upd_text::line::{called, fields, is_call, is_comment, is_starred, split_once, word};
 use upd_text::{CardRef, Name};
 
-const NO_NAMES: &[&str] = &["", "*", "ABCDEFGHIJ", "a", "A.B"];
+/// What is read, and how it is written here.
+#[derive(Clone, Copy)]
+enum Reading {
+    Name,
+    Card,
+    /// A line, by each of the calls that look at lines.
+    Line,
+    /// The lines of a run, each with its number and span.
+    Lines,
+    /// The items of a run, as far as the tests below look.
+    Items,
+    /// The fault of a run, if it is refused as it is read.
+    Fault,
+}
 
-/// Whether a text is read as a name.
-fn is_name(text: &str) -> bool {
-    Name::read(text.as_bytes()).is_some()
+fn push(all: &mut String, alloc: Global, reading: Reading, bytes: &[u8]) -> Result<(), Fail> {
+    match reading {
+        Reading::Name => push_name(all, bytes),
+        Reading::Card => push_card(all, bytes),
+        Reading::Line => push_parts(all, alloc, bytes),
+        Reading::Lines => push_lines(all, alloc, bytes),
+        Reading::Items => push_items(all, alloc, bytes),
+        Reading::Fault => push_fault(all, alloc, bytes),
+    }
+}
+
+/// Bytes are read so; `what` names them in the error.
+fn is_read(
+    alloc: Global,
+    reading: Reading,
+    what: &str,
+    bytes: &[u8],
+    wanted: &str,
+) -> Result<(), Fail> {
+    let mut all = String::new(alloc);
+    push(&mut all, alloc, reading, bytes)?;
+    same_text(what, all.as_str(), wanted)
+}
+
+/// Reads one text after the other.
+fn check(alloc: Global, reading: Reading, cases: &[(&str, &str)]) -> Result<(), Fail> {
+    for (text, wanted) in cases {
+        is_read(alloc, reading, text, text.as_bytes(), wanted)?;
+    }
+    Ok(())
+}
+
+fn push_name(all: &mut String, bytes: &[u8]) -> Result<(), Fail> {
+    match Name::read(bytes) {
+        Some(name) => Ok(all.push_str(text(name.as_bytes())?)?),
+        None => Ok(all.push_str("no name")?),
+    }
 }
 
 #[test]
 fn names_have_one_to_nine_bytes(rt: HostRuntime) -> Result<(), Fail> {
-    let name = Name::read(b"Z+-*/()$=").ok_or("a name of nine bytes")?;
-    same_text("nine bytes", text(name.as_bytes())?, "Z+-*/()$=")?;
-    for text in NO_NAMES {
-        same(text, &is_name(text), &false)?;
-    }
-    Ok(())
+    const NAMES: &[(&str, &str)] = &[
+        ("Z+-*/()$=", "Z+-*/()$="),
+        ("", "no name"),
+        ("*", "no name"),
+        ("ABCDEFGHIJ", "no name"),
+        ("a", "no name"),
+        ("A.B", "no name"),
+    ];
+    check(rt.alloc(), Reading::Name, NAMES)
 }
 
 #[test]
 fn names_have_an_order(rt: HostRuntime) -> Result<(), Fail> {
-    let first = Name::read(b"A9").ok_or("a name")?;
-    let second = Name::read(b"AB").ok_or("a name")?;
-    let again = Name::read(b"A9").ok_or("a name")?;
-    holds(
-        "the order",
-        first < second && first == again && first != second,
-    )
+    let names = (Name::read(b"A9"), Name::read(b"AB"), Name::read(b"A9"));
+    let (Some(first), Some(second), Some(again)) = names else {
+        return Err("not three names".into());
+    };
+    let is_so = first < second && first == again && first != second;
+    holds("the order", is_so)
 }
 
-const NO_CARDS: &[&str] = &[
-    "A.0",
-    "A.01",
-    "A.1000000",
-    "A.",
-    ".2",
-    "2",
-    "A",
-    "A.2.3",
-    "A.2x",
-    "*.1",
-];
+fn push_card(all: &mut String, bytes: &[u8]) -> Result<(), Fail> {
+    match CardRef::read(bytes) {
+        Some(card) => Ok(write!(all, "{card}")?),
+        None => Ok(all.push_str("no card")?),
+    }
+}
 
 #[test]
 fn card_references_are_written_as_they_were_read(rt: HostRuntime) -> Result<(), Fail> {
-    let card = CardRef::read(b"DECK1.999999").ok_or("a card")?;
-    let text = format!(in rt.alloc(); "{card}")?;
-    same_text("a card", text.as_str(), "DECK1.999999")
-}
-
-/// Whether a text is read as a card reference.
-fn is_card(text: &str) -> bool {
-    CardRef::read(text.as_bytes()).is_some()
+    const CARDS: &[(&str, &str)] = &[("DECK1.999999", "DECK1.999999")];
+    check(rt.alloc(), Reading::Card, CARDS)
 }
 
 #[test]
 fn card_references_have_a_name_and_a_number(rt: HostRuntime) -> Result<(), Fail> {
-    for text in NO_CARDS {
-        same(text, &is_card(text), &false)?;
+    const TEXTS: &[(&str, &str)] = &[
+        ("A.0", "no card"),
+        ("A.01", "no card"),
+        ("A.1000000", "no card"),
+        ("A.", "no card"),
+        (".2", "no card"),
+        ("2", "no card"),
+        ("A", "no card"),
+        ("A.2.3", "no card"),
+        ("A.2x", "no card"),
+        ("*.1", "no card"),
+    ];
+    check(rt.alloc(), Reading::Card, TEXTS)
+}
+
+fn push_parts(all: &mut String, alloc: Global, line: &[u8]) -> Result<(), Fail> {
+    if is_comment(line) {
+        Ok(all.push_str("a comment")?)
+    } else if !is_starred(line) {
+        Ok(all.push_str("a text")?)
+    } else if is_call(line) {
+        push_call(all, text(called(line))?)
+    } else {
+        push_fields(all, alloc, line)
+    }
+}
+
+fn push_call(all: &mut String, called: &str) -> Result<(), Fail> {
+    Ok(write!(all, "a call of {called}")?)
+}
+
+fn push_fields(all: &mut String, alloc: Global, line: &[u8]) -> Result<(), Fail> {
+    all.push_str(text(word(line))?)?;
+    for field in &fields(alloc, line)? {
+        push_field(all, text(field)?)?;
     }
     Ok(())
 }
 
-/// The parts of a line, by each of the calls that look at lines.
-fn line_parts(alloc: Global, line: &[u8]) -> Result<String, Fail> {
-    if is_comment(line) {
-        Ok(String::from_str(alloc, "a comment")?)
-    } else if !is_starred(line) {
-        Ok(String::from_str(alloc, "a text")?)
-    } else if is_call(line) {
-        call_text(alloc, called(line))
-    } else {
-        fields_text(alloc, word(line), line)
-    }
-}
-
-fn call_text(alloc: Global, called: &[u8]) -> Result<String, Fail> {
-    let called = text(called)?;
-    Ok(format!(in alloc; "a call of {called}")?)
-}
-
-fn fields_text(alloc: Global, word: &[u8], line: &[u8]) -> Result<String, Fail> {
-    let mut all = String::from_str(alloc, text(word)?)?;
-    for field in &fields(alloc, line)? {
-        push_field(&mut all, field)?;
-    }
-    Ok(all)
-}
-
-fn push_field(all: &mut String, field: &[u8]) -> Result<(), Fail> {
-    let field = text(field)?;
+fn push_field(all: &mut String, field: &str) -> Result<(), Fail> {
     Ok(write!(all, "|{field}")?)
 }
 
@@ -118,20 +161,14 @@ const LINES: &[(&str, &str)] = &[
 
 #[test]
 fn lines_have_words_and_fields(rt: HostRuntime) -> Result<(), Fail> {
-    for (line, wanted) in LINES {
-        let parts = line_parts(rt.alloc(), line.as_bytes())?;
-        same_text(line, parts.as_str(), wanted)?;
-    }
-    Ok(())
+    check(rt.alloc(), Reading::Line, LINES)
 }
 
 #[test]
 fn texts_are_split_at_the_first(rt: HostRuntime) -> Result<(), Fail> {
-    let (before, behind) = split_once(b"A.B.C", b'.').ok_or("a point")?;
-    let wanted = (b"A".as_slice(), b"B.C".as_slice());
-    same("the two", &(before, behind), &wanted)?;
-    let is_split = split_once(b"A", b'.').is_some();
-    same("no point", &is_split, &false)
+    let found = (split_once(b"A.B.C", b'.'), split_once(b"A", b'.'));
+    let parts = (b"A".as_slice(), b"B.C".as_slice());
+    same("a point, no point", found, (Some(parts), None))
 }
 
 /// What was read on a line, as far as the tests below look.
@@ -154,14 +191,12 @@ fn name_if(is_it: bool, name: &'static str) -> &'static str {
     if is_it { name } else { "another" }
 }
 
-/// The lines of a run, each with its number and span.
-fn lines_text(alloc: Global, run: &[u8]) -> Result<String, Fail> {
+fn push_lines(all: &mut String, alloc: Global, run: &[u8]) -> Result<(), Fail> {
     let run = read_run(alloc, run)?;
-    let mut all = String::new(alloc);
     for line in run.lines() {
-        push_line(&mut all, line.number, line.span, text(line.text)?)?;
+        push_line(all, line.number, line.span, text(line.text)?)?;
     }
-    Ok(all)
+    Ok(())
 }
 
 fn push_line(all: &mut String, number: u32, span: Span, text: &str) -> Result<(), Fail> {
@@ -169,13 +204,12 @@ fn push_line(all: &mut String, number: u32, span: Span, text: &str) -> Result<()
     Ok(write!(all, "{number} {start}..{end} {text}\n")?)
 }
 
-fn items_text(alloc: Global, run: &[u8]) -> Result<String, Fail> {
+fn push_items(all: &mut String, alloc: Global, run: &[u8]) -> Result<(), Fail> {
     let run = read_run(alloc, run)?;
-    let mut all = String::new(alloc);
     for line in run.lines() {
         write!(all, "{}\n", item_name(&line.item))?;
     }
-    Ok(all)
+    Ok(())
 }
 
 const THREE_LINES: &str = "*ID X cleanup  \r\n*/ note\n*IDENT\tY\nlast\t";
@@ -199,9 +233,11 @@ common deck, noprop
 
 #[test]
 fn runs_are_read_line_by_line(rt: HostRuntime) -> Result<(), Fail> {
-    let lines = lines_text(rt.alloc(), THREE_LINES.as_bytes())?;
-    let wanted = "1 0..13 *ID X cleanup\n3 25..33 *IDENT\tY\n4 34..39 last\t\n";
-    same_text("the lines", lines.as_str(), wanted)
+    const RUNS: &[(&str, &str)] = &[(
+        THREE_LINES,
+        "1 0..13 *ID X cleanup\n3 25..33 *IDENT\tY\n4 34..39 last\t\n",
+    )];
+    check(rt.alloc(), Reading::Lines, RUNS)
 }
 
 #[test]
@@ -210,18 +246,13 @@ fn fields_are_read_by_their_word(rt: HostRuntime) -> Result<(), Fail> {
         (THREE_LINES, "ident X\ntext\ntext\n"),
         (SIX_LINES, SIX_ITEMS),
     ];
-    for (run, wanted) in RUNS {
-        let items = items_text(rt.alloc(), run.as_bytes())?;
-        same_text(run, items.as_str(), wanted)?;
-    }
-    Ok(())
+    check(rt.alloc(), Reading::Items, RUNS)
 }
 
-/// The fault of a run that is refused as it is read.
-fn refusal(alloc: Global, run: &[u8]) -> Result<String, Fail> {
+fn push_fault(all: &mut String, alloc: Global, run: &[u8]) -> Result<(), Fail> {
     match read_run(alloc, run) {
-        Ok(_) => Ok(String::new(alloc)),
-        Err(fault) => Ok(format!(in alloc; "{fault}")?),
+        Ok(_) => Ok(()),
+        Err(fault) => Ok(write!(all, "{fault}")?),
     }
 }
 
@@ -246,18 +277,13 @@ const REFUSED: &[(&str, &str)] = &[
 
 #[test]
 fn faulty_lines_are_refused(rt: HostRuntime) -> Result<(), Fail> {
-    for (run, wanted) in REFUSED {
-        let refusal = refusal(rt.alloc(), run.as_bytes())?;
-        same_text(run, refusal.as_str(), wanted)?;
-    }
-    Ok(())
+    check(rt.alloc(), Reading::Fault, REFUSED)
 }
 
 /// A run of `count` bytes that are all the same has this fault.
 fn is_refused(alloc: Global, count: usize, byte: u8, wanted: &str) -> Result<(), Fail> {
     let run = vec![in alloc; byte; count]?;
-    let refusal = refusal(alloc, &run)?;
-    same_text("a long run", refusal.as_str(), wanted)
+    is_read(alloc, Reading::Fault, "a long run", &run, wanted)
 }
 
 #[test]

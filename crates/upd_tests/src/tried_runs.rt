@@ -21,10 +21,13 @@ fn small(alloc: Global) -> Result<Library, Fail> {
     )
 }
 
-fn expect_warnings(alloc: Global, run: &[u8], wanted: &str) -> Result<(), Fail> {
-    let library = small(alloc)?;
-    let found = warning_lines(alloc, &library, run)?;
+fn has_warnings(alloc: Global, library: &Library, run: &[u8], wanted: &str) -> Result<(), Fail> {
+    let found = warning_lines(alloc, library, run)?;
     same_text("the warnings", std::str::from_utf8(&found)?, wanted)
+}
+
+fn expect_warnings(alloc: Global, run: &[u8], wanted: &str) -> Result<(), Fail> {
+    has_warnings(alloc, &small(alloc)?, run, wanted)
 }
 
 #[test]
