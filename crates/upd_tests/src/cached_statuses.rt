@@ -1,10 +1,11 @@
 //! The cache of statuses: updated after each run, it answers as one that is built from the library.
 use crate::asked_library::DECK_A;
+use crate::surface::two_are_covered;
 use std::alloc::Global;
 use std::test::Fail;
 use upd_apply::{Applied, apply};
 use upd_core::ident::name_at;
-use upd_core::{Card, CardRef, Counted, Library, Serial, Target};
+use upd_core::{Card, CardRef, Counted, Ident, Library, Target};
 use upd_deck::read_run;
 use upd_testkit::applying::card_ref;
 use upd_testkit::check::{holds, same};
@@ -28,6 +29,10 @@ enum Ask {
     Count(Target, u32),
     /// Whether a card is active.
     Active(&'static str, Option<bool>),
+    /// This number of sets, each of which yanks the one before it; the first yanks X.
+    Yanks(u32),
+    /// The set X covers A.2 and its own card.
+    Covered,
 }
 
 /// A library with its cache.
@@ -60,8 +65,10 @@ impl Followed {
         match ask {
             Ask::Run(text) => self.is_accepted(text),
             Ask::Work(text, wanted) => self.works(text, wanted),
-            Ask::Count(target, wanted) => { same("a count", &self.cache.count(target), &wanted) }
+            Ask::Count(target, wanted) => same("a count", self.cache.count(target), wanted),
             Ask::Active(card, wanted) => self.has_status(card, wanted),
+            Ask::Yanks(sets) => self.takes_yanks(sets),
+            Ask::Covered => two_are_covered(self.alloc(), &Counted::new(&self.library)),
         }
     }
 
@@ -75,6 +82,11 @@ impl Followed {
         same(text, self.cache.work(), wanted)
     }
 
+    fn takes_yanks(&mut self, sets: u32) -> Result<(), Fail> {
+        let text = yanks_in_a_row(self.alloc(), sets)?;
+        self.is_accepted(text.as_str())
+    }
+
     fn has_status(&self, card: &str, wanted: Option<bool>) -> Result<(), Fail> {
         same(card, &self.cache.active(card_ref(card)?), &wanted)
     }
@@ -83,13 +95,15 @@ impl Followed {
     fn run(&mut self, text: &str) -> Result<bool, Fail> {
         let before = self.library.copy()?;
         match self.apply(text)? {
-            Some(applied) => {
-                self.settle(&applied)?;
-                self.is_as_built(&before)?;
-                Ok(true)
-            }
+            Some(applied) => self.follow(&applied, &before),
             None => Ok(false),
         }
+    }
+
+    fn follow(&mut self, applied: &Applied, before: &Library) -> Result<bool, Fail> {
+        self.settle(applied)?;
+        self.is_as_built(before)?;
+        Ok(true)
     }
 
     /// What a run did, unless it is refused.
@@ -117,23 +131,19 @@ impl Followed {
 
 /// Asks two caches of each card of a library, and of each target of its yank cards.
 fn same_answers(cache: &Cache, other: &Cache, library: &Library) -> Result<(), Fail> {
-    same_statuses(cache, other, library, library.yanks())?;
+    same_cards(cache, other, library.idents(), library.yanks())?;
     for deck in library.decks() {
-        same_statuses(cache, other, library, &deck.cards)?;
+        same_cards(cache, other, library.idents(), &deck.cards)?;
     }
-    same_counts(cache, other, library.yanks())
+    Ok(())
 }
 
-fn same_statuses(
-    cache: &Cache,
-    other: &Cache,
-    library: &Library,
-    cards: &[Card],
-) -> Result<(), Fail> {
+fn same_cards(cache: &Cache, other: &Cache, idents: &[Ident], cards: &[Card]) -> Result<(), Fail> {
     for card in cards {
-        let name = name_at(library.idents(), card.ident).ok_or("no name")?;
+        let name = name_at(idents, card.ident).ok_or("no name")?;
         let number = card.number;
         same_status(cache, other, &CardRef { name, number })?;
+        same_counts(cache, other, &card.targets)?;
     }
     Ok(())
 }
@@ -142,15 +152,16 @@ fn same_status(cache: &Cache, other: &Cache, card: &CardRef) -> Result<(), Fail>
     same(*card, cache.active(*card), other.active(*card))
 }
 
-fn same_counts(cache: &Cache, other: &Cache, cards: &[Card]) -> Result<(), Fail> {
-    for target in cards.iter().flat_map(|card| card.targets.iter()) {
-        same_count(cache, other, *target)?;
+fn same_counts(cache: &Cache, other: &Cache, targets: &[Target]) -> Result<(), Fail> {
+    for target in targets {
+        same(*target, cache.count(*target), other.count(*target))?;
     }
     Ok(())
 }
 
-fn same_count(cache: &Cache, other: &Cache, target: Target) -> Result<(), Fail> {
-    same(target, cache.count(target), other.count(target))
+/// Asks all this of an empty library with its cache.
+fn check(alloc: Global, asked: &[Ask]) -> Result<(), Fail> {
+    Followed::new(alloc)?.check(asked)
 }
 
 #[test]
@@ -172,15 +183,7 @@ fn a_target_counts_once_for_each_live_card(rt: HostRuntime) -> Result<(), Fail> 
         Ask::Count(SET_X, 1),
         Ask::Active("A.2", Some(true)),
     ];
-    Followed::new(rt.alloc())?.check(ASKED)
-}
-
-/// The cards that the set X covers are A.2 and its own card.
-fn covers_two_cards(library: &Library) -> Result<(), Fail> {
-    let counted = Counted::new(library);
-    let covered = counted.covered(library.allocator(), SET_X)?;
-    let wanted = [card_ref("A.2")?, card_ref("X.1")?];
-    same("covered", covered.as_slice(), wanted.as_slice())
+    check(rt.alloc(), ASKED)
 }
 
 #[test]
@@ -199,16 +202,17 @@ fn a_yank_of_a_yank_is_followed(rt: HostRuntime) -> Result<(), Fail> {
         Ask::Active("A.2", Some(true)),
         Ask::Active("Z.1", Some(false)),
         Ask::Active("Q.1", None),
+        Ask::Covered,
     ];
-    let mut followed = Followed::new(rt.alloc())?;
-    followed.check(ASKED)?;
-    covers_two_cards(&followed.library)
+    check(rt.alloc(), ASKED)
 }
 
 #[test]
 fn follows_900_yanks_in_a_row(rt: HostRuntime) -> Result<(), Fail> {
-    const BEFORE: &[Ask] = &[Ask::Run(DECK_A), Ask::Run("*IDENT X\n*DELETE A.2\n")];
-    const AFTER: &[Ask] = &[
+    const ASKED: &[Ask] = &[
+        Ask::Run(DECK_A),
+        Ask::Run("*IDENT X\n*DELETE A.2\n"),
+        Ask::Yanks(900),
         Ask::Count(SET_X, 0),
         Ask::Active("A.2", Some(false)),
         Ask::Active("A.3", Some(true)),
@@ -217,24 +221,28 @@ fn follows_900_yanks_in_a_row(rt: HostRuntime) -> Result<(), Fail> {
         Ask::Active("A.2", Some(true)),
         Ask::Active("A.4", Some(true)),
     ];
-    let mut followed = Followed::new(rt.alloc())?;
-    followed.check(BEFORE)?;
-    followed.is_accepted(yanks_in_a_row(rt.alloc(), 900)?.as_str())?;
-    followed.check(AFTER)
+    check(rt.alloc(), ASKED)
+}
+
+/// The `n`th random run comes to a library: 1 where it is accepted, or else 0.
+fn take_random(followed: &mut Followed, dice: &mut Dice, n: u32) -> Result<u32, Fail> {
+    let text = random_run(followed.alloc(), dice, n)?;
+    Ok(u32::from(followed.run(text.as_str())?))
+}
+
+/// 24 random runs: the number of accepted runs.
+fn take_list(followed: &mut Followed, dice: &mut Dice) -> Result<u32, Fail> {
+    followed.is_accepted(DECKS)?;
+    let mut accepted: u32 = 0;
+    for n in 0..24 {
+        accepted = accepted.saturating_add(take_random(followed, dice, n)?);
+    }
+    Ok(accepted)
 }
 
 /// A list of runs: the number of accepted runs.
 fn random_runs(alloc: Global, dice: &mut Dice) -> Result<u32, Fail> {
-    let mut followed = Followed::new(alloc)?;
-    followed.is_accepted(DECKS)?;
-    let mut accepted: u32 = 0;
-    for n in 0..24 {
-        let text = random_run(alloc, dice, n)?;
-        if followed.run(text.as_str())? {
-            accepted = accepted.saturating_add(1);
-        }
-    }
-    Ok(accepted)
+    take_list(&mut Followed::new(alloc)?, dice)
 }
 
 #[test]
