@@ -2,9 +2,8 @@
 use std::alloc::Global;
 use std::fmt::Display;
 use std::test::Fail;
-use upd_apply::apply;
 use upd_core::{CardRef, Change, Entry, Ident, Library, Serial, Target};
-use upd_deck::read_run;
+use upd_testkit::applying::{after, applied};
 use upd_testkit::check::{same, same_text};
 
 const DECK_A: &str = "*DECK A\nONE\nTWO\nTHREE\n";
@@ -20,8 +19,7 @@ const YANKED: &str = "*IDENT Y\n*YANK X\n";
 /// Applies a run: a line for each of its row changes.
 fn run(library: &mut Library, text: &str) -> Result<String, Fail> {
     let alloc = library.allocator();
-    let run = read_run(alloc, text.as_bytes())?;
-    let applied = apply(alloc, library, &run)?;
+    let applied = applied(library, text)?;
     lines_of(alloc, &applied.changes)
 }
 
@@ -126,18 +124,9 @@ fn tell_count(row_changes: &mut String, target: &Target, n: u32) -> Result<(), F
     Ok(write!(row_changes, "count of {target:?}: {n}\n")?)
 }
 
-/// The library that runs leave which come one after the other.
-fn changed(alloc: Global, runs: &[&str]) -> Result<Library, Fail> {
-    let mut library = Library::new(alloc);
-    for text in runs {
-        run(&mut library, text)?;
-    }
-    Ok(library)
-}
-
 /// Runs one after the other on an empty library: the row changes of the last one.
 fn last_changes(alloc: Global, runs: &[&str], last: &str, wanted: &str) -> Result<(), Fail> {
-    let mut library = changed(alloc, runs)?;
+    let mut library = after(alloc, runs)?;
     let row_changes = run(&mut library, last)?;
     same_text(last, row_changes.as_str(), wanted)
 }
@@ -289,22 +278,29 @@ fn texts_at_one_place(alloc: Global) -> Result<String, Fail> {
     Ok(text)
 }
 
+/// A run on 48,000 cards: its row changes, and the number of decks that it leaves.
+fn run_on_48000_cards(alloc: Global, text: &str) -> Result<(String, usize), Fail> {
+    let mut library = with_decks(alloc, 24)?;
+    let row_changes = run(&mut library, text)?;
+    Ok((row_changes, library.decks().len()))
+}
+
 #[test]
 fn takes_1998_texts_at_one_place_of_48000_cards(rt: HostRuntime) -> Result<(), Fail> {
-    let mut library = with_decks(rt.alloc(), 24)?;
     let text = texts_at_one_place(rt.alloc())?;
-    let row_changes = run(&mut library, text.as_str())?;
+    let (row_changes, _) = run_on_48000_cards(rt.alloc(), text.as_str())?;
     let moves = lines_with(row_changes.as_str(), "cards of");
     let front = "ident 25 X Set\ncards of 8 from 1000 by 1998\n";
-    let is_first = row_changes.as_str().starts_with(front);
-    same("the moves", (moves, is_first), (1, true))
+    same(
+        "the moves",
+        (moves, row_changes.starts_with(front)),
+        (1, true),
+    )
 }
 
 #[test]
 fn purges_40000_of_48000_cards(rt: HostRuntime) -> Result<(), Fail> {
-    let mut library = with_decks(rt.alloc(), 24)?;
-    let row_changes = run(&mut library, "*PURGE DECK4,*\n")?;
+    let (row_changes, left) = run_on_48000_cards(rt.alloc(), "*PURGE DECK4,*\n")?;
     let gone = lines_with(row_changes.as_str(), "card ");
-    let left = library.decks().len();
     same("cards gone, decks left", (gone, left), (40_000, 4))
 }

@@ -1,19 +1,20 @@
 //! The number of decks that are read for a run: those that it needs, and none for a repeat.
-use crate::random_arrivals::{base, random_arrival};
+use crate::random_arrivals::{after_decks, random_arrival};
+use crate::store_asks::Held::Part;
+use crate::store_asks::Source::{Loaded, Renewed, Replayed};
+use crate::store_asks::StoreAsk::{Compiled, Decks, DecksRead, Directory, Names, Sizes};
+use crate::store_asks::{Answered, answer, answers_alike, answers_each};
+use crate::store_loads::{ACTIVE_NAMES, DECK_A, DECK_B, TOP};
+use crate::store_parts::FILE;
 use std::alloc::Global;
 use std::test::Fail;
-use upd_core::{Actives, Library};
 use upd_desk::Desk;
 use upd_list_store::ListStore;
 use upd_row_store::RowStore;
 use upd_testkit::asks::{Ask, lyon};
-use upd_testkit::check::{holds, same, same_text};
-use upd_testkit::loaded_names::{compiled_names, decks_of_cards, loaded_names};
-use upd_testkit::random_runs::{DECKS, Dice};
+use upd_testkit::check::{holds, same};
+use upd_testkit::random_runs::Dice;
 use upd_testkit::session::Session;
-use upd_yank::Cache;
-
-const DECK_A: &str = "*DECK A\nONE\nTWO\nTHREE\n";
 
 /// The store is handed to another desk: the number of decks that it has read.
 fn counted<S: RowStore + Drop>(session: Session<S>) -> (Session<S>, u64) {
@@ -46,27 +47,25 @@ fn reads<S: RowStore + Drop>(
     Ok(session)
 }
 
-/// An arrival at random: the number of decks that have been read by then, which is the number that runs have needed.
+/// An arrival at random, and the number of decks that have been read by then: the number that runs have needed.
 fn random_read<S: RowStore + Drop>(
     session: Session<S>,
     dice: &mut Dice,
-) -> Result<(Session<S>, u64), Fail> {
+) -> Result<Session<S>, Fail> {
     let mut session = session;
     random_arrival(&mut session, dice)?;
     let (session, read) = counted(session);
     same("decks read", read, session.reference.needed)?;
-    Ok((session, read))
+    Ok(session)
 }
 
 /// Arrivals at random: the number of decks that were read.
 fn random_reads(alloc: Global, dice: &mut Dice) -> Result<u64, Fail> {
-    let mut session = Session::new(alloc, ListStore::new(alloc));
-    session.arrive(base(DECKS))?;
-    let mut last = 0;
+    let mut session = after_decks(alloc)?;
     for _ in 0..30 {
-        (session, last) = random_read(session, dice)?;
+        session = random_read(session, dice)?;
     }
-    Ok(last)
+    Ok(counted(session).1)
 }
 
 #[test]
@@ -79,9 +78,31 @@ fn reads_the_decks_that_random_runs_need(rt: HostRuntime) -> Result<(), Fail> {
     holds(("decks read", read), read > 1_000)
 }
 
+/// Runs of LYON in a mode, and the number of decks that are read for each.
+fn runs_read(
+    session: Session<ListStore>,
+    mode: &str,
+    runs: &[(u64, &str, u64)],
+) -> Result<Session<ListStore>, Fail> {
+    let mut session = session;
+    for (number, text, decks) in runs {
+        session = reads(session, &[Ask::Run(lyon(*number, mode, text))], *decks)?;
+    }
+    Ok(session)
+}
+
+/// The same on an empty library.
+fn first_runs_read(
+    alloc: Global,
+    mode: &str,
+    runs: &[(u64, &str, u64)],
+) -> Result<Session<ListStore>, Fail> {
+    runs_read(Session::new(alloc, ListStore::new(alloc)), mode, runs)
+}
+
 /// Runs of LYON on decks A and B, and the number of decks that are read for each: those of the cards that it names,
 /// both if it yanks, purges or names a yank card, and none if it isn't read.
-const NEEDS: [(u64, &str, u64); 13] = [
+const NEEDS: &[(u64, &str, u64)] = &[
     (1, DECK_A, 0),
     (2, "*DECK B\nBEE\n*IDENT X\n*INSERT A.2\nNEW\n", 1),
     (3, "*IDENT Y\n*DELETE B.2\n", 1),
@@ -99,17 +120,20 @@ const NEEDS: [(u64, &str, u64); 13] = [
 
 #[test]
 fn a_quick_run_reads_the_decks_of_its_cards(rt: HostRuntime) -> Result<(), Fail> {
-    let alloc = rt.alloc();
-    let mut session = Session::new(alloc, ListStore::new(alloc));
-    for (number, text, decks) in NEEDS {
-        session = reads(session, &[Ask::Run(lyon(number, "quick", text))], decks)?;
-    }
+    first_runs_read(rt.alloc(), "quick", NEEDS)?;
     Ok(())
 }
 
+/// The first run of a library reads no deck.
+const LISTED_DECKS: &[(u64, &str, u64)] = &[(
+    1,
+    "*DECK A\nONE\n*DECK B\nBEE\n*IDENT X\n*YANK A\n",
+    0,
+)];
+
 /// What is listed, and the number of decks that are read for it: one for a deck, the one of a card, and none for what
 /// is in `YANK$$$` or nowhere, for idents, yanks and the full compile file.
-const LISTED: [(&[Ask<'static>], u64); 6] = [
+const LISTED: &[(&[Ask<'static>], u64)] = &[
     (&[Ask::Compile, Ask::Idents, Ask::Yanks], 0),
     (&[Ask::Deck("A")], 1),
     (&[Ask::Card("B.2")], 1),
@@ -118,110 +142,57 @@ const LISTED: [(&[Ask<'static>], u64); 6] = [
     (&[Ask::Compile, Ask::Idents, Ask::Yanks], 0),
 ];
 
-#[test]
-fn a_listing_of_a_deck_or_a_card_reads_one_deck(rt: HostRuntime) -> Result<(), Fail> {
-    let mut session = Session::new(rt.alloc(), ListStore::new(rt.alloc()));
-    let text = "*DECK A\nONE\n*DECK B\nBEE\n*IDENT X\n*YANK A\n";
-    session.arrive(lyon(1, "quick", text))?;
+fn listings_read(session: Session<ListStore>) -> Result<(), Fail> {
+    let mut session = session;
     for (asks, decks) in LISTED {
-        session = reads(session, asks, decks)?;
+        session = reads(session, asks, *decks)?;
     }
     Ok(())
 }
 
+#[test]
+fn a_listing_of_a_deck_or_a_card_reads_one_deck(rt: HostRuntime) -> Result<(), Fail> {
+    listings_read(first_runs_read(rt.alloc(), "quick", LISTED_DECKS)?)
+}
+
 /// Deck A has three lines and deck B one. Set X is refused four times, and then inserts a card after the first one of
 /// A. The number of decks that are read for each.
-const RANGES: [(u64, &str, u64); 7] = [
+const RANGES: &[(u64, &str, u64)] = &[
     (1, DECK_A, 0),
-    (2, "*DECK B\nBEE\n", 0),
+    (2, DECK_B, 0),
     (3, "*IDENT X\n*DELETE A.4,A.2\n", 1),
     (4, "*IDENT X\n*DELETE A.2,B.2\n", 2),
     (5, "*IDENT X\n*DELETE A.1\n", 1),
     (6, "*IDENT X\n*BEFORE A.1\n", 1),
-    (7, "*IDENT X\n*INSERT A.1\nTOP\n", 1),
+    (7, TOP, 1),
 ];
 
-/// All of the active cards, with the directory.
-fn shown(alloc: Global, actives: &Actives) -> Result<String, Fail> {
-    let actives = actives.shown()?;
-    Ok(format!(in alloc; "{actives:?}")?)
-}
-
-/// The active cards that a store loads.
-fn loaded<S: RowStore>(alloc: Global, store: &mut S) -> Result<String, Fail> {
-    let actives = store.load_active(alloc)?;
-    shown(alloc, &actives)
-}
-
-/// The active cards of the library that a store loads.
-fn replayed<S: RowStore>(alloc: Global, store: &mut S) -> Result<String, Fail> {
-    let library = store.load(alloc)?;
-    shown(alloc, &library.actives()?)
-}
-
-/// The active cards that a cache of a store's rows renews from a part, and from those of the store.
-pub fn renewed<S: RowStore>(
-    alloc: Global,
-    store: &mut S,
-    part: &Library,
-    before: &Actives,
-) -> Result<Actives, Fail> {
-    let states = store.load_states(alloc)?;
-    let cache = Cache::of_rows(alloc, &states)?;
-    Ok(cache.renew(part, before)?)
-}
-
-/// A compile file has all cards but the first ones of decks.
-fn compiles_all(alloc: Global, before: &Actives, after: &Actives) -> Result<(), Fail> {
-    let lines = "X             1|A             2|A             3|A             4|B             2|";
-    let found = compiled_names(alloc, before, after)?;
-    same_text("the file", found.as_str(), lines)
-}
-
-/// The active cards that a cache of a store's rows renews from a part are those before.
-fn renews<S: RowStore>(alloc: Global, store: &mut S, part: &Library) -> Result<(), Fail> {
-    let before = store.load_active(alloc)?;
-    let renewed = renewed(alloc, store, part, &before)?;
-    let (found, wanted) = (shown(alloc, &renewed)?, shown(alloc, &before)?);
-    same_text("renewed", found.as_str(), wanted.as_str())?;
-    compiles_all(alloc, &before, &renewed)
-}
-
-/// The decks of cards are found, and the active cards are loaded.
-fn loads_active<S: RowStore>(alloc: Global, store: &mut S) -> Result<(), Fail> {
-    let decks = decks_of_cards(alloc, store)?;
-    same("the decks", decks.as_slice(), [2].as_slice())?;
-    let names = loaded_names(alloc, store)?;
-    let wanted = "1: A.1 X.1 A.2 A.3 A.4\n2: B.1 B.2\n";
-    same_text("the active cards", names.as_str(), wanted)
-}
-
-/// Active cards are loaded as they are replayed.
-fn loads_as_replayed<S: RowStore>(alloc: Global, store: &mut S) -> Result<(), Fail> {
-    let (found, wanted) = (replayed(alloc, store)?, loaded(alloc, store)?);
-    same_text("the whole", found.as_str(), wanted.as_str())
-}
+/// A run on one deck of two.
+const LAST: &[(u64, &str, u64)] = &[(8, "*IDENT Y\n*DELETE B.2\n", 1)];
 
 /// What is loaded when decks A and B have serials 1 and 2, and set X has 3: deck B leaves A's five cards to the rest.
-fn loads_parts<S: RowStore>(alloc: Global, store: &mut S) -> Result<(), Fail> {
-    loads_active(alloc, store)?;
-    let part = store.load_decks(alloc, &[2])?;
-    let rest = part.rest();
-    same("the rest", (rest.cards, rest.entries), (5, 5))?;
-    loads_as_replayed(alloc, store)?;
-    renews(alloc, store, &part)
+const PARTS: &[Answered] = &[
+    (DecksRead, "6"),
+    (Decks, "[2]"),
+    (Names(Loaded), ACTIVE_NAMES),
+    (Sizes(Part(&[2])), "(1, 5, 5)"),
+    (Compiled, FILE),
+    (DecksRead, "8"),
+];
+
+/// Active cards are replayed and renewed as they are loaded, which reads two decks and one.
+fn loads_alike(alloc: Global, store: &mut ListStore) -> Result<(), Fail> {
+    let loaded = answer(alloc, store, Directory(Loaded))?;
+    answers_alike(
+        alloc,
+        store,
+        &[Directory(Replayed), Directory(Renewed)],
+        &loaded,
+    )?;
+    same("decks read", store.decks_read(), 11)
 }
 
-/// Runs on decks A and B, and the number of decks that are read for each.
-fn ranges(alloc: Global) -> Result<Session<ListStore>, Fail> {
-    let mut session = Session::new(alloc, ListStore::new(alloc));
-    for (number, text, decks) in RANGES {
-        session = reads(session, &[Ask::Run(lyon(number, "full", text))], decks)?;
-    }
-    Ok(session)
-}
-
-/// The parts that the store of a desk loads, and the number of decks that it has read before and after.
+/// The parts that the store of a desk loads.
 fn loads_from_desk(session: Session<ListStore>) -> Result<Session<ListStore>, Fail> {
     let Session {
         desk,
@@ -229,16 +200,14 @@ fn loads_from_desk(session: Session<ListStore>) -> Result<Session<ListStore>, Fa
         alloc,
     } = session;
     let mut store = desk.close();
-    same("decks read before", store.decks_read(), 6)?;
-    loads_parts(alloc, &mut store)?;
-    same("decks read after", store.decks_read(), 9)?;
+    answers_each(alloc, &mut store, PARTS)?;
+    loads_alike(alloc, &mut store)?;
     Ok(Session::over(store, reference))
 }
 
 #[test]
 fn a_run_on_one_deck_of_two_reads_that_one(rt: HostRuntime) -> Result<(), Fail> {
-    let session = loads_from_desk(ranges(rt.alloc())?)?;
-    let run = Ask::Run(lyon(8, "quick", "*IDENT Y\n*DELETE B.2\n"));
-    let session = reads(session, &[run], 1)?;
-    same("decks read", counted(session).1, 10)
+    let session = loads_from_desk(first_runs_read(rt.alloc(), "full", RANGES)?)?;
+    let session = runs_read(session, "quick", LAST)?;
+    same("decks read", counted(session).1, 12)
 }

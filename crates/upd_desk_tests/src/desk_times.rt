@@ -54,40 +54,47 @@ fn replace_each(desk: &mut Desk<ListStore>, alloc: Global, runs: u32) -> Result<
     Ok(())
 }
 
-fn replaced(alloc: Global, runs: u32, repeats: u32) -> Result<Desk<ListStore>, Fail> {
+/// Repeats of run 1.
+fn repeat(desk: &mut Desk<ListStore>, alloc: Global, repeats: u32) -> Result<(), Fail> {
+    for _ in 0..repeats {
+        let reply = replace(desk, alloc, 1)?;
+        is_accepted(desk, 1, &reply, 0)?;
+    }
+    Ok(())
+}
+
+/// Settlements of the runs from 1 to a number.
+fn settle_each(desk: &mut Desk<ListStore>, alloc: Global, settlements: u64) -> Result<(), Fail> {
+    for number in 1..=settlements {
+        same("the mark", desk.settle_site(alloc, "LYON", number)?, number)?;
+    }
+    Ok(())
+}
+
+/// So many replacements, repeats of the first one and settlements, on 500 cards.
+fn work(alloc: Global, runs: u32, repeats: u32, settlements: u64) -> Result<(), Fail> {
     let mut desk = with_500_cards(alloc)?;
     replace_each(&mut desk, alloc, runs)?;
-    for _ in 0..repeats {
-        let reply = replace(&mut desk, alloc, 1)?;
-        is_accepted(&desk, 1, &reply, 0)?;
-    }
-    Ok(desk)
+    repeat(&mut desk, alloc, repeats)?;
+    settle_each(&mut desk, alloc, settlements)
 }
 
 #[test]
 fn holds_500_cards(rt: HostRuntime) -> Result<(), Fail> {
-    with_500_cards(rt.alloc())?;
-    Ok(())
+    work(rt.alloc(), 0, 0, 0)
 }
 
 #[test]
 fn takes_50_runs_of_three_lines_on_500_cards(rt: HostRuntime) -> Result<(), Fail> {
-    replaced(rt.alloc(), 50, 0)?;
-    Ok(())
+    work(rt.alloc(), 50, 0, 0)
 }
 
 #[test]
 fn answers_10000_repeats_of_one_of_50_runs(rt: HostRuntime) -> Result<(), Fail> {
-    replaced(rt.alloc(), 50, 10_000)?;
-    Ok(())
+    work(rt.alloc(), 50, 10_000, 0)
 }
 
 #[test]
 fn settles_5000_times(rt: HostRuntime) -> Result<(), Fail> {
-    let mut desk = replaced(rt.alloc(), 50, 0)?;
-    for number in 1..=5000_u64 {
-        let mark = desk.settle_site(rt.alloc(), "LYON", number)?;
-        same("the mark", mark, number)?;
-    }
-    Ok(())
+    work(rt.alloc(), 50, 0, 5000)
 }

@@ -6,6 +6,7 @@ use upd_list_store::ListStore;
 use upd_row_store::RowStore;
 use upd_sqlite::Rising;
 use upd_store::SqlStore;
+use upd_testkit::session::Session;
 use upd_text::Fault;
 
 /// A store that can be made empty.
@@ -26,9 +27,15 @@ impl Fresh for SqlStore<MemStore> {
     }
 }
 
-/// The library that a connection holds.
-pub fn adopted(conn: Connection<MemStore>) -> Result<SqlStore<MemStore>, Fail> {
-    taken(SqlStore::adopt(conn))
+/// A new library that is adopted from its connection.
+pub fn adopted_anew(alloc: Global) -> Result<SqlStore<MemStore>, Fail> {
+    let made = SqlStore::fresh(alloc)?;
+    taken(SqlStore::adopt(made.into_connection()))
+}
+
+/// A desk over an empty library, beside the reference desk.
+pub fn fresh_session<S: Fresh>(alloc: Global) -> Result<Session<S>, Fail> {
+    Ok(Session::new(alloc, S::fresh(alloc)?))
 }
 
 fn taken<S: Rising + Drop>(

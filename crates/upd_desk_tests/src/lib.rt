@@ -24,6 +24,8 @@ mod steps;
 #[cfg(test)]
 mod store_answers;
 #[cfg(test)]
+mod store_asks;
+#[cfg(test)]
 mod store_loads;
 #[cfg(test)]
 mod store_parts;

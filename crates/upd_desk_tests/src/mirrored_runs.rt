@@ -19,6 +19,8 @@ struct Pair<S: Fresh> {
     mirrored: Desk<MirrorStore<S>>,
     plain: Desk<ListStore>,
     alloc: Global,
+    /// The number of accepted runs.
+    accepted: u32,
     /// How often answers were compared that came from memory.
     from_memory: u32,
 }
@@ -56,16 +58,24 @@ impl<S: Fresh> Pair<S> {
             mirrored: Desk::open(MirrorStore::new(S::fresh(alloc)?)),
             plain: Desk::open(ListStore::new(alloc)),
             alloc,
+            accepted: 0,
             from_memory: 0,
         })
     }
 
-    /// Both get a run, and reply the same: whether it was accepted.
-    fn run(&mut self, number: u64, text: &str) -> Result<bool, Fail> {
+    /// Both get a run, and reply the same.
+    fn run(&mut self, number: u64, text: &str) -> Result<(), Fail> {
         let found = reply(self.alloc, &mut self.mirrored, number, text)?;
         let wanted = reply(self.alloc, &mut self.plain, number, text)?;
-        same_text(text, &found, &wanted)?;
-        Ok(wanted.contains("accepted"))
+        let accepted = u32::from(wanted.contains("accepted"));
+        self.accepted = self.accepted.saturating_add(accepted);
+        same_text(text, &found, &wanted)
+    }
+
+    /// Both get a run at random, and reply the same.
+    fn random_run(&mut self, dice: &mut Dice, number: u32) -> Result<(), Fail> {
+        let text = random_run(self.alloc, dice, number)?;
+        self.run(u64::from(number), text.as_str())
     }
 
     /// Both stores answer the same, and have read as many decks. Then the rows in memory are read, or are let go.
@@ -85,44 +95,58 @@ impl<S: Fresh> Pair<S> {
             mirrored: Desk::open(mirrored),
             plain: Desk::open(plain),
             alloc,
+            accepted: self.accepted,
             from_memory,
         })
     }
 }
 
-/// A list of runs, after these decks: the number of accepted ones, and how often answers came from memory.
-fn random_list<S: Fresh>(alloc: Global, dice: &mut Dice, decks: &str) -> Result<(u32, u32), Fail> {
+/// The first run has these decks.
+fn after_decks<S: Fresh>(alloc: Global, decks: &str) -> Result<Pair<S>, Fail> {
     let mut pair = Pair::<S>::new(alloc)?;
     pair.run(1, decks)?;
-    let mut accepted: u32 = 0;
+    Ok(pair)
+}
+
+/// A list of runs, of which the first has these decks: the number of accepted ones, and how often answers came from
+/// memory.
+fn random_list<S: Fresh>(alloc: Global, dice: &mut Dice, decks: &str) -> Result<(u32, u32), Fail> {
+    let mut pair = after_decks::<S>(alloc, decks)?;
     for number in 2..14 {
         pair = pair.compared(dice)?;
-        let text = random_run(alloc, dice, number)?;
-        if pair.run(u64::from(number), text.as_str())? {
-            accepted = accepted.saturating_add(1);
-        }
+        pair.random_run(dice, number)?;
     }
     let pair = pair.compared(dice)?;
-    Ok((accepted, pair.from_memory))
+    Ok((pair.accepted, pair.from_memory))
+}
+
+/// The same for some lists of runs.
+fn random_lists<S: Fresh>(
+    alloc: Global,
+    dice: &mut Dice,
+    decks: &str,
+    lists: u32,
+) -> Result<(u32, u32), Fail> {
+    let (mut accepted, mut from_memory): (u32, u32) = (0, 0);
+    for _ in 0..lists {
+        let (runs, answers) = random_list::<S>(alloc, dice, decks)?;
+        accepted = accepted.saturating_add(runs);
+        from_memory = from_memory.saturating_add(answers);
+    }
+    Ok((accepted, from_memory))
 }
 
 #[test]
 fn rows_in_memory_answer_as_the_tables(rt: HostRuntime) -> Result<(), Fail> {
     let mut dice = Dice(1975);
-    let (mut accepted, mut from_memory): (u32, u32) = (0, 0);
-    for _ in 0..50 {
-        let (runs, answers) = random_list::<ListStore>(rt.alloc(), &mut dice, DECKS)?;
-        accepted = accepted.saturating_add(runs);
-        from_memory = from_memory.saturating_add(answers);
-    }
-    holds(("accepted runs", accepted), accepted > 150)?;
+    let (accepted, from_memory) = random_lists::<ListStore>(rt.alloc(), &mut dice, DECKS, 50)?;
+    holds(("accepted runs", accepted), accepted > 200)?;
     holds(("answers from memory", from_memory), from_memory > 250)
 }
 
 /// The three decks, and a large one: only a small part of all cards moves in a run.
 fn decks_beside_a_large_one(alloc: Global) -> Result<String, Fail> {
-    let mut text = String::from_str(alloc, DECKS)?;
-    text.push_str("*DECK P3\n")?;
+    let mut text = format!(in alloc; "{DECKS}*DECK P3\n")?;
     for line in 0..400 {
         write!(text, "LINE {line}\n")?;
     }
@@ -131,14 +155,10 @@ fn decks_beside_a_large_one(alloc: Global) -> Result<String, Fail> {
 
 #[test]
 fn cards_that_move_by_their_keys_answer_as_the_tables(rt: HostRuntime) -> Result<(), Fail> {
-    let mut dice = Dice(1976);
     let decks = decks_beside_a_large_one(rt.alloc())?;
-    let mut accepted: u32 = 0;
-    for _ in 0..10 {
-        let (runs, _) = random_list::<SqlStore<MemStore>>(rt.alloc(), &mut dice, decks.as_str())?;
-        accepted = accepted.saturating_add(runs);
-    }
-    holds(("accepted runs", accepted), accepted > 30)
+    let mut dice = Dice(1976);
+    let (accepted, _) = random_lists::<SqlStore<MemStore>>(rt.alloc(), &mut dice, &decks, 10)?;
+    holds(("accepted runs", accepted), accepted > 40)
 }
 
 /// Runs of which the last two are answered from memory.
@@ -149,14 +169,23 @@ const IN_MEMORY: [&str; 4] = [
     "*IDENT Z\n*INSERT X.1\nMORE\n",
 ];
 
-/// Both stores have read as many decks after these runs.
-#[test]
-fn decks_in_memory_count_as_read(rt: HostRuntime) -> Result<(), Fail> {
-    let mut pair = Pair::<ListStore>::new(rt.alloc())?;
+fn after_runs_in_memory(alloc: Global) -> Result<Pair<ListStore>, Fail> {
+    let mut pair = Pair::<ListStore>::new(alloc)?;
     for (number, text) in (1..).zip(IN_MEMORY) {
         pair.run(number, text)?;
     }
+    Ok(pair)
+}
+
+/// Both stores have read as many decks after these runs.
+#[test]
+fn decks_in_memory_count_as_read(rt: HostRuntime) -> Result<(), Fail> {
+    let pair = after_runs_in_memory(rt.alloc())?;
     let (mirrored, plain) = (pair.mirrored.close(), pair.plain.close());
-    holds("there are rows in memory", mirrored.has_rows())?;
-    same("decks read", mirrored.decks_read(), plain.decks_read())
+    let found = (mirrored.has_rows(), mirrored.decks_read());
+    same(
+        "rows in memory, decks read",
+        found,
+        (true, plain.decks_read()),
+    )
 }

@@ -87,26 +87,28 @@ fn random_list(session: &mut Session<impl RowStore>, dice: &mut Dice) -> Result<
     Ok(accepted)
 }
 
+/// A desk over lists after run 1 of the site BASE, which introduces the three decks.
+pub fn after_decks(alloc: Global) -> Result<Session<ListStore>, Fail> {
+    let mut session = Session::new(alloc, ListStore::new(alloc));
+    let base = Sent {
+        site: "BASE",
+        number: 1,
+        mode: "full",
+        text: DECKS,
+    };
+    session.arrive(base)?;
+    Ok(session)
+}
+
 /// Three lists, after each of which the store is handed to another desk: the number of accepted runs.
 fn random_lists(alloc: Global, dice: &mut Dice) -> Result<u32, Fail> {
-    let mut session = Session::new(alloc, ListStore::new(alloc));
-    session.arrive(base(DECKS))?;
+    let mut session = after_decks(alloc)?;
     let mut accepted: u32 = 0;
     for _ in 0..3 {
         accepted = accepted.saturating_add(random_list(&mut session, dice)?);
         session = session.reopened();
     }
     Ok(accepted)
-}
-
-/// Run 1 of the site BASE.
-pub fn base(text: &str) -> Sent<'_> {
-    Sent {
-        site: "BASE",
-        number: 1,
-        mode: "full",
-        text,
-    }
 }
 
 #[test]

@@ -58,14 +58,24 @@ fn delete_and_settle(
     Ok(())
 }
 
-/// Runs of this number of deletions on 48,000 cards, with a status update after each if `settles`.
+/// Runs of this number of deletions, with a status update after each if `settles`.
+fn delete_each(
+    library: &mut Library,
+    cache: &mut Cache,
+    (runs, lines): (u32, u32),
+    settles: bool,
+) -> Result<(), Fail> {
+    for set in 0..runs {
+        delete_and_settle(library, cache, (set, lines), settles)?;
+    }
+    Ok(())
+}
+
+/// The same on 48,000 cards.
 fn settled(alloc: Global, runs: u32, lines: u32, settles: bool) -> Result<(), Fail> {
     let mut library = with_decks(alloc, 24)?;
     let mut cache = Cache::build(alloc, &library)?;
-    for set in 0..runs {
-        delete_and_settle(&mut library, &mut cache, (set, lines), settles)?;
-    }
-    Ok(())
+    delete_each(&mut library, &mut cache, (runs, lines), settles)
 }
 
 #[test]
@@ -106,8 +116,8 @@ fn add_statuses(
     deck: &Deck,
 ) -> Result<(), Fail> {
     for card in &deck.cards {
-        let active = cache.active(reference(library, card)?).ok_or("no status")?;
-        statuses.insert(reference(library, card)?, active)?;
+        let card = reference(library, card)?;
+        statuses.insert(card, cache.active(card).ok_or("no status")?)?;
     }
     Ok(())
 }
@@ -126,11 +136,11 @@ fn statuses_of(alloc: Global, library: &Library) -> Result<Statuses, Fail> {
 fn copied(alloc: Global, copies: u32) -> Result<(), Fail> {
     let library = with_decks(alloc, 24)?;
     let statuses = statuses_of(alloc, &library)?;
-    same("the statuses", statuses.len(), 48_000)?;
     are_copied(&statuses, copies)
 }
 
 fn are_copied(statuses: &Statuses, copies: u32) -> Result<(), Fail> {
+    same("the statuses", statuses.len(), 48_000)?;
     for _ in 0..copies {
         let copy = statuses.clone()?;
         same("a copy", copy.len(), 48_000)?;

@@ -1,5 +1,5 @@
 //! Steps of worked lists: what is asked of a desk, and its answer.
-use crate::empty_stores::Fresh;
+use crate::empty_stores::{Fresh, fresh_session};
 use std::alloc::Global;
 use std::test::Fail;
 use upd_row_store::RowStore;
@@ -8,7 +8,7 @@ use upd_testkit::replies::Line;
 use upd_testkit::session::Session;
 
 /// What is asked of a desk, and its answer.
-#[derive(Clone, Copy, Debug)]
+#[derive(Clone, Copy)]
 pub enum Step {
     /// A run of LYON, by number, mode and text, is accepted: the idents that it introduces, and its compile lines.
     Accepts(u64, &'static str, &'static str, &'static [&'static str], &'static [Line<'static>]),
@@ -48,18 +48,22 @@ pub fn take<S: RowStore>(session: &mut Session<S>, step: Step) -> Result<(), Fai
     }
 }
 
-/// Takes each list on an empty library of its own.
-pub fn take_all<S: Fresh>(alloc: Global, lists: &[&[Step]]) -> Result<(), Fail> {
-    for list in lists {
-        let mut session = Session::new(alloc, S::fresh(alloc)?);
-        take_list(&mut session, list)?;
+pub fn take_list<S: RowStore>(session: &mut Session<S>, list: &[Step]) -> Result<(), Fail> {
+    for step in list {
+        take(session, *step)?;
     }
     Ok(())
 }
 
-pub fn take_list<S: RowStore>(session: &mut Session<S>, list: &[Step]) -> Result<(), Fail> {
-    for step in list {
-        take(session, *step)?;
+fn take_from_empty<S: Fresh>(alloc: Global, list: &[Step]) -> Result<(), Fail> {
+    let mut session = fresh_session::<S>(alloc)?;
+    take_list(&mut session, list)
+}
+
+/// Takes each list on an empty library of its own.
+pub fn take_all<S: Fresh>(alloc: Global, lists: &[&[Step]]) -> Result<(), Fail> {
+    for list in lists {
+        take_from_empty::<S>(alloc, list)?;
     }
     Ok(())
 }

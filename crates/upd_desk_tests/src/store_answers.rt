@@ -1,9 +1,11 @@
 //! What a store answers, as text.
 use std::alloc::Global;
+use std::fmt::Debug;
 use std::test::Fail;
 use upd_core::{CardRef, Library};
 use upd_row_store::RowStore;
-use upd_testkit::loaded_names::active_names;
+use upd_testkit::applying::card_ref;
+use upd_testkit::loaded_names::loaded_names;
 use upd_testkit::random_runs::Dice;
 
 /// Questions of a store: the ages of decks, some of them twice or unknown, and cards, some of them unknown.
@@ -31,41 +33,58 @@ impl Questions {
 /// A card of a deck or of a set, which may be there.
 fn random_card(alloc: Global, dice: &mut Dice) -> Result<CardRef, Fail> {
     let place = dice.below(6).saturating_add(1);
-    let text = match dice.below(3) {
-        0 => format!(in alloc; "S{}.1", dice.below(16))?,
-        _ => format!(in alloc; "P{}.{place}", dice.below(3))?,
+    let (kind, ident, number) = match dice.below(3) {
+        0 => ("S", dice.below(16), 1),
+        _ => ("P", dice.below(3), place),
     };
-    Ok(CardRef::read(text.as_bytes()).ok_or("no card reference")?)
+    let text = format!(in alloc; "{kind}{ident}.{number}")?;
+    card_ref(text.as_str())
 }
 
-/// What a library holds: how it finds its cards is left out.
-fn shown(alloc: Global, library: Library) -> Result<String, Fail> {
-    let (idents, decks) = (library.idents(), library.decks());
-    let (yanks, rest) = (library.yanks(), library.rest());
-    Ok(format!(in alloc; "{idents:?} {decks:?} {yanks:?} {rest:?}")?)
+/// Adds a line of an answer.
+fn add_line<T: Debug + Drop>(text: &mut String, answer: T) -> Result<(), Fail> {
+    Ok(write!(text, "{answer:?}\n")?)
 }
 
-/// The library that a store loads, and the part with some decks.
-fn libraries<S: RowStore>(
-    alloc: Global,
+/// Adds what a library holds: how it finds its cards is left out.
+fn add_library(text: &mut String, library: &Library) -> Result<(), Fail> {
+    add_line(text, (library.idents(), library.decks()))?;
+    add_line(text, (library.yanks(), library.rest()))
+}
+
+/// Adds the library that a store loads.
+fn add_whole<S: RowStore>(text: &mut String, store: &mut S) -> Result<(), Fail> {
+    let whole = store.load(*text.allocator())?;
+    add_library(text, &whole)
+}
+
+/// Adds the part with some decks.
+fn add_part<S: RowStore>(text: &mut String, store: &mut S, ages: &[u32]) -> Result<(), Fail> {
+    let part = store.load_decks(*text.allocator(), ages)?;
+    add_library(text, &part)
+}
+
+/// Adds the statuses and counts that a store loads, those of some cards, and the decks of these.
+fn add_statuses<S: RowStore>(
+    text: &mut String,
+    store: &mut S,
+    cards: &[CardRef],
+) -> Result<(), Fail> {
+    let alloc = *text.allocator();
+    add_line(text, store.load_states(alloc)?)?;
+    add_line(text, store.states_of(alloc, cards)?)?;
+    add_line(text, store.decks_of(alloc, cards)?)
+}
+
+/// Adds all that a store answers to questions, but for the active cards.
+fn add_answers<S: RowStore>(
+    text: &mut String,
     store: &mut S,
     questions: &Questions,
-) -> Result<String, Fail> {
-    let whole = shown(alloc, store.load(alloc)?)?;
-    let part = shown(alloc, store.load_decks(alloc, &questions.ages)?)?;
-    Ok(format!(in alloc; "{whole}\n{part}")?)
-}
-
-/// The statuses and counts that a store loads, those of some cards, and the decks of these.
-fn statuses<S: RowStore>(
-    alloc: Global,
-    store: &mut S,
-    questions: &Questions,
-) -> Result<String, Fail> {
-    let all = store.load_states(alloc)?;
-    let some = store.states_of(alloc, &questions.cards)?;
-    let decks = store.decks_of(alloc, &questions.cards)?;
-    Ok(format!(in alloc; "{all:?}\n{some:?}\n{decks:?}")?)
+) -> Result<(), Fail> {
+    add_whole(text, store)?;
+    add_part(text, store, &questions.ages)?;
+    add_statuses(text, store, &questions.cards)
 }
 
 /// All that a store answers to questions.
@@ -74,8 +93,7 @@ pub fn answers<S: RowStore>(
     store: &mut S,
     questions: &Questions,
 ) -> Result<String, Fail> {
-    let libraries = libraries(alloc, store, questions)?;
-    let statuses = statuses(alloc, store, questions)?;
-    let actives = active_names(alloc, &store.load_active(alloc)?)?;
-    Ok(format!(in alloc; "{libraries}\n{statuses}\n{actives}")?)
+    let mut text = loaded_names(alloc, store)?;
+    add_answers(&mut text, store, questions)?;
+    Ok(text)
 }

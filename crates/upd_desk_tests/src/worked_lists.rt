@@ -1,5 +1,5 @@
 //! Worked lists of runs, over both stores. A run in full mode shows all active cards in its reply.
-use crate::empty_stores::Fresh;
+use crate::empty_stores::{Fresh, fresh_session};
 use crate::steps::Step::{Accepts, Compiles, Fails, Paris, Refuses, Says};
 use crate::steps::{Step, take, take_all, take_list};
 use sqlite::MemStore;
@@ -305,6 +305,12 @@ const LISTS: [&[Step]; 17] = [
     A_SETTLED_RUN_NEVER_ACTS_AGAIN,
 ];
 
+/// Deck A, whose first line is deleted.
+const BEFORE_CHAIN: &[Step] = &[
+    DECK,
+    Accepts(2, "full", "*IDENT X\n*DELETE A.2\n", &["X"], &[TWO, THREE]),
+];
+
 const TAKEN_BACK: Step = Accepts(4, "full", "*IDENT W\n*DELETE Y900.1\n", &["W"], ALL);
 
 /// The chain is accepted, with two compile lines.
@@ -321,14 +327,17 @@ fn take_back<S: RowStore>(session: &mut Session<S>, work: u64) -> Result<(), Fai
     same("the work", session.desk.work(), work)
 }
 
-fn take_chain<S: Fresh>(alloc: Global) -> Result<(), Fail> {
-    let mut session = Session::new(alloc, S::fresh(alloc)?);
-    let set = Accepts(2, "full", "*IDENT X\n*DELETE A.2\n", &["X"], &[TWO, THREE]);
-    take_list(&mut session, &[DECK, set])?;
-    take_yanks(&mut session)?;
+fn take_chain<S: RowStore>(session: &mut Session<S>) -> Result<(), Fail> {
+    take_list(session, BEFORE_CHAIN)?;
+    take_yanks(session)?;
     // Each of the yank cards, and the card that set X deleted.
-    take_back(&mut session, 901)?;
-    take_back(&mut session, 0)
+    take_back(session, 901)?;
+    take_back(session, 0)
+}
+
+fn take_chain_from_empty<S: Fresh>(alloc: Global) -> Result<(), Fail> {
+    let mut session = fresh_session::<S>(alloc)?;
+    take_chain(&mut session)
 }
 
 #[test]
@@ -343,10 +352,10 @@ fn tables_of_sqlite_answer_as_worked(rt: HostRuntime) -> Result<(), Fail> {
 
 #[test]
 fn lists_take_back_the_last_of_900_yanks(rt: HostRuntime) -> Result<(), Fail> {
-    take_chain::<ListStore>(rt.alloc())
+    take_chain_from_empty::<ListStore>(rt.alloc())
 }
 
 #[test]
 fn tables_of_sqlite_take_back_the_last_of_900_yanks(rt: HostRuntime) -> Result<(), Fail> {
-    take_chain::<SqlStore<MemStore>>(rt.alloc())
+    take_chain_from_empty::<SqlStore<MemStore>>(rt.alloc())
 }
