@@ -15,7 +15,26 @@ use upd_text::Fault;
 
 type Store = SqlStore<MemStore>;
 
-type Stored = Session<Store>;
+/// A store in tables that can be read row by row.
+trait TableStore: RowStore + Drop {
+    /// The store of an empty library.
+    fn fresh(alloc: Global) -> Result<Self, Fail>;
+
+    /// The tables are those of the reference desk; the store is opened again.
+    fn compared(self, reference: &ReferenceDesk) -> Result<Self, Fail>;
+}
+
+impl TableStore for SqlStore<MemStore> {
+    fn fresh(alloc: Global) -> Result<SqlStore<MemStore>, Fail> {
+        opened(SqlStore::init(Connection::open_in_memory(alloc)?))
+    }
+
+    fn compared(self, reference: &ReferenceDesk) -> Result<SqlStore<MemStore>, Fail> {
+        let mut conn = self.into_connection();
+        has_tables(&mut conn, reference)?;
+        opened(SqlStore::adopt(conn))
+    }
+}
 
 fn opened(store: Result<Store, (Fault, Connection<MemStore>)>) -> Result<Store, Fail> {
     match store {
@@ -34,7 +53,7 @@ fn has_tables(conn: &mut Connection<MemStore>, reference: &ReferenceDesk) -> Res
 
 /// The number of decks that were read is what runs have needed since the store was opened, and the tables are those of
 /// the reference desk; the store is opened again.
-fn same_tables(session: Stored) -> Result<Stored, Fail> {
+fn same_tables<S: TableStore>(session: Session<S>) -> Result<Session<S>, Fail> {
     let Session {
         desk,
         mut reference,
@@ -43,9 +62,7 @@ fn same_tables(session: Stored) -> Result<Stored, Fail> {
     let store = desk.close();
     same("the decks read", store.decks_read(), reference.needed)?;
     reference.needed = 0;
-    let mut conn = store.into_connection();
-    has_tables(&mut conn, &reference)?;
-    Ok(Session::over(opened(SqlStore::adopt(conn))?, reference))
+    Ok(Session::over(store.compared(&reference)?, reference))
 }
 
 const SITES: [&str; 3] = ["BASE", "LYON", "PARIS"];
@@ -82,7 +99,7 @@ fn either_site(dice: &mut Dice) -> &'static str {
 }
 
 /// Asks both: whether it was a new run that was accepted.
-fn is_accepted(session: &mut Stored, ask: Ask<'_>) -> Result<bool, Fail> {
+fn is_accepted<S: RowStore>(session: &mut Session<S>, ask: Ask<'_>) -> Result<bool, Fail> {
     session.ask(ask)?;
     Ok(session.reference.work > 0)
 }
@@ -104,7 +121,11 @@ fn random_mode(dice: &mut Dice, number: u32) -> &'static str {
 }
 
 /// One arrival at random. Numbers are few, so that runs come again.
-fn random_arrival(session: &mut Stored, dice: &mut Dice, list: u32) -> Result<bool, Fail> {
+fn random_arrival<S: RowStore>(
+    session: &mut Session<S>,
+    dice: &mut Dice,
+    list: u32,
+) -> Result<bool, Fail> {
     let site = either_site(dice);
     let number = dice.below(24).saturating_add(1);
     let text = random_text(session.alloc, dice, list, number)?;
@@ -117,20 +138,10 @@ fn random_arrival(session: &mut Stored, dice: &mut Dice, list: u32) -> Result<bo
     is_accepted(session, Ask::Run(sent))
 }
 
-fn random_settlement(session: &mut Stored, dice: &mut Dice) -> Result<bool, Fail> {
+fn random_settlement<S: RowStore>(session: &mut Session<S>, dice: &mut Dice) -> Result<bool, Fail> {
     let site = either_site(dice);
     let number = u64::from(dice.below(12));
     is_accepted(session, Ask::Settle(site, number))
-}
-
-/// An arrival, a settlement or something bad: whether it was a new run that was accepted.
-fn random_step(session: &mut Stored, dice: &mut Dice, list: u32, long: &str) -> Result<bool, Fail> {
-    match dice.below(24) {
-        0 | 1 => random_settlement(session, dice),
-        2 => is_accepted(session, Ask::Run(bad_run(dice, long))),
-        3 => is_accepted(session, Ask::Settle(bad_site(dice), 1)),
-        _ => random_arrival(session, dice, list),
-    }
 }
 
 /// A text that is one byte too long for a run.
@@ -142,10 +153,28 @@ fn long_text(alloc: Global) -> Result<String, Fail> {
     Ok(long)
 }
 
+fn bad_arrival<S: RowStore>(session: &mut Session<S>, dice: &mut Dice) -> Result<bool, Fail> {
+    let long = long_text(session.alloc)?;
+    is_accepted(session, Ask::Run(bad_run(dice, long.as_str())))
+}
+
+/// An arrival, a settlement or something bad: whether it was a new run that was accepted.
+fn random_step<S: RowStore>(
+    session: &mut Session<S>,
+    dice: &mut Dice,
+    list: u32,
+) -> Result<bool, Fail> {
+    match dice.below(24) {
+        0 | 1 => random_settlement(session, dice),
+        2 => bad_arrival(session, dice),
+        3 => is_accepted(session, Ask::Settle(bad_site(dice), 1)),
+        _ => random_arrival(session, dice, list),
+    }
+}
+
 /// A library with the decks that random runs change.
-fn with_decks(alloc: Global) -> Result<Stored, Fail> {
-    let store = opened(SqlStore::init(Connection::open_in_memory(alloc)?))?;
-    let mut session = Session::new(alloc, store);
+fn with_decks<S: TableStore>(alloc: Global) -> Result<Session<S>, Fail> {
+    let mut session = Session::new(alloc, S::fresh(alloc)?);
     let base = Sent {
         site: "BASE",
         number: 1,
@@ -157,16 +186,15 @@ fn with_decks(alloc: Global) -> Result<Stored, Fail> {
 }
 
 /// Twenty steps; the tables are compared after each of them, or after every tenth. The number of accepted runs.
-fn random_steps(
-    mut session: Stored,
+fn random_steps<S: TableStore>(
+    mut session: Session<S>,
     dice: &mut Dice,
     list: u32,
     each: bool,
-) -> Result<(Stored, u32), Fail> {
-    let long = long_text(session.alloc)?;
+) -> Result<(Session<S>, u32), Fail> {
     let mut accepted: u32 = 0;
     for step in 0..20 {
-        let is_new = random_step(&mut session, dice, list, long.as_str())?;
+        let is_new = random_step(&mut session, dice, list)?;
         accepted = accepted.saturating_add(u32::from(is_new));
         if each || step % 10 == 9 {
             session = same_tables(session)?;
@@ -175,11 +203,20 @@ fn random_steps(
     Ok((session, accepted))
 }
 
+fn ask_listings<S: TableStore>(mut session: Session<S>) -> Result<(), Fail> {
+    session.ask_all(&LISTINGS)
+}
+
 /// A list of random steps, and then the listings: the number of accepted runs.
-fn random_list(alloc: Global, dice: &mut Dice, list: u32, each: bool) -> Result<u32, Fail> {
-    let session = with_decks(alloc)?;
-    let (mut session, accepted) = random_steps(session, dice, list, each)?;
-    session.ask_all(&LISTINGS)?;
+fn random_list<S: TableStore>(
+    alloc: Global,
+    dice: &mut Dice,
+    list: u32,
+    each: bool,
+) -> Result<u32, Fail> {
+    let session = with_decks::<S>(alloc)?;
+    let (session, accepted) = random_steps(session, dice, list, each)?;
+    ask_listings(session)?;
     Ok(accepted)
 }
 
@@ -189,7 +226,7 @@ fn answers_random_lists_as_the_reference_desk(rt: HostRuntime) -> Result<(), Fai
     let mut accepted: u32 = 0;
     for list in 0..400 {
         let each = list % 2 == 0;
-        let found = random_list(rt.alloc(), &mut dice, list, each)?;
+        let found = random_list::<Store>(rt.alloc(), &mut dice, list, each)?;
         accepted = accepted.saturating_add(found);
     }
     holds(("accepted runs", accepted), accepted > 800)

@@ -104,6 +104,17 @@ fn answers<R: RowStore>(session: &mut Session<R>, list: &[Ask<'_>]) -> Result<Ve
     Ok(answers)
 }
 
+/// Asks the library in a store until a call fails: what came of it, and the store.
+fn asked<R: RowStore + Drop>(
+    alloc: Global,
+    store: R,
+    list: &[Ask<'_>],
+) -> Result<(Sending, R), Fail> {
+    let mut session = Session::new(alloc, store);
+    let (opened, answers) = (true, answers(&mut session, list)?);
+    Ok((Sending { opened, answers }, session.desk.close()))
+}
+
 /// Asks the library in a database until a call fails.
 #[derive(Drop)]
 struct Asking<'a> {
@@ -120,10 +131,8 @@ impl Work for Asking<'_> {
     ) -> Result<(Sending, Connection<S>), Fail> {
         match library_in(conn) {
             Ok(store) => {
-                let mut session = Session::new(alloc, store);
-                let (opened, answers) = (true, answers(&mut session, self.list)?);
-                let conn = session.desk.close().into_connection();
-                Ok((Sending { opened, answers }, conn))
+                let (sending, store) = asked(alloc, store, self.list)?;
+                Ok((sending, store.into_connection()))
             }
             Err(conn) => Ok((Sending::none(alloc), conn)),
         }
@@ -143,10 +152,15 @@ fn send(
 /// The reference desk after the first `count` of a list.
 fn reference_after(alloc: Global, list: &[Ask<'_>], count: usize) -> Result<ReferenceDesk, Fail> {
     let mut reference = ReferenceDesk::new(alloc);
-    for ask in list.iter().take(count) {
+    answer_all(&mut reference, list.get(..count).unwrap_or(list))?;
+    Ok(reference)
+}
+
+fn answer_all(reference: &mut ReferenceDesk, list: &[Ask<'_>]) -> Result<(), Fail> {
+    for ask in list {
         reference.answer(*ask)?;
     }
-    Ok(reference)
+    Ok(())
 }
 
 /// Two texts are the same after this number of answers.
@@ -167,6 +181,16 @@ fn one_more(
     Ok(reference)
 }
 
+/// Whether the tables that a crash left are those of the reference desk. Before the first answer there may also be no
+/// library.
+fn is_left(reference: &ReferenceDesk, sending: &Sending, found: &str) -> Result<bool, Fail> {
+    if found.is_empty() && !sending.opened {
+        return Ok(true);
+    }
+    let wanted = reference_tables(reference.library.allocator(), reference, &SITES)?;
+    Ok(found == wanted.as_str())
+}
+
 /// The reference desk with the tables that a crash left: after the answered part of the list, or after one more. Before
 /// the first answer there may also be no library.
 fn left_by(
@@ -177,9 +201,7 @@ fn left_by(
 ) -> Result<ReferenceDesk, Fail> {
     let answered = sending.answers.len();
     let reference = reference_after(alloc, list, answered)?;
-    let without = reference_tables(alloc, &reference, &SITES)?;
-    let is_none = found.is_empty() && !sending.opened;
-    if found == without.as_str() || is_none {
+    if is_left(&reference, sending, found)? {
         return Ok(reference);
     }
     one_more(alloc, list, answered, found)
@@ -220,15 +242,15 @@ fn has_tables(reference: &ReferenceDesk, files: Files<Fused>, answered: usize) -
 
 /// The whole list, sent again, is answered as the reference desk answers, and its tables are in the files then.
 fn is_sent_again(
-    mut reference: ReferenceDesk,
+    reference: &mut ReferenceDesk,
     files: Files<Fused>,
     list: &[Ask<'_>],
     answered: usize,
 ) -> Result<(), Fail> {
     let alloc = reference.library.allocator();
     let (again, files) = send(alloc, files, list)?;
-    are_answered(&mut reference, list, &again.answers, answered)?;
-    has_tables(&reference, files, answered)
+    are_answered(reference, list, &again.answers, answered)?;
+    has_tables(reference, files, answered)
 }
 
 /// What a crash left is the library after the answered part of the list, or after one more; before the first answer it
@@ -240,8 +262,8 @@ fn left_holds(
     left: &Bytes,
 ) -> Result<(), Fail> {
     let (found, files) = tables_in(alloc, left.files(alloc, ALL)?)?;
-    let reference = left_by(alloc, list, sending, found.as_str())?;
-    is_sent_again(reference, files, list, sending.answers.len())
+    let mut reference = left_by(alloc, list, sending, found.as_str())?;
+    is_sent_again(&mut reference, files, list, sending.answers.len())
 }
 
 /// What is found after a kill holds, and what is found after a crash.

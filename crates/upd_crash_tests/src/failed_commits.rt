@@ -8,7 +8,7 @@ ghost use Rattle.upd_row_store.specs.Keeping.{IsLost, failures_with};
 use std::alloc::Global;
 use std::test::Fail;
 use upd_core::{Actives, CardRef, Change, Library, Serial, States};
-use upd_desk::{Arrival, Desk};
+use upd_desk::{Arrival, Desk, Reply};
 use upd_list_store::ListStore;
 use upd_mirror::MirrorStore;
 use upd_records::{LibraryRows, RunRow};
@@ -196,14 +196,18 @@ fn loses_one<S: RowStore + Drop>(alloc: Global, store: S, passing: usize) -> Res
     Ok(())
 }
 
+/// The desk answers that its store has failed.
+fn has_failed<S: RowStore>(session: &mut Session<S>, ask: Ask<'_>) -> Result<(), Fail> {
+    let answer = session.ask_desk(ask)?;
+    same_text(ask, answer.as_str(), "Store (29) at 0")
+}
+
 /// A run is lost: its key isn't known.
 fn after_loss<S: RowStore + Drop>(
     mut session: Session<S>,
     sent: Sent<'_>,
 ) -> Result<Session<S>, Fail> {
-    let ask = Ask::Run(sent);
-    let answer = session.ask_desk(ask)?;
-    same_text(ask, answer.as_str(), "Store (29) at 0")?;
+    has_failed(&mut session, Ask::Run(sent))?;
     let Session {
         desk,
         reference,
@@ -241,17 +245,22 @@ fn a_failed_commit_below_rows_in_memory_is_answered_store(rt: HostRuntime) -> Re
     Ok(())
 }
 
+/// Adds an answer as a line.
+fn add_answer(text: &mut String, answer: Result<Reply, Fault>) -> Result<(), Fail> {
+    let answer = shown(*text.allocator(), answer.map(|reply| reply.text))?;
+    Ok(write!(text, "{answer}\n")?)
+}
+
 /// The answers of a desk over a store, one a line.
 fn run_all<S: RowStore + Drop>(
     alloc: Global,
     store: S,
     list: &[Arrival<'_>],
 ) -> Result<String, Fail> {
-    let mut desk = Desk::open(store);
+    let answers = Desk::open(store).run_all(alloc, list)?;
     let mut text = String::new(alloc);
-    for answer in desk.run_all(alloc, list)? {
-        let answer = shown(alloc, answer.map(|reply| reply.text))?;
-        write!(text, "{answer}\n")?;
+    for answer in answers {
+        add_answer(&mut text, answer)?;
     }
     Ok(text)
 }

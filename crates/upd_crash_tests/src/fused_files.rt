@@ -82,11 +82,6 @@ fn opened_on<D: Disk + Drop>(
     }
 }
 
-/// The files of any kind of a database.
-fn files_of<D: Disk + Drop>(conn: Connection<FileStore<D>>) -> Files<D> {
-    conn.into_store().close()
-}
-
 /// What is done with a database, whatever holds it.
 pub trait Work: Drop {
     /// What comes of it.
@@ -99,16 +94,27 @@ pub trait Work: Drop {
     ) -> Result<(Self::Outcome, Connection<S>), Fail>;
 }
 
-/// Does this with the database in files: what comes of it, which is none where they can't be opened, and the files.
-pub fn work_in<W: Work>(
+/// Does this with a database: what comes of it, and the store.
+fn worked<S: Rising + Drop, W: Work>(
     alloc: Global,
-    files: Files<Fused>,
+    conn: Connection<S>,
     work: W,
-) -> Result<(Option<W::Outcome>, Files<Fused>), Fail> {
+) -> Result<(W::Outcome, S), Fail> {
+    let (outcome, conn) = work.over(alloc, conn)?;
+    Ok((outcome, conn.into_store()))
+}
+
+/// Does this with the database in files of any kind: what comes of it, which is none where they can't be opened, and the
+/// files. No other function names the store over a file.
+pub fn work_in<D: Disk + Drop, W: Work>(
+    alloc: Global,
+    files: Files<D>,
+    work: W,
+) -> Result<(Option<W::Outcome>, Files<D>), Fail> {
     match opened_on(alloc, files) {
         Ok(conn) => {
-            let (outcome, conn) = work.over(alloc, conn)?;
-            Ok((Some(outcome), files_of(conn)))
+            let (outcome, store) = worked(alloc, conn, work)?;
+            Ok((Some(outcome), store.close()))
         }
         Err(files) => Ok((None, files)),
     }

@@ -167,7 +167,7 @@ fn run_all<S: Alter>(conn: &mut Connection<S>, texts: &[&str]) -> Result<(), Fai
     Ok(())
 }
 
-const QUERIES: [(&str, &str); 9] = [
+const QUERIES: &[(&str, &str)] = &[
     ("meta", "SELECT k, v FROM meta ORDER BY k"),
     (
         "idents",
@@ -204,12 +204,22 @@ const QUERIES: [(&str, &str); 9] = [
 pub fn tables<S: Alter>(alloc: Global, conn: &mut Connection<S>) -> Result<String, Fail> {
     let mut text = String::new(alloc);
     for (table, query) in QUERIES {
-        match conn.query_all(query, &[]) {
-            Ok(rows) => add_rows(&mut text, table, &rows)?,
-            Err(_) => write!(text, "no {table}\n")?,
-        }
+        add_table(&mut text, conn, table, query)?;
     }
     Ok(text)
+}
+
+/// Adds the rows of a table, a line for each, or one line if it can't be read.
+fn add_table<S: Alter>(
+    text: &mut String,
+    conn: &mut Connection<S>,
+    table: &str,
+    query: &str,
+) -> Result<(), Fail> {
+    match conn.query_all(query, &[]) {
+        Ok(rows) => add_rows(text, table, &rows),
+        Err(_) => Ok(write!(text, "no {table}\n")?),
+    }
 }
 
 fn add_rows(text: &mut String, table: &str, rows: &[Row]) -> Result<(), Fail> {

@@ -1,11 +1,11 @@
 //! The tables as text, as SQL reads them.
-use sqlite::{Alter, Connection};
+use sqlite::{Alter, Connection, Row};
 use sqlite_value::value::ValueRef;
 use std::alloc::Global;
 use std::test::Fail;
 use upd_testkit::reference_rows::joined;
 
-const TABLES: [(&str, &str); 9] = [
+const TABLES: &[(&str, &str)] = &[
     ("meta", "SELECT * FROM meta"),
     ("idents", "SELECT * FROM idents"),
     ("cards", "SELECT * FROM cards"),
@@ -20,34 +20,45 @@ const TABLES: [(&str, &str); 9] = [
 /// The sorted lines of all tables, one for each row.
 pub fn stored_tables<S: Alter>(alloc: Global, conn: &mut Connection<S>) -> Result<String, Fail> {
     let mut lines = Vec::new(alloc);
-    for (table, query) in TABLES {
-        add_rows(&mut lines, conn, table, query)?;
-    }
+    add_tables(&mut lines, conn)?;
     joined(alloc, lines)
 }
 
-fn add_rows<S: Alter>(
-    lines: &mut Vec<String>,
-    conn: &mut Connection<S>,
-    table: &str,
-    query: &str,
-) -> Result<(), Fail> {
-    for row in &conn.query_all(query, &[])? {
+fn add_tables<S: Alter>(lines: &mut Vec<String>, conn: &mut Connection<S>) -> Result<(), Fail> {
+    for (table, query) in TABLES {
+        let rows = conn.query_all(query, &[])?;
+        add_rows(lines, table, &rows)?;
+    }
+    Ok(())
+}
+
+fn add_rows(lines: &mut Vec<String>, table: &str, rows: &[Row]) -> Result<(), Fail> {
+    for row in rows {
         let mut line = String::from_str(*lines.allocator(), table)?;
-        for at in 0..row.column_count() {
-            add_value(&mut line, row.get_ref(at)?)?;
-        }
+        add_values(&mut line, row)?;
         lines.push(line)?;
+    }
+    Ok(())
+}
+
+fn add_values(line: &mut String, row: &Row) -> Result<(), Fail> {
+    for at in 0..row.column_count() {
+        add_value(line, row.get_ref(at)?)?;
     }
     Ok(())
 }
 
 fn add_value(line: &mut String, value: ValueRef<'_>) -> Result<(), Fail> {
     match value {
-        ValueRef::Int(number) => write!(line, "|{number}")?,
-        ValueRef::Text(text) => write!(line, "|'{}'", std::str::from_utf8(text)?)?,
-        ValueRef::Blob(bytes) => write!(line, "|x'{}'", std::str::from_utf8(bytes)?)?,
-        _ => return Err("a column of another kind".into()),
+        ValueRef::Int(number) => Ok(write!(line, "|{number}")?),
+        ValueRef::Text(text) => add_quoted(line, "", text),
+        ValueRef::Blob(bytes) => add_quoted(line, "x", bytes),
+        _ => Err("a column of another kind".into()),
     }
-    Ok(())
+}
+
+/// Adds bytes in quotes, after what shows their kind.
+fn add_quoted(line: &mut String, kind: &str, bytes: &[u8]) -> Result<(), Fail> {
+    let text = std::str::from_utf8(bytes)?;
+    Ok(write!(line, "|{kind}'{text}'")?)
 }
