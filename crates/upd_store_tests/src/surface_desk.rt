@@ -6,7 +6,7 @@ use sqlite::MemStore;
 use std::alloc::Global;
 use std::test::Fail;
 use upd_compile::CompileFile;
-use upd_core::Library;
+use upd_core::{Change, Library};
 use upd_desk::{Arrival, Desk, Reply};
 use upd_migrate::migrate;
 use upd_rows::{ListStore, RowStore, RunRow, SqlStore, load_rows};
@@ -37,25 +37,43 @@ fn row(alloc: Global) -> Result<RunRow, Fail> {
     })
 }
 
+/// Whether run 1 of site LYON is stored.
+fn has_run<S: RowStore>(alloc: Global, store: &mut S) -> Result<bool, Fail> {
+    Ok(store.kept_run(alloc, "LYON", 1)?.is_some())
+}
+
+/// The changes of the run that introduces deck A.
+fn changes(alloc: Global) -> Result<Vec<Change>, Fail> {
+    Ok(applied(&mut Library::new(alloc), DECK)?.changes)
+}
+
 /// Commits the run that introduces deck A, whose key is free.
 fn commit_deck<S: RowStore>(alloc: Global, store: &mut S) -> Result<(), Fail> {
-    let mut library = Library::new(alloc);
-    let changes = applied(&mut library, DECK)?.changes;
-    let run = row(alloc)?;
-    match store.kept_run(alloc, &run.site, run.number)? {
-        Some(_) => return Err("the key is taken".into()),
-        None => {}
-    }
-    store.commit(alloc, &changes, run)?;
-    Ok(())
+    holds("a free key", !has_run(alloc, store)?)?;
+    Ok(store.commit(alloc, &changes(alloc)?, row(alloc)?)?)
+}
+
+/// The number of decks of a load.
+fn all_decks<S: RowStore>(alloc: Global, store: &mut S) -> Result<usize, Fail> {
+    Ok(store.load(alloc)?.decks().len())
+}
+
+/// The number of decks of a load of deck 1.
+fn one_deck<S: RowStore>(alloc: Global, store: &mut S) -> Result<usize, Fail> {
+    Ok(store.load_decks(alloc, &[1])?.decks().len())
+}
+
+/// The number of decks that hold A.2.
+fn decks_of_card<S: RowStore>(alloc: Global, store: &mut S) -> Result<usize, Fail> {
+    Ok(store.decks_of(alloc, &[card_ref("A.2")?])?.len())
 }
 
 /// The number of decks of a load, of a load of deck 1, and of the decks that hold A.2.
 fn loads<S: RowStore>(alloc: Global, store: &mut S) -> Result<[usize; 3], Fail> {
     Ok([
-        store.load(alloc)?.decks().len(),
-        store.load_decks(alloc, &[1])?.decks().len(),
-        store.decks_of(alloc, &[card_ref("A.2")?])?.len(),
+        all_decks(alloc, store)?,
+        one_deck(alloc, store)?,
+        decks_of_card(alloc, store)?,
     ])
 }
 
@@ -68,13 +86,24 @@ fn statuses<S: RowStore>(alloc: Global, store: &mut S) -> Result<[usize; 3], Fai
     ])
 }
 
+/// The run is stored with its bytes.
+fn is_stored<S: RowStore>(alloc: Global, store: &mut S) -> Result<(), Fail> {
+    let run = store.kept_run(alloc, "LYON", 1)?.ok_or("no run")?;
+    same("the run", run.bytes.as_slice(), DECK.as_bytes())
+}
+
 /// The run is stored until its site settles it.
 fn is_settled<S: RowStore>(alloc: Global, store: &mut S) -> Result<(), Fail> {
-    let run = store.kept_run(alloc, "LYON", 1)?.ok_or("no run")?;
-    same("the run", run.bytes.as_slice(), DECK.as_bytes())?;
-    same("the mark", store.mark(alloc, "LYON")?, 0)?;
-    same("the new mark", store.settle_to(alloc, "LYON", 1)?, 1)?;
-    holds("no run", store.kept_run(alloc, "LYON", 1)?.is_none())
+    is_stored(alloc, store)?;
+    let marks = (
+        store.mark(alloc, "LYON")?,
+        store.settle_to(alloc, "LYON", 1)?,
+    );
+    same(
+        "the marks, a stored run",
+        (marks, has_run(alloc, store)?),
+        ((0, 1), false),
+    )
 }
 
 /// Each call of a store answers as it should.
@@ -114,14 +143,19 @@ fn rows_of_a_connection_are_loaded_and_migrated(rt: HostRuntime) -> Result<(), F
     same("cards", library.cards_of(1).len(), 2)
 }
 
-/// A desk over lists with deck A.
-fn desk(alloc: Global) -> Result<Desk<ListStore>, Fail> {
-    let mut desk = Desk::open(ListStore::new(alloc));
+/// A run that introduces deck A is accepted.
+fn accepts_deck<S: RowStore>(alloc: Global, desk: &mut Desk<S>) -> Result<(), Fail> {
     let reply: Reply = desk.arrive(alloc, "LYON", 1, "quick", DECK.as_bytes())?;
     let wanted = "{\"compile\":\"\",\"idents\":[\"A\"],\"lines\":0,\"mode\":\"quick\",\"run\":1,\
 \"site\":\"LYON\",\"state\":\"accepted\"}";
     same_text("the reply", std::str::from_utf8(&reply.text)?, wanted)?;
-    same("accepted, work", (reply.accepted, desk.work()), (true, 2))?;
+    same("accepted, work", (reply.accepted, desk.work()), (true, 2))
+}
+
+/// A desk over lists with deck A.
+fn desk(alloc: Global) -> Result<Desk<ListStore>, Fail> {
+    let mut desk = Desk::open(ListStore::new(alloc));
+    accepts_deck(alloc, &mut desk)?;
     Ok(desk)
 }
 
@@ -142,13 +176,18 @@ const LISTINGS: [&str; 4] = [
     "",
 ];
 
-/// The decks of a desk are compiled and listed.
-fn is_written<S: RowStore>(alloc: Global, desk: &mut Desk<S>) -> Result<(), Fail> {
-    is_line(&desk.full_compile(alloc)?)?;
-    for (found, wanted) in listings(alloc, desk)?.iter().zip(LISTINGS) {
+/// The listings are as they should be.
+fn are_listings(found: &[Vec<u8>; 4]) -> Result<(), Fail> {
+    for (found, wanted) in found.iter().zip(LISTINGS) {
         same_text("a listing", std::str::from_utf8(found)?, wanted)?;
     }
     Ok(())
+}
+
+/// The decks of a desk are compiled and listed.
+fn is_written<S: RowStore>(alloc: Global, desk: &mut Desk<S>) -> Result<(), Fail> {
+    is_line(&desk.full_compile(alloc)?)?;
+    are_listings(&listings(alloc, desk)?)
 }
 
 /// A site settles its run, and the store that the desk leaves has its mark.
