@@ -46,7 +46,7 @@ fn check(rt: &HostRuntime, cases: &[Case]) -> Result<(), Fail> {
 
 fn is_answered(rt: &HostRuntime, case: Case) -> Result<(), Fail> {
     let (words, run, status, output, faults) = case;
-    answers(rt, words, run.as_bytes(), (status, output, faults))
+    answers(rt, words, run, (status, output, faults))
 }
 
 #[test]
@@ -248,12 +248,12 @@ fn each_command_has_its_own_help(rt: HostRuntime) -> Result<(), Fail> {
 fn is_help(rt: &HostRuntime, words: &[&str], option: &[&str]) -> Result<(), Fail> {
     let wanted = run_words(rt, option, b"")?;
     let text = std::str::from_utf8(&wanted.output)?;
-    answers(rt, words, b"", (0, text, ""))
+    answers(rt, words, "", (0, text, ""))
 }
 
 #[test]
 fn help_is_a_command_too(rt: HostRuntime) -> Result<(), Fail> {
-    answers(&rt, &["help", "trial"], b"", (0, TRIAL_HELP, ""))?;
+    answers(&rt, &["help", "trial"], "", (0, TRIAL_HELP, ""))?;
     is_help(&rt, &["help"], &["--help"])?;
     for (name, _) in ABOUT {
         is_help(&rt, &["help", *name], &[*name, "--help"])?;

@@ -9,16 +9,20 @@ use upd_testkit::check::{same, same_text};
 pub fn fresh(rt: &HostRuntime, name: &str) -> Result<String, Fail> {
     let file = format!(in rt.alloc(); "upd-{}-{name}.db", process::id(rt.process()))?;
     let path = env::temp_dir(rt)?.join(rt.alloc(), file.as_str())?;
-    let path = String::from_str(rt.alloc(), path.as_str())?;
     remove(rt, path.as_str())?;
-    Ok(path)
+    Ok(String::from_str(rt.alloc(), path.as_str())?)
+}
+
+/// Removes the log of a library, if there is one.
+pub fn without_log(rt: &HostRuntime, path: &str) -> Result<(), Fail> {
+    let _ = fs::remove_file(rt, format!(in rt.alloc(); "{path}-wal")?.as_str());
+    Ok(())
 }
 
 /// Removes a library with its log.
 pub fn remove(rt: &HostRuntime, path: &str) -> Result<(), Fail> {
     let _ = fs::remove_file(rt, path);
-    let _ = fs::remove_file(rt, format!(in rt.alloc(); "{path}-wal")?.as_str());
-    Ok(())
+    without_log(rt, path)
 }
 
 /// What a command line answered: its exit status, its output, and what it said on the fault stream.
@@ -54,32 +58,31 @@ pub fn is_answer(found: &Answer, (status, output, faults): (u8, &str, &str)) -> 
 pub fn answers(
     rt: &HostRuntime,
     words: &[&str],
-    mut input: &[u8],
+    input: &str,
     wanted: (u8, &str, &str),
 ) -> Result<(), Fail> {
-    let found = ask(rt, words, &mut input)?;
+    let found = ask(rt, words, &mut input.as_bytes())?;
     is_answer(&found, wanted)
 }
 
-/// A command on the library in a file has this answer over no input: its name, and its words after the file.
+/// A command on the library in a file has this answer: its name, its words after the file, and its input.
 pub fn answers_of<'a>(
     rt: &HostRuntime,
     file: &'a str,
     name: &'a str,
     words: &[&'a str],
+    input: &str,
     wanted: (u8, &str, &str),
 ) -> Result<(), Fail> {
-    let mut line = Vec::new(rt.alloc());
-    line.push(name)?;
-    line.push(file)?;
+    let mut line = vec![in rt.alloc(); name, file]?;
     line.extend_from_slice(words)?;
-    answers(rt, &line, b"", wanted)
+    answers(rt, &line, input, wanted)
 }
 
 /// A path of a new library without decks.
 pub fn library(rt: &HostRuntime, name: &str) -> Result<String, Fail> {
     let file = fresh(rt, name)?;
-    answers(rt, &["init", &file], b"", (0, "", ""))?;
+    answers(rt, &["init", &file], "", (0, "", ""))?;
     Ok(file)
 }
 
@@ -89,8 +92,12 @@ pub fn accepts(
     file: &str,
     number: &str,
     mode: &str,
-    mut run: &[u8],
+    run: &str,
 ) -> Result<(), Fail> {
-    let found = ask(rt, &["run", file, "LYON", number, mode], &mut run)?;
+    let found = ask(
+        rt,
+        &["run", file, "LYON", number, mode],
+        &mut run.as_bytes(),
+    )?;
     same("the status of a run", found.status, 0)
 }

@@ -3,6 +3,7 @@ use sqlite::{Connection, FileFrom, FileStore};
 use sqlite_disk::{Disk, Unknown};
 use std::test::Fail;
 use upd_store::file::connect;
+use upd_testkit::check::holds;
 
 /// A connection to the file of a library.
 pub type FileConnection = Connection<FileStore<FileFrom<Unknown>>>;
@@ -11,34 +12,31 @@ pub fn connected(rt: &HostRuntime, file: &str) -> Result<FileConnection, Fail> {
     Ok(connect(rt, file, Unknown)?)
 }
 
-pub fn close<D: Disk + Drop>(conn: Connection<FileStore<D>>) -> Result<(), Fail> {
+fn close<D: Disk + Drop>(conn: Connection<FileStore<D>>) -> Result<(), Fail> {
     Ok(conn.close()?)
 }
 
-/// Executes a statement, which is in the log then.
-fn executed<D: Disk + Drop>(
-    mut conn: Connection<FileStore<D>>,
-    sql: &str,
-) -> Result<Connection<FileStore<D>>, Fail> {
-    conn.execute(sql, &[])?;
-    Ok(conn)
+/// Executes a statement, which is in the log then, and says whether it could.
+fn execute<D: Disk + Drop>(conn: &mut Connection<FileStore<D>>, sql: &str) -> bool {
+    conn.execute(sql, &[]).is_ok()
 }
 
 /// Executes a statement and closes the connection.
 pub fn execute_and_close<D: Disk + Drop>(
-    conn: Connection<FileStore<D>>,
+    mut conn: Connection<FileStore<D>>,
     sql: &str,
 ) -> Result<(), Fail> {
-    close(executed(conn, sql)?)
+    let is_done = execute(&mut conn, sql);
+    close(conn)?;
+    holds(sql, is_done)
 }
 
 /// Executes a statement and lets the connection go, as a program does that ends without copying its log into the file.
 fn execute_and_leave<D: Disk + Drop>(
-    conn: Connection<FileStore<D>>,
+    mut conn: Connection<FileStore<D>>,
     sql: &str,
 ) -> Result<(), Fail> {
-    executed(conn, sql)?;
-    Ok(())
+    holds(sql, execute(&mut conn, sql))
 }
 
 /// Changes the tables of a library.

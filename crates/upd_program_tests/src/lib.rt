@@ -14,6 +14,8 @@ mod examined_files;
 #[cfg(test)]
 mod file_changes;
 #[cfg(test)]
+mod file_sessions;
+#[cfg(test)]
 mod library_files;
 #[cfg(test)]
 mod listing_files;

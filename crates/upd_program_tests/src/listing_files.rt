@@ -1,28 +1,21 @@
 //! `correct` with a deck's listing in place of a library's file.
-use crate::console::{accepts, answers, answers_of, fresh, library, remove};
+use crate::console::{answers, answers_of, ask, fresh, is_answer, remove};
+use crate::file_sessions::{NO_LIBRARY, Step, session, take_all};
 use std::fs;
 use std::test::Fail;
 
-const DECK: &[u8] = b"*DECK A\nONE\nTWO\nTHREE\n";
-
-const SET: &[u8] = b"*IDENT S\n*DELETE A.3\nDEUX\n";
-
-/// The listing of deck A after both.
+/// The listing of deck A after its two runs.
 const LISTING: &str = "DECK A\nA A.1 *DECK A\nA A.2 ONE\nI A.3 TWO\nA S.1 DEUX\nA A.4 THREE\n";
 
 const EDITED: &str = "*DECK A\nUN\nDEUX\nTHREE\nFOUR\n";
 
-const RUN: &str = "*IDENT T\n*DELETE A.2\nUN\n*INSERT A.4\nFOUR\n";
-
-const NO_LIBRARY: (u8, &str, &str) = (3, "", "upd: Store (29) at 0\n");
-
-/// A library with deck A after both.
-fn listed_library(rt: &HostRuntime) -> Result<String, Fail> {
-    let file = library(rt, "listed")?;
-    accepts(rt, &file, "1", "quick", DECK)?;
-    accepts(rt, &file, "2", "quick", SET)?;
-    Ok(file)
-}
+/// The run that corrects the deck is written.
+const CORRECTED: Step<'static> = Step::Answers(
+    "correct",
+    &["T"],
+    EDITED,
+    (0, "*IDENT T\n*DELETE A.2\nUN\n*INSERT A.4\nFOUR\n", ""),
+);
 
 /// A file with the listing.
 fn listing_file(rt: &HostRuntime, name: &str) -> Result<String, Fail> {
@@ -32,46 +25,66 @@ fn listing_file(rt: &HostRuntime, name: &str) -> Result<String, Fail> {
 }
 
 #[test]
+fn a_library_corrects_a_deck_that_it_lists(rt: HostRuntime) -> Result<(), Fail> {
+    const STEPS: &[Step<'_>] = &[
+        Step::Accepts("1", "quick", "*DECK A\nONE\nTWO\nTHREE\n"),
+        Step::Accepts("2", "quick", "*IDENT S\n*DELETE A.3\nDEUX\n"),
+        Step::Writes("list", &["A"], LISTING),
+        CORRECTED,
+        Step::Accepts(
+            "3",
+            "quick",
+            "*IDENT T\n*DELETE A.2\nUN\n*INSERT A.4\nFOUR\n",
+        ),
+        Step::Writes("text", &["A"], EDITED),
+    ];
+    session(&rt, "listed", STEPS)
+}
+
+#[test]
 fn a_listing_serves_as_its_library_does(rt: HostRuntime) -> Result<(), Fail> {
-    let file = listed_library(&rt)?;
-    answers_of(&rt, &file, "list", &["A"], (0, LISTING, ""))?;
     let listing = listing_file(&rt, "listing")?;
-    for path in [&file, &listing] {
-        answers(
-            &rt,
-            &["correct", path, "T"],
-            EDITED.as_bytes(),
-            (0, RUN, ""),
-        )?;
-    }
-    accepts(&rt, &file, "3", "quick", RUN.as_bytes())?;
-    answers_of(&rt, &file, "text", &["A"], (0, EDITED, ""))?;
-    remove(&rt, &listing)?;
-    remove(&rt, &file)
+    take_all(&rt, &listing, &[CORRECTED])?;
+    remove(&rt, &listing)
 }
 
 /// Texts that are refused, and the lines that say why.
-const REFUSED: &[(&[u8], &str)] = &[
-    (
-        b"*DECK A\nONE\n*DECK B\nNEW\n",
-        "OtherDeck 3:1 this line begins a deck that FILE does not list\n",
+const REFUSED: &[Step<'_>] = &[
+    Step::Answers(
+        "correct",
+        &["T"],
+        "*DECK A\nONE\n*DECK B\nNEW\n",
+        (
+            1,
+            "",
+            "OtherDeck 3:1 this line begins a deck that FILE does not list\n",
+        ),
     ),
-    (
-        b"AHEAD\n*DECK A\n*/ C\n",
-        "NoDeck 1:1 no deck begins before this line\n\
+    Step::Answers(
+        "correct",
+        &["T"],
+        "AHEAD\n*DECK A\n*/ C\n",
+        (
+            1,
+            "",
+            "NoDeck 1:1 no deck begins before this line\n\
 Comment 3:1 a run would drop this line as a comment\n",
+        ),
     ),
 ];
+
+/// A text of this many bytes is refused as too long.
+fn is_too_long(rt: &HostRuntime, file: &str, bytes: usize) -> Result<(), Fail> {
+    let long = vec![in rt.alloc(); b'X'; bytes]?;
+    let found = ask(rt, &["correct", file, "T"], &mut long.as_slice())?;
+    is_answer(&found, (1, "", "upd: RunLong (1) at 0\n"))
+}
 
 #[test]
 fn a_text_is_refused_over_a_listing(rt: HostRuntime) -> Result<(), Fail> {
     let listing = listing_file(&rt, "refusing")?;
-    let words = ["correct", &listing, "T"];
-    for (text, why) in REFUSED {
-        answers(&rt, &words, text, (1, "", why))?;
-    }
-    let long = vec![in rt.alloc(); b'X'; 4_050_001]?;
-    answers(&rt, &words, &long, (1, "", "upd: RunLong (1) at 0\n"))?;
+    take_all(&rt, &listing, REFUSED)?;
+    is_too_long(&rt, &listing, 4_050_001)?;
     remove(&rt, &listing)
 }
 
@@ -85,27 +98,35 @@ const NEITHER: &[(&str, &str)] = &[
     ("DECK A\nA A.1 *DECK A\nA A.2 ON", "3"),
 ];
 
+/// A file with this text is refused at this line.
+fn is_neither(rt: &HostRuntime, file: &str, text: &str, line: &str) -> Result<(), Fail> {
+    fs::write(rt, file, text)?;
+    let why = format!(in rt.alloc();
+        "NotListing {line}:1 FILE is not a library, and this line of it is not one of a deck's listing\n"
+    )?;
+    answers(rt, &["correct", file, "T"], "*DECK A\n", (1, "", &why))
+}
+
 #[test]
 fn a_file_that_is_neither_is_refused_at_its_line(rt: HostRuntime) -> Result<(), Fail> {
     let file = fresh(&rt, "neither")?;
     for (text, line) in NEITHER {
-        fs::write(&rt, file.as_str(), *text)?;
-        let why = format!(in rt.alloc();
-            "NotListing {line}:1 FILE is not a library, and this line of it is not one of a deck's listing\n"
-        )?;
-        answers(&rt, &["correct", &file, "T"], b"*DECK A\n", (1, "", &why))?;
+        is_neither(&rt, &file, text, line)?;
     }
     remove(&rt, &file)
+}
+
+/// A file with these bytes is opened as a library.
+fn is_opened(rt: &HostRuntime, file: &str, bytes: &[u8]) -> Result<(), Fail> {
+    fs::write(rt, file, bytes)?;
+    answers_of(rt, file, "correct", &["T"], "", NO_LIBRARY)
 }
 
 /// A file that begins as SQLite's do, and one that is longer than any listing, are opened as libraries.
 #[test]
 fn other_files_are_opened_as_libraries(rt: HostRuntime) -> Result<(), Fail> {
     let file = fresh(&rt, "opened")?;
-    fs::write(&rt, file.as_str(), b"SQLite format 3\0".as_slice())?;
-    answers_of(&rt, &file, "correct", &["T"], NO_LIBRARY)?;
-    let long = vec![in rt.alloc(); b'\n'; 5_000_026]?;
-    fs::write(&rt, file.as_str(), long.as_slice())?;
-    answers_of(&rt, &file, "correct", &["T"], NO_LIBRARY)?;
+    is_opened(&rt, &file, b"SQLite format 3\0")?;
+    is_opened(&rt, &file, &vec![in rt.alloc(); b'\n'; 5_000_026]?)?;
     remove(&rt, &file)
 }

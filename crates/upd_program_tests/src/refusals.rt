@@ -1,6 +1,7 @@
 //! What is refused, in which order, and on which stream.
 use crate::console::{answers, answers_of, ask, fresh, is_answer, library, remove};
-use crate::file_changes::change;
+use crate::file_sessions::{NO_LIBRARY, SILENT, Step, Wanted, session, take_all};
+use crate::site_commands::SECOND_SCHEMA;
 use std::fs;
 use std::io::ErrorKind;
 use std::test::Fail;
@@ -32,7 +33,7 @@ fn is_not_there(rt: &HostRuntime, path: &str) -> Result<(), Fail> {
 fn operands_are_checked_before_the_file(rt: HostRuntime) -> Result<(), Fail> {
     let file = fresh(&rt, "operands")?;
     for (name, words, wanted) in OPERANDS {
-        answers_of(&rt, &file, name, words, (1, "", wanted))?;
+        answers_of(&rt, &file, name, words, "", (1, "", wanted))?;
     }
     is_not_there(&rt, file.as_str())
 }
@@ -55,18 +56,10 @@ pub const COMMANDS: &[(&str, &[&str])] = &[
     ("migrate", &[]),
 ];
 
-/// Each of these commands on a file has this answer.
-pub fn all_answer(rt: &HostRuntime, file: &str, wanted: (u8, &str, &str)) -> Result<(), Fail> {
-    for (name, words) in COMMANDS {
-        answers_of(rt, file, name, words, wanted)?;
-    }
-    Ok(())
-}
-
 #[test]
 fn a_missing_file_is_refused_and_not_made(rt: HostRuntime) -> Result<(), Fail> {
     let file = fresh(&rt, "missing")?;
-    all_answer(&rt, &file, (3, "", "upd: Store (29) at 0\n"))?;
+    take_all(&rt, &file, &[Step::AllAnswer(NO_LIBRARY)])?;
     is_not_there(&rt, file.as_str())
 }
 
@@ -81,7 +74,7 @@ fn a_missing_file_is_reported_before_the_run_is_read(rt: HostRuntime) -> Result<
     let file = fresh(&rt, "unheard")?;
     let words = ["run", &file, "LYON", "1", "full"];
     fails_unread(&rt, &words, "upd: Store (29) at 0\n")?;
-    answers(&rt, &["init", &file], b"", (0, "", ""))?;
+    answers(&rt, &["init", &file], "", SILENT)?;
     fails_unread(&rt, &words, "upd: Read (32) at 0\n")?;
     remove(&rt, &file)
 }
@@ -105,17 +98,12 @@ fn another_file_is_refused_and_stays(rt: HostRuntime) -> Result<(), Fail> {
         let wanted = if *name == "correct" {
             (1, "", NEITHER)
         } else {
-            (3, "", "upd: Store (29) at 0\n")
+            NO_LIBRARY
         };
-        answers_of(&rt, &file, name, words, wanted)?;
+        answers_of(&rt, &file, name, words, "", wanted)?;
     }
     has_no_log(&rt, &file)?;
-    answers(
-        &rt,
-        &["init", &file],
-        b"",
-        (3, "", "upd: Store (29) at 0\n"),
-    )?;
+    answers(&rt, &["init", &file], "", NO_LIBRARY)?;
     same("the file", fs::read(&rt, file.as_str())?.as_slice(), TEXT)?;
     remove(&rt, &file)
 }
@@ -123,73 +111,61 @@ fn another_file_is_refused_and_stays(rt: HostRuntime) -> Result<(), Fail> {
 /// A file of another version is refused at that version, whatever is asked of it.
 #[test]
 fn a_file_of_another_schema_is_refused_at_its_version(rt: HostRuntime) -> Result<(), Fail> {
-    let file = library(&rt, "older")?;
-    change(&rt, &file, "UPDATE meta SET v = 2")?;
-    all_answer(&rt, &file, (3, "", "upd: Store (29) at 2\n"))?;
-    answers(
-        &rt,
-        &["init", &file],
-        b"",
-        (3, "", "upd: Store (29) at 2\n"),
-    )?;
-    remove(&rt, &file)
+    const OTHER: Wanted<'_> = (3, "", "upd: Store (29) at 2\n");
+    const STEPS: &[Step<'_>] = &[
+        SECOND_SCHEMA,
+        Step::AllAnswer(OTHER),
+        Step::Answers("init", &[], "", OTHER),
+    ];
+    session(&rt, "older", STEPS)
 }
 
-/// Runs that admission checks refuse: their words after the file, and the text on the output.
-const ADMISSION: &[(&[&str], &str)] = &[
-    (
-        &["lyon", "1", "full"],
-        "{\"at\":0,\"fault\":23,\"name\":\"BadSite\"}\n",
-    ),
-    (
-        &["LYON", "0", "full"],
-        "{\"at\":0,\"fault\":24,\"name\":\"BadNumber\"}\n",
-    ),
-    (
-        &["LYON", "1", "slow"],
-        "{\"at\":0,\"fault\":25,\"name\":\"BadMode\"}\n",
-    ),
-];
-
+/// Runs that admission checks refuse.
 #[test]
 fn a_run_is_refused_on_admission_on_the_output(rt: HostRuntime) -> Result<(), Fail> {
-    let file = library(&rt, "admission")?;
-    for (words, wanted) in ADMISSION {
-        answers_of(&rt, &file, "run", words, (1, wanted, ""))?;
-    }
-    let long = vec![in rt.alloc(); b'T'; 65_537]?;
-    let wanted = "{\"at\":0,\"fault\":1,\"name\":\"RunLong\"}\n";
-    answers(
-        &rt,
-        &["run", &file, "LYON", "1", "full"],
-        &long,
-        (1, wanted, ""),
+    const BAD_SITE: &str = "{\"at\":0,\"fault\":23,\"name\":\"BadSite\"}\n";
+    const BAD_NUMBER: &str = "{\"at\":0,\"fault\":24,\"name\":\"BadNumber\"}\n";
+    const BAD_MODE: &str = "{\"at\":0,\"fault\":25,\"name\":\"BadMode\"}\n";
+    const STEPS: &[Step<'_>] = &[
+        Step::Answers("run", &["lyon", "1", "full"], "", (1, BAD_SITE, "")),
+        Step::Answers("run", &["LYON", "0", "full"], "", (1, BAD_NUMBER, "")),
+        Step::Answers("run", &["LYON", "1", "slow"], "", (1, BAD_MODE, "")),
+    ];
+    session(&rt, "admission", STEPS)
+}
+
+/// A run of this many bytes is refused as too long.
+fn is_too_long(rt: &HostRuntime, file: &str, bytes: usize) -> Result<(), Fail> {
+    let long = vec![in rt.alloc(); b'T'; bytes]?;
+    let found = ask(
+        rt,
+        &["run", file, "LYON", "1", "full"],
+        &mut long.as_slice(),
     )?;
+    is_answer(
+        &found,
+        (1, "{\"at\":0,\"fault\":1,\"name\":\"RunLong\"}\n", ""),
+    )
+}
+
+#[test]
+fn a_run_that_is_too_long_is_refused_on_the_output(rt: HostRuntime) -> Result<(), Fail> {
+    let file = library(&rt, "long")?;
+    is_too_long(&rt, &file, 65_537)?;
     remove(&rt, &file)
 }
 
 #[test]
 fn a_query_of_an_unknown_name_is_refused(rt: HostRuntime) -> Result<(), Fail> {
-    let file = library(&rt, "nothing")?;
-    answers(
-        &rt,
-        &["list", &file, "NOPE"],
-        b"",
-        (1, "", "upd: DeckUnknown (12) at 0\n"),
-    )?;
-    answers(
-        &rt,
-        &["history", &file, "A.2"],
-        b"",
-        (1, "", "upd: CardUnknown (13) at 0\n"),
-    )?;
-    answers(
-        &rt,
-        &["settle", &file, "lyon", "1"],
-        b"",
-        (1, "", "upd: BadSite (23) at 0\n"),
-    )?;
-    remove(&rt, &file)
+    const NO_DECK: Wanted<'_> = (1, "", "upd: DeckUnknown (12) at 0\n");
+    const NO_CARD: Wanted<'_> = (1, "", "upd: CardUnknown (13) at 0\n");
+    const BAD_SITE: Wanted<'_> = (1, "", "upd: BadSite (23) at 0\n");
+    const STEPS: &[Step<'_>] = &[
+        Step::Answers("list", &["NOPE"], "", NO_DECK),
+        Step::Answers("history", &["A.2"], "", NO_CARD),
+        Step::Answers("settle", &["lyon", "1"], "", BAD_SITE),
+    ];
+    session(&rt, "nothing", STEPS)
 }
 
 /// The words after `serve FILE`, and the text on the fault stream.
@@ -223,7 +199,7 @@ For more information, try '--help'.\n",
 fn an_address_or_a_count_that_is_not_valid_is_a_mistake(rt: HostRuntime) -> Result<(), Fail> {
     let file = fresh(&rt, "unread")?;
     for (words, wanted) in UNREAD {
-        answers_of(&rt, &file, "serve", words, (2, "", wanted))?;
+        answers_of(&rt, &file, "serve", words, "", (2, "", wanted))?;
     }
     is_not_there(&rt, file.as_str())
 }

@@ -1,219 +1,191 @@
 //! What sites do with a library: they make it, send runs, settle, and ask.
-use crate::console::{accepts, answers, answers_of, ask, fresh, library, remove};
-use crate::file_changes::change;
+use crate::console::{fresh, library, remove};
+use crate::file_sessions::{SILENT, Step, Wanted, session, session_without_file, take_all};
 use std::test::Fail;
-use upd_testkit::check::same;
 
-const DECK: &[u8] = b"*DECK A\nONE\nTWO\nTHREE\n";
+const DECK: &str = "*DECK A\nONE\nTWO\nTHREE\n";
 
 const EMPTY_REPLY: &str =
     "{\"compile\":\"\",\"idents\":[],\"lines\":0,\"mode\":\"quick\",\"run\":1,\"site\":\"LYON\",\
 \"state\":\"accepted\"}\n";
 
+/// Run 1 of LYON arrives, which has no cards.
+const EMPTY_RUN: Step<'static> = Step::Answers(
+    "run",
+    &["LYON", "1", "quick"],
+    "",
+    (0, EMPTY_REPLY, ""),
+);
+
 #[test]
 fn a_library_is_made_once(rt: HostRuntime) -> Result<(), Fail> {
-    let file = fresh(&rt, "made")?;
-    answers(&rt, &["init", &file], b"", (0, "", ""))?;
-    answers(
-        &rt,
-        &["init", &file],
-        b"",
-        (3, "", "upd: Store (29) at 3\n"),
-    )?;
-    remove(&rt, &file)
+    const MADE: Wanted<'_> = (3, "", "upd: Store (29) at 3\n");
+    const STEPS: &[Step<'_>] = &[
+        Step::Answers("init", &[], "", SILENT),
+        Step::Answers("init", &[], "", MADE),
+    ];
+    session_without_file(&rt, "made", STEPS)
 }
 
 #[test]
 fn a_run_acts_once(rt: HostRuntime) -> Result<(), Fail> {
-    let file = library(&rt, "once")?;
-    for _ in 0..2 {
-        answers(
-            &rt,
-            &["run", &file, "LYON", "1", "quick"],
-            b"",
-            (0, EMPTY_REPLY, ""),
-        )?;
-    }
-    let wanted = "{\"at\":0,\"fault\":26,\"name\":\"RunChanged\"}\n";
-    answers(
-        &rt,
-        &["run", &file, "LYON", "1", "full"],
-        b"",
-        (1, wanted, ""),
-    )?;
-    remove(&rt, &file)
+    const CHANGED: &str = "{\"at\":0,\"fault\":26,\"name\":\"RunChanged\"}\n";
+    const STEPS: &[Step<'_>] = &[
+        EMPTY_RUN,
+        EMPTY_RUN,
+        Step::Answers("run", &["LYON", "1", "full"], "", (1, CHANGED, "")),
+    ];
+    session(&rt, "once", STEPS)
 }
 
 #[test]
 fn a_refusal_is_repeated(rt: HostRuntime) -> Result<(), Fail> {
-    let file = library(&rt, "refused")?;
-    let wanted =
+    const REPLY: &str =
         "{\"at\":1,\"fault\":9,\"mode\":\"full\",\"name\":\"TextNowhere\",\"run\":2,\"site\":\"LYON\",\
 \"state\":\"refused\"}\n";
-    for _ in 0..2 {
-        answers(
-            &rt,
-            &["run", &file, "LYON", "2", "full"],
-            b"HELLO\n",
-            (1, wanted, ""),
-        )?;
-    }
-    remove(&rt, &file)
+    const REFUSED: Step<'_> = Step::Answers(
+        "run",
+        &["LYON", "2", "full"],
+        "HELLO\n",
+        (1, REPLY, ""),
+    );
+    session(&rt, "refused", &[REFUSED, REFUSED])
 }
 
-/// Settlements one after the other, and the answers: a mark never falls.
-const MARKS: &[(&[&str], &str)] = &[
-    (&["LYON", "1"], "{\"settled\":1,\"site\":\"LYON\"}\n"),
-    (&["LYON", "12"], "{\"settled\":12,\"site\":\"LYON\"}\n"),
-    (&["LYON", "3"], "{\"settled\":12,\"site\":\"LYON\"}\n"),
-];
-
+/// A mark never falls.
 #[test]
 fn settled_runs_are_refused(rt: HostRuntime) -> Result<(), Fail> {
-    let file = library(&rt, "settled")?;
-    accepts(&rt, &file, "1", "quick", b"")?;
-    for (words, wanted) in MARKS {
-        answers_of(&rt, &file, "settle", words, (0, wanted, ""))?;
-    }
-    let wanted = "{\"at\":0,\"fault\":27,\"name\":\"Settled\"}\n";
-    answers(
-        &rt,
-        &["run", &file, "LYON", "1", "quick"],
-        b"",
-        (1, wanted, ""),
-    )?;
-    remove(&rt, &file)
+    const SETTLED: &str = "{\"at\":0,\"fault\":27,\"name\":\"Settled\"}\n";
+    const STEPS: &[Step<'_>] = &[
+        EMPTY_RUN,
+        Step::Writes(
+            "settle",
+            &["LYON", "1"],
+            "{\"settled\":1,\"site\":\"LYON\"}\n",
+        ),
+        Step::Writes(
+            "settle",
+            &["LYON", "12"],
+            "{\"settled\":12,\"site\":\"LYON\"}\n",
+        ),
+        Step::Writes(
+            "settle",
+            &["LYON", "3"],
+            "{\"settled\":12,\"site\":\"LYON\"}\n",
+        ),
+        Step::Answers("run", &["LYON", "1", "quick"], "", (1, SETTLED, "")),
+    ];
+    session(&rt, "settled", STEPS)
 }
 
-/// Each query of the library of one deck of two cards, and its answer.
-const ANSWERS: &[(&str, &[&str], &str)] = &[
-    ("list", &["A"], "DECK A\nA A.1 *DECK A\nA A.2 ONE\n"),
-    (
-        "history",
-        &["A.2"],
-        "CARD A.2\nDECK A\nTEXT ONE\nSTATUS active\nENTRY A on\n",
-    ),
-    ("idents", &[], "1 A deck held\n"),
-    ("yanks", &[], ""),
-    (
-        "compile",
-        &[],
-        "ONE                                                                              A             2\n",
-    ),
-];
+const COMPILED: &str =
+    "ONE                                                                              A             2\n";
 
 #[test]
 fn queries_are_answered(rt: HostRuntime) -> Result<(), Fail> {
-    let file = library(&rt, "asked")?;
-    accepts(&rt, &file, "1", "full", b"*DECK A\nONE\n")?;
-    for (name, words, wanted) in ANSWERS {
-        answers_of(&rt, &file, name, words, (0, wanted, ""))?;
-    }
-    remove(&rt, &file)
+    const HISTORY: &str = "CARD A.2\nDECK A\nTEXT ONE\nSTATUS active\nENTRY A on\n";
+    const STEPS: &[Step<'_>] = &[
+        Step::Accepts("1", "full", "*DECK A\nONE\n"),
+        Step::Writes("list", &["A"], "DECK A\nA A.1 *DECK A\nA A.2 ONE\n"),
+        Step::Writes("history", &["A.2"], HISTORY),
+        Step::Writes("idents", &[], "1 A deck held\n"),
+        Step::Writes("yanks", &[], ""),
+        Step::Writes("compile", &[], COMPILED),
+    ];
+    session(&rt, "asked", STEPS)
 }
 
 #[test]
 fn a_spool_is_answered_line_by_line(rt: HostRuntime) -> Result<(), Fail> {
-    let file = library(&rt, "spool")?;
-    answers(
-        &rt,
-        &["spool", &file],
-        b"RUN LYON 1 quick 0\n\nRUN LYON",
-        (1, EMPTY_REPLY, "upd: CutFrame (31) at 2\n"),
-    )?;
-    answers(
-        &rt,
-        &["spool", &file],
-        b"RUN LYON 1 quick 0\n\n",
-        (0, EMPTY_REPLY, ""),
-    )?;
-    remove(&rt, &file)
+    const CUT: Wanted<'_> = (1, EMPTY_REPLY, "upd: CutFrame (31) at 2\n");
+    const STEPS: &[Step<'_>] = &[
+        Step::Answers("spool", &[], "RUN LYON 1 quick 0\n\nRUN LYON", CUT),
+        Step::Answers("spool", &[], "RUN LYON 1 quick 0\n\n", (0, EMPTY_REPLY, "")),
+    ];
+    session(&rt, "spool", STEPS)
 }
 
-/// Turns a file of the current schema into one of the second: that has no table of marks.
-pub fn make_second(rt: &HostRuntime, file: &str) -> Result<(), Fail> {
-    change(rt, file, "DROP TABLE settled")?;
-    change(rt, file, "UPDATE meta SET v = 2")
-}
+/// A file of the current schema becomes one of the second by these changes: that has no table of marks.
+pub const NO_MARKS: Step<'static> = Step::Changes("DROP TABLE settled");
+
+/// See `NO_MARKS`.
+pub const SECOND_SCHEMA: Step<'static> = Step::Changes("UPDATE meta SET v = 2");
 
 #[test]
 fn an_older_file_is_migrated(rt: HostRuntime) -> Result<(), Fail> {
-    let file = library(&rt, "second")?;
-    accepts(&rt, &file, "1", "quick", b"")?;
-    make_second(&rt, &file)?;
-    answers(
-        &rt,
-        &["idents", &file],
-        b"",
-        (3, "", "upd: Store (29) at 2\n"),
-    )?;
-    answers(&rt, &["migrate", &file], b"", (0, "", ""))?;
-    answers(
-        &rt,
-        &["run", &file, "LYON", "1", "quick"],
-        b"",
-        (0, EMPTY_REPLY, ""),
-    )?;
-    answers(
-        &rt,
-        &["settle", &file, "LYON", "1"],
-        b"",
-        (0, "{\"settled\":1,\"site\":\"LYON\"}\n", ""),
-    )?;
-    remove(&rt, &file)
+    const OLDER: Wanted<'_> = (3, "", "upd: Store (29) at 2\n");
+    const STEPS: &[Step<'_>] = &[
+        EMPTY_RUN,
+        NO_MARKS,
+        SECOND_SCHEMA,
+        Step::Answers("idents", &[], "", OLDER),
+        Step::Writes("migrate", &[], ""),
+        EMPTY_RUN,
+        Step::Writes(
+            "settle",
+            &["LYON", "1"],
+            "{\"settled\":1,\"site\":\"LYON\"}\n",
+        ),
+    ];
+    session(&rt, "second", STEPS)
 }
 
 #[test]
 fn a_current_file_is_left_by_a_migration(rt: HostRuntime) -> Result<(), Fail> {
-    let file = library(&rt, "migrated")?;
-    accepts(&rt, &file, "1", "full", DECK)?;
-    answers(&rt, &["migrate", &file], b"", (0, "", ""))?;
-    answers(&rt, &["idents", &file], b"", (0, "1 A deck held\n", ""))?;
-    remove(&rt, &file)
-}
-
-/// The words have this exit status over an input.
-fn ends(rt: &HostRuntime, words: &[&str], mut input: &[u8], status: u8) -> Result<(), Fail> {
-    let found = ask(rt, words, &mut input)?;
-    same("the status", found.status, status)
+    const STEPS: &[Step<'_>] = &[
+        Step::Accepts("1", "full", DECK),
+        Step::Writes("migrate", &[], ""),
+        Step::Writes("idents", &[], "1 A deck held\n"),
+    ];
+    session(&rt, "migrated", STEPS)
 }
 
 #[test]
 fn stored_runs_and_sites_are_listed(rt: HostRuntime) -> Result<(), Fail> {
-    let file = library(&rt, "listed")?;
-    answers_of(&rt, &file, "runs", &[], (0, "", ""))?;
-    answers_of(&rt, &file, "sites", &[], (0, "", ""))?;
-    accepts(&rt, &file, "9", "quick", DECK)?;
-    ends(&rt, &["run", &file, "LYON", "10", "full"], b"HELLO\n", 1)?;
-    ends(&rt, &["settle", &file, "OSLO", "7"], b"", 0)?;
-    let runs = "LYON 9 quick accepted A\nLYON 10 full TextNowhere\n";
-    answers_of(&rt, &file, "runs", &[], (0, runs, ""))?;
-    answers_of(
-        &rt,
-        &file,
-        "sites",
-        &[],
-        (0, "LYON 0 10 11\nOSLO 7 7 8\n", ""),
-    )?;
-    remove(&rt, &file)
+    const REPLY: &str =
+        "{\"at\":1,\"fault\":9,\"mode\":\"full\",\"name\":\"TextNowhere\",\"run\":10,\"site\":\"LYON\",\
+\"state\":\"refused\"}\n";
+    const STEPS: &[Step<'_>] = &[
+        Step::Writes("runs", &[], ""),
+        Step::Writes("sites", &[], ""),
+        Step::Accepts("9", "quick", DECK),
+        Step::Answers("run", &["LYON", "10", "full"], "HELLO\n", (1, REPLY, "")),
+        Step::Writes(
+            "settle",
+            &["OSLO", "7"],
+            "{\"settled\":7,\"site\":\"OSLO\"}\n",
+        ),
+        Step::Writes(
+            "runs",
+            &[],
+            "LYON 9 quick accepted A\nLYON 10 full TextNowhere\n",
+        ),
+        Step::Writes("sites", &[], "LYON 0 10 11\nOSLO 7 7 8\n"),
+    ];
+    session(&rt, "listed", STEPS)
 }
 
-/// A copy has the deck and the site of its library.
-fn is_copy(rt: &HostRuntime, copy: &str) -> Result<(), Fail> {
-    answers_of(rt, copy, "idents", &[], (0, "1 A deck held\n", ""))?;
-    let sites = "LYON 0 999999999 none\n";
-    answers_of(rt, copy, "sites", &[], (0, sites, ""))
+/// A copy is made once, and the library has the deck and the site.
+fn is_copied(rt: &HostRuntime, file: &str, copy: &str) -> Result<(), Fail> {
+    let words = [copy];
+    let exists = (3, "", "upd: Write (33) at 0\n");
+    let steps = [
+        Step::Accepts("999999999", "quick", DECK),
+        Step::Writes("backup", &words, ""),
+        Step::Answers("backup", &words, "", exists),
+    ];
+    take_all(rt, file, &steps)
 }
 
 #[test]
 fn a_copy_is_a_library_by_itself(rt: HostRuntime) -> Result<(), Fail> {
-    let file = library(&rt, "original")?;
-    let copy = fresh(&rt, "copy")?;
-    accepts(&rt, &file, "999999999", "quick", DECK)?;
-    answers(&rt, &["backup", &file, &copy], b"", (0, "", ""))?;
-    let exists = (3, "", "upd: Write (33) at 0\n");
-    answers(&rt, &["backup", &file, &copy], b"", exists)?;
-    is_copy(&rt, &copy)?;
+    const COPIED: &[Step<'_>] = &[
+        Step::Writes("idents", &[], "1 A deck held\n"),
+        Step::Writes("sites", &[], "LYON 0 999999999 none\n"),
+    ];
+    let (file, copy) = (library(&rt, "original")?, fresh(&rt, "copy")?);
+    is_copied(&rt, &file, &copy)?;
+    take_all(&rt, &copy, COPIED)?;
     remove(&rt, &copy)?;
     remove(&rt, &file)
 }

@@ -1,0 +1,122 @@
+//! What is done with a library in a file, step by step, and what each step has to give.
+use crate::console::{accepts, answers_of, fresh, library, remove, without_log};
+use crate::file_changes::{change, change_log};
+use crate::refusals::COMMANDS;
+use sqlite_disk::Unknown;
+use std::test::Fail;
+use upd_keep::{Examined, Report, Situation, examine};
+use upd_testkit::check::{same, same_text};
+
+/// The exit status, the output, and the text on the fault stream.
+pub type Wanted<'a> = (u8, &'a str, &'a str);
+
+/// A command that writes nothing, as it should.
+pub const SILENT: Wanted<'static> = (0, "", "");
+
+/// What commands answer where the file can't be read as a library.
+pub const NO_LIBRARY: Wanted<'static> = (3, "", "upd: Store (29) at 0\n");
+
+/// A step with the library in a file.
+#[derive(Clone, Copy)]
+pub enum Step<'a> {
+    /// The run of LYON with this number arrives in this mode and is accepted.
+    Accepts(&'a str, &'a str, &'a str),
+    /// A command, with these words after the file and no input, has this output only.
+    Writes(&'a str, &'a [&'a str], &'a str),
+    /// A command, with these words after the file and over this input, has this answer.
+    Answers(&'a str, &'a [&'a str], &'a str, Wanted<'a>),
+    /// All commands that need a library have this answer.
+    AllAnswer(Wanted<'a>),
+    /// A statement changes the tables past the program.
+    Changes(&'a str),
+    /// A statement changes the tables past the program, and stays in the log.
+    Logs(&'a str),
+    /// The log is removed, if there is one.
+    LosesLog,
+    /// The library is sound when examined: its line, and whether its log has frames.
+    IsSound(&'a str, bool),
+    /// The library is not sound when examined, and these are the lines.
+    IsUnsound(&'a str),
+    /// No library is examined at the path, which is in this situation.
+    Is(Situation),
+}
+
+/// What was found is that all is sound, with this line, and the log has frames or not.
+fn is_sound(report: &Report, line: &str, frames: bool) -> Result<(), Fail> {
+    match report {
+        Report::Library(Examined::Sound(text), log) => {
+            same((line, "the log"), *log, frames)?;
+            same_text("the line", std::str::from_utf8(text)?, line)
+        }
+        _ => Err(Fail::new(format_args!("the library is not sound: {line}"))),
+    }
+}
+
+/// The tables were found not to be sound, with these lines.
+fn is_unsound(report: &Report, lines: &str) -> Result<(), Fail> {
+    match report {
+        Report::Library(Examined::Unsound(found), _) => {
+            same_text("the lines", std::str::from_utf8(found)?, lines)
+        }
+        _ => Err(Fail::new(format_args!("no library with findings: {lines}"))),
+    }
+}
+
+/// No library was examined, but a path in this situation.
+fn is_other(report: &Report, wanted: Situation) -> Result<(), Fail> {
+    match report {
+        Report::Other(situation) => same("the situation", *situation, wanted),
+        Report::Library(_, _) => Err(Fail::new(format_args!("a library, not {wanted:?}"))),
+    }
+}
+
+fn examined(rt: &HostRuntime, path: &str) -> Result<Report, Fail> {
+    Ok(examine(rt, path, Unknown)?)
+}
+
+fn all_answer(rt: &HostRuntime, file: &str, wanted: Wanted<'_>) -> Result<(), Fail> {
+    for (name, words) in COMMANDS {
+        answers_of(rt, file, name, words, "", wanted)?;
+    }
+    Ok(())
+}
+
+/// A step is as it says.
+fn take(rt: &HostRuntime, file: &str, step: Step<'_>) -> Result<(), Fail> {
+    match step {
+        Step::Accepts(number, mode, run) => accepts(rt, file, number, mode, run),
+        Step::Writes(name, words, output) => answers_of(rt, file, name, words, "", (0, output, "")),
+        Step::Answers(name, words, input, wanted) => {
+            answers_of(rt, file, name, words, input, wanted)
+        }
+        Step::AllAnswer(wanted) => all_answer(rt, file, wanted),
+        Step::Changes(sql) => change(rt, file, sql),
+        Step::Logs(sql) => change_log(rt, file, sql),
+        Step::LosesLog => without_log(rt, file),
+        Step::IsSound(line, frames) => is_sound(&examined(rt, file)?, line, frames),
+        Step::IsUnsound(lines) => is_unsound(&examined(rt, file)?, lines),
+        Step::Is(situation) => is_other(&examined(rt, file)?, situation),
+    }
+}
+
+/// All steps on the file at a path are as they say.
+pub fn take_all(rt: &HostRuntime, file: &str, steps: &[Step<'_>]) -> Result<(), Fail> {
+    for step in steps {
+        take(rt, file, *step)?;
+    }
+    Ok(())
+}
+
+/// All steps on a new library are as they say. The library is removed then.
+pub fn session(rt: &HostRuntime, name: &str, steps: &[Step<'_>]) -> Result<(), Fail> {
+    let file = library(rt, name)?;
+    take_all(rt, &file, steps)?;
+    remove(rt, &file)
+}
+
+/// All steps at a path without a file are as they say. What is there is removed then.
+pub fn session_without_file(rt: &HostRuntime, name: &str, steps: &[Step<'_>]) -> Result<(), Fail> {
+    let file = fresh(rt, name)?;
+    take_all(rt, &file, steps)?;
+    remove(rt, &file)
+}
