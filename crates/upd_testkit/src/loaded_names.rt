@@ -4,18 +4,22 @@ use std::alloc::Global;
 use std::test::Fail;
 use upd_compile::{Mode, compile_active};
 use upd_core::ident::name_at;
-use upd_core::{ActiveCardRef, Actives, CardRef, Ident, Serial};
+use upd_core::{ActiveCardRef, ActiveDeckRef, Actives, CardRef, Ident, Serial};
 use upd_row_store::RowStore;
 
 /// The active cards as directives name them, a line for each deck, after the deck's serial.
 pub fn active_names(alloc: Global, actives: &Actives) -> Result<String, Fail> {
     let mut text = String::new(alloc);
     for deck in &actives.shown()?.decks {
-        write!(text, "{}:", deck.ident)?;
-        add_names(&mut text, &actives.idents, &deck.cards)?;
-        text.push('\n')?;
+        add_deck(&mut text, &actives.idents, deck)?;
     }
     Ok(text)
+}
+
+fn add_deck(text: &mut String, idents: &[Ident], deck: &ActiveDeckRef<'_>) -> Result<(), Fail> {
+    write!(text, "{}:", deck.ident)?;
+    add_names(text, idents, &deck.cards)?;
+    Ok(text.push('\n')?)
 }
 
 fn add_names(text: &mut String, idents: &[Ident], cards: &[ActiveCardRef<'_>]) -> Result<(), Fail> {
@@ -34,11 +38,14 @@ pub fn compiled_names(alloc: Global, before: &Actives, after: &Actives) -> Resul
     let file = compile_active(alloc, after, before, Mode::Full, &[])?;
     let mut text = String::new(alloc);
     for line in file.bytes.chunks(97) {
-        let end = line.get(81..96).ok_or("a short line")?;
-        let end = str::from_utf8(end)?;
-        write!(text, "{end}|")?;
+        add_end(&mut text, line)?;
     }
     Ok(text)
+}
+
+fn add_end(text: &mut String, line: &[u8]) -> Result<(), Fail> {
+    let end = str::from_utf8(line.get(81..96).ok_or("a short line")?)?;
+    Ok(write!(text, "{end}|")?)
 }
 
 /// The active cards that a store loads, by name.

@@ -43,19 +43,19 @@ fn add_line(text: &mut String, dice: &mut Dice, n: u32) -> Result<(), Fail> {
     let set = dice.below(n.saturating_add(1));
     let deck = dice.below(3);
     let card = dice.below(4).saturating_add(1);
-    match dice.below(13) {
-        0 | 1 => write!(text, "*INSERT P{deck}.{card}\nSAY \"{n}\"\t\\\n")?,
-        2 | 3 => write!(text, "*DELETE P{deck}.{card}\n")?,
-        4 => write!(text, "*RESTORE P{deck}.{card}\n")?,
-        5 => write!(text, "*YANK S{set}\n")?,
-        6 => write!(text, "*SELYANK P{deck}.S{set}\n")?,
-        7 => write!(text, "*YANKDECK P{deck}\n")?,
-        8 | 9 => write!(text, "*DELETE S{set}.1\n")?,
-        10 => write!(text, "*RESTORE S{set}.1\n")?,
-        11 => write!(text, "*SELPURGE P{deck}.S{set}\n*IDENT T{n}\n")?,
-        _ => write!(text, "*PURGE S{set}\n*IDENT T{n}\n")?,
-    }
-    Ok(())
+    let written = match dice.below(13) {
+        0 | 1 => write!(text, "*INSERT P{deck}.{card}\nSAY \"{n}\"\t\\\n"),
+        2 | 3 => write!(text, "*DELETE P{deck}.{card}\n"),
+        4 => write!(text, "*RESTORE P{deck}.{card}\n"),
+        5 => write!(text, "*YANK S{set}\n"),
+        6 => write!(text, "*SELYANK P{deck}.S{set}\n"),
+        7 => write!(text, "*YANKDECK P{deck}\n"),
+        8 | 9 => write!(text, "*DELETE S{set}.1\n"),
+        10 => write!(text, "*RESTORE S{set}.1\n"),
+        11 => write!(text, "*SELPURGE P{deck}.S{set}\n*IDENT T{n}\n"),
+        _ => write!(text, "*PURGE S{set}\n*IDENT T{n}\n"),
+    };
+    Ok(written?)
 }
 
 /// The `n`th run: one to three lines.

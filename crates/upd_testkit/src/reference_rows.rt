@@ -22,20 +22,45 @@ pub fn reference_tables(
     sites: &[&str],
 ) -> Result<String, Fail> {
     let mut lines = Vec::new(alloc);
-    lines.push(String::from_str(alloc, "meta|'version'|3")?)?;
-    add_library(&mut lines, &reference.library)?;
+    add_tables(&mut lines, reference, sites)?;
+    joined(alloc, lines)
+}
+
+/// Adds the lines of all tables.
+fn add_tables(
+    lines: &mut Vec<String>,
+    reference: &ReferenceDesk,
+    sites: &[&str],
+) -> Result<(), Fail> {
+    lines.push(String::from_str(*lines.allocator(), "meta|'version'|3")?)?;
+    add_library(lines, &reference.library)?;
+    add_runs(lines, reference)?;
+    add_marks(lines, reference, sites)
+}
+
+/// Adds the lines of the runs that are not settled.
+fn add_runs(lines: &mut Vec<String>, reference: &ReferenceDesk) -> Result<(), Fail> {
     for run in &reference.stored {
         if run.number > reference.mark(run.site.as_str()) {
-            lines.push(run_line(alloc, run)?)?;
+            lines.push(run_line(*lines.allocator(), run)?)?;
         }
     }
+    Ok(())
+}
+
+/// Adds the lines of the marks of these sites.
+fn add_marks(
+    lines: &mut Vec<String>,
+    reference: &ReferenceDesk,
+    sites: &[&str],
+) -> Result<(), Fail> {
     for site in sites {
         let mark = reference.mark(site);
         if mark > 0 {
-            lines.push(format!(in alloc; "settled|'{site}'|{mark}")?)?;
+            lines.push(format!(in *lines.allocator(); "settled|'{site}'|{mark}")?)?;
         }
     }
-    joined(alloc, lines)
+    Ok(())
 }
 
 fn run_line(alloc: Global, run: &StoredRun) -> Result<String, Fail> {
@@ -85,13 +110,24 @@ fn add_cards(
     let live = library.live_yanks()?;
     for (pos, card) in cards.iter().enumerate() {
         let name = name_at(library.idents(), card.ident).ok_or("no name")?;
-        add_card(lines, name, (deck, pos), card)?;
         let number = card.number;
         let active = library.status(&live, CardRef { name, number });
-        add_status(lines, (name, number), active.ok_or("no status")?)?;
-        add_history(lines, name, card)?;
+        add_rows(lines, (name, active), (deck, pos), card)?;
     }
     Ok(())
+}
+
+/// Adds all rows of a card that has a status.
+fn add_rows(
+    lines: &mut Vec<String>,
+    (name, active): (Name, Option<bool>),
+    place: (u32, usize),
+    card: &Card,
+) -> Result<(), Fail> {
+    add_card(lines, name, place, card)?;
+    add_status(lines, (name, card.number), active.ok_or("no status")?)?;
+    add_entries(lines, name, card)?;
+    add_targets(lines, name, card)
 }
 
 /// Adds a card at a place: that of its deck, and its own.
@@ -116,14 +152,19 @@ fn add_status(
     Ok(lines.push(format!(in alloc; "states|'{name}'|{number}|{active}")?)?)
 }
 
-/// Adds the entries and targets of a card.
-fn add_history(lines: &mut Vec<String>, name: Name, card: &Card) -> Result<(), Fail> {
-    let alloc = *lines.allocator();
-    let number = card.number;
+/// Adds the entries of a card.
+fn add_entries(lines: &mut Vec<String>, name: Name, card: &Card) -> Result<(), Fail> {
+    let (alloc, number) = (*lines.allocator(), card.number);
     for (ord, entry) in card.history.iter().enumerate() {
         let active = u8::from(entry.active);
         lines.push(format!(in alloc; "entries|'{name}'|{number}|{ord}|{}|{active}", entry.ident)?)?;
     }
+    Ok(())
+}
+
+/// Adds the targets of a card.
+fn add_targets(lines: &mut Vec<String>, name: Name, card: &Card) -> Result<(), Fail> {
+    let (alloc, number) = (*lines.allocator(), card.number);
     for (ord, target) in card.targets.iter().enumerate() {
         let key = key_of(alloc, *target)?;
         lines.push(format!(in alloc; "targets|'{name}'|{number}|{ord}|{key}")?)?;

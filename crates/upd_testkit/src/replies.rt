@@ -6,10 +6,16 @@ use std::test::Fail;
 /// A compile line: its text, and the name and the number of its card.
 pub type Line<'a> = (&'a str, &'a str, u32);
 
+/// The name, the number and the line of a fault that is given as "CardUnknown 13 at 2".
+fn fault_parts(fault: &str) -> Option<(&str, &str, &str)> {
+    let (name, rest) = fault.split_once(' ')?;
+    let (number, at) = rest.split_once(" at ")?;
+    Some((name, number, at))
+}
+
 /// The reply to a refused run, whose fault is given as "CardUnknown 13 at 2".
 pub fn refused(alloc: Global, sent: Sent<'_>, fault: &str) -> Result<String, Fail> {
-    let (name, rest) = fault.split_once(' ').ok_or("no number")?;
-    let (number, at) = rest.split_once(" at ").ok_or("no line")?;
+    let (name, number, at) = fault_parts(fault).ok_or("no fault")?;
     let Sent { site, mode, .. } = sent;
     let run = sent.number;
     Ok(format!(in alloc;

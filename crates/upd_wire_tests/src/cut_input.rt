@@ -10,7 +10,7 @@ use upd_http::serve_one;
 use upd_spool::spool;
 use upd_testkit::check::{holds, same};
 use upd_testkit::fake_streams::{Narrow, Pieces};
-use upd_testkit::worked_spool::{FIRST, SECOND, THIRD, worked};
+use upd_testkit::worked_spool::{ANSWERS, FIRST, SECOND, SPOOL, THIRD};
 use upd_text::{Fault, FaultKind};
 
 const RUN: &str = "*ID X cleanup\n*D A.2 , A.3 old lines\n*/ note\nNEW\n*FOO\n";
@@ -106,15 +106,6 @@ fn a_zero_byte_is_refused_at_its_line(rt: HostRuntime) -> Result<(), Fail> {
     same("the lines", &line, &6)
 }
 
-/// The worked spool, whose answers end where they should, and its answers.
-fn worked_spool(alloc: Global) -> Result<(String, String), Fail> {
-    let (text, answers) = worked(alloc)?;
-    if answers.len() != ANSWER_ENDS[3] {
-        return Err("the answers end elsewhere".into());
-    }
-    Ok((text, answers))
-}
-
 /// The number of whole frames in the first `bytes` bytes.
 fn whole_frames(bytes: usize) -> u32 {
     let second = FIRST.len().saturating_add(SECOND.len());
@@ -190,10 +181,9 @@ fn front_is_answered(
 #[test]
 fn each_front_of_a_spool_answers_its_whole_frames(rt: HostRuntime) -> Result<(), Fail> {
     let alloc = rt.alloc();
-    let (text, answers) = worked_spool(alloc)?;
-    for length in 0..=text.len() {
-        let front = &text.as_bytes()[..length];
-        front_is_answered(alloc, &mut empty_desk(alloc), front, answers.as_bytes())?;
+    for length in 0..=SPOOL.len() {
+        let front = &SPOOL.as_bytes()[..length];
+        front_is_answered(alloc, &mut empty_desk(alloc), front, ANSWERS.as_bytes())?;
     }
     Ok(())
 }
@@ -242,10 +232,8 @@ fn each_read_fails(
 
 #[test]
 fn a_failed_read_stores_no_run_of_its_frame(rt: HostRuntime) -> Result<(), Fail> {
-    let alloc = rt.alloc();
-    let (text, answers) = worked_spool(alloc)?;
     for kind in [ErrorKind::Other, ErrorKind::Interrupted] {
-        each_read_fails(alloc, text.as_bytes(), answers.as_bytes(), kind)?;
+        each_read_fails(rt.alloc(), SPOOL.as_bytes(), ANSWERS.as_bytes(), kind)?;
     }
     Ok(())
 }

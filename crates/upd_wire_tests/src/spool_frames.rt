@@ -5,7 +5,7 @@ use std::alloc::Global;
 use std::test::Fail;
 use upd_testkit::check::{holds, same};
 use upd_testkit::fake_streams::{Cycle, Tally};
-use upd_testkit::worked_spool::{FIRST, SECOND, SECOND_ANSWER, first_answer};
+use upd_testkit::worked_spool::{FIRST, FIRST_ANSWER, SECOND, SECOND_ANSWER};
 
 const BAD_SITE: &str = "{\"at\":0,\"fault\":23,\"name\":\"BadSite\"}\n";
 
@@ -133,7 +133,7 @@ fn last_is_not_read(alloc: Global, desk: &mut Lists) -> Result<(), Fail> {
     let end = "BadFrame (30) at 2";
     comes_out(alloc, desk, JUNK_BETWEEN, (SECOND_ANSWER, end))?;
     holds("no ident", desk.ident_list(alloc)?.is_empty())?;
-    comes_out(alloc, desk, FIRST, (first_answer(alloc)?.as_str(), "1"))
+    comes_out(alloc, desk, FIRST, (FIRST_ANSWER, "1"))
 }
 
 #[test]

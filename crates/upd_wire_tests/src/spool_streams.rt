@@ -6,7 +6,7 @@ use std::test::Fail;
 use upd_spool::spool;
 use upd_testkit::check::{same, same_text};
 use upd_testkit::fake_streams::{Held, Narrow, Pieces};
-use upd_testkit::worked_spool::worked;
+use upd_testkit::worked_spool::{ANSWERS, SPOOL};
 use upd_text::Fault;
 
 /// Where the answers to each of the frames end.
@@ -103,8 +103,7 @@ fn is_sent_again(alloc: Global, text: &str, answers: &str) -> Result<(), Fail> {
 
 #[test]
 fn a_spool_cut_in_a_run_is_sent_again(rt: HostRuntime) -> Result<(), Fail> {
-    let (text, answers) = worked(rt.alloc())?;
-    is_sent_again(rt.alloc(), &text, &answers)
+    is_sent_again(rt.alloc(), SPOOL, ANSWERS)
 }
 
 /// The frame whose answer a writer with this room can't take whole.
@@ -181,10 +180,8 @@ fn write_may_fail(alloc: Global, worked: (&str, &str), room: usize) -> Result<()
 /// A write fails, or takes nothing; the spool, sent again, is answered.
 #[test]
 fn each_write_may_fail(rt: HostRuntime) -> Result<(), Fail> {
-    let alloc = rt.alloc();
-    let (text, answers) = worked(alloc)?;
-    for room in 0..answers.len() {
-        write_may_fail(alloc, (text.as_str(), answers.as_str()), room)?;
+    for room in 0..ANSWERS.len() {
+        write_may_fail(rt.alloc(), (SPOOL, ANSWERS), room)?;
     }
     Ok(())
 }
@@ -204,8 +201,7 @@ fn all_are_flushed(alloc: Global, text: &str, answers: &str) -> Result<(), Fail>
 /// A writer that holds back what isn't flushed has each answer before the next one comes.
 #[test]
 fn each_answer_is_flushed(rt: HostRuntime) -> Result<(), Fail> {
-    let (text, answers) = worked(rt.alloc())?;
-    all_are_flushed(rt.alloc(), &text, &answers)
+    all_are_flushed(rt.alloc(), SPOOL, ANSWERS)
 }
 
 /// Flush number `at` fails: the answers before it are out.
@@ -236,6 +232,5 @@ fn flushes_fail(alloc: Global, worked: (&str, &str)) -> Result<(), Fail> {
 /// A flush that fails is a failed write, and the next frame isn't read.
 #[test]
 fn each_flush_may_fail(rt: HostRuntime) -> Result<(), Fail> {
-    let (text, answers) = worked(rt.alloc())?;
-    flushes_fail(rt.alloc(), (text.as_str(), answers.as_str()))
+    flushes_fail(rt.alloc(), (SPOOL, ANSWERS))
 }
