@@ -1,5 +1,5 @@
-//! Tests of libraries in SQLite that fail, crash or are older: a crash at each call of the disk, commits that fail,
-//! files of the older schemas, and random lists whose tables are compared row by row.
+//! Tests of libraries in SQLite that crash or are older: a crash at each call of the disk, files of the older schemas, and
+//! random lists whose tables are compared row by row.
 //!
 //! Expected values are worked by hand from `docs/protocol.md`, or come from the reference desk.
 #![tactic(auto)]
@@ -8,8 +8,6 @@
 mod against_reference;
 #[cfg(test)]
 mod desk_crashes;
-#[cfg(test)]
-mod failed_commits;
 #[cfg(test)]
 mod fused_files;
 #[cfg(test)]

@@ -1,6 +1,6 @@
 //! Tests of the desk over lists and over SQLite: worked lists of runs, random lists beside the reference desk, the
-//! decks that it reads, row changes, status updates at the limits of a library, and a store with its rows in memory beside
-//! the plain one.
+//! decks that it reads, row changes, status updates at the limits of a library, commits that fail, and a store with its rows
+//! in memory beside the plain one.
 //!
 //! Expected values are worked by hand from `docs/rules.md` and `docs/protocol.md`, or come from the reference desk.
 #![tactic(auto)]
@@ -13,6 +13,8 @@ mod decks_read;
 mod desk_times;
 #[cfg(test)]
 mod empty_stores;
+#[cfg(test)]
+mod failed_commits;
 #[cfg(test)]
 mod mirrored_runs;
 #[cfg(test)]
