@@ -13,9 +13,9 @@ use Rattle.upd_text.specs.declared.fault.Fault.{Fault}
 use Rattle.upd_subcommands.specs.Status.{exit_status}
 use Rattle.upd_subcommands.specs.Inputs.{HandsRunsIn, IsCorrectRequest, IsServeRequest, IsSpoolRequest, IsTryRequest, ReadsFor, ReadsInput, ServesIn, TellsRefusals, TriesRunIn, most_read}
 use Rattle.upd_subcommands.specs.Trial.{trial_named}
-use Rattle.upd_subcommands.specs.Words.{IsAskedFor, IsCommand, command_word, operand_word, request_name, word_faults}
-use Rattle.upd_subcommands.specs.declared.words.Request.{Request}
-use Rattle.upd_subcommands.specs.declared.words.Request.TheVariants.{Trial, Correct, Shown, Unread}
+use Rattle.upd_words.specs.Words.{IsAskedFor, IsCommand, command_word, operand_word, request_name, word_faults}
+use Rattle.upd_words.specs.declared.words.Request.{Request}
+use Rattle.upd_words.specs.declared.words.Request.TheVariants.{Trial, Correct, Shown, Unread}
 use Rattle.upd_subcommands.proofs.RequestLemmas.{corrects, mistake_status, none_among, not_trial, reads, serves, spools, tells, text_status, trial_mode, trial_or_other, tries, unread_for_none}
 
 -- a text that is shown ends with status 0, or 3 where the write failed

@@ -14,7 +14,7 @@ use Rattle.upd_cli.specs.Commands.{FailsFirst, Leaves, LeavesErrand}
 use Rattle.upd_subcommands.specs.Operands.{errand_of}
 use Rattle.upd_subcommands.specs.Status.{exit_status, fault_line}
 use Rattle.upd_subcommands.specs.declared.errands.Errand.{Errand}
-use Rattle.upd_subcommands.specs.declared.words.Asked.{Asked}
+use Rattle.upd_words.specs.declared.words.Asked.{Asked}
 
 -- a file that isn't opened ends a command as memory and the store do
 pub unopened_fails : (fault : Fault) → IsUnopened fault → exit_status fault.kind ≡ 3

@@ -13,7 +13,7 @@ use Rattle.upd_cli.specs.Works.{ending_of}
 use Rattle.upd_subcommands.specs.Inputs.{HandsRunsIn, ReadsInput, ServesIn, TriesRunIn}
 use Rattle.upd_subcommands.specs.Streams.{Stream, TakesFront, after, before}
 use Rattle.upd_subcommands.specs.Trial.{trial_named}
-use Rattle.upd_subcommands.specs.Words.{command_word, operand_word, word_faults}
+use Rattle.upd_words.specs.Words.{command_word, operand_word, word_faults}
 
 -- The store over the file: its meaning, its connection, the state of a connection, and what the file held before.
 module _ {S C : Type 0} (meaning : Ghosts S) (conn_of : S → C) (state : C → State) (held : Image) where

@@ -29,13 +29,13 @@ use Rattle.upd_cli.specs.Stored.{ReportsList}
 use Rattle.upd_subcommands.specs.Streams.{IsFrontOf, IsRunOn}
 use Rattle.upd_subcommands.specs.Telling.{Writes}
 use Rattle.upd_subcommands.specs.Trial.{trial_named}
-use Rattle.upd_subcommands.specs.Words.{IsAskedFor}
+use Rattle.upd_words.specs.Words.{IsAskedFor}
 use Rattle.upd_subcommands.specs.declared.errands.Errand.{Errand}
 use Rattle.upd_cli.specs.declared.stored.Stored.{Stored}
 use Rattle.upd_cli.specs.declared.stored.Stored.TheVariants as stored
-use Rattle.upd_subcommands.specs.declared.words.Asked.{Asked}
-use Rattle.upd_subcommands.specs.declared.words.Request.{Request}
-use Rattle.upd_subcommands.specs.declared.words.Request.TheVariants.{Trial, Init, Library, Serve, Correct, Try, Runs, Sites, Backup, Examine, Migrate, Explain, Shown, Unread}
+use Rattle.upd_words.specs.declared.words.Asked.{Asked}
+use Rattle.upd_words.specs.declared.words.Request.{Request}
+use Rattle.upd_words.specs.declared.words.Request.TheVariants.{Trial, Init, Library, Serve, Correct, Try, Runs, Sites, Backup, Examine, Migrate, Explain, Shown, Unread}
 
 -- memory, the store or a read failed before anything was told: the line of that is reported, and nothing is on the output
 abbrev pub FailsFirst : Ending → Type 0

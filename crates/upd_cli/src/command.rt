@@ -19,9 +19,9 @@ use std::convert::AsStr;
 use std::io::{Read, Write};
 use upd_row_store::Meaning;
 use upd_subcommands::{
-    Asked, Request, carry_out_explaining, carry_out_trial, finish, read_address, read_words,
-    tell_unread, write_out,
+    carry_out_explaining, carry_out_trial, finish, read_address, tell_unread, write_out,
 };
+use upd_words::{Asked, Request, read_words};
 
 /// Carries out the command line `words`, the program's own name first, and returns the exit status: 0 where all is
 /// done; 1 for a refusal, whose line goes to `faults`, or to the output where the desk refuses the run of `run`; 2

@@ -12,4 +12,5 @@ mod stored;
 mod work;
 
 pub use command::{run_command, run_command_from};
-pub use upd_subcommands::{report_words, serve_is_read, trial, trial_is_read};
+pub use upd_subcommands::{report_words, trial};
+pub use upd_words::{serve_is_read, trial_is_read};

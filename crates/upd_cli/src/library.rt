@@ -24,8 +24,9 @@ use upd_migrate::migrate;
 use upd_row_store::Meaning;
 use upd_store::SqlStore;
 use upd_store::file::{close, connect, create};
-use upd_subcommands::{Asked, correct_listing, read_errand, read_front, read_input, read_listing};
+use upd_subcommands::{correct_listing, read_errand, read_front, read_input, read_listing};
 use upd_text::Fault;
+use upd_words::Asked;
 
 /// What a command asks of the desk of the library in a file, and returns the exit status. Operands are read before the
 /// file is opened, and the file is opened before the input is read.

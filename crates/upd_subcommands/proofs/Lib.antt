@@ -1,14 +1,9 @@
 pub mod StreamLemmas
 pub mod TrialLemmas
 pub mod CommandLemmas
-pub mod HelpLemmas
-pub mod WordLemmas
-pub mod AppLemmas
 pub mod RequestLemmas
 pub mod TellingLemmas
 pub mod AskingLemmas
 pub mod FailingLemmas
 pub mod TriedLemmas
-pub mod PassedLemmas
-pub mod CountLemmas
 pub mod LineLemmas

@@ -10,11 +10,11 @@ use Rattle.upd_compile.specs.Modes.{mode_named}
 use Rattle.upd_text.specs.declared.limits.TheConstants.{MAX_RUN_BYTES}
 use Rattle.upd_subcommands.specs.Command.{told_status}
 use Rattle.upd_subcommands.specs.Inputs.{HandsRunsIn, IsCorrectRequest, IsServeRequest, IsSpoolRequest, IsTryRequest, ReadsFor, ReadsInput, ServesIn, TellsRefusals, TriesRunIn, most_read}
-use Rattle.upd_subcommands.specs.Words.{AsksText, IsAskedFor, IsCommand, IsRequest, IsUnreadRequest, asked_name, command_word, operand_word, request_name, upd_app, word_faults}
-use Rattle.upd_subcommands.specs.declared.words.Asked.{Asked}
-use Rattle.upd_subcommands.specs.declared.words.Asked.TheVariants as asks
-use Rattle.upd_subcommands.specs.declared.words.Request.{Request}
-use Rattle.upd_subcommands.specs.declared.words.Request.TheVariants.{Trial, Init, Library, Serve, Correct, Try, Migrate, Explain, Shown, Unread}
+use Rattle.upd_words.specs.Words.{AsksText, IsAskedFor, IsCommand, IsRequest, IsUnreadRequest, asked_name, command_word, operand_word, request_name, upd_app, word_faults}
+use Rattle.upd_words.specs.declared.words.Asked.{Asked}
+use Rattle.upd_words.specs.declared.words.Asked.TheVariants as asks
+use Rattle.upd_words.specs.declared.words.Request.{Request}
+use Rattle.upd_words.specs.declared.words.Request.TheVariants.{Trial, Init, Library, Serve, Correct, Try, Migrate, Explain, Shown, Unread}
 
 -- the words of a command name it
 pub command_named : (words : List Text) (request : Request) → IsCommand words request → command_word words ≡ request_name request

@@ -10,7 +10,7 @@ use Rattle.upd_text.specs.declared.fault.FaultKind.TheVariants.{Write}
 use Rattle.upd_compile.specs.File.{FileView}
 use Rattle.upd_subcommands.specs.Status.{exit_status, fault_line}
 use Rattle.upd_io.specs.Fronts.{AppendsFront}
-use Rattle.upd_subcommands.specs.Words.{word_faults}
+use Rattle.upd_words.specs.Words.{word_faults}
 
 -- What a command answers: its exit status, its output, and what it says on the fault stream.
 pub record Answer : Type 0 where

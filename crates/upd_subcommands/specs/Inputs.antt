@@ -4,13 +4,13 @@ use Rattle.clap.specs.Words.{Text}
 use Rattle.upd_compile.specs.Modes.{mode_named}
 use Rattle.upd_edit.specs.declared.editing.TheConstants.{MAX_TEXT_BYTES}
 use Rattle.upd_text.specs.declared.limits.TheConstants.{MAX_RUN_BYTES}
-use Rattle.upd_subcommands.specs.Words.{command_word, operand_word, word_faults}
+use Rattle.upd_words.specs.Words.{command_word, operand_word, word_faults}
 use Rattle.upd_subcommands.specs.declared.errands.Errand.{Errand}
 use Rattle.upd_subcommands.specs.declared.errands.Errand.TheVariants as errand
-use Rattle.upd_subcommands.specs.declared.words.Asked.{Asked}
-use Rattle.upd_subcommands.specs.declared.words.Asked.TheVariants as asks
-use Rattle.upd_subcommands.specs.declared.words.Request.{Request}
-use Rattle.upd_subcommands.specs.declared.words.Request.TheVariants.{Trial, Library, Serve, Correct, Try}
+use Rattle.upd_words.specs.declared.words.Asked.{Asked}
+use Rattle.upd_words.specs.declared.words.Asked.TheVariants as asks
+use Rattle.upd_words.specs.declared.words.Request.{Request}
+use Rattle.upd_words.specs.declared.words.Request.TheVariants.{Trial, Library, Serve, Correct, Try}
 
 -- ---- errands
 

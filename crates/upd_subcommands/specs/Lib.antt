@@ -1,6 +1,5 @@
 pub mod Status
 pub mod Streams
-pub mod Words
 pub mod Trial
 pub mod Operands
 pub mod Command

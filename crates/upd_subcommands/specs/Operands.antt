@@ -1,7 +1,6 @@
 -- What the operands of commands are read as.
-use Rattle.std.specs.Prelude.{◌≡◌, ℕ, ◌≤◌, if◌then◌else◌, List, Some, None, Result, Ok}
+use Rattle.std.specs.Prelude.{ℕ, if◌then◌else◌, List, Some, None, Result, Ok}
 use Rattle.std.specs.Net.Grammar.{IsSocketText}
-use Rattle.std.specs.Str.Parse.{IsNumeral, digits_value, without_leading_plus}
 use Rattle.std.specs.declared.net.socket_addr.SocketAddr.{SocketAddr}
 use Rattle.upd_text.specs.Names.{card_of, is_name}
 use Rattle.upd_text.specs.Outcome.{◌>>=◌, at_line, need}
@@ -14,8 +13,8 @@ use Rattle.upd_subcommands.specs.declared.asking.Form.TheVariants as form
 use Rattle.upd_subcommands.specs.declared.asking.Question.TheVariants.{Compile, Deck, Card, Ident, Idents, Yanks, Page}
 use Rattle.upd_subcommands.specs.declared.errands.Errand.{Errand}
 use Rattle.upd_subcommands.specs.declared.errands.Errand.TheVariants as errand
-use Rattle.upd_subcommands.specs.declared.words.Asked.{Asked}
-use Rattle.upd_subcommands.specs.declared.words.Asked.TheVariants as asks
+use Rattle.upd_words.specs.declared.words.Asked.{Asked}
+use Rattle.upd_words.specs.declared.words.Asked.TheVariants as asks
 
 -- a run number: another word is BadNumber
 abbrev pub number_read : List ℕ → Result ℕ Fault
@@ -58,14 +57,6 @@ errand_of asks.Yanks = Ok (errand.Ask Yanks)
 errand_of asks.Page = Ok (errand.Ask Page)
 errand_of (asks.Text deck) = deck_errand form.Text deck.now
 errand_of (asks.Source deck) = deck_errand form.Source deck.now
-
--- a word spells this number of connections: a decimal number from 1 to a million, a plus before it or none
-abbrev pub IsCount : List ℕ → ℕ → Type 0
-IsCount word n = IsNumeral 10 (without_leading_plus word) × (digits_value 10 (without_leading_plus word) ≡ n) × (1 ≤ n) × (n ≤ 1000000)
-
--- a word spells a number of connections
-abbrev pub SpellsCount : List ℕ → Type 0
-SpellsCount word = (n : ℕ) × IsCount word n
 
 -- a word spells no address
 abbrev pub IsNoAddress : List ℕ → Type 0

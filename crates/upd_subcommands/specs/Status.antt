@@ -4,6 +4,7 @@ use Rattle.upd_text.specs.declared.fault.Fault.{Fault}
 use Rattle.upd_text.specs.declared.fault.FaultKind.{FaultKind}
 use Rattle.upd_text.specs.declared.fault.FaultKind.TheVariants.{NoMemory, Store, Read, Write}
 use Rattle.upd_text.specs.Faults.{fault_name, fault_number}
+pub use Rattle.upd_words.specs.Words.{no_memory}
 
 -- the exit status of a fault: 3 where memory, the store, a read or a write failed, and 1 for a refusal
 abbrev pub exit_status : FaultKind → ℕ
@@ -22,10 +23,7 @@ fault_line fault =
 abbrev pub no_words_line : List ℕ
 no_words_line = codes "error: the words of the command line can't be read as text\n"
 
--- out of memory, and reads and writes that failed
-abbrev pub no_memory : Fault
-no_memory = record { kind = NoMemory; at = 0 }
-
+-- reads and writes that failed
 abbrev pub read_failed : Fault
 read_failed = record { kind = Read; at = 0 }
 

@@ -11,13 +11,13 @@ use crate::arriving::{hand_in, settle};
 use crate::asking::{Form, Question, inquire};
 use crate::operands::{read_card, read_deck, read_number};
 use crate::status::DONE;
-use crate::words::Asked;
 use std::alloc::Global;
 use std::io::{Read, Write};
 use upd_desk::Desk;
 use upd_row_store::RowStore;
 use upd_spool::spool;
 use upd_text::Fault;
+use upd_words::Asked;
 
 /// What a command asks of the desk of a library, its operands read.
 #[derive(Drop)]

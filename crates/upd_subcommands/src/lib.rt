@@ -1,17 +1,14 @@
-//! The words of a command line, and what the commands of the program do with streams and any desk. Nothing here needs a
-//! library in a file.
+//! What the commands of the program do with streams and any desk. Nothing here needs a library in a file.
 //!
 //! Where clauses speak of both outcomes of a call, it stands in a `match` of two arms, so that each is a path of its
 //! own (docs/decisions.md, D-56).
 #![tactic(auto)]
 
-mod app;
 mod arriving;
 mod asking;
 mod correcting;
 mod errands;
 mod explaining;
-mod help;
 mod listening;
 mod listing_file;
 mod looking;
@@ -19,7 +16,6 @@ mod operands;
 mod status;
 mod streams;
 mod trial_run;
-mod words;
 
 pub use arriving::try_run;
 pub use asking::{Form, Question};
@@ -32,4 +28,3 @@ pub use operands::read_address;
 pub use status::{DONE, FAILED, REFUSED, finish, report_words, tell_unread};
 pub use streams::{read_front, read_input, write_out, write_parts_out};
 pub use trial_run::{carry_out_trial, trial};
-pub use words::{Asked, Request, read_words, serve_is_read, trial_is_read};

@@ -4,7 +4,7 @@ use Rattle.upd_compile.specs.Modes.{mode_named}
 use Rattle.upd_subcommands.specs.Inputs.{IsSpoolRequest, ReadsFor, most_read}
 use Rattle.upd_subcommands.specs.Streams.{TakesFront}
 use Rattle.upd_subcommands.specs.Trial.{trial_named}
-use Rattle.upd_subcommands.specs.declared.words.Request.{Request}
+use Rattle.upd_words.specs.declared.words.Request.{Request}
 use Rattle.upd_subcommands.proofs.CommandLemmas.{answered}
 use Rattle.upd_subcommands.specs.Command.{IsTold, ending}
 use Rattle.upd_cli.specs.Commands.{IsShown}

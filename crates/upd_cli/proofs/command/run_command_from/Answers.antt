@@ -10,7 +10,7 @@ use Rattle.upd_subcommands.specs.Inputs.{most_read}
 use Rattle.upd_subcommands.specs.Status.{exit_status, fault_line}
 use Rattle.upd_subcommands.specs.Streams.{TakesFront}
 use Rattle.upd_subcommands.specs.Trial.{trial_named}
-use Rattle.upd_subcommands.specs.Words.{operand_word}
+use Rattle.upd_words.specs.Words.{operand_word}
 use Rattle.upd_subcommands.proofs.CommandLemmas.{answered_at_once, memory_status}
 use Rattle.upd_cli.proofs.DoneLemmas.{asked_but, reads_text, trial_done, unread_done}
 use Rattle.upd_subcommands.proofs.RequestLemmas.{reads_run}
