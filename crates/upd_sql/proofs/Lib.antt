@@ -11,7 +11,6 @@ pub mod Finds
 pub mod SchemaLemmas
 pub mod WholeLemmas
 pub mod PartLemmas
-pub mod SizeLemmas
 pub mod Turns
 pub mod CommitLemmas
 pub mod MarkLemmas

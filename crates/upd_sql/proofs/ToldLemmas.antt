@@ -12,7 +12,6 @@ use Rattle.upd_sqlite.proofs.Chains.{clean_before, steps_then}
 use Rattle.upd_sql.specs.Commits.{CountsStatuses}
 use Rattle.upd_sql.specs.LibraryTables.{AnyTables, HoldsTables}
 use Rattle.upd_sql.specs.RowEdits.{with_restated, with_state, without_state}
-use Rattle.upd_sql.specs.Sizes.{KeepsSizes}
 
 module _ (card : CardRef) (active : Bool) where
   abbrev row : StateRow
@@ -70,10 +69,3 @@ module _ (card : CardRef) (active : Bool) where
   told_anew a b c n r m counted q many = told_then (λ it. with_state card active (without_state card it)) a b c n r m counted q (λ it is.
       ap (λ ss. record it { states = ss })
       (ap (λ xs. xs ++ row ∷ []) (others_left card active it.states) ∙ last_told it.states (λ one. many (is ∙ one))))
-
--- the numbers of cards and entries, whatever is returned
-pub sizes_told : {X : Type 0} (old new : State) (n : ℕ) (x : X) → KeepsSizes {X = ℕ} old new (Ok n) → KeepsSizes old new (Ok x)
-sizes_told old new n x m = record {
-  steps = record { going = m.steps.going; kept = m.steps.kept; survives = m.steps.survives };
-  made = λ clean inside it any h. m.made clean inside it any h;
-}

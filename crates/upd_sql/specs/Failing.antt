@@ -1,5 +1,5 @@
 -- When a read of a library's tables may fail.
-use Rattle.std.specs.Prelude.{◌≡◌, ◌⊎◌, ℕ, ◌^◌, ◌-◌, ◌<◌, ◌&&◌, nat_lt, Bool, true, length, Option, None, Result, IfErr, IsTrue}
+use Rattle.std.specs.Prelude.{◌≡◌, ◌⊎◌, ℕ, ◌^◌, ◌-◌, ◌<◌, ◌&&◌, nat_lt, Bool, true, length, None, Result, IfErr, IsTrue}
 use Rattle.std.specs.List.{list_all}
 use Rattle.std.specs.Str.{is_utf8}
 use Rattle.sqlite_disk.specs.Disk.{MoreFaults}
@@ -13,7 +13,6 @@ use Rattle.upd_core.specs.declared.ident.Ident.{Ident}
 use Rattle.upd_core.specs.declared.target.Target.{Target}
 use Rattle.upd_core.specs.declared.target.Target.TheVariants as target
 use Rattle.upd_records.specs.Rows.{CardRow, CountRow, EntryRow, MarkRow, Rows, RunView, StateRow, TargetRow}
-use Rattle.upd_sql.specs.declared.sizes.Sizes.{Sizes}
 use Rattle.upd_sql.specs.LibraryTables.{HoldsTables, ShowsTables}
 
 abbrev pub IsOutOfMemory : Error → Type 0
@@ -92,6 +91,6 @@ pub record AreReadable (rows : Rows) : Type 0 where
 abbrev pub CanBeCounted : Rows → Type 0
 CanBeCounted rows = (length rows.cards < 2 ^ 63 - 1) × (length rows.entries < 2 ^ 63 - 1)
 
--- a part can be read: its rows, and where their numbers aren't known, these
-abbrev pub IsReadablePart : Option Sizes → Rows → Type 0
-IsReadablePart known rows = AreReadable rows × (known ≡ None → CanBeCounted rows)
+-- a part can be read: its rows, and the numbers of cards and entries
+abbrev pub IsReadablePart : Rows → Type 0
+IsReadablePart rows = AreReadable rows × CanBeCounted rows

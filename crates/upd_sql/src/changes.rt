@@ -6,7 +6,6 @@ ghost use Rattle.upd_records.specs.Fits.{AllFit, Fits};
 ghost use Rattle.upd_row_store.specs.Movable.{MovesListed};
 ghost use Rattle.upd_sqlite.specs.Steps.{Makes};
 ghost use Rattle.upd_sql.specs.Doable.{AllCanBeDone, CanBeDone};
-ghost use Rattle.upd_sql.specs.Sizes.{KeepsSizes, Sized, SizedAll};
 ghost use Rattle.upd_sql.specs.LibraryTables.{AnyTables, HoldsTables};
 ghost use Rattle.upd_sql.specs.RowEdits.{with_state, without_state};
 
@@ -20,8 +19,6 @@ fn remove_card<S: Alter>(tx: &mut Transaction<'_, S>, card: &CardRef) -> Result<
     ensures same_reference { tx.new.conn.ghost_name ≡ tx.old.conn.ghost_name }
     ensures makes { Makes HoldsTables AnyTables (done (CardGone card.now)) (state S.Store tx.old.conn.now)
         (state S.Store tx.new.conn.now) result }
-    ensures sized { Sized (CardGone card.now)
-        (state S.Store tx.old.conn.now) (state S.Store tx.new.conn.now) result }
 {
     writes::delete_card(tx, card)?;
     writes::delete_state(tx, card)
@@ -36,7 +33,6 @@ fn replace_state<S: Alter>(
     ensures same_reference { tx.new.conn.ghost_name ≡ tx.old.conn.ghost_name }
     ensures makes { Makes HoldsTables AnyTables (λ it. with_state card.now active (without_state card.now it))
         (state S.Store tx.old.conn.now) (state S.Store tx.new.conn.now) result }
-    ensures sized { KeepsSizes (state S.Store tx.old.conn.now) (state S.Store tx.new.conn.now) result }
 {
     writes::delete_state(tx, card)?;
     writes::insert_state(tx, card, active)
@@ -51,7 +47,6 @@ fn set_state<S: Alter>(
     ensures same_reference { tx.new.conn.ghost_name ≡ tx.old.conn.ghost_name }
     ensures makes { Makes HoldsTables AnyTables (done (StatusNow card.now active)) (state S.Store tx.old.conn.now)
         (state S.Store tx.new.conn.now) result }
-    ensures sized { KeepsSizes (state S.Store tx.old.conn.now) (state S.Store tx.new.conn.now) result }
 {
     let rows = writes::update_state(tx, card, active)?;
     if rows == 1 {
@@ -68,7 +63,6 @@ fn set_count<S: Alter>(tx: &mut Transaction<'_, S>, target: Target, n: u32) -> R
     ensures same_reference { tx.new.conn.ghost_name ≡ tx.old.conn.ghost_name }
     ensures makes { Makes HoldsTables AnyTables (done (CountNow target n)) (state S.Store tx.old.conn.now)
         (state S.Store tx.new.conn.now) result }
-    ensures sized { KeepsSizes (state S.Store tx.old.conn.now) (state S.Store tx.new.conn.now) result }
 {
     writes::delete_count(tx, target)?;
     if n == 0 {
@@ -90,7 +84,6 @@ fn move_listed<S: Alter>(
     ensures makes { Makes HoldsTables (λ it. Fits (CardsMoved deck from (pos by)) it
         × MovesListed movable.now (CardsMoved deck from (pos by)) it) (done (CardsMoved deck from (pos by)))
         (state S.Store tx.old.conn.now) (state S.Store tx.new.conn.now) result }
-    ensures sized { KeepsSizes (state S.Store tx.old.conn.now) (state S.Store tx.new.conn.now) result }
 {
     for (ident, least) in movable {
         writes::move_back_of(tx, ident, *least, deck, from, by)?;
@@ -108,7 +101,6 @@ fn move_cards<S: Alter>(
     ensures same_reference { tx.new.conn.ghost_name ≡ tx.old.conn.ghost_name }
     ensures makes { Makes HoldsTables (Fits (CardsMoved deck from by)) (done (CardsMoved deck from by))
         (state S.Store tx.old.conn.now) (state S.Store tx.new.conn.now) result }
-    ensures sized { KeepsSizes (state S.Store tx.old.conn.now) (state S.Store tx.new.conn.now) result }
 {
     if by < 0 {
         writes::move_up(tx, deck, from, by.unsigned_abs())
@@ -121,8 +113,6 @@ fn move_cards<S: Alter>(
 fn carry_out<S: Alter>(tx: &mut Transaction<'_, S>, change: &Change) -> Result<(), Error>
     ensures same_reference { tx.new.conn.ghost_name ≡ tx.old.conn.ghost_name }
     ensures makes { Makes HoldsTables (Fits (change_view change.now)) (done (change_view change.now))
-        (state S.Store tx.old.conn.now) (state S.Store tx.new.conn.now) result }
-    ensures sized { Sized (change_view change.now)
         (state S.Store tx.old.conn.now) (state S.Store tx.new.conn.now) result }
 {
     match change {
@@ -154,8 +144,6 @@ fn carry_out_listed<S: Alter>(
     ensures same_reference { tx.new.conn.ghost_name ≡ tx.old.conn.ghost_name }
     ensures makes { Makes HoldsTables (CanBeDone (option_copied movable.entry) (change_view change.now))
         (done (change_view change.now)) (state S.Store tx.old.conn.now) (state S.Store tx.new.conn.now) result }
-    ensures sized { Sized (change_view change.now)
-        (state S.Store tx.old.conn.now) (state S.Store tx.new.conn.now) result }
 {
     match (movable, change) {
         (Some(movable), Change::CardsMoved { deck, from, by }) if *by >= 0 => {
@@ -175,8 +163,6 @@ pub(crate) fn carry_out_moving<S: Alter>(
     ensures makes { Makes HoldsTables (AllCanBeDone (option_copied movable.entry) (map change_view changes.now))
         (done_all (map change_view changes.now))
         (state S.Store tx.old.conn.now) (state S.Store tx.new.conn.now) result }
-    ensures sized { SizedAll (map change_view changes.now)
-        (state S.Store tx.old.conn.now) (state S.Store tx.new.conn.now) result }
 {
     for change in changes {
         carry_out_listed(tx, movable, change)?;
@@ -188,8 +174,6 @@ pub(crate) fn carry_out_moving<S: Alter>(
 pub fn carry_out_all<S: Alter>(tx: &mut Transaction<'_, S>, changes: &[Change]) -> Result<(), Error>
     ensures same_reference { tx.new.conn.ghost_name ≡ tx.old.conn.ghost_name }
     ensures makes { Makes HoldsTables (AllFit (map change_view changes.now)) (done_all (map change_view changes.now))
-        (state S.Store tx.old.conn.now) (state S.Store tx.new.conn.now) result }
-    ensures sized { SizedAll (map change_view changes.now)
         (state S.Store tx.old.conn.now) (state S.Store tx.new.conn.now) result }
 {
     carry_out_moving(tx, None, changes)

@@ -6,9 +6,6 @@ ghost use Rattle.upd_records.specs.Changes.{change_view};
 ghost use Rattle.upd_row_store.specs.Tables.{committed};
 ghost use Rattle.upd_sql.specs.Commits.{Commits, MayCommit};
 ghost use Rattle.upd_sql.specs.Doable.{AllCanBeDone};
-ghost use Rattle.upd_sql.specs.Schema.{library_schema};
-ghost use Rattle.upd_sql.specs.Sizes.{HasSizes, TakeNone, sized_all};
-ghost use Rattle.upd_sql.specs.declared.sizes.Sizes.{Sizes};
 
 use crate::changes::carry_out_moving;
 use crate::writes::insert_run;
@@ -37,10 +34,6 @@ pub fn commit_changes<S: Rising>(
     ensures crash { Survives (state S.Store conn.old) (state S.Store conn.new)
         (MayCommit (AllCanBeDone (option_copied movable.entry) (map change_view changes.now))
         (committed (map change_view changes.now) row.now) (state S.Store conn.old)) }
-    ensures sized { HasCleanDisk (state S.Store conn.new) → OnOk result
-        ((state S.Store conn.old).committed.schema ≡ library_schema → TakeNone (map change_view changes.now)
-        → (n : Sizes) → HasSizes n (state S.Store conn.old).committed.trees
-        → HasSizes (sized_all (map change_view changes.now) n) (state S.Store conn.new).committed.trees) }
 {
     let mut tx = begin(conn);
     carry_out_moving(&mut tx, movable, changes)?;

@@ -30,7 +30,7 @@ pub use part::Part;
 pub use record::{column_of, flag_in};
 pub use schema::{has_first_tables, is_library_schema, is_no_schema};
 pub use settle::settle_site;
-pub use sizes::{Sizes, sizes_after};
+pub use sizes::Sizes;
 pub use stored::{
     stored_active, stored_decks_of, stored_library_rows, stored_mark, stored_part, stored_run,
     stored_states, stored_states_of,

@@ -23,7 +23,7 @@ ghost use Rattle.upd_sql.specs.Failing.{AreReadable, CanBeCounted, FailsInside, 
 ghost use Rattle.upd_sql.specs.Listed.{AreInOrder, by_place, in_any_order};
 ghost use Rattle.upd_sql.specs.Part.{AnswersIdents, IsPart, is_of_ident};
 ghost use Rattle.upd_sql.specs.Schema.{library_schema};
-ghost use Rattle.upd_sql.specs.Sizes.{AreRightIfKnown, AreSizesOf, HasSizes, card_tree, entry_tree};
+ghost use Rattle.upd_sql.specs.Sizes.{AreSizesOf};
 ghost use Rattle.upd_sql.specs.LibraryTables.{AnyTables, HoldsTables};
 
 use crate::reads::mark_in;
@@ -274,11 +274,6 @@ fn number_of<S: Alter>(tx: &mut Transaction<'_, S>, sql: &str) -> Result<u64, Er
         → Shown sql.now [] (state S.Store tx.old.conn.now) (state S.Store tx.new.conn.now) rows
         → rows ≡ (num (sqlite_count (size it)) ∷ []) ∷ [])
         → Looks (λ it n. n ≡ size it) (state S.Store tx.old.conn.now) (state S.Store tx.new.conn.now) result }
-    ensures number { (size : ℕ) → ((rows : List SqlRow) → (state S.Store tx.old.conn.now).now.schema ≡ library_schema
-        → Shown sql.now [] (state S.Store tx.old.conn.now) (state S.Store tx.new.conn.now) rows
-        → rows ≡ (num (sqlite_count size) ∷ []) ∷ [])
-        → HasCleanDisk (state S.Store tx.new.conn.now)
-        → IfOk result (λ n. (state S.Store tx.old.conn.now).now.schema ≡ library_schema → n ≡ size) }
     ensures failed { (size : Rows → ℕ) → CanBeAsked sql.now []
         → ((it : Rows) → HoldsTables it (state S.Store tx.old.conn.now).now → (rows : List SqlRow)
         → Shown sql.now [] (state S.Store tx.old.conn.now) (state S.Store tx.new.conn.now) rows
@@ -293,9 +288,6 @@ fn card_count<S: Alter>(tx: &mut Transaction<'_, S>) -> Result<u64, Error>
     ensures same_reference { tx.new.conn.ghost_name ≡ tx.old.conn.ghost_name }
     ensures looks { Looks (λ it n. n ≡ length it.cards) (state S.Store tx.old.conn.now)
         (state S.Store tx.new.conn.now) result }
-    ensures number { HasCleanDisk (state S.Store tx.new.conn.now)
-        → IfOk result (λ n. (state S.Store tx.old.conn.now).now.schema ≡ library_schema
-        → n ≡ length ((state S.Store tx.old.conn.now).now.trees card_tree)) }
     ensures failed { FailsInside CanBeCounted (state S.Store tx.old.conn.now) (state S.Store tx.new.conn.now) result }
 {
     number_of(tx, texts::COUNT_CARDS)
@@ -305,9 +297,6 @@ fn entry_count<S: Alter>(tx: &mut Transaction<'_, S>) -> Result<u64, Error>
     ensures same_reference { tx.new.conn.ghost_name ≡ tx.old.conn.ghost_name }
     ensures looks { Looks (λ it n. n ≡ length it.entries) (state S.Store tx.old.conn.now)
         (state S.Store tx.new.conn.now) result }
-    ensures number { HasCleanDisk (state S.Store tx.new.conn.now)
-        → IfOk result (λ n. (state S.Store tx.old.conn.now).now.schema ≡ library_schema
-        → n ≡ length ((state S.Store tx.old.conn.now).now.trees entry_tree)) }
     ensures failed { FailsInside CanBeCounted (state S.Store tx.old.conn.now) (state S.Store tx.new.conn.now) result }
 {
     number_of(tx, texts::COUNT_ENTRIES)
@@ -341,9 +330,6 @@ fn part_rows_in<S: Alter>(
 fn sizes_in<S: Alter>(tx: &mut Transaction<'_, S>) -> Result<Sizes, Error>
     ensures same_reference { tx.new.conn.ghost_name ≡ tx.old.conn.ghost_name }
     ensures looks { Looks AreSizesOf (state S.Store tx.old.conn.now) (state S.Store tx.new.conn.now) result }
-    ensures sized { HasCleanDisk (state S.Store tx.new.conn.now)
-        → IfOk result (λ n. (state S.Store tx.old.conn.now).now.schema ≡ library_schema
-        → HasSizes n (state S.Store tx.old.conn.now).now.trees) }
     ensures failed { FailsInside CanBeCounted (state S.Store tx.old.conn.now) (state S.Store tx.new.conn.now) result }
 {
     let cards = card_count(tx)?;
@@ -351,28 +337,17 @@ fn sizes_in<S: Alter>(tx: &mut Transaction<'_, S>) -> Result<Sizes, Error>
     Ok(Sizes { cards, entries })
 }
 
-/// The rows of `YANK$$$` and of the decks of these ages, and the numbers of all cards and entries, which are counted
-/// where they are not known.
+/// The rows of `YANK$$$` and of the decks of these ages, and the numbers of all cards and entries.
 pub(crate) fn part_in<S: Alter>(
     tx: &mut Transaction<'_, S>,
     alloc: Global,
     ages: &[Serial],
-    known: Option<Sizes>,
 ) -> Result<Part, Error>
     ensures same_reference { tx.new.conn.ghost_name ≡ tx.old.conn.ghost_name }
-    ensures looks { Looks (λ it found. AreRightIfKnown known (AreSizesOf it) → IsPart ages.now it found)
-        (state S.Store tx.old.conn.now) (state S.Store tx.new.conn.now) result }
-    ensures sized { HasCleanDisk (state S.Store tx.new.conn.now)
-        → IfOk result (λ found. (state S.Store tx.old.conn.now).now.schema ≡ library_schema
-        → AreRightIfKnown known (λ n. HasSizes n (state S.Store tx.old.conn.now).now.trees)
-        → HasSizes found.sizes (state S.Store tx.old.conn.now).now.trees) }
-    ensures failed { FailsInside (IsReadablePart known) (state S.Store tx.old.conn.now)
-        (state S.Store tx.new.conn.now) result }
+    ensures looks { Looks (IsPart ages.now) (state S.Store tx.old.conn.now) (state S.Store tx.new.conn.now) result }
+    ensures failed { FailsInside IsReadablePart (state S.Store tx.old.conn.now) (state S.Store tx.new.conn.now) result }
 {
     let rows = part_rows_in(tx, alloc, ages)?;
-    if let Some(sizes) = known {
-        return Ok(Part { rows, sizes });
-    }
     let sizes = sizes_in(tx)?;
     Ok(Part { rows, sizes })
 }

@@ -12,11 +12,9 @@ ghost use Rattle.upd_sql.specs.LibraryTables.{AnyTables, ShowsTables};
 ghost use Rattle.upd_row_store.specs.Asked.{AreDecksOf};
 ghost use Rattle.upd_row_store.specs.Assembling.{AreRowsOf};
 ghost use Rattle.upd_sql.specs.Part.{AreActiveRows, IsPart};
-ghost use Rattle.upd_sql.specs.Sizes.{AreOfCommit, HasSizes};
 
 use crate::active::ActiveRows;
 use crate::part::Part;
-use crate::sizes::Sizes;
 use crate::{active, part, reads, statuses, whole};
 use sqlite::{Connection, Error};
 use std::alloc::Global;
@@ -177,16 +175,13 @@ pub fn stored_decks_of<S: Rising>(
     Ok(found)
 }
 
-/// The rows of `YANK$$$` and of the decks of these ages, and the numbers of all cards and entries, which are counted
-/// where they are not known.
+/// The rows of `YANK$$$` and of the decks of these ages, and the numbers of all cards and entries.
 pub fn stored_part<S: Rising>(
     conn: &mut Connection<S>,
     alloc: Global,
     ages: &[Serial],
-    known: Option<Sizes>,
 ) -> Result<Part, Error>
-    requires outside { conn.old.in_transaction ≡ false }
-    requires known { AreOfCommit known (state S.Store conn.old) }
+    requires { conn.old.in_transaction ≡ false }
     ensures outside { conn.new.in_transaction ≡ false }
     ensures was_open { HasCleanDisk (state S.Store conn.new) → IsTrue (state S.Store conn.new).is_open
         → IsTrue (state S.Store conn.old).is_open }
@@ -198,13 +193,10 @@ pub fn stored_part<S: Rising>(
     ensures crash { Survives (state S.Store conn.old) (state S.Store conn.new) (MayKeep (state S.Store conn.old)) }
     ensures found { HasCleanDisk (state S.Store conn.new) → IfOk result
         (λ found. (it : Rows) → ShowsTables it (state S.Store conn.old).committed → IsPart ages.now it found) }
-    ensures sized { HasCleanDisk (state S.Store conn.new) → IfOk result
-        (λ found. (state S.Store conn.old).committed.schema ≡ library_schema
-        → HasSizes found.sizes (state S.Store conn.new).committed.trees) }
-    ensures failed { FailsToRead (IsReadablePart known) (state S.Store conn.old) (state S.Store conn.new) result }
+    ensures failed { FailsToRead IsReadablePart (state S.Store conn.old) (state S.Store conn.new) result }
 {
     let mut tx = begin(conn);
-    let found = part::part_in(&mut tx, alloc, ages, known)?;
+    let found = part::part_in(&mut tx, alloc, ages)?;
     tx.commit()?;
     Ok(found)
 }

@@ -9,7 +9,6 @@ ghost use Rattle.upd_sqlite.specs.Steps.{Makes};
 ghost use Rattle.upd_sql.specs.RowEdits.{CanMoveOf, with_count, with_mark, with_moved, with_restated, with_state, without_card};
 ghost use Rattle.upd_sql.specs.RowEdits.{without_count, without_mark, without_runs, without_state};
 ghost use Rattle.upd_sql.specs.Commits.{CountsStatuses, WasOpen};
-ghost use Rattle.upd_sql.specs.Sizes.{KeepsSizes, Sized};
 ghost use Rattle.upd_sql.specs.LibraryTables.{AnyTables, HoldsTables};
 
 use crate::texts;
@@ -26,7 +25,6 @@ pub(crate) fn insert_ident<S: Alter>(
     ensures same_reference { tx.new.conn.ghost_name ≡ tx.old.conn.ghost_name }
     ensures makes { Makes HoldsTables AnyTables (done (IdentNew ident.now)) (state S.Store tx.old.conn.now)
         (state S.Store tx.new.conn.now) result }
-    ensures sized { KeepsSizes (state S.Store tx.old.conn.now) (state S.Store tx.new.conn.now) result }
 {
     run(
         tx,
@@ -45,7 +43,6 @@ pub(crate) fn purge_ident<S: Alter>(tx: &mut Transaction<'_, S>, age: Serial) ->
     ensures same_reference { tx.new.conn.ghost_name ≡ tx.old.conn.ghost_name }
     ensures makes { Makes HoldsTables AnyTables (done (IdentPurged age)) (state S.Store tx.old.conn.now)
         (state S.Store tx.new.conn.now) result }
-    ensures sized { KeepsSizes (state S.Store tx.old.conn.now) (state S.Store tx.new.conn.now) result }
 {
     run(tx, texts::PURGE_IDENT, &[number(age)])
 }
@@ -59,8 +56,6 @@ pub(crate) fn insert_card<S: Alter>(
 ) -> Result<(), Error>
     ensures same_reference { tx.new.conn.ghost_name ≡ tx.old.conn.ghost_name }
     ensures makes { Makes HoldsTables AnyTables (done (CardNew card.now deck pos body.now))
-        (state S.Store tx.old.conn.now) (state S.Store tx.new.conn.now) result }
-    ensures sized { Sized (CardNew card.now deck pos body.now)
         (state S.Store tx.old.conn.now) (state S.Store tx.new.conn.now) result }
 {
     run(
@@ -101,8 +96,6 @@ pub(crate) fn insert_entry<S: Alter>(
     ensures same_reference { tx.new.conn.ghost_name ≡ tx.old.conn.ghost_name }
     ensures makes { Makes HoldsTables AnyTables (done (EntryNew card.now ord entry.now)) (state S.Store tx.old.conn.now)
         (state S.Store tx.new.conn.now) result }
-    ensures sized { Sized (EntryNew card.now ord entry.now)
-        (state S.Store tx.old.conn.now) (state S.Store tx.new.conn.now) result }
 {
     run(
         tx,
@@ -124,8 +117,6 @@ pub(crate) fn delete_entries<S: Alter>(
     ensures same_reference { tx.new.conn.ghost_name ≡ tx.old.conn.ghost_name }
     ensures makes { Makes HoldsTables AnyTables (done (EntriesGone card.now)) (state S.Store tx.old.conn.now)
         (state S.Store tx.new.conn.now) result }
-    ensures sized { Sized (EntriesGone card.now)
-        (state S.Store tx.old.conn.now) (state S.Store tx.new.conn.now) result }
 {
     run(
         tx,
@@ -143,7 +134,6 @@ pub(crate) fn insert_target<S: Alter>(
     ensures same_reference { tx.new.conn.ghost_name ≡ tx.old.conn.ghost_name }
     ensures makes { Makes HoldsTables AnyTables (done (TargetNew card.now ord target)) (state S.Store tx.old.conn.now)
         (state S.Store tx.new.conn.now) result }
-    ensures sized { KeepsSizes (state S.Store tx.old.conn.now) (state S.Store tx.new.conn.now) result }
 {
     let codes = codes_of(target);
     run(
@@ -167,7 +157,6 @@ pub(crate) fn delete_targets<S: Alter>(
     ensures same_reference { tx.new.conn.ghost_name ≡ tx.old.conn.ghost_name }
     ensures makes { Makes HoldsTables AnyTables (done (TargetsGone card.now [])) (state S.Store tx.old.conn.now)
         (state S.Store tx.new.conn.now) result }
-    ensures sized { KeepsSizes (state S.Store tx.old.conn.now) (state S.Store tx.new.conn.now) result }
 {
     run(
         tx,
@@ -180,7 +169,6 @@ pub(crate) fn insert_run<S: Alter>(tx: &mut Transaction<'_, S>, row: &RunRow) ->
     ensures same_reference { tx.new.conn.ghost_name ≡ tx.old.conn.ghost_name }
     ensures makes { Makes HoldsTables AnyTables (with_run row.now) (state S.Store tx.old.conn.now)
         (state S.Store tx.new.conn.now) result }
-    ensures sized { KeepsSizes (state S.Store tx.old.conn.now) (state S.Store tx.new.conn.now) result }
     ensures was_open { WasOpen (state S.Store tx.old.conn.now) (state S.Store tx.new.conn.now) result }
 {
     let run_number = wide(row.number)?;
@@ -206,7 +194,6 @@ pub(crate) fn insert_state<S: Alter>(
     ensures same_reference { tx.new.conn.ghost_name ≡ tx.old.conn.ghost_name }
     ensures makes { Makes HoldsTables AnyTables (with_state card.now active) (state S.Store tx.old.conn.now)
         (state S.Store tx.new.conn.now) result }
-    ensures sized { KeepsSizes (state S.Store tx.old.conn.now) (state S.Store tx.new.conn.now) result }
 {
     run(
         tx,
@@ -222,7 +209,6 @@ pub(crate) fn delete_state<S: Alter>(
     ensures same_reference { tx.new.conn.ghost_name ≡ tx.old.conn.ghost_name }
     ensures makes { Makes HoldsTables AnyTables (without_state card.now) (state S.Store tx.old.conn.now)
         (state S.Store tx.new.conn.now) result }
-    ensures sized { KeepsSizes (state S.Store tx.old.conn.now) (state S.Store tx.new.conn.now) result }
 {
     run(
         tx,
@@ -241,7 +227,6 @@ pub(crate) fn update_state<S: Alter>(
     ensures makes { Makes HoldsTables AnyTables (with_restated card.now active) (state S.Store tx.old.conn.now)
         (state S.Store tx.new.conn.now) result }
     ensures counted { CountsStatuses card.now (state S.Store tx.old.conn.now) (state S.Store tx.new.conn.now) result }
-    ensures sized { KeepsSizes (state S.Store tx.old.conn.now) (state S.Store tx.new.conn.now) result }
 {
     run_counted(
         tx,
@@ -258,7 +243,6 @@ pub(crate) fn insert_count<S: Alter>(
     ensures same_reference { tx.new.conn.ghost_name ≡ tx.old.conn.ghost_name }
     ensures makes { Makes HoldsTables AnyTables (with_count target n) (state S.Store tx.old.conn.now)
         (state S.Store tx.new.conn.now) result }
-    ensures sized { KeepsSizes (state S.Store tx.old.conn.now) (state S.Store tx.new.conn.now) result }
 {
     let codes = codes_of(target);
     run(
@@ -280,7 +264,6 @@ pub(crate) fn delete_count<S: Alter>(
     ensures same_reference { tx.new.conn.ghost_name ≡ tx.old.conn.ghost_name }
     ensures makes { Makes HoldsTables AnyTables (without_count target) (state S.Store tx.old.conn.now)
         (state S.Store tx.new.conn.now) result }
-    ensures sized { KeepsSizes (state S.Store tx.old.conn.now) (state S.Store tx.new.conn.now) result }
 {
     let codes = codes_of(target);
     run(
@@ -335,7 +318,6 @@ pub(crate) fn move_back<S: Alter>(
     ensures same_reference { tx.new.conn.ghost_name ≡ tx.old.conn.ghost_name }
     ensures makes { Makes HoldsTables (Fits (CardsMoved deck from (pos by))) (done (CardsMoved deck from (pos by)))
         (state S.Store tx.old.conn.now) (state S.Store tx.new.conn.now) result }
-    ensures sized { KeepsSizes (state S.Store tx.old.conn.now) (state S.Store tx.new.conn.now) result }
 {
     let distance = wide(by)?;
     run(
@@ -358,7 +340,6 @@ pub(crate) fn move_back_of<S: Alter>(
     ensures makes { Makes HoldsTables (CanMoveOf (ident.now, least) deck from by)
         (with_moved (ident.now, least) deck from by) (state S.Store tx.old.conn.now)
         (state S.Store tx.new.conn.now) result }
-    ensures sized { KeepsSizes (state S.Store tx.old.conn.now) (state S.Store tx.new.conn.now) result }
 {
     let distance = wide(by)?;
     run(
@@ -386,7 +367,6 @@ pub(crate) fn move_up<S: Alter>(
     ensures makes { Makes HoldsTables (Fits (CardsMoved deck from (negsuc (by - 1))))
         (done (CardsMoved deck from (negsuc (by - 1)))) (state S.Store tx.old.conn.now)
         (state S.Store tx.new.conn.now) result }
-    ensures sized { KeepsSizes (state S.Store tx.old.conn.now) (state S.Store tx.new.conn.now) result }
 {
     let distance = wide(by)?;
     run(tx, texts::MOVE_UP, &[number(deck), number(from), distance])

@@ -15,7 +15,7 @@ use upd_row_store::{
     Meaning, RowStore, assembled, assembled_active, assembled_with_rest, decks_by_age, reads_with,
 };
 use upd_sql::{
-    commit_changes, is_library_schema, settle_site, sizes_after, stored_active, stored_decks_of,
+    commit_changes, is_library_schema, settle_site, stored_active, stored_decks_of,
     stored_library_rows, stored_mark, stored_part, stored_run, stored_states, stored_states_of,
 };
 use upd_sqlite::{Rising, committed_schema};
@@ -84,9 +84,7 @@ impl<S: Rising> RowStore for SqlStore<S> {
         if !is_ours(&self.conn) {
             return Err(refused(&mut self.failures));
         }
-        let known = self.sizes;
-        self.sizes = None;
-        match stored_part(&mut self.conn, alloc, decks, known) {
+        match stored_part(&mut self.conn, alloc, decks) {
             Ok(part) => match assembled_with_rest(
                 alloc,
                 part.rows,
@@ -95,7 +93,6 @@ impl<S: Rising> RowStore for SqlStore<S> {
             ) {
                 Ok(library) => {
                     self.decks_read = reads_with(self.decks_read, &library);
-                    self.sizes = Some(part.sizes);
                     Ok(library)
                 }
                 Err(_) => Err(no_memory()),
@@ -181,13 +178,8 @@ impl<S: Rising> RowStore for SqlStore<S> {
         if !is_ours(&self.conn) {
             return Err(refused(&mut self.failures));
         }
-        let sizes = sizes_after(self.sizes, changes);
-        self.sizes = None;
         match commit_changes(&mut self.conn, None, changes, &run) {
-            Ok(()) => {
-                self.sizes = sizes;
-                Ok(())
-            }
+            Ok(()) => Ok(()),
             Err(error) => Err(counted(error, &mut self.failures)),
         }
     }
@@ -202,13 +194,8 @@ impl<S: Rising> RowStore for SqlStore<S> {
         if !is_ours(&self.conn) {
             return Err(refused(&mut self.failures));
         }
-        let sizes = sizes_after(self.sizes, changes);
-        self.sizes = None;
         match commit_changes(&mut self.conn, Some(movable), changes, &run) {
-            Ok(()) => {
-                self.sizes = sizes;
-                Ok(())
-            }
+            Ok(()) => Ok(()),
             Err(error) => Err(counted(error, &mut self.failures)),
         }
     }
@@ -217,7 +204,6 @@ impl<S: Rising> RowStore for SqlStore<S> {
         if !is_ours(&self.conn) {
             return Err(refused(&mut self.failures));
         }
-        self.sizes = None;
         match settle_site(&mut self.conn, site, number) {
             Ok(mark) => Ok(mark),
             Err(error) => Err(counted(error, &mut self.failures)),

@@ -4,7 +4,6 @@ ghost use Rattle.sqlite.specs.Held.{state};
 ghost use Rattle.sqlite.specs.State.{HasCleanDisk, Survives};
 ghost use Rattle.upd_sql.specs.Making.{no_rows};
 ghost use Rattle.upd_sql.specs.Schema.{library_schema, no_schema};
-ghost use Rattle.upd_sql.specs.Sizes.{AreOfCommit};
 ghost use Rattle.upd_sql.specs.LibraryTables.{ShowsTables};
 ghost use Rattle.upd_store.specs.Beginning.{MayBegin};
 ghost use Rattle.upd_store.specs.Faults.{IsUnopened};
@@ -13,7 +12,7 @@ ghost use Rattle.upd_store.specs.Version.{HasVersion};
 use crate::fault::{fault_of, store_at, version_fault};
 use crate::version::version_of;
 use sqlite::Connection;
-use upd_sql::{Sizes, is_library_schema, is_no_schema, make_library};
+use upd_sql::{is_library_schema, is_no_schema, make_library};
 use upd_sqlite::{Rising, committed_schema};
 use upd_text::Fault;
 
@@ -26,10 +25,7 @@ pub struct SqlStore<S: Rising> {
     pub(crate) failures: u64,
     /// The number of decks that were loaded.
     pub(crate) decks_read: u64,
-    /// The number of cards and entries in the last commit, where it is known.
-    pub(crate) sizes: Option<Sizes>,
     ghost outside: { conn.in_transaction ≡ false },
-    ghost sized: { AreOfCommit sizes (state S.Store conn) },
 }
 
 // Written by hand, so that a caller does not prove again how each part is dropped.
@@ -39,7 +35,6 @@ impl<S: Rising + Drop> Drop for SqlStore<S> {
             conn: _,
             failures: _,
             decks_read: _,
-            sizes: _,
         } = self;
     }
 }
@@ -78,7 +73,6 @@ impl<S: Rising> SqlStore<S> {
             conn,
             failures: 0,
             decks_read: 0,
-            sizes: None,
         })
     }
 
@@ -113,8 +107,7 @@ impl<S: Rising> SqlStore<S> {
                 conn,
                 failures: 0,
                 decks_read: 0,
-                sizes: None,
-            }),
+                }),
             Err(error) => Err((fault_of(error), conn)),
         }
     }
@@ -127,7 +120,6 @@ impl<S: Rising> SqlStore<S> {
             conn,
             failures: _,
             decks_read: _,
-            sizes: _,
         } = self;
         conn
     }

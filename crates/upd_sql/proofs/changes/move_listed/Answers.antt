@@ -15,8 +15,6 @@ use Rattle.upd_sqlite.specs.Steps.{Makes}
 use Rattle.upd_sql.specs.LibraryTables.{HoldsTables}
 use Rattle.upd_sql.specs.RowEdits.{with_others_moved}
 use Rattle.upd_sql.proofs.MovingLemmas.{none_moved, one_moved}
-use Rattle.upd_sql.proofs.SizeLemmas.{sizes_kept}
-use Rattle.upd_sql.proofs.Typed.{survives_itself}
 use Rattle.upd_sql.proofs.changes.move_listed.Goals as goal
 
 pub loop-ident-init : goal.loop-ident-init
@@ -29,7 +27,6 @@ loop-ident-init g c =
       subst (λ es. IsStrictlySortedBy (slice_cmp nat_cmp) (keys_of es)) (sym gives.0) gives.5,
       subst (λ es. Makes {X = Unit {0}} HoldsTables Can (with_others_moved es c.args.deck c.args.from c.args.by) s s (Ok tt)) (sym gives.0)
           (none_moved c.args.deck c.args.from c.args.by c.args.movable.now s tt),
-      search (survives_itself),
     )
 
 pub loop-ident-preserved : goal.loop-ident-preserved
@@ -48,7 +45,6 @@ loop-ident-preserved g c =
       c.in_ok-move_back_of.ensures.same_reference ∙ c.loop-ident.invariant.0,
       sorted_tail (slice_cmp nat_cmp) e.0 (keys_of es) up,
       one_moved c.args.deck c.args.from c.args.by e es up c.args.movable.now old mid new tt (Ok tt) before c.in_ok-move_back_of.ensures.makes,
-      sizes_kept old mid new tt (Ok tt) c.loop-ident.invariant.3 c.in_ok-move_back_of.ensures.sized,
     )
 
 pub returns-clause-makes : goal.returns-clause-makes

@@ -10,7 +10,6 @@ use Rattle.upd_row_store.specs.Movable.{MovesListed}
 use Rattle.upd_sqlite.specs.Steps.{Makes}
 use Rattle.upd_sql.specs.LibraryTables.{HoldsTables}
 use Rattle.upd_sql.specs.RowEdits.{with_others_moved}
-use Rattle.upd_sql.specs.Sizes.{KeepsSizes}
 use Rattle.upd_sql.proofs.changes.move_listed.Given as goal
 
 abbrev pub invariant-loop-ident : goal.invariant-loop-ident
@@ -19,4 +18,3 @@ invariant-loop-ident g l =
     × IsStrictlySortedBy (slice_cmp nat_cmp) (keys_of l.ident-iterator)
     × Makes {X = Unit {0}} HoldsTables (λ it. Fits (CardsMoved l.deck l.from (pos l.by)) it × MovesListed l.movable (CardsMoved l.deck l.from (pos l.by)) it)
     (with_others_moved l.ident-iterator l.deck l.from l.by) (state g.S.Store l.initial.tx.conn.now) (state g.S.Store l.tx.conn.now) (Ok tt)
-    × KeepsSizes {X = Unit {0}} (state g.S.Store l.initial.tx.conn.now) (state g.S.Store l.tx.conn.now) (Ok tt)

@@ -6,7 +6,6 @@ use Rattle.upd_sqlite.proofs.Chains.{makes_as}
 use Rattle.upd_sql.specs.RowEdits.{with_count, without_count}
 use Rattle.upd_sql.specs.LibraryTables.{HoldsTables, AnyTables}
 use Rattle.upd_sql.proofs.Typed.{makes_both}
-use Rattle.upd_sql.proofs.SizeLemmas.{sizes_kept}
 use Rattle.upd_sql.proofs.changes.set_count.Goals as goal
 
 pub returns-clause-makes : goal.returns-clause-makes
@@ -18,8 +17,3 @@ returns-clause-makes g c =
     let same : (it : Rows) → with_count c.args.target c.args.n (without_count c.args.target it) ≡ done (CountNow c.args.target c.args.n) it =
     λ it. rw (ne_eqb c.args.n 0 c.if-n-eq0.false) refl in
     makes_as HoldsTables AnyTables AnyTables _ (done (CountNow c.args.target c.args.n)) old new c.insert_count.result (λ it any. any) same both
-
-pub returns-clause-sized : goal.returns-clause-sized
-returns-clause-sized g c =
-    sizes_kept (state g.S.Store c.args.tx.now.conn.now) (state g.S.Store c.delete_count.new.tx.conn.now) (state g.S.Store c.insert_count.new.tx.conn.now)
-    c.in_ok-delete_count.field-0 c.insert_count.result c.in_ok-delete_count.ensures.sized c.insert_count.ensures.sized

@@ -1,6 +1,5 @@
 use Rattle.sqlite.specs.Held.{state}
-use Rattle.upd_sql.proofs.SizeLemmas.{sizes_kept}
-use Rattle.upd_sql.proofs.ToldLemmas.{sizes_told, told_anew, told_in_place, told_last}
+use Rattle.upd_sql.proofs.ToldLemmas.{told_anew, told_in_place, told_last}
 use Rattle.upd_sql.proofs.changes.set_state.Goals as goal
 
 pub returns-then-rows-eq1-clause-makes : goal.returns-then-rows-eq1-clause-makes
@@ -8,28 +7,14 @@ returns-then-rows-eq1-clause-makes g c =
     told_in_place c.args.card.now c.args.active (state g.S.Store c.args.tx.now.conn.now) (state g.S.Store c.update_state.new.tx.conn.now)
     c.in_ok-rows.rows tt c.in_ok-rows.ensures.makes c.in_ok-rows.ensures.counted c.if-rows-eq1.true
 
-pub returns-then-rows-eq1-clause-sized : goal.returns-then-rows-eq1-clause-sized
-returns-then-rows-eq1-clause-sized g c =
-    sizes_told (state g.S.Store c.args.tx.now.conn.now) (state g.S.Store c.update_state.new.tx.conn.now) c.in_ok-rows.rows tt c.in_ok-rows.ensures.sized
-
 pub returns-then-rows-eq0-clause-makes : goal.returns-then-rows-eq0-clause-makes
 returns-then-rows-eq0-clause-makes g c =
     told_last c.args.card.now c.args.active (state g.S.Store c.args.tx.now.conn.now) (state g.S.Store c.update_state.new.tx.conn.now)
     (state g.S.Store c.insert_state.new.tx.conn.now) c.in_ok-rows.rows c.insert_state.result c.in_ok-rows.ensures.makes c.in_ok-rows.ensures.counted
     c.insert_state.ensures.makes c.if-rows-eq0.true
 
-pub returns-then-rows-eq0-clause-sized : goal.returns-then-rows-eq0-clause-sized
-returns-then-rows-eq0-clause-sized g c =
-    sizes_kept (state g.S.Store c.args.tx.now.conn.now) (state g.S.Store c.update_state.new.tx.conn.now) (state g.S.Store c.insert_state.new.tx.conn.now)
-    c.in_ok-rows.rows c.insert_state.result c.in_ok-rows.ensures.sized c.insert_state.ensures.sized
-
 pub returns-clause-makes : goal.returns-clause-makes
 returns-clause-makes g c =
     told_anew c.args.card.now c.args.active (state g.S.Store c.args.tx.now.conn.now) (state g.S.Store c.update_state.new.tx.conn.now)
     (state g.S.Store c.replace_state.new.tx.conn.now) c.in_ok-rows.rows c.replace_state.result c.in_ok-rows.ensures.makes c.in_ok-rows.ensures.counted
     c.replace_state.ensures.makes c.if-rows-eq1.false
-
-pub returns-clause-sized : goal.returns-clause-sized
-returns-clause-sized g c =
-    sizes_kept (state g.S.Store c.args.tx.now.conn.now) (state g.S.Store c.update_state.new.tx.conn.now) (state g.S.Store c.replace_state.new.tx.conn.now)
-    c.in_ok-rows.rows c.replace_state.result c.in_ok-rows.ensures.sized c.replace_state.ensures.sized

@@ -1,17 +1,15 @@
-use Rattle.std.proofs.Common.{◌≡◌, Ok, option_copied, true, map, refl, sym, subst, rules, arith}
+use Rattle.std.proofs.Common.{◌≡◌, Ok, option_copied, true, map, refl, subst, rules, arith}
 use Rattle.sqlite.specs.Held.{state}
 use Rattle.sqlite.specs.State.{HasCleanDisk, Survives}
 use Rattle.sqlite.proofs.Callers.{survives_begin}
 use Rattle.upd_records.specs.Changes.{change_view, done_all}
 use Rattle.upd_row_store.specs.Tables.{committed, with_run}
 use Rattle.upd_sqlite.specs.Steps.{Makes}
-use Rattle.upd_sqlite.proofs.Chains.{clean_before, makes_then, makes_as}
+use Rattle.upd_sqlite.proofs.Chains.{makes_then, makes_as}
 use Rattle.upd_sql.specs.Commits.{MayCommit}
 use Rattle.upd_sql.specs.Doable.{AllCanBeDone}
-use Rattle.upd_sql.specs.Sizes.{AnySizes, HasSizes, HoldsSizes, SizedAll, TakeNone, sized_all}
 use Rattle.upd_sql.specs.LibraryTables.{HoldsTables, AnyTables}
 use Rattle.upd_sql.proofs.CommitLemmas.{crash_leaves}
-use Rattle.upd_sql.proofs.SizeLemmas.{committed_sizes, on_done}
 use Rattle.upd_sql.proofs.commits.commit_changes.Goals as goal
 
 pub returns-clause-crash : goal.returns-clause-crash
@@ -36,22 +34,3 @@ returns-clause-crash g c =
     let P = MayCommit Fits (committed cs c.args.row.now) old in
     let same : c.commit.new.self.0 ≡ c.conn-2-1.given.0 = search rules in
     subst (λ h. Survives old (state g.S.Store h) P) same (survives_begin g.S.Store c.args.conn.now end P left)
-
-pub returns-clause-sized : goal.returns-clause-sized
-returns-clause-sized g c clean =
-    let old = state g.S.Store c.args.conn.now in
-    let begun = record old { in_transaction = true } in
-    let mid = state g.S.Store c.carry_out_moving.new.tx.conn.now in
-    let last = state g.S.Store c.insert_run.new.tx.conn.now in
-    let end = state g.S.Store c.commit.new.self.0 in
-    let cs = map change_view c.args.changes.now in
-    let made : SizedAll {X = Unit {0}} cs begun mid (Ok c.in_ok-carry_out_moving.field-0) = rw c.begin-tx.ensures.begun at c.in_ok-carry_out_moving.ensures.sized in
-    let whole = makes_then HoldsSizes (λ _. TakeNone cs) AnySizes (sized_all cs) (λ n. n) begun mid last c.in_ok-carry_out_moving.field-0
-    (Ok c.in_ok-insert_run.field-0) made c.in_ok-insert_run.ensures.sized in
-    let same : c.commit.new.self.0 ≡ c.conn-2-1.given.0 = search rules in
-    let late : HasCleanDisk end = subst (λ h. HasCleanDisk (state g.S.Store h)) (sym same) clean in
-    let early = clean_before last end _ c.commit.ensures.survives late in
-    on_done c.commit.result (c.commit.ensures.ok late)
-    (λ ended schema none n h. subst (λ h. HasSizes (sized_all cs n) (state g.S.Store h).committed.trees) same
-    (committed_sizes old last end c.in_ok-insert_run.field-0 c.begin-tx.ensures.rise c.begin-tx.ensures.settled
-    (λ n. TakeNone cs × AnySizes (sized_all cs n)) (sized_all cs) whole early ended.1 schema n (none, tt) h))

@@ -2,8 +2,6 @@ use Rattle.std.proofs.Common.{length}
 use Rattle.sqlite.specs.Held.{state}
 use Rattle.upd_sql.proofs.ReadTexts as query
 use Rattle.upd_sql.proofs.PartLemmas.{cards_counted}
-use Rattle.upd_sql.specs.Sizes.{card_tree}
-use Rattle.upd_sql.proofs.SizeLemmas.{card_rows_counted}
 use Rattle.std.proofs.Common.{◌^◌, ◌-◌, ◌<◌}
 use Rattle.upd_sql.specs.Failing.{CanBeCounted}
 use Rattle.upd_sql.proofs.AskTexts.{count_cards_asked}
@@ -14,11 +12,6 @@ pub returns-clause-looks : goal.returns-clause-looks
 returns-clause-looks g c =
     c.number_of.ensures.looks (λ it. length it.cards) query.count_cards_plain
     (cards_counted (state g.S.Store c.args.tx.now.conn.now) (state g.S.Store c.number_of.new.tx.conn.now))
-
-pub returns-clause-number : goal.returns-clause-number
-returns-clause-number g c =
-    c.number_of.ensures.number (length ((state g.S.Store c.args.tx.now.conn.now).now.trees card_tree))
-    (λ rows schema shown. card_rows_counted (state g.S.Store c.args.tx.now.conn.now) (state g.S.Store c.number_of.new.tx.conn.now) rows schema shown)
 
 pub returns-clause-failed : goal.returns-clause-failed
 returns-clause-failed g c =

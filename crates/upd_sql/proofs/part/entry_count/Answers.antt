@@ -2,8 +2,6 @@ use Rattle.std.proofs.Common.{length}
 use Rattle.sqlite.specs.Held.{state}
 use Rattle.upd_sql.proofs.ReadTexts as query
 use Rattle.upd_sql.proofs.PartLemmas.{entries_counted}
-use Rattle.upd_sql.specs.Sizes.{entry_tree}
-use Rattle.upd_sql.proofs.SizeLemmas.{entry_rows_counted}
 use Rattle.std.proofs.Common.{◌^◌, ◌-◌, ◌<◌}
 use Rattle.upd_sql.specs.Failing.{CanBeCounted}
 use Rattle.upd_sql.proofs.AskTexts.{count_entries_asked}
@@ -14,11 +12,6 @@ pub returns-clause-looks : goal.returns-clause-looks
 returns-clause-looks g c =
     c.number_of.ensures.looks (λ it. length it.entries) query.count_entries_plain
     (entries_counted (state g.S.Store c.args.tx.now.conn.now) (state g.S.Store c.number_of.new.tx.conn.now))
-
-pub returns-clause-number : goal.returns-clause-number
-returns-clause-number g c =
-    c.number_of.ensures.number (length ((state g.S.Store c.args.tx.now.conn.now).now.trees entry_tree))
-    (λ rows schema shown. entry_rows_counted (state g.S.Store c.args.tx.now.conn.now) (state g.S.Store c.number_of.new.tx.conn.now) rows schema shown)
 
 pub returns-clause-failed : goal.returns-clause-failed
 returns-clause-failed g c =

@@ -15,11 +15,6 @@ returns-clause-looks g c size plain means =
     (λ clean. on_value c.first_count.result c.first_count.ensures.found
     (λ n says it h. says (size it) (c.deref.ensures.value ∙ means it h c.in_ok-rows.rows.items (said.shown clean))))
 
-pub returns-clause-number : goal.returns-clause-number
-returns-clause-number g c size means clean =
-    on_value c.first_count.result c.first_count.ensures.found
-    (λ n says schema. says size (c.deref.ensures.value ∙ means c.in_ok-rows.rows.items schema (c.in_ok-rows.ensures.shown clean)))
-
 pub returns-in_err-rows-clause-failed : goal.returns-in_err-rows-clause-failed
 returns-in_err-rows-clause-failed g c size can means clean is_open unlimited it h few =
     passed _ c.from_residual.result c.from_residual.ensures.1 (c.in_err-rows.ensures.failed can clean is_open unlimited it h tt)

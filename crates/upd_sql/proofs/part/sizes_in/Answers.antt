@@ -1,8 +1,6 @@
-use Rattle.std.proofs.Common.{◌≡◌, length, ap, Ok, ◌∙◌}
+use Rattle.std.proofs.Common.{◌≡◌, length, Ok}
 use Rattle.sqlite.specs.Held.{state}
-use Rattle.sqlite.specs.Effect.{Database}
-use Rattle.upd_sqlite.proofs.Chains.{clean_before}
-use Rattle.upd_sql.specs.Sizes.{AreSizesOf, entry_tree}
+use Rattle.upd_sql.specs.Sizes.{AreSizesOf}
 use Rattle.upd_sql.proofs.WholeLemmas.{looks_as, looks_then}
 use Rattle.upd_sql.specs.Failing.{CanBeCounted}
 use Rattle.upd_sql.proofs.Columns.{passed}
@@ -17,16 +15,6 @@ returns-clause-looks g c =
     let both = looks_then (λ it n. n ≡ length it.cards) (λ it n. n ≡ length it.entries) zero one two c.in_ok-cards.cards (Ok c.in_ok-entries.entries)
     c.in_ok-cards.ensures.looks c.in_ok-entries.ensures.looks in
     looks_as _ (λ it n. AreSizesOf it n) zero two c.in_ok-entries.entries _ (λ it h. h) both
-
-pub returns-clause-sized : goal.returns-clause-sized
-returns-clause-sized g c clean schema =
-    let one = state g.S.Store c.card_count.new.tx.conn.now in
-    let two = state g.S.Store c.entry_count.new.tx.conn.now in
-    let early = clean_before one two _ c.in_ok-entries.ensures.looks.steps.survives clean in
-    let same = c.in_ok-cards.ensures.looks.same early schema in (
-      c.in_ok-cards.ensures.number early schema,
-      c.in_ok-entries.ensures.number clean (ap (λ (d : Database). d.schema) same ∙ schema) ∙ ap (λ (d : Database). length (d.trees entry_tree)) same,
-    )
 
 pub returns-in_err-entries-clause-failed : goal.returns-in_err-entries-clause-failed
 returns-in_err-entries-clause-failed g c clean is_open unlimited it h few =

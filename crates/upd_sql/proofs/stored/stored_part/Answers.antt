@@ -1,11 +1,10 @@
-use Rattle.std.proofs.Common.{◌≡◌, Err, true, refl, sym, subst, rules}
+use Rattle.std.proofs.Common.{◌≡◌, Err, refl, sym, subst, rules}
 use Rattle.sqlite.specs.Held.{state}
 use Rattle.sqlite.specs.State.{HasCleanDisk, Survives}
 use Rattle.sqlite.proofs.Callers.{survives_begin}
 use Rattle.upd_sqlite.proofs.Chains.{clean_before}
 use Rattle.upd_sql.specs.Commits.{MayKeep}
 use Rattle.upd_sql.proofs.CommitLemmas.{read_leaves, holds_begun}
-use Rattle.upd_sql.proofs.SizeLemmas.{sizes_shown}
 use Rattle.upd_sql.specs.Failing.{FailsToRead, IsReadablePart}
 use Rattle.upd_sql.proofs.Columns.{passed}
 use Rattle.upd_sql.proofs.Failures.{fails_committing, fails_outside}
@@ -33,9 +32,7 @@ returns-clause-found g c clean it shown =
     let same : c.commit.new.self.0 ≡ c.conn-2-1.given.0 = search rules in
     let early = clean_before last end _ c.commit.ensures.survives (subst (λ h. HasCleanDisk (state g.S.Store h)) (sym same) clean) in
     let was_open = looks.was_open early refl in
-    let first = clean_before (record old { in_transaction = true }) last _ looks.steps.survives early in
     looks.found early it (holds_begun old c.begin-tx.ensures.rise c.begin-tx.ensures.settled was_open it shown)
-    (λ n is. sizes_shown n it old.committed shown (c.requires.known n is first was_open))
 
 pub returns-in_err-found-clause-failed : goal.returns-in_err-found-clause-failed
 returns-in_err-found-clause-failed g c clean is_open unlimited it shown readable =
@@ -45,7 +42,7 @@ returns-in_err-found-clause-failed g c clean is_open unlimited it shown readable
     let same : c.drop-tx.new.self.0 ≡ c.conn-1.given.0 = search rules in
     let ended = subst (λ h. Survives last (state g.S.Store h) (λ _. ⊥)) same c.drop-tx.ensures.survives in
     passed _ c.from_residual.result c.from_residual.ensures.1
-    (fails_outside {X = Unit {0}} (IsReadablePart c.args.known) old last (state g.S.Store c.conn-1.given.0) (Err c.in_err-found.field-0.0) ended c.begin-tx.ensures.rise
+    (fails_outside {X = Unit {0}} IsReadablePart old last (state g.S.Store c.conn-1.given.0) (Err c.in_err-found.field-0.0) ended c.begin-tx.ensures.rise
     c.begin-tx.ensures.settled (rw begun at c.in_err-found.ensures.failed) clean is_open unlimited it shown readable)
 
 pub returns-in_err-commit-clause-failed : goal.returns-in_err-commit-clause-failed
@@ -55,7 +52,7 @@ returns-in_err-commit-clause-failed g c clean is_open unlimited it shown readabl
     let end = state g.S.Store c.commit.new.self.0 in
     let begun = c.begin-tx.ensures.begun in
     let same : c.commit.new.self.0 ≡ c.conn-2-1.given.0 = search rules in
-    let fails = fails_committing (IsReadablePart c.args.known) old last end _ c.in_ok-found.found (rw begun at c.in_ok-found.ensures.looks.steps) c.commit.ensures.survives
+    let fails = fails_committing IsReadablePart old last end _ c.in_ok-found.found (rw begun at c.in_ok-found.ensures.looks.steps) c.commit.ensures.survives
     c.in_err-commit.field-0.0 c.in_err-commit.ensures.err in
     passed _ c.from_residual-in_err-commit.result c.from_residual-in_err-commit.ensures.1
-    (subst (λ h. FailsToRead {X = Unit {0}} (IsReadablePart c.args.known) old (state g.S.Store h) (Err c.in_err-commit.field-0.0)) same fails clean is_open unlimited it shown readable)
+    (subst (λ h. FailsToRead {X = Unit {0}} IsReadablePart old (state g.S.Store h) (Err c.in_err-commit.field-0.0)) same fails clean is_open unlimited it shown readable)

@@ -8,7 +8,6 @@ use Rattle.upd_sql.specs.LibraryTables.{AnyTables}
 use Rattle.upd_sql.proofs.Typed.{makes_from}
 use Rattle.upd_sql.proofs.WriteTexts.{delete_count}
 use Rattle.upd_sql.proofs.Effects.{count_gone}
-use Rattle.upd_sql.proofs.SizeLemmas.{count_gone_sizes}
 use Rattle.upd_sql.proofs.writes.delete_count.Goals as goal
 
 pub returns-clause-makes : goal.returns-clause-makes
@@ -19,6 +18,3 @@ returns-clause-makes g c =
     (subst (λ (ps : Row). Ran delete_count (ps) old new c.run.result) c.codes_of-codes.ensures
     (rw (c.number.ensures, c.number-2.ensures, c.number-3.ensures) at c.run.ensures.ran))
     (λ count ran it fits h. count_gone old new count it h c.args.target ran)
-
-pub returns-clause-sized : goal.returns-clause-sized
-returns-clause-sized g c = count_gone_sizes _ (state g.S.Store c.args.tx.now.conn.now) (state g.S.Store c.run.new.tx.conn.now) c.run.result c.run.ensures.ran

@@ -1,11 +1,10 @@
 use Rattle.sqlite.specs.Held.{state}
 use Rattle.upd_records.specs.Changes.{done, EntriesGone}
-use Rattle.upd_sql.specs.LibraryTables.{AnyTables, HoldsTables}
+use Rattle.upd_sql.specs.LibraryTables.{AnyTables}
 use Rattle.upd_sql.proofs.Conditions.{card_params}
 use Rattle.upd_sql.proofs.Typed.{makes_from}
 use Rattle.upd_sql.proofs.WriteTexts.{delete_entries}
 use Rattle.upd_sql.proofs.Effects.{entries_gone}
-use Rattle.upd_sql.proofs.SizeLemmas.{sizes_lost}
 use Rattle.upd_sql.proofs.writes.delete_entries.Goals as goal
 
 pub returns-clause-makes : goal.returns-clause-makes
@@ -14,7 +13,3 @@ returns-clause-makes g c =
     let new = state g.S.Store c.run.new.tx.conn.now in
     makes_from AnyTables (done (EntriesGone c.args.card.now)) delete_entries (card_params c.args.card.now) old new c.run.result
     (rw (c.name.ensures, c.number.ensures) at c.run.ensures.ran) (λ count ran it fits h. entries_gone old new count it h c.args.card.now ran)
-
-pub returns-clause-sized : goal.returns-clause-sized
-returns-clause-sized g c = sizes_lost HoldsTables AnyTables (done (EntriesGone c.args.card.now)) (λ n. n) (state g.S.Store c.args.tx.now.conn.now)
-    (state g.S.Store c.run.new.tx.conn.now) c.run.result (returns-clause-makes g c)

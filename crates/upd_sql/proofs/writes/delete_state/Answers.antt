@@ -5,7 +5,6 @@ use Rattle.upd_sql.proofs.Conditions.{card_params}
 use Rattle.upd_sql.proofs.Typed.{makes_from}
 use Rattle.upd_sql.proofs.WriteTexts.{delete_state}
 use Rattle.upd_sql.proofs.Effects.{state_gone}
-use Rattle.upd_sql.proofs.SizeLemmas.{state_gone_sizes}
 use Rattle.upd_sql.proofs.writes.delete_state.Goals as goal
 
 pub returns-clause-makes : goal.returns-clause-makes
@@ -14,6 +13,3 @@ returns-clause-makes g c =
     let new = state g.S.Store c.run.new.tx.conn.now in
     makes_from AnyTables (without_state c.args.card.now) delete_state (card_params c.args.card.now) old new c.run.result
     (rw (c.name.ensures, c.number.ensures) at c.run.ensures.ran) (λ count ran it fits h. state_gone old new count it h c.args.card.now ran)
-
-pub returns-clause-sized : goal.returns-clause-sized
-returns-clause-sized g c = state_gone_sizes _ (state g.S.Store c.args.tx.now.conn.now) (state g.S.Store c.run.new.tx.conn.now) c.run.result c.run.ensures.ran

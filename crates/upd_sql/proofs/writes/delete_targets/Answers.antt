@@ -6,7 +6,6 @@ use Rattle.upd_sql.proofs.Conditions.{card_params}
 use Rattle.upd_sql.proofs.Typed.{makes_from}
 use Rattle.upd_sql.proofs.WriteTexts.{delete_targets}
 use Rattle.upd_sql.proofs.Effects.{targets_gone}
-use Rattle.upd_sql.proofs.SizeLemmas.{targets_gone_sizes}
 use Rattle.upd_sql.proofs.writes.delete_targets.Goals as goal
 
 pub returns-clause-makes : goal.returns-clause-makes
@@ -15,6 +14,3 @@ returns-clause-makes g c =
     let new = state g.S.Store c.run.new.tx.conn.now in
     makes_from AnyTables (done (TargetsGone c.args.card.now [])) delete_targets (card_params c.args.card.now) old new c.run.result
     (rw (c.name.ensures, c.number.ensures) at c.run.ensures.ran) (λ count ran it fits h. targets_gone old new count it h c.args.card.now ran)
-
-pub returns-clause-sized : goal.returns-clause-sized
-returns-clause-sized g c = targets_gone_sizes _ (state g.S.Store c.args.tx.now.conn.now) (state g.S.Store c.run.new.tx.conn.now) c.run.result c.run.ensures.ran

@@ -6,7 +6,6 @@ use Rattle.upd_sql.specs.LibraryTables.{AnyTables}
 use Rattle.upd_sql.proofs.Typed.{makes_from}
 use Rattle.upd_sql.proofs.WriteTexts.{insert_card}
 use Rattle.upd_sql.proofs.Effects.{card_added}
-use Rattle.upd_sql.proofs.SizeLemmas.{card_new_sizes}
 use Rattle.upd_sql.proofs.writes.insert_card.Goals as goal
 
 pub returns-clause-makes : goal.returns-clause-makes
@@ -17,6 +16,3 @@ returns-clause-makes g c =
     makes_from AnyTables (done (CardNew c.args.card.now c.args.deck c.args.pos c.args.body.now)) insert_card (card_row r) old new c.run.result
     (rw (c.name.ensures, c.number.ensures, c.number-2.ensures, c.number-3.ensures, c.text.ensures) at c.run.ensures.ran)
     (λ count ran it fits h. card_added old new count it h r ran)
-
-pub returns-clause-sized : goal.returns-clause-sized
-returns-clause-sized g c = card_new_sizes _ (state g.S.Store c.args.tx.now.conn.now) (state g.S.Store c.run.new.tx.conn.now) c.run.result c.run.ensures.ran

@@ -9,7 +9,6 @@ use Rattle.upd_sql.specs.LibraryTables.{AnyTables}
 use Rattle.upd_sql.proofs.Typed.{makes_from}
 use Rattle.upd_sql.proofs.WriteTexts.{insert_count}
 use Rattle.upd_sql.proofs.Effects.{count_added}
-use Rattle.upd_sql.proofs.SizeLemmas.{count_new_sizes}
 use Rattle.upd_sql.proofs.writes.insert_count.Goals as goal
 
 pub returns-clause-makes : goal.returns-clause-makes
@@ -21,6 +20,3 @@ returns-clause-makes g c =
     (subst (λ (ps : Row). Ran insert_count (ps ++ num r.n ∷ []) old new c.run.result) c.codes_of-codes.ensures
     (rw (c.number.ensures, c.number-2.ensures, c.number-3.ensures, c.number-4.ensures) at c.run.ensures.ran))
     (λ count ran it fits h. count_added old new count it h r ran)
-
-pub returns-clause-sized : goal.returns-clause-sized
-returns-clause-sized g c = count_new_sizes _ (state g.S.Store c.args.tx.now.conn.now) (state g.S.Store c.run.new.tx.conn.now) c.run.result c.run.ensures.ran

@@ -6,7 +6,6 @@ use Rattle.upd_sql.specs.LibraryTables.{AnyTables}
 use Rattle.upd_sql.proofs.Typed.{makes_from}
 use Rattle.upd_sql.proofs.WriteTexts.{insert_entry}
 use Rattle.upd_sql.proofs.Effects.{entry_added}
-use Rattle.upd_sql.proofs.SizeLemmas.{entry_new_sizes}
 use Rattle.upd_sql.proofs.writes.insert_entry.Goals as goal
 
 pub returns-clause-makes : goal.returns-clause-makes
@@ -17,6 +16,3 @@ returns-clause-makes g c =
     makes_from AnyTables (done (EntryNew c.args.card.now c.args.ord c.args.entry.now)) insert_entry (entry_row r) old new c.run.result
     (rw (c.name.ensures, c.number.ensures, c.number-2.ensures, c.number-3.ensures, c.flag.ensures) at c.run.ensures.ran)
     (λ count ran it fits h. entry_added old new count it h r ran)
-
-pub returns-clause-sized : goal.returns-clause-sized
-returns-clause-sized g c = entry_new_sizes _ (state g.S.Store c.args.tx.now.conn.now) (state g.S.Store c.run.new.tx.conn.now) c.run.result c.run.ensures.ran

@@ -5,7 +5,6 @@ use Rattle.upd_sql.specs.LibraryTables.{AnyTables}
 use Rattle.upd_sql.proofs.Typed.{makes_from}
 use Rattle.upd_sql.proofs.WriteTexts.{insert_ident}
 use Rattle.upd_sql.proofs.Effects.{ident_added}
-use Rattle.upd_sql.proofs.SizeLemmas.{ident_new_sizes}
 use Rattle.upd_sql.proofs.writes.insert_ident.Goals as goal
 
 pub returns-clause-makes : goal.returns-clause-makes
@@ -15,6 +14,3 @@ returns-clause-makes g c =
     makes_from AnyTables (done (IdentNew c.args.ident.now)) insert_ident (ident_row c.args.ident.now) old new c.run.result
     (rw (c.number.ensures, c.name.ensures, c.kind.ensures, c.flag.ensures, c.flag-2.ensures) at c.run.ensures.ran)
     (λ count ran it fits h. ident_added old new count it h c.args.ident.now ran)
-
-pub returns-clause-sized : goal.returns-clause-sized
-returns-clause-sized g c = ident_new_sizes _ (state g.S.Store c.args.tx.now.conn.now) (state g.S.Store c.run.new.tx.conn.now) c.run.result c.run.ensures.ran

@@ -8,7 +8,6 @@ use Rattle.upd_sql.specs.LibraryTables.{AnyTables}
 use Rattle.upd_sql.proofs.Typed.{makes_from, makes_nothing}
 use Rattle.upd_sql.proofs.WriteTexts.{insert_run}
 use Rattle.upd_sql.proofs.Effects.{run_added}
-use Rattle.upd_sql.proofs.SizeLemmas.{run_new_sizes, sizes_not}
 use Rattle.upd_sql.proofs.writes.insert_run.Goals as goal
 
 pub returns-clause-makes : goal.returns-clause-makes
@@ -33,9 +32,3 @@ returns-clause-makes g c =
 pub returns-in_err-run_number-clause-makes : goal.returns-in_err-run_number-clause-makes
 returns-in_err-run_number-clause-makes g c = makes_nothing AnyTables (with_run c.args.row.now)
     (state g.S.Store c.args.tx.now.conn.now) c.from_residual.result c.from_residual.ensures.0
-
-pub returns-clause-sized : goal.returns-clause-sized
-returns-clause-sized g c = run_new_sizes _ (state g.S.Store c.args.tx.now.conn.now) (state g.S.Store c.run.new.tx.conn.now) c.run.result c.run.ensures.ran
-
-pub returns-in_err-run_number-clause-sized : goal.returns-in_err-run_number-clause-sized
-returns-in_err-run_number-clause-sized g c = sizes_not (state g.S.Store c.args.tx.now.conn.now) c.from_residual.result c.from_residual.ensures.0

@@ -6,7 +6,6 @@ use Rattle.upd_sql.specs.LibraryTables.{AnyTables}
 use Rattle.upd_sql.proofs.Typed.{makes_from}
 use Rattle.upd_sql.proofs.WriteTexts.{insert_state}
 use Rattle.upd_sql.proofs.Effects.{state_added}
-use Rattle.upd_sql.proofs.SizeLemmas.{state_new_sizes}
 use Rattle.upd_sql.proofs.writes.insert_state.Goals as goal
 
 pub returns-clause-makes : goal.returns-clause-makes
@@ -16,6 +15,3 @@ returns-clause-makes g c =
     let r : StateRow = record { card = c.args.card.now; active = c.args.active } in
     makes_from AnyTables (with_state c.args.card.now c.args.active) insert_state (state_row r) old new c.run.result
     (rw (c.name.ensures, c.number.ensures, c.flag.ensures) at c.run.ensures.ran) (λ count ran it fits h. state_added old new count it h r ran)
-
-pub returns-clause-sized : goal.returns-clause-sized
-returns-clause-sized g c = state_new_sizes _ (state g.S.Store c.args.tx.now.conn.now) (state g.S.Store c.run.new.tx.conn.now) c.run.result c.run.ensures.ran

@@ -10,7 +10,6 @@ use Rattle.upd_sql.specs.LibraryTables.{AnyTables}
 use Rattle.upd_sql.proofs.Typed.{makes_from}
 use Rattle.upd_sql.proofs.WriteTexts.{insert_target}
 use Rattle.upd_sql.proofs.Effects.{target_added}
-use Rattle.upd_sql.proofs.SizeLemmas.{target_new_sizes}
 use Rattle.upd_sql.proofs.writes.insert_target.Goals as goal
 
 pub returns-clause-makes : goal.returns-clause-makes
@@ -22,6 +21,3 @@ returns-clause-makes g c =
     (subst (λ (ps : Row). Ran insert_target (Text r.card.name ∷ num r.card.number ∷ num r.ord ∷ ps) old new c.run.result) c.codes_of-codes.ensures
     (rw (c.name.ensures, c.number.ensures, c.number-2.ensures, c.number-3.ensures, c.number-4.ensures, c.number-5.ensures) at c.run.ensures.ran))
     (λ count ran it fits h. target_added old new count it h r ran)
-
-pub returns-clause-sized : goal.returns-clause-sized
-returns-clause-sized g c = target_new_sizes _ (state g.S.Store c.args.tx.now.conn.now) (state g.S.Store c.run.new.tx.conn.now) c.run.result c.run.ensures.ran

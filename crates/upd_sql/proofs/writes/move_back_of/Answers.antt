@@ -6,7 +6,6 @@ use Rattle.upd_sql.specs.RowEdits.{CanMoveOf, with_moved}
 use Rattle.upd_sql.proofs.Typed.{makes_from, makes_nothing}
 use Rattle.upd_sql.proofs.WriteTexts as text
 use Rattle.upd_sql.proofs.Effects.{cards_moved_of}
-use Rattle.upd_sql.proofs.SizeLemmas.{moved_of_sizes, sizes_not}
 use Rattle.upd_sql.proofs.writes.move_back_of.Goals as goal
 
 pub returns-clause-makes : goal.returns-clause-makes
@@ -24,9 +23,3 @@ returns-in_err-distance-clause-makes g c =
     let e : List ℕ × ℕ = (c.args.ident.now, c.args.least) in
     makes_nothing (CanMoveOf e c.args.deck c.args.from c.args.by) (with_moved e c.args.deck c.args.from c.args.by) (state g.S.Store c.args.tx.now.conn.now)
     c.from_residual.result c.from_residual.ensures.0
-
-pub returns-clause-sized : goal.returns-clause-sized
-returns-clause-sized g c = moved_of_sizes _ (state g.S.Store c.args.tx.now.conn.now) (state g.S.Store c.run.new.tx.conn.now) c.run.result c.run.ensures.ran
-
-pub returns-in_err-distance-clause-sized : goal.returns-in_err-distance-clause-sized
-returns-in_err-distance-clause-sized g c = sizes_not (state g.S.Store c.args.tx.now.conn.now) c.from_residual.result c.from_residual.ensures.0

@@ -7,7 +7,6 @@ use Rattle.upd_sql.specs.Encoded.{num}
 use Rattle.upd_sql.proofs.Typed.{makes_from, makes_nothing}
 use Rattle.upd_sql.proofs.WriteTexts as text
 use Rattle.upd_sql.proofs.Effects.{cards_moved_up}
-use Rattle.upd_sql.proofs.SizeLemmas.{moved_up_sizes, sizes_not}
 use Rattle.upd_sql.proofs.writes.move_up.Goals as goal
 
 pub returns-clause-makes : goal.returns-clause-makes
@@ -26,9 +25,3 @@ pub returns-in_err-distance-clause-makes : goal.returns-in_err-distance-clause-m
 returns-in_err-distance-clause-makes g c =
     let change = CardsMoved c.args.deck c.args.from (negsuc (c.args.by - 1)) in
     makes_nothing (Fits change) (done change) (state g.S.Store c.args.tx.now.conn.now) c.from_residual.result c.from_residual.ensures.0
-
-pub returns-clause-sized : goal.returns-clause-sized
-returns-clause-sized g c = moved_up_sizes _ (state g.S.Store c.args.tx.now.conn.now) (state g.S.Store c.run.new.tx.conn.now) c.run.result c.run.ensures.ran
-
-pub returns-in_err-distance-clause-sized : goal.returns-in_err-distance-clause-sized
-returns-in_err-distance-clause-sized g c = sizes_not (state g.S.Store c.args.tx.now.conn.now) c.from_residual.result c.from_residual.ensures.0

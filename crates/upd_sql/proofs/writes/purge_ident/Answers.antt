@@ -6,7 +6,6 @@ use Rattle.upd_sql.specs.LibraryTables.{AnyTables}
 use Rattle.upd_sql.proofs.Typed.{makes_from}
 use Rattle.upd_sql.proofs.WriteTexts.{purge_ident}
 use Rattle.upd_sql.proofs.Effects.{ident_purged}
-use Rattle.upd_sql.proofs.SizeLemmas.{ident_purged_sizes}
 use Rattle.upd_sql.proofs.writes.purge_ident.Goals as goal
 
 pub returns-clause-makes : goal.returns-clause-makes
@@ -15,6 +14,3 @@ returns-clause-makes g c =
     let new = state g.S.Store c.run.new.tx.conn.now in
     makes_from AnyTables (done (IdentPurged c.args.age)) purge_ident (num c.args.age ∷ []) old new c.run.result
     (rw (c.number.ensures) at c.run.ensures.ran) (λ count ran it fits h. ident_purged old new count it h c.args.age ran)
-
-pub returns-clause-sized : goal.returns-clause-sized
-returns-clause-sized g c = ident_purged_sizes _ (state g.S.Store c.args.tx.now.conn.now) (state g.S.Store c.run.new.tx.conn.now) c.run.result c.run.ensures.ran

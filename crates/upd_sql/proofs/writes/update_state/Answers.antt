@@ -10,7 +10,6 @@ use Rattle.upd_sql.specs.LibraryTables.{AnyTables}
 use Rattle.upd_sql.proofs.Typed.{makes_from}
 use Rattle.upd_sql.proofs.WriteTexts.{update_state}
 use Rattle.upd_sql.proofs.Effects.{state_restated, states_counted}
-use Rattle.upd_sql.proofs.SizeLemmas.{restated_sizes}
 use Rattle.upd_sql.proofs.writes.update_state.Goals as goal
 
 pub returns-clause-makes : goal.returns-clause-makes
@@ -33,7 +32,3 @@ returns-clause-counted g c =
     number_told (record { card = c.args.card.now; active = c.args.active }) (state g.S.Store c.args.tx.now.conn.now)
     (state g.S.Store c.run_counted.new.tx.conn.now) c.run_counted.result
     (rw (c.name.ensures, c.number.ensures, c.flag.ensures) at c.run_counted.ensures.counted)
-
-pub returns-clause-sized : goal.returns-clause-sized
-returns-clause-sized g c =
-    restated_sizes _ (state g.S.Store c.args.tx.now.conn.now) (state g.S.Store c.run_counted.new.tx.conn.now) c.run_counted.result c.run_counted.ensures.ran
