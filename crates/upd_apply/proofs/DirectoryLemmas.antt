@@ -1,33 +1,21 @@
 -- Each line extends the directory.
-use Rattle.std.proofs.Common.{◌≡◌, ℕ, ◌+◌, ◌-◌, Bool, true, false, not, List, [], ◌∷◌, ◌++◌, map, length, take, drop, inl, inr, refl, sym, subst, ◌∙◌}
-use Rattle.std.specs.Prelude.{◌==◌, ◌&&◌, ◌||◌, ◌⊎◌, nat_lt, nat_le, insert, cond, Result, Ok, Err, IfOk}
-use Rattle.upd_text.specs.declared.card_ref.CardRef.{CardRef}
+use Rattle.std.proofs.Common.{◌≡◌, ℕ, ◌-◌, Bool, true, false, not, List, [], ◌∷◌, ◌++◌, map, length, inl, inr, refl, sym, subst, ◌∙◌}
+use Rattle.std.specs.Prelude.{◌==◌, ◌&&◌, ◌⊎◌, insert, cond, Result, Ok, Err, IfOk}
 use Rattle.upd_text.specs.declared.fault.FaultKind.{FaultKind}
-use Rattle.upd_text.specs.declared.fault.FaultKind.TheVariants as fault
 use Rattle.upd_text.specs.Outcome.{◌>>=◌, at_line}
-use Rattle.upd_text.proofs.OutcomeLemmas.{after_any, after_need, after_refusal}
 use Rattle.upd_core.specs.declared.ident.Ident.{Ident as Listed}
-use Rattle.upd_core.specs.declared.ident.Kind.{Kind}
-use Rattle.upd_core.specs.declared.ident.Kind.TheVariants as kind
-use Rattle.upd_core.specs.declared.target.Target.{Target}
-use Rattle.upd_core.specs.Edits.{introduced, next_age, new_card, entered, unheld, without_idents, with_deck, with_card, with_yank, with_entries, purged_in}
-use Rattle.upd_core.specs.Edits.{is_among}
+use Rattle.upd_core.specs.Edits.{new_card, unheld, without_idents, purged_in}
 use Rattle.upd_core.specs.First.{at_first}
-use Rattle.upd_core.specs.Library.{CardView, LibraryView, is_deck, place_of, with_cards}
-use Rattle.upd_core.specs.Limits.{is_within_limits}
+use Rattle.upd_core.specs.Library.{CardView, LibraryView, is_deck, with_cards}
 use Rattle.upd_core.specs.Sound.{Continues}
-use Rattle.upd_deck.specs.Items.{ItemView, LineView, Text, Call, Ident, Deck, CommonDeck, Insert, Before, Delete, Restore, Yank, SelYank, YankDeck, Purge}
-use Rattle.upd_deck.specs.Items.{PurgeFrom}
-use Rattle.upd_deck.specs.Items.{SelPurge, PurDeck, Compile}
-use Rattle.upd_apply.specs.declared.state.InsertPoint.{InsertPoint}
-use Rattle.upd_apply.specs.declared.state.InsertPoint.TheVariants.{Nowhere, End, Inside}
+use Rattle.upd_deck.specs.Items.{ItemView, LineView}
 use Rattle.upd_apply.specs.declared.state.State.{State}
 use Rattle.upd_apply.specs.Applying.{stepped}
-use Rattle.upd_apply.specs.Names.{known_ident}
-use Rattle.upd_apply.specs.Purges.{AgesIn, idents_purged, decks_purged, pairs_purged}
-use Rattle.upd_apply.specs.Step.{within_limits, new_name, set_begun, deck_begun, is_deck_card, placed_after, placed_before, switched, text_put, yank_put, purged_in_all}
+use Rattle.upd_apply.proofs.EditLemmas.{Edit, Stays, Moves, NewSet, NewDeck, AddsAtEnd, AddsInside, Switches, AddsYank, Purges, PurgesIn, carried, of_each_edit}
+use Rattle.upd_core.specs.Edits.{entered_range}
+use Rattle.upd_apply.specs.Purges.{AgesIn}
+use Rattle.upd_apply.specs.Step.{purged_in_all}
 use Rattle.upd_apply.specs.Step.{line_done, step}
-use Rattle.upd_apply.specs.Yanks.{sets_yanked, pairs_yanked, decks_yanked}
 
 -- ---- directories
 
@@ -76,95 +64,29 @@ same_idents age change l = go (age == 0)
 abbrev pub GoesOn : State → State → Type 0
 GoesOn s t = Continues s.library.idents t.library.idents
 
-after_grown : {B : Type 0} (P : B → Type 0) (l : LibraryView) (f : LibraryView → Result B FaultKind) → IfOk (f l) P → IfOk (within_limits l >>= f) P
-after_grown P l f h = go (is_within_limits l)
-  where
-    go : (b : Bool) → IfOk ((cond b (Ok l) (Err fault.Full)) >>= f) P
-    go true = h
-    go false = tt
-
-cards_go : (age : ℕ) (change : List CardView → List CardView) (l : LibraryView) → Continues l.idents (with_cards age change l).idents
+pub cards_go : (age : ℕ) (change : List CardView → List CardView) (l : LibraryView) → Continues l.idents (with_cards age change l).idents
 cards_go age change l = subst (Continues l.idents) (sym (same_idents age change l)) (continues_same l.idents)
 
-text_goes : (text : List ℕ) (insert_point : InsertPoint) (s : State) → IfOk (text_put text insert_point s) (GoesOn s)
-text_goes text Nowhere s = tt
-text_goes text (End d n) s =
-    after_grown (GoesOn s) (with_card d 0 (new_card d n text []) s.library) _ (cards_go d (λ cards. insert cards (length cards - 0)
-    (new_card d n text [])) s.library)
-text_goes text (Inside d n) s =
-    after_need (GoesOn s) fault.TextNowhere s.current_set _ (λ current_set e.
-    after_refusal (GoesOn s) (d == 0) fault.YankText _ (λ f.
-    after_grown (GoesOn s) (with_card d n (new_card current_set.ident current_set.next text []) s.library) _
-    (cards_go d (λ cards. insert cards (length cards - n) (new_card current_set.ident current_set.next text [])) s.library)))
-
-set_goes : (name : List ℕ) (s : State) → IfOk (set_begun name s) (GoesOn s)
-set_goes name s =
-    after_any (GoesOn s) (new_name name s.library) _ (λ b.
-    after_grown (GoesOn s) (introduced name kind.Set false s.library) _ (continues_more s.library.idents _))
-
-deck_goes : (name : List ℕ) (sort : Kind) (noprop : Bool) (text : List ℕ) (s : State) → IfOk (deck_begun name sort noprop text s) (GoesOn s)
-deck_goes name sort noprop text s =
-    after_any (GoesOn s) (new_name name s.library) _ (λ b.
-    after_grown (GoesOn s) (with_deck (record {
-      ident = next_age s.library;
-      cards = new_card (next_age s.library) 1 text [] ∷ [];
-    }) (introduced name sort noprop s.library)) _
-    (continues_more s.library.idents _))
-
-yank_goes : (text : List ℕ) (targets : ℕ → LibraryView → Result (List Target) FaultKind) (s : State) → IfOk (yank_put text targets s) (GoesOn s)
-yank_goes text targets s =
-    after_need (GoesOn s) fault.NoIdent s.current_set _ (λ current_set e.
-    after_any (GoesOn s) (targets current_set.ident s.library) _ (λ found.
-    after_grown (GoesOn s) (with_yank (new_card current_set.ident current_set.next text found) s.library) _ (continues_same s.library.idents)))
-
-after_goes : (card : CardRef) (s : State) → IfOk (placed_after card s) (GoesOn s)
-after_goes card s =
-    after_need (GoesOn s) fault.NoIdent s.current_set _ (λ current_set e.
-    after_need (GoesOn s) fault.CardUnknown (place_of card s.library) _ (λ p f.
-    after_refusal (GoesOn s) (p.deck == 0) fault.YankText _ (λ g. continues_same s.library.idents)))
-
-before_goes : (card : CardRef) (s : State) → IfOk (placed_before card s) (GoesOn s)
-before_goes card s =
-    after_need (GoesOn s) fault.NoIdent s.current_set _ (λ current_set e.
-    after_need (GoesOn s) fault.CardUnknown (place_of card s.library) _ (λ p f.
-    after_refusal (GoesOn s) (p.deck == 0) fault.YankText _ (λ g.
-    after_refusal (GoesOn s) (is_deck_card p) fault.DeckCard _ (λ k. continues_same s.library.idents))))
-
-switched_goes : (active : Bool) (first last : CardRef) (s : State) → IfOk (switched active first last s) (GoesOn s)
-switched_goes active first last s =
-    after_need (GoesOn s) fault.NoIdent s.current_set _ (λ current_set e.
-    after_need (GoesOn s) fault.CardUnknown (place_of first s.library) _ (λ p f.
-    after_need (GoesOn s) fault.CardUnknown (place_of last s.library) _ (λ q g.
-    after_refusal (GoesOn s) (not (p.deck == q.deck) || nat_lt q.index p.index) fault.RangeOrder _ (λ k.
-    after_refusal (GoesOn s) (is_deck_card p) fault.DeckCard _ (λ n.
-    after_grown (GoesOn s) (with_entries p.deck p.index q.index (record { ident = current_set.ident; active = active }) s.library) _
-    (cards_go p.deck (λ cards. take p.index cards ++ map (entered (record { ident = current_set.ident; active = active })) (drop p.index (take (q.index + 1) cards))
-    ++ drop (q.index + 1) cards) s.library))))))
-
-parts_go : (ages : List AgesIn) (l : LibraryView) → Continues l.idents (purged_in_all ages l).idents
+pub parts_go : (ages : List AgesIn) (l : LibraryView) → Continues l.idents (purged_in_all ages l).idents
 parts_go [] l = continues_same l.idents
 parts_go (a ∷ ages) l =
     continues_on l.idents (purged_in a.deck a.ident l).idents _ (cards_go a.deck (without_idents (λ x. x == a.ident)) l) (parts_go ages
     (purged_in a.deck a.ident l))
 
-line_goes : (item : ItemView) (text : List ℕ) (s : State) → IfOk (line_done item text s) (GoesOn s)
-line_goes Text text s = text_goes text s.insert_point s
-line_goes (Call name) text s = text_goes text s.insert_point s
-line_goes (Ident name) text s = set_goes name s
-line_goes (Deck name) text s = deck_goes name kind.Deck false text s
-line_goes (CommonDeck name noprop) text s = deck_goes name kind.Common noprop text s
-line_goes (Insert card) text s = after_goes card s
-line_goes (Before card) text s = before_goes card s
-line_goes (Delete first last) text s = switched_goes false first last s
-line_goes (Restore first last) text s = switched_goes true first last s
-line_goes (Yank ranges) text s = yank_goes text (sets_yanked ranges) s
-line_goes (SelYank pairs) text s = yank_goes text (pairs_yanked pairs) s
-line_goes (YankDeck names) text s = yank_goes text (decks_yanked names) s
-line_goes (Purge ranges) text s = after_any (GoesOn s) (idents_purged ranges s.library) _ (λ ages. continues_unheld (is_among ages) s.library.idents)
-line_goes (PurgeFrom name) text s = after_any (GoesOn s) (known_ident name s.library) _ (λ age. continues_unheld (nat_le age) s.library.idents)
-line_goes (SelPurge pairs) text s = after_any (GoesOn s) (pairs_purged pairs s.library) _ (λ ages. parts_go ages s.library)
-line_goes (PurDeck ranges) text s = after_any (GoesOn s) (decks_purged ranges s.library) _ (λ ages. continues_unheld (is_among ages) s.library.idents)
-line_goes (Compile ranges) text s = continues_same s.library.idents
+edit_goes : (s : State) (e : Edit) → GoesOn s (carried e s)
+edit_goes s Stays = continues_same s.library.idents
+edit_goes s (Moves d after) = continues_same s.library.idents
+edit_goes s (NewSet name) = continues_more s.library.idents _
+edit_goes s (NewDeck name sort noprop text) = continues_more s.library.idents _
+edit_goes s (AddsAtEnd d next text) = cards_go d (λ cards. insert cards (length cards - 0) (new_card d next text [])) s.library
+edit_goes s (AddsInside d after c text) = cards_go d (λ cards. insert cards (length cards - after) (new_card c.ident c.next text [])) s.library
+edit_goes s (Switches p q e) = cards_go p.deck (entered_range p.index q.index e) s.library
+edit_goes s (AddsYank c text targets) = continues_same s.library.idents
+edit_goes s (Purges gone) = continues_unheld gone s.library.idents
+edit_goes s (PurgesIn ages) = parts_go ages s.library
+
+pub line_goes : (item : ItemView) (text : List ℕ) (s : State) → IfOk (line_done item text s) (GoesOn s)
+line_goes item text s = of_each_edit (GoesOn s) item text s (edit_goes s)
 
 -- ---- runs
 

@@ -1,3 +1,4 @@
+pub mod EditLemmas
 pub mod DirectoryLemmas
 pub mod Filtered
 pub mod OnceLemmas
