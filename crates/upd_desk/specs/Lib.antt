@@ -6,4 +6,3 @@ pub mod Answers
 pub mod Made
 pub mod Needed
 pub mod Compiling
-pub mod Worked

@@ -16,7 +16,6 @@ mod outcome;
 pub mod reply;
 mod settle;
 pub mod trying;
-pub mod worked;
 
 pub use arrival::Arrival;
 pub use desk::Desk;

@@ -3,4 +3,3 @@ pub mod IdentReport
 pub mod FaultTexts
 pub mod Escaped
 pub mod LibraryPage
-pub mod Replaced

@@ -10,11 +10,9 @@ pub mod escaping;
 pub mod fault_texts;
 pub mod ident_report;
 pub mod library_page;
-pub mod worked_looks;
 
 pub use deck_blame::{blame, texts_begin_in_one_column};
 pub use escaping::escaped_texts_have_no_markup;
 pub use fault_texts::{each_fault_has_one_text, explain};
 pub use ident_report::show;
 pub use library_page::{page, pages_need_nothing_outside};
-pub use worked_looks::a_replaced_card_is_seen;

@@ -36,6 +36,61 @@ fn changes_that_are_not_passed_on(rt: HostRuntime) -> Result<(), Fail> {
     check(rt.alloc(), ASKED)
 }
 
+const CALLED_BY_TWO: &str =
+    "*COMDECK C\nCEE\n*COMDECK D\n*CALL C\nDEE\n*DECK A\n*CALL D\n*DECK B\nBEE\n";
+
+const NOPROP_BETWEEN: &str =
+    "*COMDECK C\nCEE\n*COMDECK D,NOPROP\n*CALL C\nDEE\n*DECK A\n*CALL D\n*DECK B\nBEE\n";
+
+#[test]
+fn changes_are_passed_on_along_calls(rt: HostRuntime) -> Result<(), Fail> {
+    const ASKED: Asked = &[
+        (Ask::Run(CALLED_BY_TWO), "accepted"),
+        (Ask::Compiled(Mode::Normal, MORE), "C.2 X.1 D.3"),
+    ];
+    check(rt.alloc(), ASKED)
+}
+
+#[test]
+fn calls_in_a_deck_that_passes_nothing_on_are_followed(rt: HostRuntime) -> Result<(), Fail> {
+    const ASKED: Asked = &[
+        (Ask::Run(NOPROP_BETWEEN), "accepted"),
+        (Ask::Compiled(Mode::Normal, MORE), ""),
+        (Ask::Active, "C.2 X.1 D.3 B.2"),
+    ];
+    check(rt.alloc(), ASKED)
+}
+
+#[test]
+fn decks_named_are_looked_up_after_all_lines(rt: HostRuntime) -> Result<(), Fail> {
+    const ASKED: Asked = &[
+        (Ask::Run(COMMON), "accepted"),
+        (Ask::Refused("*COMPILE B.A\n"), "RangeOrder (14) at 1"),
+        (Ask::Refused("*COMPILE YANK$$$\n"), "Reserved (18) at 1"),
+        (Ask::Refused("*COMPILE A.YANK$$$\n"), "Reserved (18) at 1"),
+        (
+            Ask::Refused("*COMPILE YANK$$$\n*DELETE A.2\n"),
+            "NoIdent (8) at 2",
+        ),
+        (Ask::Compiled(Mode::Quick, "*COMPILE A.B\n"), "C.2 B.2"),
+    ];
+    check(rt.alloc(), ASKED)
+}
+
+#[test]
+fn a_yank_of_a_common_deck_leaves_what_sets_inserted(rt: HostRuntime) -> Result<(), Fail> {
+    const ASKED: Asked = &[
+        (Ask::Run(COMMON), "accepted"),
+        (Ask::Run(MORE), "accepted"),
+        (Ask::Active, "C.2 X.1 B.2"),
+        (Ask::Run("*IDENT Y\n*YANK C\n"), "accepted"),
+        (Ask::Active, "X.1 B.2"),
+        (Ask::Run("*IDENT Z\n*YANKDECK C\n"), "accepted"),
+        (Ask::Active, "B.2"),
+    ];
+    check(rt.alloc(), ASKED)
+}
+
 #[test]
 fn calls_of_a_purged_common_deck(rt: HostRuntime) -> Result<(), Fail> {
     const ASKED: Asked = &[

@@ -32,6 +32,27 @@ fn short_forms_remarks_and_comments(rt: HostRuntime) -> Result<(), Fail> {
 }
 
 #[test]
+fn texts_before_a_card_keep_their_order(rt: HostRuntime) -> Result<(), Fail> {
+    const ASKED: Asked = &[
+        (Ask::Run(DECK_A), "accepted"),
+        (Ask::Run("*IDENT X\n*BEFORE A.3\nXX\nXY\n"), "accepted"),
+        (Ask::Active, "A.2 X.1 X.2 A.3 A.4"),
+    ];
+    check(rt.alloc(), ASKED)
+}
+
+#[test]
+fn a_deleted_card_is_restored(rt: HostRuntime) -> Result<(), Fail> {
+    const ASKED: Asked = &[
+        (Ask::Run(DECK_A), "accepted"),
+        (Ask::Run("*IDENT X\n*DELETE A.2,A.3\n"), "accepted"),
+        (Ask::Run("*IDENT Y\n*RESTORE A.3\nNEW\n"), "accepted"),
+        (Ask::Active, "A.3 Y.1 A.4"),
+    ];
+    check(rt.alloc(), ASKED)
+}
+
+#[test]
 fn what_is_refused_leaves_nothing(rt: HostRuntime) -> Result<(), Fail> {
     const ASKED: Asked = &[
         (Ask::Run(DECK_A), "accepted"),
@@ -51,6 +72,14 @@ fn what_is_refused_leaves_nothing(rt: HostRuntime) -> Result<(), Fail> {
         (
             Ask::Refused("*IDENT X\n*BEFORE A.1\n"),
             "DeckCard (15) at 2",
+        ),
+        (
+            Ask::Refused("*IDENT X\n*DELETE A.2,A.1\n"),
+            "RangeOrder (14) at 2",
+        ),
+        (
+            Ask::Refused("*IDENT X\n*DELETE A.1,B.2\n"),
+            "RangeOrder (14) at 2",
         ),
         (
             Ask::Refused("*IDENT X\n*DELETE A.9\n"),
@@ -96,6 +125,14 @@ fn lines_that_are_refused(rt: HostRuntime) -> Result<(), Fail> {
         ),
         (Ask::Refused("*IDENT X\n*YANK X\n"), "YankSelf (17) at 2"),
         (Ask::Refused("*IDENT X\n*YANK A.X\n"), "YankSelf (17) at 2"),
+        (
+            Ask::Refused("*IDENT X\n*YANK X.A\n"),
+            "RangeOrder (14) at 2",
+        ),
+        (
+            Ask::Refused("*IDENT X\n*YANK A,Q\n"),
+            "IdentUnknown (11) at 2",
+        ),
         (
             Ask::Refused("*COMPILE Y\n*DECK C\n"),
             "DeckUnknown (12) at 1",

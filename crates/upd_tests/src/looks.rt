@@ -43,15 +43,19 @@ fn a_deck_shows_who_switched_its_cards(rt: HostRuntime) -> Result<(), Fail> {
 
 const REPORT: &str = "IDENT X set\nYANKED Y.1 set X\nDECK A\noff A.2 ONE\nI X.1 A<B & 'C'\n";
 
-fn is_shown(alloc: Global, library: &Library) -> Result<(), Fail> {
-    let set = name("X")?;
-    is_text(&show(alloc, library, &set)?, REPORT)
+const YANK_REPORT: &str = "IDENT Y set\nDECK YANK$$$\nA Y.1 *YANK X\n set X\n";
+
+fn is_shown(alloc: Global, library: &Library, ident: &str, report: &str) -> Result<(), Fail> {
+    let ident = name(ident)?;
+    is_text(&show(alloc, library, &ident)?, report)
 }
 
 /// A yank that is switched off isn't reported.
 #[test]
 fn a_set_shows_what_it_did(rt: HostRuntime) -> Result<(), Fail> {
-    is_shown(rt.alloc(), &yanked(rt.alloc())?)
+    let library = yanked(rt.alloc())?;
+    is_shown(rt.alloc(), &library, "X", REPORT)?;
+    is_shown(rt.alloc(), &library, "Y", YANK_REPORT)
 }
 
 /// The text of a card is in a page as it is escaped, and not as it is.

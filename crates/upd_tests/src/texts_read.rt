@@ -273,6 +273,12 @@ const REFUSED: &[(&str, &str)] = &[
     ("a\r", "BadByte (3) at 1"),
     ("a\x7F", "BadByte (3) at 1"),
     ("text\n*/ note\n*DELETE *\n\x01", "BadCard (6) at 3"),
+    ("*DECK A,\rB", "BadByte (3) at 1"),
+    ("*DECK ABCDEFGHIJ,", "BadField (7) at 1"),
+    ("*IDENT X\n*DELETE A.0,", "BadField (7) at 2"),
+    ("*IDENT X\n*DELETE A.2,A.0", "BadCard (6) at 2"),
+    ("*IDENT X\n*YANK Q,ABCDEFGHIJ", "BadName (5) at 2"),
+    ("*DECK A,\n*DECK A\r \n", "BadField (7) at 1"),
 ];
 
 #[test]

@@ -1,7 +1,9 @@
 //! Yanks, and yanks of yanks.
 
-use crate::asked_library::{Ask, Asked, DECK_A, check};
+use crate::asked_library::{Ask, Asked, AskedLibrary, DECK_A, check};
+use std::alloc::Global;
 use std::test::Fail;
+use upd_core::Library;
 
 const REPLACED: &str = "*IDENT X\n*DELETE A.2\nNEW\n";
 
@@ -96,4 +98,46 @@ fn yanks_in_one_deck(rt: HostRuntime) -> Result<(), Fail> {
         ),
     ];
     check(rt.alloc(), ASKED)
+}
+
+const IN_DECKS: Asked = &[
+    (Ask::Run(DECK_A), "accepted"),
+    (Ask::Run("*DECK B\nBEE\n"), "accepted"),
+    (
+        Ask::Run("*IDENT X\n*INSERT A.2\nXA\n*INSERT B.2\nXB\n"),
+        "accepted",
+    ),
+    (
+        Ask::Run("*IDENT Y\n*SELYANK A.X,B.X\n*YANKDECK B\n"),
+        "accepted",
+    ),
+    (
+        Ask::Yanks,
+        "live Y.1 *SELYANK A.X,B.X\n setin X A\n setin X B\nlive Y.2 *YANKDECK B\n deck B\n",
+    ),
+];
+
+/// Asks what `IN_DECKS` does, and then what a purge leaves of the listing of yanks.
+fn listed_after(alloc: Global, purge: &str, wanted: &str) -> Result<(), Fail> {
+    let mut library = AskedLibrary::new(Library::new(alloc));
+    library.check(IN_DECKS)?;
+    library.check(&[(Ask::Run(purge), "accepted"), (Ask::Yanks, wanted)])
+}
+
+#[test]
+fn a_target_of_a_purged_deck_is_marked(rt: HostRuntime) -> Result<(), Fail> {
+    listed_after(
+        rt.alloc(),
+        "*PURDECK B\n",
+        "live Y.1 *SELYANK A.X,B.X\n setin X A\n setin X B purged\nlive Y.2 *YANKDECK B\n deck B purged\n",
+    )
+}
+
+#[test]
+fn a_target_of_a_purged_set_is_marked(rt: HostRuntime) -> Result<(), Fail> {
+    listed_after(
+        rt.alloc(),
+        "*PURGE X\n",
+        "live Y.1 *SELYANK A.X,B.X\n setin X A purged\n setin X B purged\nlive Y.2 *YANKDECK B\n deck B\n",
+    )
 }
