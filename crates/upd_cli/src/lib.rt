@@ -2,7 +2,7 @@
 //! ended. What commands do with streams and a desk is in `upd_subcommands`.
 //!
 //! Where clauses speak of both outcomes of a call, it stands in a `match` of two arms, so that each is a path of its
-//! own (docs/decisions.md, D-56).
+//! own (docs/DECISIONS.md, D-56).
 #![tactic(auto)]
 
 mod command;

@@ -4,7 +4,7 @@
 //! and the desk, over any store of rows.
 //!
 //! Where clauses speak of both outcomes of a call, it stands in a `match` of two arms, so that each is a path of its
-//! own (docs/decisions.md, D-56).
+//! own (docs/DECISIONS.md, D-56).
 #![tactic(auto)]
 
 pub mod arrival;

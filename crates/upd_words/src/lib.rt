@@ -1,7 +1,7 @@
 //! What the words of a command line ask for, and what help says of each command.
 //!
 //! Where clauses speak of both outcomes of a call, it stands in a `match` of two arms, so that each is a path of its
-//! own (docs/decisions.md, D-56).
+//! own (docs/DECISIONS.md, D-56).
 #![tactic(auto)]
 
 mod app;
