@@ -163,7 +163,7 @@ pub const FAULT_TEXTS: [&str; 33] = [
         do: look for common decks that call each other\n",
     "CompileLong (22): more than 10,000 lines, or more than 10,000 calls followed\n\
         from: the compile file; at 0\n\
-        do: use quick or normal, which write fewer decks\n",
+        do: use quick or normal, which write fewer decks; upd source FILE DECK writes the lines of one\n",
     "BadSite (23): the site isn't 1 to 8 of A-Z and 0-9\n\
         from: an arrival or a settlement; at 0\n\
         do: correct the command or the path; nothing was stored\n",
