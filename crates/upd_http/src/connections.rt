@@ -15,10 +15,13 @@ use upd_row_store::RowStore;
 use upd_text::{Fault, FaultKind};
 
 /// How long a read or a write of a connection may take, in seconds.
-const PATIENCE: u64 = 10;
+const PATIENCE: u64 = 4;
 
 /// How long a connection may take by the clock, in seconds. A read or a write that has begun by then may go beyond it.
-const LIFETIME: u64 = 120;
+const LIFETIME: u64 = 30;
+
+/// How long a read may take after the answer to a request that was read to its end, in seconds.
+const FAREWELL: u64 = 1;
 
 /// How many reads of what a client still sends are discarded after an answer.
 const SURPLUS_READS: u32 = 64;
@@ -26,8 +29,9 @@ const SURPLUS_READS: u32 = 64;
 /// Serves `count` connections, one request each. A fault of one ends only that one. Read where no connection can be
 /// accepted.
 ///
-/// A client that sends or takes nothing for 10 seconds gets no answer. After that, and after an answer, what it still
-/// sends is discarded until it closes the connection or sends nothing for 10 seconds.
+/// A client that sends or takes nothing for 4 seconds gets no complete answer. After an answer, what the client still
+/// sends is discarded until it closes the connection or sends nothing for 4 seconds, or for 1 second where its request
+/// was read to its end.
 pub fn serve_on<S: RowStore>(
     alloc: Global,
     listener: &TcpListener,
@@ -41,7 +45,7 @@ pub fn serve_on<S: RowStore>(
     serve_each::<HostRuntime, S>(alloc, None, listener, count, desk)
 }
 
-/// Serves as `serve_on` does, and no connection for longer than two minutes by the clock.
+/// Serves as `serve_on` does, and no connection for longer than 30 seconds by the clock.
 pub fn serve_on_within<C: Clock, S: RowStore>(
     alloc: Global,
     clock: &C,
@@ -99,8 +103,13 @@ fn serve_connection<'c, C: Clock, S: RowStore>(
     };
     let mut reader = Client { stream, since };
     let mut writer = Client { stream, since };
-    let _ = serve_request(alloc, routes, &mut reader, &mut writer, desk);
+    let Ok(is_whole) = serve_request(alloc, routes, &mut reader, &mut writer, desk) else {
+        return;
+    };
     let _ = stream.shutdown(Shutdown::Write);
+    if is_whole {
+        let _ = stream.set_read_timeout(Some(Duration::from_secs(FAREWELL)));
+    }
     read_surplus(&mut reader);
 }
 

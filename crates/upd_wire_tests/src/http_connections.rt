@@ -134,13 +134,35 @@ fn seconds_served(rt: &HostRuntime, listener: &TcpListener) -> Result<u64, Fail>
     Ok(start.elapsed(rt)?.as_secs())
 }
 
-/// A client that says nothing is waited for ten seconds, and once more after its answer, which is empty.
+/// A client that has written this and leaves its connection open is served for some seconds, and reads this.
+fn is_waited_for(
+    rt: &HostRuntime,
+    (sent, wanted): Exchange<'_>,
+    (least, most): (u64, u64),
+) -> Result<(), Fail> {
+    let (listener, client) = listener_after(rt, sent)?;
+    let waited = seconds_served(rt, &listener)?;
+    holds(("seconds", waited), least <= waited && waited <= most)?;
+    reads(rt.alloc(), client, wanted)
+}
+
+/// A client that says nothing is waited for four seconds.
 #[test]
 fn a_silent_client_is_not_waited_for_for_ever(rt: HostRuntime) -> Result<(), Fail> {
-    let (listener, client) = listener_after(&rt, b"")?;
-    let waited = seconds_served(&rt, &listener)?;
-    holds(("seconds", waited), 20 <= waited && waited < 30)?;
-    reads(rt.alloc(), client, "")
+    is_waited_for(&rt, (b"", ""), (4, 7))
+}
+
+/// After an answer whose request was read to its end, the client is waited for one second.
+#[test]
+fn an_answered_client_is_waited_for_briefly(rt: HostRuntime) -> Result<(), Fail> {
+    is_waited_for(&rt, (QUICK.as_bytes(), QUICK_ANSWER), (1, 3))
+}
+
+/// A client whose run is too long may still send it: it is waited for four seconds.
+#[test]
+fn a_client_that_may_still_send_is_waited_for(rt: HostRuntime) -> Result<(), Fail> {
+    let request = long_request(rt.alloc())?;
+    is_waited_for(&rt, (request.get(..100).unwrap_or(b""), RUN_LONG), (4, 7))
 }
 
 /// A clock that goes forward by some seconds whenever it is read, after some first readings.
@@ -191,7 +213,7 @@ fn is_given_up(
     (listener, client): (TcpListener, TcpStream),
     still: u64,
 ) -> Result<(), Fail> {
-    serve_on_within(alloc, &Ticking::new(still, 120), &listener, 1, desk)?;
+    serve_on_within(alloc, &Ticking::new(still, 30), &listener, 1, desk)?;
     reads_nothing(alloc, client)
 }
 
@@ -207,7 +229,7 @@ fn key_after(
     Ok(answer.map(|reply| reply.accepted))
 }
 
-/// A client that isn't done after two minutes is given up, and its run isn't stored: the key is free for another one.
+/// A client that isn't done after 30 seconds is given up, and its run isn't stored: the key is free for another one.
 #[test]
 fn a_slow_client_is_given_up(rt: HostRuntime) -> Result<(), Fail> {
     let both = listener_after(&rt, QUICK.as_bytes())?;
@@ -223,9 +245,9 @@ fn a_client_that_takes_its_answer_late_is_given_up(rt: HostRuntime) -> Result<()
     same("the key", key_after(rt.alloc(), both, 2)?, Err(changed))
 }
 
-/// Each connection has two minutes of its own: four of them that take forty seconds and more are all served.
+/// Each connection has 30 seconds of its own: four of them that take ten seconds and more are all served.
 #[test]
 fn each_connection_has_its_own_time(rt: HostRuntime) -> Result<(), Fail> {
     let exchanges = [(QUICK.as_bytes(), QUICK_ANSWER); 4];
-    are_served(&rt, &listener(&rt)?, (&Ticking::new(0, 20), 4), &exchanges)
+    are_served(&rt, &listener(&rt)?, (&Ticking::new(0, 5), 4), &exchanges)
 }
