@@ -8,12 +8,12 @@ use std::io::{ErrorKind, Read, Write};
 use std::net::{Shutdown, SocketAddr, TcpListener, TcpStream};
 use std::test::Fail;
 use std::time::{Clock, Duration, Instant};
-use upd_http::serve_on_within;
+use upd_http::{serve_on, serve_on_within};
 use upd_testkit::check::{holds, same};
 use upd_text::{Fault, FaultKind};
 
 /// A client that has written this.
-fn client_after(rt: &HostRuntime, address: SocketAddr, sent: &[u8]) -> Result<TcpStream, Fail> {
+fn client_after(rt: &HostRuntime, address: SocketAddr, sent: &[u8]) -> io::Result<TcpStream> {
     let mut client = TcpStream::connect(rt, address)?;
     client.write_all(sent)?;
     Ok(client)
@@ -42,7 +42,7 @@ fn reads(alloc: Global, mut client: TcpStream, wanted: &str) -> Result<(), Fail>
 type Exchange<'a> = (&'a [u8], &'a str);
 
 /// A client that has written this and writes no more.
-fn client_with(rt: &HostRuntime, address: SocketAddr, sent: &[u8]) -> Result<TcpStream, Fail> {
+fn client_with(rt: &HostRuntime, address: SocketAddr, sent: &[u8]) -> io::Result<TcpStream> {
     let client = client_after(rt, address, sent)?;
     client.shutdown(Shutdown::Write)?;
     Ok(client)
@@ -117,14 +117,97 @@ fn a_long_body_is_answered(rt: HostRuntime) -> Result<(), Fail> {
     are_served(&rt, &listener(&rt)?, (&rt, 1), &exchanges)
 }
 
-/// A connection that can't be accepted isn't passed over. Nobody has connected here, and the listener doesn't wait.
+/// A listener that doesn't wait: nobody has connected, so no connection can be accepted.
+fn idle_listener(rt: &HostRuntime) -> Result<TcpListener, Fail> {
+    let listener = listener(rt)?;
+    listener.set_nonblocking(true)?;
+    Ok(listener)
+}
+
+/// A connection that can't be accepted isn't passed over.
 #[test]
 fn an_accept_that_fails_is_reported(rt: HostRuntime) -> Result<(), Fail> {
     let alloc = rt.alloc();
-    let listener = listener(&rt)?;
-    listener.set_nonblocking(true)?;
-    let served = serve_on_within(alloc, &rt, &listener, 2, &mut empty_desk(alloc));
+    let served = serve_on(alloc, &idle_listener(&rt)?, 2, &mut empty_desk(alloc));
     same("the end", &served, &Err(FaultKind::Read.without_line()))
+}
+
+/// A clock that adds up for how long it was slept by. Each time that `after` milliseconds are full, a client connects
+/// and writes a quick run.
+#[derive(Drop)]
+struct Sleeping<'a> {
+    rt: &'a HostRuntime,
+    address: SocketAddr,
+    after: u128,
+    slept: Cell<u128>,
+    client: Cell<Option<TcpStream>>,
+}
+
+impl<'a> Sleeping<'a> {
+    fn new(rt: &'a HostRuntime, listener: &TcpListener, after: u128) -> Result<Sleeping<'a>, Fail> {
+        Ok(Sleeping {
+            rt,
+            address: listener.local_addr()?,
+            after,
+            slept: Cell::new(0),
+            client: Cell::new(None),
+        })
+    }
+}
+
+impl Clock for Sleeping<'_> {
+    fn monotonic(&self) -> io::Result<Duration> {
+        Ok(Duration::from_secs(0))
+    }
+
+    fn since_1970(&self) -> io::Result<Duration> {
+        Ok(Duration::from_secs(0))
+    }
+
+    fn sleep(&self, duration: Duration) {
+        let slept = self.slept.get().saturating_add(duration.as_millis());
+        self.slept.set(slept);
+        if slept.is_multiple_of(self.after) {
+            self.client
+                .set(client_with(self.rt, self.address, QUICK.as_bytes()).ok());
+        }
+    }
+}
+
+/// A server with a clock whose accepts fail serves two connections, with this end and this long a sleep.
+fn ends_after(
+    rt: &HostRuntime,
+    after: u128,
+    wanted: (Result<(), Fault>, u128),
+) -> Result<Option<TcpStream>, Fail> {
+    let listener = idle_listener(rt)?;
+    let clock = Sleeping::new(rt, &listener, after)?;
+    let served = serve_on_within(
+        rt.alloc(),
+        &clock,
+        &listener,
+        2,
+        &mut empty_desk(rt.alloc()),
+    );
+    same("the end, milliseconds", (served, clock.slept.get()), wanted)?;
+    Ok(clock.client.take())
+}
+
+/// A server with a clock ends where no connection can be accepted a hundred times in a row, 10 ms after one another.
+#[test]
+fn a_hundred_accepts_that_fail_are_reported(rt: HostRuntime) -> Result<(), Fail> {
+    let wanted = (Err(FaultKind::Read.without_line()), 990);
+    let client = ends_after(&rt, 1_000, wanted)?;
+    same("a client", &client.is_some(), &false)
+}
+
+/// It goes on where a connection can be accepted after 99 failures, each time.
+#[test]
+fn accepts_that_fail_for_a_while_end_nothing(rt: HostRuntime) -> Result<(), Fail> {
+    match ends_after(&rt, 990, (Ok(()), 1_980))? {
+        Some(client) => reads(rt.alloc(), client, QUICK_ANSWER),
+        None => holds("a client", false),
+    }
 }
 
 /// How many seconds a connection at a listener is served.

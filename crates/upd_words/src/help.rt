@@ -98,8 +98,8 @@ answer the next client is served when this one closes its connection or is idle 
 for 4 where its request may not have been read to its end.
 
 Exit status: 0 done; 2 the command line can't be read, or ADDRESS or COUNT is not valid; 3 out of
-memory, the library failed, the address can't be bound, or no connection can be accepted. The fault
-is one line on standard error.
+memory, the library failed, the address can't be bound, or no connection can be accepted a hundred
+times in a row. The fault is one line on standard error.
 
 Example, after `upd init library.db`:
   upd serve library.db 127.0.0.1:8080 1 &
