@@ -1,11 +1,12 @@
 -- A request and its answer.
-use Rattle.std.proofs.Common.{◌≡◌, ◌⊎◌, inl, inr, ℕ, List, None, Result, Ok, Err, IfOk, IfErr, IsErrAnd, refl, sym, ap, ◌∙◌}
+use Rattle.std.proofs.Common.{◌≡◌, ◌⊎◌, inl, inr, ℕ, List, Option, None, Result, Ok, Err, IfOk, IfErr, IsErrAnd, refl, sym, ap, ◌∙◌}
+use Rattle.std.specs.Result.{result_map_both}
 use Rattle.upd_request.specs.Calls.{Asked}
 use Rattle.upd_request.specs.Requests.{IsFailure, Says}
 use Rattle.upd_request.specs.declared.call.Refusal.{Refusal}
 use Rattle.upd_text.specs.declared.fault.Fault.{Fault}
 use Rattle.upd_http.specs.Responses.{Response, refusal_answer}
-use Rattle.upd_http.specs.Serving.{AnswersRequest, IsAsked, Made, no_memory}
+use Rattle.upd_http.specs.Serving.{AnswersRequest, IsAsked, Made, Sends, no_memory}
 use Rattle.upd_http.specs.Views.{answer_seen, response}
 use Rattle.upd_http.specs.declared.answer.Answer.{Answer}
 
@@ -13,6 +14,13 @@ use Rattle.upd_http.specs.declared.answer.Answer.{Answer}
 pub fault_is : {T : Type 0} (result : Result T Fault) (fault : Fault) → IsErrAnd result (λ e. e ≡ fault) → result ≡ Err fault
 fault_is (Ok x) fault is = absurd is
 fault_is (Err e) fault is = ap Err is
+
+-- what is written doesn't depend on what is returned beside an answer
+pub sends_as : {A B : Type 0} (f : A → B) (answer : Result Response Fault) (result : Result A Fault) (old new : Option (List ℕ))
+    → Sends answer result old new → Sends answer (result_map_both f (λ e. e) result) old new
+sends_as f (Ok response) (Ok x) old new puts = puts
+sends_as f (Ok response) (Err fault) old new puts = puts
+sends_as f (Err fault) result old new (is, none) = (ap (result_map_both f (λ e. e)) is, none)
 
 -- the desk was asked what the input says
 pub answers_call : (input : List ℕ) (call : Asked) (made : Made) (answer : Result Response Fault) → Says input (Ok call) → IsAsked call made answer

@@ -5,29 +5,39 @@ ghost use Rattle.upd_http.specs.Serving.{Leads, LeadsThrough, Made, read_failed}
 
 use crate::exchange::serve_request;
 use std::alloc::Global;
-use std::io;
 use std::io::{ErrorKind, Read, Write};
 use std::net::{Shutdown, TcpListener, TcpStream};
 use std::time::{Clock, Duration, Instant};
+use std::{io, thread};
 use upd_desk::Desk;
 use upd_request::RouteTable;
 use upd_row_store::RowStore;
 use upd_text::{Fault, FaultKind};
 
 /// How long a read or a write of a connection may take, in seconds.
-const PATIENCE: u64 = 10;
+const PATIENCE: u64 = 4;
 
 /// How long a connection may take by the clock, in seconds. A read or a write that has begun by then may go beyond it.
-const LIFETIME: u64 = 120;
+const LIFETIME: u64 = 30;
+
+/// How long a read may take after the answer to a request that was read to its end, in seconds.
+const FAREWELL: u64 = 1;
 
 /// How many reads of what a client still sends are discarded after an answer.
 const SURPLUS_READS: u32 = 64;
 
+/// How many failures to accept a connection in a row end a server that has a clock.
+const MAX_FAILED_ACCEPTS: u32 = 100;
+
+/// How long a server with a clock waits before it tries to accept again, in milliseconds.
+const ACCEPT_PAUSE: u64 = 10;
+
 /// Serves `count` connections, one request each. A fault of one ends only that one. Read where no connection can be
 /// accepted.
 ///
-/// A client that sends or takes nothing for 10 seconds gets no answer. After that, and after an answer, what it still
-/// sends is discarded until it closes the connection or sends nothing for 10 seconds.
+/// A client that sends or takes nothing for 4 seconds gets no complete answer. After an answer, what the client still
+/// sends is discarded until it closes the connection or sends nothing for 4 seconds, or for 1 second where its request
+/// was read to its end.
 pub fn serve_on<S: RowStore>(
     alloc: Global,
     listener: &TcpListener,
@@ -41,7 +51,8 @@ pub fn serve_on<S: RowStore>(
     serve_each::<HostRuntime, S>(alloc, None, listener, count, desk)
 }
 
-/// Serves as `serve_on` does, and no connection for longer than two minutes by the clock.
+/// Serves as `serve_on` does, and no connection for longer than 30 seconds by the clock. Where a connection can't be
+/// accepted it waits 10 milliseconds and tries again: Read after 100 failures in a row.
 pub fn serve_on_within<C: Clock, S: RowStore>(
     alloc: Global,
     clock: &C,
@@ -70,12 +81,26 @@ fn serve_each<C: Clock, S: RowStore>(
 {
     let mut routes = None;
     'connections: for _ in 0..count {
-        match listener.accept() {
-            Ok((stream, _)) => serve_connection(alloc, clock, &mut routes, &stream, desk),
+        match accept(listener, clock) {
+            Ok(stream) => serve_connection(alloc, clock, &mut routes, &stream, desk),
             Err(_) => return Err(FaultKind::Read.without_line()),
         }
     }
     Ok(())
+}
+
+/// The next connection. With a clock, a failure may be for a passing reason.
+fn accept<C: Clock>(listener: &TcpListener, clock: Option<&C>) -> io::Result<TcpStream> {
+    if let Some(clock) = clock {
+        for _ in 1..MAX_FAILED_ACCEPTS {
+            match listener.accept() {
+                Ok((stream, _)) => return Ok(stream),
+                Err(_) => thread::sleep(clock, Duration::from_millis(ACCEPT_PAUSE)),
+            }
+        }
+    }
+    let (stream, _) = listener.accept()?;
+    Ok(stream)
 }
 
 fn serve_connection<'c, C: Clock, S: RowStore>(
@@ -99,8 +124,13 @@ fn serve_connection<'c, C: Clock, S: RowStore>(
     };
     let mut reader = Client { stream, since };
     let mut writer = Client { stream, since };
-    let _ = serve_request(alloc, routes, &mut reader, &mut writer, desk);
+    let Ok(is_whole) = serve_request(alloc, routes, &mut reader, &mut writer, desk) else {
+        return;
+    };
     let _ = stream.shutdown(Shutdown::Write);
+    if is_whole {
+        let _ = stream.set_read_timeout(Some(Duration::from_secs(FAREWELL)));
+    }
     read_surplus(&mut reader);
 }
 

@@ -2,6 +2,8 @@
 
 ghost use Rattle.std.specs.Prelude.{ℕ, List, Result};
 ghost use Rattle.upd_io.specs.Inputs.{IsInput};
+ghost use Rattle.upd_request.specs.Calls.{asked};
+ghost use Rattle.upd_request.specs.Requests.{IsRead};
 ghost use Rattle.upd_text.specs.declared.fault.Fault.{Fault};
 ghost use Rattle.upd_http.specs.Responses.{Response};
 ghost use Rattle.upd_http.specs.Serving.{AnswersRequest, Leads, Made, Sends};
@@ -13,9 +15,9 @@ use crate::write::send;
 use std::alloc::Global;
 use std::io::{Read, Write};
 use upd_desk::Desk;
-use upd_request::{RouteTable, read_call};
+use upd_request::{DeskCall, Refusal, RouteTable, read_call};
 use upd_row_store::RowStore;
-use upd_text::Fault;
+use upd_text::{Fault, FaultKind};
 
 /// Reads one request, asks the desk what it asks, and writes the answer. CutFrame, Read and NoMemory leave the output
 /// as it was, Write leaves a prefix of the answer. All memory that the head and the routes need is allocated before the
@@ -32,40 +34,62 @@ pub fn serve_one<R: Read, W: Write, S: RowStore>(
         × ((input : List ℕ) × IsInput (R.remaining reader.old) input × AnswersRequest input made answer) }
 {
     let routes = RouteTable::new(alloc)?;
-    serve_request(alloc, &routes, reader, writer, desk)
+    match serve_request(alloc, &routes, reader, writer, desk) {
+        Ok(_) => Ok(()),
+        Err(fault) => Err(fault),
+    }
 }
 
-/// The same, with routes that were made before.
+/// The same, with routes that were made before. Returns whether the request was read to its end.
 pub(crate) fn serve_request<R: Read, W: Write, S: RowStore>(
     alloc: Global,
     routes: &RouteTable,
     reader: &mut R,
     writer: &mut W,
     desk: &mut Desk<S>,
-) -> Result<(), Fault>
+) -> Result<bool, Fault>
     ensures { (made : Made) × (answer : Result Response Fault)
         × Leads S.Meaning made desk.old.store desk.new.store
         × Sends answer result (W.contents writer.old) (W.contents writer.new)
         × ((input : List ℕ) × IsInput (R.remaining reader.old) input × AnswersRequest input made answer) }
 {
     let mut head = Vec::with_capacity(alloc, HEAD_ROOM)?;
-    let answer = answer_one(alloc, routes, reader, desk)?;
+    let request = read_call(alloc, routes, reader);
+    let is_whole = is_whole(&request);
+    let answer = answer_request(alloc, request, desk)?;
     answer.write_head(&mut head);
-    send(writer, &head, &answer.body)
+    match send(writer, &head, &answer.body) {
+        Ok(()) => Ok(is_whole),
+        Err(fault) => Err(fault),
+    }
 }
 
-/// The answer to one request, or the fault of one that has none.
-fn answer_one<R: Read, S: RowStore>(
+/// Whether a request is known to have been read to its end: it asks something, or one of its parameters is refused.
+fn is_whole(request: &Result<DeskCall, Refusal>) -> bool {
+    match request {
+        Ok(_) => true,
+        Err(Refusal::Answered(fault)) => matches!(
+            fault.kind,
+            FaultKind::BadSite
+                | FaultKind::BadNumber
+                | FaultKind::BadMode
+                | FaultKind::BadName
+                | FaultKind::BadCard
+        ),
+        Err(_) => false,
+    }
+}
+
+/// The answer to a request that was read, or the fault of one that has none.
+fn answer_request<S: RowStore>(
     alloc: Global,
-    routes: &RouteTable,
-    reader: &mut R,
+    request: Result<DeskCall, Refusal>,
     desk: &mut Desk<S>,
 ) -> Result<Answer, Fault>
-    ensures { (made : Made)
-        × Leads S.Meaning made desk.old.store desk.new.store
-        × ((input : List ℕ) × IsInput (R.remaining reader.old) input × AnswersRequest input made (answer_seen result)) }
+    ensures { (made : Made) × Leads S.Meaning made desk.old.store desk.new.store
+        × ((input : List ℕ) → IsRead asked input request → AnswersRequest input made (answer_seen result)) }
 {
-    match read_call(alloc, routes, reader) {
+    match request {
         Ok(call) => ask(alloc, desk, &call),
         Err(refusal) => Answer::refusal(alloc, refusal),
     }

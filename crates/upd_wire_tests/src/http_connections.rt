@@ -8,12 +8,12 @@ use std::io::{ErrorKind, Read, Write};
 use std::net::{Shutdown, SocketAddr, TcpListener, TcpStream};
 use std::test::Fail;
 use std::time::{Clock, Duration, Instant};
-use upd_http::serve_on_within;
+use upd_http::{serve_on, serve_on_within};
 use upd_testkit::check::{holds, same};
 use upd_text::{Fault, FaultKind};
 
 /// A client that has written this.
-fn client_after(rt: &HostRuntime, address: SocketAddr, sent: &[u8]) -> Result<TcpStream, Fail> {
+fn client_after(rt: &HostRuntime, address: SocketAddr, sent: &[u8]) -> io::Result<TcpStream> {
     let mut client = TcpStream::connect(rt, address)?;
     client.write_all(sent)?;
     Ok(client)
@@ -42,7 +42,7 @@ fn reads(alloc: Global, mut client: TcpStream, wanted: &str) -> Result<(), Fail>
 type Exchange<'a> = (&'a [u8], &'a str);
 
 /// A client that has written this and writes no more.
-fn client_with(rt: &HostRuntime, address: SocketAddr, sent: &[u8]) -> Result<TcpStream, Fail> {
+fn client_with(rt: &HostRuntime, address: SocketAddr, sent: &[u8]) -> io::Result<TcpStream> {
     let client = client_after(rt, address, sent)?;
     client.shutdown(Shutdown::Write)?;
     Ok(client)
@@ -117,14 +117,97 @@ fn a_long_body_is_answered(rt: HostRuntime) -> Result<(), Fail> {
     are_served(&rt, &listener(&rt)?, (&rt, 1), &exchanges)
 }
 
-/// A connection that can't be accepted isn't passed over. Nobody has connected here, and the listener doesn't wait.
+/// A listener that doesn't wait: nobody has connected, so no connection can be accepted.
+fn idle_listener(rt: &HostRuntime) -> Result<TcpListener, Fail> {
+    let listener = listener(rt)?;
+    listener.set_nonblocking(true)?;
+    Ok(listener)
+}
+
+/// A connection that can't be accepted isn't passed over.
 #[test]
 fn an_accept_that_fails_is_reported(rt: HostRuntime) -> Result<(), Fail> {
     let alloc = rt.alloc();
-    let listener = listener(&rt)?;
-    listener.set_nonblocking(true)?;
-    let served = serve_on_within(alloc, &rt, &listener, 2, &mut empty_desk(alloc));
+    let served = serve_on(alloc, &idle_listener(&rt)?, 2, &mut empty_desk(alloc));
     same("the end", &served, &Err(FaultKind::Read.without_line()))
+}
+
+/// A clock that adds up for how long it was slept by. Each time that `after` milliseconds are full, a client connects
+/// and writes a quick run.
+#[derive(Drop)]
+struct Sleeping<'a> {
+    rt: &'a HostRuntime,
+    address: SocketAddr,
+    after: u128,
+    slept: Cell<u128>,
+    client: Cell<Option<TcpStream>>,
+}
+
+impl<'a> Sleeping<'a> {
+    fn new(rt: &'a HostRuntime, listener: &TcpListener, after: u128) -> Result<Sleeping<'a>, Fail> {
+        Ok(Sleeping {
+            rt,
+            address: listener.local_addr()?,
+            after,
+            slept: Cell::new(0),
+            client: Cell::new(None),
+        })
+    }
+}
+
+impl Clock for Sleeping<'_> {
+    fn monotonic(&self) -> io::Result<Duration> {
+        Ok(Duration::from_secs(0))
+    }
+
+    fn since_1970(&self) -> io::Result<Duration> {
+        Ok(Duration::from_secs(0))
+    }
+
+    fn sleep(&self, duration: Duration) {
+        let slept = self.slept.get().saturating_add(duration.as_millis());
+        self.slept.set(slept);
+        if slept.is_multiple_of(self.after) {
+            self.client
+                .set(client_with(self.rt, self.address, QUICK.as_bytes()).ok());
+        }
+    }
+}
+
+/// A server with a clock whose accepts fail serves two connections, with this end and this long a sleep.
+fn ends_after(
+    rt: &HostRuntime,
+    after: u128,
+    wanted: (Result<(), Fault>, u128),
+) -> Result<Option<TcpStream>, Fail> {
+    let listener = idle_listener(rt)?;
+    let clock = Sleeping::new(rt, &listener, after)?;
+    let served = serve_on_within(
+        rt.alloc(),
+        &clock,
+        &listener,
+        2,
+        &mut empty_desk(rt.alloc()),
+    );
+    same("the end, milliseconds", (served, clock.slept.get()), wanted)?;
+    Ok(clock.client.take())
+}
+
+/// A server with a clock ends where no connection can be accepted a hundred times in a row, 10 ms after one another.
+#[test]
+fn a_hundred_accepts_that_fail_are_reported(rt: HostRuntime) -> Result<(), Fail> {
+    let wanted = (Err(FaultKind::Read.without_line()), 990);
+    let client = ends_after(&rt, 1_000, wanted)?;
+    same("a client", &client.is_some(), &false)
+}
+
+/// It goes on where a connection can be accepted after 99 failures, each time.
+#[test]
+fn accepts_that_fail_for_a_while_end_nothing(rt: HostRuntime) -> Result<(), Fail> {
+    match ends_after(&rt, 990, (Ok(()), 1_980))? {
+        Some(client) => reads(rt.alloc(), client, QUICK_ANSWER),
+        None => holds("a client", false),
+    }
 }
 
 /// How many seconds a connection at a listener is served.
@@ -134,13 +217,35 @@ fn seconds_served(rt: &HostRuntime, listener: &TcpListener) -> Result<u64, Fail>
     Ok(start.elapsed(rt)?.as_secs())
 }
 
-/// A client that says nothing is waited for ten seconds, and once more after its answer, which is empty.
+/// A client that has written this and leaves its connection open is served for some seconds, and reads this.
+fn is_waited_for(
+    rt: &HostRuntime,
+    (sent, wanted): Exchange<'_>,
+    (least, most): (u64, u64),
+) -> Result<(), Fail> {
+    let (listener, client) = listener_after(rt, sent)?;
+    let waited = seconds_served(rt, &listener)?;
+    holds(("seconds", waited), least <= waited && waited <= most)?;
+    reads(rt.alloc(), client, wanted)
+}
+
+/// A client that says nothing is waited for four seconds.
 #[test]
 fn a_silent_client_is_not_waited_for_for_ever(rt: HostRuntime) -> Result<(), Fail> {
-    let (listener, client) = listener_after(&rt, b"")?;
-    let waited = seconds_served(&rt, &listener)?;
-    holds(("seconds", waited), 20 <= waited && waited < 30)?;
-    reads(rt.alloc(), client, "")
+    is_waited_for(&rt, (b"", ""), (4, 7))
+}
+
+/// After an answer whose request was read to its end, the client is waited for one second.
+#[test]
+fn an_answered_client_is_waited_for_briefly(rt: HostRuntime) -> Result<(), Fail> {
+    is_waited_for(&rt, (QUICK.as_bytes(), QUICK_ANSWER), (1, 3))
+}
+
+/// A client whose run is too long may still send it: it is waited for four seconds.
+#[test]
+fn a_client_that_may_still_send_is_waited_for(rt: HostRuntime) -> Result<(), Fail> {
+    let request = long_request(rt.alloc())?;
+    is_waited_for(&rt, (request.get(..100).unwrap_or(b""), RUN_LONG), (4, 7))
 }
 
 /// A clock that goes forward by some seconds whenever it is read, after some first readings.
@@ -191,7 +296,7 @@ fn is_given_up(
     (listener, client): (TcpListener, TcpStream),
     still: u64,
 ) -> Result<(), Fail> {
-    serve_on_within(alloc, &Ticking::new(still, 120), &listener, 1, desk)?;
+    serve_on_within(alloc, &Ticking::new(still, 30), &listener, 1, desk)?;
     reads_nothing(alloc, client)
 }
 
@@ -207,7 +312,7 @@ fn key_after(
     Ok(answer.map(|reply| reply.accepted))
 }
 
-/// A client that isn't done after two minutes is given up, and its run isn't stored: the key is free for another one.
+/// A client that isn't done after 30 seconds is given up, and its run isn't stored: the key is free for another one.
 #[test]
 fn a_slow_client_is_given_up(rt: HostRuntime) -> Result<(), Fail> {
     let both = listener_after(&rt, QUICK.as_bytes())?;
@@ -223,9 +328,9 @@ fn a_client_that_takes_its_answer_late_is_given_up(rt: HostRuntime) -> Result<()
     same("the key", key_after(rt.alloc(), both, 2)?, Err(changed))
 }
 
-/// Each connection has two minutes of its own: four of them that take forty seconds and more are all served.
+/// Each connection has 30 seconds of its own: four of them that take ten seconds and more are all served.
 #[test]
 fn each_connection_has_its_own_time(rt: HostRuntime) -> Result<(), Fail> {
     let exchanges = [(QUICK.as_bytes(), QUICK_ANSWER); 4];
-    are_served(&rt, &listener(&rt)?, (&Ticking::new(0, 20), 4), &exchanges)
+    are_served(&rt, &listener(&rt)?, (&Ticking::new(0, 5), 4), &exchanges)
 }

@@ -93,12 +93,13 @@ pub(crate) const SERVE: Text = Text {
 Reads and writes only connections, but for one line on standard error once clients can connect, as
 `upd: listening on 127.0.0.1:8080`. With port 0 the system chooses a port, and the line has it.
 
-A client that is idle for 10 seconds, or takes more than two minutes, gets no complete answer. The
-next client is served when this one closes its connection, or is idle for 10 seconds more.
+A client that is idle for 4 seconds, or takes more than 30, gets no complete answer. After an
+answer the next client is served when this one closes its connection or is idle for a second, or
+for 4 where its request may not have been read to its end.
 
 Exit status: 0 done; 2 the command line can't be read, or ADDRESS or COUNT is not valid; 3 out of
-memory, the library failed, the address can't be bound, or no connection can be accepted. The fault
-is one line on standard error.
+memory, the library failed, the address can't be bound, or no connection can be accepted a hundred
+times in a row. The fault is one line on standard error.
 
 Example, after `upd init library.db`:
   upd serve library.db 127.0.0.1:8080 1 &

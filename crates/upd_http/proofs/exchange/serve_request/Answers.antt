@@ -1,7 +1,9 @@
-use Rattle.std.proofs.Common.{◌++◌, ap₂, ◌∙◌, subst, None, Ok, Err, inl, inr, refl, List, ℕ}
+use Rattle.std.proofs.Common.{◌≡◌, ◌++◌, ap₂, ◌∙◌, subst, None, Ok, Err, inl, inr, refl, List, ℕ}
 use Rattle.std.proofs.KnownBytes.{Appends-nil}
+use Rattle.std.specs.Io.KnownBytes.{Appends}
+use Rattle.upd_io.specs.Fronts.{AppendsFront}
 use Rattle.upd_io.proofs.InputLemmas.{some_input}
-use Rattle.upd_http.specs.Serving.{Puts, no_memory}
+use Rattle.upd_http.specs.Serving.{no_memory, write_failed}
 use Rattle.upd_http.specs.Views.{response}
 use Rattle.upd_http.proofs.AnswerLemmas.{fault_is}
 use Rattle.upd_http.proofs.exchange.serve_request.Goals as goal
@@ -18,6 +20,7 @@ returns-in_err-head g c =
 
 pub returns-in_err-answer : goal.returns-in_err-answer
 returns-in_err-answer g c =
+    let (input, is, read) = c.read_call-request.ensures in
     let (made, leads, answers) = c.in_err-answer.ensures in
     let fault = c.in_err-answer.field-0.0 in (
       made,
@@ -27,17 +30,32 @@ returns-in_err-answer g c =
         fault_is c.from_residual-in_err-answer.result fault c.from_residual-in_err-answer.ensures.1,
         Appends-nil (g.W.Write.contents c.args.writer.now),
       ),
-      answers,
+      (input, is, answers input read),
     )
 
-pub returns : goal.returns
-returns g c =
+pub returns-in-Ok : goal.returns-in-Ok
+returns-in-Ok g c =
+    let (input, is, read) = c.read_call-request.ensures in
     let (made, leads, answers) = c.in_ok-answer.ensures in
-    let IsPut : List ℕ → Type 0 = λ bytes. Puts c.send.result (g.W.Write.contents c.args.writer.now) (g.W.Write.contents c.send.new.writer) bytes in (
+    let IsPut : List ℕ → Type 0 = λ bytes. Appends (g.W.Write.contents c.args.writer.now) (g.W.Write.contents c.send.new.writer) bytes in (
       made,
       Ok (response c.in_ok-answer.answer),
       leads,
       subst IsPut (ap₂ (λ a b. a ++ b) (c.deref.ensures.value
-          ∙ c.write_head.ensures) c.deref-2.ensures.value) c.send.ensures,
-      answers,
+          ∙ c.write_head.ensures) c.deref-2.ensures.value) c.in-Ok.ensures,
+      (input, is, answers input read),
+    )
+
+pub returns : goal.returns
+returns g c =
+    let (input, is, read) = c.read_call-request.ensures in
+    let (made, leads, answers) = c.in_ok-answer.ensures in
+    let IsPut : List ℕ → Type 0 =
+    λ bytes. (c.in-Err.fault ≡ write_failed) × AppendsFront (g.W.Write.contents c.args.writer.now) (g.W.Write.contents c.send.new.writer) bytes in (
+      made,
+      Ok (response c.in_ok-answer.answer),
+      leads,
+      subst IsPut (ap₂ (λ a b. a ++ b) (c.deref.ensures.value
+          ∙ c.write_head.ensures) c.deref-2.ensures.value) c.in-Err.ensures,
+      (input, is, answers input read),
     )
