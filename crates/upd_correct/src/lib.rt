@@ -17,6 +17,7 @@ mod read_line;
 pub mod refusal;
 mod room;
 mod script;
+mod unique_lines;
 mod writer;
 
 pub use correcting::correct;

@@ -121,6 +121,66 @@ fn a_run_of_too_many_lines_is_refused(rt: HostRuntime) -> Result<(), Fail> {
     expect_refusals(rt.alloc(), "Z", &text, &[at(0, 0, Problem::TooManyLines)])
 }
 
+/// Lines of a long deck, the one of this number first; each third is the same.
+fn push_lines(text: &mut String, first: u32, last: u32) -> Result<(), Fail> {
+    for n in first..=last {
+        if n % 3 == 0 {
+            text.push_str("END\n")?;
+        } else {
+            write!(text, "LINE {n}\n")?;
+        }
+    }
+    Ok(())
+}
+
+/// Some text, these lines of a long deck, and some text.
+fn with_lines(
+    alloc: Global,
+    before: &str,
+    first: u32,
+    last: u32,
+    after: &str,
+) -> Result<String, Fail> {
+    let mut text = String::from_str(alloc, before)?;
+    push_lines(&mut text, first, last)?;
+    text.push_str(after)?;
+    Ok(text)
+}
+
+/// Deck D of 2,500 cards: D.1 to D.2000 and P.1 to P.500, which have the lines of the numbers 2 to 2,500.
+fn long_deck(alloc: Global) -> Result<Library, Fail> {
+    let deck = with_lines(alloc, "*DECK D\n", 2, 2_000, "")?;
+    let rest = with_lines(alloc, "*IDENT P\n*INSERT D.2000\n", 2_001, 2_500, "")?;
+    after(alloc, &[deck.as_str(), rest.as_str()])
+}
+
+/// The run for some text, the lines of the long deck between its first and its last, and some text.
+fn expect_long_run(alloc: Global, before: &str, after: &str, run: &str) -> Result<(), Fail> {
+    let text = with_lines(alloc, before, 3, 2_499, after)?;
+    let found = run_for(alloc, &long_deck(alloc)?, text.as_str())?;
+    same_text(before, found.as_str(), run)
+}
+
+#[test]
+fn the_first_and_the_last_line_of_a_long_deck_are_replaced(rt: HostRuntime) -> Result<(), Fail> {
+    expect_long_run(
+        rt.alloc(),
+        "*DECK D\nONE\n",
+        "TWO\n",
+        "*IDENT Z\n*DELETE D.2\nONE\n*DELETE P.500\nTWO\n",
+    )
+}
+
+#[test]
+fn the_first_line_of_a_long_deck_is_moved_to_its_end(rt: HostRuntime) -> Result<(), Fail> {
+    expect_long_run(
+        rt.alloc(),
+        "*DECK D\n",
+        "LINE 2500\nLINE 2\n",
+        "*IDENT Z\n*DELETE D.2\n*INSERT P.500\nLINE 2\n",
+    )
+}
+
 /// Some letters, changed at random.
 fn changed_lines(alloc: Global, lines: &[u8], dice: &mut Dice) -> Result<Vec<u8>, Fail> {
     let mut changed = Vec::new(alloc);
