@@ -1,5 +1,4 @@
 mod ReadTexts
-mod Failures
 mod Listing
 mod VersionRows
 mod Copies

@@ -1,19 +1,15 @@
 -- The texts that read versions, runs and marks, and what each is compiled to.
-use Rattle.std.proofs.Common.{◌≡◌, ℕ, true, false, List, [], ◌∷◌, codes, refl, arith}
+use Rattle.std.proofs.Common.{◌≡◌, ℕ, false, List, [], ◌∷◌, codes, refl}
 use Rattle.sqlite_value.specs.declared.keys.Collation.TheVariants.{Binary}
 use Rattle.sqlite_value.specs.declared.keys.Key.{Key}
 use Rattle.sqlite_value.specs.Keys.{ascending}
-use Rattle.sqlite_sql.specs.Program.{overlay}
 use Rattle.sqlite_sql.specs.Term.{Term, col}
 use Rattle.sqlite_schema.specs.declared.command.Command.TheVariants.{Select}
 use Rattle.sqlite_tied.specs.Compute.{everything}
-use Rattle.sqlite_typing.specs.Types.{accepts_program}
 use Rattle.sqlite.specs.Listing.{understood, reads_listing}
 use Rattle.sqlite.proofs.Callers.{IsPlain, command_of}
 use Rattle.upd_sqlite.specs.Keyed.{plain_query}
-use Rattle.upd_sql.specs.Asking.{CanBeAsked, IsLone}
 use Rattle.upd_sql.specs.Schema.{library_schema}
-use Rattle.upd_sql.proofs.AskTexts.{no_sums}
 use Rattle.upd_keep.specs.declared.texts.TheConstants as sql
 
 abbrev pub all_versions : List ℕ
@@ -54,29 +50,9 @@ pub all_runs_plain : IsPlain (understood library_schema all_runs)
 unfolding understood everything
 all_runs_plain = (refl, refl)
 
-all_runs_lone : IsLone all_runs 0 (understood library_schema all_runs)
-unfolding understood everything
-all_runs_lone = (omega arith, refl)
-
-all_runs_typed : accepts_program library_schema [] (plain_query 10 [] all_runs_shown all_runs_order) [] ≡ true
-unfolding everything
-all_runs_typed = refl
-
 pub all_runs_unlisted : reads_listing library_schema all_runs ≡ false
 unfolding everything
 all_runs_unlisted = refl
-
-pub all_runs_asked : CanBeAsked all_runs []
-all_runs_asked = record {
-  query = plain_query 10 [] all_runs_shown all_runs_order;
-  names = _;
-  is = all_runs_is;
-  plain = all_runs_plain;
-  lone = all_runs_lone;
-  unlisted = all_runs_unlisted;
-  typed = all_runs_typed;
-  sums = λ db. no_sums 10 [] all_runs_shown all_runs_order (overlay db []) [];
-}
 
 abbrev pub all_marks : List ℕ
 all_marks = sql.ALL_MARKS.now
@@ -96,26 +72,6 @@ pub all_marks_plain : IsPlain (understood library_schema all_marks)
 unfolding understood everything
 all_marks_plain = (refl, refl)
 
-all_marks_lone : IsLone all_marks 0 (understood library_schema all_marks)
-unfolding understood everything
-all_marks_lone = (omega arith, refl)
-
-all_marks_typed : accepts_program library_schema [] (plain_query 16 [] all_marks_shown all_marks_order) [] ≡ true
-unfolding everything
-all_marks_typed = refl
-
 pub all_marks_unlisted : reads_listing library_schema all_marks ≡ false
 unfolding everything
 all_marks_unlisted = refl
-
-pub all_marks_asked : CanBeAsked all_marks []
-all_marks_asked = record {
-  query = plain_query 16 [] all_marks_shown all_marks_order;
-  names = _;
-  is = all_marks_is;
-  plain = all_marks_plain;
-  lone = all_marks_lone;
-  unlisted = all_marks_unlisted;
-  typed = all_marks_typed;
-  sums = λ db. no_sums 16 [] all_marks_shown all_marks_order (overlay db []) [];
-}

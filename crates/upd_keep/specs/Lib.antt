@@ -1,4 +1,3 @@
 pub mod Keeping
-pub mod Failing
 pub mod Copying
 pub mod Examining

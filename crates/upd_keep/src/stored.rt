@@ -5,8 +5,6 @@ ghost use Rattle.sqlite.specs.State.{HasCleanDisk, Survives};
 ghost use Rattle.upd_records.specs.Rows.{Rows};
 ghost use Rattle.upd_row_store.specs.Keeping.{IsLost};
 ghost use Rattle.upd_sql.specs.LibraryTables.{ShowsTables};
-ghost use Rattle.upd_sql.specs.Failing.{FailsToRead};
-ghost use Rattle.upd_keep.specs.Failing.{AreReadable, FailsToTell};
 ghost use Rattle.upd_keep.specs.Keeping.{AreKept, HasRunLines, HasSiteLines};
 
 use crate::kept::Kept;
@@ -29,7 +27,6 @@ pub fn stored_kept<S: Rising>(conn: &mut Connection<S>, alloc: Global) -> Result
     ensures survives { Survives (state S.Store conn.old) (state S.Store conn.new) (λ _. ⊥) }
     ensures found { HasCleanDisk (state S.Store conn.new) → IfOk result
         (λ kept. (it : Rows) → ShowsTables it (state S.Store conn.old).committed → AreKept it kept) }
-    ensures failed { FailsToRead AreReadable (state S.Store conn.old) (state S.Store conn.new) result }
 {
     let mut tx = begin(conn);
     let kept = kept_in(&mut tx, alloc)?;
@@ -46,8 +43,6 @@ fn kept<S: Rising>(alloc: Global, conn: &mut Connection<S>) -> Result<Kept, Faul
     ensures mode { conn.new.in_transaction ≡ conn.old.in_transaction }
     ensures survives { Survives (state S.Store conn.old) (state S.Store conn.new) (λ _. ⊥) }
     ensures lost { IfErr result IsLost }
-    ensures failed { conn.old.in_transaction ≡ false
-        → FailsToTell (state S.Store conn.old) (state S.Store conn.new) result }
 {
     if !conn.is_autocommit() {
         return Err(store_at(0));
@@ -68,8 +63,6 @@ pub fn runs_text<S: Rising>(alloc: Global, conn: &mut Connection<S>) -> Result<V
     ensures mode { conn.new.in_transaction ≡ conn.old.in_transaction }
     ensures survives { Survives (state S.Store conn.old) (state S.Store conn.new) (λ _. ⊥) }
     ensures lost { IfErr result IsLost }
-    ensures failed { conn.old.in_transaction ≡ false
-        → FailsToTell (state S.Store conn.old) (state S.Store conn.new) result }
 {
     let kept = kept(alloc, conn)?;
     match run_lines(alloc, &kept.runs) {
@@ -88,8 +81,6 @@ pub fn sites_text<S: Rising>(alloc: Global, conn: &mut Connection<S>) -> Result<
     ensures mode { conn.new.in_transaction ≡ conn.old.in_transaction }
     ensures survives { Survives (state S.Store conn.old) (state S.Store conn.new) (λ _. ⊥) }
     ensures lost { IfErr result IsLost }
-    ensures failed { conn.old.in_transaction ≡ false
-        → FailsToTell (state S.Store conn.old) (state S.Store conn.new) result }
 {
     let kept = kept(alloc, conn)?;
     match site_lines(alloc, &kept.runs, &kept.marks) {

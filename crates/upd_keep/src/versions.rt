@@ -1,5 +1,5 @@
 //! The table of the schema's version, which has one row.
-ghost use Rattle.std.specs.Prelude.{◌≡◌, false, length, IfOk, IsTrue};
+ghost use Rattle.std.specs.Prelude.{◌≡◌, false, IfOk, IsTrue};
 ghost use Rattle.sqlite.specs.Held.{state};
 ghost use Rattle.sqlite.specs.State.{HasCleanDisk, Survives};
 ghost use Rattle.upd_sqlite.specs.Steps.{Steps};

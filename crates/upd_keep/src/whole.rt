@@ -1,20 +1,17 @@
 //! The tables of runs and of marks, each read by one query.
-ghost use Rattle.std.specs.Prelude.{◌≡◌, ◌⊎◌, true, List, [], map, IfErr, IfOk};
-ghost use Rattle.std.specs.List.{list_all};
+ghost use Rattle.std.specs.Prelude.{◌≡◌, List, [], map, IfOk};
 ghost use Rattle.std.specs.declared.cmp.Ordering.{Ordering};
 ghost use Rattle.sqlite_value.specs.Order.{Row as SqlRow};
 ghost use Rattle.sqlite.specs.Given.{IsPlain};
 ghost use Rattle.sqlite.specs.Held.{state};
 ghost use Rattle.sqlite.specs.Listing.{understood};
-ghost use Rattle.sqlite.specs.State.{FailsToQuery, HasCleanDisk, IsTooLate, Shown};
+ghost use Rattle.sqlite.specs.State.{HasCleanDisk, Shown};
 ghost use Rattle.upd_records.specs.Rows.{Rows};
 ghost use Rattle.upd_sqlite.specs.Steps.{Steps};
 ghost use Rattle.upd_sql.specs.Commits.{LeavesTables, Looks, WasOpen};
 ghost use Rattle.upd_sql.specs.LibraryTables.{HoldsTables};
 ghost use Rattle.upd_sql.specs.Listed.{AreInOrder};
 ghost use Rattle.upd_sql.specs.Schema.{library_schema};
-ghost use Rattle.upd_sql.specs.Failing.{FailsInside, IsOutOfMemory};
-ghost use Rattle.upd_keep.specs.Failing.{AreReadable};
 ghost use Rattle.upd_keep.specs.Keeping.{AreKept, by_key, by_site};
 
 use crate::kept::Kept;
@@ -34,9 +31,6 @@ pub(crate) fn rows_of<S: Alter>(tx: &mut Transaction<'_, S>, sql: &str) -> Resul
         → LeavesTables (state S.Store tx.old.conn.now) (state S.Store tx.new.conn.now) result }
     ensures shown { HasCleanDisk (state S.Store tx.new.conn.now) → IfOk result
         (λ rows. Shown sql.now [] (state S.Store tx.old.conn.now) (state S.Store tx.new.conn.now) rows.items) }
-    ensures failed { HasCleanDisk (state S.Store tx.new.conn.now) → IfErr result
-        (λ e. FailsToQuery sql.now [] (state S.Store tx.old.conn.now) (state S.Store tx.new.conn.now) e
-        ⊎ IsTooLate sql.now [] (state S.Store tx.old.conn.now) (state S.Store tx.new.conn.now) e) }
 {
     ask(tx, sql, &[])
 }
@@ -54,11 +48,6 @@ fn all_of<S: Alter, T: Record + Drop>(
         → (kept : List T) × (rows ≡ map T.stored kept) × AreInOrder cmp (listed it) kept)
         → Looks (λ it found. AreInOrder cmp (listed it) found.items) (state S.Store tx.old.conn.now)
         (state S.Store tx.new.conn.now) result }
-    ensures failed { HasCleanDisk (state S.Store tx.new.conn.now) → IfErr result (λ e.
-        (FailsToQuery sql.now [] (state S.Store tx.old.conn.now) (state S.Store tx.new.conn.now) e
-        ⊎ IsTooLate sql.now [] (state S.Store tx.old.conn.now) (state S.Store tx.new.conn.now) e)
-        ⊎ ((rows : List SqlRow) × Shown sql.now [] (state S.Store tx.old.conn.now) (state S.Store tx.new.conn.now) rows
-        × ((kept : List T) → rows ≡ map T.stored kept → list_all T.is_readable kept ≡ true → IsOutOfMemory e))) }
 {
     let rows = rows_of(tx, sql)?;
     each(alloc, &rows)
@@ -68,7 +57,6 @@ fn runs_in<S: Alter>(tx: &mut Transaction<'_, S>, alloc: Global) -> Result<Vec<R
     ensures same_reference { tx.new.conn.ghost_name ≡ tx.old.conn.ghost_name }
     ensures looks { Looks (λ it found. AreInOrder by_key it.runs found.items)
         (state S.Store tx.old.conn.now) (state S.Store tx.new.conn.now) result }
-    ensures failed { FailsInside AreReadable (state S.Store tx.old.conn.now) (state S.Store tx.new.conn.now) result }
 {
     all_of(tx, alloc, texts::ALL_RUNS)
 }
@@ -77,7 +65,6 @@ fn marks_in<S: Alter>(tx: &mut Transaction<'_, S>, alloc: Global) -> Result<Vec<
     ensures same_reference { tx.new.conn.ghost_name ≡ tx.old.conn.ghost_name }
     ensures looks { Looks (λ it found. AreInOrder by_site it.settled found.items)
         (state S.Store tx.old.conn.now) (state S.Store tx.new.conn.now) result }
-    ensures failed { FailsInside AreReadable (state S.Store tx.old.conn.now) (state S.Store tx.new.conn.now) result }
 {
     all_of(tx, alloc, texts::ALL_MARKS)
 }
@@ -86,7 +73,6 @@ fn marks_in<S: Alter>(tx: &mut Transaction<'_, S>, alloc: Global) -> Result<Vec<
 pub(crate) fn kept_in<S: Alter>(tx: &mut Transaction<'_, S>, alloc: Global) -> Result<Kept, Error>
     ensures same_reference { tx.new.conn.ghost_name ≡ tx.old.conn.ghost_name }
     ensures looks { Looks AreKept (state S.Store tx.old.conn.now) (state S.Store tx.new.conn.now) result }
-    ensures failed { FailsInside AreReadable (state S.Store tx.old.conn.now) (state S.Store tx.new.conn.now) result }
 {
     let runs = runs_in(tx, alloc)?;
     let marks = marks_in(tx, alloc)?;

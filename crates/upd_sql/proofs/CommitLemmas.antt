@@ -1,6 +1,6 @@
 -- From the steps of a transaction and its commit to what the whole of it does.
-use Rattle.std.proofs.Common.{◌≡◌, Ok, refl, sym, ap, subst, ◌∙◌, IsTrue, true, false}
-use Rattle.sqlite.specs.State.{State, HasCleanDisk, Shows, Survives}
+use Rattle.std.proofs.Common.{◌≡◌, Ok, refl, sym, ap, subst, ◌∙◌, IsTrue, true}
+use Rattle.sqlite.specs.State.{State, HasCleanDisk, Survives}
 use Rattle.sqlite.proofs.StateLemmas.{survives_then}
 use Rattle.upd_records.specs.Rows.{Rows}
 use Rattle.upd_sqlite.specs.Rising.{TablesRise}
@@ -12,23 +12,13 @@ use Rattle.upd_sql.specs.Schema.{library_schema, no_schema}
 use Rattle.upd_sql.specs.Making.{no_rows, HasEmptyTables, Transforms, MayMake}
 use Rattle.upd_sql.specs.Encoded.{stored}
 use Rattle.upd_sql.specs.LibraryTables.{HoldsTables, ShowsTables}
-use Rattle.upd_sql.specs.Commits.{ShowsIn, WasOpen, Commits, MayCommit, MayKeep, LeavesTables}
+use Rattle.upd_sql.specs.Commits.{ShowsIn, WasOpen, MayCommit, MayKeep, LeavesTables}
 
 module _ (F : Rows → Type 0) (f : Rows → Rows) (old last end : State) {X : Type 0} (x : X) (rise : IsTrue old.is_open → TablesRise old.now)
     (settled : IsTrue old.is_open → old.now ≡ old.committed)
     (m : Makes {X = X} HoldsTables F f (record old { in_transaction = true }) last (Ok x)) where
   transformed : HasCleanDisk last → IsTrue old.is_open → (it : Rows) → ShowsTables it old.committed → F it → HoldsTables (f it) last.now
   transformed clean o it shown fits = m.made clean refl it fits (held library_schema (stored it) old.now (rise o) (subst (ShowsTables it) (sym (settled o)) shown))
-
-  pub committed_whole : HasCleanDisk last → Shows last end last.now last.now false → Commits F f old end
-  committed_whole clean ended =
-      let o = (m.steps.kept clean refl).was_open ended.was_open in
-      record {
-        was_open = o;
-        is_open = ended.is_open;
-        shows = λ it shown fits. subst (ShowsTables (f it)) (sym ended.committed_is)
-            (showing library_schema (stored (f it)) last.now (transformed clean o it shown fits));
-      }
 
   pub crash_leaves : (HasCleanDisk last → IsTrue old.is_open) → Survives last end (λ db. db ≡ last.now.trees)
       → Survives (record old { in_transaction = true }) end (MayCommit F f old)

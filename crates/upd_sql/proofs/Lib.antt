@@ -16,6 +16,3 @@ pub mod CommitLemmas
 pub mod MarkLemmas
 pub mod MovingLemmas
 pub mod ToldLemmas
-pub mod Columns
-pub mod Failures
-pub mod AskTexts

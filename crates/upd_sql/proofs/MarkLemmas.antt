@@ -1,17 +1,11 @@
 -- A settlement: where the number is at or below the mark nothing changes, else the mark rises.
-use Rattle.std.proofs.Common.{◌≡◌, ℕ, ◌<◌, nat_le, Bool, true, false, if◌then◌else◌, List, [], ◌∷◌, ◌++◌, filter, find, not, Result, Ok, Err, refl, sym}
-use Rattle.std.proofs.Common.{ap, subst, ◌∙◌, arith, bytes_eq, Some, None}
+use Rattle.std.proofs.Common.{◌≡◌, ℕ, ◌<◌, nat_le, Bool, true, false, if◌then◌else◌, List, [], ◌∷◌, ◌++◌, filter, find, not, refl, sym}
+use Rattle.std.proofs.Common.{ap, ◌∙◌, arith, bytes_eq, Some, None}
 use Rattle.std.specs.Option.{option_map_or}
 use Rattle.std.proofs.lemmas.Bool.Decides.{nat_tests}
-use Rattle.sqlite.specs.declared.error.Error.{Error}
-use Rattle.sqlite.specs.State.{State, HasCleanDisk}
 use Rattle.upd_records.specs.Rows.{Rows, MarkRow}
 use Rattle.upd_row_store.specs.Tables.{is_mark_of, mark_at, settled_to}
-use Rattle.upd_sqlite.specs.Steps.{Steps, Makes}
-use Rattle.upd_sqlite.proofs.Chains.{clean_before, steps_then}
-use Rattle.upd_sql.specs.Commits.{LeavesTables}
 use Rattle.upd_sql.specs.RowEdits.{with_runs_settled}
-use Rattle.upd_sql.specs.LibraryTables.{HoldsTables, AnyTables}
 
 high : (n m : ℕ) → m < n → nat_le n m ≡ false
 high n m h = grind (arith, nat_tests)
@@ -41,18 +35,5 @@ found_behind site n (m ∷ marks) = go (is_mark_of site m) refl (found_behind si
 pub mark_of_marked : (site : List ℕ) (n : ℕ) (it : Rows) → mark_at site (with_runs_settled site n it) ≡ n
 mark_of_marked site n it = ap (λ o. option_map_or (λ (m : MarkRow). m.mark) o 0) (found_behind site n it.settled)
 
-module _ (site : List ℕ) (n mark : ℕ) (old mid : State) (steps : Steps {X = ℕ} old mid (Ok mark)) (same : LeavesTables {X = ℕ} old mid (Ok mark))
-    (found : HasCleanDisk mid → (it : Rows) → HoldsTables it old.now → mark ≡ mark_at site it) where
-  pub mark_rises : {Y : Type 0} (new : State) (r : Result Y Error) → mark < n → Makes HoldsTables AnyTables (with_runs_settled site n) mid new r
-      → Makes HoldsTables AnyTables (settled_to site n) old new r
-  mark_rises new (Ok y) h m = record {
-    steps = steps_then old mid new mark (Ok y) steps m.steps;
-    made = λ clean inside it any stands.
-        let early = clean_before mid new _ m.steps.survives clean in
-        let there = subst (HoldsTables it) (sym (same early stands.schema_is)) stands in
-        subst (λ r. HoldsTables r new.now) (sym (rises_as site n it (omega (arith, h, found early it stands)))) (m.made clean (steps.going early inside) it any there);
-  }
-  mark_rises new (Err e) h m = record { steps = steps_then old mid new mark (Err e) steps m.steps; made = λ clean. tt }
-
-  pub mark_rises_to : mark < n → HasCleanDisk mid → (it : Rows) → HoldsTables it old.now → n ≡ mark_at site (settled_to site n it)
-  mark_rises_to h clean it stands = sym (ap (mark_at site) (rises_as site n it (omega (arith, h, found clean it stands))) ∙ mark_of_marked site n it)
+pub mark_rises_to : (site : List ℕ) (n mark : ℕ) (it : Rows) → mark < n → mark ≡ mark_at site it → n ≡ mark_at site (settled_to site n it)
+mark_rises_to site n mark it h is = sym (ap (mark_at site) (rises_as site n it (omega (arith, h, is))) ∙ mark_of_marked site n it)

@@ -1,10 +1,9 @@
 -- Reading the rows of some decks and cards.
 use Rattle.std.proofs.Common.{◌≡◌, ℕ, ◌+◌, ◌<◌, ◌≤◌, ◌==◌, ◌&&◌, ◌||◌, Bool, true, false, cond, List, [], ◌∷◌, ◌++◌, map, filter, take, length, get_or, nat_lt}
 use Rattle.std.proofs.Common.{refl, sym, ap, ap₂, subst, ◌∙◌, arith, codes}
-use Rattle.std.specs.List.{count_by, list_all, list_any}
+use Rattle.std.specs.List.{count_by, list_any}
 use Rattle.std.proofs.lemmas.Bool.Decides.{nat_tests}
 use Rattle.std.proofs.lemmas.List.{length-map}
-use Rattle.std.proofs.lemmas.List.Folds.{list_all-map}
 use Rattle.std.proofs.lemmas.Map.Text.{is_eq-slice_cmp}
 use Rattle.std.proofs.lemmas.Slice.Eq.{bytes_eq-Decides}
 use Rattle.std.specs.BTreeSet as sorted
@@ -32,9 +31,7 @@ use Rattle.upd_sql.specs.Encoded.{card_row, entry_row, kept_state, num, stored}
 use Rattle.upd_sql.specs.Part.{is_of_ident}
 use Rattle.upd_sql.specs.Listed.{AreInOrder, by_place, in_any_order}
 use Rattle.upd_sql.specs.LibraryTables.{HoldsTables}
-use Rattle.upd_sql.specs.Failing.{has_32_bits, is_readable_card, is_readable_ref}
 use Rattle.upd_sql.proofs.Conditions.{card_named, card_params, entry_of, in_deck, nat_flip, status_of}
-use Rattle.upd_sql.proofs.Failures.{all_kept, all_weaker, and_both}
 use Rattle.upd_sql.proofs.Listed.{lists, ordered_as}
 use Rattle.upd_sql.proofs.Typed.{own}
 use Rattle.upd_sql.proofs.WholeLemmas.{cards_order}
@@ -94,16 +91,6 @@ module _ (old new : State) (it : Rows) (h : HoldsTables it old.now) (rows : List
       ∙ ap (λ n. (num (sqlite_count n) ∷ []) ∷ []) (length-map it.entries entry_row)
 
 -- ---- decks of more and more cards
-
--- the decks of cards that can be read
-pub decks_readable : (keep : CardRow → Bool) (rows : List CardRow) → list_all is_readable_card rows ≡ true
-    → list_all has_32_bits (map (λ r. r.deck) (filter keep rows)) ≡ true
-decks_readable keep rows all =
-    list_all-map has_32_bits (λ (r : CardRow). r.deck) (filter keep rows)
-    ∙ all_weaker is_readable_card (λ r. has_32_bits r.deck) small (filter keep rows) (all_kept is_readable_card keep rows all)
-  where
-    small : (r : CardRow) → is_readable_card r ≡ true → has_32_bits r.deck ≡ true
-    small r can = (and_both (is_readable_ref r.card) _ (and_both _ (has_32_bits r.pos) can).0).1
 
 -- a test passes some of a list where it passes a number of them that isn't 0
 any_counted : {A : Type 0} (test : A → Bool) (xs : List A) → list_any test xs ≡ nat_lt 0 (count_by test xs)

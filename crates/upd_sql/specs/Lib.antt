@@ -10,5 +10,3 @@ pub mod Making
 pub mod Wanted
 pub mod Sizes
 pub mod Doable
-pub mod Failing
-pub mod Asking

@@ -2,7 +2,6 @@
 ghost use Rattle.std.specs.Prelude.{◌≡◌};
 ghost use Rattle.sqlite.specs.Held.{state};
 ghost use Rattle.upd_sql.specs.Commits.{Looks};
-ghost use Rattle.upd_sql.specs.Failing.{AreReadable, FailsInside};
 ghost use Rattle.upd_sql.specs.Listed.{AreInOrder, by_state_row};
 ghost use Rattle.upd_sql.specs.Part.{AreActiveRows};
 
@@ -28,7 +27,6 @@ fn state_rows_in<S: Alter>(
     ensures same_reference { tx.new.conn.ghost_name ≡ tx.old.conn.ghost_name }
     ensures looks { Looks (λ it found. AreInOrder by_state_row it.states found.items)
         (state S.Store tx.old.conn.now) (state S.Store tx.new.conn.now) result }
-    ensures failed { FailsInside AreReadable (state S.Store tx.old.conn.now) (state S.Store tx.new.conn.now) result }
 {
     all_of(tx, alloc, texts::ALL_STATES, &[])
 }
@@ -40,7 +38,6 @@ pub(crate) fn active_in<S: Alter>(
 ) -> Result<ActiveRows, Error>
     ensures same_reference { tx.new.conn.ghost_name ≡ tx.old.conn.ghost_name }
     ensures looks { Looks AreActiveRows (state S.Store tx.old.conn.now) (state S.Store tx.new.conn.now) result }
-    ensures failed { FailsInside AreReadable (state S.Store tx.old.conn.now) (state S.Store tx.new.conn.now) result }
 {
     let idents = idents_in(tx, alloc)?;
     let cards = cards_in(tx, alloc)?;

@@ -1,9 +1,7 @@
 //! Rows of an answer as records.
-ghost use Rattle.std.specs.Prelude.{◌≡◌, true, List, map, IfErr, IfOk};
-ghost use Rattle.std.specs.List.{list_all};
+ghost use Rattle.std.specs.Prelude.{◌≡◌, List, map, IfOk};
 ghost use Rattle.upd_records.specs.Rows.{MarkRow, RunView};
 ghost use Rattle.upd_sql.specs.Encoded.{mark_row, run_row};
-ghost use Rattle.upd_sql.specs.Failing.{IsOutOfMemory, is_readable_run};
 ghost use Rattle.upd_sql.specs.First.{first_mark, first_run};
 
 use crate::record::{column_of, flag_in};
@@ -12,8 +10,6 @@ use upd_records::RunRow;
 
 pub(crate) fn run_of(row: &Row) -> Result<RunRow, Error>
     ensures found { IfOk result (λ run. (r : RunView) → row.now ≡ run_row r → run ≡ r) }
-    ensures failed { IfErr result (λ e. (r : RunView) → row.now ≡ run_row r → is_readable_run r ≡ true
-        → IsOutOfMemory e) }
 {
     let site = column_of(row, 0)?;
     let number = column_of(row, 1)?;
@@ -33,7 +29,6 @@ pub(crate) fn run_of(row: &Row) -> Result<RunRow, Error>
 
 pub(crate) fn mark_of(row: &Row) -> Result<u64, Error>
     ensures found { IfOk result (λ mark. (m : MarkRow) → row.now ≡ mark_row m → mark ≡ m.mark) }
-    ensures failed { IfErr result (λ e. (m : MarkRow) → row.now ≡ mark_row m → IsOutOfMemory e) }
 {
     column_of(row, 1)
 }
@@ -41,7 +36,6 @@ pub(crate) fn mark_of(row: &Row) -> Result<u64, Error>
 pub(crate) fn first_mark(rows: &[Row]) -> Result<u64, Error>
     ensures found { IfOk result (λ mark. (marks : List MarkRow) → rows.now ≡ map mark_row marks
         → mark ≡ first_mark marks) }
-    ensures failed { IfErr result (λ e. (marks : List MarkRow) → rows.now ≡ map mark_row marks → IsOutOfMemory e) }
 {
     match rows.first() {
         Some(row) => mark_of(row),
@@ -51,8 +45,6 @@ pub(crate) fn first_mark(rows: &[Row]) -> Result<u64, Error>
 
 pub(crate) fn first_run(rows: &[Row]) -> Result<Option<RunRow>, Error>
     ensures found { IfOk result (λ run. (runs : List RunView) → rows.now ≡ map run_row runs → run ≡ first_run runs) }
-    ensures failed { IfErr result (λ e. (runs : List RunView) → rows.now ≡ map run_row runs
-        → list_all is_readable_run runs ≡ true → IsOutOfMemory e) }
 {
     match rows.first() {
         Some(row) => Ok(Some(run_of(row)?)),

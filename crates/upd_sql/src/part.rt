@@ -1,14 +1,13 @@
 //! Parts of the tables: the rows of some decks and cards, and the numbers of rows.
-ghost use Rattle.std.specs.Prelude.{◌≡◌, ◌==◌, ◌<◌, ◌≤◌, ◌-◌, ◌^◌, ◌||◌, true, ℕ, [], ◌∷◌, List, length, map};
-ghost use Rattle.std.specs.Prelude.{IfErr, IfOk, IfSome};
-ghost use Rattle.std.specs.List.{filter, list_all};
+ghost use Rattle.std.specs.Prelude.{◌≡◌, ◌==◌, ◌||◌, ℕ, [], ◌∷◌, List, length, map};
+ghost use Rattle.std.specs.Prelude.{IfOk, IfSome};
+ghost use Rattle.std.specs.List.{filter};
 ghost use Rattle.std.specs.BTreeSet as sorted;
 ghost use Rattle.sqlite_value.specs.Order.{Row as SqlRow};
-ghost use Rattle.sqlite_value.specs.declared.value.Value.TheVariants.{Text};
 ghost use Rattle.sqlite.specs.Given.{IsPlain};
 ghost use Rattle.sqlite.specs.Held.{state};
 ghost use Rattle.sqlite.specs.Listing.{understood};
-ghost use Rattle.sqlite.specs.State.{HasCleanDisk, Shown};
+ghost use Rattle.sqlite.specs.State.{Shown};
 ghost use Rattle.upd_text.specs.Order.{by_name};
 ghost use Rattle.upd_text.specs.declared.card_ref.CardRef.{CardRef};
 ghost use Rattle.upd_records.specs.Rows.{IsSame, Rows, same_ref};
@@ -16,15 +15,13 @@ ghost use Rattle.upd_row_store.specs.Asked.{AreDecksOf, is_asked};
 ghost use Rattle.upd_row_store.specs.Assembling.{AreRowsOf};
 ghost use Rattle.upd_row_store.specs.PartRows.{is_loaded, part_rows};
 ghost use Rattle.upd_sqlite.specs.Keyed.{sqlite_count};
-ghost use Rattle.upd_sql.specs.Asking.{CanBeAsked};
 ghost use Rattle.upd_sql.specs.Commits.{Looks};
 ghost use Rattle.upd_sql.specs.Encoded.{num};
-ghost use Rattle.upd_sql.specs.Failing.{AreReadable, CanBeCounted, FailsInside, IsOutOfMemory, IsReadablePart};
 ghost use Rattle.upd_sql.specs.Listed.{AreInOrder, by_place, in_any_order};
 ghost use Rattle.upd_sql.specs.Part.{AnswersIdents, IsPart, is_of_ident};
 ghost use Rattle.upd_sql.specs.Schema.{library_schema};
 ghost use Rattle.upd_sql.specs.Sizes.{AreSizesOf};
-ghost use Rattle.upd_sql.specs.LibraryTables.{AnyTables, HoldsTables};
+ghost use Rattle.upd_sql.specs.LibraryTables.{HoldsTables};
 
 use crate::reads::mark_in;
 use crate::record::{Record, column_of};
@@ -55,7 +52,6 @@ pub struct Part {
 fn check_open<S: Alter>(tx: &mut Transaction<'_, S>) -> Result<(), Error>
     ensures same_reference { tx.new.conn.ghost_name ≡ tx.old.conn.ghost_name }
     ensures looks { Looks (λ _ _. Unit {0}) (state S.Store tx.old.conn.now) (state S.Store tx.new.conn.now) result }
-    ensures failed { FailsInside AnyTables (state S.Store tx.old.conn.now) (state S.Store tx.new.conn.now) result }
 {
     mark_in(tx, "")?;
     Ok(())
@@ -71,7 +67,6 @@ fn decks_of_card<S: Alter>(
     ensures looks { Looks (λ it found. AreInOrder in_any_order
         (map (λ r. r.deck) (filter (λ r. same_ref card.now r.card) it.cards)) found.items)
         (state S.Store tx.old.conn.now) (state S.Store tx.new.conn.now) result }
-    ensures failed { FailsInside AreReadable (state S.Store tx.old.conn.now) (state S.Store tx.new.conn.now) result }
 {
     all_of(
         tx,
@@ -90,7 +85,6 @@ pub(crate) fn decks_in<S: Alter>(
     ensures same_reference { tx.new.conn.ghost_name ≡ tx.old.conn.ghost_name }
     ensures looks { Looks (λ it found. AreDecksOf cards.now it.cards found.items) (state S.Store tx.old.conn.now)
         (state S.Store tx.new.conn.now) result }
-    ensures failed { FailsInside AreReadable (state S.Store tx.old.conn.now) (state S.Store tx.new.conn.now) result }
 {
     check_open(tx)?;
     let mut ages = Vec::new(alloc);
@@ -111,7 +105,6 @@ fn cards_of_deck<S: Alter>(
     ensures looks { Looks (λ it found. AreInOrder by_place
         (filter (λ r. (r.deck == 0) || (r.deck == deck)) it.cards) found.items)
         (state S.Store tx.old.conn.now) (state S.Store tx.new.conn.now) result }
-    ensures failed { FailsInside AreReadable (state S.Store tx.old.conn.now) (state S.Store tx.new.conn.now) result }
 {
     all_of(tx, alloc, texts::CARDS_OF_DECK, &[number(deck)])
 }
@@ -150,7 +143,6 @@ fn cards_of_decks<S: Alter>(
     ensures same_reference { tx.new.conn.ghost_name ≡ tx.old.conn.ghost_name }
     ensures looks { Looks (λ it found. IsSame found.items (filter (λ r. is_loaded ages.now r.deck) it.cards))
         (state S.Store tx.old.conn.now) (state S.Store tx.new.conn.now) result }
-    ensures failed { FailsInside AreReadable (state S.Store tx.old.conn.now) (state S.Store tx.new.conn.now) result }
 {
     match lone_deck(ages) {
         Some(deck) => cards_of_deck(tx, alloc, deck),
@@ -175,11 +167,6 @@ pub(crate) fn of_idents<S: Alter, T: Record + Drop>(
         → AnswersIdents (state S.Store) sql.now T.stored listed card_of
         → Looks (λ it found. IsSame found.items (filter (λ x. is_of_ident cards.now (card_of x)) (listed it)))
         (state S.Store tx.old.conn.now) (state S.Store tx.new.conn.now) result }
-    ensures failed { (listed : Rows → List T) (card_of : T → CardRef)
-        → ((ident : List ℕ) → CanBeAsked sql.now (Text ident ∷ []))
-        → AnswersIdents (state S.Store) sql.now T.stored listed card_of
-        → ((it : Rows) → AreReadable it → list_all T.is_readable (listed it) ≡ true)
-        → FailsInside AreReadable (state S.Store tx.old.conn.now) (state S.Store tx.new.conn.now) result }
 {
     check_open(tx)?;
     let mut asked = BTreeSet::new(alloc);
@@ -202,7 +189,6 @@ fn entries_of_idents<S: Alter>(
     ensures same_reference { tx.new.conn.ghost_name ≡ tx.old.conn.ghost_name }
     ensures looks { Looks (λ it found. IsSame found.items (filter (λ e. is_of_ident cards.now e.card) it.entries))
         (state S.Store tx.old.conn.now) (state S.Store tx.new.conn.now) result }
-    ensures failed { FailsInside AreReadable (state S.Store tx.old.conn.now) (state S.Store tx.new.conn.now) result }
 {
     of_idents(tx, alloc, texts::ENTRIES_OF_IDENT, cards)
 }
@@ -224,7 +210,6 @@ fn entries_of_cards<S: Alter>(
     ensures same_reference { tx.new.conn.ghost_name ≡ tx.old.conn.ghost_name }
     ensures looks { Looks (λ it found. IsSame found.items (filter (λ e. is_asked cards.now e.card) it.entries))
         (state S.Store tx.old.conn.now) (state S.Store tx.new.conn.now) result }
-    ensures failed { FailsInside AreReadable (state S.Store tx.old.conn.now) (state S.Store tx.new.conn.now) result }
 {
     let mut entries = entries_of_idents(tx, alloc, cards)?;
     keep_entries(&mut entries, &card_set(alloc, cards)?);
@@ -245,8 +230,6 @@ fn references_of(alloc: Global, cards: &[CardRow]) -> Result<Vec<CardRef>, Alloc
 /// The number in the first column of the first row, 0 where there is no row. A count at its last value is refused.
 fn first_count(rows: &[Row]) -> Result<u64, Error>
     ensures found { IfOk result (λ n. (count : ℕ) → rows.now ≡ (num (sqlite_count count) ∷ []) ∷ [] → n ≡ count) }
-    ensures failed { IfErr result (λ e. (count : ℕ) → rows.now ≡ (num (sqlite_count count) ∷ []) ∷ []
-        → count < 2 ^ 63 - 1 → IsOutOfMemory e) }
 {
     match rows.first() {
         Some(row) => below_last(column_of(row, 0)?),
@@ -257,7 +240,6 @@ fn first_count(rows: &[Row]) -> Result<u64, Error>
 /// A number that is a count. The last one is refused, since SQLite returns it for all counts above it, too.
 fn below_last(n: u64) -> Result<u64, Error>
     ensures found { IfOk result (λ m. (count : ℕ) → n ≡ sqlite_count count → m ≡ count) }
-    ensures failed { IfErr result (λ e. (count : ℕ) → n ≡ sqlite_count count → 2 ^ 63 - 1 ≤ count) }
 {
     if n < LAST {
         Ok(n)
@@ -274,11 +256,6 @@ fn number_of<S: Alter>(tx: &mut Transaction<'_, S>, sql: &str) -> Result<u64, Er
         → Shown sql.now [] (state S.Store tx.old.conn.now) (state S.Store tx.new.conn.now) rows
         → rows ≡ (num (sqlite_count (size it)) ∷ []) ∷ [])
         → Looks (λ it n. n ≡ size it) (state S.Store tx.old.conn.now) (state S.Store tx.new.conn.now) result }
-    ensures failed { (size : Rows → ℕ) → CanBeAsked sql.now []
-        → ((it : Rows) → HoldsTables it (state S.Store tx.old.conn.now).now → (rows : List SqlRow)
-        → Shown sql.now [] (state S.Store tx.old.conn.now) (state S.Store tx.new.conn.now) rows
-        → rows ≡ (num (sqlite_count (size it)) ∷ []) ∷ [])
-        → FailsInside (λ it. size it < 2 ^ 63 - 1) (state S.Store tx.old.conn.now) (state S.Store tx.new.conn.now) result }
 {
     let rows = rows_of(tx, sql, &[])?;
     first_count(&rows)
@@ -288,7 +265,6 @@ fn card_count<S: Alter>(tx: &mut Transaction<'_, S>) -> Result<u64, Error>
     ensures same_reference { tx.new.conn.ghost_name ≡ tx.old.conn.ghost_name }
     ensures looks { Looks (λ it n. n ≡ length it.cards) (state S.Store tx.old.conn.now)
         (state S.Store tx.new.conn.now) result }
-    ensures failed { FailsInside CanBeCounted (state S.Store tx.old.conn.now) (state S.Store tx.new.conn.now) result }
 {
     number_of(tx, texts::COUNT_CARDS)
 }
@@ -297,7 +273,6 @@ fn entry_count<S: Alter>(tx: &mut Transaction<'_, S>) -> Result<u64, Error>
     ensures same_reference { tx.new.conn.ghost_name ≡ tx.old.conn.ghost_name }
     ensures looks { Looks (λ it n. n ≡ length it.entries) (state S.Store tx.old.conn.now)
         (state S.Store tx.new.conn.now) result }
-    ensures failed { FailsInside CanBeCounted (state S.Store tx.old.conn.now) (state S.Store tx.new.conn.now) result }
 {
     number_of(tx, texts::COUNT_ENTRIES)
 }
@@ -311,7 +286,6 @@ fn part_rows_in<S: Alter>(
     ensures same_reference { tx.new.conn.ghost_name ≡ tx.old.conn.ghost_name }
     ensures looks { Looks (λ it found. AreRowsOf (part_rows ages.now it) found)
         (state S.Store tx.old.conn.now) (state S.Store tx.new.conn.now) result }
-    ensures failed { FailsInside AreReadable (state S.Store tx.old.conn.now) (state S.Store tx.new.conn.now) result }
 {
     let idents = idents_in(tx, alloc)?;
     let cards = cards_of_decks(tx, alloc, ages)?;
@@ -330,7 +304,6 @@ fn part_rows_in<S: Alter>(
 fn sizes_in<S: Alter>(tx: &mut Transaction<'_, S>) -> Result<Sizes, Error>
     ensures same_reference { tx.new.conn.ghost_name ≡ tx.old.conn.ghost_name }
     ensures looks { Looks AreSizesOf (state S.Store tx.old.conn.now) (state S.Store tx.new.conn.now) result }
-    ensures failed { FailsInside CanBeCounted (state S.Store tx.old.conn.now) (state S.Store tx.new.conn.now) result }
 {
     let cards = card_count(tx)?;
     let entries = entry_count(tx)?;
@@ -345,7 +318,6 @@ pub(crate) fn part_in<S: Alter>(
 ) -> Result<Part, Error>
     ensures same_reference { tx.new.conn.ghost_name ≡ tx.old.conn.ghost_name }
     ensures looks { Looks (IsPart ages.now) (state S.Store tx.old.conn.now) (state S.Store tx.new.conn.now) result }
-    ensures failed { FailsInside IsReadablePart (state S.Store tx.old.conn.now) (state S.Store tx.new.conn.now) result }
 {
     let rows = part_rows_in(tx, alloc, ages)?;
     let sizes = sizes_in(tx)?;

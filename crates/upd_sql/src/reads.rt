@@ -1,5 +1,5 @@
 //! The queries that read a site's stored run and its mark.
-ghost use Rattle.std.specs.Prelude.{◌≡◌, ◌<◌, ◌^◌, map, IfOk};
+ghost use Rattle.std.specs.Prelude.{◌≡◌, map, IfOk};
 ghost use Rattle.std.specs.List.{filter};
 ghost use Rattle.sqlite.specs.Held.{state};
 ghost use Rattle.sqlite.specs.State.{HasCleanDisk};
@@ -8,8 +8,7 @@ ghost use Rattle.upd_row_store.specs.Tables.{is_mark_of, is_run, mark_at, run_at
 ghost use Rattle.upd_sqlite.specs.Steps.{Steps};
 ghost use Rattle.upd_sql.specs.Commits.{LeavesTables, WasOpen};
 ghost use Rattle.upd_sql.specs.Encoded.{mark_row, run_row};
-ghost use Rattle.upd_sql.specs.Failing.{FailsInside, RunsAreReadable};
-ghost use Rattle.upd_sql.specs.LibraryTables.{AnyTables, HoldsTables};
+ghost use Rattle.upd_sql.specs.LibraryTables.{HoldsTables};
 
 use crate::decode::{first_mark, first_run};
 use crate::texts;
@@ -31,8 +30,6 @@ pub(crate) fn runs_of_key<S: Alter>(
     ensures found { HasCleanDisk (state S.Store tx.new.conn.now)
         → IfOk result (λ rows. (it : Rows) → HoldsTables it (state S.Store tx.old.conn.now).now
         → rows.items ≡ map run_row (filter (is_run site.now number) it.runs)) }
-    ensures failed { number < 2 ^ 63
-        → FailsInside AnyTables (state S.Store tx.old.conn.now) (state S.Store tx.new.conn.now) result }
 {
     let number = wide(number)?;
     ask(tx, texts::RUN_OF_KEY, &[values::site(site), number])
@@ -50,7 +47,6 @@ pub(crate) fn marks_of_site<S: Alter>(
     ensures found { HasCleanDisk (state S.Store tx.new.conn.now)
         → IfOk result (λ rows. (it : Rows) → HoldsTables it (state S.Store tx.old.conn.now).now
         → rows.items ≡ map mark_row (filter (is_mark_of site.now) it.settled)) }
-    ensures failed { FailsInside AnyTables (state S.Store tx.old.conn.now) (state S.Store tx.new.conn.now) result }
 {
     ask(tx, texts::MARK_OF_SITE, &[values::site(site)])
 }
@@ -64,7 +60,6 @@ pub(crate) fn mark_in<S: Alter>(tx: &mut Transaction<'_, S>, site: &str) -> Resu
     ensures found { HasCleanDisk (state S.Store tx.new.conn.now)
         → IfOk result (λ mark. (it : Rows) → HoldsTables it (state S.Store tx.old.conn.now).now → mark
         ≡ mark_at site.now it) }
-    ensures failed { FailsInside AnyTables (state S.Store tx.old.conn.now) (state S.Store tx.new.conn.now) result }
 {
     let rows = marks_of_site(tx, site)?;
     first_mark(&rows)
@@ -83,8 +78,6 @@ pub(crate) fn run_in<S: Alter>(
     ensures found { HasCleanDisk (state S.Store tx.new.conn.now)
         → IfOk result (λ run. (it : Rows) → HoldsTables it (state S.Store tx.old.conn.now).now → run
         ≡ run_at site.now number it) }
-    ensures failed { number < 2 ^ 63
-        → FailsInside RunsAreReadable (state S.Store tx.old.conn.now) (state S.Store tx.new.conn.now) result }
 {
     let rows = runs_of_key(tx, site, number)?;
     first_run(&rows)

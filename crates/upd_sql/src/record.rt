@@ -1,11 +1,8 @@
 //! Records that are stored as rows of a table, read back from the rows of a query.
-ghost use Rattle.std.specs.Prelude.{◌≡◌, ◌<◌, ◌+◌, [], ◌∷◌, ℕ, true, Bool, List, length, map, IfErr, IfOk};
-ghost use Rattle.std.specs.List.{list_all};
+ghost use Rattle.std.specs.Prelude.{◌≡◌, ◌<◌, ◌+◌, [], ◌∷◌, List, length, map, IfOk};
 ghost use Rattle.sqlite_value.specs.declared.value.Value.TheVariants.{Text};
 ghost use Rattle.sqlite_value.specs.Order.{column, Row as SqlRow};
 ghost use Rattle.upd_sql.specs.Encoded.{flag, kind_code, num, target_code};
-ghost use Rattle.upd_text.specs.Names.{is_name};
-ghost use Rattle.upd_sql.specs.Failing.{IsOutOfMemory, has_32_bits, is_readable_ref, is_readable_target};
 
 use sqlite::types::{FromSql, ValueRef};
 use sqlite::{Error, ErrorCode, Row};
@@ -18,13 +15,8 @@ pub(crate) trait Record: Sized {
     // The row as which it is stored.
     ghost stored: { Self → SqlRow };
 
-    // Whether that row can be read.
-    ghost is_readable: { Self → Bool };
-
     fn read(alloc: Global, row: &Row) -> Result<Self, Error>
-        ensures found { IfOk result (λ x. (kept : Self) → row.now ≡ stored kept → x ≡ kept) }
-        ensures failed { IfErr result (λ e. (kept : Self) → row.now ≡ stored kept → is_readable kept ≡ true
-            → IsOutOfMemory e) };
+        ensures found { IfOk result (λ x. (kept : Self) → row.now ≡ stored kept → x ≡ kept) };
 }
 
 /// The error of a row that is not the row of a record.
@@ -32,8 +24,6 @@ const ILLEGIBLE: Error = Error::SqliteFailure(ErrorCode::DatabaseCorrupt);
 
 fn name_in(row: &Row, at: usize) -> Result<Name, Error>
     ensures ok { IfOk result (λ name. column row.now at ≡ Text name) }
-    ensures failed { IfErr result (λ e. at < length row.now → (kept : List ℕ) → column row.now at ≡ Text kept
-        → is_name kept ≡ true → IsOutOfMemory e) }
 {
     match row.get_ref(at)? {
         ValueRef::Text(text) => match Name::read(text) {
@@ -46,8 +36,6 @@ fn name_in(row: &Row, at: usize) -> Result<Name, Error>
 
 fn text_in(alloc: Global, row: &Row, at: usize) -> Result<Vec<u8>, Error>
     ensures ok { IfOk result (λ text. column row.now at ≡ Text text.items) }
-    ensures failed { IfErr result (λ e. at < length row.now → (kept : List ℕ) → column row.now at ≡ Text kept
-        → IsOutOfMemory e) }
 {
     match row.get_ref(at)? {
         ValueRef::Text(text) => Ok(Vec::from_slice(alloc, text)?),
@@ -58,8 +46,6 @@ fn text_in(alloc: Global, row: &Row, at: usize) -> Result<Vec<u8>, Error>
 /// The card that the first two columns name.
 fn card_in(row: &Row) -> Result<CardRef, Error>
     ensures ok { IfOk result (λ card. (column row.now 0 ≡ Text card.name) × (column row.now 1 ≡ num card.number)) }
-    ensures failed { IfErr result (λ e. 1 < length row.now → (kept : CardRef) → column row.now 0 ≡ Text kept.name
-        → column row.now 1 ≡ num kept.number → is_readable_ref kept ≡ true → IsOutOfMemory e) }
 {
     let name = name_in(row, 0)?;
     let number = number_in(row, 1)?;
@@ -69,8 +55,6 @@ fn card_in(row: &Row) -> Result<CardRef, Error>
 /// A column of a row. Out of memory apart it fails only where the column isn't there, or can't be read.
 pub fn column_of<T: FromSql>(row: &Row, at: usize) -> Result<T, Error>
     ensures ok { IfOk result (λ x. (at < length row.now) × T.FromSql.reads_as (column row.now at) x) }
-    ensures failed { IfErr result (λ e. at < length row.now → T.FromSql.is_readable (column row.now at)
-        → IsOutOfMemory e) }
 {
     row.get(at)
 }
@@ -78,8 +62,6 @@ pub fn column_of<T: FromSql>(row: &Row, at: usize) -> Result<T, Error>
 /// A column that is a number of 32 bits.
 fn number_in(row: &Row, at: usize) -> Result<u32, Error>
     ensures ok { IfOk result (λ n. column row.now at ≡ num n) }
-    ensures failed { IfErr result (λ e. at < length row.now → (kept : ℕ) → column row.now at ≡ num kept
-        → has_32_bits kept ≡ true → IsOutOfMemory e) }
 {
     column_of(row, at)
 }
@@ -87,8 +69,6 @@ fn number_in(row: &Row, at: usize) -> Result<u32, Error>
 /// A column that is 0 or 1.
 pub fn flag_in(row: &Row, at: usize) -> Result<bool, Error>
     ensures ok { IfOk result (λ found. column row.now at ≡ flag found) }
-    ensures failed { IfErr result (λ e. at < length row.now → (kept : Bool) → column row.now at ≡ flag kept
-        → IsOutOfMemory e) }
 {
     match column_of::<u32>(row, at)? {
         0 => Ok(false),
@@ -99,7 +79,6 @@ pub fn flag_in(row: &Row, at: usize) -> Result<bool, Error>
 
 fn kind_of(code: u32) -> Result<Kind, Error>
     ensures ok { IfOk result (λ kind. kind_code kind ≡ code) }
-    ensures failed { IfErr result (λ e. (kept : Kind) → ¬ (kind_code kept ≡ code)) }
 {
     match code {
         0 => Ok(Kind::Set),
@@ -111,8 +90,6 @@ fn kind_of(code: u32) -> Result<Kind, Error>
 
 fn target_of(kind: u32, target: Serial, deck: Serial) -> Result<Target, Error>
     ensures ok { IfOk result (λ found. target_code found ≡ num kind ∷ num target ∷ num deck ∷ []) }
-    ensures failed { IfErr result (λ e. (kept : Target)
-        → ¬ (target_code kept ≡ num kind ∷ num target ∷ num deck ∷ [])) }
 {
     match (kind, deck) {
         (0, 0) => Ok(Target::Set(target)),
@@ -127,9 +104,6 @@ fn target_in(row: &Row, at: usize) -> Result<Target, Error>
     requires { at < 8 }
     ensures ok { IfOk result (λ found. target_code found
         ≡ column row.now at ∷ column row.now (at + 1) ∷ column row.now (at + 2) ∷ []) }
-    ensures failed { IfErr result (λ e. at + 2 < length row.now → (kept : Target) → target_code kept
-        ≡ column row.now at ∷ column row.now (at + 1) ∷ column row.now (at + 2) ∷ []
-        → is_readable_target kept ≡ true → IsOutOfMemory e) }
 {
     let kind = number_in(row, at)?;
     let target = number_in(row, at + 1)?;
@@ -139,11 +113,8 @@ fn target_in(row: &Row, at: usize) -> Result<Target, Error>
 
 impl Record for Ident {
     ghost use Rattle.upd_sql.specs.Encoded.{ident_row};
-    ghost use Rattle.upd_sql.specs.Failing.{is_readable_ident};
 
     ghost stored = { ident_row };
-
-    ghost is_readable = { is_readable_ident };
 
     fn read(_: Global, row: &Row) -> Result<Ident, Error> {
         let age = number_in(row, 0)?;
@@ -164,11 +135,8 @@ impl Record for Ident {
 
 impl Record for CardRow {
     ghost use Rattle.upd_sql.specs.Encoded.{card_row};
-    ghost use Rattle.upd_sql.specs.Failing.{is_readable_card};
 
     ghost stored = { card_row };
-
-    ghost is_readable = { is_readable_card };
 
     fn read(alloc: Global, row: &Row) -> Result<CardRow, Error> {
         let card = card_in(row)?;
@@ -186,11 +154,8 @@ impl Record for CardRow {
 
 impl Record for EntryRow {
     ghost use Rattle.upd_sql.specs.Encoded.{entry_row};
-    ghost use Rattle.upd_sql.specs.Failing.{is_readable_entry};
 
     ghost stored = { entry_row };
-
-    ghost is_readable = { is_readable_entry };
 
     fn read(_: Global, row: &Row) -> Result<EntryRow, Error> {
         let card = card_in(row)?;
@@ -204,11 +169,8 @@ impl Record for EntryRow {
 
 impl Record for TargetRow {
     ghost use Rattle.upd_sql.specs.Encoded.{target_row};
-    ghost use Rattle.upd_sql.specs.Failing.{is_readable_target_row};
 
     ghost stored = { target_row };
-
-    ghost is_readable = { is_readable_target_row };
 
     fn read(_: Global, row: &Row) -> Result<TargetRow, Error> {
         let card = card_in(row)?;
@@ -222,11 +184,8 @@ impl Record for TargetRow {
 impl Record for u32 {
     ghost use Rattle.std.specs.Prelude.{[], ◌∷◌};
     ghost use Rattle.upd_sql.specs.Encoded.{num};
-    ghost use Rattle.upd_sql.specs.Failing.{has_32_bits};
 
     ghost stored = { λ n. num n ∷ [] };
-
-    ghost is_readable = { has_32_bits };
 
     fn read(_: Global, row: &Row) -> Result<u32, Error> {
         number_in(row, 0)
@@ -235,11 +194,8 @@ impl Record for u32 {
 
 impl Record for StateRow {
     ghost use Rattle.upd_sql.specs.Encoded.{state_row};
-    ghost use Rattle.upd_sql.specs.Failing.{is_readable_state};
 
     ghost stored = { state_row };
-
-    ghost is_readable = { is_readable_state };
 
     fn read(_: Global, row: &Row) -> Result<StateRow, Error> {
         let card = card_in(row)?;
@@ -251,11 +207,8 @@ impl Record for StateRow {
 /// A card with its status.
 impl Record for (CardRef, bool) {
     ghost use Rattle.upd_sql.specs.Encoded.{kept_state};
-    ghost use Rattle.upd_sql.specs.Failing.{is_readable_ref};
 
     ghost stored = { kept_state };
-
-    ghost is_readable = { λ s. is_readable_ref s.0 };
 
     fn read(_: Global, row: &Row) -> Result<(CardRef, bool), Error> {
         let card = card_in(row)?;
@@ -266,13 +219,9 @@ impl Record for (CardRef, bool) {
 
 /// A target with its count.
 impl Record for (Target, u32) {
-    ghost use Rattle.std.specs.Prelude.{◌&&◌};
     ghost use Rattle.upd_sql.specs.Encoded.{kept_count};
-    ghost use Rattle.upd_sql.specs.Failing.{has_32_bits, is_readable_target};
 
     ghost stored = { kept_count };
-
-    ghost is_readable = { λ c. is_readable_target c.0 && has_32_bits c.1 };
 
     fn read(_: Global, row: &Row) -> Result<(Target, u32), Error> {
         let target = target_in(row, 0)?;
@@ -284,8 +233,6 @@ impl Record for (Target, u32) {
 /// The records of all rows of an answer.
 pub(crate) fn each<T: Record + Drop>(alloc: Global, rows: &[Row]) -> Result<Vec<T>, Error>
     ensures found { IfOk result (λ found. (kept : List T) → rows.now ≡ map T.stored kept → found.items ≡ kept) }
-    ensures failed { IfErr result (λ e. (kept : List T) → rows.now ≡ map T.stored kept
-        → list_all T.is_readable kept ≡ true → IsOutOfMemory e) }
 {
     let mut found = Vec::new(alloc);
     for row in rows {

@@ -6,7 +6,6 @@ ghost use Rattle.upd_records.specs.Rows.{IsSame};
 ghost use Rattle.upd_row_store.specs.Asked.{is_asked};
 ghost use Rattle.upd_row_store.specs.Tables.{AreByKey, AreReadOf, state_pair};
 ghost use Rattle.upd_sql.specs.Commits.{Looks};
-ghost use Rattle.upd_sql.specs.Failing.{AreReadable, FailsInside};
 ghost use Rattle.upd_sql.specs.Part.{is_of_ident};
 
 use crate::part::of_idents;
@@ -30,7 +29,6 @@ fn states_of_idents<S: Alter>(
     ensures same_reference { tx.new.conn.ghost_name ≡ tx.old.conn.ghost_name }
     ensures looks { Looks (λ it found. IsSame found.items (filter (λ p. is_of_ident cards.now p.0) (map state_pair it.states)))
         (state S.Store tx.old.conn.now) (state S.Store tx.new.conn.now) result }
-    ensures failed { FailsInside AreReadable (state S.Store tx.old.conn.now) (state S.Store tx.new.conn.now) result }
 {
     of_idents(tx, alloc, texts::STATES_OF_IDENT, cards)
 }
@@ -45,7 +43,6 @@ fn states_with<S: Alter>(
     ensures looks { Looks (λ it found. IsSame (filter (λ p. is_asked cards.now p.0) found.items)
         (filter (λ p. is_asked cards.now p.0) (map state_pair it.states)))
         (state S.Store tx.old.conn.now) (state S.Store tx.new.conn.now) result }
-    ensures failed { FailsInside AreReadable (state S.Store tx.old.conn.now) (state S.Store tx.new.conn.now) result }
 {
     if cards.len() <= MOST_BY_IDENT {
         states_of_idents(tx, alloc, cards)
@@ -64,7 +61,6 @@ pub(crate) fn card_states_in<S: Alter>(
     ensures same_reference { tx.new.conn.ghost_name ≡ tx.old.conn.ghost_name }
     ensures looks { Looks (λ it found. AreReadOf cards.now it found × AreByKey found) (state S.Store tx.old.conn.now)
         (state S.Store tx.new.conn.now) result }
-    ensures failed { FailsInside AreReadable (state S.Store tx.old.conn.now) (state S.Store tx.new.conn.now) result }
 {
     let mut states = states_with(tx, alloc, cards)?;
     keep_states(&mut states, &card_set(alloc, cards)?);

@@ -1,14 +1,13 @@
 //! What is stored, each read in a transaction of its own. An error is out of memory, a failure of the disk, or a file
 //! whose tables or rows are not a library's. None of these calls changes a table.
-ghost use Rattle.std.specs.Prelude.{◌≡◌, ◌<◌, ◌^◌, false, IfOk, IsTrue, OnOk};
+ghost use Rattle.std.specs.Prelude.{◌≡◌, false, IfOk, IsTrue, OnOk};
 ghost use Rattle.sqlite.specs.Held.{state};
 ghost use Rattle.sqlite.specs.State.{HasCleanDisk, Survives};
 ghost use Rattle.upd_records.specs.Rows.{Rows};
 ghost use Rattle.upd_row_store.specs.Tables.{AreByKey, AreRead, AreReadOf, mark_at, run_at};
 ghost use Rattle.upd_sql.specs.Commits.{MayKeep};
 ghost use Rattle.upd_sql.specs.Schema.{library_schema};
-ghost use Rattle.upd_sql.specs.Failing.{AreReadable, FailsToRead, IsReadablePart, RunsAreReadable};
-ghost use Rattle.upd_sql.specs.LibraryTables.{AnyTables, ShowsTables};
+ghost use Rattle.upd_sql.specs.LibraryTables.{ShowsTables};
 ghost use Rattle.upd_row_store.specs.Asked.{AreDecksOf};
 ghost use Rattle.upd_row_store.specs.Assembling.{AreRowsOf};
 ghost use Rattle.upd_sql.specs.Part.{AreActiveRows, IsPart};
@@ -36,7 +35,6 @@ pub fn stored_mark<S: Rising>(conn: &mut Connection<S>, site: &str) -> Result<u6
     ensures crash { Survives (state S.Store conn.old) (state S.Store conn.new) (MayKeep (state S.Store conn.old)) }
     ensures found { HasCleanDisk (state S.Store conn.new) → IfOk result (λ mark. (it : Rows)
         → ShowsTables it (state S.Store conn.old).committed → mark ≡ mark_at site.now it) }
-    ensures failed { FailsToRead AnyTables (state S.Store conn.old) (state S.Store conn.new) result }
 {
     let mut tx = begin(conn);
     let mark = reads::mark_in(&mut tx, site)?;
@@ -62,8 +60,6 @@ pub fn stored_run<S: Rising>(
     ensures crash { Survives (state S.Store conn.old) (state S.Store conn.new) (MayKeep (state S.Store conn.old)) }
     ensures found { HasCleanDisk (state S.Store conn.new) → IfOk result
         (λ run. (it : Rows) → ShowsTables it (state S.Store conn.old).committed → run ≡ run_at site.now number it) }
-    ensures failed { number < 2 ^ 63
-        → FailsToRead RunsAreReadable (state S.Store conn.old) (state S.Store conn.new) result }
 {
     let mut tx = begin(conn);
     let run = reads::run_in(&mut tx, site, number)?;
@@ -88,7 +84,6 @@ pub fn stored_library_rows<S: Rising>(
     ensures crash { Survives (state S.Store conn.old) (state S.Store conn.new) (MayKeep (state S.Store conn.old)) }
     ensures found { HasCleanDisk (state S.Store conn.new) → IfOk result
         (λ found. (it : Rows) → ShowsTables it (state S.Store conn.old).committed → AreRowsOf it found) }
-    ensures failed { FailsToRead AreReadable (state S.Store conn.old) (state S.Store conn.new) result }
 {
     let mut tx = begin(conn);
     let found = whole::library_rows_in(&mut tx, alloc)?;
@@ -112,7 +107,6 @@ pub fn stored_states<S: Rising>(conn: &mut Connection<S>, alloc: Global) -> Resu
         (λ found. (it : Rows) → ShowsTables it (state S.Store conn.old).committed → AreRead it found) }
     ensures order { HasCleanDisk (state S.Store conn.new) → IfOk result
         (λ found. (it : Rows) → ShowsTables it (state S.Store conn.old).committed → AreByKey found) }
-    ensures failed { FailsToRead AreReadable (state S.Store conn.old) (state S.Store conn.new) result }
 {
     let mut tx = begin(conn);
     let found = whole::all_states_in(&mut tx, alloc)?;
@@ -141,7 +135,6 @@ pub fn stored_states_of<S: Rising>(
         (λ found. (it : Rows) → ShowsTables it (state S.Store conn.old).committed → AreReadOf cards.now it found) }
     ensures order { HasCleanDisk (state S.Store conn.new) → IfOk result
         (λ found. (it : Rows) → ShowsTables it (state S.Store conn.old).committed → AreByKey found) }
-    ensures failed { FailsToRead AreReadable (state S.Store conn.old) (state S.Store conn.new) result }
 {
     let mut tx = begin(conn);
     let found = statuses::card_states_in(&mut tx, alloc, cards)?;
@@ -167,7 +160,6 @@ pub fn stored_decks_of<S: Rising>(
     ensures crash { Survives (state S.Store conn.old) (state S.Store conn.new) (MayKeep (state S.Store conn.old)) }
     ensures found { HasCleanDisk (state S.Store conn.new) → IfOk result (λ found. (it : Rows)
         → ShowsTables it (state S.Store conn.old).committed → AreDecksOf cards.now it.cards found.items) }
-    ensures failed { FailsToRead AreReadable (state S.Store conn.old) (state S.Store conn.new) result }
 {
     let mut tx = begin(conn);
     let found = part::decks_in(&mut tx, alloc, cards)?;
@@ -193,7 +185,6 @@ pub fn stored_part<S: Rising>(
     ensures crash { Survives (state S.Store conn.old) (state S.Store conn.new) (MayKeep (state S.Store conn.old)) }
     ensures found { HasCleanDisk (state S.Store conn.new) → IfOk result
         (λ found. (it : Rows) → ShowsTables it (state S.Store conn.old).committed → IsPart ages.now it found) }
-    ensures failed { FailsToRead IsReadablePart (state S.Store conn.old) (state S.Store conn.new) result }
 {
     let mut tx = begin(conn);
     let found = part::part_in(&mut tx, alloc, ages)?;
@@ -218,7 +209,6 @@ pub fn stored_active<S: Rising>(
     ensures crash { Survives (state S.Store conn.old) (state S.Store conn.new) (MayKeep (state S.Store conn.old)) }
     ensures found { HasCleanDisk (state S.Store conn.new) → IfOk result
         (λ found. (it : Rows) → ShowsTables it (state S.Store conn.old).committed → AreActiveRows it found) }
-    ensures failed { FailsToRead AreReadable (state S.Store conn.old) (state S.Store conn.new) result }
 {
     let mut tx = begin(conn);
     let found = active::active_in(&mut tx, alloc)?;

@@ -1,7 +1,7 @@
 //! Parameters of statements.
 ghost use Rattle.std.specs.Prelude.{◌≡◌, ◌≤◌, ◌^◌, IfErr, IfOk, [], ◌∷◌};
 ghost use Rattle.sqlite_value.specs.Value.{owned};
-ghost use Rattle.sqlite_value.specs.declared.value.Value.TheVariants.{Int, Text, Blob};
+ghost use Rattle.sqlite_value.specs.declared.value.Value.TheVariants.{Text, Blob};
 ghost use Rattle.upd_sql.specs.Encoded.{flag, kind_code, num, target_code};
 
 use sqlite::types::ValueRef;

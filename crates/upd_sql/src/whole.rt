@@ -1,6 +1,5 @@
 //! Whole tables, each read by one query.
-ghost use Rattle.std.specs.Prelude.{◌≡◌, true, List, map, IfOk};
-ghost use Rattle.std.specs.List.{list_all};
+ghost use Rattle.std.specs.Prelude.{◌≡◌, List, map, IfOk};
 ghost use Rattle.sqlite_value.specs.Order.{Row as SqlRow};
 ghost use Rattle.sqlite.specs.Given.{IsPlain};
 ghost use Rattle.sqlite.specs.Held.{state};
@@ -14,9 +13,7 @@ ghost use Rattle.upd_sqlite.specs.Steps.{Steps};
 ghost use Rattle.upd_sql.specs.Commits.{LeavesTables, Looks, WasOpen};
 ghost use Rattle.upd_sql.specs.Listed.{AreInOrder, by_age, by_entry, by_place, by_target, in_any_order};
 ghost use Rattle.upd_sql.specs.Schema.{library_schema};
-ghost use Rattle.upd_sql.specs.Asking.{CanBeAsked};
-ghost use Rattle.upd_sql.specs.Failing.{AreReadable, FailsInside};
-ghost use Rattle.upd_sql.specs.LibraryTables.{AnyTables, HoldsTables};
+ghost use Rattle.upd_sql.specs.LibraryTables.{HoldsTables};
 ghost use Rattle.upd_row_store.specs.Assembling.{AreRowsOf};
 
 use crate::record::{Record, each};
@@ -42,8 +39,6 @@ pub(crate) fn rows_of<S: Alter>(
         → LeavesTables (state S.Store tx.old.conn.now) (state S.Store tx.new.conn.now) result }
     ensures shown { HasCleanDisk (state S.Store tx.new.conn.now) → IfOk result
         (λ rows. Shown sql.now (bound params.now) (state S.Store tx.old.conn.now) (state S.Store tx.new.conn.now) rows.items) }
-    ensures failed { CanBeAsked sql.now (bound params.now)
-        → FailsInside AnyTables (state S.Store tx.old.conn.now) (state S.Store tx.new.conn.now) result }
 {
     ask(tx, sql, params)
 }
@@ -62,12 +57,6 @@ pub(crate) fn all_of<S: Alter, T: Record + Drop>(
         → (kept : List T) × (rows ≡ map T.stored kept) × AreInOrder cmp (listed it) kept)
         → Looks (λ it found. AreInOrder cmp (listed it) found.items) (state S.Store tx.old.conn.now)
         (state S.Store tx.new.conn.now) result }
-    ensures failed { (listed : Rows → List T) (cmp : T → T → Ordering) → CanBeAsked sql.now (bound params.now)
-        → ((it : Rows) → HoldsTables it (state S.Store tx.old.conn.now).now → (rows : List SqlRow)
-        → Shown sql.now (bound params.now) (state S.Store tx.old.conn.now) (state S.Store tx.new.conn.now) rows
-        → (kept : List T) × (rows ≡ map T.stored kept) × AreInOrder cmp (listed it) kept)
-        → ((it : Rows) → AreReadable it → list_all T.is_readable (listed it) ≡ true)
-        → FailsInside AreReadable (state S.Store tx.old.conn.now) (state S.Store tx.new.conn.now) result }
 {
     let rows = rows_of(tx, sql, params)?;
     each(alloc, &rows)
@@ -80,7 +69,6 @@ pub(crate) fn idents_in<S: Alter>(
     ensures same_reference { tx.new.conn.ghost_name ≡ tx.old.conn.ghost_name }
     ensures looks { Looks (λ it found. AreInOrder by_age it.idents found.items)
         (state S.Store tx.old.conn.now) (state S.Store tx.new.conn.now) result }
-    ensures failed { FailsInside AreReadable (state S.Store tx.old.conn.now) (state S.Store tx.new.conn.now) result }
 {
     all_of(tx, alloc, texts::ALL_IDENTS, &[])
 }
@@ -92,7 +80,6 @@ pub(crate) fn cards_in<S: Alter>(
     ensures same_reference { tx.new.conn.ghost_name ≡ tx.old.conn.ghost_name }
     ensures looks { Looks (λ it found. AreInOrder by_place it.cards found.items)
         (state S.Store tx.old.conn.now) (state S.Store tx.new.conn.now) result }
-    ensures failed { FailsInside AreReadable (state S.Store tx.old.conn.now) (state S.Store tx.new.conn.now) result }
 {
     all_of(tx, alloc, texts::ALL_CARDS, &[])
 }
@@ -101,7 +88,6 @@ fn entries_in<S: Alter>(tx: &mut Transaction<'_, S>, alloc: Global) -> Result<Ve
     ensures same_reference { tx.new.conn.ghost_name ≡ tx.old.conn.ghost_name }
     ensures looks { Looks (λ it found. AreInOrder by_entry it.entries found.items)
         (state S.Store tx.old.conn.now) (state S.Store tx.new.conn.now) result }
-    ensures failed { FailsInside AreReadable (state S.Store tx.old.conn.now) (state S.Store tx.new.conn.now) result }
 {
     all_of(tx, alloc, texts::ALL_ENTRIES, &[])
 }
@@ -113,7 +99,6 @@ pub(crate) fn targets_in<S: Alter>(
     ensures same_reference { tx.new.conn.ghost_name ≡ tx.old.conn.ghost_name }
     ensures looks { Looks (λ it found. AreInOrder by_target it.targets found.items)
         (state S.Store tx.old.conn.now) (state S.Store tx.new.conn.now) result }
-    ensures failed { FailsInside AreReadable (state S.Store tx.old.conn.now) (state S.Store tx.new.conn.now) result }
 {
     all_of(tx, alloc, texts::ALL_TARGETS, &[])
 }
@@ -125,7 +110,6 @@ pub(crate) fn states_in<S: Alter>(
     ensures same_reference { tx.new.conn.ghost_name ≡ tx.old.conn.ghost_name }
     ensures looks { Looks (λ it found. AreInOrder in_any_order (map state_pair it.states) found.items)
         (state S.Store tx.old.conn.now) (state S.Store tx.new.conn.now) result }
-    ensures failed { FailsInside AreReadable (state S.Store tx.old.conn.now) (state S.Store tx.new.conn.now) result }
 {
     all_of(tx, alloc, texts::EACH_STATE, &[])
 }
@@ -137,7 +121,6 @@ pub(crate) fn counts_in<S: Alter>(
     ensures same_reference { tx.new.conn.ghost_name ≡ tx.old.conn.ghost_name }
     ensures looks { Looks (λ it found. AreInOrder in_any_order (map count_pair it.counts) found.items)
         (state S.Store tx.old.conn.now) (state S.Store tx.new.conn.now) result }
-    ensures failed { FailsInside AreReadable (state S.Store tx.old.conn.now) (state S.Store tx.new.conn.now) result }
 {
     all_of(tx, alloc, texts::ALL_COUNTS, &[])
 }
@@ -149,7 +132,6 @@ pub fn library_rows_in<S: Alter>(
 ) -> Result<LibraryRows, Error>
     ensures same_reference { tx.new.conn.ghost_name ≡ tx.old.conn.ghost_name }
     ensures looks { Looks AreRowsOf (state S.Store tx.old.conn.now) (state S.Store tx.new.conn.now) result }
-    ensures failed { FailsInside AreReadable (state S.Store tx.old.conn.now) (state S.Store tx.new.conn.now) result }
 {
     Ok(LibraryRows {
         idents: idents_in(tx, alloc)?,
@@ -168,7 +150,6 @@ pub(crate) fn all_states_in<S: Alter>(
     ensures same_reference { tx.new.conn.ghost_name ≡ tx.old.conn.ghost_name }
     ensures looks { Looks (λ it found. AreRead it found × AreByKey found) (state S.Store tx.old.conn.now)
         (state S.Store tx.new.conn.now) result }
-    ensures failed { FailsInside AreReadable (state S.Store tx.old.conn.now) (state S.Store tx.new.conn.now) result }
 {
     let states = states_in(tx, alloc)?;
     let counts = counts_in(tx, alloc)?;

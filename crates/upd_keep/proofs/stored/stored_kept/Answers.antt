@@ -1,11 +1,8 @@
-use Rattle.std.proofs.Common.{◌≡◌, Err, sym, subst, rules}
+use Rattle.std.proofs.Common.{◌≡◌, sym, subst, rules}
 use Rattle.sqlite.specs.Held.{state}
-use Rattle.sqlite.specs.State.{HasCleanDisk, Survives}
+use Rattle.sqlite.specs.State.{HasCleanDisk}
 use Rattle.upd_sqlite.proofs.Chains.{clean_before}
 use Rattle.upd_keep.specs.Keeping.{AreKept}
-use Rattle.upd_sql.proofs.Columns.{passed}
-use Rattle.upd_sql.proofs.Failures.{fails_outside}
-use Rattle.upd_keep.specs.Failing.{AreReadable}
 use Rattle.upd_keep.proofs.Listing.{found_outside}
 use Rattle.upd_keep.proofs.stored.stored_kept.Goals as goal
 
@@ -18,14 +15,3 @@ returns-clause-found g c clean =
     let same : c.rollback.new.self.0 ≡ c.conn-2-1.given.0 = search rules in
     let early = clean_before last end _ c.rollback.ensures.survives (subst (λ h. HasCleanDisk (state g.S.Store h)) (sym same) clean) in
     found_outside AreKept old last c.in_ok-kept.kept early c.begin-tx.ensures.rise c.begin-tx.ensures.settled (rw begun at c.in_ok-kept.ensures.looks)
-
-pub returns-in_err-kept-clause-failed : goal.returns-in_err-kept-clause-failed
-returns-in_err-kept-clause-failed g c clean is_open unlimited it shown readable =
-    let old = state g.S.Store c.args.conn.now in
-    let last = state g.S.Store c.kept_in.new.tx.conn.now in
-    let begun = c.begin-tx.ensures.begun in
-    let same : c.drop-tx.new.self.0 ≡ c.conn-1.given.0 = search rules in
-    let ended = subst (λ h. Survives last (state g.S.Store h) (λ _. ⊥)) same c.drop-tx.ensures.survives in
-    passed _ c.from_residual.result c.from_residual.ensures.1
-    (fails_outside {X = Unit {0}} AreReadable old last (state g.S.Store c.conn-1.given.0) (Err c.in_err-kept.field-0.0) ended c.begin-tx.ensures.rise
-    c.begin-tx.ensures.settled (rw begun at c.in_err-kept.ensures.failed) clean is_open unlimited it shown readable)

@@ -2,15 +2,9 @@ use Rattle.sqlite.specs.Held.{state}
 use Rattle.upd_sql.specs.Listed.{by_state_row}
 use Rattle.upd_sql.proofs.ReadTexts as query
 use Rattle.upd_sql.proofs.WholeLemmas.{state_rows_listed}
-use Rattle.upd_sql.proofs.AskTexts.{all_states_asked}
 use Rattle.upd_sql.proofs.active.state_rows_in.Goals as goal
 
 pub returns-clause-looks : goal.returns-clause-looks
 returns-clause-looks g c =
     c.all_of.ensures.looks (λ it. it.states) by_state_row query.all_states_plain
     (state_rows_listed (state g.S.Store c.args.tx.now.conn.now) (state g.S.Store c.all_of.new.tx.conn.now))
-
-pub returns-clause-failed : goal.returns-clause-failed
-returns-clause-failed g c =
-    c.all_of.ensures.failed (λ it. it.states) by_state_row all_states_asked
-    (state_rows_listed (state g.S.Store c.args.tx.now.conn.now) (state g.S.Store c.all_of.new.tx.conn.now)) (λ it readable. readable.states)

@@ -7,9 +7,6 @@ use Rattle.upd_sql.specs.Commits.{Looks}
 use Rattle.upd_sql.specs.Listed.{AreInOrder, in_any_order}
 use Rattle.upd_sql.proofs.PartLemmas.{decks_next, no_decks}
 use Rattle.upd_sql.proofs.WholeLemmas.{looks_as, looks_more}
-use Rattle.upd_sql.specs.Failing.{AreReadable}
-use Rattle.upd_sql.proofs.Columns.{passed}
-use Rattle.upd_sql.proofs.Failures.{then_fails}
 use Rattle.upd_sql.proofs.part.decks_in.Goals as goal
 
 pub loop-card-init : goal.loop-card-init
@@ -44,16 +41,3 @@ returns-clause-looks g c =
     take_all c.loop-card.card-index c.args.cards.now (omega (arith, c.loop-card-test.false)) in
     subst (λ cs. Looks (λ it found. AreDecksOf cs it.cards found.items) (state g.S.Store c.args.tx.now.conn.now) (state g.S.Store c.loop-card.tx.conn.now)
     (Ok c.loop-card.ages)) all c.loop-card.invariant.1
-
-pub returns-in_err-check_open-clause-failed : goal.returns-in_err-check_open-clause-failed
-returns-in_err-check_open-clause-failed g c clean is_open unlimited it h readable =
-    passed _ c.from_residual.result c.from_residual.ensures.1 (c.in_err-check_open.ensures.failed clean is_open unlimited it h tt)
-
-pub returns-in_err-found-clause-failed : goal.returns-in_err-found-clause-failed
-returns-in_err-found-clause-failed g c clean is_open unlimited it h readable =
-    let old = state g.S.Store c.args.tx.now.conn.now in
-    let mid = state g.S.Store c.loop-card.tx.conn.now in
-    let new = state g.S.Store c.decks_of_card.new.tx.conn.now in
-    let all = then_fails AreReadable (λ it found. AreDecksOf (take c.loop-card.card-index c.args.cards.now) it.cards found.items) old mid new c.loop-card.ages
-    c.in_err-found.field-0.0 c.loop-card.invariant.1 (c.in_err-found.ensures.looks.steps.survives, c.in_err-found.ensures.failed) in
-    passed _ c.from_residual-in_err-found.result c.from_residual-in_err-found.ensures.1 (all.1 clean is_open unlimited it h readable)

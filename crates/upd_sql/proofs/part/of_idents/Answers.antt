@@ -12,9 +12,6 @@ use Rattle.upd_sql.specs.Part.{is_of_ident}
 use Rattle.upd_sql.proofs.PartLemmas.{asked_next, no_rows, rows_next, rows_stay}
 use Rattle.upd_sql.proofs.WholeLemmas.{looks_as, looks_more, looks_not, looks_then}
 use Rattle.upd_sql.proofs.part.of_idents.Goals.{then-branch+in_ok-more+in_ok-append, else-branch}
-use Rattle.upd_sql.specs.Failing.{AreReadable}
-use Rattle.upd_sql.proofs.Columns.{passed}
-use Rattle.upd_sql.proofs.Failures.{all_kept, then_fails}
 use Rattle.upd_sql.proofs.part.of_idents.Goals as goal
 
 not_there : (a b : Bool) → a ≡ not b → a ≡ true → b ≡ false
@@ -113,23 +110,3 @@ returns-in_err-append-clause-looks g c listed card_of plain means =
     (c.in_ok-more.ensures.looks (λ it. filter (λ x. bytes_eq name (card_of x).name) (listed it)) in_any_order plain
     (λ it h rows shown. means.answers c.loop-card.tx.conn.now c.all_of.new.tx.conn.now it h rows name (rw c.name.ensures at shown))))
     c.from_residual-in_err-append.ensures.0
-
-pub returns-in_err-check_open-clause-failed : goal.returns-in_err-check_open-clause-failed
-returns-in_err-check_open-clause-failed g c listed card_of can means reads clean is_open unlimited it h readable =
-    passed _ c.from_residual.result c.from_residual.ensures.1 (c.in_err-check_open.ensures.failed clean is_open unlimited it h tt)
-
-pub returns-in_err-more-clause-failed : goal.returns-in_err-more-clause-failed
-returns-in_err-more-clause-failed g c listed card_of can means reads clean is_open unlimited it h readable =
-    let old = state g.S.Store c.args.tx.now.conn.now in
-    let mid = state g.S.Store c.loop-card.tx.conn.now in
-    let new = state g.S.Store c.all_of.new.tx.conn.now in
-    let name = c.card-item.result.name in
-    let plain = (can []).plain in
-    let survives = c.in_err-more.ensures.looks (λ it. filter (λ x. bytes_eq name (card_of x).name) (listed it)) in_any_order plain
-    (λ it h rows shown. means.answers c.loop-card.tx.conn.now c.all_of.new.tx.conn.now it h rows name (rw c.name.ensures at shown)) in
-    let fails = c.in_err-more.ensures.failed (λ it. filter (λ x. bytes_eq name (card_of x).name) (listed it)) in_any_order (rw c.name.ensures (can name))
-    (λ it h rows shown. means.answers c.loop-card.tx.conn.now c.all_of.new.tx.conn.now it h rows name (rw c.name.ensures at shown))
-    (λ it readable. all_kept g.T.Record.is_readable (λ x. bytes_eq name (card_of x).name) (listed it) (reads it readable)) in
-    let all = then_fails AreReadable (λ it found. IsSame found.items (filter (λ x. is_of_ident (take c.loop-card.card-index c.args.cards.now) (card_of x)) (listed it)))
-    old mid new c.loop-card.found c.in_err-more.field-0.0 (c.loop-card.invariant.2 listed card_of plain means) (survives.steps.survives, fails) in
-    passed _ c.from_residual-in_err-more.result c.from_residual-in_err-more.ensures.1 (all.1 clean is_open unlimited it h readable)

@@ -7,11 +7,9 @@ use Rattle.sqlite.specs.State.{State, Shown}
 use Rattle.upd_records.specs.Rows.{Rows}
 use Rattle.upd_row_store.specs.Tables.{is_mark_of}
 use Rattle.upd_sql.specs.Encoded.{mark_row}
-use Rattle.upd_sql.specs.LibraryTables.{AnyTables, HoldsTables}
+use Rattle.upd_sql.specs.LibraryTables.{HoldsTables}
 use Rattle.upd_sql.proofs.Finds.{marks_found, untouched}
 use Rattle.upd_sql.proofs.Typed.{was_open_from}
-use Rattle.upd_sql.proofs.AskTexts.{mark_of_site_asked}
-use Rattle.upd_sql.proofs.Failures.{asks_inside}
 use Rattle.upd_sql.proofs.ReadTexts as query
 use Rattle.upd_sql.proofs.reads.marks_of_site.Goals as goal
 
@@ -35,8 +33,3 @@ pub returns-clause-same : goal.returns-clause-same
 returns-clause-same g c clean =
     untouched (λ rows. rows.items) query.mark_of_site (Text c.args.site.now ∷ []) (state g.S.Store c.args.tx.now.conn.now)
     (state g.S.Store c.ask.new.tx.conn.now) c.ask.result query.mark_of_site_plain (rw c.site.ensures at (c.ask.ensures.shown clean))
-
-pub returns-clause-failed : goal.returns-clause-failed
-returns-clause-failed g c =
-    asks_inside query.mark_of_site (Text c.args.site.now ∷ []) AnyTables (state g.S.Store c.args.tx.now.conn.now) (state g.S.Store c.ask.new.tx.conn.now)
-    c.ask.result (mark_of_site_asked c.args.site.now) (rw c.site.ensures at c.ask.ensures.failed)

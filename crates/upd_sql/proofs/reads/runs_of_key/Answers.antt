@@ -7,11 +7,9 @@ use Rattle.sqlite.specs.State.{State, Shown}
 use Rattle.upd_records.specs.Rows.{Rows}
 use Rattle.upd_row_store.specs.Tables.{is_run}
 use Rattle.upd_sql.specs.Encoded.{num, run_row}
-use Rattle.upd_sql.specs.LibraryTables.{AnyTables, HoldsTables}
+use Rattle.upd_sql.specs.LibraryTables.{HoldsTables}
 use Rattle.upd_sql.proofs.Finds.{runs_found, untouched}
 use Rattle.upd_sql.proofs.Typed.{was_open_from}
-use Rattle.upd_sql.proofs.AskTexts.{run_of_key_asked}
-use Rattle.upd_sql.proofs.Failures.{asks_inside}
 use Rattle.upd_sql.proofs.ReadTexts as query
 use Rattle.upd_sql.proofs.reads.runs_of_key.Goals as goal
 
@@ -35,9 +33,3 @@ pub returns-clause-same : goal.returns-clause-same
 returns-clause-same g c clean =
     untouched (λ rows. rows.items) query.run_of_key (Text c.args.site.now ∷ num c.args.number ∷ []) (state g.S.Store c.args.tx.now.conn.now)
     (state g.S.Store c.ask.new.tx.conn.now) c.ask.result query.run_of_key_plain (rw (c.in_ok-number.ensures.value, c.site.ensures) at (c.ask.ensures.shown clean))
-
-pub returns-clause-failed : goal.returns-clause-failed
-returns-clause-failed g c small =
-    asks_inside query.run_of_key (Text c.args.site.now ∷ num c.args.number ∷ []) AnyTables (state g.S.Store c.args.tx.now.conn.now)
-    (state g.S.Store c.ask.new.tx.conn.now) c.ask.result (run_of_key_asked c.args.site.now c.args.number)
-    (rw (c.in_ok-number.ensures.value, c.site.ensures) at c.ask.ensures.failed)

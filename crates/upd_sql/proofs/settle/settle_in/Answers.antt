@@ -6,8 +6,6 @@ use Rattle.upd_sql.proofs.settle.settle_in.Goals as goal
 
 pub returns-clause-mark : goal.returns-clause-mark
 returns-clause-mark g c clean =
-    let old = state g.S.Store c.args.tx.now.conn.now in
     let mid = state g.S.Store c.mark_in.new.tx.conn.now in
     let early : HasCleanDisk mid = omega (arith, clean, c.set_mark.ensures.makes.steps.survives.clean) in
-    let said = c.in_ok-mark.ensures in
-    mark_rises_to c.args.site.now c.args.number c.in_ok-mark.mark old mid said.steps said.same said.found c.if-number-mark.false early
+    λ it h. mark_rises_to c.args.site.now c.args.number c.in_ok-mark.mark it c.if-number-mark.false (c.in_ok-mark.ensures.found early it h)

@@ -6,9 +6,6 @@ use Rattle.upd_row_store.specs.Tables.{AreByKey, AreReadOf, count_pair, state_pa
 use Rattle.upd_row_store.proofs.AskedLemmas.{states_kept}
 use Rattle.upd_sql.specs.Listed.{AreInOrder, in_any_order}
 use Rattle.upd_sql.proofs.WholeLemmas.{looks_more}
-use Rattle.upd_sql.specs.Failing.{AreReadable}
-use Rattle.upd_sql.proofs.Columns.{passed}
-use Rattle.upd_sql.proofs.Failures.{then_fails}
 use Rattle.upd_sql.proofs.statuses.card_states_in.Goals as goal
 
 pub returns-clause-looks : goal.returns-clause-looks
@@ -25,14 +22,3 @@ returns-clause-looks g c =
       counts = q.same;
     }) in
     (record { states = found.states; counts = found.counts }, c.states_by_key.ensures.order))
-
-pub returns-in_err-counts-clause-failed : goal.returns-in_err-counts-clause-failed
-returns-in_err-counts-clause-failed g c clean is_open unlimited it h readable =
-    let cards = c.args.cards.now in
-    let a = state g.S.Store c.args.tx.now.conn.now in
-    let s1 = state g.S.Store c.states_with.new.tx.conn.now in
-    let s2 = state g.S.Store c.counts_in.new.tx.conn.now in
-    let all = then_fails AreReadable (λ it x. IsSame (filter (λ p. is_asked cards p.0) x.items) (filter (λ p. is_asked cards p.0) (map state_pair it.states)))
-    a s1 s2 c.in_ok-states.states c.in_err-counts.field-0.0 c.in_ok-states.ensures.looks
-    (c.in_err-counts.ensures.looks.steps.survives, c.in_err-counts.ensures.failed) in
-    passed _ c.from_residual-in_err-counts.result c.from_residual-in_err-counts.ensures.1 (all.1 clean is_open unlimited it h readable)

@@ -1,13 +1,10 @@
-use Rattle.std.proofs.Common.{◌≡◌, Err, refl, sym, subst, rules}
+use Rattle.std.proofs.Common.{◌≡◌, refl, sym, subst, rules}
 use Rattle.sqlite.specs.Held.{state}
 use Rattle.sqlite.specs.State.{HasCleanDisk, Survives}
 use Rattle.sqlite.proofs.Callers.{survives_begin}
 use Rattle.upd_sqlite.proofs.Chains.{clean_before}
 use Rattle.upd_sql.specs.Commits.{MayKeep}
 use Rattle.upd_sql.proofs.CommitLemmas.{read_leaves, holds_begun}
-use Rattle.upd_sql.specs.Failing.{FailsToRead, IsReadablePart}
-use Rattle.upd_sql.proofs.Columns.{passed}
-use Rattle.upd_sql.proofs.Failures.{fails_committing, fails_outside}
 use Rattle.upd_sql.proofs.stored.stored_part.Goals as goal
 
 pub returns-in_err-commit-clause-crash : goal.returns-in_err-commit-clause-crash
@@ -33,26 +30,3 @@ returns-clause-found g c clean it shown =
     let early = clean_before last end _ c.commit.ensures.survives (subst (λ h. HasCleanDisk (state g.S.Store h)) (sym same) clean) in
     let was_open = looks.was_open early refl in
     looks.found early it (holds_begun old c.begin-tx.ensures.rise c.begin-tx.ensures.settled was_open it shown)
-
-pub returns-in_err-found-clause-failed : goal.returns-in_err-found-clause-failed
-returns-in_err-found-clause-failed g c clean is_open unlimited it shown readable =
-    let old = state g.S.Store c.args.conn.now in
-    let last = state g.S.Store c.part_in.new.tx.conn.now in
-    let begun = c.begin-tx.ensures.begun in
-    let same : c.drop-tx.new.self.0 ≡ c.conn-1.given.0 = search rules in
-    let ended = subst (λ h. Survives last (state g.S.Store h) (λ _. ⊥)) same c.drop-tx.ensures.survives in
-    passed _ c.from_residual.result c.from_residual.ensures.1
-    (fails_outside {X = Unit {0}} IsReadablePart old last (state g.S.Store c.conn-1.given.0) (Err c.in_err-found.field-0.0) ended c.begin-tx.ensures.rise
-    c.begin-tx.ensures.settled (rw begun at c.in_err-found.ensures.failed) clean is_open unlimited it shown readable)
-
-pub returns-in_err-commit-clause-failed : goal.returns-in_err-commit-clause-failed
-returns-in_err-commit-clause-failed g c clean is_open unlimited it shown readable =
-    let old = state g.S.Store c.args.conn.now in
-    let last = state g.S.Store c.part_in.new.tx.conn.now in
-    let end = state g.S.Store c.commit.new.self.0 in
-    let begun = c.begin-tx.ensures.begun in
-    let same : c.commit.new.self.0 ≡ c.conn-2-1.given.0 = search rules in
-    let fails = fails_committing IsReadablePart old last end _ c.in_ok-found.found (rw begun at c.in_ok-found.ensures.looks.steps) c.commit.ensures.survives
-    c.in_err-commit.field-0.0 c.in_err-commit.ensures.err in
-    passed _ c.from_residual-in_err-commit.result c.from_residual-in_err-commit.ensures.1
-    (subst (λ h. FailsToRead {X = Unit {0}} IsReadablePart old (state g.S.Store h) (Err c.in_err-commit.field-0.0)) same fails clean is_open unlimited it shown readable)

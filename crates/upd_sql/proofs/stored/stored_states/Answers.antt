@@ -1,12 +1,9 @@
-use Rattle.std.proofs.Common.{◌≡◌, Err, subst, rules}
+use Rattle.std.proofs.Common.{◌≡◌, subst, rules}
 use Rattle.sqlite.specs.Held.{state}
 use Rattle.sqlite.specs.State.{Survives}
 use Rattle.sqlite.proofs.Callers.{survives_begin}
 use Rattle.upd_sql.specs.Commits.{MayKeep}
 use Rattle.upd_sql.proofs.CommitLemmas.{read_leaves}
-use Rattle.upd_sql.specs.Failing.{AreReadable, FailsToRead}
-use Rattle.upd_sql.proofs.Columns.{passed}
-use Rattle.upd_sql.proofs.Failures.{fails_committing, fails_outside}
 use Rattle.upd_sql.proofs.stored.stored_states.Goals as goal
 
 pub returns-in_err-commit-clause-crash : goal.returns-in_err-commit-clause-crash
@@ -20,26 +17,3 @@ returns-in_err-commit-clause-crash g c =
     c.commit.ensures.survives in
     let same : c.commit.new.self.0 ≡ c.conn-2-1.given.0 = search rules in
     subst (λ h. Survives old (state g.S.Store h) (MayKeep old)) same (survives_begin g.S.Store c.args.conn.now end (MayKeep old) left)
-
-pub returns-in_err-found-clause-failed : goal.returns-in_err-found-clause-failed
-returns-in_err-found-clause-failed g c clean is_open unlimited it shown readable =
-    let old = state g.S.Store c.args.conn.now in
-    let last = state g.S.Store c.all_states_in.new.tx.conn.now in
-    let begun = c.begin-tx.ensures.begun in
-    let same : c.drop-tx.new.self.0 ≡ c.conn-1.given.0 = search rules in
-    let ended = subst (λ h. Survives last (state g.S.Store h) (λ _. ⊥)) same c.drop-tx.ensures.survives in
-    passed _ c.from_residual.result c.from_residual.ensures.1
-    (fails_outside {X = Unit {0}} AreReadable old last (state g.S.Store c.conn-1.given.0) (Err c.in_err-found.field-0.0) ended c.begin-tx.ensures.rise
-    c.begin-tx.ensures.settled (rw begun at c.in_err-found.ensures.failed) clean is_open unlimited it shown readable)
-
-pub returns-in_err-commit-clause-failed : goal.returns-in_err-commit-clause-failed
-returns-in_err-commit-clause-failed g c clean is_open unlimited it shown readable =
-    let old = state g.S.Store c.args.conn.now in
-    let last = state g.S.Store c.all_states_in.new.tx.conn.now in
-    let end = state g.S.Store c.commit.new.self.0 in
-    let begun = c.begin-tx.ensures.begun in
-    let same : c.commit.new.self.0 ≡ c.conn-2-1.given.0 = search rules in
-    let fails = fails_committing AreReadable old last end _ c.in_ok-found.found (rw begun at c.in_ok-found.ensures.looks.steps) c.commit.ensures.survives
-    c.in_err-commit.field-0.0 c.in_err-commit.ensures.err in
-    passed _ c.from_residual-in_err-commit.result c.from_residual-in_err-commit.ensures.1
-    (subst (λ h. FailsToRead {X = Unit {0}} AreReadable old (state g.S.Store h) (Err c.in_err-commit.field-0.0)) same fails clean is_open unlimited it shown readable)

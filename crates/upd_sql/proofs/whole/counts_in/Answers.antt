@@ -4,17 +4,9 @@ use Rattle.sqlite.specs.Held.{state}
 use Rattle.upd_sql.specs.Listed.{in_any_order}
 use Rattle.upd_sql.proofs.ReadTexts as query
 use Rattle.upd_sql.proofs.WholeLemmas.{counts_listed}
-use Rattle.upd_sql.proofs.AskTexts.{all_counts_asked}
-use Rattle.std.proofs.Common.{◌∙◌}
-use Rattle.std.proofs.lemmas.List.Folds.{list_all-map}
 use Rattle.upd_sql.proofs.whole.counts_in.Goals as goal
 
 pub returns-clause-looks : goal.returns-clause-looks
 returns-clause-looks g c =
     c.all_of.ensures.looks (λ it. map count_pair it.counts) in_any_order query.all_counts_plain
     (counts_listed (state g.S.Store c.args.tx.now.conn.now) (state g.S.Store c.all_of.new.tx.conn.now))
-
-pub returns-clause-failed : goal.returns-clause-failed
-returns-clause-failed g c =
-    c.all_of.ensures.failed (λ it. map count_pair it.counts) in_any_order all_counts_asked
-    (counts_listed (state g.S.Store c.args.tx.now.conn.now) (state g.S.Store c.all_of.new.tx.conn.now)) (λ it readable. list_all-map _ count_pair it.counts ∙ readable.counts)

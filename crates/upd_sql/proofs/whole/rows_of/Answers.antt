@@ -2,8 +2,6 @@ use Rattle.sqlite.specs.Held.{state}
 use Rattle.sqlite.specs.Values.{bound}
 use Rattle.upd_sql.proofs.Finds.{untouched}
 use Rattle.upd_sql.proofs.Typed.{was_open_from}
-use Rattle.upd_sql.specs.LibraryTables.{AnyTables}
-use Rattle.upd_sql.proofs.Failures.{asks_inside}
 use Rattle.upd_sql.proofs.whole.rows_of.Goals as goal
 
 pub returns-clause-was_open : goal.returns-clause-was_open
@@ -15,8 +13,3 @@ pub returns-clause-same : goal.returns-clause-same
 returns-clause-same g c plain clean =
     untouched (λ rows. rows.items) c.args.sql.now (bound c.args.params.now) (state g.S.Store c.args.tx.now.conn.now) (state g.S.Store c.ask.new.tx.conn.now) c.ask.result plain
     (c.ask.ensures.shown clean)
-
-pub returns-clause-failed : goal.returns-clause-failed
-returns-clause-failed g c can =
-    asks_inside c.args.sql.now (bound c.args.params.now) AnyTables (state g.S.Store c.args.tx.now.conn.now) (state g.S.Store c.ask.new.tx.conn.now) c.ask.result can
-    c.ask.ensures.failed
