@@ -20,6 +20,8 @@ mod library_files;
 #[cfg(test)]
 mod listing_files;
 #[cfg(test)]
+mod lone_logs;
+#[cfg(test)]
 mod refusals;
 #[cfg(test)]
 mod served_address;
