@@ -16,6 +16,8 @@ mod file_changes;
 #[cfg(test)]
 mod file_sessions;
 #[cfg(test)]
+mod library_copies;
+#[cfg(test)]
 mod library_files;
 #[cfg(test)]
 mod listing_files;

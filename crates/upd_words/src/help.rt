@@ -314,8 +314,9 @@ Example, after `upd init library.db`:
 pub(crate) const BACKUP: Text = Text {
     about: "Makes a whole copy of a library's file",
     more: "\
-Reads and writes nothing. COPY is made and must not exist, nor a file COPY-wal. The copy is a library
-by itself: it has also what is still in the log beside FILE. No other command may have FILE open.
+Reads and writes nothing. COPY is made and must not exist, nor a file COPY-wal or COPY.part. The copy
+is a library by itself: it has also what is still in the log beside FILE. No other command may have
+FILE open.
 
 Exit status: 0 done; 2 the command line can't be read; 3 COPY exists or can't be made, out of memory,
 or the library failed. The fault is one line on standard error.
