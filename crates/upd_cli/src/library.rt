@@ -209,7 +209,7 @@ pub(crate) fn backup_on<St: Start>(
     ensures { IfErr result (λ fault. exit_status fault.kind ≡ 3) }
 {
     match SqlStore::open(rt, file, false, start) {
-        Ok(library) => backup(rt, library.into_connection(), copy),
+        Ok(library) => backup(rt, library.into_connection(), file, copy),
         Err(fault) => Err(fault),
     }
 }

@@ -1,5 +1,6 @@
 //! A whole copy of a library's file, its log included.
-ghost use Rattle.std.specs.Prelude.{◌≡◌, ◌⊎◌, IfErr, IfOk, IsTrue, MatchResult};
+ghost use Rattle.std.specs.Prelude.{◌≡◌, ◌⊎◌, IfErr, IfOk, IsTrue, MatchResult, OnOk};
+ghost use Rattle.std.specs.Io.KnownBytes.{Appends};
 ghost use Rattle.sqlite_disk.specs.Disk.{MoreFaults};
 ghost use Rattle.sqlite.specs.Files.{file_state};
 ghost use Rattle.sqlite_wal.specs.Reads.{AreClean};
@@ -10,11 +11,15 @@ ghost use Rattle.upd_text.specs.declared.fault.FaultKind.TheVariants.{Store, Wri
 use sqlite::{Connection, FileStore, Files};
 use sqlite_disk::Disk;
 use std::alloc::Global;
-use std::fs::OpenOptions;
-use std::io::Write;
+use std::fs::{OpenFile, OpenOptions};
+use std::io::{ErrorKind, Write};
+use std::os::unix::fs::{MetadataExt, OpenOptionsExt};
 use std::{fs, io};
 use upd_store::{fault_of, store_at};
 use upd_text::{Fault, FaultKind};
+
+/// The bits of a file's mode that say who may read, write and run it.
+const RIGHTS: u32 = 0o777;
 
 /// All bytes of a file. The fault is NoMemory or Store, at 0.
 fn bytes_of<D: Disk>(alloc: Global, disk: &mut D) -> Result<Vec<u8>, Fault>
@@ -61,12 +66,15 @@ pub fn whole_copy<D: Disk + Drop>(
     }
 }
 
-/// Makes a file that is a whole copy of a library's file. Write, at 0, where the copy or a log beside it exists, or where
-/// it can't be written; no part of it is left then. Else the faults of `whole_copy`. No clause speaks of the copy itself,
-/// but only of what is written there.
+/// Makes a file that is a whole copy of a library's file, which `file` names. It is written under the name of the copy
+/// followed by `.part`, and gets its own name last, so that a kill leaves no part of it under that name. Its rights are
+/// at most those of the library's file. Write, at 0, where the copy, that part or a log beside the copy exists, or where it
+/// can't be written; no part of it is left then. Else the faults of `whole_copy`. No clause speaks of the copy itself, but
+/// only of what is written there.
 pub fn backup<D: Disk + Drop>(
     rt: &HostRuntime,
     conn: Connection<FileStore<D>>,
+    file: &str,
     copy: &str,
 ) -> Result<(), Fault>
     ensures lost { IfErr result (λ fault. IsLost fault ⊎ (fault.kind ≡ Write)) }
@@ -75,7 +83,7 @@ pub fn backup<D: Disk + Drop>(
 {
     match whole_copy(rt.alloc(), conn) {
         Ok((bytes, files)) => {
-            let written = write_new(rt, copy, &bytes);
+            let written = write_new(rt, file, copy, &bytes);
             drop(files);
             match written {
                 Ok(()) => Ok(()),
@@ -86,31 +94,60 @@ pub fn backup<D: Disk + Drop>(
     }
 }
 
-/// Makes a file with these bytes, which has no log.
-fn write_new(rt: &HostRuntime, path: &str, bytes: &[u8]) -> io::Result<()> {
-    if has_log(rt, path)? {
-        return Err(io::Error::from(io::ErrorKind::AlreadyExists));
+/// Makes a file with these bytes and at most the rights of another, which has no log. The name is given by a link, since
+/// a link never replaces a file.
+fn write_new(rt: &HostRuntime, model: &str, path: &str, bytes: &[u8]) -> io::Result<()> {
+    let part = format!(in rt.alloc(); "{path}.part")?;
+    let log = format!(in rt.alloc(); "{path}-wal")?;
+    if is_taken(rt, path) || is_taken(rt, log.as_str()) {
+        return Err(io::Error::from(ErrorKind::AlreadyExists));
     }
+    write_part(rt, model, part.as_str(), bytes)?;
+    let linked = fs::hard_link(rt, part.as_str(), path);
+    let removed = fs::remove_file(rt, part.as_str());
+    linked?;
+    let ended = removed.and_then(|()| sync_folder(rt, path));
+    if ended.is_err() {
+        let _ = fs::remove_file(rt, path);
+    }
+    ended
+}
+
+/// Whether there is anything at a path, be it a link.
+fn is_taken(rt: &HostRuntime, path: &str) -> bool {
+    fs::symlink_metadata(rt, path).is_ok()
+}
+
+/// Makes a file with these bytes and at most the rights of another. It is removed where that fails.
+fn write_part(rt: &HostRuntime, model: &str, path: &str, bytes: &[u8]) -> io::Result<()> {
+    let rights = fs::metadata(rt, model)?.mode() & RIGHTS;
     let mut file = OpenOptions::new()
         .write(true)
         .create_new(true)
+        .mode(rights)
         .open(rt, path)?;
-    let filled = fill(&mut file, bytes);
+    let filled = fill(&mut file, rights, bytes);
     if filled.is_err() {
         let _ = fs::remove_file(rt, path);
     }
     filled
 }
 
-/// Whether there is anything under the name of a file's log.
-fn has_log(rt: &HostRuntime, path: &str) -> io::Result<bool> {
-    let Ok(log) = format!(in rt.alloc(); "{path}-wal") else {
-        return Err(io::Error::from(io::ErrorKind::OutOfMemory));
-    };
-    Ok(fs::symlink_metadata(rt, log.as_str()).is_ok())
-}
-
-fn fill(file: &mut fs::File, bytes: &[u8]) -> io::Result<()> {
+/// Writes bytes to a new file, and to its disk. PermissionDenied where the file has more rights than these, which a file
+/// system without rights for each file can give it.
+fn fill<F: OpenFile + Write>(file: &mut F, rights: u32, bytes: &[u8]) -> io::Result<()>
+    ensures { OnOk result (Appends (F.contents file.old) (F.contents file.new) bytes.now) }
+{
+    if file.metadata()?.mode() & RIGHTS & !rights != 0 {
+        return Err(io::Error::from(ErrorKind::PermissionDenied));
+    }
     file.write_all(bytes)?;
     file.sync_all()
+}
+
+/// Writes the names of the folder of a file to its disk.
+fn sync_folder(rt: &HostRuntime, path: &str) -> io::Result<()> {
+    let mut folder = fs::canonicalize(rt, path)?;
+    folder.pop();
+    fs::open(rt, folder.as_str())?.sync_all()
 }

@@ -11,7 +11,7 @@ ghost use Rattle.upd_store.specs.Faults.{kind_for};
 ghost use Rattle.upd_text.specs.declared.fault.FaultKind.TheVariants.{NoMemory, Store};
 
 use crate::all_rows::{AllRows, all_rows};
-use crate::looking_at::{has_frames, situation_at};
+use crate::looking_at::situation_at;
 use crate::situation::{Situation, of_version};
 use itoa::Buffer;
 use sqlite::{Connection, Error, ErrorCode, FileFrom, Start};
@@ -20,7 +20,7 @@ use std::alloc::{AllocError, Global};
 use upd_core::Ident;
 use upd_examine::findings;
 use upd_sqlite::Rising;
-use upd_store::{SqlStore, fault_of, store_at};
+use upd_store::{SqlStore, fault_of, has_frames, store_at};
 use upd_text::{Fault, FaultKind};
 
 /// What was found in the tables of a library.
@@ -116,7 +116,7 @@ pub fn examine<St: Start>(rt: &HostRuntime, path: &str, start: St) -> Result<Rep
     if let Some(situation) = situation_at(rt, path) {
         return Ok(Report::Other(situation));
     }
-    let log = has_frames(rt, path);
+    let log = has_frames(rt, path).unwrap_or(false);
     match Connection::open_from(rt, path, false, start) {
         Ok(conn) => examine_opened(rt.alloc(), conn, log),
         Err((error, _)) => unopened(error),

@@ -5,15 +5,16 @@ use std::fs::OpenOptions;
 use std::io::{ErrorKind, Read};
 use std::os::unix::fs::MetadataExt;
 use std::{fs, io};
+use upd_store::is_log_alone;
 
 /// The first bytes of each file of SQLite.
 const FIRST_BYTES: &[u8; 16] = b"SQLite format 3\0";
 
-/// The bytes of the shortest log that has a frame: its header, and the header and the page of the frame.
-const SHORTEST_LOG: u64 = 32 + 24 + 512;
-
 /// Why there can't be a library at a path; None where there may be one. Nothing is made or changed.
 pub(crate) fn situation_at(rt: &HostRuntime, path: &str) -> Option<Situation> {
+    if is_log_alone(rt, path).unwrap_or(false) {
+        return Some(Situation::LogAlone);
+    }
     match kind_of(rt, path) {
         Ok(None) => match first_bytes(rt, path) {
             Ok(first) if first != *FIRST_BYTES => Some(Situation::NotSqlite),
@@ -62,22 +63,5 @@ fn of_reading(kind: ErrorKind) -> Situation {
         ErrorKind::UnexpectedEof => Situation::NotSqlite,
         ErrorKind::PermissionDenied => Situation::NoPermission,
         _ => Situation::CannotOpen,
-    }
-}
-
-/// Whether the log beside a file has frames, so that the file without it may lack commits.
-pub(crate) fn has_frames(rt: &HostRuntime, path: &str) -> bool {
-    match log_length(rt, path) {
-        Ok(length) => length >= SHORTEST_LOG,
-        Err(_) => false,
-    }
-}
-
-/// The length of the log, which is where a link leads.
-fn log_length(rt: &HostRuntime, path: &str) -> io::Result<u64> {
-    let real = fs::canonicalize(rt, path)?;
-    match format!(in rt.alloc(); "{}-wal", real.as_str()) {
-        Ok(log) => Ok(fs::metadata(rt, log.as_str())?.len()),
-        Err(_) => Err(io::Error::from(ErrorKind::OutOfMemory)),
     }
 }

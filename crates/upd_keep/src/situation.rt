@@ -5,6 +5,7 @@ use upd_text::{Fault, FaultKind};
 /// Why what is at a path is not examined.
 #[derive(Clone, Copy, Debug, PartialEq, Eq)]
 pub enum Situation {
+    LogAlone,
     NoFile,
     Folder,
     NotRegular,
@@ -28,6 +29,9 @@ impl Situation {
     /// What there is, and what to do.
     pub fn words(self) -> &'static str {
         match self {
+            Situation::LogAlone => {
+                "no file, or an empty one, beside a log, FILE-wal, with commits of a library: put the file of that log back, or move the log away"
+            }
             Situation::NoFile =>
                 "there is no such file: check the path; `upd init` makes a library",
             Situation::Folder => "this is a folder, not a file: check the path",

@@ -16,9 +16,13 @@ mod file_changes;
 #[cfg(test)]
 mod file_sessions;
 #[cfg(test)]
+mod library_copies;
+#[cfg(test)]
 mod library_files;
 #[cfg(test)]
 mod listing_files;
+#[cfg(test)]
+mod lone_logs;
 #[cfg(test)]
 mod refusals;
 #[cfg(test)]

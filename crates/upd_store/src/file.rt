@@ -19,7 +19,8 @@ ghost use Rattle.upd_sql.specs.LibraryTables.{ShowsTables};
 ghost use Rattle.upd_store.specs.Beginning.{MayBegin};
 ghost use Rattle.upd_store.specs.Faults.{IsUnopened};
 
-use crate::fault::{fault_of, store_at};
+use crate::fault::{fault_of, no_memory, store_at};
+use crate::log_file::is_log_alone;
 use crate::sql_store::SqlStore;
 use sqlite::{Connection, FileFrom, FileStore, Files, Start};
 use sqlite_disk::Disk;
@@ -63,7 +64,8 @@ impl<S: Start> SqlStore<FileStore<FileFrom<S>>> {
 
 /// Makes an empty library in a file, and the file where it doesn't exist. Where the file has any table the fault is Store,
 /// at the version in the file, 0 where it has none, and no byte of it is changed. An empty file, or one in which this
-/// call was cut off, counts as no file. Out of memory is NoMemory at 0.
+/// call was cut off, counts as no file. Where there is no file and the log beside the path has frames, the fault is Store
+/// at 0, and no byte changes. Out of memory is NoMemory at 0.
 pub fn create<S: Start>(rt: &HostRuntime, path: &str, start: S) -> Result<FileLibrary<S>, Fault>
     ensures shows { IfOk result (λ s. HasCleanDisk (file_state s.conn)
         → IsTrue (file_state s.conn).is_open × ShowsTables no_rows (file_state s.conn).committed) }
@@ -72,10 +74,22 @@ pub fn create<S: Start>(rt: &HostRuntime, path: &str, start: S) -> Result<FileLi
         × ((held : Trees) → HoldsDatabase (image_at S.Start) held → found.trees ≡ held)) }
     ensures unopened { IfErr result IsUnopened }
 {
+    spare_log(rt, path)?;
     let conn = connect_or_make(rt, path, false, start)?;
     match initialized(conn) {
         Ok(store) => Ok(store),
         Err(fault) => Err(fault),
+    }
+}
+
+/// Store at 0 where a new file would have its log written over frames of another.
+fn spare_log(rt: &HostRuntime, path: &str) -> Result<(), Fault>
+    ensures unopened { IfErr result IsUnopened }
+{
+    match is_log_alone(rt, path) {
+        Ok(false) => Ok(()),
+        Err(error) if error.kind() == io::ErrorKind::OutOfMemory => Err(no_memory()),
+        _ => Err(store_at(0)),
     }
 }
 

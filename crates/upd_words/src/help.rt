@@ -36,10 +36,11 @@ Example:
 pub(crate) const INIT: Text = Text {
     about: "Makes an empty library in a file",
     more: "\
-Reads and writes nothing. FILE is made if it doesn't exist; a file that has tables is left as it is.
+Reads and writes nothing. FILE is made if it doesn't exist; a file that has tables is left as it is,
+and so is a log FILE-wal with commits whose file was moved away.
 
-Exit status: 0 done; 2 the command line can't be read; 3 FILE has tables or can't be made, or out of
-memory. The fault is one line on standard error.
+Exit status: 0 done; 2 the command line can't be read; 3 FILE has tables or such a log, or can't be
+made, or out of memory. The fault is one line on standard error.
 
 Example:
   upd init library.db",
@@ -314,8 +315,9 @@ Example, after `upd init library.db`:
 pub(crate) const BACKUP: Text = Text {
     about: "Makes a whole copy of a library's file",
     more: "\
-Reads and writes nothing. COPY is made and must not exist, nor a file COPY-wal. The copy is a library
-by itself: it has also what is still in the log beside FILE. No other command may have FILE open.
+Reads and writes nothing. COPY is made and must not exist, nor a file COPY-wal or COPY.part. The copy
+is a library by itself: it has also what is still in the log beside FILE. No other command may have
+FILE open.
 
 Exit status: 0 done; 2 the command line can't be read; 3 COPY exists or can't be made, out of memory,
 or the library failed. The fault is one line on standard error.

@@ -1,0 +1,133 @@
+//! What the copy of a library is, what is in its way, and who may read it.
+use crate::console::{accepts, fresh, library, remove};
+use crate::file_sessions::{Step, Wanted, take_all};
+use std::fs;
+use std::fs::Permissions;
+use std::os::unix::fs::{PermissionsExt, symlink};
+use std::test::Fail;
+use upd_testkit::check::{holds, same};
+
+/// A copy is made.
+fn copies(rt: &HostRuntime, file: &str, copy: &str) -> Result<(), Fail> {
+    take_all(rt, file, &[Step::Writes("backup", &[copy], "")])
+}
+
+/// A deck of 1,999 lines arrives. Its full reply has 97 bytes for each line of the library.
+fn add_deck(rt: &HostRuntime, file: &str, number: &str, deck: &str) -> Result<(), Fail> {
+    let lines = "X\n".repeat(rt.alloc(), 1999)?;
+    let run = format!(in rt.alloc(); "*DECK {deck}\n{}", lines.as_str())?;
+    accepts(rt, file, number, "full", &run)
+}
+
+/// A library with three such decks.
+fn large(rt: &HostRuntime, name: &str) -> Result<String, Fail> {
+    let file = library(rt, name)?;
+    for (number, deck) in [("1", "A"), ("2", "B"), ("3", "C")] {
+        add_deck(rt, &file, number, deck)?;
+    }
+    Ok(file)
+}
+
+/// Two files have the same bytes, more than a mebibyte.
+fn are_same_and_large(rt: &HostRuntime, file: &str, copy: &str) -> Result<(), Fail> {
+    let bytes = fs::read(rt, file)?;
+    holds("a large library", bytes.len() > 1_048_576)?;
+    holds("the same bytes", fs::read(rt, copy)? == bytes)
+}
+
+#[test]
+fn a_large_library_is_copied_whole(rt: HostRuntime) -> Result<(), Fail> {
+    const SOUND: Step<'_> = Step::IsSound("sound: decks 3, cards 6000, runs 3\n", false);
+    let (file, copy) = (large(&rt, "large")?, fresh(&rt, "large-copy")?);
+    copies(&rt, &file, &copy)?;
+    are_same_and_large(&rt, &file, &copy)?;
+    take_all(&rt, &copy, &[SOUND])?;
+    remove(&rt, &copy)?;
+    remove(&rt, &file)
+}
+
+/// No copy is made.
+fn is_refused(rt: &HostRuntime, file: &str, copy: &str) -> Result<(), Fail> {
+    const NOT_WRITTEN: Wanted<'_> = (3, "", "upd: Write (33) at 0\n");
+    take_all(
+        rt,
+        file,
+        &[Step::Answers("backup", &[copy], "", NOT_WRITTEN)],
+    )
+}
+
+fn with_ending(rt: &HostRuntime, copy: &str, ending: &str) -> Result<String, Fail> {
+    Ok(format!(in rt.alloc(); "{copy}{ending}")?)
+}
+
+/// Nothing is under the name of a copy with this ending, not even a link.
+fn is_free(rt: &HostRuntime, copy: &str, ending: &str) -> Result<(), Fail> {
+    let path = with_ending(rt, copy, ending)?;
+    holds(ending, fs::symlink_metadata(rt, path.as_str()).is_err())
+}
+
+/// A file under the name of the copy with this ending is in its way, and stays.
+fn is_in_the_way(rt: &HostRuntime, file: &str, copy: &str, ending: &str) -> Result<(), Fail> {
+    const OTHER: &[u8] = b"OTHER";
+    let taken = with_ending(rt, copy, ending)?;
+    fs::write(rt, taken.as_str(), OTHER)?;
+    is_refused(rt, file, copy)?;
+    same(ending, fs::read(rt, taken.as_str())?.as_slice(), OTHER)?;
+    Ok(fs::remove_file(rt, taken.as_str())?)
+}
+
+#[test]
+fn what_is_in_the_way_of_a_copy_stays(rt: HostRuntime) -> Result<(), Fail> {
+    const ENDINGS: [&str; 3] = ["", "-wal", ".part"];
+    let (file, copy) = (library(&rt, "kept")?, fresh(&rt, "kept-copy")?);
+    for ending in ENDINGS {
+        is_in_the_way(&rt, &file, &copy, ending)?;
+    }
+    for ending in ENDINGS {
+        is_free(&rt, &copy, ending)?;
+    }
+    remove(&rt, &file)
+}
+
+/// A link under the name of the copy with this ending is not followed.
+fn is_not_followed(rt: &HostRuntime, file: &str, copy: &str, ending: &str) -> Result<(), Fail> {
+    let (link, target) = (
+        with_ending(rt, copy, ending)?,
+        with_ending(rt, copy, ".to")?,
+    );
+    symlink(rt, target.as_str(), link.as_str())?;
+    is_refused(rt, file, copy)?;
+    is_free(rt, copy, ".to")?;
+    Ok(fs::remove_file(rt, link.as_str())?)
+}
+
+#[test]
+fn a_copy_follows_no_link(rt: HostRuntime) -> Result<(), Fail> {
+    let (file, copy) = (library(&rt, "linked")?, fresh(&rt, "linked-copy")?);
+    is_not_followed(&rt, &file, &copy, "")?;
+    is_not_followed(&rt, &file, &copy, ".part")?;
+    remove(&rt, &file)
+}
+
+/// A library that only its owner may read and write.
+fn private(rt: &HostRuntime, name: &str) -> Result<String, Fail> {
+    let file = library(rt, name)?;
+    fs::set_permissions(rt, file.as_str(), Permissions::from_mode(0o600))?;
+    Ok(file)
+}
+
+/// A copy may be read and written by its owner only, and nothing is beside it.
+fn is_private(rt: &HostRuntime, copy: &str) -> Result<(), Fail> {
+    let mode = fs::metadata(rt, copy)?.permissions().mode();
+    same("the rights", mode & 0o777, 0o600)?;
+    is_free(rt, copy, ".part")
+}
+
+#[test]
+fn a_copy_has_no_more_rights_than_its_library(rt: HostRuntime) -> Result<(), Fail> {
+    let (file, copy) = (private(&rt, "private")?, fresh(&rt, "private-copy")?);
+    copies(&rt, &file, &copy)?;
+    is_private(&rt, &copy)?;
+    remove(&rt, &copy)?;
+    remove(&rt, &file)
+}

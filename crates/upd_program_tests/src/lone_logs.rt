@@ -1,0 +1,83 @@
+//! A log whose file was moved away: no command writes over its commits.
+use crate::console::{fresh, library, remove};
+use crate::file_sessions::{NO_LIBRARY, SILENT, Step, take_all};
+use std::fs;
+use std::test::Fail;
+use upd_keep::Situation;
+use upd_testkit::check::holds;
+
+/// What is tried at a path with a log and no library.
+const REFUSED: &[Step<'_>] = &[
+    Step::Answers("init", &[], "", NO_LIBRARY),
+    Step::AllAnswer(NO_LIBRARY),
+    Step::Is(Situation::LogAlone),
+    Step::Answers(
+        "examine",
+        &[],
+        "",
+        (
+            3,
+            "",
+            "upd: no file, or an empty one, beside a log, FILE-wal, with commits of a library: \
+put the file of that log back, or move the log away\n",
+        ),
+    ),
+];
+
+fn log_of(rt: &HostRuntime, file: &str) -> Result<Vec<u8>, Fail> {
+    Ok(fs::read(rt, format!(in rt.alloc(); "{file}-wal")?.as_str())?)
+}
+
+/// All is refused at a path, and no byte of its log changes.
+fn keeps_log(rt: &HostRuntime, file: &str) -> Result<(), Fail> {
+    let before = log_of(rt, file)?;
+    take_all(rt, file, REFUSED)?;
+    holds("the same log", log_of(rt, file)? == before)
+}
+
+/// A library with a mark that is only in its log.
+fn logged(rt: &HostRuntime, name: &str) -> Result<String, Fail> {
+    let file = library(rt, name)?;
+    let mark = Step::Logs("INSERT INTO settled (site, mark) VALUES ('LYON', 3)");
+    take_all(rt, &file, &[mark])?;
+    Ok(file)
+}
+
+#[test]
+fn a_log_is_kept_until_its_file_is_back(rt: HostRuntime) -> Result<(), Fail> {
+    let (file, moved) = (logged(&rt, "lone")?, fresh(&rt, "moved")?);
+    fs::rename(&rt, file.as_str(), moved.as_str())?;
+    keeps_log(&rt, &file)?;
+    holds("no file is made", !fs::exists(&rt, file.as_str())?)?;
+    fs::rename(&rt, moved.as_str(), file.as_str())?;
+    take_all(&rt, &file, &[Step::Writes("sites", &[], "LYON 3 3 4\n")])?;
+    remove(&rt, &file)
+}
+
+#[test]
+fn a_log_beside_an_empty_file_is_kept(rt: HostRuntime) -> Result<(), Fail> {
+    let file = logged(&rt, "emptied")?;
+    fs::write(&rt, file.as_str(), b"")?;
+    keeps_log(&rt, &file)?;
+    holds("an empty file", fs::read(&rt, file.as_str())?.is_empty())?;
+    remove(&rt, &file)
+}
+
+/// A library is made where there is a file with these bytes, and a log without a commit.
+fn is_made_over(rt: &HostRuntime, bytes: &[u8]) -> Result<(), Fail> {
+    const MADE: &[Step<'_>] = &[
+        Step::Answers("init", &[], "", SILENT),
+        Step::IsSound("sound: decks 0, cards 0, runs 0\n", false),
+    ];
+    let file = library(rt, "ended")?;
+    fs::write(rt, file.as_str(), bytes)?;
+    take_all(rt, &file, MADE)?;
+    remove(rt, &file)
+}
+
+/// What `init` leaves that was killed before it wrote the first page: a file that is empty, or one byte of 0.
+#[test]
+fn a_library_is_made_after_a_killed_init(rt: HostRuntime) -> Result<(), Fail> {
+    is_made_over(&rt, b"")?;
+    is_made_over(&rt, b"\0")
+}

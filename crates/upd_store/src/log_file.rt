@@ -1,0 +1,45 @@
+//! The log beside a library's file, as far as it shows without opening either.
+
+use std::io::ErrorKind;
+use std::{fs, io};
+
+/// The bytes of the shortest log that has a frame: its header, and the header and the page of the frame.
+const SHORTEST_LOG: u64 = 32 + 24 + 512;
+
+/// Whether the log beside a file has frames, so that the file by itself may lack commits. The file may be missing.
+pub fn has_frames(rt: &HostRuntime, path: &str) -> io::Result<bool> {
+    let log = format!(in rt.alloc(); "{}-wal", real_path(rt, path)?.as_str())?;
+    Ok(length_of(rt, log.as_str())? >= SHORTEST_LOG)
+}
+
+/// Whether there is no file at a path, or an empty one, and the log beside it has frames. They are of a library that was
+/// moved away or removed: whoever makes a file there writes its log over them. A file that is being made is not empty
+/// once its log has a frame.
+pub fn is_log_alone(rt: &HostRuntime, path: &str) -> io::Result<bool> {
+    if length_of(rt, path)? > 0 {
+        return Ok(false);
+    }
+    has_frames(rt, path)
+}
+
+/// The path where a link leads, or the path as it is where there is no file.
+fn real_path(rt: &HostRuntime, path: &str) -> io::Result<String> {
+    match fs::canonicalize(rt, path) {
+        Ok(real) => Ok(String::from_str(rt.alloc(), real.as_str())?),
+        Err(error) if is_missing(error.kind()) => Ok(String::from_str(rt.alloc(), path)?),
+        Err(error) => Err(error),
+    }
+}
+
+/// The bytes of a file, 0 where there is none.
+fn length_of(rt: &HostRuntime, path: &str) -> io::Result<u64> {
+    match fs::metadata(rt, path) {
+        Ok(found) => Ok(found.len()),
+        Err(error) if is_missing(error.kind()) => Ok(0),
+        Err(error) => Err(error),
+    }
+}
+
+fn is_missing(kind: ErrorKind) -> bool {
+    kind == ErrorKind::NotFound || kind == ErrorKind::NotADirectory
+}
