@@ -107,7 +107,7 @@ impl<S: Rising> SqlStore<S> {
                 conn,
                 failures: 0,
                 decks_read: 0,
-                }),
+            }),
             Err(error) => Err((fault_of(error), conn)),
         }
     }
