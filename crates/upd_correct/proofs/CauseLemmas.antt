@@ -1,9 +1,8 @@
 -- Why there is no run.
-use Rattle.std.proofs.Common.{◌≡◌, ℕ, List, [], ◌∷◌, ◌++◌, refl, sym, ap, ◌∙◌}
-use Rattle.std.specs.Prelude.{Option, Some, None, Result, Ok, Err, OnOk}
+use Rattle.std.proofs.Common.{◌≡◌, ℕ, List, [], ◌++◌, ap, ◌∙◌}
+use Rattle.std.specs.Prelude.{Result, Ok, Err, OnOk}
 use Rattle.upd_core.specs.Library.{LibraryView}
-use Rattle.upd_correction_laws.specs.Corrections.{NewDeck}
-use Rattle.upd_correct.specs.declared.refusal.Problem.{Problem}
+use Rattle.upd_correct.specs.Corrections.{NewDeck}
 use Rattle.upd_correct.specs.declared.refusal.Refusal.{Refusal}
 use Rattle.upd_correct.specs.EditedText.{lines_in}
 use Rattle.upd_correct.specs.Problems.{set_problem}
@@ -19,12 +18,3 @@ pub all_refused : (l : LibraryView) (set text : List ℕ) (first refusals : List
     → AreReadFrom l set first (lines_in text) decks refusals → refusals ≡ refusals_of l set text
 all_refused l set text first refusals decks of_set read =
     read.refused ∙ ap (λ first. first ++ lines_refusals l set [] (lines_in text)) of_set
-
--- a set whose name is free has no refusal
-pub set_is_free : (l : LibraryView) (set text : List ℕ) → refusals_of l set text ≡ [] → set_problem l set ≡ None
-set_is_free l set text clean = go (set_problem l set) refl
-  where
-    go : (o : Option Problem) → set_problem l set ≡ o → set_problem l set ≡ None
-    go None e = e
-    go (Some problem) e = let bad : record { line = 0; column = 0; problem = problem } ∷ lines_refusals l set [] (lines_in text) ≡ [] =
-        ap (λ o. refusals_at 0 0 o ++ lines_refusals l set [] (lines_in text)) (sym e) ∙ clean in absurd (cc)

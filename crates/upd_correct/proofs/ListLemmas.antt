@@ -1,109 +1,12 @@
--- Lists, their parts, and lists beside one another.
-use Rattle.std.proofs.Common.{◌≡◌, ℕ, zero, suc, ◌+◌, ◌-◌, ◌<◌, Bool, true, false, List, [], ◌∷◌, ◌++◌, map, length, take, drop, get_or, refl, sym, ap, ◌∙◌, arith}
+-- Lists and their parts.
+use Rattle.std.proofs.Common.{◌≡◌, ℕ, zero, suc, ◌+◌, ◌-◌, ◌<◌, List, [], ◌∷◌, ◌++◌, map, length, take, drop, get_or, refl, sym, ap, ◌∙◌, arith}
 use Rattle.std.proofs.Common.{append_assoc, length-drop}
 use Rattle.std.proofs.lemmas.List.{map-append, take_all, take_more}
-use Rattle.std.specs.Prelude.{Some, not}
-use Rattle.std.specs.List.{find, filter, AllByRecursion, AllZip, Contains}
-use Rattle.upd_core.specs.Sound.{AreApart}
-use Rattle.upd_core.proofs.ApartLemmas.{all_by_index, at_contained, find_first, find_later}
-use Rattle.upd_correct.specs.Correcting.{IsSublist, None as Empty, Kept, Left}
-
--- ---- filters
-
--- what holds of each element and is weakened by the test
-pub all_passing : {A : Type 0} (P Q : A → Type 0) (test : A → Bool) (xs : List A) → ((x : A) → P x → test x ≡ true → Q x) → AllByRecursion P xs
-    → AllByRecursion Q (filter test xs)
-all_passing P Q test [] weaker all = tt
-all_passing P Q test (x ∷ xs) weaker all = go (test x) refl (all_passing P Q test xs weaker all.1)
-  where
-    go : (b : Bool) → test x ≡ b → AllByRecursion Q (filter test xs) → AllByRecursion Q (filter test (x ∷ xs))
-    go true e rest = rw e (weaker x all.0 e, rest)
-    go false e rest = rw e rest
-
--- what holds of those that pass and of those that don't
-pub all_of_both : {A : Type 0} (P : A → Type 0) (test : A → Bool) (xs : List A) → AllByRecursion P (filter test xs)
-    → AllByRecursion P (filter (λ x. not (test x)) xs) → AllByRecursion P xs
-all_of_both P test [] passing others = tt
-all_of_both P test (x ∷ xs) passing others = go (test x) refl (all_of_both P test xs)
-  where
-    go : (b : Bool) → test x ≡ b → (AllByRecursion P (filter test xs) → AllByRecursion P (filter (λ x. not (test x)) xs) → AllByRecursion P xs)
-        → AllByRecursion P (x ∷ xs)
-    go true e rest =
-        let some : AllByRecursion P (x ∷ filter test xs) = rw e at passing in
-        let more : AllByRecursion P (filter (λ x. not (test x)) xs) = rw e at others in
-        (some.0, rest some.1 more)
-    go false e rest =
-        let some : AllByRecursion P (filter test xs) = rw e at passing in
-        let more : AllByRecursion P (x ∷ filter (λ x. not (test x)) xs) = rw e at others in
-        (more.0, rest some more.1)
-
-all_mapped_filter : {A B : Type 0} (P : B → Type 0) (f : A → B) (test : A → Bool) (xs : List A) → AllByRecursion P (map f xs)
-    → AllByRecursion P (map f (filter test xs))
-all_mapped_filter P f test [] all = tt
-all_mapped_filter P f test (x ∷ xs) all = go (test x) refl (all_mapped_filter P f test xs all.1)
-  where
-    go : (b : Bool) → test x ≡ b → AllByRecursion P (map f (filter test xs)) → AllByRecursion P (map f (filter test (x ∷ xs)))
-    go true e rest = rw e (all.0, rest)
-    go false e rest = rw e rest
-
-pub apart_filter : {A B : Type 0} (f : A → B) (test : A → Bool) (xs : List A) → AreApart (map f xs) → AreApart (map f (filter test xs))
-apart_filter f test [] apart = tt
-apart_filter f test (x ∷ xs) apart = go (test x) refl (apart_filter f test xs apart.1)
-  where
-    go : (b : Bool) → test x ≡ b → AreApart (map f (filter test xs)) → AreApart (map f (filter test (x ∷ xs)))
-    go true e rest = rw e (all_mapped_filter (λ y. f x ≡ y → ⊥) f test xs apart.0, rest)
-    go false e rest = rw e rest
-
--- what is found stays found where elements follow
-pub find_stays : {A : Type 0} (test : A → Bool) (xs ys : List A) (x : A) → find test xs ≡ Some x → find test (xs ++ ys) ≡ Some x
-find_stays test [] ys x e = absurd (cc)
-find_stays test (y ∷ xs) ys x e = go (test y) refl (find_stays test xs ys x)
-  where
-    go : (b : Bool) → test y ≡ b → (find test xs ≡ Some x → find test (xs ++ ys) ≡ Some x) → find test (y ∷ xs ++ ys) ≡ Some x
-    go true f rest = find_first test y (xs ++ ys) f ∙ sym (find_first test y xs f) ∙ e
-    go false f rest = find_later test y (xs ++ ys) f ∙ rest (sym (find_later test y xs f) ∙ e)
-
--- ---- lists beside one another
-
-pub zip_right : {A B : Type 0} (R : A → B → Type 0) (P : A → Type 0) (Q : B → Type 0) (xs : List A) (ys : List B) → ((x : A) (y : B) → P x → R x y → Q y)
-    → AllByRecursion P xs → AllZip R xs ys → AllByRecursion Q ys
-zip_right R P Q [] [] step all zip = tt
-zip_right R P Q [] (y ∷ ys) step all zip = absurd zip
-zip_right R P Q (x ∷ xs) [] step all zip = absurd zip
-zip_right R P Q (x ∷ xs) (y ∷ ys) step all zip = (step x y all.0 zip.0, zip_right R P Q xs ys step all.1 zip.1)
-
-pub zip_left : {A B : Type 0} (R : A → B → Type 0) (P S : A → Type 0) (Q : B → Type 0) (xs : List A) (ys : List B)
-    → ((x : A) (y : B) → P x → R x y → Q y → S x) → AllByRecursion P xs → AllZip R xs ys → AllByRecursion Q ys → AllByRecursion S xs
-zip_left R P S Q [] [] step all zip others = tt
-zip_left R P S Q [] (y ∷ ys) step all zip others = absurd zip
-zip_left R P S Q (x ∷ xs) [] step all zip others = absurd zip
-zip_left R P S Q (x ∷ xs) (y ∷ ys) step all zip others = (step x y all.0 zip.0 others.0, zip_left R P S Q xs ys step all.1 zip.1 others.1)
+use Rattle.std.specs.List.{AllByRecursion, Contains}
+use Rattle.upd_core.proofs.ApartLemmas.{all_by_index, at_contained}
 
 pub all_contained : {A : Type 0} (xs : List A) → AllByRecursion (Contains xs) xs
 all_contained xs = all_by_index xs (λ k x e. at_contained xs k x e)
-
--- ---- sublists
-
-pub sublist_same : {A : Type 0} (xs : List A) → IsSublist xs xs
-sublist_same [] = Empty
-sublist_same (x ∷ xs) = Kept x xs xs (sublist_same xs)
-
-pub sublist_none : {A : Type 0} (xs : List A) → IsSublist [] xs
-sublist_none [] = Empty
-sublist_none (x ∷ xs) = Left x [] xs (sublist_none xs)
-
-pub sublist_append : {A : Type 0} (xs ys zs ws : List A) → IsSublist xs ys → IsSublist zs ws → IsSublist (xs ++ zs) (ys ++ ws)
-sublist_append _ _ zs ws Empty more = more
-sublist_append _ _ zs ws (Kept x xs ys is) more = Kept x (xs ++ zs) (ys ++ ws) (sublist_append xs ys zs ws is more)
-sublist_append _ _ zs ws (Left y xs ys is) more = Left y (xs ++ zs) (ys ++ ws) (sublist_append xs ys zs ws is more)
-
-pub sublist_filter : {A : Type 0} (test : A → Bool) (xs : List A) → IsSublist (filter test xs) xs
-sublist_filter test [] = Empty
-sublist_filter test (x ∷ xs) = go (test x) refl (sublist_filter test xs)
-  where
-    go : (b : Bool) → test x ≡ b → IsSublist (filter test xs) xs → IsSublist (filter test (x ∷ xs)) (x ∷ xs)
-    go true e rest = rw e (Kept x (filter test xs) xs rest)
-    go false e rest = rw e (Left x (filter test xs) xs rest)
 
 -- ---- one more of a list
 

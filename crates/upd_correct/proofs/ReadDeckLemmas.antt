@@ -9,7 +9,7 @@ use Rattle.std.specs.List.{AllByRecursion}
 use Rattle.upd_core.specs.Library.{LibraryView}
 use Rattle.upd_deck.specs.Reading.{reading}
 use Rattle.upd_laws.proofs.SoundListLemmas.{all_append}
-use Rattle.upd_correction_laws.specs.Corrections.{IsCardLine, NewDeck, first_line}
+use Rattle.upd_correct.specs.Corrections.{IsCardLine, NewDeck, first_line}
 use Rattle.upd_correct.specs.declared.refusal.Problem.{Problem}
 use Rattle.upd_correct.specs.declared.refusal.Problem.TheVariants.{NoDeck}
 use Rattle.upd_correct.specs.declared.refusal.Refusal.{Refusal}

@@ -1,5 +1,5 @@
 -- The listing of a held deck is read, and tells its name and its cards.
-use Rattle.std.proofs.Common.{◌≡◌, ℕ, ◌+◌, ◌-◌, ◌==◌, ◌≤◌, nat_lt, Bool, true, false, List, [], ◌∷◌, ◌++◌, map, length}
+use Rattle.std.proofs.Common.{◌≡◌, ℕ, ◌+◌, ◌-◌, ◌==◌, ◌≤◌, nat_lt, Bool, true, false, List, [], ◌∷◌, ◌++◌, map, length, slice_get}
 use Rattle.std.proofs.Common.{Some, None, unwrap_or, Result, Ok, refl, sym, ap, ◌∙◌, subst, arith}
 use Rattle.std.proofs.lemmas.Bool.Decides.{nat_tests}
 use Rattle.std.proofs.lemmas.List.{length-map}
@@ -14,16 +14,15 @@ use Rattle.upd_text.specs.declared.limits.TheConstants.{MAX_CARDS}
 use Rattle.upd_text.specs.Names.{IsReference, is_name, yank_name}
 use Rattle.upd_text.specs.Outcome.{◌>>=◌, at_line, need}
 use Rattle.upd_core.specs.declared.ident.Ident.{Ident}
-use Rattle.upd_core.specs.Library.{CardView, DeckView, LibraryView, all_decks, cards_of, deck_of, held_named, is_common, is_deck, ref_of}
+use Rattle.upd_core.specs.Library.{CardView, DeckView, LibraryView, all_decks, cards_of, deck_of, held_named, is_common, is_deck, name_of, ref_of}
 use Rattle.upd_core.specs.Sound.{IsSound, all_cards}
 use Rattle.upd_core.specs.Status.{is_active, live_targets}
 use Rattle.upd_core.proofs.ApartLemmas.{all_at, all_back, all_front, all_of_contained}
-use Rattle.upd_core.proofs.FoundLemmas.{IsAt, named_at}
+use Rattle.upd_core.proofs.FoundLemmas.{IsAt, card_held, held_at, named_at}
 use Rattle.upd_deck.specs.Reading.{is_allowed}
 use Rattle.upd_compile.specs.Listings.{deck_heading, deck_line, deck_listing, heading, listed_deck}
 use Rattle.upd_laws.specs.ReadRuns.{HasLineTexts, IsOfRun}
 use Rattle.upd_laws.proofs.SoundListLemmas.{all_weaker}
-use Rattle.upd_correction_laws.proofs.WholeLemmas.{card_named}
 use Rattle.upd_correct.specs.EditedText.{lines_in}
 use Rattle.upd_correct.proofs.ListLemmas.{all_contained}
 use Rattle.upd_correct.proofs.PlanLemmas.{IsDeckIdent, deck_ident}
@@ -31,6 +30,18 @@ use Rattle.upd_correct.specs.ListedDeck.{TellDeck, as_listed, bad_card, listed_c
 use Rattle.upd_correct.proofs.ListedLemmas.{IsFedLine, IsHead, all_read, card_line_fed, card_line_read, common_head, deck_head, fed_first, fed_lines, none_other}
 
 -- ---- the cards
+
+card_named : (l : LibraryView) (c : CardView) → IsSound l → HasLineTexts l → Contains (all_cards l) c → IsReference (ref_of l.idents c)
+card_named l c sound made is =
+    let of : IsOfRun c = all_of_contained IsOfRun (all_cards l) c made.cards is in
+    let at = held_at 1 c.ident l.idents sound.ages (card_held l c sound is) in
+    let most = of.2 in
+    (named at.0 at.1.place at.1.from, of.1, omega arith)
+  where
+    named : (i : Ident) → slice_get l.idents (c.ident - 1) ≡ Some i → 1 ≤ c.ident → is_name (name_of l.idents c.ident) ≡ true
+    named i e from =
+        let some : (c.ident == 0) ≡ false = grind (arith, nat_tests) in
+        rw (some, e) (all_at (λ (i : Ident). IsTrue (is_name i.name)) l.idents (c.ident - 1) i made.names e)
 
 -- a card whose line can be read: its reference and its text
 abbrev pub IsListable : List Ident → CardView → Type 0

@@ -13,8 +13,8 @@ use Rattle.upd_deck.proofs.CallLaws.{call_read, call_said}
 use Rattle.upd_deck.proofs.GrammarRuns.{run_back}
 use Rattle.upd_core.proofs.ApartLemmas.{all_back, all_front}
 use Rattle.upd_laws.proofs.SoundListLemmas.{all_append}
-use Rattle.upd_correction_laws.specs.Corrections.{IsCardItem, IsCardLine, NewDeck, first_line, new_deck_lines}
-use Rattle.upd_correction_laws.specs.RunLines.{IsSpelled, RunLine, written}
+use Rattle.upd_correct.specs.Corrections.{IsCardItem, IsCardLine, NewDeck, first_line, new_deck_lines}
+use Rattle.upd_correct.specs.RunLines.{IsSpelled, RunLine, written}
 use Rattle.upd_correct.specs.EditedText.{IsReadAs, begun_with, card_line, lines_in}
 use Rattle.upd_correct.specs.LineReads.{HasReading}
 use Rattle.upd_correct.specs.Plans.{IsEditedDeck}

@@ -6,8 +6,8 @@ use Rattle.std.proofs.lemmas.List.Concat.{flat_map-append}
 use Rattle.std.specs.Prelude.{◌==◌}
 use Rattle.upd_core.specs.declared.ident.Ident.{Ident}
 use Rattle.upd_core.specs.Library.{CardView, ref_of}
-use Rattle.upd_correction_laws.specs.Corrections.{insertion}
-use Rattle.upd_correction_laws.specs.RunLines.{RunLine, insert_line, run_of}
+use Rattle.upd_correct.specs.Corrections.{insertion}
+use Rattle.upd_correct.specs.RunLines.{RunLine, insert_line, run_of}
 use Rattle.upd_correct.specs.Writing.{RunView, Writes}
 
 pub writes_then : (a b c : RunView) (xs ys : List RunLine) → Writes a b xs → Writes b c ys → Writes a c (xs ++ ys)

@@ -8,19 +8,16 @@ use Rattle.upd_core.specs.Serials.{Serial}
 use Rattle.upd_deck.specs.Items.{LineView}
 use Rattle.upd_deck.specs.Reading.{reading}
 use Rattle.upd_apply.specs.Applying.{Reached, applied}
-use Rattle.upd_correction_laws.specs.Corrected.{active_cards, active_texts}
-use Rattle.upd_correction_laws.specs.Corrections.{NewDeck}
-use Rattle.upd_correct.specs.EditedText.{HasDecks, texts_of}
+use Rattle.upd_correct.specs.Checked.{Corrects, HasTexts}
+use Rattle.upd_correct.specs.Corrected.{active_cards}
+use Rattle.upd_correct.specs.Corrections.{NewDeck}
+use Rattle.upd_correct.specs.EditedText.{HasDecks}
 
 -- a list without some of its elements
 pub data IsSublist {A : Type 0} : List A → List A → Type 0 where
   None : IsSublist [] []
   Kept : (x : A) (xs ys : List A) → IsSublist xs ys → IsSublist (x ∷ xs) (x ∷ ys)
   Left : (y : A) (xs ys : List A) → IsSublist xs ys → IsSublist xs (y ∷ ys)
-
--- a deck is held under its name, and the texts of its active cards are those of its lines
-abbrev pub HasTexts : LibraryView → NewDeck → Type 0
-HasTexts l d = (deck : Serial) × (deck_of d.name l ≡ Some deck) × (active_texts deck l ≡ texts_of d)
 
 -- The active cards of a held deck that are not of the new set are cards that were active before. Each is as it was, and they are in
 -- their order.
@@ -33,7 +30,7 @@ KeepsCards before after d =
 abbrev pub BeginsWithSet : Bytes → Bytes → Type 0
 BeginsWithSet set run = (run ≡ []) ⊎ ((rest : Bytes) × (run ≡ codes "*IDENT " ++ (set ++ 10 ∷ rest)))
 
--- A run by a set leads the decks of an edited text to it.
+-- A run by a set leads the decks of an edited text to it, and changes nothing else.
 pub record CorrectsTo (l : LibraryView) (set text run : Bytes) : Type 0 where
   pub decks : List NewDeck
   pub given : HasDecks text decks
@@ -42,6 +39,8 @@ pub record CorrectsTo (l : LibraryView) (set text run : Bytes) : Type 0 where
   pub after : Reached
   pub read : reading run ≡ Ok lines
   pub accepted : applied lines l ≡ Ok after
+  pub compile : after.compile ≡ []
+  pub whole : Corrects l set run decks after.library
   pub texts : AllByRecursion (HasTexts after.library) decks
   pub others : (deck : Serial) → deck < next_age l → AllByRecursion (λ d. deck_of d.name l ≡ Some deck → ⊥) decks
       → active_cards deck after.library ≡ active_cards deck l

@@ -1,3 +1,6 @@
+pub mod RunLines
+pub mod Corrections
+pub mod Corrected
 pub mod EditedText
 pub mod Scripts
 pub mod Problems
@@ -6,9 +9,9 @@ pub mod LineReads
 pub mod Plans
 pub mod ReadDecks
 pub mod Writing
-pub mod Correcting
-pub mod Growth
-pub mod Causes
 pub mod Runs
+pub mod Checked
+pub mod Correcting
+pub mod Causes
 pub mod ListedDeck
 pub mod ListedRuns

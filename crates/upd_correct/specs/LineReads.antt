@@ -2,7 +2,7 @@
 use Rattle.std.specs.Prelude.{◌≡◌, false, [], Option, Some, None}
 use Rattle.upd_text.specs.Units.{Bytes}
 use Rattle.upd_deck.specs.Reading.{reading}
-use Rattle.upd_correction_laws.specs.Corrections.{NewDeck, first_line}
+use Rattle.upd_correct.specs.Corrections.{NewDeck, first_line}
 use Rattle.upd_correct.specs.declared.read_line.LineRead.{LineRead}
 use Rattle.upd_correct.specs.declared.read_line.LineRead.TheVariants.{Head, Card, Wrong}
 use Rattle.upd_correct.specs.declared.refusal.Problem.{Problem}

@@ -9,7 +9,6 @@ use Rattle.upd_text.specs.declared.limits.TheConstants.{MAX_CARDS}
 use Rattle.upd_text.specs.Lines.{is_blank}
 use Rattle.upd_text.specs.Names.{card_of, is_name, yank_name}
 use Rattle.upd_text.specs.Units.{Bytes}
-use Rattle.upd_core.specs.declared.ident.Ident.{Ident}
 use Rattle.upd_core.specs.declared.ident.Kind.TheVariants.{Deck, Set}
 use Rattle.upd_core.specs.Edits.{entered, introduced, new_card, with_deck}
 use Rattle.upd_core.specs.First.{index_from}

@@ -4,6 +4,7 @@ use Rattle.upd_text.specs.Units.{Bytes}
 use Rattle.upd_core.specs.Counts.{capped}
 use Rattle.upd_core.specs.First.{index_from}
 use Rattle.upd_correct.specs.Causes.{AreRefusals}
+use Rattle.upd_correct.specs.Correcting.{CorrectsTo}
 use Rattle.upd_correct.specs.EditedText.{lines_in}
 use Rattle.upd_correct.specs.Runs.{IsRunFor, begins_other}
 use Rattle.upd_correct.specs.declared.listed_deck.ListedError.{ListedError}
@@ -19,10 +20,11 @@ pub record IsRead (listing text : Bytes) : Type 0 where
   pub listed : bad_line (lines_in listing) ≡ None
   pub own : other_deck listing text ≡ None
 
--- A run is that of the edited text in the library that a listing stands for.
+-- A run is that of the edited text in the library that a listing stands for, and it was checked there.
 pub record IsListedRun (listing set text run : Bytes) : Type 0 where
   pub read : IsRead listing text
   pub made : IsRunFor (library_of (lines_in listing)) set text run
+  pub corrects : CorrectsTo (library_of (lines_in listing)) set text run
 
 -- Memory runs out at any time. Otherwise a line is the first that isn't one of a listing; or, where the listing is read,
 -- a line is the first that begins another deck; or, where no line does, the text is refused in the library that the listing stands for.

@@ -3,7 +3,7 @@ use Rattle.std.specs.Prelude.{◌≡◌, false, not, List, Some, is_some}
 use Rattle.std.specs.List.{filter, AllByRecursion, AllZip}
 use Rattle.upd_core.specs.Library.{LibraryView, cards_of, deck_of}
 use Rattle.upd_core.specs.Status.{live_targets}
-use Rattle.upd_correction_laws.specs.Corrections.{Correction, IsCardLine, NewDeck}
+use Rattle.upd_correct.specs.Corrections.{Correction, IsCardLine, NewDeck}
 use Rattle.upd_correct.specs.EditedText.{texts_of}
 use Rattle.upd_correct.specs.Scripts.{IsScriptOf}
 

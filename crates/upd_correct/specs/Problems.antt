@@ -16,7 +16,7 @@ use Rattle.upd_core.specs.Status.{is_active, live_targets}
 use Rattle.upd_deck.specs.Items.{ItemView, LineView, Text, Call, Deck, CommonDeck}
 use Rattle.upd_deck.specs.Reading.{is_allowed}
 use Rattle.upd_apply.specs.Names.{is_reserved}
-use Rattle.upd_correction_laws.specs.Corrections.{NewDeck}
+use Rattle.upd_correct.specs.Corrections.{NewDeck}
 use Rattle.upd_correct.specs.declared.refusal.Problem.{Problem}
 use Rattle.upd_correct.specs.declared.refusal.Problem.TheVariants.{BadByte, LineLong, Comment, Directive, FirstCard, OutOfUse, DeckTwice, NameTaken, Reserved}
 use Rattle.upd_correct.specs.declared.refusal.Problem.TheVariants.{BadName}

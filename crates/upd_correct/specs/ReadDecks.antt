@@ -3,7 +3,7 @@ use Rattle.std.specs.Prelude.{◌≡◌, List, [], ◌++◌, map}
 use Rattle.std.specs.List.{flat_map, AllByRecursion, AllZip}
 use Rattle.upd_text.specs.Units.{Bytes}
 use Rattle.upd_core.specs.Library.{LibraryView}
-use Rattle.upd_correction_laws.specs.Corrections.{NewDeck, new_deck_lines}
+use Rattle.upd_correct.specs.Corrections.{NewDeck, new_deck_lines}
 use Rattle.upd_correct.specs.declared.refusal.Refusal.{Refusal}
 use Rattle.upd_correct.specs.EditedText.{IsReadAs}
 use Rattle.upd_correct.specs.Plans.{IsEditedDeck}

@@ -7,7 +7,7 @@ use Rattle.upd_text.specs.Units.{Bytes}
 use Rattle.upd_core.specs.Library.{LibraryView}
 use Rattle.upd_deck.specs.Items.{ItemView, LineView, Deck, CommonDeck}
 use Rattle.upd_deck.specs.Reading.{reading}
-use Rattle.upd_correction_laws.specs.Corrections.{NewDeck}
+use Rattle.upd_correct.specs.Corrections.{NewDeck}
 use Rattle.upd_correct.specs.declared.refusal.Problem.{Problem}
 use Rattle.upd_correct.specs.declared.refusal.Problem.TheVariants.{NoDeck}
 use Rattle.upd_correct.specs.declared.refusal.Refusal.{Refusal}

@@ -3,8 +3,8 @@ use Rattle.std.specs.Prelude.{◌≡◌, ℕ, ◌+◌, ◌==◌, Bool, not, ◌|
 use Rattle.std.specs.List.{list_any}
 use Rattle.upd_text.specs.Units.{Bytes}
 use Rattle.upd_core.specs.Counts.{capped}
-use Rattle.upd_correction_laws.specs.Corrections.{Correction, Segment}
-use Rattle.upd_correction_laws.specs.RunLines.{RunLine, run_of}
+use Rattle.upd_correct.specs.Corrections.{Correction, Segment}
+use Rattle.upd_correct.specs.RunLines.{RunLine, run_of}
 
 -- A run so far: its bytes, and the number of its lines, up to the greatest that a machine counts.
 pub record RunView : Type 0 where

@@ -1,9 +1,16 @@
 //! From an edited text to a correction run.
 //!
 //! `correct` is the entry point: it compares decks of a library with their edited texts, and writes the run that leads
-//! each of these decks to its text. `correct_listed` does it for a deck that is known by its listing alone.
+//! each of these decks to its text. It applies the run to a copy of the library and returns it only if nothing else
+//! changes (`checking`). `correct_listed` does it for a deck that is known by its listing alone.
 #![tactic(auto)]
 
+mod checked_cards;
+mod checked_decks;
+mod checked_idents;
+mod checked_library;
+mod checked_texts;
+mod checking;
 pub mod correcting;
 mod edited_deck;
 mod edited_lines;
@@ -15,7 +22,6 @@ mod other_deck;
 mod plan;
 mod read_line;
 pub mod refusal;
-mod room;
 mod script;
 mod unique_lines;
 mod writer;

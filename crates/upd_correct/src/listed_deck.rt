@@ -46,8 +46,8 @@ impl<T: Drop> From<AllocFailed<T>> for ListedError {
 /// The run that leads a deck to its edited text under the name of a new set, made from the listing of the deck alone.
 /// Where nothing changes, the run is empty.
 ///
-/// A listing doesn't tell which other names are held, nor how much room the library has. So a run may still be refused
-/// when it arrives, for the name of its set or for a limit.
+/// The run is checked in the library that the listing stands for. A listing doesn't tell which other names are held, nor
+/// how much room the library has. So a run may still be refused when it arrives, for the name of its set or for a limit.
 pub fn correct_listed(
     alloc: Global,
     listing: &[u8],

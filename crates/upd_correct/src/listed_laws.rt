@@ -1,30 +1,16 @@
 //! What listings tell of a deck.
 
-ghost use Rattle.std.specs.Prelude.{◌≡◌, ◌≤◌, ℕ, List, [], length, IsTrue, Ok, Some, None};
+ghost use Rattle.std.specs.Prelude.{◌≡◌, ◌≤◌, ℕ, List, length, Ok, Some};
 ghost use Rattle.upd_text.specs.declared.limits.TheConstants.{MAX_CARDS};
 ghost use Rattle.upd_core.specs.Library.{LibraryView, cards_of, deck_of};
 ghost use Rattle.upd_core.specs.Sound.{IsSound};
 ghost use Rattle.upd_compile.specs.Listings.{deck_listing};
 ghost use Rattle.upd_laws.specs.ReadRuns.{HasLineTexts};
-ghost use Rattle.upd_correct.specs.Correcting.{CorrectsTo};
 ghost use Rattle.upd_correct.specs.EditedText.{lines_in};
-ghost use Rattle.upd_correct.specs.Growth.{has_room};
-ghost use Rattle.upd_correct.specs.ListedRuns.{IsListedRun};
-ghost use Rattle.upd_correct.specs.Problems.{set_problem};
 ghost use Rattle.upd_correct.specs.ListedDeck.{TellDeck};
 
 /// The listing of a held deck is read, and tells exactly its name and its cards.
 pub fn listings_tell_their_decks()
     ensures { (l : LibraryView) (name listing : List ℕ) (deck : ℕ) → IsSound l → HasLineTexts l → deck_of name l ≡ Some deck
         → length (cards_of deck l) ≤ MAX_CARDS → deck_listing name l ≡ Ok listing → TellDeck l name deck (lines_in listing) }
-{}
-
-/// The run from the listing of a held deck leads the deck to the edited text, where the name of the set is free in the
-/// library and the library has room for the run.
-pub fn runs_from_listings_correct_their_decks()
-    ensures { (l : LibraryView) (name listing set text run : List ℕ) (deck : ℕ) → IsSound l → HasLineTexts l
-        → deck_of name l ≡ Some deck → length (cards_of deck l) ≤ MAX_CARDS → deck_listing name l ≡ Ok listing
-        → (made : IsListedRun listing set text run) → set_problem l set ≡ None
-        → IsTrue (has_room l (record { set = set; corrections = made.made.corrections; added = [] }))
-        → CorrectsTo l set text run }
 {}

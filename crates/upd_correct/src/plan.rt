@@ -5,8 +5,8 @@ ghost use Rattle.std.specs.List.{AllByRecursion, flat_map, list_any};
 ghost use Rattle.std.specs.Str.{bytes_eq};
 ghost use Rattle.upd_core.specs.Library.{cards_of};
 ghost use Rattle.upd_core.specs.Status.{is_active, live_of};
-ghost use Rattle.upd_correction_laws.specs.Corrections.{NewDeck, new_deck_lines};
-ghost use Rattle.upd_correction_laws.specs.RunLines.{IsSpelled};
+ghost use Rattle.upd_correct.specs.Corrections.{NewDeck, new_deck_lines};
+ghost use Rattle.upd_correct.specs.RunLines.{IsSpelled};
 ghost use Rattle.upd_correct.specs.EditedText.{card_line, texts_of};
 ghost use Rattle.upd_correct.specs.Plans.{AreCorrectionsFor, new_decks};
 ghost use Rattle.upd_correct.specs.Scripts.{IsScriptOf};
@@ -30,7 +30,7 @@ pub(crate) struct Correction<'a> {
 }
 
 impl<'a> Model for Correction<'a> {
-    ghost use Rattle.upd_correction_laws.specs.Corrections.{Correction as CorrectionView};
+    ghost use Rattle.upd_correct.specs.Corrections.{Correction as CorrectionView};
 
     ghost Value = { CorrectionView };
 

@@ -30,12 +30,15 @@ pub enum Problem {
     Reserved,
     /// The name of the set isn't a name.
     BadName,
-    /// The run would have more than 2,000 lines.
+    /// The run that was made has more than 2,000 lines.
     TooManyLines,
-    /// The run would have more than 65,536 bytes.
+    /// The run that was made has more than 65,536 bytes.
     RunLong,
-    /// The run would exceed a limit of the library.
+    /// The run that was made would exceed a limit of the library.
     Full,
+    /// The run that was made isn't accepted, doesn't lead to the text or changes something else. That is a fault of this
+    /// program, or of the listing that the library stands for.
+    Unchecked,
 }
 
 /// A problem and where it is.

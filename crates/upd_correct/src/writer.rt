@@ -5,9 +5,9 @@ ghost use Rattle.std.specs.List.{flat_map};
 ghost use Rattle.upd_text.specs.Names.{card_text};
 ghost use Rattle.upd_core.specs.Counts.{capped};
 ghost use Rattle.upd_core.specs.Library.{ref_of};
-ghost use Rattle.upd_correction_laws.specs.Corrections.{deck_lines, deletion, edit_lines, insertion, new_deck_lines};
-ghost use Rattle.upd_correction_laws.specs.Corrections.{segment_lines};
-ghost use Rattle.upd_correction_laws.specs.RunLines.{RunLine, insert_line, run_of};
+ghost use Rattle.upd_correct.specs.Corrections.{deck_lines, deletion, edit_lines, insertion, new_deck_lines};
+ghost use Rattle.upd_correct.specs.Corrections.{segment_lines};
+ghost use Rattle.upd_correct.specs.RunLines.{RunLine, insert_line, run_of};
 ghost use Rattle.upd_correct.specs.EditedText.{card_line};
 ghost use Rattle.upd_correct.specs.Writing.{Writes};
 

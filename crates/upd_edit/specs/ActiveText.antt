@@ -7,7 +7,7 @@ use Rattle.upd_text.specs.Outcome.{◌>>=◌, at_line, need}
 use Rattle.upd_text.specs.Units.{Bytes}
 use Rattle.upd_core.specs.Library.{CardView, LibraryView, deck_of}
 use Rattle.upd_core.specs.Serials.{Serial}
-use Rattle.upd_correction_laws.specs.Corrected.{active_cards}
+use Rattle.upd_correct.specs.Corrected.{active_cards}
 
 -- the text of a card as a line
 abbrev pub card_line : CardView → Bytes

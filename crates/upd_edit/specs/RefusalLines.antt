@@ -4,7 +4,7 @@ use Rattle.std.specs.List.{flat_map}
 use Rattle.upd_text.specs.Units.{Bytes}
 use Rattle.upd_correct.specs.declared.refusal.Problem.{Problem}
 use Rattle.upd_correct.specs.declared.refusal.Problem.TheVariants.{BadByte, LineLong, Comment, Directive, NoDeck, FirstCard, OutOfUse, DeckTwice}
-use Rattle.upd_correct.specs.declared.refusal.Problem.TheVariants.{NameTaken, Reserved, BadName, TooManyLines, RunLong, Full}
+use Rattle.upd_correct.specs.declared.refusal.Problem.TheVariants.{NameTaken, Reserved, BadName, TooManyLines, RunLong, Full, Unchecked}
 use Rattle.upd_correct.specs.declared.refusal.Refusal.{Refusal}
 
 -- the name of a problem: that of the fault which a run would meet, if there is one
@@ -23,6 +23,7 @@ problem_name BadName = codes "BadName"
 problem_name TooManyLines = codes "TooManyLines"
 problem_name RunLong = codes "RunLong"
 problem_name Full = codes "Full"
+problem_name Unchecked = codes "Unchecked"
 
 -- what a problem is, in words
 abbrev pub problem_text : Problem → Bytes
@@ -40,6 +41,7 @@ problem_text BadName = codes "the set's name is not a name"
 problem_text TooManyLines = codes "the run would have more than 2000 lines: correct it in parts"
 problem_text RunLong = codes "the run would have more than 65536 bytes: correct it in parts"
 problem_text Full = codes "the library has no room for this run"
+problem_text Unchecked = codes "the run that was made does not lead to this text: report it"
 
 -- the line of a refusal: name, place and words, as `LineLong 7:81 a line has at most 80 bytes`
 abbrev pub refusal_line : Refusal → Bytes

@@ -56,6 +56,7 @@ fn problem_name(problem: Problem) -> &'static str
         Problem::TooManyLines => "TooManyLines",
         Problem::RunLong => "RunLong",
         Problem::Full => "Full",
+        Problem::Unchecked => "Unchecked",
     }
 }
 
@@ -77,5 +78,6 @@ fn problem_text(problem: Problem) -> &'static str
         Problem::TooManyLines => "the run would have more than 2000 lines: correct it in parts",
         Problem::RunLong => "the run would have more than 65536 bytes: correct it in parts",
         Problem::Full => "the library has no room for this run",
+        Problem::Unchecked => "the run that was made does not lead to this text: report it",
     }
 }

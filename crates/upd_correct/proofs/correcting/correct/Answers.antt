@@ -5,21 +5,17 @@ use Rattle.upd_correct.specs.EditedText.{HasDecks}
 use Rattle.upd_correct.specs.Plans.{IsEditedDeck}
 use Rattle.upd_correct.specs.Problems.{HasNoProblem}
 use Rattle.upd_correct.specs.Refusals.{refusals_of}
-use Rattle.upd_correct.proofs.CauseLemmas.{all_refused, set_is_free}
+use Rattle.upd_correct.proofs.CauseLemmas.{all_refused}
 use Rattle.upd_correct.proofs.ScriptLemmas.{no_items}
 use Rattle.upd_correct.proofs.correcting.correct.Goals as goal
 
 pub returns-clause-corrects : goal.returns-clause-corrects
-returns-clause-corrects c sound made =
+returns-clause-corrects c =
     let none : c.read_decks.new.refusals.items ≡ [] =
     no_items c.read_decks.new.refusals.items (grind (arith, nat_tests, c.read_decks.new.refusals.ok, c.is_empty.ensures, c.if-not-is_empty.false)) in
     let read = c.in_ok-decks.ensures in
     let decks = sym c.deref.ensures.value in
-    let clean : refusals_of c.args.library.now c.args.set.now c.args.text.now ≡ [] =
-    sym (all_refused c.args.library.now c.args.set.now c.args.text.now _ _ _ c.in_ok-refusals.ensures read) ∙ none in
-    c.run_for.ensures.corrects c.args.text.now sound made (set_is_free c.args.library.now c.args.set.now c.args.text.now clean)
-    (subst (HasDecks c.args.text.now) decks (read.given none)) (subst (AllByRecursion IsEditedDeck) decks read.each)
-    (subst (HasNoProblem c.args.library.now c.args.set.now []) decks (read.none none))
+    c.run_for.ensures.corrects c.args.text.now (subst (HasDecks c.args.text.now) decks (read.given none))
 
 pub returns-clause-made : goal.returns-clause-made
 returns-clause-made c =
@@ -39,4 +35,4 @@ returns-clause-refused c =
     let clean : refusals_of c.args.library.now c.args.set.now c.args.text.now ≡ [] =
     sym (all_refused c.args.library.now c.args.set.now c.args.text.now _ _ _ c.in_ok-refusals.ensures read) ∙ none in
     c.run_for.ensures.refused c.args.text.now clean (subst (HasDecks c.args.text.now) decks (read.given none))
-    (subst (HasNoProblem c.args.library.now c.args.set.now []) decks (read.none none))
+    (subst (AllByRecursion IsEditedDeck) decks read.each) (subst (HasNoProblem c.args.library.now c.args.set.now []) decks (read.none none))

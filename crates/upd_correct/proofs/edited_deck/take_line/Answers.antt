@@ -1,5 +1,5 @@
 use Rattle.std.proofs.Common.{List, ◌++◌, map, refl, ap, ◌∙◌, rules, subst}
-use Rattle.upd_correction_laws.specs.Corrections.{NewDeck}
+use Rattle.upd_correct.specs.Corrections.{NewDeck}
 use Rattle.upd_correct.specs.LineReads.{IsTakenAs}
 use Rattle.upd_correct.specs.Problems.{deck_problem}
 use Rattle.upd_correct.specs.Refusals.{refusals_at}

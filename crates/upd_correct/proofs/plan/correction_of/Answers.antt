@@ -2,8 +2,8 @@ use Rattle.std.specs.Borrow.{Bor}
 use Rattle.std.proofs.Common.{◌≡◌, ℕ, ◌-◌, List, ◌∷◌, map, length, take, drop, sym, ap, ◌∙◌, subst, arith, Vec, Global}
 use Rattle.std.specs.List.{AllByRecursion}
 use Rattle.upd_core.specs.Library.{CardView}
-use Rattle.upd_correction_laws.specs.Corrections.{NewDeck, Segment}
-use Rattle.upd_correction_laws.specs.RunLines.{IsSpelled, RunLine}
+use Rattle.upd_correct.specs.Corrections.{NewDeck, Segment}
+use Rattle.upd_correct.specs.RunLines.{IsSpelled, RunLine}
 use Rattle.upd_correct.specs.EditedText.{card_line, texts_of}
 use Rattle.upd_correct.specs.Scripts.{IsScriptOf}
 use Rattle.upd_correct.proofs.ListLemmas.{rest_of}

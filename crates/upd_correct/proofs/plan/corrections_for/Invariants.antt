@@ -1,7 +1,7 @@
 use Rattle.std.proofs.Common.{ℕ, List, [], take}
 use Rattle.std.specs.List.{flat_map, AllByRecursion}
-use Rattle.upd_correction_laws.specs.Corrections.{new_deck_lines}
-use Rattle.upd_correction_laws.specs.RunLines.{IsSpelled}
+use Rattle.upd_correct.specs.Corrections.{new_deck_lines}
+use Rattle.upd_correct.specs.RunLines.{IsSpelled}
 use Rattle.upd_correct.specs.Plans.{AreCorrectionsFor}
 use Rattle.upd_correct.specs.Problems.{HasNoProblem}
 use Rattle.upd_correct.proofs.plan.corrections_for.Given as goal

@@ -1,7 +1,7 @@
 use Rattle.std.proofs.Common.{map, ap, ◌++◌, ◌∙◌}
 use Rattle.std.specs.Borrow.{Bor}
-use Rattle.upd_correction_laws.specs.Corrections.{NewDeck, edit_lines}
-use Rattle.upd_correction_laws.specs.RunLines.{run_of}
+use Rattle.upd_correct.specs.Corrections.{NewDeck, edit_lines}
+use Rattle.upd_correct.specs.RunLines.{run_of}
 use Rattle.upd_correct.proofs.writer.write_run.Goals as goal
 
 pub returns-clause-bytes : goal.returns-clause-bytes

@@ -9,7 +9,7 @@ use Rattle.upd_edit.proofs.editing.correct_at.Goals as goal
 pub returns-in-Ok-correct-clause-corrects : goal.returns-in-Ok-correct-clause-corrects
 returns-in-Ok-correct-clause-corrects g c =
     held_of g.S.Meaning (λ l. CorrectsTo l c.args.set.now c.args.text.now c.in-Ok-correct.run'.items) c.in-Ok.library
-    c.args.desk.now.store c.library.new.self.store c.in-Ok.ensures.library (λ made. c.in-Ok-correct.ensures.corrects made.sound made.texts)
+    c.args.desk.now.store c.library.new.self.store c.in-Ok.ensures.library (λ made. c.in-Ok-correct.ensures.corrects)
 
 pub returns-in-Ok-correct-clause-clean : goal.returns-in-Ok-correct-clause-clean
 returns-in-Ok-correct-clause-clean g c =

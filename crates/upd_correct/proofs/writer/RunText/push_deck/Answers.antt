@@ -1,6 +1,6 @@
 use Rattle.std.specs.Borrow.{Bor}
 use Rattle.std.proofs.Common.{◌≡◌, ℕ, List, [], ◌∷◌, map, sym, ap, ◌∙◌, subst, append-nil}
-use Rattle.upd_correction_laws.specs.Corrections.{NewDeck, first_line}
+use Rattle.upd_correct.specs.Corrections.{NewDeck, first_line}
 use Rattle.upd_correct.specs.EditedText.{card_line}
 use Rattle.upd_correct.specs.Writing.{Writes}
 use Rattle.upd_correct.proofs.WriteLemmas.{writes_then}

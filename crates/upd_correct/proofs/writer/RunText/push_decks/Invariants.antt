@@ -1,6 +1,6 @@
 use Rattle.std.proofs.Common.{map, take}
 use Rattle.std.specs.List.{flat_map}
-use Rattle.upd_correction_laws.specs.Corrections.{new_deck_lines}
+use Rattle.upd_correct.specs.Corrections.{new_deck_lines}
 use Rattle.upd_correct.specs.Writing.{Writes}
 use Rattle.upd_correct.proofs.writer.RunText.push_decks.Given as goal
 

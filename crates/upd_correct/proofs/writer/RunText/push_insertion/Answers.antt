@@ -1,7 +1,7 @@
 use Rattle.std.specs.Borrow.{Bor}
 use Rattle.std.proofs.Common.{ℕ, List, [], ◌∷◌, ◌∙◌, map, sym, subst}
 use Rattle.upd_core.specs.Library.{ref_of}
-use Rattle.upd_correction_laws.specs.RunLines.{insert_line}
+use Rattle.upd_correct.specs.RunLines.{insert_line}
 use Rattle.upd_correct.specs.EditedText.{card_line}
 use Rattle.upd_correct.specs.Writing.{Writes}
 use Rattle.upd_correct.proofs.WriteLemmas.{some_insertion, writes_then}

@@ -1,0 +1,168 @@
+-- What a check shows of a run.
+use Rattle.std.proofs.Common.{◌≡◌, ℕ, ◌+◌, ◌<◌, Bool, true, false, not, List, [], ◌∷◌, ◌++◌, length, take, drop, find, Option, Some, None, if◌then◌else◌, refl, sym, ap, ◌∙◌, subst, arith}
+use Rattle.std.proofs.Common.{take-append-drop}
+use Rattle.std.specs.Prelude.{◌==◌}
+use Rattle.std.specs.List.{filter, AllByRecursion, AllZip}
+use Rattle.std.specs.Option.{option_map_or}
+use Rattle.upd_core.specs.declared.target.Target.{Target}
+use Rattle.upd_core.specs.Edits.{is_among, next_age}
+use Rattle.upd_core.specs.Library.{CardView, DeckView, LibraryView, cards_of, deck_of, is_deck}
+use Rattle.upd_core.specs.Status.{is_active, live_cards, live_targets, targets_of}
+use Rattle.upd_laws.proofs.SoundListLemmas.{all_weaker, is_same_number, same_number}
+use Rattle.upd_correct.specs.Corrected.{active_cards}
+use Rattle.upd_correct.specs.Corrections.{NewDeck}
+use Rattle.upd_correct.specs.Correcting.{BeginsWithSet, CorrectsTo, IsSublist, KeepsCards, Kept, Left}
+use Rattle.upd_correct.specs.Correcting.{None as Nothing}
+use Rattle.upd_correct.specs.EditedText.{HasDecks}
+use Rattle.upd_correct.specs.Checked.{AreDecksFrom, AreLeft, Corrects, Empty, Goes, IsChecked, IsDeckLeft, LeadsCards, LeavesCards, New, Old, Stays, held_serials}
+
+-- ---- the cards that stay
+
+-- whether a card is not of a set
+abbrev is_old : ℕ → CardView → Bool
+is_old z card = not (card.ident == z)
+
+old_passes : (z : ℕ) (card : CardView) → (card.ident ≡ z → ⊥) → is_old z card ≡ true
+old_passes z card other = go (card.ident == z) refl
+  where
+    go : (b : Bool) → (card.ident == z) ≡ b → is_old z card ≡ true
+    go true e = absurd (other (same_number card.ident z e))
+    go false e = ap not e
+
+new_fails : (z : ℕ) (card : CardView) → card.ident ≡ z → is_old z card ≡ false
+new_fails z card own = ap not (is_same_number card.ident z own)
+
+filter_in : {A : Type 0} (test : A → Bool) (x : A) (xs : List A) → test x ≡ true → filter test (x ∷ xs) ≡ x ∷ filter test xs
+filter_in test x xs e = rw e refl
+
+filter_out : {A : Type 0} (test : A → Bool) (x : A) (xs : List A) → test x ≡ false → filter test (x ∷ xs) ≡ filter test xs
+filter_out test x xs e = rw e refl
+
+-- the active old cards after the run
+abbrev old_after : List Target → ℕ → ℕ → List CardView → List CardView
+old_after live d z news = filter (is_old z) (filter (is_active live d) news)
+
+after_in : (live : List Target) (d z : ℕ) (c : CardView) (news : List CardView) → is_active live d c ≡ true → is_old z c ≡ true
+    → old_after live d z (c ∷ news) ≡ c ∷ old_after live d z news
+after_in live d z c news on old = ap (filter (is_old z)) (filter_in (is_active live d) c news on) ∙ filter_in (is_old z) c (filter (is_active live d) news) old
+
+after_new : (live : List Target) (d z : ℕ) (c : CardView) (news : List CardView) → is_active live d c ≡ true → is_old z c ≡ false
+    → old_after live d z (c ∷ news) ≡ old_after live d z news
+after_new live d z c news on new = ap (filter (is_old z)) (filter_in (is_active live d) c news on) ∙ filter_out (is_old z) c (filter (is_active live d) news) new
+
+after_off : (live : List Target) (d z : ℕ) (c : CardView) (news : List CardView) → is_active live d c ≡ false
+    → old_after live d z (c ∷ news) ≡ old_after live d z news
+after_off live d z c news off = ap (filter (is_old z)) (filter_out (is_active live d) c news off)
+
+pub left_kept : (live : List Target) (d z : ℕ) (olds news : List CardView) → AreLeft live d z olds news
+    → IsSublist (old_after live d z news) (filter (is_active live d) olds)
+left_kept live d z _ _ Empty = Nothing
+left_kept live d z _ _ (New c olds news own on left) =
+    subst (λ (cards : List CardView). IsSublist cards (filter (is_active live d) olds)) (sym (after_new live d z c news on (new_fails z c own)))
+    (left_kept live d z olds news left)
+left_kept live d z _ _ (Old o c olds news other (Goes on e off) left) =
+    subst (λ (cards : List CardView). IsSublist cards (filter (is_active live d) (o ∷ olds))) (sym (after_off live d z c news off))
+    (subst (IsSublist (old_after live d z news)) (sym (filter_in (is_active live d) o olds on))
+    (Left o (old_after live d z news) (filter (is_active live d) olds) (left_kept live d z olds news left)))
+left_kept live d z _ _ (Old o c olds news other (Stays e) left) =
+    subst (λ (x : CardView). IsSublist (old_after live d z (c ∷ news)) (filter (is_active live d) (x ∷ olds))) (sym e)
+    (go (is_active live d c) refl (left_kept live d z olds news left))
+  where
+    go : (b : Bool) → is_active live d c ≡ b → IsSublist (old_after live d z news) (filter (is_active live d) olds)
+        → IsSublist (old_after live d z (c ∷ news)) (filter (is_active live d) (c ∷ olds))
+    go true on rest =
+        subst (λ (cards : List CardView). IsSublist cards (filter (is_active live d) (c ∷ olds))) (sym (after_in live d z c news on (old_passes z c other)))
+        (subst (IsSublist (c ∷ old_after live d z news)) (sym (filter_in (is_active live d) c olds on))
+        (Kept c (old_after live d z news) (filter (is_active live d) olds) rest))
+    go false off rest =
+        subst (λ (cards : List CardView). IsSublist cards (filter (is_active live d) (c ∷ olds))) (sym (after_off live d z c news off))
+        (subst (IsSublist (old_after live d z news)) (sym (filter_out (is_active live d) c olds off)) rest)
+
+-- ---- the other decks
+
+find_here : {A : Type 0} (test : A → Bool) (x : A) (xs : List A) → test x ≡ true → find test (x ∷ xs) ≡ Some x
+find_here test x xs e = rw e refl
+
+find_past : {A : Type 0} (test : A → Bool) (x : A) (xs : List A) → test x ≡ false → find test (x ∷ xs) ≡ find test xs
+find_past test x xs e = rw e refl
+
+other_serial : (a d : ℕ) → (a ≡ d → ⊥) → (a == d) ≡ false
+other_serial a d other = go (a == d) refl
+  where
+    go : (b : Bool) → (a == d) ≡ b → (a == d) ≡ false
+    go true e = absurd (other (same_number a d e))
+    go false e = e
+
+none_from : (d n : ℕ) (added : List DeckView) → d < n → AreDecksFrom n added → find (is_deck d) added ≡ None
+none_from d n [] less from = refl
+none_from d n (x ∷ added) less from =
+    let other : x.ident ≡ d → ⊥ = λ e. omega (arith, less, from.0, e) in
+    find_past (is_deck d) x added (other_serial x.ident d other) ∙ none_from d (n + 1) added (omega (arith, less)) from.1
+
+find_left : (named : List ℕ) (d n : ℕ) (olds news added : List DeckView) → is_among named d ≡ false → d < n → AreDecksFrom n added
+    → AllZip (IsDeckLeft named) olds news → find (is_deck d) (news ++ added) ≡ find (is_deck d) olds
+find_left named d n [] [] added free less from zip = none_from d n added less from
+find_left named d n [] (x ∷ news) added free less from zip = absurd zip
+find_left named d n (o ∷ olds) [] added free less from zip = absurd zip
+find_left named d n (o ∷ olds) (x ∷ news) added free less from zip =
+    go (o.ident == d) refl (find_left named d n olds news added free less from zip.1)
+  where
+    go : (b : Bool) → (o.ident == d) ≡ b → find (is_deck d) (news ++ added) ≡ find (is_deck d) olds
+        → find (is_deck d) (x ∷ (news ++ added)) ≡ find (is_deck d) (o ∷ olds)
+    go true e rest =
+        let own : o.ident ≡ d = same_number o.ident d e in
+        let same : o ≡ x = zip.0.1 (subst (λ (a : ℕ). is_among named a ≡ false) (sym own) free) in
+        find_here (is_deck d) x (news ++ added) (is_same_number x.ident d (zip.0.0 ∙ own)) ∙ ap Some (sym same) ∙ sym (find_here (is_deck d) o olds e)
+    go false e rest =
+        find_past (is_deck d) x (news ++ added) (ap (λ (a : ℕ). a == d) zip.0.0 ∙ e) ∙ rest ∙ sym (find_past (is_deck d) o olds e)
+
+not_held : (l : LibraryView) (d : ℕ) (decks : List NewDeck) → AllByRecursion (λ (t : NewDeck). deck_of t.name l ≡ Some d → ⊥) decks
+    → is_among (held_serials l decks) d ≡ false
+not_held l d [] none = refl
+not_held l d (t ∷ decks) none = go (deck_of t.name l) refl (not_held l d decks none.1)
+  where
+    go : (o : Option ℕ) → deck_of t.name l ≡ o → is_among (held_serials l decks) d ≡ false → is_among (held_serials l (t ∷ decks)) d ≡ false
+    go (Some a) e rest =
+        let other : a ≡ d → ⊥ = λ own. none.0 (e ∙ ap Some own) in
+        rw e (rw (other_serial a d other) rest)
+    go None e rest = rw e rest
+
+-- ---- the run
+
+pub live_same : (l m : LibraryView) → l.yanks ≡ m.yanks → live_targets l ≡ live_targets m
+live_same l m e = ap (λ (yanks : List CardView). targets_of (live_cards yanks)) e
+
+deck_same : (l m : LibraryView) (set run : List ℕ) (decks : List NewDeck) (d : ℕ) → Corrects l set run decks m → d < next_age l
+    → AllByRecursion (λ (t : NewDeck). deck_of t.name l ≡ Some d → ⊥) decks → active_cards d m ≡ active_cards d l
+deck_same l m set run decks d is less none =
+    let halves : m.decks ≡ take (length l.decks) m.decks ++ drop (length l.decks) m.decks = sym (take-append-drop (length l.decks) m.decks) in
+    let found : find (is_deck d) m.decks ≡ find (is_deck d) l.decks =
+    ap (find (is_deck d)) halves
+    ∙ find_left (held_serials l decks) d (next_age l + 1) l.decks (take (length l.decks) m.decks) (drop (length l.decks) m.decks) (not_held l d decks none)
+    (omega (arith, less)) is.added is.others in
+    let cards : cards_of d m ≡ cards_of d l =
+    λ i. option_map_or (λ (x : DeckView). x.cards) (if 0 == d then Some (record { ident = 0; cards = sym is.yanks i }) else found i) [] in
+    λ i. filter (is_active (sym (live_same l m is.yanks) i) d) (cards i)
+
+cards_kept : (l m : LibraryView) → l.yanks ≡ m.yanks → (t : NewDeck) → LeavesCards l m t → KeepsCards l m t
+cards_kept l m yanks t leaves d held =
+    subst (λ (live : List Target). IsSublist (filter (λ (card : CardView). not (card.ident == next_age l)) (filter (is_active live d) (cards_of d m))) (active_cards d l))
+    (live_same l m yanks) (left_kept (live_targets l) d (next_age l) (cards_of d l) (cards_of d m) (leaves d held))
+
+pub checked_corrects : (l : LibraryView) (set text run : List ℕ) (decks : List NewDeck) → HasDecks text decks → BeginsWithSet set run
+    → IsChecked l set run decks → CorrectsTo l set text run
+checked_corrects l set text run decks given named is = record {
+  decks = decks;
+  given = given;
+  named = named;
+  lines = is.lines;
+  after = is.after;
+  read = is.read;
+  accepted = is.accepted;
+  compile = is.compile;
+  whole = is.corrects;
+  texts = is.corrects.texts;
+  others = λ d less none. deck_same l is.after.library set run decks d is.corrects less none;
+  kept = all_weaker (LeadsCards l is.after.library) (KeepsCards l is.after.library) decks
+      (λ t leads. cards_kept l is.after.library is.corrects.yanks t leads.0) is.corrects.cards;
+}

@@ -1,0 +1,24 @@
+-- The texts of decks, and the first line of a run.
+use Rattle.std.proofs.Common.{◌≡◌, ℕ, ◌-◌, ◌<◌, List, [], ◌∷◌, map, length, take, drop, get_or, sym, ap, ◌∙◌, arith}
+use Rattle.std.specs.Prelude.{IsTrue, ◌==◌, Result, Ok, Err, IfOk}
+use Rattle.std.proofs.lemmas.Bool.Decides.{Decides-eqb}
+use Rattle.std.proofs.lemmas.Simd.{map-map}
+use Rattle.upd_correct.specs.Corrections.{NewDeck}
+use Rattle.upd_correct.specs.RunLines.{RunLine}
+use Rattle.upd_correct.specs.EditedText.{card_line, texts_of}
+use Rattle.upd_correct.proofs.LeftLemmas.{first_and_more}
+
+-- the first text is that of the deck's first line, and the others are those of its further lines
+pub texts_are : {X : Type 0} (now : X → List ℕ) (d : NewDeck) (texts lines : List X) (x : X) → 0 < length texts → now (get_or texts 0 x) ≡ d.first
+    → map now (take (length texts - 1) (drop 1 texts)) ≡ map now lines → map (λ t. card_line (now t)) lines ≡ d.lines → map now texts ≡ texts_of d
+texts_are now d texts lines x some first rest view =
+    ap (map now) (first_and_more texts x some) ∙ ap (λ t. t ∷ map now (take (length texts - 1) (drop 1 texts))) first
+    ∙ ap (λ ts. d.first ∷ ts) (rest ∙ sym (map-map (λ (line : RunLine). line.text) (λ t. card_line (now t)) lines) ∙ ap (map (λ (line : RunLine). line.text)) view)
+
+pub feed_first : (rest : List ℕ) → 0 < length rest → IsTrue (get_or rest 0 0 == 10) → rest ≡ 10 ∷ drop 1 rest
+feed_first [] some is = absurd (omega (arith, some))
+feed_first (b ∷ rest) some is = ap (λ (x : ℕ). x ∷ rest) ((Decides-eqb b 10).0 is)
+
+pub ok_weaker : {A E : Type 0} (P Q : A → Type 0) (r : Result A E) → ((x : A) → P x → Q x) → IfOk r P → IfOk r Q
+ok_weaker P Q (Ok x) weaker is = weaker x is
+ok_weaker P Q (Err e) weaker is = tt

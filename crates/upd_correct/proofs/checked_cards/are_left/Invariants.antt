@@ -1,0 +1,8 @@
+use Rattle.std.proofs.Common.{drop}
+use Rattle.upd_correct.specs.Checked.{AreLeft}
+use Rattle.upd_correct.proofs.checked_cards.are_left.Given as goal
+
+abbrev pub invariant-loop-card : goal.invariant-loop-card
+invariant-loop-card l =
+    AreLeft l.live.targets l.deck l.set l.rest (drop l.card-index l.news)
+    → AreLeft l.live.targets l.deck l.set l.olds l.news

@@ -1,0 +1,182 @@
+//! Libraries before and after a run.
+
+ghost use Rattle.std.specs.Prelude.{◌≡◌, ◌+◌, ℕ, [], Some, length, map, take, drop, IsTrue, IfOk};
+ghost use Rattle.std.specs.List.{AllByRecursion, AllZip};
+ghost use Rattle.std.specs.Result.{IsOkUnless};
+ghost use Rattle.upd_text.specs.Faults.{fault_at};
+ghost use Rattle.upd_text.specs.declared.fault.FaultKind.TheVariants.{NoMemory};
+ghost use Rattle.upd_core.specs.Edits.{next_age};
+ghost use Rattle.upd_core.specs.Library.{cards_of, deck_of};
+ghost use Rattle.upd_core.specs.Status.{live_of, live_targets};
+ghost use Rattle.upd_correct.specs.Checked.{HasTexts};
+ghost use Rattle.upd_correct.specs.Checked.{AreDecksFrom, AreLeft, Brings, Corrects, HasOwnCards, IsDeckLeft, LeadsCards, LeavesCards, held_serials};
+
+use crate::checked_cards::{are_left, are_same_cards};
+use crate::checked_decks::{are_decks_from, are_decks_left};
+use crate::checked_idents::{are_same_idents, brings};
+use crate::checked_texts::{active_texts, are_texts_of};
+use crate::edited_deck::EditedDeck;
+use crate::plan::added_decks;
+use std::alloc::{AllocError, Global};
+use upd_core::{Library, Live, Serial};
+use upd_text::Fault;
+
+/// The serials of the decks of a text that are held.
+fn held_serials(
+    alloc: Global,
+    library: &Library,
+    decks: &[EditedDeck],
+) -> Result<Vec<Serial>, AllocError>
+    ensures { IfOk result (λ serials. serials.items ≡ held_serials library.now decks.now) }
+{
+    decks
+        .iter()
+        .filter_map(|deck| library.deck_of(&deck.name))
+        .collect(alloc)
+}
+
+/// Whether the directory grew by the set and the new decks.
+fn is_directory(
+    before: &Library,
+    after: &Library,
+    set: &[u8],
+    run: &[u8],
+    added: &[&EditedDeck],
+) -> bool
+    ensures idents { IsTrue result → before.now.idents ≡ take (length before.now.idents) after.now.idents }
+    ensures brings { IsTrue result → Brings run.now (next_age before.now) set.now (map (λ d. d.now) added.now)
+        (drop (length before.now.idents) after.now.idents) }
+{
+    let count = before.idents().len();
+    if after.idents().len() < count {
+        return false;
+    }
+    let (old, new) = after.idents().split_at(count);
+    are_same_idents(before.idents(), old) && brings(run, count + 1, set, added, new)
+}
+
+/// Whether the decks are the old ones, each as it was unless its serial is given, and as many new ones.
+fn are_others(before: &Library, after: &Library, held: &[Serial], count: usize) -> bool
+    ensures others { IsTrue result
+        → AllZip (IsDeckLeft held.now) before.now.decks (take (length before.now.decks) after.now.decks) }
+    ensures added { IsTrue result
+        → AreDecksFrom (next_age before.now + 1) (drop (length before.now.decks) after.now.decks) }
+    ensures count { IsTrue result → length (drop (length before.now.decks) after.now.decks) ≡ count }
+{
+    if after.decks().len() < before.decks().len() {
+        return false;
+    }
+    let (old, new) = after.decks().split_at(before.decks().len());
+    new.len() == count
+        && are_decks_from(before.idents().len() + 2, new)
+        && are_decks_left(held, before.decks(), old)
+}
+
+/// Whether the yanks and the rest are as they were.
+fn is_rest(before: &Library, after: &Library) -> bool
+    ensures yanks { IsTrue result → before.now.yanks ≡ after.now.yanks }
+    ensures rest { IsTrue result → before.now.rest ≡ after.now.rest }
+{
+    before.rest() == after.rest() && are_same_cards(before.yanks(), after.yanks())
+}
+
+/// Whether the cards of a new deck are its own, and active.
+fn has_own_cards(after: &Library, live: &Live, deck: &EditedDeck) -> bool
+    ensures { (age : ℕ) → IsTrue result → deck_of deck.now.name after.now ≡ Some age
+        → AreLeft live.now.targets age age [] (cards_of age after.now) }
+{
+    match after.deck_of(&deck.name) {
+        None => false,
+        Some(age) => are_left(live, age, age as usize, &[], after.cards_of(age)),
+    }
+}
+
+/// Whether the old cards of a deck are as they were or switched off, and its others are of the new set.
+fn leaves_cards(before: &Library, after: &Library, live: &Live, deck: &EditedDeck) -> bool
+    requires { live.now ≡ live_of before.now }
+    ensures old { IsTrue result → LeavesCards before.now after.now deck.now }
+    ensures own { IsTrue result → HasOwnCards before.now after.now deck.now }
+{
+    match before.deck_of(&deck.name) {
+        None => has_own_cards(after, live, deck),
+        Some(age) => {
+            let set = before.idents().len() + 1;
+            are_left(live, age, set, before.cards_of(age), after.cards_of(age))
+        }
+    }
+}
+
+/// Whether a deck has the texts of its lines.
+fn has_texts(
+    alloc: Global,
+    after: &Library,
+    live: &Live,
+    deck: &EditedDeck,
+) -> Result<bool, AllocError>
+    ensures { live.now.targets ≡ live_targets after.now → IfOk result (λ ok. IsTrue ok → HasTexts after.now deck.now) }
+{
+    let Some(age) = after.deck_of(&deck.name) else {
+        return Ok(false);
+    };
+    let texts = active_texts(alloc, live, age, after.cards_of(age))?;
+    Ok(are_texts_of(&texts, deck))
+}
+
+/// The same for all decks of a text.
+fn have_texts(
+    alloc: Global,
+    after: &Library,
+    live: &Live,
+    decks: &[EditedDeck],
+) -> Result<bool, AllocError>
+    ensures { live.now.targets ≡ live_targets after.now
+        → IfOk result (λ ok. IsTrue ok → AllByRecursion (HasTexts after.now) decks.now) }
+{
+    for deck in decks {
+        if !has_texts(alloc, after, live, deck)? {
+            return Ok(false);
+        }
+    }
+    Ok(true)
+}
+
+/// [`leaves_cards`] for all decks of a text.
+fn leave_cards(before: &Library, after: &Library, live: &Live, decks: &[EditedDeck]) -> bool
+    requires { live.now ≡ live_of before.now }
+    ensures { IsTrue result → AllByRecursion (LeadsCards before.now after.now) decks.now }
+{
+    for deck in decks {
+        if !leaves_cards(before, after, live, deck) {
+            return false;
+        }
+    }
+    true
+}
+
+/// Whether a run by a set led the decks of a text to it, and changed nothing else.
+pub(crate) fn is_corrected(
+    alloc: Global,
+    before: &Library,
+    after: &Library,
+    set: &[u8],
+    run: &[u8],
+    decks: &[EditedDeck],
+) -> Result<bool, Fault>
+    ensures corrects { IfOk result (λ ok. IsTrue ok → Corrects before.now set.now run.now decks.now after.now) }
+    ensures err { IsOkUnless result (fault_at NoMemory 0) }
+{
+    let held = held_serials(alloc, before, decks)?;
+    let added = added_decks(alloc, before, decks)?;
+    if !is_rest(before, after)
+        || !is_directory(before, after, set, run, &added)
+        || !are_others(before, after, &held, added.len())
+    {
+        return Ok(false);
+    }
+    let live = before.live_yanks()?;
+    if !leave_cards(before, after, &live, decks) {
+        return Ok(false);
+    }
+    let same = have_texts(alloc, after, &live, decks)?;
+    Ok(same)
+}

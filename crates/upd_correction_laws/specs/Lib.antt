@@ -1,4 +1,0 @@
-pub mod RunLines
-pub mod Corrections
-pub mod Corrected
-pub mod Examples
