@@ -16,9 +16,9 @@ fn close<D: Disk + Drop>(conn: Connection<FileStore<D>>) -> Result<(), Fail> {
     Ok(conn.close()?)
 }
 
-/// Executes a statement, which is in the log then, and says whether it could.
+/// Executes statements, which are in the log then, and says whether it could.
 fn execute<D: Disk + Drop>(conn: &mut Connection<FileStore<D>>, sql: &str) -> bool {
-    conn.execute(sql, &[]).is_ok()
+    conn.execute_batch(sql).is_ok()
 }
 
 /// Executes a statement and closes the connection.

@@ -2,6 +2,7 @@
 use crate::console::{accepts, answers_of, fresh, library, remove, without_log};
 use crate::file_changes::{change, change_log};
 use crate::refusals::COMMANDS;
+use crate::table_rows::has_rows;
 use sqlite_disk::Unknown;
 use std::test::Fail;
 use upd_keep::{Examined, Report, Situation, examine};
@@ -33,6 +34,8 @@ pub enum Step<'a> {
     Logs(&'a str),
     /// The log is removed, if there is one.
     LosesLog,
+    /// The tables have these rows: sorted lines, each with a table and its values.
+    HasRows(&'a str),
     /// The library is sound when examined: its line, and whether its log has frames.
     IsSound(&'a str, bool),
     /// The library is not sound when examined, and these are the lines.
@@ -93,6 +96,7 @@ fn take(rt: &HostRuntime, file: &str, step: Step<'_>) -> Result<(), Fail> {
         Step::Changes(sql) => change(rt, file, sql),
         Step::Logs(sql) => change_log(rt, file, sql),
         Step::LosesLog => without_log(rt, file),
+        Step::HasRows(rows) => has_rows(rt, file, rows),
         Step::IsSound(line, frames) => is_sound(&examined(rt, file)?, line, frames),
         Step::IsUnsound(lines) => is_unsound(&examined(rt, file)?, lines),
         Step::Is(situation) => is_other(&examined(rt, file)?, situation),

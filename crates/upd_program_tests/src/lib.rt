@@ -16,6 +16,8 @@ mod file_changes;
 #[cfg(test)]
 mod file_sessions;
 #[cfg(test)]
+mod kept_rows;
+#[cfg(test)]
 mod library_copies;
 #[cfg(test)]
 mod library_files;
@@ -29,3 +31,5 @@ mod refusals;
 mod served_address;
 #[cfg(test)]
 mod site_commands;
+#[cfg(test)]
+mod table_rows;

@@ -1,8 +1,10 @@
 //! `correct` with a deck's listing in place of a library's file.
 use crate::console::{answers, answers_of, ask, fresh, is_answer, remove};
 use crate::file_sessions::{NO_LIBRARY, Step, session, take_all};
+use std::alloc::Global;
 use std::fs;
 use std::test::Fail;
+use upd_testkit::check::holds;
 
 /// The listing of deck A after its two runs.
 const LISTING: &str = "DECK A\nA A.1 *DECK A\nA A.2 ONE\nI A.3 TWO\nA S.1 DEUX\nA A.4 THREE\n";
@@ -128,5 +130,30 @@ fn other_files_are_opened_as_libraries(rt: HostRuntime) -> Result<(), Fail> {
     let file = fresh(&rt, "opened")?;
     is_opened(&rt, &file, b"SQLite format 3\0")?;
     is_opened(&rt, &file, &vec![in rt.alloc(); b'\n'; 5_000_026]?)?;
+    remove(&rt, &file)
+}
+
+/// The listing of a deck of 1,000 cards, and its text, where the last card has another one.
+fn long_deck(alloc: Global) -> Result<(String, String), Fail> {
+    let mut listing = String::from_str(alloc, "DECK A\nA A.1 *DECK A\n")?;
+    let mut text = String::from_str(alloc, "*DECK A\n")?;
+    for number in 2..1000_u32 {
+        write!(listing, "A A.{number} {number:>70}\n")?;
+        write!(text, "{number:>70}\n")?;
+    }
+    listing.push_str("A A.1000 LAST\n")?;
+    text.push_str("OTHER\n")?;
+    Ok((listing, text))
+}
+
+/// A listing of more than 65,536 bytes is read to its end.
+#[test]
+fn a_long_listing_is_corrected_in_its_last_line(rt: HostRuntime) -> Result<(), Fail> {
+    let (listing, text) = long_deck(rt.alloc())?;
+    holds("a long listing", listing.len() > 65_536)?;
+    let file = fresh(&rt, "long-listing")?;
+    fs::write(&rt, file.as_str(), listing.as_str())?;
+    let wanted = (0, "*IDENT T\n*DELETE A.1000\nOTHER\n", "");
+    answers_of(&rt, &file, "correct", &["T"], &text, wanted)?;
     remove(&rt, &file)
 }

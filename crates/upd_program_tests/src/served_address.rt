@@ -1,4 +1,4 @@
-//! Where `serve` listens, as it says itself: its fault stream is a client that connects there.
+//! Where `serve` listens, as it says itself: its fault stream is a client that connects there and sends a request.
 use crate::console::{library, remove};
 use std::alloc::Global;
 use std::io;
@@ -7,6 +7,8 @@ use std::net::{Shutdown, SocketAddr, TcpStream};
 use std::test::Fail;
 use upd_cli::run_command;
 use upd_testkit::check::{same, same_text};
+
+const IDENTS: &str = "GET /idents HTTP/1.1\r\n\r\n";
 
 /// The answer of a library without decks, by the rules of HTTP.
 const NO_IDENTS: &str =
@@ -19,10 +21,11 @@ struct Client {
     address: SocketAddr,
 }
 
-/// A fault stream that takes a line for that of `serve`, and asks for the idents at its address.
+/// A fault stream that takes a line for that of `serve`, and sends a request to its address.
 #[derive(Drop)]
 struct Caller<'a> {
     rt: &'a HostRuntime,
+    request: &'a str,
     written: Vec<u8>,
     client: Option<Client>,
     /// Each write fails, after that.
@@ -35,11 +38,11 @@ fn address_in(line: &[u8]) -> Option<&str> {
     text.strip_prefix("upd: listening on ")?.strip_suffix("\n")
 }
 
-/// A client that has asked for the idents.
-fn client_at(rt: &HostRuntime, address: &str) -> io::Result<Client> {
+/// A client that has sent a request.
+fn client_at(rt: &HostRuntime, address: &str, request: &str) -> io::Result<Client> {
     let mut stream = TcpStream::connect(rt, address)?;
     let address = stream.peer_addr()?;
-    stream.write_all(b"GET /idents HTTP/1.1\r\n\r\n")?;
+    stream.write_all(request.as_bytes())?;
     stream.shutdown(Shutdown::Write)?;
     Ok(Client { stream, address })
 }
@@ -47,7 +50,7 @@ fn client_at(rt: &HostRuntime, address: &str) -> io::Result<Client> {
 impl Write for Caller<'_> {
     fn write(&mut self, buf: &[u8]) -> io::Result<usize> {
         if let Some(address) = address_in(buf) {
-            self.client = Some(client_at(self.rt, address)?);
+            self.client = Some(client_at(self.rt, address, self.request)?);
         }
         if self.is_broken {
             return Err(io::Error::from(ErrorKind::BrokenPipe));
@@ -62,11 +65,17 @@ impl Write for Caller<'_> {
 }
 
 /// What is written where `serve` takes one connection at a free port, and the client that it served.
-fn served(rt: &HostRuntime, file: &str, is_broken: bool) -> Result<(Vec<u8>, Client), Fail> {
+fn served(
+    rt: &HostRuntime,
+    file: &str,
+    request: &str,
+    is_broken: bool,
+) -> Result<(Vec<u8>, Client), Fail> {
     let words = ["upd", "serve", file, "127.0.0.1:0", "1"];
     let mut output = Vec::new(rt.alloc());
     let mut caller = Caller {
         rt,
+        request,
         written: Vec::new(rt.alloc()),
         client: None,
         is_broken,
@@ -82,11 +91,17 @@ fn served(rt: &HostRuntime, file: &str, is_broken: bool) -> Result<(Vec<u8>, Cli
     Ok((written, client.ok_or("no client")?))
 }
 
-/// What a client reads to the end is the answer of a library without decks.
-fn is_answered(alloc: Global, mut client: Client) -> Result<(), Fail> {
+/// What a client reads to the end is this.
+fn is_answered(alloc: Global, mut client: Client, wanted: &str) -> Result<(), Fail> {
     let mut answer = Vec::new(alloc);
     client.stream.read_to_end(&mut answer)?;
-    same_text("the answer", std::str::from_utf8(&answer)?, NO_IDENTS)
+    same_text("the answer", std::str::from_utf8(&answer)?, wanted)
+}
+
+/// `serve` answers a request by this.
+pub fn serves(rt: &HostRuntime, file: &str, request: &str, wanted: &str) -> Result<(), Fail> {
+    let (_, client) = served(rt, file, request, false)?;
+    is_answered(rt.alloc(), client, wanted)
 }
 
 /// What is written is the line with a client's address.
@@ -99,17 +114,17 @@ fn is_line_of(alloc: Global, written: &[u8], client: &Client) -> Result<(), Fail
 #[test]
 fn the_line_of_serve_has_the_port_where_clients_are_answered(rt: HostRuntime) -> Result<(), Fail> {
     let file = library(&rt, "listening")?;
-    let (written, client) = served(&rt, &file, false)?;
+    let (written, client) = served(&rt, &file, IDENTS, false)?;
     is_line_of(rt.alloc(), &written, &client)?;
-    is_answered(rt.alloc(), client)?;
+    is_answered(rt.alloc(), client, NO_IDENTS)?;
     remove(&rt, &file)
 }
 
 #[test]
 fn serve_goes_on_where_its_line_is_not_taken(rt: HostRuntime) -> Result<(), Fail> {
     let file = library(&rt, "unheard")?;
-    let (written, client) = served(&rt, &file, true)?;
+    let (written, client) = served(&rt, &file, IDENTS, true)?;
     same("bytes written", written.len(), 0)?;
-    is_answered(rt.alloc(), client)?;
+    is_answered(rt.alloc(), client, NO_IDENTS)?;
     remove(&rt, &file)
 }

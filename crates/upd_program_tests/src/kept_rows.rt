@@ -1,0 +1,147 @@
+//! What a command leaves in the tables of a library that has a stored refusal and a mark.
+use crate::console::{fresh, library, remove};
+use crate::file_sessions::{SILENT, Step, Wanted, take_all};
+use crate::served_address::serves;
+use std::test::Fail;
+
+const REPLIES: &str =
+    "{\"compile\":\"\",\"idents\":[\"A\"],\"lines\":0,\"mode\":\"quick\",\"run\":1,\"site\":\"LYON\",\
+\"state\":\"accepted\"}\n\
+{\"compile\":\"\",\"idents\":[\"X\"],\"lines\":0,\"mode\":\"quick\",\"run\":2,\"site\":\"LYON\",\
+\"state\":\"accepted\"}\n\
+{\"at\":1,\"fault\":9,\"mode\":\"full\",\"name\":\"TextNowhere\",\"run\":4,\"site\":\"LYON\",\
+\"state\":\"refused\"}\n";
+
+/// Two runs are accepted, and one is refused.
+const SENT: Step<'static> = Step::Answers(
+    "spool",
+    &[],
+    "RUN LYON 1 quick 22\n*DECK A\nONE\nTWO\nTHREE\n\nRUN LYON 2 quick 25\n*IDENT X\n*DELETE A.2\nBEE\n\n\
+RUN LYON 4 full 6\nHELLO\n\n",
+    (0, REPLIES, ""),
+);
+
+const SETTLED: Step<'static> = Step::Writes(
+    "settle",
+    &["LYON", "1"],
+    "{\"settled\":1,\"site\":\"LYON\"}\n",
+);
+
+const REPLY: &str =
+    "{\"compile\":\"\",\"idents\":[\"Y\"],\"lines\":0,\"mode\":\"quick\",\"run\":3,\"site\":\"LYON\",\
+\"state\":\"accepted\"}\n";
+
+/// Run 3 is accepted, or its first reply is repeated.
+const YANKED: Step<'static> = Step::Answers(
+    "run",
+    &["LYON", "3", "quick"],
+    "*IDENT Y\n*YANK X\n",
+    (0, REPLY, ""),
+);
+
+/// The rows after these runs and the settlement, of the library that docs/library-file.md shows, and the refusal.
+const ROWS: Step<'static> = Step::HasRows(
+    "cards|A|1|1|0|*DECK A\ncards|A|2|1|1|ONE\ncards|A|3|1|3|TWO\ncards|A|4|1|4|THREE\ncards|X|1|1|2|BEE\n\
+cards|Y|1|0|0|*YANK X\n\
+counts|0|2|0|1\n\
+entries|A|1|0|1|1\nentries|A|2|0|1|1\nentries|A|2|1|2|0\nentries|A|3|0|1|1\nentries|A|4|0|1|1\n\
+entries|X|1|0|2|1\nentries|Y|1|0|3|1\n\
+idents|1|A|1|0|1\nidents|2|X|0|0|1\nidents|3|Y|0|0|1\n\
+meta|version|3\n\
+runs|LYON|2|1|*IDENT X\n*DELETE A.2\nBEE\n|1|{\"compile\":\"\",\"idents\":[\"X\"],\"lines\":0,\"mode\":\"quick\",\
+\"run\":2,\"site\":\"LYON\",\"state\":\"accepted\"}\n\
+runs|LYON|3|1|*IDENT Y\n*YANK X\n|1|{\"compile\":\"\",\"idents\":[\"Y\"],\"lines\":0,\"mode\":\"quick\",\
+\"run\":3,\"site\":\"LYON\",\"state\":\"accepted\"}\n\
+runs|LYON|4|0|HELLO\n|0|{\"at\":1,\"fault\":9,\"mode\":\"full\",\"name\":\"TextNowhere\",\"run\":4,\
+\"site\":\"LYON\",\"state\":\"refused\"}\n\
+settled|LYON|1\n\
+states|A|1|1\nstates|A|2|1\nstates|A|3|1\nstates|A|4|1\nstates|X|1|0\nstates|Y|1|1\n\
+targets|Y|1|0|0|2|0\n",
+);
+
+/// All steps, after those runs, are as they say, and the library has the rows then.
+fn keeps_rows(rt: &HostRuntime, name: &str, steps: &[Step<'_>]) -> Result<(), Fail> {
+    let file = library(rt, name)?;
+    take_all(rt, &file, &[SENT, SETTLED])?;
+    take_all(rt, &file, steps)?;
+    take_all(rt, &file, &[ROWS])?;
+    remove(rt, &file)
+}
+
+#[test]
+fn an_examination_changes_no_row(rt: HostRuntime) -> Result<(), Fail> {
+    const SOUND: &str = "sound: decks 1, cards 6, runs 3\n";
+    keeps_rows(
+        &rt,
+        "examined",
+        &[YANKED, Step::Writes("examine", &[], SOUND)],
+    )
+}
+
+#[test]
+fn a_second_init_changes_no_row(rt: HostRuntime) -> Result<(), Fail> {
+    const MADE: Wanted<'_> = (3, "", "upd: Store (29) at 3\n");
+    keeps_rows(
+        &rt,
+        "again",
+        &[YANKED, Step::Answers("init", &[], "", MADE)],
+    )
+}
+
+const MIGRATED: Step<'static> = Step::Answers("migrate", &[], "", SILENT);
+
+#[test]
+fn a_migration_of_a_current_file_changes_no_row(rt: HostRuntime) -> Result<(), Fail> {
+    keeps_rows(&rt, "current", &[YANKED, MIGRATED])
+}
+
+/// The mark is lost with its table, and is set again.
+#[test]
+fn a_migration_from_the_second_schema_keeps_all_rows(rt: HostRuntime) -> Result<(), Fail> {
+    const SECOND: &str = "DROP TABLE settled; UPDATE meta SET v = 2";
+    keeps_rows(
+        &rt,
+        "from-2",
+        &[YANKED, Step::Changes(SECOND), MIGRATED, SETTLED],
+    )
+}
+
+#[test]
+fn a_migration_from_the_first_schema_keeps_all_rows(rt: HostRuntime) -> Result<(), Fail> {
+    const FIRST: &str =
+        "DROP TABLE settled; DROP TABLE states; DROP TABLE counts; UPDATE meta SET v = 1";
+    keeps_rows(
+        &rt,
+        "from-1",
+        &[YANKED, Step::Changes(FIRST), MIGRATED, SETTLED],
+    )
+}
+
+/// A copy has all rows of the library, which keeps them.
+fn is_copied(rt: &HostRuntime, copy: &str) -> Result<(), Fail> {
+    let words = [copy];
+    keeps_rows(rt, "copied", &[YANKED, Step::Writes("backup", &words, "")])?;
+    take_all(rt, copy, &[ROWS])
+}
+
+#[test]
+fn a_backup_has_all_rows_and_changes_none(rt: HostRuntime) -> Result<(), Fail> {
+    let copy = fresh(&rt, "all-rows")?;
+    is_copied(&rt, &copy)?;
+    remove(&rt, &copy)
+}
+
+/// Run 3 is sent over HTTP. Afterwards its reply is stored beside the others, and is repeated.
+#[test]
+fn a_run_over_http_is_in_the_file_afterwards(rt: HostRuntime) -> Result<(), Fail> {
+    const POST: &str =
+        "POST /sites/LYON/runs/3/quick HTTP/1.1\r\nContent-Length: 17\r\n\r\n*IDENT Y\n*YANK X\n";
+    const ANSWER: &str =
+        "HTTP/1.1 200 OK\r\nContent-Type: application/json\r\nContent-Length: 95\r\nConnection: close\r\n\r\n\
+{\"compile\":\"\",\"idents\":[\"Y\"],\"lines\":0,\"mode\":\"quick\",\"run\":3,\"site\":\"LYON\",\"state\":\"accepted\"}";
+    let file = library(&rt, "posted")?;
+    take_all(&rt, &file, &[SENT, SETTLED])?;
+    serves(&rt, &file, POST, ANSWER)?;
+    take_all(&rt, &file, &[ROWS, YANKED])?;
+    remove(&rt, &file)
+}
