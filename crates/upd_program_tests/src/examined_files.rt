@@ -14,7 +14,7 @@ const EMPTY_LINE: &str = "sound: decks 0, cards 0, runs 0\n";
 const ONE_CARD: Step<'static> = Step::Accepts("1", "full", "*DECK A\nONE\n");
 
 /// What is at a path, and what is said of it.
-const WORDS: [(Situation, &str); 17] = [
+const WORDS: [(Situation, &str); 18] = [
     (
         Situation::LogAlone,
         "no file, or an empty one, beside a log, FILE-wal, with commits of a library: put the file of that log back, or move the log away",
