@@ -5,7 +5,7 @@
 
 Each line of the table is one command of the executable (crates/upd/out/upd where none is named) on one library. It has the median processor time of N
 processes (9 where none is said), millions of instructions where `perf` or `valgrind` counts them, and peak memory where GNU time reports it. --growth makes
-only the table. Without it trial.py, apply.py, store.py and wire.py --times follow; each needs what its own first lines say. The exit status is 1 where one
+only the table. Without it trial.py, apply.py and wire.py --times follow; each needs what its own first lines say. The exit status is 1 where one
 of these is past its budget.
 """
 
@@ -160,7 +160,7 @@ def main():
     growth(upd, words.times)
     if words.growth:
         return 0
-    others = [["trial.py", "--executable", upd], ["apply.py"], ["store.py"], ["wire.py", "--executable", upd, "--times"]]
+    others = [["trial.py", "--executable", upd], ["apply.py"], ["wire.py", "--executable", upd, "--times"]]
     late = False
     for name, *rest in others:
         print(f"\n{name}", flush=True)

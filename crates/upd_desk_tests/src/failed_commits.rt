@@ -1,5 +1,5 @@
-//! A store over lists of which one commit fails, by itself and below rows in memory: what was in hand is lost, and may
-//! arrive again.
+//! A store over lists of which some commits run out of memory and one fails, by itself and below rows in memory: what was
+//! in hand is lost, and may arrive again.
 ghost use Rattle.std.specs.Prelude.{◌≡◌, ℕ, ◌+◌, ◌-◌, ◌^◌, min, refl};
 ghost use Rattle.std.proofs.Common.{sym, ◌∙◌};
 ghost use Rattle.upd_records.specs.Rows.{Rows};
@@ -19,20 +19,23 @@ use upd_testkit::replies::{accepted, refused};
 use upd_testkit::session::Session;
 use upd_text::{Fault, FaultKind};
 
-/// Lists of which one commit fails.
+/// Lists of which some commits run out of memory, and then one fails.
 #[derive(Drop)]
 struct Failing {
     lists: ListStore,
-    /// The number of commits before the one that fails.
+    /// The number of commits before the first that is lost.
     passing: u64,
+    /// The number of commits that run out of memory.
+    short: u64,
     failures: u64,
 }
 
 impl Failing {
-    fn new(alloc: Global, passing: u64) -> Failing {
+    fn new(alloc: Global, passing: u64, short: u64) -> Failing {
         Failing {
             lists: ListStore::new(alloc),
             passing,
+            short,
             failures: 0,
         }
     }
@@ -139,6 +142,10 @@ impl RowStore for Failing {
     }
 
     fn commit(&mut self, alloc: Global, changes: &[Change], run: RunRow) -> Result<(), Fault> {
+        if self.passing == 0 && self.short > 0 {
+            self.short = self.short.saturating_sub(1);
+            return Err(no_memory());
+        }
         if self.passing == 0 && self.failures == 0 {
             self.failures = self.failures.saturating_add(1);
             return Err(store_failed());
@@ -229,7 +236,7 @@ fn is_not_stored<S: RowStore>(alloc: Global, store: &mut S, sent: Sent<'_>) -> R
 fn a_failed_commit_stores_no_run(rt: HostRuntime) -> Result<(), Fail> {
     let alloc = rt.alloc();
     for passing in 0..RUNS.len() {
-        loses_one(alloc, Failing::new(alloc, passing as u64), passing)?;
+        loses_one(alloc, Failing::new(alloc, passing as u64, 0), passing)?;
     }
     Ok(())
 }
@@ -239,7 +246,7 @@ fn a_failed_commit_stores_no_run(rt: HostRuntime) -> Result<(), Fail> {
 fn a_failed_commit_below_rows_in_memory_is_answered_store(rt: HostRuntime) -> Result<(), Fail> {
     let alloc = rt.alloc();
     for passing in 0..RUNS.len() {
-        let store = MirrorStore::new(Failing::new(alloc, passing as u64));
+        let store = MirrorStore::new(Failing::new(alloc, passing as u64, 0));
         loses_one(alloc, store, passing)?;
     }
     Ok(())
@@ -305,18 +312,18 @@ fn wanted_replies(alloc: Global) -> Result<Replies, Fail> {
     })
 }
 
-/// The two runs and their repeats have these answers if the commit after `passing` others fails, also below rows in
-/// memory.
-fn answers_are(alloc: Global, passing: u64, wanted: &str) -> Result<(), Fail> {
+/// The two runs and their repeats have these answers if after `passing` commits `short` run out of memory and the next
+/// fails, also below rows in memory.
+fn answers_are(alloc: Global, (passing, short): (u64, u64), wanted: &str) -> Result<(), Fail> {
     let list = [
         arrival(deck()),
         arrival(deleted()),
         arrival(deck()),
         arrival(deleted()),
     ];
-    let plain = run_all(alloc, Failing::new(alloc, passing), &list)?;
+    let plain = run_all(alloc, Failing::new(alloc, passing, short), &list)?;
     same_text("the answers", plain.as_str(), wanted)?;
-    let mirrored = MirrorStore::new(Failing::new(alloc, passing));
+    let mirrored = MirrorStore::new(Failing::new(alloc, passing, short));
     let mirrored = run_all(alloc, mirrored, &list)?;
     same_text("the answers with rows in memory", mirrored.as_str(), wanted)
 }
@@ -324,7 +331,7 @@ fn answers_are(alloc: Global, passing: u64, wanted: &str) -> Result<(), Fail> {
 fn first_is_lost(alloc: Global, replies: &Replies) -> Result<(), Fail> {
     let Replies { made, unknown, .. } = replies;
     let wanted = format!(in alloc; "Store (29) at 0\n{unknown}\n{made}\n{unknown}\n")?;
-    answers_are(alloc, 0, wanted.as_str())
+    answers_are(alloc, (0, 0), wanted.as_str())
 }
 
 fn second_is_lost(alloc: Global, replies: &Replies) -> Result<(), Fail> {
@@ -334,7 +341,7 @@ fn second_is_lost(alloc: Global, replies: &Replies) -> Result<(), Fail> {
         ..
     } = replies;
     let wanted = format!(in alloc; "{made}\nStore (29) at 0\n{made}\n{corrected}\n")?;
-    answers_are(alloc, 1, wanted.as_str())
+    answers_are(alloc, (1, 0), wanted.as_str())
 }
 
 fn none_is_lost(alloc: Global, replies: &Replies) -> Result<(), Fail> {
@@ -344,7 +351,15 @@ fn none_is_lost(alloc: Global, replies: &Replies) -> Result<(), Fail> {
         ..
     } = replies;
     let wanted = format!(in alloc; "{made}\n{corrected}\n{made}\n{corrected}\n")?;
-    answers_are(alloc, 2, wanted.as_str())
+    answers_are(alloc, (2, 0), wanted.as_str())
+}
+
+/// Two runs run out of memory, and the store fails in the third. The fourth is still looked at.
+fn three_are_lost(alloc: Global, replies: &Replies) -> Result<(), Fail> {
+    let unknown = &replies.unknown;
+    let lost = "NoMemory (28) at 0\nNoMemory (28) at 0\nStore (29) at 0";
+    let wanted = format!(in alloc; "{lost}\n{unknown}\n")?;
+    answers_are(alloc, (0, 2), wanted.as_str())
 }
 
 #[test]
@@ -354,4 +369,10 @@ fn a_lost_run_is_passed_over(rt: HostRuntime) -> Result<(), Fail> {
     first_is_lost(alloc, &replies)?;
     second_is_lost(alloc, &replies)?;
     none_is_lost(alloc, &replies)
+}
+
+#[test]
+fn runs_after_three_losses_are_answered(rt: HostRuntime) -> Result<(), Fail> {
+    let alloc = rt.alloc();
+    three_are_lost(alloc, &wanted_replies(alloc)?)
 }

@@ -10,8 +10,6 @@ mod changes_of_runs;
 #[cfg(test)]
 mod decks_read;
 #[cfg(test)]
-mod desk_times;
-#[cfg(test)]
 mod empty_stores;
 #[cfg(test)]
 mod failed_commits;

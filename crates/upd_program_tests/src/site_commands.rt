@@ -1,6 +1,6 @@
 //! What sites do with a library: they make it, send runs, settle, and ask.
 use crate::console::{fresh, library, remove};
-use crate::file_sessions::{SILENT, Step, Wanted, session, session_without_file, take_all};
+use crate::file_sessions::{Step, Wanted, session, take_all};
 use std::test::Fail;
 
 const DECK: &str = "*DECK A\nONE\nTWO\nTHREE\n";
@@ -16,16 +16,6 @@ const EMPTY_RUN: Step<'static> = Step::Answers(
     "",
     (0, EMPTY_REPLY, ""),
 );
-
-#[test]
-fn a_library_is_made_once(rt: HostRuntime) -> Result<(), Fail> {
-    const MADE: Wanted<'_> = (3, "", "upd: Store (29) at 3\n");
-    const STEPS: &[Step<'_>] = &[
-        Step::Answers("init", &[], "", SILENT),
-        Step::Answers("init", &[], "", MADE),
-    ];
-    session_without_file(&rt, "made", STEPS)
-}
 
 #[test]
 fn a_run_acts_once(rt: HostRuntime) -> Result<(), Fail> {
@@ -110,35 +100,6 @@ pub const NO_MARKS: Step<'static> = Step::Changes("DROP TABLE settled");
 
 /// See `NO_MARKS`.
 pub const SECOND_SCHEMA: Step<'static> = Step::Changes("UPDATE meta SET v = 2");
-
-#[test]
-fn an_older_file_is_migrated(rt: HostRuntime) -> Result<(), Fail> {
-    const OLDER: Wanted<'_> = (3, "", "upd: Store (29) at 2\n");
-    const STEPS: &[Step<'_>] = &[
-        EMPTY_RUN,
-        NO_MARKS,
-        SECOND_SCHEMA,
-        Step::Answers("idents", &[], "", OLDER),
-        Step::Writes("migrate", &[], ""),
-        EMPTY_RUN,
-        Step::Writes(
-            "settle",
-            &["LYON", "1"],
-            "{\"settled\":1,\"site\":\"LYON\"}\n",
-        ),
-    ];
-    session(&rt, "second", STEPS)
-}
-
-#[test]
-fn a_current_file_is_left_by_a_migration(rt: HostRuntime) -> Result<(), Fail> {
-    const STEPS: &[Step<'_>] = &[
-        Step::Accepts("1", "full", DECK),
-        Step::Writes("migrate", &[], ""),
-        Step::Writes("idents", &[], "1 A deck held\n"),
-    ];
-    session(&rt, "migrated", STEPS)
-}
 
 #[test]
 fn stored_runs_and_sites_are_listed(rt: HostRuntime) -> Result<(), Fail> {
