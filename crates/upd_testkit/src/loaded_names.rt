@@ -54,12 +54,6 @@ pub fn loaded_names<S: RowStore>(alloc: Global, store: &mut S) -> Result<String,
     active_names(alloc, &actives)
 }
 
-/// The active cards of the library that a store loads, by name.
-pub fn replayed_names<S: RowStore>(alloc: Global, store: &mut S) -> Result<String, Fail> {
-    let library = store.load(alloc)?;
-    active_names(alloc, &library.actives()?)
-}
-
 /// The decks that hold the card B.2, or the card Q.1, which is in no deck.
 pub fn decks_of_cards<S: RowStore>(alloc: Global, store: &mut S) -> Result<Vec<Serial>, Fail> {
     Ok(store.decks_of(alloc, &[card_ref("B.2")?, card_ref("Q.1")?])?)
