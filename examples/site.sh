@@ -8,6 +8,9 @@
 #     FOLDER/sent/7.fix.full       the same run, once it has its number
 #     FOLDER/replies/7.json        its reply
 #
+# CURL_CONFIG names a file of options for curl, as `user = "lyon:secret"` or `netrc-file = "/home/lyon/netrc"`, and `cacert`.
+# Let only its owner read it. A URL with a password in it isn't taken: each user of the machine can see the words of a command.
+#
 # Write a run under a name that begins with a dot, and rename it when it is complete. In the order of names each run gets the
 # next number and moves to FOLDER/sent. It keeps its number and its bytes, and is sent until it is answered. So it acts once.
 # Each answer is a line on standard output, a refused one on standard error. When all runs in FOLDER/sent are answered, the
@@ -19,9 +22,10 @@
 # Exit status:
 #   0  all runs are answered and settled, and none was refused
 #   1  the same, but a run was refused now, or a file in the outbox can't be sent; each is named on standard error
-#   2  the words are not FOLDER SITE FILE or FOLDER SITE URL
+#   2  the words are not FOLDER SITE FILE or FOLDER SITE URL, or URL has a password
 #   3  start the script again: no answer after TRIES tries, PAUSE seconds apart (10 and 5 unless they are set); or a file
-#      can't be moved, the settlement failed, another site.sh is at work in FOLDER, or a program is missing
+#      can't be moved, the settlement failed, another site.sh is at work in FOLDER, or a program is missing. If a proxy
+#      answered 401 or 403, check the password, or the site and the path, before that. It is not tried again by itself.
 #   4  a run was answered without a reply, and nothing is sent after it. It is named with that answer. RunChanged and Settled
 #      mean that something else has sent runs of this site. Rename FOLDER/sent/7.fix.full to 7.fix.refused, put the run into
 #      the outbox again, and start the script again.
@@ -46,9 +50,19 @@ upd=${UPD:-upd} tries=${TRIES:-10} pause=${PAUSE:-5}
 newline='
 '
 case $desk in
-http://* | https://*) desk=${desk%/} program=curl ;;
-*) program=$upd ;;
+http://* | https://*) desk=${desk%/} program=curl host=${desk#*://} ;;
+*) program=$upd host= ;;
 esac
+case ${host%%/*} in
+*@*)
+    say "a password in the URL can be seen by each user of this machine: name a file by CURL_CONFIG, see the first lines of $0"
+    exit 2
+    ;;
+esac
+if [ -n "${CURL_CONFIG-}" ] && { [ ! -f "$CURL_CONFIG" ] || [ ! -r "$CURL_CONFIG" ]; }; then
+    say "CURL_CONFIG, $CURL_CONFIG, is not a file that can be read"
+    exit 3
+fi
 for needed in "$program" flock; do
     command -v "$needed" >/dev/null || {
         say "$needed is not on the path"
@@ -68,7 +82,7 @@ flock -n 9 || {
 numbers() {
     for run in "$folder/sent"/*; do
         name=${run##*/}
-        echo "${name%%.*}"
+        printf '%s\n' "${name%%.*}"
     done | grep '^[1-9][0-9]*$' | sort -n
 }
 
@@ -104,14 +118,25 @@ number_runs() {
     done
 }
 
+# Posts the data to a path of the site, and writes the answer to a file. The status is 000 where there is no whole answer.
+post() {
+    status=$(curl ${CURL_CONFIG:+--config "$CURL_CONFIG"} --silent --max-time 60 --header Expect: --output "$1" \
+        --write-out '%{http_code}' --data-binary "$2" "$desk/sites/$site/$3") || status=000
+    case $status in
+    401) say "the answer is 401: check the password, in the file that CURL_CONFIG names" ;;
+    403) say "the answer is 403: check the site $site, the path $desk, and whose password it is" ;;
+    *) return ;;
+    esac
+    exit 3
+}
+
 # Sends a run once: 0 answered, with the reply in FOLDER/replies/part; 3 no answer; 4 an answer that is not a reply.
 send() {
     number=$1 mode=$2 run=$3
     rm -f "$part"
     case $program in
     curl)
-        status=$(curl --silent --max-time 60 --header Expect: --output "$part" --write-out '%{http_code}' \
-            --data-binary "@$run" "$desk/sites/$site/runs/$number/$mode") || return 3 # a truncated answer does not count
+        post "$part" "@$run" "runs/$number/$mode"
         case $status in
         200 | 422) ;;
         000 | 5??) return 3 ;;
@@ -154,7 +179,7 @@ send_until_answered() {
         say "${run##*/} is refused: $(cat "$part")"
         result=1
     else
-        echo "${run##*/} is accepted"
+        printf '%s is accepted\n' "${run##*/}"
     fi
     mv "$part" "$folder/replies/$number.json" || exit 3
 }
@@ -167,7 +192,7 @@ settle() {
     fi
     sync # the replies are on the disk before the library forgets them
     case $program in
-    curl) curl --silent --fail --max-time 60 --output "$answer.part" --data '' "$desk/sites/$site/settled/$1" ;;
+    curl) post "$answer.part" '' "settled/$1" && [ "$status" = 200 ] ;;
     *) "$upd" settle "$desk" "$site" "$1" >"$answer.part" ;;
     esac && grep -q '"settled":' "$answer.part" && mv "$answer.part" "$answer"
 }
