@@ -1,6 +1,6 @@
 //! What a command leaves in the tables of a library that has a stored refusal and a mark.
 use crate::console::{fresh, library, remove};
-use crate::file_sessions::{SILENT, Step, Wanted, take_all};
+use crate::file_sessions::{SILENT, Step, take_all};
 use crate::served_address::serves;
 use std::test::Fail;
 
@@ -78,14 +78,11 @@ fn an_examination_changes_no_row(rt: HostRuntime) -> Result<(), Fail> {
     )
 }
 
+const MADE: Step<'static> = Step::Answers("init", &[], "", (3, "", "upd: Store (29) at 3\n"));
+
 #[test]
 fn a_second_init_changes_no_row(rt: HostRuntime) -> Result<(), Fail> {
-    const MADE: Wanted<'_> = (3, "", "upd: Store (29) at 3\n");
-    keeps_rows(
-        &rt,
-        "again",
-        &[YANKED, Step::Answers("init", &[], "", MADE)],
-    )
+    keeps_rows(&rt, "again", &[YANKED, MADE])
 }
 
 const MIGRATED: Step<'static> = Step::Answers("migrate", &[], "", SILENT);

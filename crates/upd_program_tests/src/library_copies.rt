@@ -1,6 +1,6 @@
 //! What the copy of a library is, what is in its way, and who may read it.
-use crate::console::{accepts, fresh, library, remove};
-use crate::file_sessions::{Step, Wanted, take_all};
+use crate::console::{accepts, answers, fresh, library, remove};
+use crate::file_sessions::{Step, take_all};
 use std::fs;
 use std::fs::Permissions;
 use std::os::unix::fs::{PermissionsExt, symlink};
@@ -48,11 +48,11 @@ fn a_large_library_is_copied_whole(rt: HostRuntime) -> Result<(), Fail> {
 
 /// No copy is made.
 fn is_refused(rt: &HostRuntime, file: &str, copy: &str) -> Result<(), Fail> {
-    const NOT_WRITTEN: Wanted<'_> = (3, "", "upd: Write (33) at 0\n");
-    take_all(
+    answers(
         rt,
-        file,
-        &[Step::Answers("backup", &[copy], "", NOT_WRITTEN)],
+        &["backup", file, copy],
+        "",
+        (3, "", "upd: Write (33) at 0\n"),
     )
 }
 

@@ -140,18 +140,16 @@ struct Sleeping<'a> {
     address: SocketAddr,
     after: u128,
     slept: Cell<u128>,
-    client: Cell<Option<TcpStream>>,
 }
 
 impl<'a> Sleeping<'a> {
-    fn new(rt: &'a HostRuntime, listener: &TcpListener, after: u128) -> Result<Sleeping<'a>, Fail> {
-        Ok(Sleeping {
+    fn new(rt: &'a HostRuntime, address: SocketAddr, after: u128) -> Sleeping<'a> {
+        Sleeping {
             rt,
-            address: listener.local_addr()?,
+            address,
             after,
             slept: Cell::new(0),
-            client: Cell::new(None),
-        })
+        }
     }
 }
 
@@ -168,46 +166,49 @@ impl Clock for Sleeping<'_> {
         let slept = self.slept.get().saturating_add(duration.as_millis());
         self.slept.set(slept);
         if slept.is_multiple_of(self.after) {
-            self.client
-                .set(client_with(self.rt, self.address, QUICK.as_bytes()).ok());
+            let _ = client_with(self.rt, self.address, QUICK.as_bytes());
         }
     }
 }
 
-/// A server with a clock whose accepts fail serves two connections, with this end and this long a sleep.
+/// A server with this clock serves two connections, with this end and this long a sleep.
+fn ends(
+    alloc: Global,
+    listener: &TcpListener,
+    clock: &Sleeping<'_>,
+    wanted: (Result<(), Fault>, u128),
+) -> Result<(), Fail> {
+    let served = serve_on_within(alloc, clock, listener, 2, &mut empty_desk(alloc));
+    same("the end, milliseconds", (served, clock.slept.get()), wanted)
+}
+
+/// The same of a server whose accepts fail until a client connects.
 fn ends_after(
     rt: &HostRuntime,
     after: u128,
     wanted: (Result<(), Fault>, u128),
-) -> Result<Option<TcpStream>, Fail> {
+) -> Result<(), Fail> {
     let listener = idle_listener(rt)?;
-    let clock = Sleeping::new(rt, &listener, after)?;
-    let served = serve_on_within(
+    let address = listener.local_addr()?;
+    ends(
         rt.alloc(),
-        &clock,
         &listener,
-        2,
-        &mut empty_desk(rt.alloc()),
-    );
-    same("the end, milliseconds", (served, clock.slept.get()), wanted)?;
-    Ok(clock.client.take())
+        &Sleeping::new(rt, address, after),
+        wanted,
+    )
 }
 
 /// A server with a clock ends where no connection can be accepted a hundred times in a row, 10 ms after one another.
 #[test]
 fn a_hundred_accepts_that_fail_are_reported(rt: HostRuntime) -> Result<(), Fail> {
     let wanted = (Err(FaultKind::Read.without_line()), 990);
-    let client = ends_after(&rt, 1_000, wanted)?;
-    same("a client", &client.is_some(), &false)
+    ends_after(&rt, 1_000, wanted)
 }
 
 /// It goes on where a connection can be accepted after 99 failures, each time.
 #[test]
 fn accepts_that_fail_for_a_while_end_nothing(rt: HostRuntime) -> Result<(), Fail> {
-    match ends_after(&rt, 990, (Ok(()), 1_980))? {
-        Some(client) => reads(rt.alloc(), client, QUICK_ANSWER),
-        None => holds("a client", false),
-    }
+    ends_after(&rt, 990, (Ok(()), 1_980))
 }
 
 /// How many seconds a connection at a listener is served.
