@@ -1,4 +1,4 @@
-//! A library as large as one may be, over SQLite in memory: it is filled, loaded, and purged in one commit.
+//! A purge of many cards over SQLite, in one commit.
 use crate::committing::{apply_and_commit, commit};
 use crate::stored::made;
 use std::alloc::Global;
@@ -24,11 +24,11 @@ fn card_new(alloc: Global, card: &CardRef, deck: u32, pos: u32) -> Result<Change
     })
 }
 
-fn entry_new(card: &CardRef, ord: u32, ident: u32) -> Change {
-    let active = ord % 2 == 0;
+fn entry_new(card: &CardRef, ident: u32) -> Change {
+    let active = true;
     Change::EntryNew {
         card: *card,
-        ord,
+        ord: 0,
         entry: Entry { ident, active },
     }
 }
@@ -50,13 +50,11 @@ fn ident_new(name: &Name, age: u32) -> Change {
     })
 }
 
-/// Adds a card of a deck with its status and four entries.
+/// Adds a card of a deck with its status and its entry.
 fn add_card(changes: &mut Vec<Change>, new: Change, card: &CardRef, age: u32) -> Result<(), Fail> {
     changes.push(new)?;
     changes.push(status_now(card))?;
-    for ord in 0..4 {
-        changes.push(entry_new(card, ord, age))?;
-    }
+    changes.push(entry_new(card, age))?;
     Ok(())
 }
 
@@ -65,7 +63,7 @@ fn deck_name(alloc: Global, age: u32) -> Result<Name, Fail> {
     name(&text)
 }
 
-/// A deck of this serial with `cards` cards, each with its status and four entries.
+/// A deck of this serial with `cards` cards, each with its status and its entry.
 fn deck_of(alloc: Global, age: u32, cards: u32) -> Result<Vec<Change>, Fail> {
     let name = deck_name(alloc, age)?;
     let mut changes = Vec::new(alloc);
@@ -84,9 +82,9 @@ fn add_deck<R: RowStore>(alloc: Global, store: &mut R, age: u32, cards: u32) -> 
     commit(alloc, store, u64::from(age), "", &changes)
 }
 
-/// 50,000 cards with 200,000 entries, in 25 decks.
-fn add_50000_cards<R: RowStore>(alloc: Global, store: &mut R) -> Result<(), Fail> {
-    for age in 1..26 {
+/// 18,000 cards in 9 decks.
+fn add_18000_cards<R: RowStore>(alloc: Global, store: &mut R) -> Result<(), Fail> {
+    for age in 1..10 {
         add_deck(alloc, store, age, 2000)?;
     }
     Ok(())
@@ -106,13 +104,12 @@ fn has_cards<R: RowStore>(
     same("decks, cards", (library.decks().len(), cards), wanted)
 }
 
-/// The purge of 16,000 cards is one commit, in which each of them and its entries are deleted: 32,000 row changes.
+/// Each of the 16,000 cards and its entries are deleted: 32,000 row changes.
 #[test]
-fn a_full_library_is_loaded_and_purged_in_one_commit(rt: HostRuntime) -> Result<(), Fail> {
+fn sixteen_thousand_cards_are_purged_in_one_commit(rt: HostRuntime) -> Result<(), Fail> {
     let alloc = rt.alloc();
     let mut store = made(alloc)?;
-    add_50000_cards(alloc, &mut store)?;
-    has_cards(alloc, &mut store, (25, 50_000))?;
-    apply_and_commit(alloc, &mut store, 26, "*PURGE DECK18,*\n")?;
-    has_cards(alloc, &mut store, (17, 34_000))
+    add_18000_cards(alloc, &mut store)?;
+    apply_and_commit(alloc, &mut store, 10, "*PURGE DECK2,*\n")?;
+    has_cards(alloc, &mut store, (1, 2_000))
 }
