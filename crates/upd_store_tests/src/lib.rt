@@ -1,14 +1,11 @@
-//! Tests of the store over SQLite in memory, where the rows are read again by another connection. That of `large_purge`
-//! purges 16,000 cards. Those of `surface_desk` and `surface_wire` make each public call of stores, the desk and its wire
-//! once, by its path.
+//! Tests of the store over SQLite in memory, where the rows are read again by another connection. Those of `surface_desk`
+//! and `surface_wire` make each public call of stores, the desk and its wire once, by its path.
 //!
 //! Expected values are worked by hand from `docs/rules.md` and `docs/protocol.md`.
 #![tactic(auto)]
 
 #[cfg(test)]
 mod committing;
-#[cfg(test)]
-mod large_purge;
 #[cfg(test)]
 mod stored;
 #[cfg(test)]
